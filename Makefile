@@ -1,0 +1,5 @@
+.PHONY: test
+
+# The gate: proves every crate from nothing, tries the must-fail edits, runs the tests and the program.
+test:
+	rt ci
