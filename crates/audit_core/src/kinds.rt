@@ -1,0 +1,33 @@
+/// What a finding says, in order of rank. Ranks 0 to 12 are connection errors, which stop the audit of a connection;
+/// 13 to 20 are other faults; 21 to 24 tell of stalls, 25 and 26 of credit.
+#[derive(Clone, Copy, Debug, PartialEq, Eq, PartialOrd, Ord)]
+pub enum Kind {
+    BadPreface,
+    BrokenBlock,
+    TooLong,
+    WrongStream,
+    WrongSize,
+    BadPadding,
+    BadSetting,
+    Push,
+    PushNotAudited,
+    NotOpened,
+    IdNotGreater,
+    ZeroConnectionGrant,
+    ConnectionOverflow,
+    SettingOverflow,
+    LongFrame,
+    AfterEnd,
+    ConnectionOverrun,
+    StreamOverrun,
+    ZeroStreamGrant,
+    StreamOverflow,
+    UnmatchedAck,
+    BadPriority,
+    ConnectionStallEnd,
+    ConnectionStallBegin,
+    StreamStallEnd,
+    StreamStallBegin,
+    ConnectionCredit,
+    StreamCredit,
+}

@@ -1,0 +1,16 @@
+//! Frames, places and findings of an HTTP/2 flow-control audit (RFC 9113, sections 4 to 6).
+#![tactic(auto)]
+
+pub mod findings;
+pub mod frames;
+pub mod items;
+pub mod kinds;
+pub mod places;
+pub mod sides;
+
+pub use findings::Finding;
+pub use frames::{Body, Frame, Settings};
+pub use items::{Change, Item};
+pub use kinds::Kind;
+pub use places::Place;
+pub use sides::Side;

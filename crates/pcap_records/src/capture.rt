@@ -1,0 +1,22 @@
+/// One whole record of a capture, whose packet stands in the capture at `start..start + length`.
+#[derive(Clone, Copy, Debug, PartialEq, Eq)]
+pub struct Record {
+    /// When it was captured, in nanoseconds.
+    pub nanos: u64,
+    /// The length of the packet on the wire, in bytes.
+    pub original: u32,
+    /// Where the captured bytes begin in the capture.
+    pub start: usize,
+    /// How many bytes were captured.
+    pub length: usize,
+}
+
+/// The records of a capture, numbered from 1 in the order of the file.
+#[derive(Debug, Drop)]
+pub struct Records {
+    /// The link type: the low 16 bits of the header's network field.
+    pub link: u16,
+    pub rows: Vec<Record>,
+    /// The number of the record that the end of the capture cuts, if there is one.
+    pub cut: Option<u32>,
+}

@@ -1,0 +1,8 @@
+//! The TCP connections of a capture, and the bytes that each side sent (RFC 9293).
+#![tactic(auto)]
+
+pub mod members;
+pub mod streams;
+
+pub use members::{Connection, Connections, Stray};
+pub use streams::{Arrival, Flow};

@@ -1,0 +1,21 @@
+/// When the bytes of a flow were there: each byte arrives at the first entry whose `upto` is above its offset.
+#[derive(Clone, Copy, Debug, PartialEq, Eq)]
+pub struct Arrival {
+    /// The offset past the last byte of this entry.
+    pub upto: u64,
+    /// The record that brought it.
+    pub rec: u32,
+    /// When that record was captured, in nanoseconds.
+    pub nanos: u64,
+}
+
+/// What one side of a connection sent, as far as the capture shows it without a hole.
+#[derive(Debug, Drop)]
+pub struct Flow {
+    /// Is the side's initial sequence number known?
+    pub started: bool,
+    pub bytes: Vec<u8>,
+    pub arrivals: Vec<Arrival>,
+    /// The offset at which bytes are missing, where later ones were captured.
+    pub gap: Option<u64>,
+}
