@@ -2,6 +2,7 @@
 #![tactic(auto)]
 
 pub mod members;
+mod pair;
 pub mod streams;
 
 pub use members::{Connection, Connections, Stray};

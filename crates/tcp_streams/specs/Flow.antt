@@ -1,0 +1,42 @@
+-- The flow of a side (RFC 9293, 3.4): the longest run of its stream from offset 0 that the capture shows,
+-- when its bytes were there, and whether bytes are missing before later ones.
+use Rattle.std.specs.Prelude.{◌≡◌, ℕ, ◌<◌, ◌≤◌, nat_lt, List, length, slice_get, find, Option, None, Some, IsSome, IsSomeAnd}
+use Rattle.tcp_streams.specs.declared.streams.Arrival.{Arrival}
+use Rattle.tcp_streams.specs.Arrivals.{Rises}
+use Rattle.tcp_streams.specs.Sequence.{Source, arrival, end_of_offsets}
+
+-- the longest run from 0: every offset below n has a source, and n itself has none
+pub record IsLongestRun (sources : ℕ → Option Source) (n : ℕ) : Type 0 where
+  pub within : n ≤ end_of_offsets
+  pub covered : (o : ℕ) → o < n → IsSome (sources o)
+  pub longest : n < end_of_offsets → sources n ≡ None
+
+-- each byte is the capture's at its source's place
+abbrev pub AreBytes : List ℕ → (ℕ → Option Source) → List ℕ → Type 0
+AreBytes capture sources bytes =
+    (o : ℕ) → o < length bytes → IsSomeAnd (sources o) (λ (s : Source). slice_get capture s.place ≡ slice_get bytes o)
+
+-- the entry at which byte o arrives
+abbrev pub entry_at : List Arrival → ℕ → Option Arrival
+entry_at arrivals o = find (λ (a : Arrival). nat_lt o a.upto) arrivals
+
+-- the entry bears the record and the time of the source
+abbrev pub IsArrivalOf : Arrival → Option Source → Type 0
+IsArrivalOf a s = IsSomeAnd s (λ (x : Source). (a.rec ≡ x.rec) × (a.nanos ≡ x.nanos))
+
+-- each byte arrives with the last of the bytes up to it
+abbrev pub AreArrivals : (ℕ → Option Source) → List Arrival → ℕ → Type 0
+AreArrivals sources arrivals n =
+    (o : ℕ) → o < n → IsSomeAnd (entry_at arrivals o) (λ (a : Arrival). IsArrivalOf a (arrival sources o))
+
+-- there is a gap, at the flow's length, exactly where some offset past it has a source
+abbrev pub IsGap : (ℕ → Option Source) → ℕ → Option ℕ → Type 0
+IsGap sources n None = (o : ℕ) → n < o → o < end_of_offsets → sources o ≡ None
+IsGap sources n (Some g) = (g ≡ n) × ((o : ℕ) × (n < o) × (o < end_of_offsets) × IsSome (sources o))
+
+pub record IsFlow (capture : List ℕ) (sources : ℕ → Option Source) (bytes : List ℕ) (arrivals : List Arrival) (gap : Option ℕ) : Type 0 where
+  pub run : IsLongestRun sources (length bytes)
+  pub bytes_are : AreBytes capture sources bytes
+  pub rises : Rises 0 0 arrivals (length bytes)
+  pub arrivals_are : AreArrivals sources arrivals (length bytes)
+  pub gap_is : IsGap sources (length bytes) gap

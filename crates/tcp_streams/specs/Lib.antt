@@ -1,0 +1,7 @@
+pub mod Arrivals
+pub mod Flow
+pub mod Members
+pub mod Membership
+pub mod Packets
+pub mod Pair
+pub mod Sequence
