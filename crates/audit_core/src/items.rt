@@ -22,3 +22,12 @@ pub struct Item {
     /// The change that the frame brings, where it is an acknowledgement that takes a SETTINGS frame.
     pub change: Option<Change>,
 }
+
+/// What one stream meets at a frame's number: a frame on it, a change of settings, or both.
+#[derive(Clone, Copy, Debug, PartialEq, Eq)]
+pub struct Step {
+    /// The number of the frame, or of the acknowledging frame.
+    pub number: u32,
+    pub frame: Option<Frame>,
+    pub change: Option<Change>,
+}

@@ -1,16 +1,20 @@
 //! Frames, places and findings of an HTTP/2 flow-control audit (RFC 9113, sections 4 to 6).
 #![tactic(auto)]
 
+pub mod connections;
 pub mod findings;
 pub mod frames;
 pub mod items;
 pub mod kinds;
 pub mod places;
 pub mod sides;
+pub mod streams;
 
+pub use connections::ConnectionState;
 pub use findings::Finding;
 pub use frames::{Body, Frame, Settings};
-pub use items::{Change, Item};
+pub use items::{Change, Item, Step};
 pub use kinds::Kind;
 pub use places::Place;
-pub use sides::Side;
+pub use sides::{Side, Sides};
+pub use streams::Stream;

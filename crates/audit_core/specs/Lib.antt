@@ -1,0 +1,17 @@
+pub mod Side
+pub mod Sides
+pub mod Kind
+pub mod Place
+pub mod Order
+pub mod Finding
+pub mod FrameType
+pub mod Frame
+pub mod Window
+pub mod Change
+pub mod LocalFault
+pub mod InForce
+pub mod Connection
+pub mod Stream
+pub mod Pass
+pub mod Credit
+pub mod Run

@@ -1,0 +1,26 @@
+-- One flow-control window (RFC 9113, 6.9 and 6.9.1): what a frame does to its credit, by the credit before and after.
+use Rattle.std.specs.Prelude.{ℕ, ℤ, pos, ◌-◌, ◌^◌, Bool, ◌&&◌, not, nat_lt, int_lt, int_le}
+
+-- no window exceeds this credit (6.9.1)
+abbrev pub largest_window : ℤ
+largest_window = pos (2 ^ 31 - 1)
+
+-- no credit is left, or less than none (6.9.2)
+abbrev pub is_used_up : ℤ → Bool
+is_used_up credit = int_le credit (pos 0)
+
+-- credit that is used up from here on
+abbrev pub stall_begins : (before after : ℤ) → Bool
+stall_begins before after = not (is_used_up before) && is_used_up after
+
+-- credit that is there again
+abbrev pub stall_ends : (before after : ℤ) → Bool
+stall_ends before after = is_used_up before && not (is_used_up after)
+
+-- credit that rises above the largest window (6.9.1)
+abbrev pub overflows : (before after : ℤ) → Bool
+overflows before after = int_lt before after && int_lt largest_window after
+
+-- content above the credit before it (6.9); an empty frame is never above it (6.9.1)
+abbrev pub overruns : (before : ℤ) → (content : ℕ) → Bool
+overruns before content = nat_lt 0 content && int_lt before (pos content)
