@@ -1,0 +1,10 @@
+use Rattle.std.proofs.Common.{◌≡◌, ◌-◌, ◌≤◌, take, vec_len}
+use Rattle.std.specs.Io.KnownBytes.{Consumes}
+use Rattle.h2audit.proofs.reading.read_capture.Given as goal
+
+abbrev pub invariant-loop-filled : goal.invariant-loop-filled
+invariant-loop-filled g l =
+    (l.filled ≤ vec_len l.bytes) × (l.filled ≤ 2147483648) × (l.seen ≡ l.initial.seen) × Consumes (g.R.Read.remaining l.initial.reader) (g.R.Read.remaining l.reader) (take l.filled l.bytes.items)
+
+abbrev pub decreases-loop-filled : goal.decreases-loop-filled
+decreases-loop-filled g l = 2147483648 - l.filled

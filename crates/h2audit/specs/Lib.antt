@@ -1,0 +1,3 @@
+pub mod Options
+pub mod Ending
+pub mod Seen

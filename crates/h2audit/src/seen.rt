@@ -1,0 +1,93 @@
+ghost use Rattle.std.specs.Prelude.{◌≡◌, ◌<◌, ◌≤◌, length, take, true, IfOk, OnOk, OnErr};
+ghost use Rattle.std.specs.Io.KnownBytes.{Appends, Consumes, IsAtEnd, Keeps};
+
+use std::io::{Read, Write};
+
+/// What a reader and a writer have answered so far.
+///
+/// A type of reader or writer tells which bytes it gives or holds, and not whether a call on it
+/// failed. This account does: the three functions of this module keep it, and they make the only
+/// calls of `read`, `write` and `flush`.
+#[derive(Clone, Copy, Debug, PartialEq, Eq)]
+pub struct Seen {
+    /// A read answered an error.
+    pub read_failed: bool,
+    /// A write or a flush answered an error, or a write took no byte.
+    pub write_failed: bool,
+    /// A flush went well.
+    pub flushed: bool,
+}
+
+impl Seen {
+    /// The account before the first call.
+    pub const NOTHING: Seen = Seen {
+        read_failed: false,
+        write_failed: false,
+        flushed: false,
+    };
+}
+
+/// A call on a reader or a writer that failed.
+#[derive(Clone, Copy, Debug, PartialEq, Eq)]
+pub(crate) struct Failed;
+
+/// Reads once, into the front of `piece`. `Ok(0)` is the end where `piece` has room.
+pub(crate) fn read_once<R: Read>(
+    reader: &mut R,
+    piece: &mut [u8],
+    seen: &mut Seen,
+) -> Result<usize, Failed>
+    ensures bound { IfOk result (λ n. n ≤ length piece.new) }
+    ensures bytes { IfOk result (λ n. Consumes (R.remaining reader.old) (R.remaining reader.new) (take n piece.new)) }
+    ensures end { IfOk result (λ n. n ≡ 0 → 0 < length piece.new → IsAtEnd (R.remaining reader.new)) }
+    ensures ok { OnOk result (seen.new ≡ seen.old) }
+    ensures err { OnErr result (seen.new ≡ record seen.old { read_failed = true }) }
+{
+    match reader.read(piece) {
+        Ok(count) => Ok(count),
+        Err(_) => {
+            seen.read_failed = true;
+            Err(Failed)
+        }
+    }
+}
+
+/// Writes once, from the front of `text`. To take no byte of some is a failure.
+pub(crate) fn write_once<W: Write>(
+    writer: &mut W,
+    text: &[u8],
+    seen: &mut Seen,
+) -> Result<usize, Failed>
+    requires { 0 < length text.now }
+    ensures bound { IfOk result (λ n. (0 < n) × (n ≤ length text.now)) }
+    ensures bytes { IfOk result (λ n. Appends (W.contents writer.old) (W.contents writer.new) (take n text.now)) }
+    ensures kept { OnErr result (Keeps (W.contents writer.old) (W.contents writer.new)) }
+    ensures ok { OnOk result (seen.new ≡ seen.old) }
+    ensures err { OnErr result (seen.new ≡ record seen.old { write_failed = true }) }
+{
+    match writer.write(text) {
+        Ok(0) | Err(_) => {
+            seen.write_failed = true;
+            Err(Failed)
+        }
+        Ok(count) => Ok(count),
+    }
+}
+
+/// Flushes once.
+pub(crate) fn flush_once<W: Write>(writer: &mut W, seen: &mut Seen) -> Result<(), Failed>
+    ensures bytes { Keeps (W.contents writer.old) (W.contents writer.new) }
+    ensures ok { OnOk result (seen.new ≡ record seen.old { flushed = true }) }
+    ensures err { OnErr result (seen.new ≡ record seen.old { write_failed = true }) }
+{
+    match writer.flush() {
+        Ok(()) => {
+            seen.flushed = true;
+            Ok(())
+        }
+        Err(_) => {
+            seen.write_failed = true;
+            Err(Failed)
+        }
+    }
+}
