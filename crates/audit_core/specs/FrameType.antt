@@ -43,6 +43,10 @@ ack_flag = 1
 abbrev pub end_headers_flag : ℕ
 end_headers_flag = 4
 
+-- PADDED, of DATA, HEADERS and PUSH_PROMISE (6.1, 6.2, 6.6)
+abbrev pub padded_flag : ℕ
+padded_flag = 8
+
 -- is this flag, a single bit, set?
 abbrev pub has_flag : (flags flag : ℕ) → Bool
 has_flag flags flag = not (bit_and flags flag == 0)

@@ -15,3 +15,7 @@ pub mod Stream
 pub mod Pass
 pub mod Credit
 pub mod Run
+pub mod Script
+pub mod Stalls
+pub mod StreamUses
+pub mod SingleFaults

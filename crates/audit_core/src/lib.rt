@@ -9,6 +9,7 @@ pub mod kinds;
 pub mod places;
 pub mod sides;
 pub mod streams;
+pub mod worked_examples;
 
 pub use connections::ConnectionState;
 pub use findings::Finding;
