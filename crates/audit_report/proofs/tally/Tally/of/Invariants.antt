@@ -1,0 +1,8 @@
+use Rattle.std.proofs.Common.{take}
+use Rattle.std.specs.Prelude.{◌≤◌}
+use Rattle.audit_report.specs.Tally.{IsTallyOf}
+use Rattle.audit_report.proofs.tally.Tally.of.Given as goal
+
+-- the packets so far are counted, so no count is above their number
+abbrev pub invariant-loop-packet : goal.invariant-loop-packet
+invariant-loop-packet l = IsTallyOf (take l.packet-index l.packets) l.tally

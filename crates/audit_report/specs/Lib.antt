@@ -1,0 +1,9 @@
+pub mod Line
+pub mod Endpoint
+pub mod Refusal
+pub mod CaptureLine
+pub mod Tally
+pub mod RecordLines
+pub mod CutLine
+pub mod UnopenedLines
+pub mod CaptureLines

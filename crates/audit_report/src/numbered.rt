@@ -1,0 +1,63 @@
+ghost use Rattle.std.specs.Prelude.{◌≡◌, ◌++◌, OnOk};
+ghost use Rattle.std.specs.String.{string_bytes};
+ghost use Rattle.packet_heads.specs.declared.packets.Refusal.{Refusal};
+ghost use Rattle.audit_report.specs.Refusal.{refusal_name};
+ghost use Rattle.audit_report.specs.RecordLines.{record_line, record_lines};
+
+use crate::words::{push_field, push_word};
+use packet_heads::{Packet, Refusal, Skip};
+use std::alloc::AllocError;
+
+/// Adds a line for each fragment and each refused packet, under the number of its record.
+pub fn push_record_lines(out: &mut String, packets: &[Packet]) -> Result<(), AllocError>
+    ensures { OnOk result (string_bytes out.new ≡ string_bytes out.old ++ record_lines packets.now) }
+{
+    for (i, packet) in packets.iter().enumerate() {
+        push_record_line(out, i as u64 + 1, *packet)?;
+    }
+    Ok(())
+}
+
+fn push_record_line(out: &mut String, number: u64, packet: Packet) -> Result<(), AllocError>
+    ensures { OnOk result (string_bytes out.new ≡ string_bytes out.old ++ record_line number packet) }
+{
+    match packet {
+        Packet::Skipped(Skip::Fragment) => push_fragment_line(out, number),
+        Packet::Refused(refusal) => push_refused_line(out, number, refusal),
+        _ => Ok(()),
+    }
+}
+
+#[tactic(auto, using(crate::proofs::Joins::joins))]
+fn push_fragment_line(out: &mut String, number: u64) -> Result<(), AllocError>
+    ensures { OnOk result (string_bytes out.new ≡ string_bytes out.old ++ record_line number (Packet.Skipped Skip.Fragment)) }
+{
+    push_field(out, "record ", number)?;
+    push_word(out, " fragment")?;
+    push_word(out, "\n")
+}
+
+#[tactic(auto, using(crate::proofs::Joins::joins))]
+fn push_refused_line(out: &mut String, number: u64, refusal: Refusal) -> Result<(), AllocError>
+    ensures { OnOk result (string_bytes out.new ≡ string_bytes out.old ++ record_line number (Packet.Refused refusal)) }
+{
+    push_field(out, "record ", number)?;
+    push_word(out, " refused ")?;
+    push_word(out, refusal_name(refusal))?;
+    push_word(out, "\n")
+}
+
+fn refusal_name(refusal: Refusal) -> &'static str
+    ensures { result.now ≡ refusal_name refusal }
+{
+    match refusal {
+        Refusal::ShortEthernet => "short-ethernet",
+        Refusal::ShortIpv4 => "short-ipv4",
+        Refusal::BadVersion => "bad-version",
+        Refusal::BadHeaderLength => "bad-header-length",
+        Refusal::BadTotalLength => "bad-total-length",
+        Refusal::PastEnd => "past-end",
+        Refusal::ShortTcp => "short-tcp",
+        Refusal::BadDataOffset => "bad-data-offset",
+    }
+}

@@ -1,0 +1,67 @@
+ghost use Rattle.std.specs.Prelude.{◌≡◌, ◌+◌, ◌<◌, ◌^◌, if◌then◌else◌};
+ghost use Rattle.audit_report.specs.CaptureLine.{is_segment, is_snapped, is_not_ipv4, is_fragment, is_not_tcp, is_refused};
+
+use packet_heads::{Packet, Skip};
+
+/// How many packets there are of each kind.
+#[derive(Clone, Copy, Debug, Default, PartialEq, Eq)]
+pub struct Tally {
+    pub segments: u64,
+    pub snapped: u64,
+    pub not_ipv4: u64,
+    pub fragments: u64,
+    pub not_tcp: u64,
+    pub refused: u64,
+}
+
+impl Tally {
+    ghost use Rattle.audit_report.specs.Tally.{IsTallyOf};
+
+    const NONE: Tally = Tally {
+        segments: 0,
+        snapped: 0,
+        not_ipv4: 0,
+        fragments: 0,
+        not_tcp: 0,
+        refused: 0,
+    };
+
+    /// Counts all packets in one pass.
+    pub fn of(packets: &[Packet]) -> Tally
+        ensures { IsTallyOf packets.now result }
+    {
+        let mut tally = Tally::NONE;
+        for packet in packets {
+            tally.add(*packet);
+        }
+        tally
+    }
+
+    fn add(&mut self, packet: Packet)
+        requires segments { self.old.segments + 1 < 2 ^ 64 }
+        requires snapped { self.old.snapped + 1 < 2 ^ 64 }
+        requires not_ipv4 { self.old.not_ipv4 + 1 < 2 ^ 64 }
+        requires fragments { self.old.fragments + 1 < 2 ^ 64 }
+        requires not_tcp { self.old.not_tcp + 1 < 2 ^ 64 }
+        requires refused { self.old.refused + 1 < 2 ^ 64 }
+        ensures segments { self.new.segments ≡ self.old.segments + (if is_segment packet then 1 else 0) }
+        ensures snapped { self.new.snapped ≡ self.old.snapped + (if is_snapped packet then 1 else 0) }
+        ensures not_ipv4 { self.new.not_ipv4 ≡ self.old.not_ipv4 + (if is_not_ipv4 packet then 1 else 0) }
+        ensures fragments { self.new.fragments ≡ self.old.fragments + (if is_fragment packet then 1 else 0) }
+        ensures not_tcp { self.new.not_tcp ≡ self.old.not_tcp + (if is_not_tcp packet then 1 else 0) }
+        ensures refused { self.new.refused ≡ self.old.refused + (if is_refused packet then 1 else 0) }
+    {
+        match packet {
+            Packet::Segment(segment) => {
+                self.segments += 1;
+                if segment.snapped {
+                    self.snapped += 1;
+                }
+            }
+            Packet::Skipped(Skip::NotIpv4) => self.not_ipv4 += 1,
+            Packet::Skipped(Skip::Fragment) => self.fragments += 1,
+            Packet::Skipped(Skip::NotTcp) => self.not_tcp += 1,
+            Packet::Refused(_) => self.refused += 1,
+        }
+    }
+}

@@ -1,0 +1,29 @@
+ghost use Rattle.std.specs.Prelude.{◌≡◌, ◌++◌, OnOk};
+ghost use Rattle.std.specs.String.{string_bytes};
+ghost use Rattle.audit_report.specs.UnopenedLines.{unopened_line, unopened_lines};
+
+use crate::endpoints::push_endpoint;
+use crate::words::{push_field, push_word};
+use std::alloc::AllocError;
+use tcp_streams::Stray;
+
+#[tactic(auto, using(crate::proofs::Joins::joins))]
+fn push_unopened_line(out: &mut String, stray: Stray) -> Result<(), AllocError>
+    ensures { OnOk result (string_bytes out.new ≡ string_bytes out.old ++ unopened_line stray) }
+{
+    push_word(out, "unopened ")?;
+    push_endpoint(out, stray.from)?;
+    push_word(out, " ")?;
+    push_endpoint(out, stray.to)?;
+    push_field(out, " segments ", stray.segments as u64)?;
+    push_word(out, "\n")
+}
+
+pub fn push_unopened_lines(out: &mut String, strays: &[Stray]) -> Result<(), AllocError>
+    ensures { OnOk result (string_bytes out.new ≡ string_bytes out.old ++ unopened_lines strays.now) }
+{
+    for stray in strays {
+        push_unopened_line(out, *stray)?;
+    }
+    Ok(())
+}

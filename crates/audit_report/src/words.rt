@@ -1,0 +1,28 @@
+ghost use Rattle.std.specs.Prelude.{◌≡◌, ◌++◌, OnOk};
+ghost use Rattle.std.specs.Fmt.{decimal};
+ghost use Rattle.std.specs.String.{string_bytes};
+ghost use Rattle.audit_report.specs.Line.{field};
+
+use std::alloc::AllocError;
+
+/// Adds a word to the text.
+pub fn push_word(out: &mut String, word: &str) -> Result<(), AllocError>
+    ensures { OnOk result (string_bytes out.new ≡ string_bytes out.old ++ word.now) }
+{
+    out.push_str(word)
+}
+
+/// Adds a number in decimal.
+pub fn push_number(out: &mut String, n: u64) -> Result<(), AllocError>
+    ensures { OnOk result (string_bytes out.new ≡ string_bytes out.old ++ decimal n) }
+{
+    write!(out, "{n}")
+}
+
+/// Adds a name and the number that it names.
+pub fn push_field(out: &mut String, name: &str, n: u64) -> Result<(), AllocError>
+    ensures { OnOk result (string_bytes out.new ≡ string_bytes out.old ++ field name.now n) }
+{
+    push_word(out, name)?;
+    write!(out, "{n}")
+}
