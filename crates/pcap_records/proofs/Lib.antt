@@ -1,0 +1,4 @@
+pub mod Magic
+pub mod Sizes
+pub mod Unique
+pub mod Walk

@@ -1,0 +1,25 @@
+-- When a capture is refused, and why.
+use Rattle.std.specs.Prelude.{ℕ, ◌-◌, ◌^◌, ◌==◌, if◌then◌else◌, not, nat_lt, Option, Some, None, List, length}
+use Rattle.pcap_records.specs.FileHeader.{Order, number_of, header_of, format_of, is_version, link_of}
+use Rattle.pcap_records.specs.declared.format.Format.{Format}
+use Rattle.pcap_records.specs.declared.faults.PcapFault.{PcapFault}
+use Rattle.pcap_records.specs.declared.faults.PcapFault.TheVariants.{ShortHeader, BadMagic, BadVersion, LinkType, TooLarge}
+
+-- what refuses a capture of this size that has this header, once the order of bytes is known
+abbrev pub refusal_in : Order → List ℕ → ℕ → Option PcapFault
+refusal_in number header size =
+    if not (is_version number header) then Some BadVersion else
+    if not (link_of number header == 1) then Some LinkType else
+    if nat_lt (2 ^ 31 - 1) size then Some TooLarge else
+    None
+
+-- the same by what the magic told
+abbrev pub refusal_by : Option Format → List ℕ → ℕ → Option PcapFault
+refusal_by None header size = Some BadMagic
+refusal_by (Some format) header size = refusal_in (number_of format.endian) header size
+
+-- the first refusal that applies, or none where the capture is read
+abbrev pub refusal : List ℕ → Option PcapFault
+refusal capture =
+    if nat_lt (length capture) 24 then Some ShortHeader
+    else refusal_by (format_of (header_of capture)) (header_of capture) (length capture)

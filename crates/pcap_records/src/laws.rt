@@ -1,0 +1,18 @@
+//! Laws of the definitions. The functions do nothing; their contracts are the laws.
+
+ghost use Rattle.pcap_records.specs.Laws.{OneReading, FrontDecides, AllowedIsShort};
+
+/// A capture has one reading: link type, records and cut record are the same in any two.
+pub fn one_reading()
+    ensures { OneReading }
+{}
+
+/// The first 2^31 bytes of a capture are refused exactly as the whole is, by the same refusal.
+pub fn front_decides()
+    ensures { FrontDecides }
+{}
+
+/// A capture that is not refused has fewer than 2^31 bytes.
+pub fn allowed_is_short()
+    ensures { AllowedIsShort }
+{}

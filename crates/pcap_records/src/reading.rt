@@ -1,0 +1,71 @@
+ghost use Rattle.std.specs.Prelude.{◌≡◌, ◌≤◌, ◌⊎◌, IfOk, IfErr, length};
+ghost use Rattle.pcap_records.specs.FileHeader.{header_of};
+ghost use Rattle.pcap_records.specs.Place.{AreWithin, AreTimely};
+ghost use Rattle.pcap_records.specs.Reading.{IsReading, IsReadingBy};
+ghost use Rattle.pcap_records.specs.Refusal.{refusal, refusal_in};
+
+use crate::capture::Records;
+use crate::faults::PcapFault;
+use crate::format::{Endian, format_of_magic};
+use crate::header::{FILE_HEADER, late_fault, link_type};
+use crate::rows::rows_of;
+use byteorder::{BigEndian, ByteOrder, LittleEndian};
+use std::alloc::Global;
+
+/// What a capture holds whose magic told the order of bytes and the nanoseconds in a unit.
+fn read_in<T: ByteOrder>(alloc: Global, capture: &[u8], unit: u64) -> Result<Records, PcapFault>
+    requires header { 24 ≤ length capture.now }
+    requires unit { unit ≤ 1000 }
+    ensures ok { IfOk result (λ found.
+        (refusal_in T.number_of (header_of capture.now) (length capture.now) ≡ None)
+        × IsReadingBy T.number_of unit capture.now found) }
+    ensures err { IfErr result (λ e. (e ≡ PcapFault.OutOfMemory)
+        ⊎ (refusal_in T.number_of (header_of capture.now) (length capture.now) ≡ Some e)) }
+    ensures placed { IfOk result (λ found. AreWithin (length capture.now) found.rows.items) }
+    ensures timely { IfOk result (λ found. AreTimely found.rows.items) }
+{
+    let header = &capture[..FILE_HEADER];
+    if let Some(fault) = late_fault::<T>(header, capture.len()) {
+        return Err(fault);
+    }
+    match rows_of::<T>(alloc, capture, unit) {
+        Err(_) => Err(PcapFault::OutOfMemory),
+        Ok((rows, at)) => {
+            let next = rows.len() as u32 + 1;
+            let cut = if at < capture.len() { Some(next) } else { None };
+            Ok(Records {
+                link: link_type::<T>(header),
+                rows,
+                cut,
+            })
+        }
+    }
+}
+
+/// The records of a capture (file format version 2.4), or the first refusal that applies.
+///
+/// Refusals are tested in the order of their numbers, from the header and the length alone. A capture
+/// that is not refused is read whole: bytes at its end that hold no whole record are the cut record,
+/// and all before it is kept. Times are in nanoseconds; a fraction above its usual range is used as
+/// it is. [`PcapFault::OutOfMemory`] comes only where the table of records could not grow.
+pub fn records(alloc: Global, capture: &[u8]) -> Result<Records, PcapFault>
+    // Nothing refuses the capture, and this is all that it holds.
+    ensures ok { IfOk result (λ found. (refusal capture.now ≡ None) × IsReading capture.now found) }
+    // Each fault other than want of memory is the first refusal that applies.
+    ensures err { IfErr result (λ e. (e ≡ PcapFault.OutOfMemory) ⊎ (refusal capture.now ≡ Some e)) }
+
+    // For those who go on from the records: they lie in the capture in order, and their times fit.
+    ensures placed { IfOk result (λ found. AreWithin (length capture.now) found.rows.items) }
+    ensures timely { IfOk result (λ found. AreTimely found.rows.items) }
+{
+    if capture.len() < FILE_HEADER {
+        return Err(PcapFault::ShortHeader);
+    }
+    match format_of_magic(&capture[..FILE_HEADER]) {
+        None => Err(PcapFault::BadMagic),
+        Some(format) => match format.endian {
+            Endian::Big => read_in::<BigEndian>(alloc, capture, format.unit),
+            Endian::Little => read_in::<LittleEndian>(alloc, capture, format.unit),
+        },
+    }
+}
