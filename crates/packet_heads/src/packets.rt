@@ -45,6 +45,27 @@ pub enum Refusal {
     BadDataOffset,
 }
 
+impl Refusal {
+    ghost use Rattle.std.specs.Prelude.{◌≡◌};
+    ghost use Rattle.packet_heads.specs.Refusal.{refusal_name};
+
+    /// What a report calls it.
+    pub fn name(self) -> &'static str
+        ensures { result.now ≡ refusal_name self }
+    {
+        match self {
+            Refusal::ShortEthernet => "short-ethernet",
+            Refusal::ShortIpv4 => "short-ipv4",
+            Refusal::BadVersion => "bad-version",
+            Refusal::BadHeaderLength => "bad-header-length",
+            Refusal::BadTotalLength => "bad-total-length",
+            Refusal::PastEnd => "past-end",
+            Refusal::ShortTcp => "short-tcp",
+            Refusal::BadDataOffset => "bad-data-offset",
+        }
+    }
+}
+
 /// What a record holds.
 #[derive(Clone, Copy, Debug, PartialEq, Eq)]
 pub enum Packet {

@@ -1,0 +1,56 @@
+-- The packet decision: what a record holds.
+use Rattle.std.specs.Prelude.{ℕ, ◌+◌, Bool, nat_lt, unwrap_or, List, [], ◌∷◌, ◌++◌}
+use Rattle.pcap_records.specs.declared.capture.Record.{Record}
+use Rattle.packet_heads.specs.declared.packets.Segment.{Segment}
+use Rattle.packet_heads.specs.declared.packets.Packet.{Packet}
+use Rattle.packet_heads.specs.declared.packets.Packet.TheVariants as packets
+use Rattle.packet_heads.specs.Lines.{first_answer}
+use Rattle.packet_heads.specs.Ethernet.{frame_of, data_of, ethernet_lines}
+use Rattle.packet_heads.specs.Ipv4 as ipv4
+use Rattle.packet_heads.specs.Tcp as tcp
+
+-- were fewer bytes of the packet captured than it had?
+abbrev pub is_cut : Record → Bool
+is_cut row = nat_lt row.length row.original
+
+-- line 12: the segment in a datagram of this record
+abbrev pub segment_of : ℕ → Record → List ℕ → Segment
+segment_of number row datagram =
+    let segment = ipv4.segment_bytes datagram in
+    let at = row.start + 14 in
+    record {
+      rec = number;
+      nanos = row.nanos;
+      from = record { address = ipv4.source_address datagram; port = tcp.source_port segment };
+      to = record { address = ipv4.destination_address datagram; port = tcp.destination_port segment };
+      seq = tcp.sequence_number segment;
+      syn = tcp.syn segment;
+      ack = tcp.ack segment;
+      lo = at + ipv4.header_length datagram + tcp.header_length segment;
+      hi = at + ipv4.datagram_end datagram;
+      snapped = ipv4.is_snapped (is_cut row) datagram;
+    }
+
+-- the packet in the frame of a record: the first of the table's twelve lines that applies
+abbrev pub decision_on : ℕ → Record → List ℕ → Packet
+decision_on number row frame =
+    let datagram = data_of frame in
+    unwrap_or
+    (first_answer
+    ((ethernet_lines frame ++ ipv4.ipv4_lines (is_cut row) datagram)
+    ++ tcp.tcp_lines (ipv4.segment_bytes datagram)))
+    (packets.Segment (segment_of number row datagram))
+
+-- the packet of a record of a capture; records are numbered from 1
+unfoldable pub packet_decision : ℕ → Record → List ℕ → Packet
+packet_decision number row capture = decision_on number row (frame_of row capture)
+
+-- the packets of records, the first of which has this number
+abbrev pub decisions_from : ℕ → List Record → List ℕ → List Packet
+decisions_from number [] capture = []
+decisions_from number (row ∷ rows) capture =
+    packet_decision number row capture ∷ decisions_from (number + 1) rows capture
+
+-- the packets of all records of a capture, in order
+abbrev pub packet_decisions : List Record → List ℕ → List Packet
+packet_decisions rows capture = decisions_from 1 rows capture

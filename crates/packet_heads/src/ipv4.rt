@@ -1,0 +1,148 @@
+//! IPv4 datagrams (RFC 791, 3.1).
+
+ghost use Rattle.std.specs.Prelude.{◌≡◌, ℕ, ◌*◌, ◌<◌, ◌≤◌, length, IfNone, IfSome};
+ghost use Rattle.packet_heads.specs.Ipv4.{version, header_words, header_length, total_length, is_fragment, protocol, source_address, destination_address, datagram_end, segment_bytes, is_snapped, ipv4_lines, HasHeader};
+ghost use Rattle.packet_heads.specs.Lines.{first_answer};
+ghost use Rattle.packet_heads.specs.Order.{IsPassedOver};
+
+use crate::packets::{Packet, Refusal, Skip};
+use byteorder::{BigEndian, ByteOrder};
+
+/// The shortest header, in bytes.
+const SHORTEST: usize = 20;
+
+/// The protocol number of TCP.
+const TCP: u8 = 6;
+
+/// More Fragments and Fragment Offset, in the 16 bits of flags and offset.
+const FRAGMENT: u16 = 0x3fff;
+
+#[tactic(auto, unfolding(crate::specs::Ipv4::version))]
+fn version(datagram: &[u8]) -> u8
+    requires { 20 ≤ length datagram.now }
+    ensures { result ≡ version datagram.now }
+{
+    datagram[0] >> 4
+}
+
+#[tactic(auto, unfolding(crate::specs::Ipv4::header_words))]
+fn header_words(datagram: &[u8]) -> u8
+    requires { 20 ≤ length datagram.now }
+    ensures words { result ≡ header_words datagram.now }
+    ensures small { result < 16 }
+{
+    datagram[0] & 0x0f
+}
+
+/// The length of the header, options included.
+pub fn header_length(datagram: &[u8]) -> usize
+    requires { 20 ≤ length datagram.now }
+    ensures length { result ≡ header_length datagram.now }
+    ensures small { result < 64 }
+{
+    4 * header_words(datagram) as usize
+}
+
+/// The length of header and data.
+#[tactic(auto, unfolding(crate::specs::Ipv4::total_length))]
+fn total_length(datagram: &[u8]) -> usize
+    requires { 20 ≤ length datagram.now }
+    ensures { result ≡ total_length datagram.now }
+{
+    BigEndian::read_u16(&datagram[2..]) as usize
+}
+
+#[tactic(auto, unfolding(crate::specs::Ipv4::is_fragment, crate::specs::Ipv4::more_fragments, crate::specs::Ipv4::fragment_offset))]
+fn is_fragment(datagram: &[u8]) -> bool
+    requires { 20 ≤ length datagram.now }
+    ensures { result ≡ is_fragment datagram.now }
+{
+    BigEndian::read_u16(&datagram[6..]) & FRAGMENT != 0
+}
+
+#[tactic(auto, unfolding(crate::specs::Ipv4::protocol))]
+fn protocol(datagram: &[u8]) -> u8
+    requires { 20 ≤ length datagram.now }
+    ensures { result ≡ protocol datagram.now }
+{
+    datagram[9]
+}
+
+#[tactic(auto, unfolding(crate::specs::Ipv4::source_address))]
+pub fn source_address(datagram: &[u8]) -> u32
+    requires { 20 ≤ length datagram.now }
+    ensures { result ≡ source_address datagram.now }
+{
+    BigEndian::read_u32(&datagram[12..])
+}
+
+#[tactic(auto, unfolding(crate::specs::Ipv4::destination_address))]
+pub fn destination_address(datagram: &[u8]) -> u32
+    requires { 20 ≤ length datagram.now }
+    ensures { result ≡ destination_address datagram.now }
+{
+    BigEndian::read_u32(&datagram[16..])
+}
+
+/// Where the datagram's captured bytes end.
+pub fn end(datagram: &[u8]) -> usize
+    requires { 20 ≤ length datagram.now }
+    ensures end { result ≡ datagram_end datagram.now }
+    ensures within { result ≤ length datagram.now }
+{
+    let total = total_length(datagram);
+    if total == 0 {
+        datagram.len()
+    } else {
+        total.min(datagram.len())
+    }
+}
+
+/// The captured bytes behind the header.
+pub fn segment(datagram: &[u8]) -> &[u8]
+    requires { HasHeader datagram.now }
+    ensures { result.now ≡ segment_bytes datagram.now }
+{
+    &datagram[header_length(datagram)..end(datagram)]
+}
+
+/// Was less captured than the datagram holds? `cut` says so of the whole packet.
+pub fn is_snapped(cut: bool, datagram: &[u8]) -> bool
+    requires { 20 ≤ length datagram.now }
+    ensures { result ≡ is_snapped cut datagram.now }
+{
+    let total = total_length(datagram);
+    total > datagram.len() || total == 0 && cut
+}
+
+/// What the header says of a datagram that carries no TCP segment as a whole.
+pub fn answer(cut: bool, datagram: &[u8]) -> Option<Packet>
+    ensures answer { result ≡ first_answer (ipv4_lines cut datagram.now) }
+    ensures passed_over { IfSome result IsPassedOver }
+    ensures whole { IfNone result (HasHeader datagram.now) }
+{
+    if datagram.len() < SHORTEST {
+        return Some(Packet::Refused(Refusal::ShortIpv4));
+    }
+    if version(datagram) != 4 {
+        return Some(Packet::Refused(Refusal::BadVersion));
+    }
+    let header = header_length(datagram);
+    if header < SHORTEST || header > datagram.len() {
+        return Some(Packet::Refused(Refusal::BadHeaderLength));
+    }
+    let total = total_length(datagram);
+    if total != 0 && total < header {
+        return Some(Packet::Refused(Refusal::BadTotalLength));
+    }
+    if total > datagram.len() && !cut {
+        return Some(Packet::Refused(Refusal::PastEnd));
+    }
+    if is_fragment(datagram) {
+        return Some(Packet::Skipped(Skip::Fragment));
+    }
+    if protocol(datagram) != TCP {
+        return Some(Packet::Skipped(Skip::NotTcp));
+    }
+    None
+}
