@@ -1,4 +1,4 @@
-ghost use Rattle.std.specs.Prelude.{◌≡◌, ◌≤◌, ◌⊎◌, IfOk, IfErr, length};
+ghost use Rattle.std.specs.Prelude.{◌≡◌, ◌≤◌, ◌⊎◌, IfOk, IfErr, IfSome, length};
 ghost use Rattle.pcap_records.specs.FileHeader.{header_of};
 ghost use Rattle.pcap_records.specs.Place.{AreWithin, AreTimely};
 ghost use Rattle.pcap_records.specs.Reading.{IsReading, IsReadingBy};
@@ -19,6 +19,8 @@ fn read_in<T: ByteOrder>(alloc: Global, capture: &[u8], unit: u64) -> Result<Rec
     ensures ok { IfOk result (λ found.
         (refusal_in T.number_of (header_of capture.now) (length capture.now) ≡ None)
         × IsReadingBy T.number_of unit capture.now found) }
+    ensures refused { IfSome (refusal_in T.number_of (header_of capture.now) (length capture.now))
+        (λ e. result ≡ Err e) }
     ensures err { IfErr result (λ e. (e ≡ PcapFault.OutOfMemory)
         ⊎ (refusal_in T.number_of (header_of capture.now) (length capture.now) ≡ Some e)) }
     ensures placed { IfOk result (λ found. AreWithin (length capture.now) found.rows.items) }
@@ -51,7 +53,9 @@ fn read_in<T: ByteOrder>(alloc: Global, capture: &[u8], unit: u64) -> Result<Rec
 pub fn records(alloc: Global, capture: &[u8]) -> Result<Records, PcapFault>
     // Nothing refuses the capture, and this is all that it holds.
     ensures ok { IfOk result (λ found. (refusal capture.now ≡ None) × IsReading capture.now found) }
-    // Each fault other than want of memory is the first refusal that applies.
+    // What is refused is refused by the first refusal that applies, whatever memory there is.
+    ensures refused { IfSome (refusal capture.now) (λ e. result ≡ Err e) }
+    // Each fault other than want of memory is that refusal.
     ensures err { IfErr result (λ e. (e ≡ PcapFault.OutOfMemory) ⊎ (refusal capture.now ≡ Some e)) }
 
     // For those who go on from the records: they lie in the capture in order, and their times fit.
