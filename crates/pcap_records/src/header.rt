@@ -27,6 +27,7 @@ pub fn late_fault<T: ByteOrder>(header: &[u8], size: usize) -> Option<PcapFault>
     requires { 24 ≤ length header.now }
     ensures fault { result ≡ refusal_in T.number_of header.now size }
     ensures size { IfNone result (size < 2 ^ 31) }
+    ensures link { IfNone result (link_of T.number_of header.now ≡ 1) }
 {
     let (major, minor) = (T::read_u16(&header[4..]), T::read_u16(&header[6..]));
     if (major, minor) != (2, 4) {

@@ -25,6 +25,7 @@ fn read_in<T: ByteOrder>(alloc: Global, capture: &[u8], unit: u64) -> Result<Rec
         ⊎ (refusal_in T.number_of (header_of capture.now) (length capture.now) ≡ Some e)) }
     ensures placed { IfOk result (λ found. AreWithin (length capture.now) found.rows.items) }
     ensures timely { IfOk result (λ found. AreTimely found.rows.items) }
+    ensures ethernet { IfOk result (λ found. found.link ≡ 1) }
 {
     let header = &capture[..FILE_HEADER];
     if let Some(fault) = late_fault::<T>(header, capture.len()) {
@@ -58,9 +59,11 @@ pub fn records(alloc: Global, capture: &[u8]) -> Result<Records, PcapFault>
     // Each fault other than want of memory is that refusal.
     ensures err { IfErr result (λ e. (e ≡ PcapFault.OutOfMemory) ⊎ (refusal capture.now ≡ Some e)) }
 
-    // For those who go on from the records: they lie in the capture in order, and their times fit.
+    // For those who go on from the records: they lie in the capture in order, their times fit, and the
+    // packets begin with an Ethernet header.
     ensures placed { IfOk result (λ found. AreWithin (length capture.now) found.rows.items) }
     ensures timely { IfOk result (λ found. AreTimely found.rows.items) }
+    ensures ethernet { IfOk result (λ found. found.link ≡ 1) }
 {
     if capture.len() < FILE_HEADER {
         return Err(PcapFault::ShortHeader);
