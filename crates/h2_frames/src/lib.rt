@@ -2,5 +2,8 @@
 #![tactic(auto)]
 
 pub mod connections;
+pub mod headers;
+pub mod bodies;
+pub mod settings;
 
 pub use connections::Cut;

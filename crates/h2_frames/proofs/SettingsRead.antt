@@ -1,0 +1,94 @@
+-- Reading the settings of a payload one after the other.
+use Rattle.std.proofs.Common.{◌≡◌, ℕ, ◌<◌, ◌≤◌, ◌+◌, Bool, true, false, cond, not, ◌&&◌, eqb, List, [], ◌∷◌, length, take, drop, Option, None, Some, refl, ap, arith, sym, ◌∙◌}
+use Rattle.std.specs.Prelude.{option_map, find, is_none, if◌then◌else◌, ◌==◌}
+use Rattle.std.specs.Option.{option_or}
+use Rattle.audit_core.specs.declared.frames.Settings.{Settings}
+use Rattle.h2_frames.specs.declared.settings.Setting.{Setting}
+use Rattle.h2_frames.specs.Settings.{setting_at, settings_in, is_in_range, last_value, first_bad}
+use Rattle.h2_frames.specs.Steps.{with_setting}
+
+-- the settings so far, with later ones put over them
+abbrev pub with_later : Settings → List Setting → Settings
+with_later settings later = record {
+  push = option_or (last_value 2 later) settings.push;
+  initial = option_or (last_value 4 later) settings.initial;
+  max_frame = option_or (last_value 5 later) settings.max_frame;
+  bad = option_or settings.bad (first_bad later) }
+
+value_step : (later : Option ℕ) (test : Bool) (value : ℕ) (before : Option ℕ) →
+    option_or later (if test then Some value else before) ≡ option_or (option_or later (if test then Some value else None)) before
+value_step None true value before = refl
+value_step None false value before = refl
+value_step (Some x) test value before = refl
+
+bad_step : (before : Option ℕ) (fine : Bool) (identifier : ℕ) (later : Option ℕ) →
+    option_or (if is_none before && not fine then Some identifier else before) later
+    ≡ option_or before (if not fine then Some identifier else later)
+bad_step None true identifier later = refl
+bad_step None false identifier later = refl
+bad_step (Some x) true identifier later = refl
+bad_step (Some x) false identifier later = refl
+
+bad_cons : (s : Setting) (later : List Setting) →
+    first_bad (s ∷ later) ≡ (if not (is_in_range s) then Some s.identifier else first_bad later)
+bad_cons s later = by (is_in_range s)
+  where
+  by : (fine : Bool) →
+      option_map (λ (t : Setting). t.identifier) (cond (not fine) (Some s) (find (λ (t : Setting). not (is_in_range t)) later))
+      ≡ (if not fine then Some s.identifier else first_bad later)
+  by true = refl
+  by false = refl
+
+-- one more setting read is one setting less to come
+pub with_later-step : (settings : Settings) (s : Setting) (later : List Setting) →
+    with_later (with_setting settings s) later ≡ with_later settings (s ∷ later)
+with_later-step settings s later =
+    let push = value_step (last_value 2 later) (s.identifier == 2) s.value settings.push in
+    let initial = value_step (last_value 4 later) (s.identifier == 4) s.value settings.initial in
+    let max_frame = value_step (last_value 5 later) (s.identifier == 5) s.value settings.max_frame in
+    let bad = bad_step settings.bad (is_in_range s) s.identifier (first_bad later)
+        ∙ ap (option_or settings.bad) (sym (bad_cons s later)) in
+    same push initial max_frame bad
+  where
+  same : {a b c d a' b' c' d' : Option ℕ} → a ≡ a' → b ≡ b' → c ≡ c' → d ≡ d' →
+      (let left : Settings = record { push = a; initial = b; max_frame = c; bad = d } in
+       let right : Settings = record { push = a'; initial = b'; max_frame = c'; bad = d' } in left ≡ right)
+  same p q r s = cc
+
+-- with nothing to come, the settings are what they are
+pub with_later-none : (settings : Settings) → with_later settings [] ≡ settings
+with_later-none settings = let e = or_none settings.bad in rw e refl
+  where
+  or_none : (o : Option ℕ) → option_or o None ≡ o
+  or_none None = refl
+  or_none (Some x) = refl
+
+-- whole settings begin with one
+pub settings_in-step : (payload : List ℕ) → 6 ≤ length payload →
+    settings_in payload ≡ setting_at (take 6 payload) ∷ settings_in (drop 6 payload)
+settings_in-step (a ∷ b ∷ c ∷ d ∷ e ∷ f ∷ later) h = refl
+settings_in-step [] h = absurd (omega arith)
+settings_in-step (a ∷ []) h = absurd (omega arith)
+settings_in-step (a ∷ b ∷ []) h = absurd (omega arith)
+settings_in-step (a ∷ b ∷ c ∷ []) h = absurd (omega arith)
+settings_in-step (a ∷ b ∷ c ∷ d ∷ []) h = absurd (omega arith)
+settings_in-step (a ∷ b ∷ c ∷ d ∷ e ∷ []) h = absurd (omega arith)
+
+-- less than a whole setting holds none
+pub settings_in-none : (payload : List ℕ) → length payload < 6 → settings_in payload ≡ []
+settings_in-none (a ∷ b ∷ c ∷ d ∷ e ∷ f ∷ later) h = absurd (omega arith)
+settings_in-none [] h = refl
+settings_in-none (a ∷ []) h = refl
+settings_in-none (a ∷ b ∷ []) h = refl
+settings_in-none (a ∷ b ∷ c ∷ []) h = refl
+settings_in-none (a ∷ b ∷ c ∷ d ∷ []) h = refl
+settings_in-none (a ∷ b ∷ c ∷ d ∷ e ∷ []) h = refl
+
+-- one turn of the loop over a payload
+pub with_later-turn : (settings new : Settings) (s : Setting) (rest pair later : List ℕ) →
+    pair ≡ take 6 rest → later ≡ drop 6 rest → length later + 6 ≡ length rest →
+    s ≡ setting_at pair → new ≡ with_setting settings s →
+    with_later new (settings_in later) ≡ with_later settings (settings_in rest)
+with_later-turn settings new s rest pair later pair_is later_is size s_is new_is =
+    let found = settings_in-step rest (omega arith) in
+    rw (new_is, with_later-step settings s (settings_in later), s_is, pair_is, later_is, found) refl

@@ -1,0 +1,4 @@
+pub mod Body
+pub mod Header
+pub mod Settings
+pub mod Steps

@@ -1,0 +1,176 @@
+ghost use Rattle.std.specs.Prelude.{◌≡◌, ◌+◌, ◌-◌, ◌<◌, ◌≤◌, ◌^◌, length};
+ghost use Rattle.h2_frames.specs.Body.{body_of, data_body, field_block_body, go_away_body, has_flag, headers_body, of_length, priority_body, push_promise_body, settings_body, window_update_body, wrong_size};
+
+use audit_core::{Body, Kind};
+
+use crate::headers::number_of_31_bits;
+use crate::settings::{SETTING_LENGTH, settings_of};
+
+// The types of frames (RFC 9113, 6.1 to 6.10).
+const DATA: u8 = 0;
+const HEADERS: u8 = 1;
+const PRIORITY: u8 = 2;
+const RST_STREAM: u8 = 3;
+const SETTINGS: u8 = 4;
+const PUSH_PROMISE: u8 = 5;
+const PING: u8 = 6;
+const GOAWAY: u8 = 7;
+const WINDOW_UPDATE: u8 = 8;
+const CONTINUATION: u8 = 9;
+
+// The flags that say where things stand in a payload.
+const ACK: u8 = 1;
+const PADDED: u8 = 8;
+const WITH_PRIORITY: u8 = 32;
+
+fn has_flag(flags: u8, flag: u8) -> bool
+    ensures { result ≡ has_flag flags flag }
+{
+    flags & flag != 0
+}
+
+fn wrong_size(payload: &[u8]) -> Body
+    requires { length payload.now < 2 ^ 24 }
+    ensures { result ≡ wrong_size payload.now }
+{
+    Body::Unreadable(Kind::WrongSize, payload.len() as u32)
+}
+
+/// A payload that has to be `size` bytes long.
+fn of_length(size: usize, payload: &[u8], body: Body) -> Body
+    requires { length payload.now < 2 ^ 24 }
+    ensures { result ≡ of_length size payload.now body }
+{
+    if payload.len() == size {
+        body
+    } else {
+        wrong_size(payload)
+    }
+}
+
+/// DATA (RFC 9113, 6.1).
+fn data_body(flags: u8, payload: &[u8]) -> Body
+    requires { length payload.now < 2 ^ 24 }
+    ensures { result ≡ data_body flags payload.now }
+{
+    if !has_flag(flags, PADDED) {
+        return Body::Content;
+    }
+    match payload.first() {
+        None => wrong_size(payload),
+        Some(&padding) if padding as usize >= payload.len() => {
+            Body::Unreadable(Kind::BadPadding, padding as u32)
+        }
+        Some(_) => Body::Content,
+    }
+}
+
+/// A field block behind the length of its padding, where there is padding, and `fields` further bytes.
+fn field_block_body(flags: u8, payload: &[u8], fields: usize, body: Body) -> Body
+    requires payload { length payload.now < 2 ^ 24 }
+    requires fields { fields < 2 ^ 24 }
+    ensures { result ≡ field_block_body flags payload.now fields body }
+{
+    if !has_flag(flags, PADDED) {
+        return if payload.len() < fields { wrong_size(payload) } else { body };
+    }
+    if payload.len() < fields + 1 {
+        return wrong_size(payload);
+    }
+    if payload[0] as usize > payload.len() - (fields + 1) {
+        return Body::Unreadable(Kind::BadPadding, payload[0] as u32);
+    }
+    body
+}
+
+/// HEADERS (RFC 9113, 6.2).
+fn headers_body(flags: u8, payload: &[u8]) -> Body
+    requires { length payload.now < 2 ^ 24 }
+    ensures { result ≡ headers_body flags payload.now }
+{
+    let fields = if has_flag(flags, WITH_PRIORITY) { 5 } else { 0 };
+    field_block_body(flags, payload, fields, Body::Headers)
+}
+
+/// PRIORITY (RFC 9113, 6.3).
+fn priority_body(payload: &[u8]) -> Body
+    requires { length payload.now < 2 ^ 24 }
+    ensures { result ≡ priority_body payload.now }
+{
+    if payload.len() == 5 {
+        Body::Priority
+    } else {
+        Body::Unreadable(Kind::BadPriority, payload.len() as u32)
+    }
+}
+
+/// SETTINGS (RFC 9113, 6.5).
+fn settings_body(flags: u8, payload: &[u8]) -> Body
+    requires { length payload.now < 2 ^ 24 }
+    ensures { result ≡ settings_body flags payload.now }
+{
+    if has_flag(flags, ACK) {
+        of_length(0, payload, Body::SettingsAck)
+    } else if payload.len() % SETTING_LENGTH == 0 {
+        Body::Settings(settings_of(payload))
+    } else {
+        wrong_size(payload)
+    }
+}
+
+/// PUSH_PROMISE (RFC 9113, 6.6).
+fn push_promise_body(flags: u8, payload: &[u8]) -> Body
+    requires { length payload.now < 2 ^ 24 }
+    ensures { result ≡ push_promise_body flags payload.now }
+{
+    let padding = if has_flag(flags, PADDED) { 1 } else { 0 };
+    if payload.len() < padding + 4 {
+        return wrong_size(payload);
+    }
+    let promised = number_of_31_bits(&payload[padding..]);
+    field_block_body(flags, payload, 4, Body::PushPromise(promised))
+}
+
+/// GOAWAY (RFC 9113, 6.8).
+fn go_away_body(payload: &[u8]) -> Body
+    requires { length payload.now < 2 ^ 24 }
+    ensures { result ≡ go_away_body payload.now }
+{
+    if payload.len() < 8 {
+        wrong_size(payload)
+    } else {
+        Body::GoAway
+    }
+}
+
+/// WINDOW_UPDATE (RFC 9113, 6.9).
+fn window_update_body(payload: &[u8]) -> Body
+    requires { length payload.now < 2 ^ 24 }
+    ensures { result ≡ window_update_body payload.now }
+{
+    if payload.len() == 4 {
+        Body::WindowUpdate(number_of_31_bits(payload))
+    } else {
+        wrong_size(payload)
+    }
+}
+
+/// What the payload says, by the frame's type and flags.
+pub(crate) fn body_of(code: u8, flags: u8, payload: &[u8]) -> Body
+    requires { length payload.now < 2 ^ 24 }
+    ensures { result ≡ body_of code flags payload.now }
+{
+    match code {
+        DATA => data_body(flags, payload),
+        HEADERS => headers_body(flags, payload),
+        PRIORITY => priority_body(payload),
+        RST_STREAM => of_length(4, payload, Body::RstStream),
+        SETTINGS => settings_body(flags, payload),
+        PUSH_PROMISE => push_promise_body(flags, payload),
+        PING => of_length(8, payload, Body::Ping),
+        GOAWAY => go_away_body(payload),
+        WINDOW_UPDATE => window_update_body(payload),
+        CONTINUATION => Body::Continuation,
+        _ => Body::Unknown,
+    }
+}
