@@ -13,7 +13,8 @@ with_later settings later = record {
   push = option_or (last_value 2 later) settings.push;
   initial = option_or (last_value 4 later) settings.initial;
   max_frame = option_or (last_value 5 later) settings.max_frame;
-  bad = option_or settings.bad (first_bad later) }
+  bad = option_or settings.bad (first_bad later);
+}
 
 value_step : (later : Option ℕ) (test : Bool) (value : ℕ) (before : Option ℕ) →
     option_or later (if test then Some value else before) ≡ option_or (option_or later (if test then Some value else None)) before
@@ -33,11 +34,11 @@ bad_cons : (s : Setting) (later : List Setting) →
     first_bad (s ∷ later) ≡ (if not (is_in_range s) then Some s.identifier else first_bad later)
 bad_cons s later = by (is_in_range s)
   where
-  by : (fine : Bool) →
-      option_map (λ (t : Setting). t.identifier) (cond (not fine) (Some s) (find (λ (t : Setting). not (is_in_range t)) later))
-      ≡ (if not fine then Some s.identifier else first_bad later)
-  by true = refl
-  by false = refl
+    by : (fine : Bool) →
+        option_map (λ (t : Setting). t.identifier) (cond (not fine) (Some s) (find (λ (t : Setting). not (is_in_range t)) later))
+        ≡ (if not fine then Some s.identifier else first_bad later)
+    by true = refl
+    by false = refl
 
 -- one more setting read is one setting less to come
 pub with_later-step : (settings : Settings) (s : Setting) (later : List Setting) →
@@ -47,21 +48,21 @@ with_later-step settings s later =
     let initial = value_step (last_value 4 later) (s.identifier == 4) s.value settings.initial in
     let max_frame = value_step (last_value 5 later) (s.identifier == 5) s.value settings.max_frame in
     let bad = bad_step settings.bad (is_in_range s) s.identifier (first_bad later)
-        ∙ ap (option_or settings.bad) (sym (bad_cons s later)) in
+    ∙ ap (option_or settings.bad) (sym (bad_cons s later)) in
     same push initial max_frame bad
   where
-  same : {a b c d a' b' c' d' : Option ℕ} → a ≡ a' → b ≡ b' → c ≡ c' → d ≡ d' →
-      (let left : Settings = record { push = a; initial = b; max_frame = c; bad = d } in
-       let right : Settings = record { push = a'; initial = b'; max_frame = c'; bad = d' } in left ≡ right)
-  same p q r s = cc
+    same : {a b c d a' b' c' d' : Option ℕ} → a ≡ a' → b ≡ b' → c ≡ c' → d ≡ d' →
+        (let left : Settings = record { push = a; initial = b; max_frame = c; bad = d } in
+        let right : Settings = record { push = a'; initial = b'; max_frame = c'; bad = d' } in left ≡ right)
+    same p q r s = cc
 
 -- with nothing to come, the settings are what they are
 pub with_later-none : (settings : Settings) → with_later settings [] ≡ settings
 with_later-none settings = let e = or_none settings.bad in rw e refl
   where
-  or_none : (o : Option ℕ) → option_or o None ≡ o
-  or_none None = refl
-  or_none (Some x) = refl
+    or_none : (o : Option ℕ) → option_or o None ≡ o
+    or_none None = refl
+    or_none (Some x) = refl
 
 -- whole settings begin with one
 pub settings_in-step : (payload : List ℕ) → 6 ≤ length payload →

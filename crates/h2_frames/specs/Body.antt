@@ -1,19 +1,24 @@
 -- What a frame carries, by its type, its flags and its payload (RFC 9113, 6.1 to 6.10). Where a payload has several
 -- faults, the first line of its definition that applies names the one.
-use Rattle.std.specs.Prelude.{ℕ, ◌+◌, ◌-◌, ◌%◌, Bool, not, ◌&&◌, ◌==◌, nat_lt, nat_le, if◌then◌else◌, List, length, drop, slice_index, bit_and}
+use Rattle.std.specs.Prelude.{ℕ, ◌+◌, ◌-◌, ◌%◌, Bool, not, ◌&&◌, ◌==◌, nat_lt, nat_le, if◌then◌else◌, List, length, drop, slice_index}
 use Rattle.audit_core.specs.declared.frames.Body.{Body}
 use Rattle.audit_core.specs.declared.frames.Body.TheVariants.{Content, Headers, Priority, RstStream, Settings, SettingsAck, PushPromise, Ping, GoAway, WindowUpdate, Continuation, Unknown, Unreadable}
 use Rattle.audit_core.specs.declared.kinds.Kind.TheVariants.{WrongSize, BadPadding, BadPriority}
+use Rattle.audit_core.specs.FrameType.{has_flag, ack_flag, data_type, headers_type, priority_type, rst_stream_type, settings_type, push_promise_type, ping_type, goaway_type, window_update_type, continuation_type}
 use Rattle.h2_frames.specs.Header.{number_of_31_bits}
 use Rattle.h2_frames.specs.Settings.{settings_of}
 
--- is the flag, one bit, set?
-abbrev pub has_flag : ℕ → ℕ → Bool
-has_flag flags flag = not (bit_and flags flag == 0)
+-- the flag PADDED (6.1, 6.2, 6.6)
+abbrev pub padded_flag : ℕ
+padded_flag = 8
 
--- PADDED (6.1, 6.2, 6.6)
+-- the flag PRIORITY (6.2)
+abbrev pub priority_flag : ℕ
+priority_flag = 32
+
+-- padding, and its length, are there
 abbrev pub is_padded : ℕ → Bool
-is_padded flags = has_flag flags 8
+is_padded flags = has_flag flags padded_flag
 
 -- with PADDED, the first byte of the payload is the length of the padding at its end
 abbrev pub pad_length : List ℕ → ℕ
@@ -50,7 +55,7 @@ field_block_body flags payload fields body =
 
 -- HEADERS (6.2): with the flag PRIORITY, five bytes on the stream's priority
 abbrev pub headers_body : ℕ → List ℕ → Body
-headers_body flags payload = field_block_body flags payload (if has_flag flags 32 then 5 else 0) Headers
+headers_body flags payload = field_block_body flags payload (if has_flag flags priority_flag then 5 else 0) Headers
 
 -- PRIORITY (6.3)
 abbrev pub priority_body : List ℕ → Body
@@ -59,7 +64,7 @@ priority_body payload = if length payload == 5 then Priority else Unreadable Bad
 -- SETTINGS (6.5): an acknowledgement is empty, other payloads are whole pairs of six bytes
 abbrev pub settings_body : ℕ → List ℕ → Body
 settings_body flags payload =
-    if has_flag flags 1 then of_length 0 payload SettingsAck
+    if has_flag flags ack_flag then of_length 0 payload SettingsAck
     else if length payload % 6 == 0 then Settings (settings_of payload)
     else wrong_size payload
 
@@ -79,14 +84,14 @@ window_update_body payload = of_length 4 payload (WindowUpdate (number_of_31_bit
 -- by the type byte: RST_STREAM 6.4, PING 6.7, CONTINUATION 6.10; an unknown type is no error (5.5)
 abbrev pub body_of : ℕ → ℕ → List ℕ → Body
 body_of code flags payload =
-    if code == 0 then data_body flags payload
-    else if code == 1 then headers_body flags payload
-    else if code == 2 then priority_body payload
-    else if code == 3 then of_length 4 payload RstStream
-    else if code == 4 then settings_body flags payload
-    else if code == 5 then push_promise_body flags payload
-    else if code == 6 then of_length 8 payload Ping
-    else if code == 7 then go_away_body payload
-    else if code == 8 then window_update_body payload
-    else if code == 9 then Continuation
+    if code == data_type then data_body flags payload
+    else if code == headers_type then headers_body flags payload
+    else if code == priority_type then priority_body payload
+    else if code == rst_stream_type then of_length 4 payload RstStream
+    else if code == settings_type then settings_body flags payload
+    else if code == push_promise_type then push_promise_body flags payload
+    else if code == ping_type then of_length 8 payload Ping
+    else if code == goaway_type then go_away_body payload
+    else if code == window_update_type then window_update_body payload
+    else if code == continuation_type then Continuation
     else Unknown

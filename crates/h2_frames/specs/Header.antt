@@ -13,4 +13,5 @@ header_of bytes = record {
   length = big_number 3 bytes;
   code = slice_index bytes 3;
   flags = slice_index bytes 4;
-  stream = number_of_31_bits (drop 5 bytes) }
+  stream = number_of_31_bits (drop 5 bytes);
+}

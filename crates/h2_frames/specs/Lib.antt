@@ -1,4 +1,9 @@
-pub mod Body
 pub mod Header
 pub mod Settings
+pub mod Body
+pub mod Spelling
+pub mod CaptureOrder
+pub mod Preface
+pub mod Cut
+pub mod Law
 pub mod Steps

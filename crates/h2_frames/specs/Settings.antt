@@ -39,4 +39,5 @@ settings_of payload = record {
   push = last_value 2 (settings_in payload);
   initial = last_value 4 (settings_in payload);
   max_frame = last_value 5 (settings_in payload);
-  bad = first_bad (settings_in payload) }
+  bad = first_bad (settings_in payload);
+}

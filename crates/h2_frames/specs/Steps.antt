@@ -10,4 +10,5 @@ with_setting settings s = record {
   push = (if s.identifier == 2 then Some s.value else settings.push);
   initial = (if s.identifier == 4 then Some s.value else settings.initial);
   max_frame = (if s.identifier == 5 then Some s.value else settings.max_frame);
-  bad = (if is_none settings.bad && not (is_in_range s) then Some s.identifier else settings.bad) }
+  bad = (if is_none settings.bad && not (is_in_range s) then Some s.identifier else settings.bad);
+}

@@ -1,26 +1,38 @@
 ghost use Rattle.std.specs.Prelude.{◌≡◌, ◌+◌, ◌-◌, ◌<◌, ◌≤◌, ◌^◌, length};
-ghost use Rattle.h2_frames.specs.Body.{body_of, data_body, field_block_body, go_away_body, has_flag, headers_body, of_length, priority_body, push_promise_body, settings_body, window_update_body, wrong_size};
-
-use audit_core::{Body, Kind};
+ghost use Rattle.audit_core.specs.Frame.{promised_in};
+ghost use Rattle.audit_core.specs.FrameType.{has_flag};
+ghost use Rattle.h2_frames.specs.Body.{body_of, data_body, field_block_body, go_away_body, headers_body, of_length, priority_body, push_promise_body, settings_body, window_update_body, wrong_size};
 
 use crate::headers::number_of_31_bits;
 use crate::settings::{SETTING_LENGTH, settings_of};
+use audit_core::{Body, Kind};
 
 // The types of frames (RFC 9113, 6.1 to 6.10).
 const DATA: u8 = 0;
+
 const HEADERS: u8 = 1;
+
 const PRIORITY: u8 = 2;
+
 const RST_STREAM: u8 = 3;
+
 const SETTINGS: u8 = 4;
+
 const PUSH_PROMISE: u8 = 5;
+
 const PING: u8 = 6;
+
 const GOAWAY: u8 = 7;
+
 const WINDOW_UPDATE: u8 = 8;
+
 const CONTINUATION: u8 = 9;
 
 // The flags that say where things stand in a payload.
 const ACK: u8 = 1;
+
 const PADDED: u8 = 8;
+
 const WITH_PRIORITY: u8 = 32;
 
 fn has_flag(flags: u8, flag: u8) -> bool
@@ -31,15 +43,18 @@ fn has_flag(flags: u8, flag: u8) -> bool
 
 fn wrong_size(payload: &[u8]) -> Body
     requires { length payload.now < 2 ^ 24 }
-    ensures { result ≡ wrong_size payload.now }
+    ensures exact { result ≡ wrong_size payload.now }
+    ensures promised { promised_in result < 2 ^ 31 }
 {
     Body::Unreadable(Kind::WrongSize, payload.len() as u32)
 }
 
 /// A payload that has to be `size` bytes long.
 fn of_length(size: usize, payload: &[u8], body: Body) -> Body
-    requires { length payload.now < 2 ^ 24 }
-    ensures { result ≡ of_length size payload.now body }
+    requires payload { length payload.now < 2 ^ 24 }
+    requires promised { promised_in body < 2 ^ 31 }
+    ensures exact { result ≡ of_length size payload.now body }
+    ensures promised { promised_in result < 2 ^ 31 }
 {
     if payload.len() == size {
         body
@@ -51,7 +66,8 @@ fn of_length(size: usize, payload: &[u8], body: Body) -> Body
 /// DATA (RFC 9113, 6.1).
 fn data_body(flags: u8, payload: &[u8]) -> Body
     requires { length payload.now < 2 ^ 24 }
-    ensures { result ≡ data_body flags payload.now }
+    ensures exact { result ≡ data_body flags payload.now }
+    ensures promised { promised_in result < 2 ^ 31 }
 {
     if !has_flag(flags, PADDED) {
         return Body::Content;
@@ -69,10 +85,16 @@ fn data_body(flags: u8, payload: &[u8]) -> Body
 fn field_block_body(flags: u8, payload: &[u8], fields: usize, body: Body) -> Body
     requires payload { length payload.now < 2 ^ 24 }
     requires fields { fields < 2 ^ 24 }
-    ensures { result ≡ field_block_body flags payload.now fields body }
+    requires promised { promised_in body < 2 ^ 31 }
+    ensures exact { result ≡ field_block_body flags payload.now fields body }
+    ensures promised { promised_in result < 2 ^ 31 }
 {
     if !has_flag(flags, PADDED) {
-        return if payload.len() < fields { wrong_size(payload) } else { body };
+        return if payload.len() < fields {
+            wrong_size(payload)
+        } else {
+            body
+        };
     }
     if payload.len() < fields + 1 {
         return wrong_size(payload);
@@ -86,7 +108,8 @@ fn field_block_body(flags: u8, payload: &[u8], fields: usize, body: Body) -> Bod
 /// HEADERS (RFC 9113, 6.2).
 fn headers_body(flags: u8, payload: &[u8]) -> Body
     requires { length payload.now < 2 ^ 24 }
-    ensures { result ≡ headers_body flags payload.now }
+    ensures exact { result ≡ headers_body flags payload.now }
+    ensures promised { promised_in result < 2 ^ 31 }
 {
     let fields = if has_flag(flags, WITH_PRIORITY) { 5 } else { 0 };
     field_block_body(flags, payload, fields, Body::Headers)
@@ -95,7 +118,8 @@ fn headers_body(flags: u8, payload: &[u8]) -> Body
 /// PRIORITY (RFC 9113, 6.3).
 fn priority_body(payload: &[u8]) -> Body
     requires { length payload.now < 2 ^ 24 }
-    ensures { result ≡ priority_body payload.now }
+    ensures exact { result ≡ priority_body payload.now }
+    ensures promised { promised_in result < 2 ^ 31 }
 {
     if payload.len() == 5 {
         Body::Priority
@@ -107,7 +131,8 @@ fn priority_body(payload: &[u8]) -> Body
 /// SETTINGS (RFC 9113, 6.5).
 fn settings_body(flags: u8, payload: &[u8]) -> Body
     requires { length payload.now < 2 ^ 24 }
-    ensures { result ≡ settings_body flags payload.now }
+    ensures exact { result ≡ settings_body flags payload.now }
+    ensures promised { promised_in result < 2 ^ 31 }
 {
     if has_flag(flags, ACK) {
         of_length(0, payload, Body::SettingsAck)
@@ -121,7 +146,8 @@ fn settings_body(flags: u8, payload: &[u8]) -> Body
 /// PUSH_PROMISE (RFC 9113, 6.6).
 fn push_promise_body(flags: u8, payload: &[u8]) -> Body
     requires { length payload.now < 2 ^ 24 }
-    ensures { result ≡ push_promise_body flags payload.now }
+    ensures exact { result ≡ push_promise_body flags payload.now }
+    ensures promised { promised_in result < 2 ^ 31 }
 {
     let padding = if has_flag(flags, PADDED) { 1 } else { 0 };
     if payload.len() < padding + 4 {
@@ -134,7 +160,8 @@ fn push_promise_body(flags: u8, payload: &[u8]) -> Body
 /// GOAWAY (RFC 9113, 6.8).
 fn go_away_body(payload: &[u8]) -> Body
     requires { length payload.now < 2 ^ 24 }
-    ensures { result ≡ go_away_body payload.now }
+    ensures exact { result ≡ go_away_body payload.now }
+    ensures promised { promised_in result < 2 ^ 31 }
 {
     if payload.len() < 8 {
         wrong_size(payload)
@@ -146,7 +173,8 @@ fn go_away_body(payload: &[u8]) -> Body
 /// WINDOW_UPDATE (RFC 9113, 6.9).
 fn window_update_body(payload: &[u8]) -> Body
     requires { length payload.now < 2 ^ 24 }
-    ensures { result ≡ window_update_body payload.now }
+    ensures exact { result ≡ window_update_body payload.now }
+    ensures promised { promised_in result < 2 ^ 31 }
 {
     if payload.len() == 4 {
         Body::WindowUpdate(number_of_31_bits(payload))
@@ -158,7 +186,8 @@ fn window_update_body(payload: &[u8]) -> Body
 /// What the payload says, by the frame's type and flags.
 pub(crate) fn body_of(code: u8, flags: u8, payload: &[u8]) -> Body
     requires { length payload.now < 2 ^ 24 }
-    ensures { result ≡ body_of code flags payload.now }
+    ensures exact { result ≡ body_of code flags payload.now }
+    ensures promised { promised_in result < 2 ^ 31 }
 {
     match code {
         DATA => data_body(flags, payload),

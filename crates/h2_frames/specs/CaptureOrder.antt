@@ -1,0 +1,50 @@
+-- The frames of both sides as they were captured. A frame is there when its last byte arrives.
+use Rattle.std.specs.Prelude.{ℕ, ◌+◌, ◌-◌, Bool, ◌==◌, ◌&&◌, ◌||◌, nat_lt, List, [], ◌∷◌, ◌++◌, find, unwrap_or}
+use Rattle.tcp_streams.specs.declared.streams.Arrival.{Arrival}
+use Rattle.audit_core.specs.declared.sides.Side.{Side}
+use Rattle.audit_core.specs.declared.frames.Frame.{Frame}
+use Rattle.audit_core.specs.Side.{side_order}
+use Rattle.audit_core.specs.Order.{ordered_by}
+use Rattle.h2_frames.specs.declared.spelling.Spelled.{Spelled}
+
+-- the byte at this offset arrives at the first entry whose upto is above it; each byte of a flow has one
+abbrev pub arrival_at : List Arrival → (offset : ℕ) → Arrival
+arrival_at arrivals offset =
+    unwrap_or (find (λ (a : Arrival). nat_lt offset a.upto) arrivals) (record { upto = 0; rec = 0; nanos = 0 })
+
+-- a side's frame of this number, whose last byte arrived so
+abbrev pub captured : Side → (number : ℕ) → Arrival → Spelled → Frame
+captured side number arrival frame = record {
+  number = number;
+  side = side;
+  rec = arrival.rec;
+  nanos = arrival.nanos;
+  code = frame.header.code;
+  flags = frame.header.flags;
+  stream = frame.header.stream;
+  length = frame.header.length;
+  body = frame.body;
+}
+
+-- a side's frames, numbered within the side, the first of them from this number and this offset of the flow on
+abbrev pub captured_from : Side → List Arrival → (number offset : ℕ) → List Spelled → List Frame
+captured_from side arrivals number offset [] = []
+captured_from side arrivals number offset (frame ∷ later) =
+    let upto = offset + (9 + frame.header.length) in
+    captured side number (arrival_at arrivals (upto - 1)) frame ∷ captured_from side arrivals (number + 1) upto later
+
+-- by the record at which the last byte arrived, then by the number within the side, then Client before Server
+abbrev pub comes_after : Frame → Frame → Bool
+comes_after x y =
+    nat_lt y.rec x.rec
+    || ((x.rec == y.rec)
+    && (nat_lt y.number x.number || ((x.number == y.number) && nat_lt (side_order y.side) (side_order x.side))))
+
+-- the frames numbered one after the other, from this number on
+abbrev pub numbered : (number : ℕ) → List Frame → List Frame
+numbered number [] = []
+numbered number (frame ∷ later) = record frame { number = number } ∷ numbered (number + 1) later
+
+-- the frames of both sides in the order of their capture, numbered from 1
+abbrev pub capture_order : (client server : List Frame) → List Frame
+capture_order client server = numbered 1 (ordered_by comes_after (client ++ server))

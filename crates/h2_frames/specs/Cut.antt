@@ -1,0 +1,51 @@
+-- What the two flows of a connection hold (RFC 9113, 3.4 and 4.1). Which of the four a connection is, is decided in this
+-- order: no handshake, no preface, not HTTP/2, HTTP/2.
+use Rattle.std.specs.Prelude.{◌≡◌, ℕ, ◌∷◌, [], List, length, IsTrue, IsFalse}
+use Rattle.tcp_streams.specs.declared.streams.Flow.{Flow}
+use Rattle.audit_core.specs.declared.sides.Side.TheVariants.{Client, Server}
+use Rattle.audit_core.specs.declared.frames.Frame.{Frame}
+use Rattle.audit_core.specs.Frame.{IsOrderly}
+use Rattle.h2_frames.specs.declared.connections.Cut.{Cut}
+use Rattle.h2_frames.specs.declared.connections.Cut.TheVariants.{Http2, NotHttp2, NoPreface, NoHandshake}
+use Rattle.h2_frames.specs.declared.spelling.Spelled.{Spelled}
+use Rattle.h2_frames.specs.Preface.{preface, IsPrefaceCutShort, BeginsWithPreface}
+use Rattle.h2_frames.specs.Spelling.{Spells}
+use Rattle.h2_frames.specs.CaptureOrder.{captured_from, capture_order}
+
+-- the client's bytes are the preface and then frames, the server's are frames; the frames of both stand in capture order
+pub record IsHttp2 (client server : Flow) (frames : List Frame) (tails : List ℕ) : Type 0 where
+  pub after_preface : List ℕ
+  pub client_frames : List Spelled
+  pub client_tail : List ℕ
+  pub server_frames : List Spelled
+  pub server_tail : List ℕ
+  pub client_begins : BeginsWithPreface client.bytes.items after_preface
+  pub client_spells : Spells after_preface client_frames client_tail
+  pub server_spells : Spells server.bytes.items server_frames server_tail
+  pub in_order : frames ≡ capture_order
+      (captured_from Client client.arrivals.items 1 (length preface) client_frames)
+      (captured_from Server server.arrivals.items 1 0 server_frames)
+  pub tails_are : tails ≡ length client_tail ∷ length server_tail ∷ []
+
+-- the server's flow is not started; else the client's ends within the preface; else it does not begin with it; else both
+-- are cut into frames
+abbrev pub IsCut : (client server : Flow) → Cut → Type 0
+IsCut client server NoHandshake = IsFalse server.started
+IsCut client server NoPreface = IsTrue server.started × IsPrefaceCutShort client.bytes.items
+IsCut client server NotHttp2 =
+    IsTrue server.started × ¬ IsPrefaceCutShort client.bytes.items
+    × ((rest : List ℕ) → ¬ BeginsWithPreface client.bytes.items rest)
+IsCut client server (Http2 frames tails) = IsTrue server.started × IsHttp2 client server frames.items tails
+
+-- the frames, where there are some, are in range and numbered upwards
+abbrev pub HasOrderlyFrames : Cut → Type 0
+HasOrderlyFrames (Http2 frames tails) = IsOrderly frames.items
+HasOrderlyFrames _ = Unit {0}
+
+-- the same cut, wherever its frames lie in memory
+abbrev pub IsSameCut : Cut → Cut → Type 0
+IsSameCut NoHandshake NoHandshake = Unit {0}
+IsSameCut NoPreface NoPreface = Unit {0}
+IsSameCut NotHttp2 NotHttp2 = Unit {0}
+IsSameCut (Http2 frames tails) (Http2 others other_tails) = (frames.items ≡ others.items) × (tails ≡ other_tails)
+IsSameCut _ _ = ⊥

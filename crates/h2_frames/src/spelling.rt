@@ -1,0 +1,29 @@
+ghost use Rattle.std.specs.Prelude.{◌≡◌, ◌<◌, ◌^◌, ◌++◌, ℕ, List, length, IfSome, IfNone};
+ghost use Rattle.audit_core.specs.Frame.{promised_in};
+ghost use Rattle.h2_frames.specs.Spelling.{HoldsNoFrame, Makes};
+
+use crate::bodies::body_of;
+use crate::headers::{HEADER_LENGTH, Header};
+use audit_core::Body;
+
+/// A frame as its bytes spell it (RFC 9113, 4.1).
+#[derive(Clone, Copy, Debug, PartialEq, Eq)]
+pub struct Spelled {
+    pub header: Header,
+    pub body: Body,
+}
+
+/// The frame that the bytes begin with and the bytes after it, where they hold the whole of it.
+pub(crate) fn first_frame(bytes: &[u8]) -> Option<(Spelled, &[u8])>
+    ensures found { IfSome result (λ found. (header : List ℕ) × (payload : List ℕ)
+        × (bytes.now ≡ header ++ payload ++ found.1.now) × Makes header payload found.0) }
+    ensures ranges { IfSome result (λ found. (found.0.header.length < 2 ^ 24)
+        × (found.0.header.stream < 2 ^ 31) × (promised_in found.0.body < 2 ^ 31)) }
+    ensures none { IfNone result (HoldsNoFrame bytes.now) }
+{
+    let (start, rest) = bytes.split_first_chunk::<HEADER_LENGTH>()?;
+    let header = Header::read(start);
+    let (payload, later) = rest.split_at_checked(header.length as usize)?;
+    let body = body_of(header.code, header.flags, payload);
+    Some((Spelled { header, body }, later))
+}
