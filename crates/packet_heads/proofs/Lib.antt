@@ -1,3 +1,5 @@
 mod Bits
 mod Placing
+mod Progress
+mod Rows
 mod Table

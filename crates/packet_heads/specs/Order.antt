@@ -10,6 +10,12 @@ StandsIn number row (Segment s) =
     (s.rec ≡ number) × (s.nanos ≡ row.nanos) × (row.start ≤ s.lo) × (s.lo ≤ s.hi) × (s.hi ≤ row.start + row.length)
 StandsIn number row _ = Unit {0}
 
+-- the packets of these records, one for each, where the first has this number
+abbrev pub AllStand : ℕ → List Record → List Packet → Type 0
+AllStand number [] [] = Unit {0}
+AllStand number (row ∷ rows) (p ∷ packets) = StandsIn number row p × AllStand (number + 1) rows packets
+AllStand number _ _ = ⊥
+
 -- skipped or refused
 abbrev pub IsPassedOver : Packet → Type 0
 IsPassedOver (Segment s) = ⊥

@@ -1,14 +1,17 @@
 //! From a record to what it holds.
 
-ghost use Rattle.std.specs.Prelude.{◌≡◌, ◌+◌, ◌^◌, ◌<◌, ◌≤◌, length};
-ghost use Rattle.packet_heads.specs.Decision.{packet_decision, segment_of, is_cut};
+ghost use Rattle.std.specs.Prelude.{◌≡◌, ◌+◌, ◌^◌, ◌<◌, ◌≤◌, length, IfOk};
+ghost use Rattle.pcap_records.specs.Place.{AreWithin, AreTimely};
+ghost use Rattle.packet_heads.specs.Decision.{packet_decision, packet_decisions, segment_of, is_cut};
 ghost use Rattle.packet_heads.specs.Ipv4 as ipv4_words;
-ghost use Rattle.packet_heads.specs.Order.{StandsIn};
+ghost use Rattle.packet_heads.specs.Order.{StandsIn, AllStand, AreNumberedFrom, PayloadsRise, TimesFit};
 ghost use Rattle.packet_heads.specs.Tcp as tcp_words;
 
 use crate::packets::{Endpoint, Packet, Segment};
 use crate::{ethernet, ipv4, tcp};
-use pcap_records::Record;
+use pcap_records::{Record, Records};
+use std::alloc::{AllocError, Global};
+use std::thread::Threads;
 
 /// The segment in a datagram of the record whose headers are whole.
 fn segment_of(number: u32, row: &Record, cut: bool, datagram: &[u8]) -> Segment
@@ -65,4 +68,46 @@ pub fn decode(link: u16, number: u32, row: &Record, capture: &[u8]) -> Packet
         return answer;
     }
     Packet::Segment(segment_of(number, row, cut, datagram))
+}
+
+/// What each of these rows holds, in order; the first has the number 1.
+fn decode_rows(
+    alloc: Global,
+    link: u16,
+    rows: &[Record],
+    capture: &[u8],
+) -> Result<Vec<Packet>, AllocError>
+    requires ethernet { link ≡ 1 }
+    requires within { AreWithin (length capture.now) rows.now }
+    ensures exact { IfOk result (λ packets. packets.items ≡ packet_decisions rows.now capture.now) }
+    ensures stand { IfOk result (λ packets. AllStand 1 rows.now packets.items) }
+{
+    let mut packets = Vec::with_capacity(alloc, rows.len())?;
+    for (index, row) in rows.iter().enumerate() {
+        packets.push(decode(link, index as u32 + 1, row, capture))?;
+    }
+    Ok(packets)
+}
+
+/// What each record of a capture holds, in order.
+pub fn decode_all(
+    _rt: &(impl Threads + Sync),
+    alloc: Global,
+    records: &Records,
+    capture: &[u8],
+) -> Result<Vec<Packet>, AllocError>
+    requires ethernet { records.now.link ≡ 1 }
+    requires within { AreWithin (length capture.now) records.now.rows.items }
+    requires timely { AreTimely records.now.rows.items }
+    // Each packet is the decision on its record.
+    ensures exact { IfOk result
+        (λ packets. packets.items ≡ packet_decisions records.now.rows.items capture.now) }
+
+    // For those who go on from the packets.
+    ensures few { IfOk result (λ packets. length packets.items < 2 ^ 32) }
+    ensures numbered { IfOk result (λ packets. AreNumberedFrom 1 packets.items) }
+    ensures payloads { IfOk result (λ packets. PayloadsRise 0 (length capture.now) packets.items) }
+    ensures times { IfOk result (λ packets. TimesFit packets.items) }
+{
+    decode_rows(alloc, records.link, &records.rows, capture)
 }
