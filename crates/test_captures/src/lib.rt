@@ -1,0 +1,32 @@
+//! Captures for tests, built from short scripts.
+//!
+//! A [`Capture`] grows by one record for each call. [`Capture::opened`] is a connection whose two
+//! sides have made their handshakes, TCP's and HTTP/2's; after it each [`Capture::client`] and
+//! [`Capture::server`] puts one HTTP/2 frame into one record, with the sequence number that follows.
+//! Record n has the time n microseconds, so frame n of such a script stands in record n + 2.
+//!
+//! ```rust
+//! let mut capture = Capture::opened(alloc)?;
+//! capture.client(headers(1))?;
+//! capture.client(data(1, 16384))?;
+//! capture.server(window_update(0, 10))?;
+//! let found = records(alloc, capture.as_slice())?;
+//! ```
+#![tactic(auto)]
+
+mod builder;
+mod file;
+mod frames;
+mod segments;
+
+pub use builder::Capture;
+pub use file::{FileHeader, Magic};
+pub use frames::{
+    ACK, END_HEADERS, END_STREAM, Frame, PADDED, PREFACE, PRIORITY, Payload, continuation, data,
+    goaway, headers, headers_of, padded_data, ping, priority, push_promise, raw, rst_stream,
+    settings, settings_ack, window_update,
+};
+pub use segments::{CLIENT, Endpoint, PLAIN, SERVER, SYN, SYN_ACK, Segment};
+
+#[cfg(test)]
+mod tests;

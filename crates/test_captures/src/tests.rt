@@ -1,0 +1,121 @@
+use crate::*;
+use std::test::Fail;
+
+#[test]
+fn empty_capture(rt: HostRuntime) -> Result<(), Fail> {
+    let capture = Capture::new(rt.alloc())?;
+    let want = [
+        0xd4, 0xc3, 0xb2, 0xa1, 2, 0, 4, 0, 0, 0, 0, 0, 0, 0, 0, 0, 0, 0, 4, 0, 1, 0, 0, 0,
+    ];
+    assert_eq!(rt; capture.as_slice(), want.as_slice());
+    Ok(())
+}
+
+#[test]
+fn big_endian_nanoseconds(rt: HostRuntime) -> Result<(), Fail> {
+    let header = FileHeader {
+        magic: Magic::BigNanoseconds,
+        ..FileHeader::PLAIN
+    };
+    let mut capture = Capture::with_header(rt.alloc(), header)?;
+    capture.record_at(1, 0, 14, &[7])?;
+    let want = [
+        0xa1, 0xb2, 0x3c, 0x4d, 0, 2, 0, 4, 0, 0, 0, 0, 0, 0, 0, 0, 0, 4, 0, 0, 0, 0, 0, 1, 0, 0,
+        0, 1, 0, 0, 0, 0, 0, 0, 0, 1, 0, 0, 0, 14, 7,
+    ];
+    assert_eq!(rt; capture.as_slice(), want.as_slice());
+    Ok(())
+}
+
+// The server's SYN ACK: the record's header, Ethernet, IPv4, TCP.
+#[test]
+fn layout_of_a_record(rt: HostRuntime) -> Result<(), Fail> {
+    let mut capture = Capture::handshake(rt.alloc())?;
+    let want = [
+        0, 0, 0, 0, 2, 0, 0, 0, 54, 0, 0, 0, 54, 0, 0, 0, // record
+        0, 0, 0, 0, 0, 0, 0, 0, 0, 0, 0, 0, 8, 0, // Ethernet
+        0x45, 0, 0, 40, 0, 0, 0, 0, 0x40, 6, 0, 0, 10, 0, 0, 2, 10, 0, 0, 1, // IPv4
+        0, 80, 0x9c, 0x40, 0, 0, 0x13, 0x88, 0, 0, 0, 0, 0x50, 0x12, 0, 0, 0, 0, 0, 0, // TCP
+    ];
+    assert_eq!(rt;
+        capture.as_slice().get(94..).ok_or("short")?,
+        want.as_slice()
+    );
+    capture.set_byte(14, 0x65);
+    assert_eq!(rt; capture.as_slice().get(124).copied(), Some(0x65));
+    Ok(())
+}
+
+// The ends of the records of the opening and of six frames after it.
+#[test]
+fn ends_of_records(rt: HostRuntime) -> Result<(), Fail> {
+    let alloc = rt.alloc();
+    assert_eq!(rt; Capture::handshake(alloc)?.as_slice().len(), 164);
+    let mut capture = Capture::opened(alloc)?;
+    assert_eq!(rt; capture.as_slice().len(), 504);
+    capture.client(headers(1))?;
+    assert_eq!(rt; capture.as_slice().len(), 583);
+    capture.client(data(1, 100))?;
+    assert_eq!(rt; capture.as_slice().len(), 762);
+    capture.server(settings(&[(4, 0)]))?;
+    assert_eq!(rt; capture.as_slice().len(), 847);
+    capture.client(settings_ack())?;
+    assert_eq!(rt; capture.as_slice().len(), 926);
+    capture.server(window_update(1, 100))?;
+    assert_eq!(rt; capture.as_slice().len(), 1009);
+    capture.server(window_update(1, 1))?;
+    assert_eq!(rt; capture.as_slice().len(), 1092);
+    assert_eq!(rt; capture.records(), 12);
+    Ok(())
+}
+
+// Each side's segments follow each other, and a snapped one counts whole.
+#[test]
+fn sequence_numbers(rt: HostRuntime) -> Result<(), Fail> {
+    let mut capture = Capture::opened(rt.alloc())?;
+    assert_eq!(rt; capture.client_next(), 1043);
+    assert_eq!(rt; capture.server_next(), 5019);
+    capture.snapped_client(data(1, 100), 59)?;
+    assert_eq!(rt; capture.client_next(), 1152);
+    assert_eq!(rt; capture.as_slice().len(), 504 + 16 + 54 + 59);
+    Ok(())
+}
+
+#[test]
+fn spelling_of_frames(rt: HostRuntime) -> Result<(), Fail> {
+    let table: [(Frame, &[u8]); 12] = [
+        (data(1, 2), &[0, 0, 2, 0, 0, 0, 0, 0, 1, 0, 0]),
+        (padded_data(1, 3, 2), &[0, 0, 3, 0, 8, 0, 0, 0, 1, 2, 0, 0]),
+        (headers(3), &[0, 0, 0, 1, 4, 0, 0, 0, 3]),
+        (priority(1, 1), &[0, 0, 1, 2, 0, 0, 0, 0, 1, 0]),
+        (rst_stream(9), &[0, 0, 4, 3, 0, 0, 0, 0, 9, 0, 0, 0, 0]),
+        (
+            settings(&[(4, 65536)]),
+            &[0, 0, 6, 4, 0, 0, 0, 0, 0, 0, 4, 0, 1, 0, 0],
+        ),
+        (settings_ack(), &[0, 0, 0, 4, 1, 0, 0, 0, 0]),
+        (push_promise(1, 2), &[0, 0, 4, 5, 4, 0, 0, 0, 1, 0, 0, 0, 2]),
+        (ping(), &[0, 0, 8, 6, 0, 0, 0, 0, 0, 0, 0, 0, 0, 0, 0, 0, 0]),
+        (
+            goaway(),
+            &[0, 0, 8, 7, 0, 0, 0, 0, 0, 0, 0, 0, 0, 0, 0, 0, 0],
+        ),
+        (
+            window_update(0, 2147418112),
+            &[0, 0, 4, 8, 0, 0, 0, 0, 0, 0x7f, 0xff, 0, 0],
+        ),
+        (continuation(1).with_flags(0), &[0, 0, 0, 9, 0, 0, 0, 0, 1]),
+    ];
+    for (frame, want) in table {
+        let mut spelled = Vec::new(rt.alloc());
+        frame.push_to(&mut spelled)?;
+        assert_eq!(rt; spelled.as_slice(), want, "{frame:?}");
+    }
+    let mut spelled = Vec::new(rt.alloc());
+    raw(255, 9, 5, &[1, 2]).push_to(&mut spelled)?;
+    assert_eq!(rt;
+        spelled.as_slice(),
+        [0, 0, 2, 255, 9, 0, 0, 0, 5, 1, 2].as_slice()
+    );
+    Ok(())
+}
