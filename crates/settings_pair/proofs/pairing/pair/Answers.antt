@@ -1,0 +1,20 @@
+use Rattle.std.proofs.Common.{refl, arith}
+use Rattle.audit_core.specs.InForce.{initial_in_force}
+use Rattle.settings_pair.proofs.WaitingLemmas.{waiting-at_start}
+use Rattle.settings_pair.proofs.OrderLemmas.{found-orderly}
+use Rattle.settings_pair.proofs.pairing.pair.Goals as goal
+
+pub loop-frame-init : goal.loop-frame-init
+loop-frame-init c = record {
+  now = initial_in_force;
+  low = 0;
+  waiting = waiting-at_start _ c.new-waiting.ensures;
+  orderly = c.requires;
+  changes = rw c.new.ensures.items refl;
+  findings = rw c.new-2.ensures.items refl;
+}
+
+pub returns-clause-orderly : goal.returns-clause-orderly
+returns-clause-orderly c =
+    let i = c.loop-frame.invariant in
+    found-orderly i.now c.loop-frame.pairs.changes.items c.args.frames.now c.loop-frame.frame-index c.requires (omega arith) i.changes

@@ -1,0 +1,16 @@
+use Rattle.std.proofs.Common.{◌≡◌, ◌++◌, ℕ, drop}
+use Rattle.audit_core.specs.Frame.{IsOrderlyFrom}
+use Rattle.audit_core.specs.InForce.{InForce, changes_from, changes_of, settings_run_from, settings_run}
+use Rattle.settings_pair.specs.Waiting.{IsWaiting}
+use Rattle.settings_pair.proofs.pairing.pair.Given as goal
+
+-- what was found so far, and what the rest shows from the settings in force there, is the whole answer
+abbrev pub invariant-loop-frame : goal.invariant-loop-frame
+invariant-loop-frame l = record {
+  now : InForce;
+  low : ℕ;
+  waiting : IsWaiting now l.waiting;
+  orderly : IsOrderlyFrom low (drop l.frame-index l.frames);
+  changes : l.pairs.changes.items ++ changes_from now (drop l.frame-index l.frames) ≡ changes_of l.frames;
+  findings : l.pairs.findings.items ++ settings_run_from now (drop l.frame-index l.frames) ≡ settings_run l.frames;
+}

@@ -1,0 +1,86 @@
+ghost use Rattle.std.specs.Prelude.{◌≡◌, ◌++◌, pos, IfOk, OnOk};
+ghost use Rattle.std.specs.Option.{option_to_list};
+ghost use Rattle.audit_core.specs.Frame.{IsInRange, IsOrderly};
+ghost use Rattle.audit_core.specs.Change.{change_by};
+ghost use Rattle.audit_core.specs.InForce.{InForce, in_force_after, change_of, changes_of, settings_said, settings_run};
+ghost use Rattle.audit_core.specs.Finding.{finding_at};
+ghost use Rattle.settings_pair.specs.Changes.{AreOrderly};
+ghost use Rattle.settings_pair.specs.Waiting.{IsWaiting};
+
+use crate::waiting::Waiting;
+use audit_core::{Body, Change, Finding, Frame, Kind, Place, Settings};
+use std::alloc::{AllocError, Global};
+
+/// What the acknowledgements of a connection's frames bring into force, and which of them answer nothing.
+#[derive(Drop)]
+pub struct Pairs {
+    /// One for each acknowledgement that answers a SETTINGS frame, in order.
+    pub changes: Vec<Change>,
+    /// One of kind `UnmatchedAck` for each acknowledgement with nothing to answer, in order.
+    pub findings: Vec<Finding>,
+}
+
+/// The changes and the unmatched acknowledgements of a connection's frames.
+pub fn pair(alloc: Global, frames: &[Frame]) -> Result<Pairs, AllocError>
+    requires { IsOrderly frames.now }
+    ensures changes { IfOk result (λ pairs. pairs.changes.items ≡ changes_of frames.now) }
+    ensures findings { IfOk result (λ pairs. pairs.findings.items ≡ settings_run frames.now) }
+    ensures orderly { IfOk result (λ pairs. AreOrderly pairs.changes.items) }
+{
+    let mut waiting = Waiting::new(alloc);
+    let mut pairs = Pairs {
+        changes: Vec::new(alloc),
+        findings: Vec::new(alloc),
+    };
+    for frame in frames {
+        meet(&mut waiting, &mut pairs, frame)?;
+    }
+    Ok(pairs)
+}
+
+/// One frame: SETTINGS wait from here on, and an acknowledgement takes what waits longest.
+fn meet(waiting: &mut Waiting, pairs: &mut Pairs, frame: &Frame) -> Result<(), AllocError>
+    requires { IsInRange frame.now }
+    ensures waiting { OnOk result ((now : InForce) → IsWaiting now waiting.old
+        → IsWaiting (in_force_after now frame.now) waiting.new) }
+    ensures changes { OnOk result ((now : InForce) → IsWaiting now waiting.old
+        → pairs.new.changes.items ≡ pairs.old.changes.items ++ option_to_list (change_of now frame.now)) }
+    ensures findings { OnOk result ((now : InForce) → IsWaiting now waiting.old
+        → pairs.new.findings.items ≡ pairs.old.findings.items ++ settings_said now frame.now) }
+{
+    match frame.body {
+        Body::Settings(settings) => waiting.push(frame.side, settings)?,
+        Body::SettingsAck => match waiting.take(frame.side.other()) {
+            Some(settings) => pairs.changes.push(change_by(frame, settings))?,
+            None => pairs.findings.push(unmatched(frame))?,
+        },
+        _ => {}
+    }
+    Ok(())
+}
+
+/// What an acknowledgement brings into force that answers these settings.
+fn change_by(frame: &Frame, settings: Settings) -> Change
+    ensures { result ≡ change_by frame.now settings }
+{
+    Change {
+        number: frame.number,
+        side: frame.side,
+        initial: settings.initial,
+        max_frame: settings.max_frame,
+        push: settings.push,
+    }
+}
+
+/// An acknowledgement with nothing to answer.
+fn unmatched(frame: &Frame) -> Finding
+    requires { IsInRange frame.now }
+    ensures { result ≡ finding_at Kind.UnmatchedAck frame.now.number frame.now.stream frame.now.side (pos 0) }
+{
+    Finding {
+        place: Place::of(frame.number, Kind::UnmatchedAck.rank(), frame.stream),
+        side: frame.side,
+        kind: Kind::UnmatchedAck,
+        value: 0,
+    }
+}
