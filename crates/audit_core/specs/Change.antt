@@ -1,5 +1,5 @@
 -- What an acknowledged SETTINGS frame brings into force (RFC 9113, 6.5.3), for the endpoint that acknowledges.
-use Rattle.std.specs.Prelude.{ℕ, Bool, if◌then◌else◌, Option, Some, None, unwrap_or}
+use Rattle.std.specs.Prelude.{ℕ, if◌then◌else◌, Option, Some, None, unwrap_or}
 use Rattle.audit_core.specs.declared.sides.Side.{Side}
 use Rattle.audit_core.specs.declared.frames.Settings.{Settings}
 use Rattle.audit_core.specs.declared.frames.Frame.{Frame}

@@ -1,13 +1,12 @@
 -- The connection: each side's connection window, the order of opened streams, the length of frames
 -- (RFC 9113, 4.2, 5.1.1, 6.9).
-use Rattle.std.specs.Prelude.{ℕ, ℤ, pos, ◌+ℤ◌, ◌-ℤ◌, ◌^◌, max, Bool, ◌==◌, ◌&&◌, ◌||◌, not, nat_lt, nat_le, if◌then◌else◌, List, [], ◌∷◌, ◌++◌, Option}
+use Rattle.std.specs.Prelude.{ℕ, ℤ, pos, ◌+ℤ◌, ◌-ℤ◌, max, Bool, ◌==◌, ◌&&◌, ◌||◌, not, nat_lt, nat_le, if◌then◌else◌, List, [], ◌∷◌, ◌++◌}
 use Rattle.std.specs.Ordering.{int_eq}
 use Rattle.audit_core.specs.declared.sides.Side.{Side}
 use Rattle.audit_core.specs.declared.sides.Side.TheVariants.{Client, Server}
 use Rattle.audit_core.specs.declared.sides.Sides.{Sides}
 use Rattle.audit_core.specs.declared.kinds.Kind.TheVariants.{TooLong, IdNotGreater, ZeroConnectionGrant, ConnectionOverflow, LongFrame, ConnectionOverrun, ConnectionStallEnd, ConnectionStallBegin, ConnectionCredit}
 use Rattle.audit_core.specs.declared.frames.Frame.{Frame}
-use Rattle.audit_core.specs.declared.items.Change.{Change}
 use Rattle.audit_core.specs.declared.items.Item.{Item}
 use Rattle.audit_core.specs.declared.connections.ConnectionState.{ConnectionState}
 use Rattle.audit_core.specs.declared.findings.Finding.{Finding}

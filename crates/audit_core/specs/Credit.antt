@@ -1,6 +1,6 @@
 -- Credit in closed form (RFC 9113, 6.9, 6.9.1, 6.9.2): where a window begins, what was granted to it, what was sent
 -- through it. No state is carried from frame to frame.
-use Rattle.std.specs.Prelude.{ℕ, ℤ, pos, ◌+◌, ◌-ℤ◌, ◌==◌, ◌&&◌, nat_le, if◌then◌else◌, List, filter, sum_by}
+use Rattle.std.specs.Prelude.{ℕ, ℤ, pos, ◌+◌, ◌-ℤ◌, ◌==◌, nat_le, if◌then◌else◌, List, filter, sum_by}
 use Rattle.audit_core.specs.declared.sides.Side.{Side}
 use Rattle.audit_core.specs.declared.frames.Frame.{Frame}
 use Rattle.audit_core.specs.Frame.{content_by, grant_to}

@@ -1,7 +1,6 @@
 -- Settings in force (RFC 9113, 6.5.3): the acknowledgements of one side answer the SETTINGS of the other in their order.
-use Rattle.std.specs.Prelude.{ℕ, pos, ◌+◌, Bool, ◌&&◌, if◌then◌else◌, List, [], ◌∷◌, ◌++◌, slice_get, Option, Some, None, is_some, is_none}
+use Rattle.std.specs.Prelude.{ℕ, pos, ◌+◌, ◌&&◌, if◌then◌else◌, List, [], ◌∷◌, ◌++◌, slice_get, Option, Some, None, is_some, is_none}
 use Rattle.std.specs.Option.{option_to_list}
-use Rattle.audit_core.specs.declared.sides.Side.{Side}
 use Rattle.audit_core.specs.declared.sides.Sides.{Sides}
 use Rattle.audit_core.specs.declared.kinds.Kind.TheVariants.{UnmatchedAck}
 use Rattle.audit_core.specs.declared.frames.Settings.{Settings}

@@ -1,5 +1,5 @@
 -- The kinds of findings: their ranks, their order and the words that a report prints.
-use Rattle.std.specs.Prelude.{ℕ, Bool, nat_le, List, codes}
+use Rattle.std.specs.Prelude.{ℕ, List, codes}
 use Rattle.audit_core.specs.declared.kinds.Kind.{Kind}
 use Rattle.audit_core.specs.declared.kinds.Kind.TheVariants.{BadPreface, BrokenBlock, TooLong, WrongStream, WrongSize, BadPadding, BadSetting, Push, PushNotAudited, NotOpened, IdNotGreater, ZeroConnectionGrant, ConnectionOverflow, SettingOverflow, LongFrame, AfterEnd, ConnectionOverrun, StreamOverrun, ZeroStreamGrant, StreamOverflow, UnmatchedAck, BadPriority, ConnectionStallEnd, ConnectionStallBegin, StreamStallEnd, StreamStallBegin, ConnectionCredit, StreamCredit}
 

@@ -15,6 +15,7 @@ pub mod Stream
 pub mod Pass
 pub mod Credit
 pub mod Run
+pub mod Shown
 pub mod Script
 pub mod Stalls
 pub mod StreamUses

@@ -1,12 +1,11 @@
 -- What a frame and the frame of its side just before it show by themselves (RFC 9113, 3.4, 4.3, 6). These rules go by
 -- the type byte, the flags and the stream; only what cannot be read goes by the body.
-use Rattle.std.specs.Prelude.{ℕ, pos, Bool, true, false, ◌==◌, ◌&&◌, ◌||◌, not, if◌then◌else◌, List, [], ◌∷◌, ◌++◌, Option, Some, None, is_none}
+use Rattle.std.specs.Prelude.{ℕ, pos, Bool, ◌==◌, ◌&&◌, ◌||◌, not, if◌then◌else◌, List, [], ◌∷◌, ◌++◌, Option, Some, None, is_none}
 use Rattle.audit_core.specs.declared.sides.Side.{Side}
 use Rattle.audit_core.specs.declared.sides.Side.TheVariants.{Client, Server}
 use Rattle.audit_core.specs.declared.sides.Sides.{Sides}
 use Rattle.audit_core.specs.declared.kinds.Kind.{Kind}
 use Rattle.audit_core.specs.declared.kinds.Kind.TheVariants.{BadPreface, BrokenBlock, WrongStream, WrongSize, BadPadding, BadSetting, Push, PushNotAudited, BadPriority}
-use Rattle.audit_core.specs.declared.frames.Settings.{Settings}
 use Rattle.audit_core.specs.declared.frames.Body.{Body}
 use Rattle.audit_core.specs.declared.frames.Body.TheVariants.{Settings as SettingsBody, Unreadable}
 use Rattle.audit_core.specs.declared.frames.Frame.{Frame}

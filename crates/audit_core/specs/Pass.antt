@@ -1,7 +1,6 @@
 -- The pass over a connection's frames: its state between two frames, what it says at a frame, and where it ends.
-use Rattle.std.specs.Prelude.{ℕ, ◌==◌, Bool, false, not, ◌&&◌, if◌then◌else◌, List, [], ◌∷◌, ◌++◌, filter, Option, Some, None}
+use Rattle.std.specs.Prelude.{ℕ, ◌==◌, Bool, not, if◌then◌else◌, List, [], ◌∷◌, ◌++◌, filter, Option, Some, None}
 use Rattle.std.specs.List.{flat_map}
-use Rattle.audit_core.specs.declared.sides.Side.{Side}
 use Rattle.audit_core.specs.declared.sides.Sides.{Sides}
 use Rattle.audit_core.specs.declared.frames.Frame.{Frame}
 use Rattle.audit_core.specs.declared.items.Item.{Item}

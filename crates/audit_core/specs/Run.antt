@@ -1,7 +1,6 @@
 -- What a stream, a group of streams and a block of frames show by themselves, with no stop.
-use Rattle.std.specs.Prelude.{ℕ, ◌==◌, Bool, nat_lt, if◌then◌else◌, List, [], ◌∷◌, ◌++◌, filter, map, Option, Some, None}
+use Rattle.std.specs.Prelude.{ℕ, ◌==◌, nat_lt, if◌then◌else◌, List, [], ◌∷◌, ◌++◌, filter, map, Some, None}
 use Rattle.std.specs.List.{flat_map}
-use Rattle.audit_core.specs.declared.sides.Sides.{Sides}
 use Rattle.audit_core.specs.declared.frames.Frame.{Frame}
 use Rattle.audit_core.specs.declared.items.Change.{Change}
 use Rattle.audit_core.specs.declared.items.Item.{Item}

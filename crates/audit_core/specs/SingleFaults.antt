@@ -1,9 +1,6 @@
 -- Worked examples of one fault each, and of what is none.
-use Rattle.std.specs.Prelude.{◌≡◌, ℕ, ℤ, pos, ◌-ℤ◌, List, [], ◌∷◌, ◌++◌, Option, Some, None}
-use Rattle.audit_core.specs.declared.sides.Side.{Side}
+use Rattle.std.specs.Prelude.{◌≡◌, pos, [], ◌∷◌, ◌++◌, Some}
 use Rattle.audit_core.specs.declared.sides.Side.TheVariants.{Client, Server}
-use Rattle.audit_core.specs.declared.frames.Frame.{Frame}
-use Rattle.audit_core.specs.declared.findings.Finding.{Finding}
 use Rattle.audit_core.specs.declared.kinds.Kind.TheVariants.{BadPreface, BrokenBlock, BadPadding, BadSetting, LongFrame, TooLong, StreamOverflow, StreamCredit, WrongStream, Push, PushNotAudited, BadPriority}
 use Rattle.audit_core.specs.Finding.{finding_at}
 use Rattle.audit_core.specs.Script.{scripted, headers_frame, data_frame, padded_data_frame, reset_frame, update_frame, promise_frame, ping_frame, settings_frame, unreadable_frame, no_settings, without_credits, audit_of, audit_with_credits_of}

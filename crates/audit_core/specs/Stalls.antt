@@ -1,6 +1,5 @@
 -- Worked examples of windows: stalls, overruns, overflows, grants of 0.
-use Rattle.std.specs.Prelude.{◌≡◌, ℕ, ℤ, pos, ◌-ℤ◌, List, [], ◌∷◌, ◌++◌, Option, Some, None}
-use Rattle.audit_core.specs.declared.sides.Side.{Side}
+use Rattle.std.specs.Prelude.{◌≡◌, pos, ◌-ℤ◌, List, [], ◌∷◌, ◌++◌, Some}
 use Rattle.audit_core.specs.declared.sides.Side.TheVariants.{Client, Server}
 use Rattle.audit_core.specs.declared.frames.Frame.{Frame}
 use Rattle.audit_core.specs.declared.findings.Finding.{Finding}

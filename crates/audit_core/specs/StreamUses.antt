@@ -1,9 +1,6 @@
 -- Worked examples of streams: use before the opening and after the end, the order of openings, unmatched acknowledgements.
-use Rattle.std.specs.Prelude.{◌≡◌, ℕ, ℤ, pos, ◌-ℤ◌, List, [], ◌∷◌, ◌++◌, Option, Some, None}
-use Rattle.audit_core.specs.declared.sides.Side.{Side}
+use Rattle.std.specs.Prelude.{◌≡◌, pos, ◌-ℤ◌, [], ◌∷◌, ◌++◌}
 use Rattle.audit_core.specs.declared.sides.Side.TheVariants.{Client, Server}
-use Rattle.audit_core.specs.declared.frames.Frame.{Frame}
-use Rattle.audit_core.specs.declared.findings.Finding.{Finding}
 use Rattle.audit_core.specs.declared.kinds.Kind.TheVariants.{ConnectionStallBegin, ConnectionStallEnd, StreamStallBegin, StreamStallEnd, StreamCredit, ConnectionOverrun, StreamOverrun, NotOpened, AfterEnd, IdNotGreater, UnmatchedAck}
 use Rattle.audit_core.specs.Finding.{finding_at}
 use Rattle.audit_core.specs.Script.{headers_frame, data_frame, last_data_frame, reset_frame, update_frame, ping_frame, ack_frame, opening_frames, without_credits, audit_of, audit_with_credits_of}

@@ -35,7 +35,7 @@ pub enum Kind {
 }
 
 impl Kind {
-    ghost use Rattle.audit_core.specs.Kind.{rank_of, kind_name};
+    ghost use Rattle.audit_core.specs.Kind.{rank_of, kind_order, kind_name};
 
     /// The rank, from 0 to 26. Findings of one frame stand in order of rank, and ranks 0 to 12 stop the audit.
     pub fn rank(self) -> u8
@@ -71,6 +71,13 @@ impl Kind {
             Kind::ConnectionCredit => 25,
             Kind::StreamCredit => 26,
         }
+    }
+
+    /// The place in the order of kinds.
+    pub(crate) fn order(self) -> u8
+        ensures { result ≡ kind_order self }
+    {
+        self as u8
     }
 
     /// The word that a report prints.

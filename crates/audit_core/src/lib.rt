@@ -2,17 +2,20 @@
 #![tactic(auto)]
 
 pub mod connections;
+pub mod counts;
 pub mod findings;
 pub mod frames;
 pub mod items;
 pub mod kinds;
+pub mod laws;
 pub mod places;
 pub mod sides;
 pub mod streams;
 pub mod worked_examples;
 
 pub use connections::ConnectionState;
-pub use findings::Finding;
+pub use counts::Count;
+pub use findings::{Finding, cut_at_stop, put_in_order};
 pub use frames::{Body, Frame, Settings};
 pub use items::{Change, Item, Step};
 pub use kinds::Kind;

@@ -8,7 +8,7 @@ pub enum Side {
 }
 
 impl Side {
-    ghost use Rattle.audit_core.specs.Side.{other, side_name};
+    ghost use Rattle.audit_core.specs.Side.{other, side_order, side_name};
 
     /// The endpoint at the other end.
     pub fn other(self) -> Side
@@ -18,6 +18,13 @@ impl Side {
             Side::Client => Side::Server,
             Side::Server => Side::Client,
         }
+    }
+
+    /// The client stands before the server.
+    pub(crate) fn order(self) -> u8
+        ensures { result ≡ side_order self }
+    {
+        self as u8
     }
 
     /// The word that a report prints.

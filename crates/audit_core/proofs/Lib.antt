@@ -1,0 +1,4 @@
+pub mod OrderedLists
+pub mod FindingOrder
+pub mod UptoStop
+pub mod PlaceOrder
