@@ -5,3 +5,4 @@ pub mod Membership
 pub mod Packets
 pub mod Pair
 pub mod Sequence
+pub mod Table

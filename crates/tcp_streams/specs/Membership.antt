@@ -16,10 +16,14 @@ use Rattle.tcp_streams.specs.Pair.{is_endpoint, is_of, pair_of}
 abbrev pub is_request : Segment → Bool
 is_request s = s.syn && not s.ack
 
+-- the segment comes from this endpoint, with this sequence number
+abbrev pub is_again : Segment → Endpoint → ℕ → Bool
+is_again s from seq = is_endpoint s.from from && (s.seq == seq)
+
 -- the segment says again what the opening said: the same sender, the same sequence number
 abbrev pub repeats : Segment → Option Segment → Bool
 repeats s None = false
-repeats s (Some o) = is_endpoint s.from o.from && (s.seq == o.seq)
+repeats s (Some o) = is_again s o.from o.seq
 
 -- the last opening of the pair in the past: a SYN without ACK that does not repeat the opening before it
 abbrev pub last_opening : Pair → List Segment → Option Segment

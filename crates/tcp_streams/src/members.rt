@@ -1,4 +1,7 @@
-use packet_heads::Endpoint;
+ghost use Rattle.std.specs.Prelude.{◌≡◌, ◌+◌, ◌<◌, ◌^◌, IsTrue, ◌↔◌, IfOk, OnOk};
+
+use packet_heads::{Endpoint, Segment};
+use std::alloc::{AllocError, Global};
 
 /// A TCP connection that the capture saw open.
 #[derive(Debug, Drop)]
@@ -14,6 +17,46 @@ pub struct Connection {
     pub server_isn: Option<u32>,
     /// The records of both sides' segments, rising.
     pub members: Vec<u32>,
+}
+
+impl Connection {
+    ghost use Rattle.tcp_streams.specs.Membership.{membership, is_again};
+    ghost use Rattle.tcp_streams.specs.Table.{begun, joined};
+
+    /// The connection that a SYN opens.
+    pub(crate) fn opened_by(alloc: Global, segment: &Segment) -> Result<Connection, AllocError>
+        ensures { IfOk result (λ c. membership c ≡ begun segment.now) }
+    {
+        let mut members = Vec::new(alloc);
+        members.push(segment.rec)?;
+        Ok(Connection {
+            client: segment.from,
+            server: segment.to,
+            rec: segment.rec,
+            client_isn: segment.seq,
+            server_isn: None,
+            members,
+        })
+    }
+
+    /// Does the segment say again what the opening said?
+    pub(crate) fn is_reopened_by(&self, segment: &Segment) -> bool
+        ensures { result ≡ is_again segment.now self.now.client self.now.client_isn }
+    {
+        segment.from == self.client && segment.seq == self.client_isn
+    }
+
+    /// Takes in one more segment of either side.
+    pub(crate) fn join(&mut self, segment: &Segment) -> Result<(), AllocError>
+        ensures { OnOk result (membership self.new ≡ joined (membership self.old) segment.now) }
+    {
+        self.members.push(segment.rec)?;
+        let is_answer = segment.from != self.client && segment.syn && segment.ack;
+        if is_answer && self.server_isn.is_none() {
+            self.server_isn = Some(segment.seq);
+        }
+        Ok(())
+    }
 }
 
 /// The segments of a pair of endpoints before any opening of that pair.

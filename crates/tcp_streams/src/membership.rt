@@ -1,0 +1,31 @@
+ghost use Rattle.std.specs.Prelude.{◌≡◌, ◌<◌, ◌^◌, map, length, All, IfOk};
+ghost use Rattle.tcp_streams.specs.Members.{AreMembers};
+ghost use Rattle.tcp_streams.specs.Membership.{connections_of, membership, strays_of};
+ghost use Rattle.packet_heads.specs.Order.{AreNumberedFrom};
+ghost use Rattle.tcp_streams.specs.Packets.{past_of};
+
+use crate::members::Connections;
+use crate::table::Table;
+use packet_heads::Packet;
+use std::alloc::{AllocError, Global};
+
+/// Says which segments belong to which opening, and which to none.
+///
+/// A SYN without ACK opens a connection of its pair, unless its sender and sequence number are those of
+/// the pair's last opening (RFC 9293, 3.5). Each segment belongs to the last opening of its pair at or
+/// before it; one without such an opening is a stray.
+pub fn connections(alloc: Global, packets: &[Packet]) -> Result<Connections, AllocError>
+    requires few { length packets.now < 2 ^ 32 }
+    requires numbered { AreNumberedFrom 1 packets.now }
+    ensures opened { IfOk result (λ found. map membership found.opened.items ≡ connections_of (past_of packets.now)) }
+    ensures strays { IfOk result (λ found. found.strays.items ≡ strays_of (past_of packets.now)) }
+    ensures members { IfOk result (λ found. All (λ c. AreMembers 0 packets.now c.members.items) found.opened.items) }
+{
+    let mut table = Table::new(alloc);
+    for packet in packets {
+        if let Packet::Segment(segment) = packet {
+            table.add(segment)?;
+        }
+    }
+    Ok(table.into_connections())
+}

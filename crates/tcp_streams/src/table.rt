@@ -1,0 +1,164 @@
+ghost use Rattle.std.specs.Prelude.{◌≡◌, ◌+◌, ◌<◌, ◌^◌, [], List, IfOk, OnOk};
+ghost use Rattle.tcp_streams.specs.Membership.{is_request};
+
+use crate::members::{Connection, Connections, Stray};
+use crate::pair::Pair;
+use indexmap::IndexMap;
+use packet_heads::Segment;
+use std::alloc::{AllocError, Global};
+
+/// What was seen of a pair of endpoints, with its place in the table's lists.
+#[derive(Clone, Copy, Debug, PartialEq, Eq)]
+pub enum Standing {
+    Unopened(usize),
+    Opened(usize),
+}
+
+/// What the next segment does.
+#[derive(Clone, Copy, Debug, PartialEq, Eq)]
+pub enum Turn {
+    /// It opens a connection.
+    Opens,
+    /// It belongs to the connection at this place.
+    Joins(usize),
+    /// It is one more stray of the pair at this place.
+    Counts(usize),
+    /// It is the first stray of its pair.
+    Begins,
+}
+
+/// Is it a SYN without ACK?
+fn is_request(segment: &Segment) -> bool
+    ensures { result ≡ is_request segment.now }
+{
+    segment.syn && !segment.ack
+}
+
+/// The connections and the strays of the segments seen so far.
+#[derive(Drop)]
+pub struct Table {
+    alloc: Global,
+    pub pairs: IndexMap<Pair, Standing>,
+    pub opened: Vec<Connection>,
+    pub strays: Vec<Stray>,
+}
+
+impl Table {
+    ghost use Rattle.packet_heads.specs.declared.packets.Segment.{Segment as Shown};
+    ghost use Rattle.std.specs.Prelude.{◌∷◌, ◌++◌, map, length};
+    ghost use Rattle.tcp_streams.specs.Membership.{membership};
+    ghost use Rattle.tcp_streams.specs.Pair.{pair_of};
+    ghost use Rattle.tcp_streams.specs.Table.{HasPast, IsTableOf, IsTurn, Falls, SetsStanding, begun, begun_stray};
+    ghost use Rattle.tcp_streams.specs.declared.table.Standing.TheVariants.{Opened, Unopened};
+
+    pub fn new(alloc: Global) -> Table
+        ensures { IsTableOf [] result }
+    {
+        Table {
+            alloc,
+            pairs: IndexMap::new(alloc),
+            opened: Vec::new(alloc),
+            strays: Vec::new(alloc),
+        }
+    }
+
+    /// Takes in the next segment.
+    pub fn add(&mut self, segment: &Segment) -> Result<(), AllocError>
+        requires { HasPast self.old }
+        ensures { OnOk result ((past : List Shown) → IsTableOf past self.old → Falls segment.now.rec past → IsTableOf (segment.now ∷ past) self.new) }
+    {
+        match self.turn(segment) {
+            Turn::Opens => self.open(segment),
+            Turn::Joins(k) => self.opened[k].join(segment),
+            Turn::Counts(k) => {
+                self.strays[k].segments += 1;
+                Ok(())
+            }
+            Turn::Begins => self.begin(segment),
+        }
+    }
+
+    /// What the next segment does.
+    fn turn(&self, segment: &Segment) -> Turn
+        requires { HasPast self.now }
+        ensures { (past : List Shown) → IsTableOf past self.now → IsTurn past segment.now result }
+    {
+        match self.pairs.get(&Pair::of(segment)) {
+            None => {
+                if is_request(segment) {
+                    Turn::Opens
+                } else {
+                    Turn::Begins
+                }
+            }
+            Some(Standing::Unopened(k)) => {
+                if is_request(segment) {
+                    Turn::Opens
+                } else {
+                    Turn::Counts(*k)
+                }
+            }
+            Some(Standing::Opened(k)) => {
+                if is_request(segment) && !self.opened[*k].is_reopened_by(segment) {
+                    Turn::Opens
+                } else {
+                    Turn::Joins(*k)
+                }
+            }
+        }
+    }
+
+    /// Takes in a segment that opens a connection.
+    fn open(&mut self, segment: &Segment) -> Result<(), AllocError>
+        ensures opened { OnOk result (map membership self.new.opened.items ≡ map membership self.old.opened.items ++ begun segment.now ∷ []) }
+        ensures strays { OnOk result (self.new.strays.items ≡ self.old.strays.items) }
+        ensures pairs { OnOk result (SetsStanding (pair_of segment.now) (Opened (length self.old.opened.items)) self.old self.new) }
+    {
+        let connection = Connection::opened_by(self.alloc, segment)?;
+        let place = self.connection_count();
+        self.opened.push(connection)?;
+        self.pairs
+            .insert(Pair::of(segment), Standing::Opened(place))?;
+        Ok(())
+    }
+
+    /// Takes in the first stray of its pair.
+    fn begin(&mut self, segment: &Segment) -> Result<(), AllocError>
+        ensures opened { OnOk result (self.new.opened.items ≡ self.old.opened.items) }
+        ensures strays { OnOk result (self.new.strays.items ≡ self.old.strays.items ++ begun_stray segment.now ∷ []) }
+        ensures pairs { OnOk result (SetsStanding (pair_of segment.now) (Unopened (length self.old.strays.items)) self.old self.new) }
+    {
+        let place = self.stray_count();
+        self.strays.push(Stray {
+            from: segment.from,
+            to: segment.to,
+            segments: 1,
+        })?;
+        self.pairs
+            .insert(Pair::of(segment), Standing::Unopened(place))?;
+        Ok(())
+    }
+
+    /// What was found.
+    pub fn into_connections(self) -> Connections
+        ensures opened { result.opened.items ≡ self.opened.items }
+        ensures strays { result.strays.items ≡ self.strays.items }
+    {
+        Connections {
+            opened: self.opened,
+            strays: self.strays,
+        }
+    }
+
+    fn connection_count(&self) -> usize
+        ensures { result ≡ length self.now.opened.items }
+    {
+        self.opened.len()
+    }
+
+    fn stray_count(&self) -> usize
+        ensures { result ≡ length self.now.strays.items }
+    {
+        self.strays.len()
+    }
+}
