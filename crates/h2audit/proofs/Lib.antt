@@ -1,1 +1,2 @@
 mod Capture
+mod Leaving

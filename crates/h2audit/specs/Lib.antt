@@ -1,3 +1,6 @@
 pub mod Options
 pub mod Ending
 pub mod Seen
+pub mod Report
+pub mod Run
+pub mod Words

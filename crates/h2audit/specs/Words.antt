@@ -1,0 +1,37 @@
+-- The program's command line, as clap reads it.
+use Rattle.std.specs.Prelude.{ℕ, true, [], ◌∷◌, Some, pos, codes}
+use Rattle.clap.specs.Words.{App, Rule, Text, new_app, new_rule, with_rule}
+use Rattle.clap.specs.Simple.{on_top}
+use Rattle.clap.specs.declared.builder.action.ArgAction.TheVariants.{SetTrue}
+use Rattle.clap.specs.declared.builder.value_parser.ValueParser.TheVariants as value
+
+-- `--NAME N`, a number from 1 to `most`, with a default
+abbrev pub number_rule : (name : Text) (most : ℕ) (default : Text) → Rule
+number_rule name most default = record (new_rule name) {
+  long = Some name;
+  parser = Some (value.Signed (pos 1) (pos most));
+  value_names = 1;
+  defaults = default ∷ [];
+}
+
+-- `--frames`, which takes no value
+abbrev pub frames_rule : Rule
+frames_rule = record (new_rule (codes "frames")) { long = Some (codes "frames"); action = Some SetTrue }
+
+-- `[FILE]`
+abbrev pub file_rule : Rule
+file_rule = new_rule (codes "FILE")
+
+-- the command before its arguments: the words do not begin with the program's name
+abbrev pub command_start : App
+command_start = on_top (λ shape. record shape { no_binary_name = true }) (new_app (codes "h2audit"))
+
+-- `h2audit [--workers N] [--groups N] [--block N] [--frames] [FILE]`
+abbrev pub app : App
+app =
+    with_rule (with_rule (with_rule (with_rule (with_rule command_start
+    (number_rule (codes "workers") 64 (codes "4")))
+    (number_rule (codes "groups") 1024 (codes "16")))
+    (number_rule (codes "block") 1048576 (codes "4096")))
+    frames_rule)
+    file_rule

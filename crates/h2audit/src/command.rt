@@ -1,0 +1,103 @@
+ghost use Rattle.std.specs.Prelude.{◌≡◌, ◌<◌, ◌^◌, IfOk, false, map};
+ghost use Rattle.clap.specs.Words.{app_of, found_of, matches_of, new_app, rows_of, rule_of, with_rule};
+ghost use Rattle.h2audit.specs.Words.{app, command_start, file_rule, frames_rule, number_rule};
+
+use crate::options::Options;
+use clap::{Arg, ArgAction, ArgMatches, Command, Error, value_parser};
+use std::alloc::{AllocError, Global};
+
+/// The names of the arguments.
+pub(crate) const WORKERS: &str = "workers";
+
+pub(crate) const GROUPS: &str = "groups";
+
+pub(crate) const BLOCK: &str = "block";
+
+pub(crate) const FRAMES: &str = "frames";
+
+pub(crate) const FILE: &str = "FILE";
+
+/// What clap finds in the program's words, which do not begin with the program's name.
+pub(crate) fn matches<'a>(alloc: Global, words: &'a [&'a str]) -> Result<ArgMatches<'a>, Error>
+    ensures { IfOk result (λ m. rows_of (found_of m) ≡ matches_of app (map (λ w. w.now) words.entry.now)) }
+{
+    command(alloc)?.try_get_matches_from(words)
+}
+
+/// The command line of the program.
+fn command<'a>(alloc: Global) -> Result<Command<'a>, AllocError>
+    ensures { IfOk result (λ c. app_of c ≡ app) }
+{
+    let command = with(
+        bare_command(alloc),
+        numbered(alloc, WORKERS, Options::MOST_WORKERS, "4", WORKERS_HELP),
+    )?;
+    let command = with(
+        command,
+        numbered(alloc, GROUPS, Options::MOST_GROUPS, "16", GROUPS_HELP),
+    )?;
+    let command = with(
+        command,
+        numbered(alloc, BLOCK, Options::LONGEST_BLOCK, "4096", BLOCK_HELP),
+    )?;
+    let command = with(command, frames_flag(alloc))?;
+    with(command, file_word(alloc))
+}
+
+const ABOUT: &str = "Audits the HTTP/2 flow control of a classic pcap capture (Ethernet, IPv4)";
+
+const WORKERS_HELP: &str = "Threads that share the work, from 1 to 64";
+
+const GROUPS_HELP: &str = "Groups that each connection's streams are dealt to, from 1 to 1024";
+
+const BLOCK_HELP: &str = "Frames in a block of the work, from 1 to 1048576";
+
+const FRAMES_HELP: &str = "Show each change of a window's credit";
+
+const FILE_HELP: &str = "The capture; standard input is read without it";
+
+fn bare_command<'a>(alloc: Global) -> Command<'a>
+    ensures { app_of result ≡ command_start }
+{
+    Command::new(alloc, "h2audit")
+        .about(ABOUT)
+        .no_binary_name(true)
+}
+
+/// The command with one more argument.
+fn with<'a>(command: Command<'a>, arg: Arg<'a>) -> Result<Command<'a>, AllocError>
+    requires { arg.global ≡ false }
+    ensures { IfOk result (λ c. app_of c ≡ with_rule (app_of command.entry) (rule_of arg.entry)) }
+{
+    command.arg(arg)
+}
+
+/// `--NAME N`, a number from 1 to `most`.
+fn numbered<'a>(alloc: Global, name: &'a str, most: u32, default: &'a str, help: &'a str) -> Arg<'a>
+    ensures rule { rule_of result ≡ number_rule name.entry.now most default.entry.now }
+    ensures local { result.global ≡ false }
+{
+    Arg::new(alloc, name)
+        .long(name)
+        .value_name("N")
+        .value_parser(value_parser!(u32).range(1..=i64::from(most)))
+        .default_value(default)
+        .help(help)
+}
+
+fn frames_flag<'a>(alloc: Global) -> Arg<'a>
+    ensures rule { rule_of result ≡ frames_rule }
+    ensures local { result.global ≡ false }
+{
+    Arg::new(alloc, FRAMES)
+        .long(FRAMES)
+        .action(ArgAction::SetTrue)
+        .help(FRAMES_HELP)
+}
+
+fn file_word<'a>(alloc: Global) -> Arg<'a>
+    ensures rule { rule_of result ≡ file_rule }
+    ensures local { result.global ≡ false }
+{
+    Arg::new(alloc, FILE).help(FILE_HELP)
+}

@@ -1,0 +1,5 @@
+mod captures;
+mod endings;
+mod fakes;
+mod runs;
+mod words;
