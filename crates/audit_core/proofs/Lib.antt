@@ -2,3 +2,4 @@ pub mod OrderedLists
 pub mod FindingOrder
 pub mod UptoStop
 pub mod PlaceOrder
+pub mod PassOrder
