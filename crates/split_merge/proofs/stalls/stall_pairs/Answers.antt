@@ -1,0 +1,12 @@
+use Rattle.std.proofs.Common.{arith}
+use Rattle.split_merge.proofs.Sweep.{swept_down}
+use Rattle.split_merge.proofs.stalls.stall_pairs.Goals as goal
+
+pub loop-left-preserved : goal.loop-left-preserved
+loop-left-preserved c = record {
+  within = omega arith;
+  swept = swept_down c.args.frames.now c.args.findings.now c.loop-left.left c.index-findings-left.result
+      c.loop-left.ends c.take_in.new.ends c.loop-left.stalls.items c.take_in.new.stalls.items
+      (omega arith) c.loop-left.invariant.within c.index-findings-left.is c.loop-left.invariant.swept
+      c.in_ok-take_in.ensures.ended c.in_ok-take_in.ensures.begun;
+}

@@ -1,0 +1,23 @@
+-- What a table of stall ends says.
+use Rattle.std.specs.Prelude.{ℕ, nat_eq, List, [], ◌∷◌, if◌then◌else◌, Option}
+use Rattle.std.specs.HashMap.{get}
+use Rattle.audit_core.specs.declared.sides.Side.{Side}
+use Rattle.audit_core.specs.declared.sides.Side.TheVariants.{Client, Server}
+use Rattle.audit_core.specs.declared.findings.Finding.{Finding}
+use Rattle.audit_core.specs.declared.frames.Frame.{Frame}
+use Rattle.audit_core.specs.Place.{place_stream}
+use Rattle.split_merge.specs.Stalls.{is_stall_begin, stall_of}
+use Rattle.split_merge.specs.declared.ends.Ends.{Ends}
+use Rattle.split_merge.specs.declared.stalls.Stall.{Stall}
+
+-- the end that the table has for the window of this side and stream
+abbrev pub end_in : Ends → Side → ℕ → Option Finding
+end_in ends Client stream = get nat_eq ends.client stream
+end_in ends Server stream = get nat_eq ends.server stream
+
+-- the stall that the finding begins, if it begins one, by the table of the ends after it
+abbrev pub begun_by : List Frame → Ends → Finding → List Stall
+begun_by frames ends found =
+    if is_stall_begin found.kind
+    then stall_of frames found (end_in ends found.side (place_stream found.place)) ∷ []
+    else []

@@ -1,0 +1,10 @@
+//! What becomes of the findings of one connection (RFC 9113, 5.2) once they stand in one list: which stalls they tell of,
+//! and which frame each of them is about.
+#![tactic(auto)]
+
+mod ends;
+pub mod lookup;
+pub mod stalls;
+
+pub use lookup::frame_at;
+pub use stalls::{Stall, stall_pairs};
