@@ -20,3 +20,4 @@ pub mod Script
 pub mod Stalls
 pub mod StreamUses
 pub mod SingleFaults
+pub mod Room

@@ -1,3 +1,5 @@
+ghost use Rattle.std.specs.Prelude.{◌≡◌, ℕ};
+
 use crate::frames::Frame;
 use crate::sides::Side;
 
@@ -30,4 +32,49 @@ pub struct Step {
     pub number: u32,
     pub frame: Option<Frame>,
     pub change: Option<Change>,
+}
+
+impl Step {
+    ghost use Rattle.audit_core.specs.Frame.{content_by, grant_to, is_reset, sends_end};
+    ghost use Rattle.audit_core.specs.Stream.{step_test, step_amount};
+
+    /// The flow-controlled length in bytes that a side sends at this step (RFC 9113, 6.9.1), 0 where there is no frame.
+    pub fn content_by(&self, side: Side) -> u32
+        ensures { result ≡ step_amount (content_by side) self.now }
+    {
+        match self.frame {
+            Some(frame) => frame.content_by(side),
+            None => 0,
+        }
+    }
+
+    /// What this step grants to a side on a stream, in bytes (6.9), 0 where there is no frame.
+    pub fn grant_to(&self, side: Side, stream: u32) -> u32
+        ensures { result ≡ step_amount (grant_to side stream) self.now }
+    {
+        match self.frame {
+            Some(frame) => frame.grant_to(side, stream),
+            None => 0,
+        }
+    }
+
+    /// Does a side end its side of the stream at this step (5.1)?
+    pub fn sends_end(&self, side: Side) -> bool
+        ensures { result ≡ step_test (sends_end side) self.now }
+    {
+        match self.frame {
+            Some(frame) => frame.sends_end(side),
+            None => false,
+        }
+    }
+
+    /// Is the stream reset at this step (6.4)?
+    pub fn is_reset(&self) -> bool
+        ensures { result ≡ step_test (λ frame. is_reset frame.body) self.now }
+    {
+        match self.frame {
+            Some(frame) => frame.body.is_reset(),
+            None => false,
+        }
+    }
 }

@@ -11,6 +11,7 @@ pub mod laws;
 pub mod places;
 pub mod sides;
 pub mod streams;
+pub mod windows;
 pub mod worked_examples;
 
 pub use connections::ConnectionState;
