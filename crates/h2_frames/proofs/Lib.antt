@@ -1,1 +1,4 @@
 pub mod SettingsRead
+pub mod Capturing
+pub mod Numbering
+pub mod Merging

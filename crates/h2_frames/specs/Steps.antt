@@ -1,6 +1,9 @@
 -- What single steps of the code leave. No public clause cites these.
-use Rattle.std.specs.Prelude.{◌&&◌, not, ◌==◌, if◌then◌else◌, Some, is_none}
+use Rattle.std.specs.Prelude.{ℕ, ◌<◌, ◌^◌, List, [], ◌∷◌, nat_lt, ◌&&◌, not, ◌==◌, if◌then◌else◌, Some, is_none}
+use Rattle.tcp_streams.specs.declared.streams.Arrival.{Arrival}
+use Rattle.audit_core.specs.declared.frames.Frame.{Frame}
 use Rattle.audit_core.specs.declared.frames.Settings.{Settings}
+use Rattle.audit_core.specs.Frame.{promised_in}
 use Rattle.h2_frames.specs.declared.settings.Setting.{Setting}
 use Rattle.h2_frames.specs.Settings.{is_in_range}
 
@@ -12,3 +15,15 @@ with_setting settings s = record {
   max_frame = (if s.identifier == 5 then Some s.value else settings.max_frame);
   bad = (if is_none settings.bad && not (is_in_range s) then Some s.identifier else settings.bad);
 }
+
+-- the arrivals from the one on at which the byte at this offset arrives
+abbrev pub arrivals_from : (offset : ℕ) → List Arrival → List Arrival
+arrivals_from offset [] = []
+arrivals_from offset (a ∷ later) = if nat_lt offset a.upto then a ∷ later else arrivals_from offset later
+
+-- a frame that is in range but for its number
+pub record IsReadable (frame : Frame) : Type 0 where
+  pub stream : frame.stream < 2 ^ 31
+  pub promised : promised_in frame.body < 2 ^ 31
+  pub length : frame.length < 2 ^ 24
+  pub nanos : frame.nanos < 2 ^ 63

@@ -4,6 +4,8 @@
 mod bodies;
 pub mod connections;
 mod headers;
+mod one_side;
+mod order;
 mod settings;
 mod spelling;
 
