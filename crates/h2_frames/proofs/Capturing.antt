@@ -1,6 +1,6 @@
 -- One side's frames, read one after the other.
-use Rattle.std.proofs.Common.{◌≡◌, ℕ, zero, suc, ◌+◌, ◌-◌, ◌*◌, ◌^◌, ◌<◌, ◌≤◌, Bool, true, false, cond, List, [], ◌∷◌, ◌++◌, length, get_or, refl, ap, sym, ◌∙◌, arith, append_assoc, length-append}
-use Rattle.std.specs.Prelude.{nat_lt, find}
+use Rattle.std.proofs.Common.{◌≡◌, ℕ, ◌+◌, ◌-◌, ◌*◌, ◌^◌, ◌<◌, ◌≤◌, Bool, true, false, cond, List, [], ◌∷◌, ◌++◌, length, get_or, refl, ap, ◌∙◌, arith, append_assoc, length-append}
+use Rattle.std.specs.Prelude.{nat_lt}
 use Rattle.std.specs.List.{AllByRecursion}
 use Rattle.std.proofs.lemmas.List.{length_push}
 use Rattle.std.proofs.lemmas.Bool.Decides.{nat_tests}
@@ -23,11 +23,11 @@ pub arrivals_from-arrivals_from : (offset o : ℕ) (arrivals : List Arrival) →
 arrivals_from-arrivals_from offset o [] h = refl
 arrivals_from-arrivals_from offset o (a ∷ later) h = by (nat_lt offset a.upto) refl (arrivals_from-arrivals_from offset o later h)
   where
-  by : (test : Bool) → nat_lt offset a.upto ≡ test →
-      arrivals_from o (arrivals_from offset later) ≡ arrivals_from o later →
-      arrivals_from o (cond test (a ∷ later) (arrivals_from offset later)) ≡ cond (nat_lt o a.upto) (a ∷ later) (arrivals_from o later)
-  by true e same = refl
-  by false e same = let past = below_later offset o a.upto e h in rw past same
+    by : (test : Bool) → nat_lt offset a.upto ≡ test →
+        arrivals_from o (arrivals_from offset later) ≡ arrivals_from o later →
+        arrivals_from o (cond test (a ∷ later) (arrivals_from offset later)) ≡ cond (nat_lt o a.upto) (a ∷ later) (arrivals_from o later)
+    by true e same = refl
+    by false e same = let past = below_later offset o a.upto e h in rw past same
 
 -- the first of them is where the byte arrives
 pub get_or-arrivals_from : (o : ℕ) (arrivals : List Arrival) (d : Arrival) → 0 < length (arrivals_from o arrivals) →
@@ -35,12 +35,12 @@ pub get_or-arrivals_from : (o : ℕ) (arrivals : List Arrival) (d : Arrival) →
 get_or-arrivals_from o [] d h = absurd (omega arith)
 get_or-arrivals_from o (a ∷ later) d h = by (nat_lt o a.upto) refl (get_or-arrivals_from o later d) h
   where
-  by : (test : Bool) → nat_lt o a.upto ≡ test →
-      (0 < length (arrivals_from o later) → get_or (arrivals_from o later) 0 d ≡ arrival_at later o) →
-      0 < length (cond test (a ∷ later) (arrivals_from o later)) →
-      get_or (cond test (a ∷ later) (arrivals_from o later)) 0 d ≡ arrival_at (a ∷ later) o
-  by true e rest h = rw e refl
-  by false e rest h = rw e (rest h)
+    by : (test : Bool) → nat_lt o a.upto ≡ test →
+        (0 < length (arrivals_from o later) → get_or (arrivals_from o later) 0 d ≡ arrival_at later o) →
+        0 < length (cond test (a ∷ later) (arrivals_from o later)) →
+        get_or (cond test (a ∷ later) (arrivals_from o later)) 0 d ≡ arrival_at (a ∷ later) o
+    by true e rest h = rw e refl
+    by false e rest h = rw e (rest h)
 
 -- each byte of the flow arrives
 pub arrivals_from-not_empty : (low rec high o : ℕ) (arrivals : List Arrival) → Rises low rec arrivals high → low ≤ o → o < high →
@@ -49,10 +49,10 @@ arrivals_from-not_empty low rec high o [] rises h k = absurd (omega arith)
 arrivals_from-not_empty low rec high o (a ∷ later) rises h k =
     by (nat_lt o a.upto) refl (λ past. arrivals_from-not_empty a.upto a.rec high o later rises.2 past k)
   where
-  by : (test : Bool) → nat_lt o a.upto ≡ test → (a.upto ≤ o → 0 < length (arrivals_from o later)) →
-      0 < length (cond test (a ∷ later) (arrivals_from o later))
-  by true e rest = omega arith
-  by false e rest = rest (grind (arith, nat_tests))
+    by : (test : Bool) → nat_lt o a.upto ≡ test → (a.upto ≤ o → 0 < length (arrivals_from o later)) →
+        0 < length (cond test (a ∷ later) (arrivals_from o later))
+    by true e rest = omega arith
+    by false e rest = rest (grind (arith, nat_tests))
 
 -- it arrives at a time of the capture
 pub arrivals_from-timely : (o : ℕ) (arrivals : List Arrival) (d : Arrival) → AllByRecursion (λ (a : Arrival). a.nanos < 2 ^ 63) arrivals →
@@ -60,12 +60,12 @@ pub arrivals_from-timely : (o : ℕ) (arrivals : List Arrival) (d : Arrival) →
 arrivals_from-timely o [] d all h = absurd (omega arith)
 arrivals_from-timely o (a ∷ later) d all h = by (nat_lt o a.upto) (arrivals_from-timely o later d all.1) h
   where
-  by : (test : Bool) →
-      (0 < length (arrivals_from o later) → (get_or (arrivals_from o later) 0 d).nanos < 2 ^ 63) →
-      0 < length (cond test (a ∷ later) (arrivals_from o later)) →
-      (get_or (cond test (a ∷ later) (arrivals_from o later)) 0 d).nanos < 2 ^ 63
-  by true rest h = all.0
-  by false rest h = rest h
+    by : (test : Bool) →
+        (0 < length (arrivals_from o later) → (get_or (arrivals_from o later) 0 d).nanos < 2 ^ 63) →
+        0 < length (cond test (a ∷ later) (arrivals_from o later)) →
+        (get_or (cond test (a ∷ later) (arrivals_from o later)) 0 d).nanos < 2 ^ 63
+    by true rest h = all.0
+    by false rest h = rest h
 
 -- with the bytes before `rest` read, these are the frames so far, whose numbers follow one another
 pub record IsPartlyCaptured (side : Side) (bytes : List ℕ) (offset : ℕ) (arrivals : List Arrival)
@@ -86,7 +86,8 @@ partly-captured-none side bytes offset arrivals = record {
   place = refl;
   few = omega arith;
   ahead = λ o h. refl;
-  readable = tt }
+  readable = tt;
+}
 
 all_push : {A : Type 0} (P : A → Type 0) (xs : List A) (x : A) → AllByRecursion P xs → P x → AllByRecursion P (xs ++ x ∷ [])
 all_push P [] x all p = (p, tt)
@@ -135,15 +136,15 @@ partly-captured-turn side bytes offset arrivals rest upto to_come frames partly 
     let few : offset + 9 * length frames ≤ upto = partly.few in
     let from_start : to_come' ≡ arrivals_from (upto' - 1) arrivals = to_come_is ∙ partly.ahead (upto' - 1) (omega arith) in
     let there : 0 < length (arrivals_from (upto' - 1) arrivals) =
-        arrivals_from-not_empty 0 0 (offset + length bytes) (upto' - 1) arrivals rises (omega arith) (omega arith) in
+    arrivals_from-not_empty 0 0 (offset + length bytes) (upto' - 1) arrivals rises (omega arith) (omega arith) in
     let first : get_or to_come' 0 d ≡ arrival_at arrivals (upto' - 1) =
-        ap (λ (x : List Arrival). get_or x 0 d) from_start ∙ get_or-arrivals_from (upto' - 1) arrivals d there in
+    ap (λ (x : List Arrival). get_or x 0 d) from_start ∙ get_or-arrivals_from (upto' - 1) arrivals d there in
     let at : upto' - 1 ≡ upto + (9 + s.header.length) - 1 = ap (λ (x : ℕ). x - 1) upto_is in
     let frame_is : captured side (length frames + 1) (get_or to_come' 0 d) s
-            ≡ captured side (length frames + 1) (arrival_at arrivals (upto + (9 + s.header.length) - 1)) s =
-        ap (λ (a : Arrival). captured side (length frames + 1) a s) (first ∙ ap (arrival_at arrivals) at) in
+    ≡ captured side (length frames + 1) (arrival_at arrivals (upto + (9 + s.header.length) - 1)) s =
+    ap (λ (a : Arrival). captured side (length frames + 1) a s) (first ∙ ap (arrival_at arrivals) at) in
     let on_time : (get_or to_come' 0 d).nanos < 2 ^ 63 =
-        rw from_start (arrivals_from-timely (upto' - 1) arrivals d timely there) in
+    rw from_start (arrivals_from-timely (upto' - 1) arrivals d timely there) in
     let count : length frames' ≡ length frames + 1 = ap length frames_is ∙ length_push frames _ in
     record {
       spelled = λ frames_later tail spells.
@@ -157,5 +158,6 @@ partly-captured-turn side bytes offset arrivals rest upto to_come frames partly 
           rw to_come_is (twice ∙ once);
       readable =
           let one : IsReadable (captured side (length frames + 1) (get_or to_come' 0 d) s) =
-              record { stream = stream_fits; promised = promised_fits; length = length_fits; nanos = on_time } in
-          rw frames_is (all_push IsReadable frames _ partly.readable one) }
+          record { stream = stream_fits; promised = promised_fits; length = length_fits; nanos = on_time } in
+          rw frames_is (all_push IsReadable frames _ partly.readable one);
+    }

@@ -1,6 +1,6 @@
 -- Frames that stand in order are merged into order.
-use Rattle.std.proofs.Common.{◌≡◌, ℕ, zero, suc, ◌+◌, ◌-◌, ◌*◌, ◌^◌, ◌<◌, ◌≤◌, Bool, true, false, cond, not, List, [], ◌∷◌, ◌++◌, length, refl, ap, sym, ◌∙◌, arith}
-use Rattle.std.specs.Prelude.{nat_lt, ◌==◌, ◌&&◌, ◌||◌, find, unwrap_or}
+use Rattle.std.proofs.Common.{◌≡◌, ℕ, ◌+◌, ◌-◌, ◌^◌, ◌<◌, ◌≤◌, Bool, true, false, cond, not, List, [], ◌∷◌, ◌++◌, length, refl, ap, sym, ◌∙◌, arith, length-append}
+use Rattle.std.specs.Prelude.{nat_lt, ◌==◌, ◌&&◌, ◌||◌}
 use Rattle.std.specs.List.{AllByRecursion}
 use Rattle.std.proofs.lemmas.Bool.Decides.{nat_tests}
 use Rattle.itertools.specs.List.{merge_by, merge_at}
@@ -10,8 +10,10 @@ use Rattle.audit_core.specs.declared.sides.Side.{Side}
 use Rattle.audit_core.specs.declared.frames.Frame.{Frame}
 use Rattle.audit_core.specs.Order.{put_by, ordered_by}
 use Rattle.audit_core.specs.Side.{side_order}
+use Rattle.audit_core.specs.Frame.{IsOrderlyFrom}
+use Rattle.h2_frames.specs.Steps.{IsReadable}
 use Rattle.h2_frames.specs.declared.spelling.Spelled.{Spelled}
-use Rattle.h2_frames.specs.Spelling.{Spells, Makes}
+use Rattle.h2_frames.specs.Spelling.{Spells}
 use Rattle.h2_frames.specs.CaptureOrder.{arrival_at, captured, captured_from, comes_after, numbered, capture_order}
 
 -- comes_after, on the three numbers
@@ -62,23 +64,23 @@ put-merge x [] [] h = refl
 put-merge x (c ∷ xs) [] h = let first = h.0 in rw first refl
 put-merge x [] (y ∷ ys) h = by (comes_after x y) (put-merge x [] ys h)
   where
-  by : (test : Bool) → put_by comes_after x ys ≡ merge_at is_first x [] (λ zs. zs) ys →
-      cond test (y ∷ put_by comes_after x ys) (x ∷ y ∷ ys) ≡ cond (not test) (x ∷ y ∷ ys) (y ∷ merge_at is_first x [] (λ zs. zs) ys)
-  by true rest = ap (λ (zs : List Frame). y ∷ zs) rest
-  by false rest = refl
+    by : (test : Bool) → put_by comes_after x ys ≡ merge_at is_first x [] (λ zs. zs) ys →
+        cond test (y ∷ put_by comes_after x ys) (x ∷ y ∷ ys) ≡ cond (not test) (x ∷ y ∷ ys) (y ∷ merge_at is_first x [] (λ zs. zs) ys)
+    by true rest = ap (λ (zs : List Frame). y ∷ zs) rest
+    by false rest = refl
 put-merge x (c ∷ xs) (y ∷ ys) h = by (comes_after x y) refl (put-merge x (c ∷ xs) ys h)
   where
-  by : (test : Bool) → comes_after x y ≡ test →
-      put_by comes_after x (merge_by is_first (c ∷ xs) ys) ≡ merge_by is_first (x ∷ c ∷ xs) ys →
-      put_by comes_after x (merge_by is_first (c ∷ xs) (y ∷ ys)) ≡ cond (not test) (x ∷ merge_by is_first (c ∷ xs) (y ∷ ys)) (y ∷ merge_by is_first (x ∷ c ∷ xs) ys)
-  by true e rest = let past = after_trans x c y h.0 e in rw (past, e) (ap (λ (zs : List Frame). y ∷ zs) rest)
-  by false e rest = both (comes_after c y)
-    where
-    both : (test : Bool) →
-        put_by comes_after x (cond (not test) (c ∷ merge_by is_first xs (y ∷ ys)) (y ∷ merge_at is_first c xs (merge_by is_first xs) ys))
-        ≡ x ∷ cond (not test) (c ∷ merge_by is_first xs (y ∷ ys)) (y ∷ merge_at is_first c xs (merge_by is_first xs) ys)
-    both true = rw e refl
-    both false = let first = h.0 in rw first refl
+    by : (test : Bool) → comes_after x y ≡ test →
+        put_by comes_after x (merge_by is_first (c ∷ xs) ys) ≡ merge_by is_first (x ∷ c ∷ xs) ys →
+        put_by comes_after x (merge_by is_first (c ∷ xs) (y ∷ ys)) ≡ cond (not test) (x ∷ merge_by is_first (c ∷ xs) (y ∷ ys)) (y ∷ merge_by is_first (x ∷ c ∷ xs) ys)
+    by true e rest = let past = after_trans x c y h.0 e in rw (past, e) (ap (λ (zs : List Frame). y ∷ zs) rest)
+    by false e rest = both (comes_after c y)
+      where
+        both : (test : Bool) →
+            put_by comes_after x (cond (not test) (c ∷ merge_by is_first xs (y ∷ ys)) (y ∷ merge_at is_first c xs (merge_by is_first xs) ys))
+            ≡ x ∷ cond (not test) (c ∷ merge_by is_first xs (y ∷ ys)) (y ∷ merge_at is_first c xs (merge_by is_first xs) ys)
+        both true = rw e refl
+        both false = let first = h.0 in rw first refl
 
 -- merging puts the frames of both sides in order
 pub ordered-merge : (xs ys : List Frame) → IsAscending xs → IsAscending ys →
@@ -87,3 +89,111 @@ ordered-merge [] ys h k = ordered-ascending ys k
 ordered-merge (x ∷ xs) ys h k =
     let rest = ordered-merge xs ys (rest_ascending x xs h) k in
     ap (put_by comes_after x) rest ∙ put-merge x xs ys h
+
+-- bytes arrive at later and later records
+rec_above : (low rec high o : ℕ) (arrivals : List Arrival) → Rises low rec arrivals high → low ≤ o → o < high →
+    rec ≤ (arrival_at arrivals o).rec
+rec_above low rec high o [] rises h k = absurd (omega arith)
+rec_above low rec high o (a ∷ later) rises h k =
+    by (nat_lt o a.upto) refl (λ past. rec_above a.upto a.rec high o later rises.2 past k)
+  where
+    by : (test : Bool) → nat_lt o a.upto ≡ test → (a.upto ≤ o → a.rec ≤ (arrival_at later o).rec) → rec ≤ (arrival_at (a ∷ later) o).rec
+    by true e rest = let above : rec < a.rec = rises.1 in rw e (omega arith)
+    by false e rest =
+        let above : rec < a.rec = rises.1 in
+        let past : a.rec ≤ (arrival_at later o).rec = rest (grind (arith, nat_tests)) in
+        rw e (omega arith)
+
+pub rec_rises : (low rec high o p : ℕ) (arrivals : List Arrival) → Rises low rec arrivals high → low ≤ o → o ≤ p → p < high →
+    (arrival_at arrivals o).rec ≤ (arrival_at arrivals p).rec
+rec_rises low rec high o p [] rises h k l = absurd (omega arith)
+rec_rises low rec high o p (a ∷ later) rises h k l =
+    by (nat_lt o a.upto) (nat_lt p a.upto) refl refl
+    (λ past. rec_above a.upto a.rec high p later rises.2 past l)
+    (λ past. rec_rises a.upto a.rec high o p later rises.2 past k l)
+  where
+    by : (first second : Bool) → nat_lt o a.upto ≡ first → nat_lt p a.upto ≡ second →
+        (a.upto ≤ p → a.rec ≤ (arrival_at later p).rec) →
+        (a.upto ≤ o → (arrival_at later o).rec ≤ (arrival_at later p).rec) →
+        (arrival_at (a ∷ later) o).rec ≤ (arrival_at (a ∷ later) p).rec
+    by true true e f above rest = rw (e, f) (omega arith)
+    by true false e f above rest = rw (e, f) (above (grind (arith, nat_tests)))
+    by false true e f above rest = absurd (grind (arith, nat_tests))
+    by false false e f above rest = rw (e, f) (rest (grind (arith, nat_tests)))
+
+later_number : (x y : Frame) → x.number < y.number → x.rec ≤ y.rec → comes_after x y ≡ false
+later_number x y h k = grind (arith, nat_tests)
+
+-- a side's frames stand in order
+captured-ascending : (side : Side) (arrivals : List Arrival) (high : ℕ) → Rises 0 0 arrivals high →
+    (number offset : ℕ) (spelled : List Spelled) (bytes tail : List ℕ) → Spells bytes spelled tail → offset + length bytes ≤ high →
+    (x : Frame) (last : ℕ) → x.number < number → last ≤ offset → x.rec ≡ (arrival_at arrivals last).rec →
+    IsAscendingFrom x (captured_from side arrivals number offset spelled)
+captured-ascending side arrivals high rises number offset [] bytes tail spells within x last h k e = tt
+captured-ascending side arrivals high rises number offset (s ∷ later) bytes tail spells within x last h k e =
+    let header = spells.0 in let payload = spells.1 in let rest = spells.2 in
+    let makes = spells.4 in
+    let size : length bytes ≡ (length header + length payload) + length rest = simp length-append at (ap length spells.3) in
+    let nine : length header ≡ 9 = makes.nine in
+    let whole : length payload ≡ s.header.length = makes.whole in
+    let upto = offset + (9 + s.header.length) in
+    let rec : (arrival_at arrivals last).rec ≤ (arrival_at arrivals (upto - 1)).rec =
+    rec_rises 0 0 high last (upto - 1) arrivals rises (omega arith) (omega arith) (omega arith) in (
+      later_number x (captured side number (arrival_at arrivals (upto - 1)) s) h (omega arith),
+      captured-ascending side arrivals high rises (number + 1) upto later rest tail spells.5 (omega arith)
+          (captured side number (arrival_at arrivals (upto - 1)) s) (upto - 1) (omega arith) (omega arith) refl,
+    )
+
+pub captured-in_order : (side : Side) (arrivals : List Arrival) (high : ℕ) → Rises 0 0 arrivals high →
+    (offset : ℕ) (spelled : List Spelled) (bytes tail : List ℕ) → Spells bytes spelled tail → offset + length bytes ≤ high →
+    IsAscending (captured_from side arrivals 1 offset spelled)
+captured-in_order side arrivals high rises offset [] bytes tail spells within = tt
+captured-in_order side arrivals high rises offset (s ∷ later) bytes tail spells within =
+    let header = spells.0 in let payload = spells.1 in let rest = spells.2 in
+    let makes = spells.4 in
+    let size : length bytes ≡ (length header + length payload) + length rest = simp length-append at (ap length spells.3) in
+    let nine : length header ≡ 9 = makes.nine in
+    let whole : length payload ≡ s.header.length = makes.whole in
+    let upto = offset + (9 + s.header.length) in
+    captured-ascending side arrivals high rises 2 upto later rest tail spells.5 (omega arith)
+    (captured side 1 (arrival_at arrivals (upto - 1)) s) (upto - 1) (omega arith) (omega arith) refl
+
+-- merged and numbered, they are the frames in capture order
+pub merged-capture_order : (client server : List Frame) → IsAscending client → IsAscending server →
+    numbered 1 (merge_by is_first client server) ≡ capture_order client server
+merged-capture_order client server h k = ap (numbered 1) (sym (ordered-merge client server h k))
+
+-- what holds of the frames of both sides holds of the merged ones
+pub all-merge : (P : Frame → Type 0) (xs ys : List Frame) → AllByRecursion P xs → AllByRecursion P ys →
+    AllByRecursion P (merge_by is_first xs ys)
+all-merge P [] ys all each = each
+all-merge P (x ∷ xs) [] all each = all
+all-merge P (x ∷ xs) (y ∷ ys) all each =
+    by (is_first x y) (all-merge P xs (y ∷ ys) all.1 each) (all-merge P (x ∷ xs) ys all each.1)
+  where
+    by : (test : Bool) → AllByRecursion P (merge_by is_first xs (y ∷ ys)) → AllByRecursion P (merge_by is_first (x ∷ xs) ys) →
+        AllByRecursion P (cond test (x ∷ merge_by is_first xs (y ∷ ys)) (y ∷ merge_at is_first x xs (merge_by is_first xs) ys))
+    by true left right = (all.0, left)
+    by false left right = (each.0, right)
+
+pub length-merge : (xs ys : List Frame) → length (merge_by is_first xs ys) ≡ length xs + length ys
+length-merge [] ys = omega arith
+length-merge (x ∷ xs) [] = omega arith
+length-merge (x ∷ xs) (y ∷ ys) = by (is_first x y) (length-merge xs (y ∷ ys)) (length-merge (x ∷ xs) ys)
+  where
+    by : (test : Bool) → length (merge_by is_first xs (y ∷ ys)) ≡ length xs + length (y ∷ ys) →
+        length (merge_by is_first (x ∷ xs) ys) ≡ length (x ∷ xs) + length ys →
+        length (cond test (x ∷ merge_by is_first xs (y ∷ ys)) (y ∷ merge_at is_first x xs (merge_by is_first xs) ys)) ≡ length (x ∷ xs) + length (y ∷ ys)
+    by true left right = omega arith
+    by false left right = omega arith
+
+-- frames in range, numbered upwards, are orderly
+pub numbered-orderly : (low number : ℕ) (frames : List Frame) → AllByRecursion IsReadable frames → low ≤ number →
+    number + length frames < 2 ^ 28 → IsOrderlyFrom low (numbered number frames)
+numbered-orderly low number [] all h k = tt
+numbered-orderly low number (f ∷ frames) all h k =
+    let readable : IsReadable f = all.0 in (
+      h,
+      record { number = omega arith; stream = readable.stream; promised = readable.promised; length = readable.length; nanos = readable.nanos },
+      numbered-orderly (number + 1) (number + 1) frames all.1 (omega arith) (omega arith),
+    )

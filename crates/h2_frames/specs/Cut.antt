@@ -27,6 +27,11 @@ pub record IsHttp2 (client server : Flow) (frames : List Frame) (tails : List �
       (captured_from Server server.arrivals.items 1 0 server_frames)
   pub tails_are : tails ≡ length client_tail ∷ length server_tail ∷ []
 
+-- an HTTP/2 connection's cut
+abbrev pub IsHttp2Cut : (client server : Flow) → Cut → Type 0
+IsHttp2Cut client server (Http2 frames tails) = IsHttp2 client server frames.items tails
+IsHttp2Cut client server _ = ⊥
+
 -- the server's flow is not started; else the client's ends within the preface; else it does not begin with it; else both
 -- are cut into frames
 abbrev pub IsCut : (client server : Flow) → Cut → Type 0

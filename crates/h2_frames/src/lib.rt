@@ -3,10 +3,14 @@
 
 mod bodies;
 pub mod connections;
+mod cutting;
 mod headers;
+pub mod laws;
 mod one_side;
+mod opening;
 mod order;
 mod settings;
 mod spelling;
 
 pub use connections::Cut;
+pub use cutting::cut;

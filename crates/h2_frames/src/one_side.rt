@@ -6,12 +6,11 @@ ghost use Rattle.h2_frames.specs.Spelling.{Spells};
 ghost use Rattle.h2_frames.specs.CaptureOrder.{captured, captured_from};
 ghost use Rattle.h2_frames.specs.Steps.{IsReadable, arrivals_from};
 
+use crate::headers::HEADER_LENGTH;
+use crate::spelling::{Spelled, first_frame};
 use audit_core::{Frame, Side};
 use std::alloc::{AllocError, Global};
 use tcp_streams::Arrival;
-
-use crate::headers::HEADER_LENGTH;
-use crate::spelling::{Spelled, first_frame};
 
 /// The arrivals from the one on at which the byte at this offset arrives.
 fn arrivals_from(arrivals: &[Arrival], offset: u64) -> &[Arrival]

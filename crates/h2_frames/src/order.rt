@@ -37,3 +37,18 @@ fn merged(alloc: Global, client: &[Frame], server: &[Frame]) -> Result<Vec<Frame
         .merge_by(server, |x, y| !comes_after(x, y))
         .collect(alloc)
 }
+
+/// The frames of both sides in capture order, numbered from 1. Each side's are to be in order already.
+pub(crate) fn in_capture_order(
+    alloc: Global,
+    client: &[Frame],
+    server: &[Frame],
+) -> Result<Vec<Frame>, AllocError>
+    requires { length client.now + length server.now < 2 ^ 31 }
+    ensures { IfOk result (λ frames. frames.items
+        ≡ numbered 1 (merge_by (λ x y. not (comes_after x y)) client.now server.now)) }
+{
+    let mut frames = merged(alloc, client, server)?;
+    number_upwards(frames.as_mut_slice());
+    Ok(frames)
+}

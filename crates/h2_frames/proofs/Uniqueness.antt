@@ -1,0 +1,155 @@
+-- Bytes have one spelling, flows one cut.
+use Rattle.std.proofs.Common.{◌≡◌, ℕ, ◌+◌, ◌<◌, List, [], ◌∷◌, ◌++◌, length, take, drop, refl, ap, sym, ◌∙◌, subst, arith, length-append, append_assoc, inl, inr}
+use Rattle.std.proofs.lemmas.Bool.{false≢true}
+use Rattle.std.proofs.lemmas.List.{append_cancel_left, take_at, drop_at}
+use Rattle.tcp_streams.specs.declared.streams.Arrival.{Arrival}
+use Rattle.tcp_streams.specs.declared.streams.Flow.{Flow}
+use Rattle.audit_core.specs.declared.frames.Body.{Body}
+use Rattle.audit_core.specs.declared.frames.Frame.{Frame}
+use Rattle.audit_core.specs.declared.sides.Side.TheVariants.{Client, Server}
+use Rattle.h2_frames.specs.declared.connections.Cut.TheVariants.{Http2, NotHttp2, NoPreface, NoHandshake}
+use Rattle.h2_frames.specs.declared.headers.Header.{Header}
+use Rattle.h2_frames.specs.declared.spelling.Spelled.{Spelled}
+use Rattle.h2_frames.specs.Header.{header_of}
+use Rattle.h2_frames.specs.Body.{body_of}
+use Rattle.h2_frames.specs.Spelling.{HoldsNoFrame, Makes, Spells}
+use Rattle.h2_frames.specs.CaptureOrder.{captured_from, capture_order}
+use Rattle.h2_frames.specs.Preface.{preface, IsPrefaceCutShort, BeginsWithPreface}
+use Rattle.h2_frames.specs.Cut.{IsHttp2}
+use Rattle.h2_frames.specs.Law.{SpellingIsUnique, IsSameFlow, CutIsUnique}
+
+-- two fronts of one length are one front, and so are the rests
+same_parts : (a b x y : List ℕ) → a ++ x ≡ b ++ y → length a ≡ length b → (a ≡ b) × (x ≡ y)
+same_parts a b x y e h = (
+  sym (take_at a x (length b) h) ∙ ap (take (length b)) e ∙ take_at b y (length b) refl,
+  sym (drop_at a x (length b) h) ∙ ap (drop (length b)) e ∙ drop_at b y (length b) refl,
+)
+
+-- a header is read from its own nine bytes, whatever follows
+header_of-append : (header later : List ℕ) → length header ≡ 9 → header_of (header ++ later) ≡ header_of header
+header_of-append [] later nine = absurd (omega arith)
+header_of-append (a ∷ []) later nine = absurd (omega arith)
+header_of-append (a ∷ b ∷ []) later nine = absurd (omega arith)
+header_of-append (a ∷ b ∷ c ∷ []) later nine = absurd (omega arith)
+header_of-append (a ∷ b ∷ c ∷ d ∷ []) later nine = absurd (omega arith)
+header_of-append (a ∷ b ∷ c ∷ d ∷ e ∷ []) later nine = absurd (omega arith)
+header_of-append (a ∷ b ∷ c ∷ d ∷ e ∷ f ∷ []) later nine = absurd (omega arith)
+header_of-append (a ∷ b ∷ c ∷ d ∷ e ∷ f ∷ g ∷ []) later nine = absurd (omega arith)
+header_of-append (a ∷ b ∷ c ∷ d ∷ e ∷ f ∷ g ∷ h ∷ []) later nine = absurd (omega arith)
+header_of-append (a ∷ b ∷ c ∷ d ∷ e ∷ f ∷ g ∷ h ∷ i ∷ []) later nine = refl
+header_of-append (a ∷ b ∷ c ∷ d ∷ e ∷ f ∷ g ∷ h ∷ i ∷ j ∷ more) later nine = absurd (omega arith)
+
+-- the header that the bytes of a frame begin with is the frame's
+header_is : (bytes header payload rest : List ℕ) (frame : Spelled) → bytes ≡ header ++ payload ++ rest → Makes header payload frame →
+    header_of bytes ≡ frame.header
+header_is bytes header payload rest frame split makes =
+    ap header_of (split ∙ append_assoc header payload rest) ∙ header_of-append header (payload ++ rest) makes.nine ∙ sym makes.header_is
+
+-- bytes that hold no whole frame begin with none
+holds_none : (bytes header payload rest : List ℕ) (frame : Spelled) → HoldsNoFrame bytes →
+    bytes ≡ header ++ payload ++ rest → Makes header payload frame → ⊥
+holds_none bytes header payload rest frame holds split makes =
+    let size : length bytes ≡ (length header + length payload) + length rest = simp length-append at (ap length split) in
+    let nine : length header ≡ 9 = makes.nine in
+    let whole : length payload ≡ frame.header.length = makes.whole in
+    let same : (header_of bytes).length ≡ frame.header.length =
+    ap (λ (h : Header). h.length) (header_is bytes header payload rest frame split makes) in
+    elim holds [ inl short ↦ omega arith | inr short ↦ omega arith ]
+
+same_frame : (f g : Spelled) → f.header ≡ g.header → f.body ≡ g.body → f ≡ g
+same_frame f g h b =
+    ap (λ (x : Header). record f { header = x }) h ∙ ap (λ (x : Body). record g { body = x }) b
+
+cons_same : (f g : Spelled) (frames others : List Spelled) → f ≡ g → frames ≡ others → f ∷ frames ≡ g ∷ others
+cons_same f g frames others h k = ap (λ (x : Spelled). x ∷ frames) h ∙ ap (λ (xs : List Spelled). g ∷ xs) k
+
+-- two frames that one list of bytes begins with are one, and so is what follows them
+same_first : (bytes header payload rest other_header other_payload other_rest : List ℕ) (f g : Spelled) →
+    bytes ≡ header ++ payload ++ rest → Makes header payload f →
+    bytes ≡ other_header ++ other_payload ++ other_rest → Makes other_header other_payload g → (f ≡ g) × (rest ≡ other_rest)
+same_first bytes header payload rest other_header other_payload other_rest f g split makes other_split other_makes =
+    let headers : f.header ≡ g.header =
+    sym (header_is bytes header payload rest f split makes)
+    ∙ header_is bytes other_header other_payload other_rest g other_split other_makes in
+    let parts = same_parts header other_header (payload ++ rest) (other_payload ++ other_rest)
+    (sym (split ∙ append_assoc header payload rest) ∙ other_split ∙ append_assoc other_header other_payload other_rest)
+    (makes.nine ∙ sym other_makes.nine) in
+    let payloads = same_parts payload other_payload rest other_rest parts.1
+    (makes.whole ∙ ap (λ (h : Header). h.length) headers ∙ sym other_makes.whole) in
+    let bodies : f.body ≡ g.body =
+    makes.body_is
+    ∙ ap (λ (h : Header). body_of h.code h.flags payload) headers
+    ∙ ap (body_of g.header.code g.header.flags) payloads.0
+    ∙ sym other_makes.body_is in
+    (same_frame f g headers bodies, payloads.1)
+
+pub spelling-unique : SpellingIsUnique
+spelling-unique bytes [] [] tail other_tail first second = (refl, sym first.0 ∙ second.0)
+spelling-unique bytes [] (f ∷ others) tail other_tail first second =
+    absurd (holds_none bytes second.0 second.1 second.2 f first.1 second.3 second.4)
+spelling-unique bytes (f ∷ frames) [] tail other_tail first second =
+    absurd (holds_none bytes first.0 first.1 first.2 f second.1 first.3 first.4)
+spelling-unique bytes (f ∷ frames) (g ∷ others) tail other_tail first second =
+    let same = same_first bytes first.0 first.1 first.2 second.0 second.1 second.2 f g first.3 first.4 second.3 second.4 in
+    let later = spelling-unique first.2 frames others tail other_tail first.5
+    (subst (λ (r : List ℕ). Spells r others other_tail) (sym same.1) second.5) in
+    (cons_same f g frames others same.0 later.0, later.1)
+
+-- no bytes are a part of the preface and begin with all of it
+not_both : (bytes rest : List ℕ) → IsPrefaceCutShort bytes → BeginsWithPreface bytes rest → ⊥
+not_both bytes rest short begins =
+    let size : length bytes + length short.0 ≡ 24 = sym (length-append bytes short.0) ∙ ap length short.2 in
+    let whole : length bytes ≡ 24 + length rest = ap length begins ∙ length-append preface rest in
+    let some : 0 < length short.0 = short.1 in
+    omega arith
+
+short_along : (bytes others : List ℕ) → bytes ≡ others → IsPrefaceCutShort bytes → IsPrefaceCutShort others
+short_along bytes others e short = (short.0, short.1, ap (λ (b : List ℕ). b ++ short.0) (sym e) ∙ short.2)
+
+same_http2 : (client server other_client other_server : Flow) (frames others : List Frame) (tails other_tails : List ℕ) →
+    IsSameFlow client other_client → IsSameFlow server other_server →
+    IsHttp2 client server frames tails → IsHttp2 other_client other_server others other_tails →
+    (frames ≡ others) × (tails ≡ other_tails)
+same_http2 client server other_client other_server frames others tails other_tails same_client same_server first second =
+    let rests : first.after_preface ≡ second.after_preface =
+    append_cancel_left preface _ _ (sym first.client_begins ∙ same_client.bytes ∙ second.client_begins) in
+    let clients = spelling-unique first.after_preface first.client_frames second.client_frames first.client_tail second.client_tail
+    first.client_spells (subst (λ (r : List ℕ). Spells r second.client_frames second.client_tail) (sym rests) second.client_spells) in
+    let servers = spelling-unique server.bytes.items first.server_frames second.server_frames first.server_tail second.server_tail
+    first.server_spells (subst (λ (r : List ℕ). Spells r second.server_frames second.server_tail) (sym same_server.bytes) second.server_spells) in (
+      first.in_order
+          ∙ ap (λ (fs : List Spelled). capture_order (captured_from Client client.arrivals.items 1 24 fs) (captured_from Server server.arrivals.items 1 0 first.server_frames)) clients.0
+          ∙ ap (λ (fs : List Spelled). capture_order (captured_from Client client.arrivals.items 1 24 second.client_frames) (captured_from Server server.arrivals.items 1 0 fs)) servers.0
+          ∙ ap (λ (xs : List Arrival). capture_order (captured_from Client xs 1 24 second.client_frames) (captured_from Server server.arrivals.items 1 0 second.server_frames)) same_client.arrivals
+          ∙ ap (λ (xs : List Arrival). capture_order (captured_from Client other_client.arrivals.items 1 24 second.client_frames) (captured_from Server xs 1 0 second.server_frames)) same_server.arrivals
+          ∙ sym second.in_order,
+      first.tails_are
+          ∙ ap (λ (t : List ℕ). length t ∷ length first.server_tail ∷ []) clients.1
+          ∙ ap (λ (t : List ℕ). length second.client_tail ∷ length t ∷ []) servers.1
+          ∙ sym second.tails_are,
+    )
+
+pub cut-unique : CutIsUnique
+cut-unique client server other_client other_server NoHandshake NoHandshake c s first second = tt
+cut-unique client server other_client other_server NoHandshake NoPreface c s first second = absurd (false≢true (sym first ∙ s.started ∙ second.0))
+cut-unique client server other_client other_server NoHandshake NotHttp2 c s first second = absurd (false≢true (sym first ∙ s.started ∙ second.0))
+cut-unique client server other_client other_server NoHandshake (Http2 frames tails) c s first second = absurd (false≢true (sym first ∙ s.started ∙ second.0))
+cut-unique client server other_client other_server NoPreface NoHandshake c s first second = absurd (false≢true (sym second ∙ sym s.started ∙ first.0))
+cut-unique client server other_client other_server NotHttp2 NoHandshake c s first second = absurd (false≢true (sym second ∙ sym s.started ∙ first.0))
+cut-unique client server other_client other_server (Http2 frames tails) NoHandshake c s first second = absurd (false≢true (sym second ∙ sym s.started ∙ first.0))
+cut-unique client server other_client other_server NoPreface NoPreface c s first second = tt
+cut-unique client server other_client other_server NoPreface NotHttp2 c s first second =
+    absurd (second.1 (short_along _ _ c.bytes first.1))
+cut-unique client server other_client other_server NoPreface (Http2 frames tails) c s first second =
+    absurd (not_both other_client.bytes.items second.1.after_preface (short_along _ _ c.bytes first.1) second.1.client_begins)
+cut-unique client server other_client other_server NotHttp2 NoPreface c s first second =
+    absurd (first.1 (short_along _ _ (sym c.bytes) second.1))
+cut-unique client server other_client other_server NotHttp2 NotHttp2 c s first second = tt
+cut-unique client server other_client other_server NotHttp2 (Http2 frames tails) c s first second =
+    absurd (first.2 second.1.after_preface (c.bytes ∙ second.1.client_begins))
+cut-unique client server other_client other_server (Http2 frames tails) NoPreface c s first second =
+    absurd (not_both client.bytes.items first.1.after_preface (short_along _ _ (sym c.bytes) second.1) first.1.client_begins)
+cut-unique client server other_client other_server (Http2 frames tails) NotHttp2 c s first second =
+    absurd (second.2 first.1.after_preface (sym c.bytes ∙ first.1.client_begins))
+cut-unique client server other_client other_server (Http2 frames tails) (Http2 others other_tails) c s first second =
+    same_http2 client server other_client other_server frames.items others.items tails other_tails c s first.1 second.1

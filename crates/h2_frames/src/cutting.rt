@@ -1,0 +1,53 @@
+ghost use Rattle.std.specs.Prelude.{◌≡◌, ◌+◌, ◌<◌, ◌^◌, vec_len, IfOk};
+ghost use Rattle.tcp_streams.specs.Arrivals.{IsOrderly};
+ghost use Rattle.h2_frames.specs.Cut.{HasOrderlyFrames, IsCut, IsHttp2Cut};
+ghost use Rattle.h2_frames.specs.Preface.{BeginsWithPreface};
+
+use crate::connections::Cut;
+use crate::one_side::captured_frames;
+use crate::opening::{Opening, PREFACE, opening_of};
+use crate::order::in_capture_order;
+use audit_core::Side;
+use std::alloc::{AllocError, Global};
+use tcp_streams::Flow;
+
+/// The frames of both sides in capture order, where `rest` follows the client's preface.
+fn http2(alloc: Global, rest: &[u8], client: &Flow, server: &Flow) -> Result<Cut, AllocError>
+    requires begins { BeginsWithPreface client.now.bytes.items rest.now }
+    requires client { IsOrderly client.now }
+    requires server { IsOrderly server.now }
+    requires together { vec_len client.now.bytes + vec_len server.now.bytes < 2 ^ 31 }
+    ensures is { IfOk result (IsHttp2Cut client.now server.now) }
+    ensures orderly { IfOk result HasOrderlyFrames }
+{
+    let offset = PREFACE.len() as u64;
+    let arrivals = client.arrivals.as_slice();
+    let (sent, sent_tail) = captured_frames(alloc, Side::Client, rest, offset, arrivals)?;
+    let arrivals = server.arrivals.as_slice();
+    let answers = server.bytes.as_slice();
+    let (answered, answered_tail) = captured_frames(alloc, Side::Server, answers, 0, arrivals)?;
+    let frames = in_capture_order(alloc, sent.as_slice(), answered.as_slice())?;
+    Ok(Cut::Http2 {
+        frames,
+        tails: [sent_tail, answered_tail],
+    })
+}
+
+/// What the flows of a connection's client and server hold. Each flow is to be as `tcp_streams::assemble` gives it, and
+/// the two of them together shorter than 2^31 bytes.
+pub fn cut(alloc: Global, client: &Flow, server: &Flow) -> Result<Cut, AllocError>
+    requires client { IsOrderly client.now }
+    requires server { IsOrderly server.now }
+    requires together { vec_len client.now.bytes + vec_len server.now.bytes < 2 ^ 31 }
+    ensures is { IfOk result (IsCut client.now server.now) }
+    ensures orderly { IfOk result HasOrderlyFrames }
+{
+    if !server.started {
+        return Ok(Cut::NoHandshake);
+    }
+    match opening_of(client.bytes.as_slice()) {
+        Opening::CutShort => Ok(Cut::NoPreface),
+        Opening::Other => Ok(Cut::NotHttp2),
+        Opening::Preface(rest) => http2(alloc, rest, client, server),
+    }
+}

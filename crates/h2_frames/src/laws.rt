@@ -1,0 +1,13 @@
+//! Laws of the definitions that the contracts of this crate cite. They do nothing at run time.
+
+ghost use Rattle.h2_frames.specs.Law.{CutIsUnique, SpellingIsUnique};
+
+/// One list of bytes has one spelling: its frames and its tail are determined (RFC 9113, 4.1).
+pub fn spelling_is_unique()
+    ensures { SpellingIsUnique }
+{}
+
+/// Two flows have one cut: its kind, its frames and its tails are determined by their bytes and arrivals.
+pub fn cut_is_unique()
+    ensures { CutIsUnique }
+{}
