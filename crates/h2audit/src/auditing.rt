@@ -2,6 +2,7 @@ ghost use Rattle.std.specs.Prelude.{◌≡◌, [], IfOk, IfErr, length};
 ghost use Rattle.pcap_records.specs.Place.{AreTimely, AreWithin};
 ghost use Rattle.packet_heads.specs.Decision.{packet_decisions};
 ghost use Rattle.audit_report.specs.CaptureLines.{capture_text};
+ghost use Rattle.h2audit.specs.Choices.{choices};
 ghost use Rattle.h2audit.specs.Report.{IsReport};
 ghost use Rattle.h2audit.specs.Run.{IsNoReport};
 
@@ -26,7 +27,7 @@ pub fn audit(
     _gate: &impl Gate,
 ) -> Result<(Vec<u8>, Verdict), AuditFault>
     ensures report { IfOk result
-        (λ r. IsReport capture.now _options.now.frames_shown r.0.items r.1) }
+        (λ r. IsReport capture.now (choices _options.now).frames_shown r.0.items r.1) }
     ensures refused { IfErr result (λ e. IsNoReport capture.now e) }
 {
     match records(alloc, capture) {
