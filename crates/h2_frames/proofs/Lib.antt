@@ -4,3 +4,4 @@ pub mod Numbering
 pub mod Merging
 pub mod BothSides
 pub mod Uniqueness
+pub mod ArrivalsInOrder

@@ -1,4 +1,7 @@
 -- Bytes have one spelling, flows one cut.
+use Rattle.std.specs.Prelude.{Result, Ok, Err, IfOk, IsTrue}
+use Rattle.std.specs.declared.alloc.AllocError.{AllocError}
+use Rattle.h2_frames.specs.declared.connections.Cut.{Cut}
 use Rattle.std.proofs.Common.{◌≡◌, ℕ, ◌+◌, ◌<◌, List, [], ◌∷◌, ◌++◌, length, take, drop, refl, ap, sym, ◌∙◌, subst, arith, length-append, append_assoc, inl, inr}
 use Rattle.std.proofs.lemmas.Bool.{false≢true}
 use Rattle.std.proofs.lemmas.List.{append_cancel_left, take_at, drop_at}
@@ -15,7 +18,7 @@ use Rattle.h2_frames.specs.Body.{body_of}
 use Rattle.h2_frames.specs.Spelling.{HoldsNoFrame, Makes, Spells}
 use Rattle.h2_frames.specs.CaptureOrder.{captured_from, capture_order}
 use Rattle.h2_frames.specs.Preface.{preface, IsPrefaceCutShort, BeginsWithPreface}
-use Rattle.h2_frames.specs.Cut.{IsHttp2}
+use Rattle.h2_frames.specs.Cut.{IsCut, IsHttp2, IsHttp2Cut, IsSameCut}
 use Rattle.h2_frames.specs.Law.{SpellingIsUnique, IsSameFlow, CutIsUnique}
 
 -- two fronts of one length are one front, and so are the rests
@@ -153,3 +156,20 @@ cut-unique client server other_client other_server (Http2 frames tails) NotHttp2
     absurd (second.2 first.1.after_preface (sym c.bytes ∙ first.1.client_begins))
 cut-unique client server other_client other_server (Http2 frames tails) (Http2 others other_tails) c s first second =
     same_http2 client server other_client other_server frames.items others.items tails other_tails c s first.1 second.1
+
+-- two flows have no other cut
+pub only-cut : (client server : Flow) (cut other : Cut) → IsCut client server cut → IsCut client server other → IsSameCut cut other
+only-cut client server cut other first second =
+    cut-unique client server client server cut other (same client) (same server) first second
+  where
+    same : (flow : Flow) → IsSameFlow flow flow
+    same flow = record { started = refl; bytes = refl; arrivals = refl }
+
+-- the same of a cut into frames, where there is one
+pub only-http2 : (client server : Flow) (result : Result Cut AllocError) → IsTrue server.started → IfOk result (IsHttp2Cut client server) →
+    IfOk result (λ found. (other : Cut) → IsCut client server other → IsSameCut found other)
+only-http2 client server (Ok (Http2 frames tails)) started is = λ other second. only-cut client server (Http2 frames tails) other (started, is) second
+only-http2 client server (Ok NotHttp2) started is = absurd is
+only-http2 client server (Ok NoPreface) started is = absurd is
+only-http2 client server (Ok NoHandshake) started is = absurd is
+only-http2 client server (Err e) started is = tt

@@ -7,6 +7,9 @@ use crate::headers::number_of_31_bits;
 use crate::settings::{SETTING_LENGTH, settings_of};
 use audit_core::{Body, Kind};
 
+#[cfg(test)]
+mod tests;
+
 // The types of frames (RFC 9113, 6.1 to 6.10).
 const DATA: u8 = 0;
 
@@ -28,12 +31,12 @@ const WINDOW_UPDATE: u8 = 8;
 
 const CONTINUATION: u8 = 9;
 
-// The flags that say where things stand in a payload.
-const ACK: u8 = 1;
+// The flags that say what a payload holds.
+const ACK_FLAG: u8 = 1;
 
-const PADDED: u8 = 8;
+const PADDED_FLAG: u8 = 8;
 
-const WITH_PRIORITY: u8 = 32;
+const PRIORITY_FLAG: u8 = 32;
 
 fn has_flag(flags: u8, flag: u8) -> bool
     ensures { result ≡ has_flag flags flag }
@@ -69,7 +72,7 @@ fn data_body(flags: u8, payload: &[u8]) -> Body
     ensures exact { result ≡ data_body flags payload.now }
     ensures promised { promised_in result < 2 ^ 31 }
 {
-    if !has_flag(flags, PADDED) {
+    if !has_flag(flags, PADDED_FLAG) {
         return Body::Content;
     }
     match payload.first() {
@@ -89,7 +92,7 @@ fn field_block_body(flags: u8, payload: &[u8], fields: usize, body: Body) -> Bod
     ensures exact { result ≡ field_block_body flags payload.now fields body }
     ensures promised { promised_in result < 2 ^ 31 }
 {
-    if !has_flag(flags, PADDED) {
+    if !has_flag(flags, PADDED_FLAG) {
         return if payload.len() < fields {
             wrong_size(payload)
         } else {
@@ -111,7 +114,7 @@ fn headers_body(flags: u8, payload: &[u8]) -> Body
     ensures exact { result ≡ headers_body flags payload.now }
     ensures promised { promised_in result < 2 ^ 31 }
 {
-    let fields = if has_flag(flags, WITH_PRIORITY) { 5 } else { 0 };
+    let fields = if has_flag(flags, PRIORITY_FLAG) { 5 } else { 0 };
     field_block_body(flags, payload, fields, Body::Headers)
 }
 
@@ -134,7 +137,7 @@ fn settings_body(flags: u8, payload: &[u8]) -> Body
     ensures exact { result ≡ settings_body flags payload.now }
     ensures promised { promised_in result < 2 ^ 31 }
 {
-    if has_flag(flags, ACK) {
+    if has_flag(flags, ACK_FLAG) {
         of_length(0, payload, Body::SettingsAck)
     } else if payload.len() % SETTING_LENGTH == 0 {
         Body::Settings(settings_of(payload))
@@ -149,7 +152,7 @@ fn push_promise_body(flags: u8, payload: &[u8]) -> Body
     ensures exact { result ≡ push_promise_body flags payload.now }
     ensures promised { promised_in result < 2 ^ 31 }
 {
-    let padding = if has_flag(flags, PADDED) { 1 } else { 0 };
+    let padding = if has_flag(flags, PADDED_FLAG) { 1 } else { 0 };
     if payload.len() < padding + 4 {
         return wrong_size(payload);
     }

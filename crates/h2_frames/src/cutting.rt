@@ -1,6 +1,7 @@
 ghost use Rattle.std.specs.Prelude.{◌≡◌, ◌+◌, ◌<◌, ◌^◌, vec_len, IfOk};
 ghost use Rattle.tcp_streams.specs.Arrivals.{IsOrderly};
-ghost use Rattle.h2_frames.specs.Cut.{HasOrderlyFrames, IsCut, IsHttp2Cut};
+ghost use Rattle.h2_frames.specs.Cut.{HasOrderlyFrames, IsCut, IsHttp2Cut, IsSameCut};
+ghost use Rattle.h2_frames.specs.declared.connections.Cut.{Cut};
 ghost use Rattle.h2_frames.specs.Preface.{BeginsWithPreface};
 
 use crate::connections::Cut;
@@ -33,13 +34,22 @@ fn http2(alloc: Global, rest: &[u8], client: &Flow, server: &Flow) -> Result<Cut
     })
 }
 
-/// What the flows of a connection's client and server hold. Each flow is to be as `tcp_streams::assemble` gives it, and
-/// the two of them together shorter than 2^31 bytes.
+/// What the flows of a connection's client and server hold.
+///
+/// Each flow is to be as `tcp_streams::assemble` gives it, and the two together shorter than 2^31 bytes. Where the server's
+/// flow is not started the answer is [`Cut::NoHandshake`]; else the client's bytes decide, by the connection preface (RFC
+/// 9113, 3.4): [`Cut::NoPreface`] where they end within it, [`Cut::NotHttp2`] where they do not begin with it. The frames of
+/// [`Cut::Http2`] are numbered from 1 in capture order. One pass over each flow, its payloads not copied.
 pub fn cut(alloc: Global, client: &Flow, server: &Flow) -> Result<Cut, AllocError>
     requires client { IsOrderly client.now }
     requires server { IsOrderly server.now }
     requires together { vec_len client.now.bytes + vec_len server.now.bytes < 2 ^ 31 }
+
+    // It is the cut of the two flows, and there is no other.
     ensures is { IfOk result (IsCut client.now server.now) }
+    ensures only { IfOk result (λ found. (other : Cut) → IsCut client.now server.now other → IsSameCut found other) }
+
+    // Its frames are in range, their numbers rising.
     ensures orderly { IfOk result HasOrderlyFrames }
 {
     if !server.started {

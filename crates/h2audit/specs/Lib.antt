@@ -1,5 +1,4 @@
 pub mod Options
-pub mod Choices
 pub mod Ending
 pub mod Seen
 pub mod Report

@@ -23,6 +23,3 @@ mod rows;
 pub use capture::{Record, Records};
 pub use faults::PcapFault;
 pub use reading::records;
-
-#[cfg(test)]
-mod tests;

@@ -1,4 +1,22 @@
+use Rattle.h2_frames.specs.declared.connections.Cut.TheVariants.{NoPreface, NotHttp2}
+use Rattle.h2_frames.proofs.Uniqueness.{only-cut, only-http2}
 use Rattle.h2_frames.proofs.cutting.cut.Goals as goal
 
+pub returns-in-CutShort-clause-only : goal.returns-in-CutShort-clause-only
+returns-in-CutShort-clause-only c =
+    let short = rw c.as_slice.ensures.value at c.in-CutShort.ensures in
+    λ other second. only-cut c.args.client.now c.args.server.now NoPreface other (c.if-not-server.false, short) second
+
 pub returns-in-Other-clause-is : goal.returns-in-Other-clause-is
-returns-in-Other-clause-is c = let other = rw c.as_slice.ensures.value at c.in-Other.ensures in (c.if-not-server.false, other.0, other.1)
+returns-in-Other-clause-is c =
+    let other = rw c.as_slice.ensures.value at c.in-Other.ensures in
+    (c.if-not-server.false, other.0, other.1)
+
+pub returns-in-Other-clause-only : goal.returns-in-Other-clause-only
+returns-in-Other-clause-only c =
+    let first = rw c.as_slice.ensures.value at c.in-Other.ensures in
+    λ other second. only-cut c.args.client.now c.args.server.now NotHttp2 other (c.if-not-server.false, first.0, first.1) second
+
+pub returns-in-Preface-clause-only : goal.returns-in-Preface-clause-only
+returns-in-Preface-clause-only c =
+    only-http2 c.args.client.now c.args.server.now c.http2.result c.if-not-server.false c.http2.ensures.is

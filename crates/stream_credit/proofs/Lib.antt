@@ -1,3 +1,0 @@
-pub mod MergedLemmas
-pub mod AccountLemmas
-pub mod RunLemmas

@@ -1,4 +1,0 @@
-pub mod Merged
-pub mod Account
-pub mod Outcome
-pub mod Part
