@@ -3,3 +3,8 @@ pub mod FindingOrder
 pub mod UptoStop
 pub mod PlaceOrder
 pub mod PassOrder
+pub mod Rows
+pub mod Kept
+pub mod PassRows
+pub mod OrderlyRest
+pub mod Bounds

@@ -144,11 +144,11 @@ module _ (frame : Frame) (h : frame.stream < 2 ^ 31) where
   pub at-connection_windows : (credit : Sides ℤ) → AreAt frame.number (connection_windows_said credit frame)
   at-connection_windows credit = at-append frame.number _ _ (at-connection_window Client credit.client) (at-connection_window Server credit.server)
 
-  at-length : (limit : ℕ) → AreAt frame.number (length_said limit frame)
-  at-length limit = search (at-say, h)
+
+
 
 pub at-connection : (now : ConnectionState) (item : Item) → item.frame.stream < 2 ^ 31 → AreAt item.frame.number (connection_said now item)
-at-connection now item h = search (at-append, at-say, at-length, at-connection_windows, h) depth 12
+at-connection now item h = search (at-append, at-say, at-connection_windows, h) depth 12
 
 -- what is said of a stream
 module _ (stream : ℕ) (initial : Sides ℕ) (entry : Stream) (step : Step) (h : stream < 2 ^ 31) where

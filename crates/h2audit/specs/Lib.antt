@@ -1,4 +1,5 @@
 pub mod Options
+pub mod Choices
 pub mod Ending
 pub mod Seen
 pub mod Report

@@ -1,11 +1,4 @@
-use Rattle.std.specs.Prelude.{ℕ, Bool, ◌≤◌}
-
--- what a run is asked for
-pub record Choices : Type 0 where
-  pub workers : ℕ
-  pub groups : ℕ
-  pub block : ℕ
-  pub frames_shown : Bool
+use Rattle.std.specs.Prelude.{ℕ, ◌≤◌}
 
 -- numbers of workers, of groups and of frames in a block that a run takes
 abbrev pub AreInRange : ℕ → ℕ → ℕ → Type 0

@@ -1,8 +1,10 @@
-ghost use Rattle.std.specs.Prelude.{◌≡◌, [], IfOk, IfErr, length};
+ghost use Rattle.std.specs.Prelude.{◌≡◌, IfOk, IfErr, length};
 ghost use Rattle.pcap_records.specs.Place.{AreTimely, AreWithin};
-ghost use Rattle.packet_heads.specs.Decision.{packet_decisions};
+ghost use Rattle.tcp_streams.specs.Membership.{strays_of};
+ghost use Rattle.tcp_streams.specs.Packets.{past_of};
 ghost use Rattle.audit_report.specs.CaptureLines.{capture_text};
-ghost use Rattle.h2audit.specs.Report.{IsReport};
+ghost use Rattle.h2audit.specs.Choices.{choices};
+ghost use Rattle.h2audit.specs.Report.{IsReport, packets_of};
 ghost use Rattle.h2audit.specs.Run.{IsNoReport};
 
 use crate::fault::AuditFault;
@@ -14,6 +16,7 @@ use packet_heads::decode_all;
 use pcap_records::{PcapFault, Records, records};
 use std::alloc::{AllocError, Global};
 use std::thread::Threads;
+use tcp_streams::connections;
 
 /// The report of a capture, and its verdict.
 ///
@@ -26,7 +29,7 @@ pub fn audit(
     _gate: &impl Gate,
 ) -> Result<(Vec<u8>, Verdict), AuditFault>
     ensures report { IfOk result
-        (λ r. IsReport capture.now _options.now.frames_shown r.0.items r.1) }
+        (λ r. IsReport capture.now (choices _options.now).frames_shown r.0.items r.1) }
     ensures refused { IfErr result (λ e. IsNoReport capture.now e) }
 {
     match records(alloc, capture) {
@@ -49,8 +52,15 @@ fn report_of(
     requires ethernet { found.now.link ≡ 1 }
     requires within { AreWithin (length capture.now) found.now.rows.items }
     requires timely { AreTimely found.now.rows.items }
-    ensures { IfOk result (λ text. text.items ≡ capture_text found.now (packet_decisions found.now.rows.items capture.now) []) }
+    ensures { IfOk result (λ text. text.items ≡ capture_text found.now (packets_of capture.now found.now)
+        (strays_of (past_of (packets_of capture.now found.now)))) }
 {
     let packets = decode_all(rt, alloc, found, capture)?;
-    capture_lines(alloc, found, packets.as_slice(), &[])
+    let connections = connections(alloc, packets.as_slice())?;
+    capture_lines(
+        alloc,
+        found,
+        packets.as_slice(),
+        connections.strays.as_slice(),
+    )
 }

@@ -1,7 +1,5 @@
-ghost use Rattle.std.specs.Prelude.{◌≡◌, SomeIff};
-ghost use Rattle.h2audit.specs.Options.{Choices, AreInRange};
-
-use std::marker::Model;
+ghost use Rattle.std.specs.Prelude.{◌≡◌, SomeIff, option_map};
+ghost use Rattle.h2audit.specs.Options.{AreInRange};
 
 /// How a capture is audited and what its report shows.
 ///
@@ -12,19 +10,12 @@ pub struct Options {
     groups: u32,
     block: u32,
     frames_shown: bool,
-}
-
-impl Model for Options {
-    ghost Value = { Choices };
-
-    ghost view = { λ o. record { workers = o.workers; groups = o.groups; block = o.block; frames_shown = o.frames_shown } };
-
-    ghost invariant = { λ o. AreInRange o.workers o.groups o.block };
-
-    ghost inverse = { λ c. record { workers = c.workers; groups = c.groups; block = c.block; frames_shown = c.frames_shown } };
+    pub ghost in_range: { AreInRange workers groups block },
 }
 
 impl Options {
+    ghost use Rattle.h2audit.specs.Choices.{choices};
+
     /// The greatest number of worker threads.
     pub const MOST_WORKERS: u32 = 64;
 
@@ -38,7 +29,7 @@ impl Options {
     ///
     /// `frames_shown` asks for the credit lines, one for each change of a window's credit.
     pub fn of(workers: u32, groups: u32, block: u32, frames_shown: bool) -> Option<Options>
-        ensures { SomeIff result (AreInRange workers groups block)
+        ensures { SomeIff (option_map choices result) (AreInRange workers groups block)
             (record { workers = workers; groups = groups; block = block; frames_shown = frames_shown }) }
     {
         let are_in_range = (1..=Self::MOST_WORKERS).contains(&workers)
@@ -58,28 +49,28 @@ impl Options {
 
     /// The number of worker threads, from 1 to 64.
     pub fn workers(&self) -> u32
-        ensures { result ≡ self.now.workers }
+        ensures { result ≡ (choices self.now).workers }
     {
         self.workers
     }
 
     /// The number of groups for each connection's streams, from 1 to 1024.
     pub fn groups(&self) -> u32
-        ensures { result ≡ self.now.groups }
+        ensures { result ≡ (choices self.now).groups }
     {
         self.groups
     }
 
     /// The number of frames in a block, from 1 to 1,048,576.
     pub fn block(&self) -> u32
-        ensures { result ≡ self.now.block }
+        ensures { result ≡ (choices self.now).block }
     {
         self.block
     }
 
     /// Whether the report has the credit lines.
     pub fn frames_shown(&self) -> bool
-        ensures { result ≡ self.now.frames_shown }
+        ensures { result ≡ (choices self.now).frames_shown }
     {
         self.frames_shown
     }

@@ -1,5 +1,6 @@
 ghost use Rattle.std.specs.Prelude.{◌≡◌, ◌≢◌, ◌<◌, ◌^◌, IfErr, IfSome, length};
 ghost use Rattle.std.specs.Io.KnownBytes.{Keeps};
+ghost use Rattle.h2audit.specs.Choices.{choices};
 ghost use Rattle.h2audit.specs.Run.{Leaves};
 ghost use Rattle.h2audit.specs.Seen.{Tells};
 
@@ -30,7 +31,7 @@ pub fn run<R: Read, W: Write>(
     gate: &impl Gate,
 ) -> Result<Verdict, AuditFault>
     ensures leaves { IfSome (R.remaining reader.old)
-        (λ bytes. Leaves bytes options.now.frames_shown (W.contents writer.old) (W.contents writer.new) result) }
+        (λ bytes. Leaves bytes (choices options.now).frames_shown (W.contents writer.old) (W.contents writer.new) result) }
     ensures silent { IfErr result (λ e. e ≢ AuditFault.Write → Keeps (W.contents writer.old) (W.contents writer.new)) }
 {
     let mut seen = Seen::NOTHING;
@@ -49,7 +50,7 @@ pub fn run_seen<R: Read, W: Write>(
 ) -> Result<Verdict, AuditFault>
     requires { seen.old ≡ Seen.NOTHING }
     ensures leaves { IfSome (R.remaining reader.old)
-        (λ bytes. Leaves bytes options.now.frames_shown (W.contents writer.old) (W.contents writer.new) result) }
+        (λ bytes. Leaves bytes (choices options.now).frames_shown (W.contents writer.old) (W.contents writer.new) result) }
     ensures silent { IfErr result (λ e. e ≢ AuditFault.Write → Keeps (W.contents writer.old) (W.contents writer.new)) }
     ensures tells { Tells seen.new result }
 {
@@ -69,7 +70,7 @@ fn report_on<W: Write>(
     gate: &impl Gate,
     seen: &mut Seen,
 ) -> Result<Verdict, AuditFault>
-    ensures leaves { Leaves capture.now options.now.frames_shown (W.contents writer.old) (W.contents writer.new) result }
+    ensures leaves { Leaves capture.now (choices options.now).frames_shown (W.contents writer.old) (W.contents writer.new) result }
     ensures silent { IfErr result (λ e. e ≢ AuditFault.Write → Keeps (W.contents writer.old) (W.contents writer.new)) }
     ensures not_read { result ≢ Err AuditFault.Read }
     ensures tells { Tells seen.new result }

@@ -18,6 +18,8 @@ mod ethernet;
 mod ipv4;
 pub mod packets;
 mod tcp;
+#[cfg(test)]
+mod tests;
 
 pub use decoding::{decode, decode_all};
 pub use packets::{Endpoint, Packet, Refusal, Segment, Skip};

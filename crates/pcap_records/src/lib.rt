@@ -23,3 +23,6 @@ mod rows;
 pub use capture::{Record, Records};
 pub use faults::PcapFault;
 pub use reading::records;
+
+#[cfg(test)]
+mod tests;

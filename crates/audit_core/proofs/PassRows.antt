@@ -1,0 +1,176 @@
+-- What `one_pass` shows, frame by frame, before it is put in order.
+use Rattle.std.proofs.Common.{ap, ◌∙◌, nat_lt, append_assoc, append-nil, drop, get_or, length, suc, ◌≡◌, ℕ, ℤ, pos, ◌+◌, ◌*◌, ◌^◌, ◌<◌, ◌≤◌, Bool, true, false, ◌==◌, List, [], ◌∷◌, ◌++◌, refl, sym, arith, Option, Some, None, lit≤, if◌then◌else◌, filter}
+use Rattle.std.specs.declared.cmp.Ordering.TheVariants.{Less}
+use Rattle.std.specs.Cmp.{nat_cmp_is}
+use Rattle.audit_core.specs.declared.sides.Side.{Side}
+use Rattle.audit_core.specs.declared.sides.Side.TheVariants.{Client, Server}
+use Rattle.audit_core.specs.declared.sides.Sides.{Sides}
+use Rattle.audit_core.specs.declared.kinds.Kind.{Kind}
+use Rattle.audit_core.specs.declared.kinds.Kind.TheVariants.{BadPreface, BrokenBlock, TooLong, WrongStream, WrongSize, BadPadding, BadSetting, Push, PushNotAudited, NotOpened, IdNotGreater, ZeroConnectionGrant, ConnectionOverflow, SettingOverflow, LongFrame, AfterEnd, ConnectionOverrun, StreamOverrun, ZeroStreamGrant, StreamOverflow, UnmatchedAck, BadPriority, ConnectionStallEnd, ConnectionStallBegin, StreamStallEnd, StreamStallBegin, ConnectionCredit, StreamCredit}
+use Rattle.audit_core.specs.declared.frames.Body.{Body}
+use Rattle.audit_core.specs.declared.frames.Body.TheVariants.{Settings as SettingsBody, Unreadable}
+use Rattle.audit_core.specs.declared.frames.Frame.{Frame}
+use Rattle.audit_core.specs.declared.items.Item.{Item}
+use Rattle.audit_core.specs.declared.items.Step.{Step}
+use Rattle.audit_core.specs.declared.connections.ConnectionState.{ConnectionState}
+use Rattle.audit_core.specs.declared.streams.Stream.{Stream}
+use Rattle.audit_core.specs.declared.findings.Finding.{Finding}
+use Rattle.audit_core.specs.Sides.{side_of}
+use Rattle.audit_core.specs.Kind.{rank_of}
+use Rattle.audit_core.specs.Order.{put_by}
+use Rattle.audit_core.specs.Finding.{finding_at, say, say_of, comes_after, in_order}
+use Rattle.audit_core.specs.Frame.{IsOrderlyFrom, IsOrderly}
+use Rattle.audit_core.specs.LocalFault.{push_kind, local_said, fault, body_said, reading_fault}
+use Rattle.audit_core.specs.InForce.{InForce, settings_said}
+use Rattle.audit_core.specs.Connection.{opening_order_said, connection_said, length_said, connection_windows_said, connection_window_said}
+use Rattle.audit_core.specs.Stream.{stream_said, frame_said, stream_window_said, live_window_said, opened_window_said}
+use Rattle.audit_core.specs.Pass.{PassState, pass_start, said, full_from, full, next, streams_of, streams_said, step_of, item_of}
+use Rattle.audit_core.specs.Change.{new_limit}
+use Rattle.audit_core.specs.Shown.{is_shown_so_far}
+use Rattle.audit_core.proofs.FindingOrder.{in_order-alike, in_order-in_order, filter-in_order}
+use Rattle.audit_core.proofs.PassOrder.{rows_of, full-in_order}
+use Rattle.audit_core.proofs.Kept.{Keeps, Drops, filter-append, keeps-append, keeps-nil, keeps-cons, keeps-say, keeps-say_of, keeps-choice, keeps-flat_map, drops-append, drops-nil, drops-cons, drops-say, drops-say_of, drops-choice, drops-flat_map}
+
+-- what is shown of a frame, before it is put in order
+abbrev pub shown_at : List ℕ → PassState → Frame → List Finding
+shown_at streams state frame = filter is_shown_so_far (rows_of streams state frame)
+
+-- what is shown of some frames
+abbrev pub shown_rows : List ℕ → PassState → List Frame → List Finding
+shown_rows streams state [] = []
+shown_rows streams state (frame ∷ frames) = shown_at streams state frame ++ shown_rows streams (next state frame) frames
+
+in_order-shown : (streams : List ℕ) (state : PassState) (frames : List Frame) →
+    in_order (filter is_shown_so_far (full_from streams state frames)) ≡ in_order (shown_rows streams state frames)
+in_order-shown streams state [] = refl
+in_order-shown streams state (frame ∷ frames) =
+    ap in_order (filter-append is_shown_so_far (said streams state frame) (full_from streams (next state frame) frames))
+    ∙ in_order-alike (filter is_shown_so_far (said streams state frame)) (shown_at streams state frame)
+        (filter is_shown_so_far (full_from streams (next state frame) frames)) (shown_rows streams (next state frame) frames)
+        (ap in_order (filter-in_order is_shown_so_far (rows_of streams state frame)) ∙ in_order-in_order (shown_at streams state frame))
+        (in_order-shown streams (next state frame) frames)
+
+-- all that is shown, in order
+pub shown-full : (frames : List Frame) → IsOrderly frames →
+    filter is_shown_so_far (full frames) ≡ in_order (shown_rows (streams_of frames) pass_start frames)
+shown-full frames h =
+    sym (ap (filter is_shown_so_far) (full-in_order frames h))
+    ∙ filter-in_order is_shown_so_far (full frames)
+    ∙ in_order-shown (streams_of frames) pass_start frames
+
+drops-reading_fault : (frame : Frame) (kind : Kind) (value : ℕ) → Drops is_shown_so_far (reading_fault kind frame value)
+drops-reading_fault frame WrongSize value = drops-cons _ _ [] refl (drops-nil _)
+drops-reading_fault frame BadPadding value = drops-cons _ _ [] refl (drops-nil _)
+drops-reading_fault frame BadPriority value = drops-cons _ _ [] refl (drops-nil _)
+drops-reading_fault frame _ value = drops-nil _
+
+drops-body : (frame : Frame) (body : Body) → Drops is_shown_so_far (body_said frame body)
+drops-body frame (Unreadable kind value) = drops-reading_fault frame kind value
+drops-body frame (SettingsBody settings) =
+    drops-say_of is_shown_so_far (λ identifier. fault BadSetting frame identifier ∷ []) settings.bad
+        (λ identifier. drops-cons is_shown_so_far _ [] refl (drops-nil _))
+drops-body frame _ = drops-nil _
+
+drops-push : (holds : Bool) (side : Side) (frame : Frame) → Drops is_shown_so_far (say holds (fault (push_kind side) frame 0))
+drops-push holds Client frame = drops-say _ _ _ refl
+drops-push holds Server frame = drops-say _ _ _ refl
+
+drops-local : (previous : Option Frame) (frame : Frame) → Drops is_shown_so_far (local_said previous frame)
+drops-local previous frame = search (drops-append, drops-say, drops-body, drops-push) depth 12
+
+drops-settings : (now : InForce) (frame : Frame) → Drops is_shown_so_far (settings_said now frame)
+drops-settings now frame = drops-say _ _ _ refl
+
+drops-length : (limit : ℕ) (frame : Frame) → Drops is_shown_so_far (length_said limit frame)
+drops-length limit frame = step _ where
+  step : (b : Bool) → Drops is_shown_so_far (say (nat_lt limit frame.length)
+      (finding_at (if b then TooLong else LongFrame) frame.number frame.stream frame.side (pos frame.length)))
+  step true = drops-say _ _ _ refl
+  step false = drops-say _ _ _ refl
+
+drops-opening_order : (greatest : ℕ) (item : Item) → Drops is_shown_so_far (opening_order_said greatest item)
+drops-opening_order greatest item = drops-say _ _ _ refl
+
+keeps-connection_window : (d : Side) (before : ℤ) (frame : Frame) → Keeps is_shown_so_far (connection_window_said d before frame)
+keeps-connection_window d before frame = search (keeps-append, keeps-say) depth 12
+
+keeps-connection_windows : (credit : Sides ℤ) (frame : Frame) → Keeps is_shown_so_far (connection_windows_said credit frame)
+keeps-connection_windows credit frame =
+    keeps-append is_shown_so_far _ _ (keeps-connection_window Client credit.client frame) (keeps-connection_window Server credit.server frame)
+
+drops-frame : (stream : ℕ) (entry : Stream) (step : Step) (frame : Frame) → Drops is_shown_so_far (frame_said stream entry step frame)
+drops-frame stream entry step frame = search (drops-append, drops-say) depth 12
+
+drops-live_window : (d : Side) (stream : ℕ) (initial : Sides ℕ) (step : Step) (before : ℤ) → Drops is_shown_so_far (live_window_said d stream initial step before)
+drops-live_window d stream initial step before = search (drops-append, drops-say) depth 12
+
+drops-opened_window : (d : Side) (stream : ℕ) (step : Step) (credit : ℤ) → Drops is_shown_so_far (opened_window_said d stream step credit)
+drops-opened_window d stream step credit = search (drops-append, drops-say, drops-cons, drops-nil) depth 12
+
+drops-stream_window : (d : Side) (stream : ℕ) (initial : Sides ℕ) (entry : Stream) (step : Step) → Drops is_shown_so_far (stream_window_said d stream initial entry step)
+drops-stream_window d stream initial entry step = search (drops-choice, drops-say_of, drops-opened_window, drops-live_window) depth 12
+
+drops-stream : (stream : ℕ) (initial : Sides ℕ) (entry : Stream) (step : Step) → Drops is_shown_so_far (stream_said stream initial entry step)
+drops-stream stream initial entry step = search (drops-append, drops-say_of, drops-frame, drops-stream_window) depth 12
+
+drops-streams : (streams : List ℕ) (state : PassState) (frame : Frame) → Drops is_shown_so_far (streams_said streams state frame)
+drops-streams streams state frame =
+    drops-flat_map is_shown_so_far _ streams
+        (λ stream. drops-stream stream state.in_force.initial (state.streams stream) (step_of state.in_force frame stream))
+
+-- of the connection, its windows are shown
+shown-connection : (state : ConnectionState) (item : Item) →
+    filter is_shown_so_far (connection_said state item) ≡ connection_windows_said state.credit item.frame
+shown-connection state item =
+    filter-append is_shown_so_far (length ++ opening) windows
+    ∙ ap (λ l. l ++ filter is_shown_so_far windows)
+        (drops-append is_shown_so_far length opening (drops-length _ item.frame) (drops-opening_order state.greatest item)).dropped
+    ∙ (keeps-connection_windows state.credit item.frame).kept where
+  length : List Finding
+  length = length_said (new_limit item.change item.frame.side (side_of item.frame.side state.limit)) item.frame
+  opening : List Finding
+  opening = opening_order_said state.greatest item
+  windows : List Finding
+  windows = connection_windows_said state.credit item.frame
+
+-- of a frame, what the connection windows show
+pub shown-rows : (streams : List ℕ) (state : PassState) (frame : Frame) →
+    shown_at streams state frame ≡ connection_windows_said state.connection.credit frame
+shown-rows streams state frame =
+    filter-append is_shown_so_far (local ++ settings ++ connection) on_streams
+    ∙ ap (λ l. l ++ filter is_shown_so_far on_streams)
+        (filter-append is_shown_so_far (local ++ settings) connection
+        ∙ ap (λ l. l ++ filter is_shown_so_far connection)
+            (drops-append is_shown_so_far local settings
+                (drops-local (side_of frame.side state.previous) frame) (drops-settings state.in_force frame)).dropped
+        ∙ shown-connection state.connection (item_of state frame))
+    ∙ ap (λ l. connection_windows_said state.connection.credit frame ++ l) (drops-streams streams state frame).dropped
+    ∙ append-nil _ where
+  local : List Finding
+  local = local_said (side_of frame.side state.previous) frame
+  settings : List Finding
+  settings = settings_said state.in_force frame
+  connection : List Finding
+  connection = connection_said state.connection (item_of state frame)
+  on_streams : List Finding
+  on_streams = streams_said streams state frame
+
+-- one more frame
+pub rows-more : (all old new : List Finding) (streams : List ℕ) (state : PassState) (credit : Sides ℤ) (frame : Frame) (left rest : List Frame) →
+    credit ≡ state.connection.credit → left ≡ frame ∷ rest →
+    new ≡ old ++ connection_windows_said credit frame →
+    old ++ shown_rows streams state left ≡ all → new ++ shown_rows streams (next state frame) rest ≡ all
+rows-more all old new streams state credit frame left rest c l n h =
+    ap (λ k. k ++ after) n
+    ∙ append_assoc old (connection_windows_said credit frame) after
+    ∙ ap (λ k. old ++ k) (ap (λ k. connection_windows_said k frame ++ after) c
+        ∙ ap (λ k. k ++ after) (sym (shown-rows streams state frame)) ∙ ap (shown_rows streams state) (sym l))
+    ∙ h where
+  after : List Finding
+  after = shown_rows streams (next state frame) rest
+
+-- no further frame
+pub rows-done : (all found : List Finding) (streams : List ℕ) (state : PassState) (left : List Frame) →
+    left ≡ [] → found ++ shown_rows streams state left ≡ all → found ≡ all
+rows-done all found streams state left l h =
+    sym (append-nil found) ∙ ap (λ k. found ++ shown_rows streams state k) (sym l) ∙ h

@@ -1,0 +1,3 @@
+pub mod MergedLemmas
+pub mod AccountLemmas
+pub mod RunLemmas

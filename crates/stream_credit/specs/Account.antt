@@ -1,0 +1,28 @@
+-- A stream between two of its steps, as the run keeps it, beside the entry of the definition.
+use Rattle.std.specs.Prelude.{◌≡◌, ℕ, ◌*◌, ◌^◌, ◌<◌}
+use Rattle.audit_core.specs.declared.sides.Side.{Side}
+use Rattle.audit_core.specs.declared.items.Step.{Step}
+use Rattle.audit_core.specs.declared.streams.Stream.{Stream}
+use Rattle.audit_core.specs.Sides.{side_of}
+use Rattle.audit_core.specs.Stream.{stream_after}
+use Rattle.audit_core.specs.Room.{WindowHasRoom}
+use Rattle.stream_credit.specs.declared.accounts.Account.{Account}
+
+-- the opening and the ends by the stream's life, and the windows
+abbrev pub entry_of : Account → Stream
+entry_of account = record { opened = account.life.opened; ended = account.life.ended; window = account.window }
+
+-- what holds before each step numbered `number` or above: each step moves a credit by less than 2^34
+pub record IsSound (number : ℕ) (account : Account) : Type 0 where
+  pub stream : account.life.stream ≡ account.stream
+  pub in_range : account.stream < 2 ^ 31
+  pub room : (d : Side) → WindowHasRoom (number * 2 ^ 34) (side_of d account.window)
+
+-- the opening and the ends are those after the step, and nothing else has changed
+pub record KeepsLife (step : Step) (old new : Account) : Type 0 where
+  pub opened : new.life.opened ≡ (stream_after old.stream old.initial (entry_of old) step).opened
+  pub ended : new.life.ended ≡ (stream_after old.stream old.initial (entry_of old) step).ended
+  pub life_stream : new.life.stream ≡ old.life.stream
+  pub stream : new.stream ≡ old.stream
+  pub initial : new.initial ≡ old.initial
+  pub window : new.window ≡ old.window

@@ -1,0 +1,4 @@
+pub mod Merged
+pub mod Account
+pub mod Outcome
+pub mod Part
