@@ -1,6 +1,11 @@
+pub mod FlowLemmas
+pub mod IntervalLemmas
 pub mod Lists
 pub mod Numbered
 pub mod Pairs
+pub mod PieceLemmas
+pub mod Places
+pub mod RunLemmas
 pub mod Past
 pub mod Steps
 pub mod Turns

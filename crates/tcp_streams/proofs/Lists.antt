@@ -1,7 +1,7 @@
 -- On lists by place.
 use Rattle.std.proofs.Common.{◌≡◌, ◌≢◌, ℕ, zero, suc, Bool, true, false, ◌||◌, List, [], ◌∷◌, ◌++◌, length, map, set, None, Some, slice_get, ◌⊎◌, inl, inr, refl, sym, ap, ◌∙◌, arith}
 use Rattle.std.specs.List.{list_any}
-use Rattle.std.specs.Prelude.{Result, Ok, Err, OnOk}
+use Rattle.std.specs.Prelude.{Result, Ok, Err, OnOk, IfOk}
 use Rattle.tcp_streams.specs.Membership.{with_if}
 use Rattle.packet_heads.specs.declared.packets.Segment.{Segment}
 
@@ -62,3 +62,12 @@ on_ok (Err e) f h = tt
 pub on_ok_3 : {A E P Q R W : Type 0} (r : Result A E) → (P → Q → R → W) → OnOk r P → OnOk r Q → OnOk r R → OnOk r W
 on_ok_3 (Ok x) f p q h = f p q h
 on_ok_3 (Err e) f p q h = tt
+
+-- what a call gave, seen otherwise
+pub if_ok : {A E : Type 0} (r : Result A E) (P Q : A → Type 0) → ((x : A) → P x → Q x) → IfOk r P → IfOk r Q
+if_ok (Ok x) P Q f h = f x h
+if_ok (Err e) P Q f h = tt
+
+pub if_ok_3 : {A E : Type 0} (r : Result A E) (P Q R W : A → Type 0) → ((x : A) → P x → Q x → R x → W x) → IfOk r P → IfOk r Q → IfOk r R → IfOk r W
+if_ok_3 (Ok x) P Q R W f p q h = f x p q h
+if_ok_3 (Err e) P Q R W f p q h = tt

@@ -1,5 +1,6 @@
 pub mod Arrivals
 pub mod Flow
+pub mod Interval
 pub mod Members
 pub mod Membership
 pub mod Packets

@@ -1,5 +1,6 @@
 ghost use Rattle.std.specs.Prelude.{◌≡◌, ◌+◌, ◌<◌, ◌^◌, IsTrue, ◌↔◌, IfOk, OnOk};
 
+use audit_core::Side;
 use packet_heads::{Endpoint, Segment};
 use std::alloc::{AllocError, Global};
 
@@ -20,6 +21,7 @@ pub struct Connection {
 }
 
 impl Connection {
+    ghost use Rattle.tcp_streams.specs.Members.{initial_of};
     ghost use Rattle.tcp_streams.specs.Membership.{membership, is_again};
     ghost use Rattle.tcp_streams.specs.Table.{begun, joined};
 
@@ -44,6 +46,16 @@ impl Connection {
         ensures { result ≡ is_again segment.now self.now.client self.now.client_isn }
     {
         segment.from == self.client && segment.seq == self.client_isn
+    }
+
+    /// A side's initial sequence number, where the capture shows it.
+    pub fn initial_of(&self, side: Side) -> Option<u32>
+        ensures { result ≡ initial_of self.now side }
+    {
+        match side {
+            Side::Client => Some(self.client_isn),
+            Side::Server => self.server_isn,
+        }
     }
 
     /// Takes in one more segment of either side.

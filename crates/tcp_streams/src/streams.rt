@@ -1,3 +1,5 @@
+use std::alloc::Global;
+
 /// When the bytes of a flow were there: each byte arrives at the first entry whose `upto` is above its offset.
 #[derive(Clone, Copy, Debug, PartialEq, Eq)]
 pub struct Arrival {
@@ -18,4 +20,23 @@ pub struct Flow {
     pub arrivals: Vec<Arrival>,
     /// The offset at which bytes are missing, where later ones were captured.
     pub gap: Option<u64>,
+}
+
+impl Flow {
+    ghost use Rattle.std.specs.Prelude.{◌≡◌, [], None, false};
+
+    /// The flow of a side whose initial sequence number is not known.
+    pub(crate) fn unknown(alloc: Global) -> Flow
+        ensures started { result.started ≡ false }
+        ensures bytes { result.bytes.items ≡ [] }
+        ensures arrivals { result.arrivals.items ≡ [] }
+        ensures gap { result.gap ≡ None }
+    {
+        Flow {
+            started: false,
+            bytes: Vec::new(alloc),
+            arrivals: Vec::new(alloc),
+            gap: None,
+        }
+    }
 }

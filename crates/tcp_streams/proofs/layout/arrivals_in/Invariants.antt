@@ -1,0 +1,6 @@
+use Rattle.std.proofs.Common.{◌≡◌, ◌++◌, drop}
+use Rattle.tcp_streams.specs.Interval.{arrivals_after, arrivals_in}
+use Rattle.tcp_streams.proofs.layout.arrivals_in.Given as goal
+
+abbrev pub invariant-loop-x : goal.invariant-loop-x
+invariant-loop-x l = l.arrivals.items ++ arrivals_after l.last (drop l.x-index (drop 1 l.run)) ≡ arrivals_in l.run

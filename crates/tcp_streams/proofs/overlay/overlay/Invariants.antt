@@ -1,0 +1,12 @@
+use Rattle.std.proofs.Common.{◌≡◌, ◌≤◌, ◌++◌, ◌^◌, drop, length}
+use Rattle.tcp_streams.specs.Interval.{HasPassed, Spans, overlay}
+use Rattle.tcp_streams.proofs.overlay.overlay.Given as goal
+
+-- what is written and what is left make the whole
+abbrev pub invariant-loop-x : goal.invariant-loop-x
+invariant-loop-x l = record {
+  makes : l.out.items ++ overlay (drop l.x-index l.kept) l.later l.done ≡ overlay l.kept l.later 0;
+  spans : Spans l.done (drop l.x-index l.kept) (2 ^ 31);
+  passed : HasPassed l.done l.later (drop l.next l.later);
+  within : l.next ≤ length l.later;
+}

@@ -1,0 +1,56 @@
+ghost use Rattle.std.specs.Prelude.{◌≡◌, ◌<◌, ◌≤◌, ◌^◌, None, [], false, length, vec_len, IsTrue, IfOk, IfSome};
+ghost use Rattle.packet_heads.specs.Order.{AreNumberedFrom, PayloadsRise, TimesFit};
+ghost use Rattle.tcp_streams.specs.Arrivals.{IsOrderly};
+ghost use Rattle.tcp_streams.specs.Flow.{IsFlow};
+ghost use Rattle.tcp_streams.specs.Members.{AreMembers, initial_of, payload_sum, side_segments};
+ghost use Rattle.tcp_streams.specs.Sequence.{source};
+
+use crate::layout::lay_out;
+use crate::members::Connection;
+use crate::overlay::settle;
+use crate::pieces::pieces_of;
+use crate::streams::Flow;
+use audit_core::Side;
+use packet_heads::Packet;
+use std::alloc::{AllocError, Global};
+
+/// The bytes that one side of a connection sent, as far as the capture shows them from the first one on
+/// with no hole (RFC 9293, 3.4).
+///
+/// Payload bytes count from the side's initial sequence number, modulo 2^32, and only the first 2^31 of
+/// them. Where segments overlap, the first record that brings a byte wins. A side whose initial number is
+/// not known has an empty flow that is not started.
+pub fn assemble(
+    alloc: Global,
+    capture: &[u8],
+    packets: &[Packet],
+    connection: &Connection,
+    side: Side,
+) -> Result<Flow, AllocError>
+    requires size { length capture.now < 2 ^ 31 }
+    requires numbered { AreNumberedFrom 1 packets.now }
+    requires payloads { PayloadsRise 0 (length capture.now) packets.now }
+    requires times { TimesFit packets.now }
+    requires members { AreMembers 0 packets.now connection.now.members.items }
+
+    // A side whose initial number is known.
+    ensures started { IfSome (initial_of connection.now side) (λ isn. IfOk result (λ f. IsTrue f.started)) }
+    ensures flow { IfSome (initial_of connection.now side) (λ isn. IfOk result (λ f.
+        IsFlow capture.now (source isn (side_segments packets.now connection.now side)) f.bytes.items f.arrivals.items f.gap)) }
+
+    // Any other.
+    ensures unknown { initial_of connection.now side ≡ None → IfOk result (λ f.
+        (f.started ≡ false) × (f.bytes.items ≡ []) × (f.arrivals.items ≡ []) × (f.gap ≡ None)) }
+
+    ensures within { IfOk result (λ f. vec_len f.bytes ≤ payload_sum (side_segments packets.now connection.now side)) }
+    ensures orderly { IfOk result IsOrderly }
+{
+    match connection.initial_of(side) {
+        Some(isn) => {
+            let pieces = pieces_of(alloc, isn, packets, connection, side)?;
+            let intervals = settle(alloc, &pieces)?;
+            lay_out(alloc, capture, &intervals)
+        }
+        None => Ok(Flow::unknown(alloc)),
+    }
+}

@@ -1,0 +1,95 @@
+ghost use Rattle.std.specs.Prelude.{◌≡◌, ◌+◌, ◌-◌, ◌<◌, ◌≤◌, ◌^◌, true, length, All, IfOk};
+ghost use Rattle.tcp_streams.specs.Arrivals.{AreTimely};
+ghost use Rattle.tcp_streams.specs.Flow.{IsFlow};
+ghost use Rattle.tcp_streams.specs.Interval.{ArePlaced, IsInterval, Spans, arrival_with, arrivals_in, at, bytes_in, run_length, size_of};
+ghost use Rattle.tcp_streams.specs.declared.interval.Interval.{Interval as Held};
+
+use crate::interval::Interval;
+use crate::streams::{Arrival, Flow};
+use std::alloc::{AllocError, Global};
+
+/// Lays out the bytes of intervals in order of offset, as far as they follow each other from 0.
+pub fn lay_out(alloc: Global, capture: &[u8], intervals: &[Interval]) -> Result<Flow, AllocError>
+    requires spans { Spans 0 intervals.now (2 ^ 31) }
+    requires placed { ArePlaced (length capture.now) (at intervals.now) }
+    ensures flow { IfOk result (λ f. IsFlow capture.now (at intervals.now) f.bytes.items f.arrivals.items f.gap) }
+    ensures started { IfOk result (λ f. f.started ≡ true) }
+    ensures size { IfOk result (λ f. length f.bytes.items ≤ size_of intervals.now) }
+    ensures timely { IfOk result (λ f. AreTimely f.arrivals.items) }
+{
+    let count = run_length(intervals);
+    let run = &intervals[..count];
+    let bytes = bytes_in(alloc, capture, run)?;
+    let arrivals = arrivals_in(alloc, run)?;
+    let gap = if count < intervals.len() {
+        Some(bytes.len() as u64)
+    } else {
+        None
+    };
+    Ok(Flow {
+        started: true,
+        bytes,
+        arrivals,
+        gap,
+    })
+}
+
+/// How many intervals follow each other with no hole from offset 0 on.
+fn run_length(intervals: &[Interval]) -> usize
+    ensures run { result ≡ run_length 0 intervals.now }
+    ensures within { result ≤ length intervals.now }
+{
+    let mut count = 0;
+    let mut end = 0;
+    while count < intervals.len() && intervals[count].from == end {
+        end = intervals[count].upto;
+        count += 1;
+    }
+    count
+}
+
+/// The bytes of the intervals, one after the other.
+fn bytes_in(alloc: Global, capture: &[u8], run: &[Interval]) -> Result<Vec<u8>, AllocError>
+    requires intervals { All IsInterval run.now }
+    requires placed { All (λ (x : Held). x.place + (x.upto - x.from) ≤ length capture.now) run.now }
+    ensures { IfOk result (λ v. v.items ≡ bytes_in capture.now run.now) }
+{
+    let mut bytes = Vec::new(alloc);
+    for x in run {
+        let width = (x.upto - x.from) as usize;
+        bytes.extend_from_slice(&capture[x.place..x.place + width])?;
+    }
+    Ok(bytes)
+}
+
+/// When the bytes of the intervals arrived: an entry for each record that is later than all before it.
+fn arrivals_in(alloc: Global, run: &[Interval]) -> Result<Vec<Arrival>, AllocError>
+    ensures { IfOk result (λ v. v.items ≡ arrivals_in run.now) }
+{
+    let mut arrivals = Vec::new(alloc);
+    if run.is_empty() {
+        return Ok(arrivals);
+    }
+    let mut last = arrival_with(&run[0]);
+    for x in &run[1..] {
+        if last.rec < x.rec {
+            arrivals.push(last)?;
+            last = arrival_with(x);
+        } else {
+            last.upto = x.upto;
+        }
+    }
+    arrivals.push(last)?;
+    Ok(arrivals)
+}
+
+/// The interval's bytes arrive with its record.
+fn arrival_with(x: &Interval) -> Arrival
+    ensures { result ≡ arrival_with x.now }
+{
+    Arrival {
+        upto: x.upto,
+        rec: x.rec,
+        nanos: x.nanos,
+    }
+}

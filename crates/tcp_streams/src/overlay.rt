@@ -1,0 +1,84 @@
+ghost use Rattle.std.specs.Prelude.{◌≡◌, ◌+◌, ◌-◌, ◌<◌, ◌≤◌, ◌^◌, [], ◌∷◌, ◌++◌, All, length, drop, IfOk, OnOk};
+ghost use Rattle.tcp_streams.specs.Interval.{HasPassed, IsInterval, IsSame, Spans, at, clipped, overlay, size_of};
+
+use crate::interval::{END_OF_OFFSETS, Interval};
+use std::alloc::{AllocError, Global};
+
+/// Makes intervals that lie apart of pieces in order of record: where pieces share an offset, the first
+/// of them brings it.
+pub fn settle(alloc: Global, pieces: &[Interval]) -> Result<Vec<Interval>, AllocError>
+    requires { All IsInterval pieces.now }
+    ensures spans { IfOk result (λ v. Spans 0 v.items (2 ^ 31)) }
+    ensures same { IfOk result (λ v. IsSame (at v.items) (at pieces.now)) }
+    ensures size { IfOk result (λ v. size_of v.items ≤ size_of pieces.now) }
+{
+    if pieces.len() <= 1 {
+        return pieces.to_vec(alloc);
+    }
+    let middle = pieces.len() / 2;
+    let kept = settle(alloc, &pieces[..middle])?;
+    let later = settle(alloc, &pieces[middle..])?;
+    overlay(alloc, &kept, &later)
+}
+
+/// Adds to the intervals that are kept the parts of later ones that they leave free.
+fn overlay(
+    alloc: Global,
+    kept: &[Interval],
+    later: &[Interval],
+) -> Result<Vec<Interval>, AllocError>
+    requires kept { Spans 0 kept.now (2 ^ 31) }
+    requires later { Spans 0 later.now (2 ^ 31) }
+    ensures { IfOk result (λ v. v.items ≡ overlay kept.now later.now 0) }
+{
+    let mut out = Vec::new(alloc);
+    let mut next = 0;
+    let mut done = 0;
+    for x in kept {
+        next = fill(&mut out, later, next, done, x.from)?;
+        out.push(*x)?;
+        done = x.upto;
+    }
+    fill(&mut out, later, next, done, END_OF_OFFSETS)?;
+    Ok(out)
+}
+
+/// Adds the parts between two offsets, and says with which interval to go on.
+fn fill(
+    out: &mut Vec<Interval>,
+    later: &[Interval],
+    first: usize,
+    low: u64,
+    high: u64,
+) -> Result<usize, AllocError>
+    requires spans { Spans 0 later.now (2 ^ 31) }
+    requires first { first ≤ length later.now }
+    requires passed { HasPassed low later.now (drop first later.now) }
+    requires order { low ≤ high }
+    ensures added { OnOk result (out.new.items ≡ out.old.items ++ clipped low high later.now) }
+    ensures within { IfOk result (λ next. next ≤ length later.now) }
+    ensures next { IfOk result (λ next. HasPassed high later.now (drop next later.now)) }
+{
+    let mut index = first;
+    while index < later.len() && later[index].upto <= high {
+        push_part(out, &later[index], low, high)?;
+        index += 1;
+    }
+    if index < later.len() {
+        push_part(out, &later[index], low, high)?;
+    }
+    Ok(index)
+}
+
+/// Adds the part between two offsets, if there is any.
+fn push_part(out: &mut Vec<Interval>, y: &Interval, low: u64, high: u64) -> Result<(), AllocError>
+    requires { IsInterval y.now }
+    ensures { OnOk result (out.new.items ≡ out.old.items ++ clipped low high (y.now ∷ [])) }
+{
+    let from = y.from.max(low);
+    let upto = y.upto.min(high);
+    if from < upto {
+        out.push(y.part(from, upto))?;
+    }
+    Ok(())
+}

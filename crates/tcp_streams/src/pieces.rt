@@ -1,0 +1,114 @@
+ghost use Rattle.std.specs.Prelude.{◌≡◌, ◌+◌, ◌-◌, ◌%◌, ◌<◌, ◌≤◌, ◌^◌, if◌then◌else◌, length, Option, IsSome, IfOk};
+ghost use Rattle.std.specs.List.{filter_map};
+ghost use Rattle.tcp_streams.specs.Interval.{PayloadsFit, member_piece, piece, stretch};
+ghost use Rattle.tcp_streams.specs.Members.{AreMembers, is_sent_by};
+ghost use Rattle.tcp_streams.specs.Packets.{segment_of};
+
+use crate::interval::{END_OF_OFFSETS, Interval};
+use crate::members::Connection;
+use audit_core::Side;
+use packet_heads::{Packet, Segment};
+use std::alloc::{AllocError, Global};
+
+/// Sequence numbers come round at this number (RFC 9293, 3.4).
+const MODULUS: u64 = 0x1_0000_0000;
+
+/// The offsets that a side's segments cover, a piece for each that covers any, in order of record.
+pub fn pieces_of(
+    alloc: Global,
+    isn: u32,
+    packets: &[Packet],
+    connection: &Connection,
+    side: Side,
+) -> Result<Vec<Interval>, AllocError>
+    requires payloads { PayloadsFit packets.now }
+    requires members { AreMembers 0 packets.now connection.now.members.items }
+    ensures { IfOk result (λ v. v.items ≡ filter_map (member_piece isn packets.now connection.now side) connection.now.members.items) }
+{
+    let mut pieces = Vec::new(alloc);
+    for member in &connection.members {
+        if let Some(piece) = piece_of_member(isn, packets, connection, side, *member) {
+            pieces.push(piece)?;
+        }
+    }
+    Ok(pieces)
+}
+
+/// The piece of a member, if it is the side's.
+fn piece_of_member(
+    isn: u32,
+    packets: &[Packet],
+    connection: &Connection,
+    side: Side,
+    member: u32,
+) -> Option<Interval>
+    requires payloads { PayloadsFit packets.now }
+    requires counted { 0 < member }
+    requires named { IsSome (segment_of packets.now member) }
+    ensures { result ≡ member_piece isn packets.now connection.now side member }
+{
+    let packet = packets[(member - 1) as usize];
+    match packet {
+        Packet::Segment(segment) => {
+            if is_sent_by(connection, side, &segment) {
+                piece_of(isn, &segment)
+            } else {
+                None
+            }
+        }
+        Packet::Skipped(_) => None,
+        Packet::Refused(_) => None,
+    }
+}
+
+/// Is the segment the side's? The opener's segments are the client's.
+fn is_sent_by(connection: &Connection, side: Side, segment: &Segment) -> bool
+    ensures { result ≡ is_sent_by connection.now side segment.now }
+{
+    let is_openers = segment.from == connection.client;
+    match side {
+        Side::Client => is_openers,
+        Side::Server => !is_openers,
+    }
+}
+
+/// The offsets that a segment's payload covers, of those that count.
+fn piece_of(isn: u32, segment: &Segment) -> Option<Interval>
+    requires payload { segment.now.lo ≤ segment.now.hi }
+    requires short { segment.now.hi < 2 ^ 31 }
+    ensures { result ≡ piece isn segment.now }
+{
+    let start = start_of(isn, segment.seq, segment.syn);
+    let upto = start + (segment.hi - segment.lo) as u64;
+    if start < END_OF_OFFSETS {
+        stretch(segment, 0, start, upto.min(END_OF_OFFSETS))
+    } else {
+        stretch(segment, MODULUS - start, 0, upto.saturating_sub(MODULUS))
+    }
+}
+
+/// The offset of the first payload byte.
+fn start_of(isn: u32, seq: u32, syn: bool) -> u64
+    ensures start { result ≡ (seq + (if syn then 1 else 0) + (2 ^ 32 - 1 - isn)) % 2 ^ 32 }
+    ensures within { result < 2 ^ 32 }
+{
+    (seq as u64 + u64::from(syn) + (MODULUS - 1 - isn as u64)) % MODULUS
+}
+
+/// The offsets from one up to another, from the payload byte `skipped` on, if there are any.
+fn stretch(segment: &Segment, skipped: u64, from: u64, upto: u64) -> Option<Interval>
+    requires place { segment.now.lo + skipped < 2 ^ 33 }
+    ensures { result ≡ stretch segment.now skipped from upto }
+{
+    if from < upto {
+        Some(Interval {
+            from,
+            upto,
+            place: segment.lo + skipped as usize,
+            rec: segment.rec,
+            nanos: segment.nanos,
+        })
+    } else {
+        None
+    }
+}
