@@ -1,7 +1,7 @@
 -- A line for each record that is a fragment or a refused packet, in record order.
 use Rattle.std.specs.Prelude.{ℕ, List, [], ◌∷◌, ◌++◌, ◌+◌, codes}
 use Rattle.audit_report.specs.Line.{line, field}
-use Rattle.audit_report.specs.Refusal.{refusal_name}
+use Rattle.packet_heads.specs.Refusal.{refusal_name}
 use Rattle.packet_heads.specs.declared.packets.Packet.{Packet}
 use Rattle.packet_heads.specs.declared.packets.Packet.TheVariants.{Skipped, Refused}
 use Rattle.packet_heads.specs.declared.packets.Skip.TheVariants.{Fragment}

@@ -1,7 +1,6 @@
 ghost use Rattle.std.specs.Prelude.{◌≡◌, ◌++◌, OnOk};
 ghost use Rattle.std.specs.String.{string_bytes};
 ghost use Rattle.packet_heads.specs.declared.packets.Refusal.{Refusal};
-ghost use Rattle.audit_report.specs.Refusal.{refusal_name};
 ghost use Rattle.audit_report.specs.RecordLines.{record_line, record_lines};
 
 use crate::words::{push_field, push_word};
@@ -43,21 +42,6 @@ fn push_refused_line(out: &mut String, number: u64, refusal: Refusal) -> Result<
 {
     push_field(out, "record ", number)?;
     push_word(out, " refused ")?;
-    push_word(out, refusal_name(refusal))?;
+    push_word(out, refusal.name())?;
     push_word(out, "\n")
-}
-
-fn refusal_name(refusal: Refusal) -> &'static str
-    ensures { result.now ≡ refusal_name refusal }
-{
-    match refusal {
-        Refusal::ShortEthernet => "short-ethernet",
-        Refusal::ShortIpv4 => "short-ipv4",
-        Refusal::BadVersion => "bad-version",
-        Refusal::BadHeaderLength => "bad-header-length",
-        Refusal::BadTotalLength => "bad-total-length",
-        Refusal::PastEnd => "past-end",
-        Refusal::ShortTcp => "short-tcp",
-        Refusal::BadDataOffset => "bad-data-offset",
-    }
 }

@@ -1,5 +1,5 @@
 ghost use Rattle.std.specs.Prelude.{◌≡◌, ◌++◌, OnOk};
-ghost use Rattle.std.specs.Fmt.{decimal};
+ghost use Rattle.std.specs.Fmt.{decimal, signed_decimal};
 ghost use Rattle.std.specs.String.{string_bytes};
 ghost use Rattle.audit_report.specs.Line.{field};
 
@@ -15,6 +15,13 @@ pub fn push_word(out: &mut String, word: &str) -> Result<(), AllocError>
 /// Adds a number in decimal.
 pub fn push_number(out: &mut String, n: u64) -> Result<(), AllocError>
     ensures { OnOk result (string_bytes out.new ≡ string_bytes out.old ++ decimal n) }
+{
+    write!(out, "{n}")
+}
+
+/// Adds a number in decimal, with `-` before it where it is below zero.
+pub fn push_signed(out: &mut String, n: i64) -> Result<(), AllocError>
+    ensures { OnOk result (string_bytes out.new ≡ string_bytes out.old ++ signed_decimal n) }
 {
     write!(out, "{n}")
 }

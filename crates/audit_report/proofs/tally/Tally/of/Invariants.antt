@@ -1,5 +1,4 @@
 use Rattle.std.proofs.Common.{take}
-use Rattle.std.specs.Prelude.{◌≤◌}
 use Rattle.audit_report.specs.Tally.{IsTallyOf}
 use Rattle.audit_report.proofs.tally.Tally.of.Given as goal
 

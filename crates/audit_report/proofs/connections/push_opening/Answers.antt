@@ -1,0 +1,12 @@
+use Rattle.std.specs.Prelude.{codes}
+use Rattle.audit_report.specs.ConnectionLine.{roles_text}
+use Rattle.audit_report.specs.Line.{field}
+use Rattle.audit_report.proofs.Joins.{three}
+use Rattle.audit_report.proofs.connections.push_opening.Goals as goal
+
+pub returns : goal.returns
+returns c = three c.push_field-2.result _ _ _ _
+    (field (codes "connection ") c.args.k)
+    (roles_text c.args.connection.now.client c.args.connection.now.server)
+    (field (codes " record ") c.args.connection.now.rec)
+    c.in_ok-push_field.ensures c.in_ok-push_roles.ensures c.push_field-2.ensures

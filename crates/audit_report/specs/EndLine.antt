@@ -1,0 +1,22 @@
+-- The last line of an HTTP/2 connection: how far its audit went.
+use Rattle.std.specs.Prelude.{ℕ, List, ◌-◌, codes, if◌then◌else◌, length, slice_get, Option, Some, None}
+use Rattle.audit_report.specs.Line.{line, field}
+use Rattle.audit_core.specs.declared.findings.Finding.{Finding}
+use Rattle.audit_core.specs.Finding.{stops}
+use Rattle.audit_core.specs.Place.{place_number}
+
+-- the last finding, if there is one
+abbrev pub last_of : List Finding → Option Finding
+last_of findings = slice_get findings (length findings - 1)
+
+-- `audit stopped at frame N`
+abbrev pub stop_line : (number : ℕ) → List ℕ
+stop_line number = line (field (codes "audit stopped at frame ") number)
+
+-- after a connection error its frame, else all frames
+abbrev pub ending_line : Option Finding → List ℕ
+ending_line None = line (codes "audit of all frames")
+ending_line (Some last) = if stops last then stop_line (place_number last.place) else line (codes "audit of all frames")
+
+abbrev pub end_line : List Finding → List ℕ
+end_line findings = ending_line (last_of findings)

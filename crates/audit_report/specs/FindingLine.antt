@@ -1,0 +1,47 @@
+-- The line of a finding.
+use Rattle.std.specs.Prelude.{ℕ, List, [], ◌++◌, codes, Bool, true, false, not, ◌||◌, if◌then◌else◌, option_map, unwrap_or}
+use Rattle.std.specs.Fmt.{signed_decimal}
+use Rattle.std.specs.List.{flat_map}
+use Rattle.audit_report.specs.Line.{line, field}
+use Rattle.audit_core.specs.declared.findings.Finding.{Finding}
+use Rattle.audit_core.specs.declared.frames.Frame.{Frame}
+use Rattle.audit_core.specs.declared.kinds.Kind.{Kind}
+use Rattle.audit_core.specs.declared.kinds.Kind.TheVariants.{ConnectionCredit, StreamCredit}
+use Rattle.audit_core.specs.Kind.{kind_name}
+use Rattle.audit_core.specs.Place.{place_number, place_stream}
+use Rattle.audit_core.specs.Side.{side_name}
+use Rattle.split_merge.specs.FrameLookup.{frame_numbered, nanos_at}
+
+-- the record at which the last byte of the frame of this number arrived; 0 where there is no such frame
+abbrev pub record_at : List Frame → ℕ → ℕ
+record_at frames number = unwrap_or (option_map (λ (frame : Frame). frame.rec) (frame_numbered frames number)) 0
+
+-- `frame N record R time T`
+abbrev pub moment_text : List Frame → ℕ → List ℕ
+moment_text frames number = field (codes "frame ") number
+    ++ field (codes " record ") (record_at frames number)
+    ++ field (codes " time ") (nanos_at frames number)
+
+-- ` SIDE KIND stream S value V`
+abbrev pub said_text : Finding → List ℕ
+said_text finding = codes " " ++ side_name finding.side ++ codes " " ++ kind_name finding.kind
+    ++ field (codes " stream ") (place_stream finding.place) ++ codes " value " ++ signed_decimal finding.value
+
+-- `frame N record R time T SIDE KIND stream S value V`, record and time being those of the frame
+abbrev pub finding_line : List Frame → Finding → List ℕ
+finding_line frames finding = line (moment_text frames (place_number finding.place) ++ said_text finding)
+
+-- credits are told only where the reader asks for them
+abbrev pub is_credit : Kind → Bool
+is_credit ConnectionCredit = true
+is_credit StreamCredit = true
+is_credit _ = false
+
+-- the line of a finding that is shown, nothing for another
+abbrev pub shown_line : (credits_shown : Bool) → List Frame → Finding → List ℕ
+shown_line credits_shown frames finding =
+    if credits_shown || not (is_credit finding.kind) then finding_line frames finding else []
+
+-- a line for each finding shown, in order
+abbrev pub finding_lines : (credits_shown : Bool) → List Frame → List Finding → List ℕ
+finding_lines credits_shown frames findings = flat_map (shown_line credits_shown frames) findings

@@ -1,0 +1,25 @@
+-- The line of a flow: how much of a side's bytes the capture has without a hole.
+use Rattle.std.specs.Prelude.{ℕ, List, ◌++◌, length, codes, Option, Some, None}
+use Rattle.std.specs.Fmt.{decimal}
+use Rattle.audit_report.specs.Line.{line, field}
+use Rattle.audit_core.specs.declared.sides.Side.{Side}
+use Rattle.audit_core.specs.Side.{side_name}
+use Rattle.tcp_streams.specs.declared.streams.Flow.{Flow}
+
+-- how many bytes a flow has, and where bytes are missing, if later ones were captured
+pub record Extent : Type 0 where
+  pub size : ℕ
+  pub gap : Option ℕ
+
+-- the same of a value of the program
+abbrev pub extent_of : Flow → Extent
+extent_of flow = record { size = length flow.bytes.items; gap = flow.gap }
+
+abbrev pub gap_text : Option ℕ → List ℕ
+gap_text None = codes "none"
+gap_text (Some offset) = decimal offset
+
+-- `flow SIDE bytes N gap G tail T`
+abbrev pub flow_line : Side → Extent → (tail : ℕ) → List ℕ
+flow_line side extent tail = line (codes "flow " ++ side_name side ++ field (codes " bytes ") extent.size
+    ++ codes " gap " ++ gap_text extent.gap ++ field (codes " tail ") tail)

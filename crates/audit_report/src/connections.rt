@@ -1,0 +1,131 @@
+ghost use Rattle.std.specs.Prelude.{◌≡◌, ◌++◌, OnOk, IfOk};
+ghost use Rattle.std.specs.String.{string_bytes};
+ghost use Rattle.packet_heads.specs.declared.packets.Endpoint.{Endpoint};
+ghost use Rattle.audit_core.specs.declared.sides.Side.{Side};
+ghost use Rattle.audit_report.specs.ConnectionLine.{contents_text, roles_text, opening_text, connection_line};
+ghost use Rattle.audit_report.specs.Contents.{contents_of, tail_of};
+ghost use Rattle.audit_report.specs.FlowLine.{extent_of, gap_text, flow_line};
+ghost use Rattle.audit_report.specs.Entry.{connection_text};
+
+use crate::endpoints::push_endpoint;
+use crate::words::{push_field, push_number, push_word};
+use audit_core::Side;
+use h2_frames::Cut;
+use packet_heads::Endpoint;
+use std::alloc::{AllocError, Global};
+use tcp_streams::{Connection, Flow};
+
+/// The line of the `k`-th connection, counted from 1, and the lines of its client's and its server's flow.
+pub fn connection_lines(
+    alloc: Global,
+    k: u32,
+    connection: &Connection,
+    client: &Flow,
+    server: &Flow,
+    cut: &Cut,
+) -> Result<Vec<u8>, AllocError>
+    ensures { IfOk result (λ text. text.items ≡ connection_text k connection.now.client connection.now.server
+        connection.now.rec (extent_of client.now) (extent_of server.now) (contents_of cut.now)) }
+{
+    let mut out = String::new(alloc);
+    push_connection_text(&mut out, k as u64, connection, client, server, cut)?;
+    Ok(out.into_bytes())
+}
+
+/// Adds the same to a text.
+#[tactic(auto, using(crate::proofs::Joins::joins))]
+pub fn push_connection_text(
+    out: &mut String,
+    k: u64,
+    connection: &Connection,
+    client: &Flow,
+    server: &Flow,
+    cut: &Cut,
+) -> Result<(), AllocError>
+    ensures { OnOk result (string_bytes out.new ≡ string_bytes out.old ++ connection_text k connection.now.client
+        connection.now.server connection.now.rec (extent_of client.now) (extent_of server.now) (contents_of cut.now)) }
+{
+    push_connection_line(out, k, connection, cut)?;
+    push_flow_line(out, Side::Client, client, tail(cut, Side::Client))?;
+    push_flow_line(out, Side::Server, server, tail(cut, Side::Server))
+}
+
+#[tactic(auto, using(crate::proofs::Joins::joins))]
+fn push_connection_line(
+    out: &mut String,
+    k: u64,
+    connection: &Connection,
+    cut: &Cut,
+) -> Result<(), AllocError>
+    ensures { OnOk result (string_bytes out.new ≡ string_bytes out.old ++ connection_line k connection.now.client
+        connection.now.server connection.now.rec (contents_of cut.now)) }
+{
+    push_opening(out, k, connection)?;
+    push_word(out, " ")?;
+    push_contents(out, cut)?;
+    push_word(out, "\n")
+}
+
+#[tactic(auto, using(crate::proofs::Joins::joins))]
+fn push_opening(out: &mut String, k: u64, connection: &Connection) -> Result<(), AllocError>
+    ensures { OnOk result (string_bytes out.new ≡ string_bytes out.old
+        ++ opening_text k connection.now.client connection.now.server connection.now.rec) }
+{
+    push_field(out, "connection ", k)?;
+    push_roles(out, connection.client, connection.server)?;
+    push_field(out, " record ", connection.rec as u64)
+}
+
+#[tactic(auto, using(crate::proofs::Joins::joins), unfolding(crate::specs::ConnectionLine::roles_text))]
+fn push_roles(out: &mut String, client: Endpoint, server: Endpoint) -> Result<(), AllocError>
+    ensures { OnOk result (string_bytes out.new ≡ string_bytes out.old ++ roles_text client server) }
+{
+    push_word(out, " client ")?;
+    push_endpoint(out, client)?;
+    push_word(out, " server ")?;
+    push_endpoint(out, server)
+}
+
+fn push_contents(out: &mut String, cut: &Cut) -> Result<(), AllocError>
+    ensures { OnOk result (string_bytes out.new ≡ string_bytes out.old ++ contents_text (contents_of cut.now)) }
+{
+    match cut {
+        Cut::Http2 { frames, .. } => push_field(out, "http2 frames ", frames.len() as u64),
+        Cut::NotHttp2 => push_word(out, "not-http2"),
+        Cut::NoPreface => push_word(out, "no-preface"),
+        Cut::NoHandshake => push_word(out, "no-handshake"),
+    }
+}
+
+#[tactic(auto, using(crate::proofs::Joins::joins))]
+fn push_flow_line(out: &mut String, side: Side, flow: &Flow, tail: u32) -> Result<(), AllocError>
+    ensures { OnOk result (string_bytes out.new ≡ string_bytes out.old ++ flow_line side (extent_of flow.now) tail) }
+{
+    push_word(out, "flow ")?;
+    push_word(out, side.name())?;
+    push_field(out, " bytes ", flow.bytes.len() as u64)?;
+    push_word(out, " gap ")?;
+    push_gap(out, flow.gap)?;
+    push_field(out, " tail ", tail as u64)?;
+    push_word(out, "\n")
+}
+
+fn push_gap(out: &mut String, gap: Option<u64>) -> Result<(), AllocError>
+    ensures { OnOk result (string_bytes out.new ≡ string_bytes out.old ++ gap_text gap) }
+{
+    match gap {
+        None => push_word(out, "none"),
+        Some(offset) => push_number(out, offset),
+    }
+}
+
+// How many bytes of the side are left over after its last frame.
+fn tail(cut: &Cut, side: Side) -> u32
+    ensures { result ≡ tail_of side (contents_of cut.now) }
+{
+    match (cut, side) {
+        (Cut::Http2 { tails, .. }, Side::Client) => tails[0],
+        (Cut::Http2 { tails, .. }, Side::Server) => tails[1],
+        _ => 0,
+    }
+}

@@ -1,0 +1,70 @@
+ghost use Rattle.std.specs.Prelude.{◌≡◌, ◌++◌, OnOk};
+ghost use Rattle.std.specs.String.{string_bytes};
+ghost use Rattle.audit_report.specs.StallLine.{ending_text, stall_line, stall_lines};
+ghost use Rattle.audit_report.specs.EndLine.{stop_line, ending_line, end_line};
+
+use crate::words::{push_field, push_signed, push_word};
+use audit_core::Finding;
+use split_merge::Stall;
+use std::alloc::AllocError;
+
+/// Adds a line for each stall, in order.
+pub fn push_stall_lines(out: &mut String, stalls: &[Stall]) -> Result<(), AllocError>
+    ensures { OnOk result (string_bytes out.new ≡ string_bytes out.old ++ stall_lines stalls.now) }
+{
+    for stall in stalls {
+        push_stall_line(out, stall)?;
+    }
+    Ok(())
+}
+
+#[tactic(auto, using(crate::proofs::Joins::joins))]
+fn push_stall_line(out: &mut String, stall: &Stall) -> Result<(), AllocError>
+    ensures { OnOk result (string_bytes out.new ≡ string_bytes out.old ++ stall_line stall.now) }
+{
+    push_word(out, "stall ")?;
+    push_word(out, stall.side.name())?;
+    push_field(out, " stream ", stall.stream as u64)?;
+    push_field(out, " from ", stall.from as u64)?;
+    push_ending(out, stall.to, stall.nanos)?;
+    push_word(out, "\n")
+}
+
+#[tactic(auto, using(crate::proofs::Joins::joins))]
+fn push_ending(out: &mut String, to: Option<u32>, nanos: i64) -> Result<(), AllocError>
+    ensures { OnOk result (string_bytes out.new ≡ string_bytes out.old ++ ending_text to nanos) }
+{
+    let Some(number) = to else {
+        return push_word(out, " open");
+    };
+    push_field(out, " to ", number as u64)?;
+    push_word(out, " nanos ")?;
+    push_signed(out, nanos)
+}
+
+/// Adds the line that says how far the audit went: all frames, or up to the frame of a connection error.
+pub fn push_end_line(out: &mut String, findings: &[Finding]) -> Result<(), AllocError>
+    ensures { OnOk result (string_bytes out.new ≡ string_bytes out.old ++ end_line findings.now) }
+{
+    push_line_after(out, findings.last().copied())
+}
+
+// The same, by the last finding.
+fn push_line_after(out: &mut String, last: Option<Finding>) -> Result<(), AllocError>
+    ensures { OnOk result (string_bytes out.new ≡ string_bytes out.old ++ ending_line last) }
+{
+    if let Some(finding) = last {
+        if finding.stops() {
+            return push_stop_line(out, finding.place.number());
+        }
+    }
+    push_word(out, "audit of all frames\n")
+}
+
+#[tactic(auto, using(crate::proofs::Joins::joins))]
+fn push_stop_line(out: &mut String, number: u32) -> Result<(), AllocError>
+    ensures { OnOk result (string_bytes out.new ≡ string_bytes out.old ++ stop_line number) }
+{
+    push_field(out, "audit stopped at frame ", number as u64)?;
+    push_word(out, "\n")
+}

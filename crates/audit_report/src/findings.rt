@@ -1,0 +1,100 @@
+ghost use Rattle.std.specs.Prelude.{◌≡◌, ◌++◌, OnOk, IfOk};
+ghost use Rattle.std.specs.String.{string_bytes};
+ghost use Rattle.audit_core.specs.Frame.{IsOrderly};
+ghost use Rattle.audit_report.specs.FindingLine.{moment_text, said_text, finding_line, is_credit, shown_line, finding_lines};
+
+use crate::words::{push_field, push_signed, push_word};
+use audit_core::{Finding, Frame, Kind};
+use split_merge::frame_at;
+use std::alloc::{AllocError, Global};
+
+/// The line of a finding, with the record and the time of its frame, which is found among the frames by its number. For
+/// a frame that is not there both are 0.
+pub fn finding_line(
+    alloc: Global,
+    finding: &Finding,
+    frames: &[Frame],
+) -> Result<Vec<u8>, AllocError>
+    requires { IsOrderly frames.now }
+    ensures { IfOk result (λ text. text.items ≡ finding_line frames.now finding.now) }
+{
+    let mut out = String::new(alloc);
+    push_finding_line(&mut out, finding, frames)?;
+    Ok(out.into_bytes())
+}
+
+/// Adds a line for each finding that is shown, in order.
+pub fn push_finding_lines(
+    out: &mut String,
+    findings: &[Finding],
+    frames: &[Frame],
+    credits_shown: bool,
+) -> Result<(), AllocError>
+    requires { IsOrderly frames.now }
+    ensures { OnOk result (string_bytes out.new ≡ string_bytes out.old ++ finding_lines credits_shown frames.now findings.now) }
+{
+    for finding in findings {
+        push_shown_line(out, finding, frames, credits_shown)?;
+    }
+    Ok(())
+}
+
+fn push_shown_line(
+    out: &mut String,
+    finding: &Finding,
+    frames: &[Frame],
+    credits_shown: bool,
+) -> Result<(), AllocError>
+    requires { IsOrderly frames.now }
+    ensures { OnOk result (string_bytes out.new ≡ string_bytes out.old ++ shown_line credits_shown frames.now finding.now) }
+{
+    if credits_shown || !tells_credit(finding.kind) {
+        push_finding_line(out, finding, frames)?;
+    }
+    Ok(())
+}
+
+#[tactic(auto, using(crate::proofs::Joins::joins))]
+fn push_finding_line(
+    out: &mut String,
+    finding: &Finding,
+    frames: &[Frame],
+) -> Result<(), AllocError>
+    requires { IsOrderly frames.now }
+    ensures { OnOk result (string_bytes out.new ≡ string_bytes out.old ++ finding_line frames.now finding.now) }
+{
+    push_moment(out, finding.place.number(), frames)?;
+    push_said(out, finding)?;
+    push_word(out, "\n")
+}
+
+#[tactic(auto, using(crate::proofs::Joins::joins))]
+fn push_moment(out: &mut String, number: u32, frames: &[Frame]) -> Result<(), AllocError>
+    requires { IsOrderly frames.now }
+    ensures { OnOk result (string_bytes out.new ≡ string_bytes out.old ++ moment_text frames.now number) }
+{
+    let frame = frame_at(frames, number);
+    push_field(out, "frame ", number as u64)?;
+    push_field(out, " record ", frame.map_or(0, |frame| frame.rec) as u64)?;
+    push_field(out, " time ", frame.map_or(0, |frame| frame.nanos))
+}
+
+#[tactic(auto, using(crate::proofs::Joins::joins))]
+fn push_said(out: &mut String, finding: &Finding) -> Result<(), AllocError>
+    ensures { OnOk result (string_bytes out.new ≡ string_bytes out.old ++ said_text finding.now) }
+{
+    push_word(out, " ")?;
+    push_word(out, finding.side.name())?;
+    push_word(out, " ")?;
+    push_word(out, finding.kind.name())?;
+    push_field(out, " stream ", finding.place.stream() as u64)?;
+    push_word(out, " value ")?;
+    push_signed(out, finding.value)
+}
+
+// Is it a finding of how much credit a window has?
+fn tells_credit(kind: Kind) -> bool
+    ensures { result ≡ is_credit kind }
+{
+    matches!(kind, Kind::ConnectionCredit | Kind::StreamCredit)
+}

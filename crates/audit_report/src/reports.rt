@@ -1,0 +1,119 @@
+ghost use Rattle.std.specs.Prelude.{◌≡◌, ◌++◌, ◌+◌, ◌<◌, ◌^◌, OnOk, IfOk, All, length};
+ghost use Rattle.std.specs.String.{string_bytes};
+ghost use Rattle.audit_core.specs.Frame.{IsOrderly};
+ghost use Rattle.h2_frames.specs.Cut.{HasOrderlyFrames};
+ghost use Rattle.audit_report.specs.Contents.{contents_of};
+ghost use Rattle.audit_report.specs.Entry.{audit_text, findings_text, entry_text, entry_of, entries_of, entries_text};
+ghost use Rattle.audit_report.specs.ReportText.{report_text};
+ghost use Rattle.audit_report.specs.declared.audited.Audited.{Audited};
+
+use crate::audited::Audited;
+use crate::capture::push_capture_text;
+use crate::connections::push_connection_text;
+use crate::endings::{push_end_line, push_stall_lines};
+use crate::findings::push_finding_lines;
+use audit_core::{Finding, Frame};
+use h2_frames::Cut;
+use packet_heads::Packet;
+use pcap_records::Records;
+use split_merge::stall_pairs;
+use std::alloc::{AllocError, Global};
+use tcp_streams::{Connection, Connections};
+
+/// The whole report: the capture's lines, and then those of each connection, in order of opening. `audited` has what
+/// was found in each of them, in the same order. Credits are told only with `frames_shown`.
+pub fn report(
+    alloc: Global,
+    records: &Records,
+    packets: &[Packet],
+    connections: &Connections,
+    audited: &[Audited],
+    frames_shown: bool,
+) -> Result<Vec<u8>, AllocError>
+    requires each { length audited.now ≡ length connections.now.opened.items }
+    requires orderly { All (λ (a : Audited). HasOrderlyFrames a.cut) audited.now }
+    ensures { IfOk result (λ text. text.items ≡ report_text records.now packets.now connections.now.strays.items
+        (entries_of connections.now.opened.items audited.now) frames_shown) }
+{
+    let mut out = String::new(alloc);
+    push_capture_text(&mut out, records, packets, &connections.strays)?;
+    push_entries(alloc, &mut out, &connections.opened, audited, frames_shown)?;
+    Ok(out.into_bytes())
+}
+
+fn push_entries(
+    alloc: Global,
+    out: &mut String,
+    connections: &[Connection],
+    audited: &[Audited],
+    frames_shown: bool,
+) -> Result<(), AllocError>
+    requires each { length audited.now ≡ length connections.now }
+    requires orderly { All (λ (a : Audited). HasOrderlyFrames a.cut) audited.now }
+    ensures { OnOk result (string_bytes out.new ≡ string_bytes out.old
+        ++ entries_text frames_shown 1 (entries_of connections.now audited.now)) }
+{
+    for (i, connection) in connections.iter().enumerate() {
+        push_entry(
+            alloc,
+            out,
+            i as u64 + 1,
+            connection,
+            &audited[i],
+            frames_shown,
+        )?;
+    }
+    Ok(())
+}
+
+#[tactic(auto, using(crate::proofs::Joins::joins))]
+fn push_entry(
+    alloc: Global,
+    out: &mut String,
+    k: u64,
+    connection: &Connection,
+    audited: &Audited,
+    frames_shown: bool,
+) -> Result<(), AllocError>
+    requires { HasOrderlyFrames audited.now.cut }
+    ensures { OnOk result (string_bytes out.new ≡ string_bytes out.old
+        ++ entry_text frames_shown k (entry_of connection.now audited.now)) }
+{
+    let [client, server] = &audited.flows;
+    push_connection_text(out, k, connection, client, server, &audited.cut)?;
+    push_findings(alloc, out, &audited.cut, &audited.findings, frames_shown)
+}
+
+fn push_findings(
+    alloc: Global,
+    out: &mut String,
+    cut: &Cut,
+    findings: &[Finding],
+    frames_shown: bool,
+) -> Result<(), AllocError>
+    requires { HasOrderlyFrames cut.now }
+    ensures { OnOk result (string_bytes out.new ≡ string_bytes out.old
+        ++ findings_text frames_shown (contents_of cut.now) findings.now) }
+{
+    match cut {
+        Cut::Http2 { frames, .. } => push_audit(alloc, out, frames, findings, frames_shown),
+        _ => Ok(()),
+    }
+}
+
+#[tactic(auto, using(crate::proofs::Joins::joins))]
+fn push_audit(
+    alloc: Global,
+    out: &mut String,
+    frames: &[Frame],
+    findings: &[Finding],
+    frames_shown: bool,
+) -> Result<(), AllocError>
+    requires { IsOrderly frames.now }
+    ensures { OnOk result (string_bytes out.new ≡ string_bytes out.old ++ audit_text frames_shown frames.now findings.now) }
+{
+    push_finding_lines(out, findings, frames, frames_shown)?;
+    let stalls = stall_pairs(alloc, findings, frames)?;
+    push_stall_lines(out, &stalls)?;
+    push_end_line(out, findings)
+}
