@@ -10,6 +10,8 @@ mod accounts;
 mod parts;
 mod runs;
 mod steps;
+#[cfg(test)]
+mod tests;
 
 pub use parts::{StreamPart, StreamRun};
 pub use runs::stream_run;
