@@ -9,3 +9,4 @@ pub mod RunLemmas
 pub mod Past
 pub mod Steps
 pub mod Turns
+pub mod UniqueFlow

@@ -157,6 +157,17 @@ module _ (isn : ℕ) (s : Segment) where
             omega (arith, start-within, ap (λ (p : Option Interval). size_of (option_to_list p)) e, stretch-size (modulus - start_of isn s) 0 (start_of isn s + payload_length s - modulus))
       ]
 
+round-trip : (a isn k : ℕ) → k < 2 ^ 32 → ((a + k + (2 ^ 32 - 1 - isn)) % 2 ^ 32 + (2 ^ 32 - (a + (2 ^ 32 - 1 - isn)) % 2 ^ 32)) % 2 ^ 32 ≡ k
+round-trip a isn k lt = omega arith
+
+-- payload byte k has the offset that is k past the first one's
+pub byte-has-offset : (isn : ℕ) (s : Segment) (k : ℕ) → payload_length s ≤ 2 ^ 32 → k < payload_length s
+    → brings isn s ((s.seq + (if s.syn then 1 else 0) + k + (2 ^ 32 - 1 - isn)) % 2 ^ 32) ≡ Some (record { rec = s.rec; nanos = s.nanos; place = s.lo + k })
+byte-has-offset isn s k le lt =
+    let d : distance isn s ((s.seq + (if s.syn then 1 else 0) + k + (2 ^ 32 - 1 - isn)) % 2 ^ 32) ≡ k = round-trip (s.seq + (if s.syn then 1 else 0)) isn k (omega (arith, le, lt)) in
+    brings-some isn s ((s.seq + (if s.syn then 1 else 0) + k + (2 ^ 32 - 1 - isn)) % 2 ^ 32) (omega (arith, d, lt))
+    ∙ ap (λ n. Some (record { rec = s.rec; nanos = s.nanos; place = s.lo + n })) d
+
 -- what the first segment brings that covers the offset
 abbrev pub first_source : ℕ → List Segment → ℕ → Option Source
 first_source isn [] o = None

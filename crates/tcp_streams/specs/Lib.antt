@@ -1,6 +1,7 @@
 pub mod Arrivals
 pub mod Flow
 pub mod Interval
+pub mod Laws
 pub mod Members
 pub mod Membership
 pub mod Packets

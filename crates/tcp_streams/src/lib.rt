@@ -3,6 +3,7 @@
 
 mod assembly;
 mod interval;
+pub mod laws;
 mod layout;
 pub mod members;
 mod membership;
