@@ -8,3 +8,4 @@ pub mod Kept
 pub mod PassRows
 pub mod OrderlyRest
 pub mod Bounds
+pub mod CreditLemmas

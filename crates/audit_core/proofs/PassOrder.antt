@@ -144,9 +144,6 @@ module _ (frame : Frame) (h : frame.stream < 2 ^ 31) where
   pub at-connection_windows : (credit : Sides ℤ) → AreAt frame.number (connection_windows_said credit frame)
   at-connection_windows credit = at-append frame.number _ _ (at-connection_window Client credit.client) (at-connection_window Server credit.server)
 
-
-
-
 pub at-connection : (now : ConnectionState) (item : Item) → item.frame.stream < 2 ^ 31 → AreAt item.frame.number (connection_said now item)
 at-connection now item h = search (at-append, at-say, at-connection_windows, h) depth 12
 

@@ -46,9 +46,9 @@ in_order-shown streams state [] = refl
 in_order-shown streams state (frame ∷ frames) =
     ap in_order (filter-append is_shown_so_far (said streams state frame) (full_from streams (next state frame) frames))
     ∙ in_order-alike (filter is_shown_so_far (said streams state frame)) (shown_at streams state frame)
-        (filter is_shown_so_far (full_from streams (next state frame) frames)) (shown_rows streams (next state frame) frames)
-        (ap in_order (filter-in_order is_shown_so_far (rows_of streams state frame)) ∙ in_order-in_order (shown_at streams state frame))
-        (in_order-shown streams (next state frame) frames)
+    (filter is_shown_so_far (full_from streams (next state frame) frames)) (shown_rows streams (next state frame) frames)
+    (ap in_order (filter-in_order is_shown_so_far (rows_of streams state frame)) ∙ in_order-in_order (shown_at streams state frame))
+    (in_order-shown streams (next state frame) frames)
 
 -- all that is shown, in order
 pub shown-full : (frames : List Frame) → IsOrderly frames →
@@ -68,7 +68,7 @@ drops-body : (frame : Frame) (body : Body) → Drops is_shown_so_far (body_said 
 drops-body frame (Unreadable kind value) = drops-reading_fault frame kind value
 drops-body frame (SettingsBody settings) =
     drops-say_of is_shown_so_far (λ identifier. fault BadSetting frame identifier ∷ []) settings.bad
-        (λ identifier. drops-cons is_shown_so_far _ [] refl (drops-nil _))
+    (λ identifier. drops-cons is_shown_so_far _ [] refl (drops-nil _))
 drops-body frame _ = drops-nil _
 
 drops-push : (holds : Bool) (side : Side) (frame : Frame) → Drops is_shown_so_far (say holds (fault (push_kind side) frame 0))
@@ -116,7 +116,7 @@ drops-stream stream initial entry step = search (drops-append, drops-say_of, dro
 drops-streams : (streams : List ℕ) (state : PassState) (frame : Frame) → Drops is_shown_so_far (streams_said streams state frame)
 drops-streams streams state frame =
     drops-flat_map is_shown_so_far _ streams
-        (λ stream. drops-stream stream state.in_force.initial (state.streams stream) (step_of state.in_force frame stream))
+    (λ stream. drops-stream stream state.in_force.initial (state.streams stream) (step_of state.in_force frame stream))
 
 -- of the connection, its windows are shown
 shown-connection : (state : ConnectionState) (item : Item) →
@@ -124,14 +124,16 @@ shown-connection : (state : ConnectionState) (item : Item) →
 shown-connection state item =
     filter-append is_shown_so_far (length ++ opening) windows
     ∙ ap (λ l. l ++ filter is_shown_so_far windows)
-        (drops-append is_shown_so_far length opening (drops-length _ item.frame) (drops-opening_order state.greatest item)).dropped
+    (drops-append is_shown_so_far length opening (drops-length _ item.frame) (drops-opening_order state.greatest item)).dropped
     ∙ (keeps-connection_windows state.credit item.frame).kept where
-  length : List Finding
-  length = length_said (new_limit item.change item.frame.side (side_of item.frame.side state.limit)) item.frame
-  opening : List Finding
-  opening = opening_order_said state.greatest item
-  windows : List Finding
-  windows = connection_windows_said state.credit item.frame
+      length : List Finding
+      length = length_said (new_limit item.change item.frame.side (side_of item.frame.side state.limit)) item.frame
+
+      opening : List Finding
+      opening = opening_order_said state.greatest item
+
+      windows : List Finding
+      windows = connection_windows_said state.credit item.frame
 
 -- of a frame, what the connection windows show
 pub shown-rows : (streams : List ℕ) (state : PassState) (frame : Frame) →
@@ -139,21 +141,24 @@ pub shown-rows : (streams : List ℕ) (state : PassState) (frame : Frame) →
 shown-rows streams state frame =
     filter-append is_shown_so_far (local ++ settings ++ connection) on_streams
     ∙ ap (λ l. l ++ filter is_shown_so_far on_streams)
-        (filter-append is_shown_so_far (local ++ settings) connection
-        ∙ ap (λ l. l ++ filter is_shown_so_far connection)
-            (drops-append is_shown_so_far local settings
-                (drops-local (side_of frame.side state.previous) frame) (drops-settings state.in_force frame)).dropped
-        ∙ shown-connection state.connection (item_of state frame))
+    (filter-append is_shown_so_far (local ++ settings) connection
+    ∙ ap (λ l. l ++ filter is_shown_so_far connection)
+    (drops-append is_shown_so_far local settings
+    (drops-local (side_of frame.side state.previous) frame) (drops-settings state.in_force frame)).dropped
+    ∙ shown-connection state.connection (item_of state frame))
     ∙ ap (λ l. connection_windows_said state.connection.credit frame ++ l) (drops-streams streams state frame).dropped
     ∙ append-nil _ where
-  local : List Finding
-  local = local_said (side_of frame.side state.previous) frame
-  settings : List Finding
-  settings = settings_said state.in_force frame
-  connection : List Finding
-  connection = connection_said state.connection (item_of state frame)
-  on_streams : List Finding
-  on_streams = streams_said streams state frame
+      local : List Finding
+      local = local_said (side_of frame.side state.previous) frame
+
+      settings : List Finding
+      settings = settings_said state.in_force frame
+
+      connection : List Finding
+      connection = connection_said state.connection (item_of state frame)
+
+      on_streams : List Finding
+      on_streams = streams_said streams state frame
 
 -- one more frame
 pub rows-more : (all old new : List Finding) (streams : List ℕ) (state : PassState) (credit : Sides ℤ) (frame : Frame) (left rest : List Frame) →
@@ -164,10 +169,10 @@ rows-more all old new streams state credit frame left rest c l n h =
     ap (λ k. k ++ after) n
     ∙ append_assoc old (connection_windows_said credit frame) after
     ∙ ap (λ k. old ++ k) (ap (λ k. connection_windows_said k frame ++ after) c
-        ∙ ap (λ k. k ++ after) (sym (shown-rows streams state frame)) ∙ ap (shown_rows streams state) (sym l))
+    ∙ ap (λ k. k ++ after) (sym (shown-rows streams state frame)) ∙ ap (shown_rows streams state) (sym l))
     ∙ h where
-  after : List Finding
-  after = shown_rows streams (next state frame) rest
+      after : List Finding
+      after = shown_rows streams (next state frame) rest
 
 -- no further frame
 pub rows-done : (all found : List Finding) (streams : List ℕ) (state : PassState) (left : List Frame) →

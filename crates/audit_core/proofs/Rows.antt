@@ -10,6 +10,6 @@ module _ {X : Type 0} (old : List X) where
       six ≡ old ++ (((((a ++ b) ++ c) ++ d) ++ e) ++ f)
   six_rows a b c d e f one two three four five six p q r s t u =
       two_rows ((((a ++ b) ++ c) ++ d) ++ e) f five six
-          (two_rows (((a ++ b) ++ c) ++ d) e four five
-              (two_rows ((a ++ b) ++ c) d three four
-                  (two_rows (a ++ b) c two three (two_rows a b one two p q) r) s) t) u
+      (two_rows (((a ++ b) ++ c) ++ d) e four five
+      (two_rows ((a ++ b) ++ c) d three four
+      (two_rows (a ++ b) c two three (two_rows a b one two p q) r) s) t) u

@@ -21,3 +21,4 @@ pub mod Stalls
 pub mod StreamUses
 pub mod SingleFaults
 pub mod Room
+pub mod CreditLaws

@@ -67,7 +67,12 @@ impl ConnectionState {
     }
 
     /// Adds what a frame shows of the connection window of a side.
-    fn say_window(&self, found: &mut Vec<Finding>, side: Side, frame: &Frame) -> Result<(), AllocError>
+    fn say_window(
+        &self,
+        found: &mut Vec<Finding>,
+        side: Side,
+        frame: &Frame,
+    ) -> Result<(), AllocError>
         requires frame { IsInRange frame.now }
         requires client { IsWithin (2 ^ 62) self.now.credit.client }
         requires server { IsWithin (2 ^ 62) self.now.credit.server }
@@ -92,14 +97,19 @@ impl ConnectionState {
 
     /// Adds what a frame shows of both connection windows, and counts it in them (RFC 9113, 6.9.1). Without memory
     /// the state is as it was, and some findings may have been added.
-    pub fn meet_windows(&mut self, found: &mut Vec<Finding>, frame: &Frame) -> Result<(), AllocError>
+    pub fn meet_windows(
+        &mut self,
+        found: &mut Vec<Finding>,
+        frame: &Frame,
+    ) -> Result<(), AllocError>
         requires frame { IsInRange frame.now }
         requires client { IsWithin (2 ^ 62) self.old.credit.client }
         requires server { IsWithin (2 ^ 62) self.old.credit.server }
         ensures said { OnOk result (found.new.items ≡ found.old.items
             ++ connection_windows_said self.old.credit frame.now) }
         ensures counted { OnOk result (self.new ≡ record self.old {
-            credit = each_side (λ d. credit_after d (side_of d self.old.credit) frame.now) }) }
+          credit = each_side (λ d. credit_after d (side_of d self.old.credit) frame.now);
+        }) }
         ensures err { OnErr result (self.new ≡ self.old) }
         ensures client { (n : ℕ) → IsWithin n self.old.credit.client → IsWithin (n + 2 ^ 33) self.new.credit.client }
         ensures server { (n : ℕ) → IsWithin n self.old.credit.server → IsWithin (n + 2 ^ 33) self.new.credit.server }

@@ -6,3 +6,12 @@ ghost use Rattle.audit_core.specs.Place.{PlacesAreInOrder};
 pub fn places_are_in_order()
     ensures { PlacesAreInOrder }
 {}
+
+ghost use Rattle.audit_core.specs.CreditLaws.{ConnectionCreditIsSum, StreamCreditIsSum};
+
+/// Every credit that the pass carries is the sum of RFC 9113, 6.9: of each side's connection window, and of each live
+/// window of each stream.
+pub fn credit_is_sum()
+    ensures connection { ConnectionCreditIsSum }
+    ensures stream { StreamCreditIsSum }
+{}

@@ -6,7 +6,8 @@ use Rattle.audit_core.proofs.connections.ConnectionState.count.Goals.{in-Client,
 
 pub returns-clause-moved : goal.returns-clause-moved
 returns-clause-moved c = elim c.match-side.branch [
-    in-Client w ↦ (λ n h. let k : IsWithin n c.args.self.now.credit.client = rw w.in-Client.is at h in
-        record { low = omega (arith, ints); high = omega (arith, ints) })
+  | in-Client w ↦ (λ n h. let k : IsWithin n c.args.self.now.credit.client = rw w.in-Client.is at h in
+      record { low = omega (arith, ints); high = omega (arith, ints) })
   | in-Server w ↦ (λ n h. let k : IsWithin n c.args.self.now.credit.server = rw w.in-Server.is at h in
-        record { low = omega (arith, ints); high = omega (arith, ints) }) ]
+      record { low = omega (arith, ints); high = omega (arith, ints) })
+]
