@@ -94,7 +94,7 @@ members-apart packets done from size (n ∷ rest) h m = by (segment_of packets n
         (r.0, r.1, next s.hi (subst (λ (l : List Packet). PayloadsRise s.hi size l) whole r.2))
 
 -- what the two sides have together
-sides-sum : (connection : Connection) (segments : List Segment)
+pub sides-sum : (connection : Connection) (segments : List Segment)
     → payload_sum (filter (is_sent_by connection Client) segments) + payload_sum (filter (is_sent_by connection Server) segments) ≡ payload_sum segments
 sides-sum connection [] = refl
 sides-sum connection (s ∷ later) = by (is_endpoint s.from connection.client) (sides-sum connection later)

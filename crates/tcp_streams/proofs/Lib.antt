@@ -1,3 +1,4 @@
+pub mod CaptureFits
 pub mod FlowLemmas
 pub mod IntervalLemmas
 pub mod Lists

@@ -50,7 +50,7 @@ Falls-more : (n m : ℕ) (past : List Segment) → n ≤ m → Falls n past → 
 Falls-more n m [] le f = tt
 Falls-more n m (s ∷ past) le f = (omega (arith, f.0), f.1)
 
-Falls-past_after : (n : ℕ) (past : List Segment) (packets : List Packet) → AreNumberedFrom n packets → Falls n past → Falls (n + length packets) (past_after past packets)
+pub Falls-past_after : (n : ℕ) (past : List Segment) (packets : List Packet) → AreNumberedFrom n packets → Falls n past → Falls (n + length packets) (past_after past packets)
 Falls-past_after n past [] h f = Falls-more n (n + 0) past (omega arith) f
 Falls-past_after n past (Carried s ∷ rest) h f =
     let here : Falls (n + 1) (s ∷ past) = (omega (arith, h.0), subst (λ m. Falls m past) (sym h.0) f) in
@@ -88,7 +88,7 @@ past_of-few packets i lt =
     omega (arith, past_after-few [] (take i packets), taken)
 
 -- the past's segments stand among the packets
-abbrev Known : List Packet → List Segment → Type 0
+abbrev pub Known : List Packet → List Segment → Type 0
 Known packets [] = Unit {0}
 Known packets (s ∷ past) = (0 < s.rec) × (segment_of packets s.rec ≡ Some s) × Known packets past
 
@@ -128,7 +128,7 @@ AreMembers-push : (low : ℕ) (packets : List Packet) (xs : List ℕ) (m : ℕ) 
 AreMembers-push low packets [] m lt b some h = (lt, some, tt)
 AreMembers-push low packets (x ∷ xs) m lt b some h = (h.0, h.1, AreMembers-push x packets xs m b.0 b.1 some h.2)
 
-abbrev recs : List Segment → List ℕ
+abbrev pub recs : List Segment → List ℕ
 recs segments = map (λ (s : Segment). s.rec) segments
 
 some_of : {X : Type 0} (o : Option X) (x : X) → o ≡ Some x → IsSome o

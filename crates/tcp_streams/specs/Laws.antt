@@ -1,13 +1,15 @@
 -- Laws of the definitions, which the calls of the module `laws` promise.
-use Rattle.std.specs.Prelude.{◌≡◌, ℕ, ◌+◌, ◌-◌, ◌%◌, ◌^◌, ◌<◌, ◌≤◌, if◌then◌else◌, List, Option, Some}
+use Rattle.std.specs.Prelude.{◌≡◌, ℕ, ◌+◌, ◌-◌, ◌%◌, ◌^◌, ◌<◌, ◌≤◌, if◌then◌else◌, List, map, sum_by, Option, Some}
 use Rattle.audit_core.specs.declared.sides.Side.TheVariants.{Client, Server}
 use Rattle.packet_heads.specs.declared.packets.Packet.{Packet}
 use Rattle.packet_heads.specs.declared.packets.Segment.{Segment}
-use Rattle.packet_heads.specs.Order.{PayloadsRise}
+use Rattle.packet_heads.specs.Order.{AreNumberedFrom, PayloadsRise}
 use Rattle.tcp_streams.specs.declared.members.Connection.{Connection}
 use Rattle.tcp_streams.specs.declared.streams.Arrival.{Arrival}
 use Rattle.tcp_streams.specs.Flow.{IsFlow}
 use Rattle.tcp_streams.specs.Members.{AreMembers, payload_sum, side_segments}
+use Rattle.tcp_streams.specs.Membership.{connections_of, membership}
+use Rattle.tcp_streams.specs.Packets.{past_of}
 use Rattle.tcp_streams.specs.Sequence.{Source, brings, payload_length}
 
 -- a source has one flow: its bytes, its arrivals and its gap are determined
@@ -29,3 +31,10 @@ abbrev pub ByteHasOffset : Type 0
 ByteHasOffset =
     (isn : ℕ) (s : Segment) (k : ℕ) → payload_length s ≤ 2 ^ 32 → k < payload_length s
     → brings isn s ((s.seq + (if s.syn then 1 else 0) + k + (2 ^ 32 - 1 - isn)) % 2 ^ 32) ≡ Some (record { rec = s.rec; nanos = s.nanos; place = s.lo + k })
+
+-- the payloads of all connections of a capture fit in it together, and so do their flows
+abbrev pub FlowsFit : Type 0
+FlowsFit =
+    (packets : List Packet) (size : ℕ) (found : List Connection)
+    → AreNumberedFrom 1 packets → PayloadsRise 0 size packets → map membership found ≡ connections_of (past_of packets)
+    → sum_by (λ (c : Connection). payload_sum (side_segments packets c Client) + payload_sum (side_segments packets c Server)) found ≤ size

@@ -1,6 +1,6 @@
 //! Laws of the definitions. These calls do nothing; their contracts are what they are for.
 
-ghost use Rattle.tcp_streams.specs.Laws.{ByteHasOffset, FlowIsUnique, SidesFit};
+ghost use Rattle.tcp_streams.specs.Laws.{ByteHasOffset, FlowIsUnique, FlowsFit, SidesFit};
 
 /// A side's sources have one flow: no other bytes, arrivals or gap meet the definition.
 pub fn flow_is_unique()
@@ -10,6 +10,14 @@ pub fn flow_is_unique()
 /// The payloads of a connection's two sides together are no longer than the capture.
 pub fn sides_fit()
     ensures { SidesFit }
+{}
+
+/// The flows of all connections of a capture together are no longer than the capture: [`assemble`]
+/// promises that each is no longer than its side's payloads, and these fit in the capture.
+///
+/// [`assemble`]: crate::assemble
+pub fn flows_fit()
+    ensures { FlowsFit }
 {}
 
 /// Payload byte k of a segment has the offset that RFC 9293, 3.4 gives it.

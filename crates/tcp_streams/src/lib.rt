@@ -17,3 +17,8 @@ pub use assembly::assemble;
 pub use members::{Connection, Connections, Stray};
 pub use membership::connections;
 pub use streams::{Arrival, Flow};
+
+#[cfg(test)]
+mod plain;
+#[cfg(test)]
+mod tests;
