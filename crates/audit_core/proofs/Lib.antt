@@ -9,3 +9,6 @@ pub mod PassRows
 pub mod OrderlyRest
 pub mod Bounds
 pub mod CreditLemmas
+pub mod StreamSteps
+pub mod StreamAlone
+pub mod PartsLemmas

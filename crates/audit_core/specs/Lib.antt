@@ -22,3 +22,4 @@ pub mod StreamUses
 pub mod SingleFaults
 pub mod Room
 pub mod CreditLaws
+pub mod PartsLaw

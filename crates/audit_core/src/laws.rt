@@ -15,3 +15,12 @@ pub fn credit_is_sum()
     ensures connection { ConnectionCreditIsSum }
     ensures stream { StreamCreditIsSum }
 {}
+
+ghost use Rattle.audit_core.specs.PartsLaw.{PartsMakeFull};
+
+/// All findings of a connection's frames are, put in order, the local faults, the unmatched acknowledgements, the
+/// findings of each stream alone and those of each block of frames, however the streams are grouped and the frames cut
+/// into blocks.
+pub fn parts_make_full()
+    ensures { PartsMakeFull }
+{}
