@@ -35,11 +35,9 @@ segment_of number row datagram =
 abbrev pub decision_on : ℕ → Record → List ℕ → Packet
 decision_on number row frame =
     let datagram = data_of frame in
-    unwrap_or
-    (first_answer
-    ((ethernet_lines frame ++ ipv4.ipv4_lines (is_cut row) datagram)
-    ++ tcp.tcp_lines (ipv4.segment_bytes datagram)))
-    (packets.Segment (segment_of number row datagram))
+    let segment = ipv4.segment_bytes datagram in
+    let lines = (ethernet_lines frame ++ ipv4.ipv4_lines (is_cut row) datagram) ++ tcp.tcp_lines segment in
+    unwrap_or (first_answer lines) (packets.Segment (segment_of number row datagram))
 
 -- the packet of a record of a capture; records are numbered from 1
 unfoldable pub packet_decision : ℕ → Record → List ℕ → Packet

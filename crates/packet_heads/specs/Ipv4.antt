@@ -48,7 +48,7 @@ abbrev pub header_length : List ℕ → ℕ
 header_length datagram = 4 * header_words datagram
 
 -- Where the datagram's captured bytes end: bytes past the total length are not part of it. A total
--- length of 0, which a sender with segmentation offload leaves, stands for all bytes (own).
+-- length of 0, which a sender with segmentation offload leaves, stands for all bytes: this profile's choice.
 abbrev pub datagram_end : List ℕ → ℕ
 datagram_end datagram =
     if total_length datagram == 0 then length datagram else min (total_length datagram) (length datagram)
