@@ -12,3 +12,8 @@ pub mod CreditLemmas
 pub mod StreamSteps
 pub mod StreamAlone
 pub mod PartsLemmas
+pub mod RowSteps
+pub mod QuietSteps
+pub mod OneRow
+pub mod OwnRow
+pub mod NamedStreams

@@ -16,6 +16,8 @@ pub mod Pass
 pub mod Credit
 pub mod Run
 pub mod Shown
+pub mod SettingsSoFar
+pub mod StreamTable
 pub mod Script
 pub mod Stalls
 pub mod StreamUses

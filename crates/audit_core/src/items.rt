@@ -35,7 +35,9 @@ pub struct Step {
 }
 
 impl Step {
-    ghost use Rattle.audit_core.specs.Frame.{content_by, grant_to, is_reset, sends_end};
+    ghost use Rattle.audit_core.specs.Frame.{content_by, grant_to, is_headers, is_reset, sends_end, sends_reset};
+    ghost use Rattle.std.specs.Prelude.{◌&&◌};
+    ghost use Rattle.audit_core.specs.Side.{is_side};
     ghost use Rattle.audit_core.specs.Stream.{step_test, step_amount};
 
     /// The flow-controlled length in bytes that a side sends at this step (RFC 9113, 6.9.1), 0 where there is no frame.
@@ -74,6 +76,26 @@ impl Step {
     {
         match self.frame {
             Some(frame) => frame.body.is_reset(),
+            None => false,
+        }
+    }
+
+    /// Does a side reset the stream at this step (6.4)?
+    pub fn sends_reset(&self, side: Side) -> bool
+        ensures { result ≡ step_test (sends_reset side) self.now }
+    {
+        match self.frame {
+            Some(frame) => frame.sends_reset(side),
+            None => false,
+        }
+    }
+
+    /// Is there a HEADERS of the client at this step (6.2)?
+    pub fn has_client_headers(&self) -> bool
+        ensures { result ≡ step_test (λ frame. is_side Side.Client frame.side && is_headers frame.body) self.now }
+    {
+        match self.frame {
+            Some(frame) => Side::Client == frame.side && frame.body.is_headers(),
             None => false,
         }
     }

@@ -10,8 +10,10 @@ pub mod kinds;
 pub mod laws;
 pub mod passes;
 pub mod places;
+pub mod settings;
 pub mod sides;
 pub mod streams;
+pub mod tables;
 pub mod windows;
 pub mod worked_examples;
 

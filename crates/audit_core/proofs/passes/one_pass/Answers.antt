@@ -23,7 +23,8 @@ loop-frame-init c =
       credit = ap (λ s. s.credit) start;
       rows = rw c.new-found.ensures.items refl;
       client = rw start start-within;
-      server = rw start start-within }
+      server = rw start start-within;
+    }
 
 pub meet_windows-requires-clause-frame : goal.meet_windows-requires-clause-frame
 meet_windows-requires-clause-frame c = in_range-get_or 0 c.args.frames.now c.loop-frame.frame-index _ c.requires c.loop-frame-test.true
@@ -50,14 +51,15 @@ loop-frame-preserved c =
           c.loop-frame.connection.credit frame (drop c.loop-frame.frame-index c.args.frames.now)
           (drop (c.loop-frame.frame-index + 1) c.args.frames.now) old.credit (drop-next c.args.frames.now c.loop-frame.frame-index _ c.loop-frame-test.true) c.in_ok-meet_windows.ensures.said old.rows;
       client = within-wider (2 ^ 17 + c.loop-frame.frame-index * 2 ^ 33 + 2 ^ 33) _ _ (omega arith) (c.meet_windows.ensures.client _ old.client);
-      server = within-wider (2 ^ 17 + c.loop-frame.frame-index * 2 ^ 33 + 2 ^ 33) _ _ (omega arith) (c.meet_windows.ensures.server _ old.server) }
+      server = within-wider (2 ^ 17 + c.loop-frame.frame-index * 2 ^ 33 + 2 ^ 33) _ _ (omega arith) (c.meet_windows.ensures.server _ old.server);
+    }
 
 pub returns : goal.returns
 returns c =
     let last = c.loop-frame.invariant in
     c.cut_at_stop.ensures
     ∙ ap upto_stop (c.in_ok-put_in_order.ensures.ok
-        ∙ ap in_order (rows-done _ c.loop-frame.found.items (streams_of c.args.frames.now) last.state
-            (drop c.loop-frame.frame-index c.args.frames.now)
-            (drop_all c.loop-frame.frame-index c.args.frames.now c.loop-frame-test.false) last.rows)
-        ∙ sym (shown-full c.args.frames.now c.requires))
+    ∙ ap in_order (rows-done _ c.loop-frame.found.items (streams_of c.args.frames.now) last.state
+    (drop c.loop-frame.frame-index c.args.frames.now)
+    (drop_all c.loop-frame.frame-index c.args.frames.now c.loop-frame-test.false) last.rows)
+    ∙ sym (shown-full c.args.frames.now c.requires))

@@ -13,4 +13,5 @@ invariant-loop-frame l = record {
   rows : l.found.items ++ shown_rows (streams_of l.frames) state (drop l.frame-index l.frames)
       ≡ shown_rows (streams_of l.frames) pass_start l.frames;
   client : IsWithin (2 ^ 17 + l.frame-index * 2 ^ 33) l.connection.credit.client;
-  server : IsWithin (2 ^ 17 + l.frame-index * 2 ^ 33) l.connection.credit.server }
+  server : IsWithin (2 ^ 17 + l.frame-index * 2 ^ 33) l.connection.credit.server;
+}

@@ -1,0 +1,30 @@
+use Rattle.std.proofs.Common.{◌≡◌, ℕ, ◌+◌, ◌++◌, drop, get_or, refl, sym, ap, ◌∙◌, rules}
+use Rattle.audit_core.specs.Pass.{streams_of}
+use Rattle.audit_core.specs.StreamTable.{streams_in, idle_rows, IsIndex}
+use Rattle.audit_core.proofs.OrderlyRest.{drop-next}
+use Rattle.audit_core.proofs.NamedStreams.{without, named-more, named-first, index-empty}
+use Rattle.audit_core.proofs.tables.StreamTable.of.Goals as goal
+
+pub loop-frame-init : goal.loop-frame-init
+loop-frame-init c =
+    let none = c.new.ensures.items in
+    record {
+      idle = rw none refl;
+      index = rw none (index-empty c.new-2.result c.new-2.ensures.empty);
+      named = rw none (named-first (streams_of c.args.frames.now));
+    }
+
+pub loop-frame-preserved : goal.loop-frame-preserved
+loop-frame-preserved c =
+    let seen = streams_in c.loop-frame.table.rows.items in
+    let frame = get_or c.args.frames.now c.loop-frame.frame-index _ in
+    let rest = drop (c.loop-frame.frame-index + 1) c.args.frames.now in
+    record {
+      idle = c.in_ok-note.ensures.idle;
+      index = c.in_ok-note.ensures.index;
+      named = ap (λ l. l ++ without l (streams_of rest)) c.in_ok-note.ensures.named
+          ∙ named-more seen frame rest
+          ∙ ap (λ l. seen ++ without seen (streams_of l))
+          (sym (drop-next c.args.frames.now c.loop-frame.frame-index _ c.loop-frame-test.true))
+          ∙ c.loop-frame.invariant.named;
+    }

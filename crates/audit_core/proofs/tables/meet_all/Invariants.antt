@@ -1,0 +1,15 @@
+use Rattle.std.proofs.Common.{◌≡◌, ℕ, ◌+◌, ◌^◌, ◌++◌, take, drop, map}
+use Rattle.std.specs.List.{flat_map}
+use Rattle.audit_core.specs.StreamTable.{row_said, row_after, RowsFit}
+use Rattle.audit_core.proofs.tables.meet_all.Given as goal
+
+abbrev pub invariant-loop-row : goal.invariant-loop-row
+invariant-loop-row l = record {
+  said : l.found.items ++ flat_map (row_said l.fn.initial l.frame l.change) (drop l.row-index l.rows)
+      ≡ l.fn.found.items ++ flat_map (row_said l.fn.initial l.frame l.change) l.fn.rows;
+  after : take l.row-index l.rows ++ map (row_after l.fn.initial l.frame l.change) (drop l.row-index l.rows)
+      ≡ map (row_after l.fn.initial l.frame l.change) l.fn.rows;
+  room : RowsFit (2 ^ 62) (drop l.row-index l.rows);
+  fits : (bound : ℕ) → RowsFit bound l.fn.rows →
+      RowsFit (bound + 2 ^ 34) (take l.row-index l.rows) × RowsFit bound (drop l.row-index l.rows);
+}

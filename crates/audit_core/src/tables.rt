@@ -1,0 +1,173 @@
+ghost use Rattle.std.specs.Prelude.{◌≡◌, ℕ, ◌+◌, ◌-◌, ◌^◌, ◌≤◌, ◌++◌, IfOk, OnOk, map, nat_eq, false};
+ghost use Rattle.audit_core.specs.Stream.{initial_after};
+ghost use Rattle.std.specs.HashMap.{get};
+ghost use Rattle.std.specs.List.{flat_map};
+ghost use Rattle.audit_core.specs.StreamTable.{step_at, row_said, row_after, streams_in, idle_rows, with_stream, RowFits, RowsFit, IsIndex};
+ghost use Rattle.audit_core.specs.Pass.{streams_of};
+
+use crate::findings::Finding;
+use crate::frames::Frame;
+use crate::items::{Change, Step};
+use crate::sides::Sides;
+use crate::streams::Stream;
+use crate::windows::initial_after;
+use std::alloc::{AllocError, Global};
+use std::collections::HashMap;
+
+/// A stream and what it is between two frames.
+#[derive(Clone, Copy, Debug, PartialEq, Eq)]
+pub struct StreamRow {
+    pub stream: u32,
+    pub entry: Stream,
+}
+
+impl StreamRow {
+    /// Adds what the stream shows at a frame, and brings it to its state after the frame.
+    fn meet(
+        &mut self,
+        found: &mut Vec<Finding>,
+        initial: &Sides<u32>,
+        frame: &Frame,
+        change: &Option<Change>,
+    ) -> Result<(), AllocError>
+        requires numbered { frame.now.number ≤ 2 ^ 28 - 2 }
+        requires fits { RowFits (2 ^ 62) self.old }
+        ensures said { OnOk result (found.new.items
+            ≡ found.old.items ++ row_said initial.now frame.now change.now self.old) }
+        ensures after { OnOk result (self.new ≡ row_after initial.now frame.now change.now self.old) }
+        ensures fits { OnOk result ((bound : ℕ) → RowFits bound self.old → RowFits (bound + 2 ^ 34) self.new) }
+    {
+        let step = step_at(frame, change, self.stream);
+        self.entry.meet(found, self.stream, initial, &step)
+    }
+}
+
+/// What a stream meets at a frame that brings this change.
+fn step_at(frame: &Frame, change: &Option<Change>, stream: u32) -> Step
+    ensures { result ≡ step_at frame.now change.now stream }
+{
+    Step {
+        number: frame.number,
+        frame: if frame.stream == stream {
+            Some(*frame)
+        } else {
+            None
+        },
+        change: *change,
+    }
+}
+
+/// Adds what all rows show at a frame, and brings them to their states after it.
+fn meet_all(
+    rows: &mut [StreamRow],
+    found: &mut Vec<Finding>,
+    initial: &Sides<u32>,
+    frame: &Frame,
+    change: &Option<Change>,
+) -> Result<(), AllocError>
+    requires numbered { frame.now.number ≤ 2 ^ 28 - 2 }
+    requires fits { RowsFit (2 ^ 62) rows.old }
+    ensures said { OnOk result (found.new.items
+        ≡ found.old.items ++ flat_map (row_said initial.now frame.now change.now) rows.old) }
+    ensures after { OnOk result (rows.new ≡ map (row_after initial.now frame.now change.now) rows.old) }
+    ensures fits { OnOk result ((bound : ℕ) → RowsFit bound rows.old → RowsFit (bound + 2 ^ 34) rows.new) }
+{
+    for row in rows.iter_mut() {
+        row.meet(found, initial, frame, change)?;
+    }
+    Ok(())
+}
+
+/// Does a change move an initial window?
+fn moves_initial(change: &Option<Change>, initial: &Sides<u32>) -> bool
+    ensures { result ≡ false → initial_after change.now initial.now ≡ initial.now }
+{
+    let after = initial_after(change, initial);
+    after.client != initial.client || after.server != initial.server
+}
+
+/// The streams that the frames of a connection name, each with what it is between two frames.
+#[derive(Drop)]
+pub struct StreamTable {
+    rows: Vec<StreamRow>,
+    /// The place of each stream's row.
+    positions: HashMap<u32, usize>,
+}
+
+impl StreamTable {
+    /// The streams other than 0 that some frames name, in order of their first frames, none of them opened.
+    pub fn of(alloc: Global, frames: &[Frame]) -> Result<Self, AllocError>
+        ensures rows { IfOk result (λ table. table.rows.items ≡ idle_rows (streams_of frames.now)) }
+        ensures index { IfOk result (λ table. IsIndex (streams_in table.rows.items) table.positions) }
+    {
+        let mut table = StreamTable {
+            rows: Vec::new(alloc),
+            positions: HashMap::new(alloc),
+        };
+        for frame in frames {
+            table.note(frame.stream)?;
+        }
+        Ok(table)
+    }
+
+    /// Adds a row for a stream, where it is not 0 and has none yet.
+    fn note(&mut self, stream: u32) -> Result<(), AllocError>
+        requires index { IsIndex (streams_in self.old.rows.items) self.old.positions }
+        requires idle { self.old.rows.items ≡ idle_rows (streams_in self.old.rows.items) }
+        ensures index { OnOk result (IsIndex (streams_in self.new.rows.items) self.new.positions) }
+        ensures idle { OnOk result (self.new.rows.items ≡ idle_rows (streams_in self.new.rows.items)) }
+        ensures named { OnOk result (streams_in self.new.rows.items
+            ≡ with_stream stream (streams_in self.old.rows.items)) }
+    {
+        if stream == 0 {
+            return Ok(());
+        }
+        if self.positions.contains_key(&stream) {
+            return Ok(());
+        }
+        let place = self.rows.len();
+        self.positions.insert(stream, place)?;
+        self.rows.push(StreamRow {
+            stream,
+            entry: Stream::idle(),
+        })?;
+        Ok(())
+    }
+
+    /// The place of a stream's row.
+    fn place_of(&self, stream: u32) -> Option<usize>
+        ensures { result ≡ get nat_eq self.now.positions stream }
+    {
+        self.positions.get(&stream).copied()
+    }
+
+    /// Adds what all streams show at a frame, and brings them to their states after it; `initial` are the initial
+    /// windows in force before it. Only a frame that changes an initial window touches streams other than its own.
+    pub fn meet(
+        &mut self,
+        found: &mut Vec<Finding>,
+        initial: &Sides<u32>,
+        frame: &Frame,
+        change: &Option<Change>,
+    ) -> Result<(), AllocError>
+        requires numbered { frame.now.number ≤ 2 ^ 28 - 2 }
+        requires fits { RowsFit (2 ^ 62) self.old.rows.items }
+        requires index { IsIndex (streams_in self.old.rows.items) self.old.positions }
+        ensures said { OnOk result (found.new.items
+            ≡ found.old.items ++ flat_map (row_said initial.now frame.now change.now) self.old.rows.items) }
+        ensures after { OnOk result (self.new.rows.items
+            ≡ map (row_after initial.now frame.now change.now) self.old.rows.items) }
+        ensures fits { OnOk result ((bound : ℕ) → RowsFit bound self.old.rows.items
+            → RowsFit (bound + 2 ^ 34) self.new.rows.items) }
+        ensures index { OnOk result (IsIndex (streams_in self.new.rows.items) self.new.positions) }
+    {
+        if moves_initial(change, initial) {
+            return meet_all(&mut self.rows, found, initial, frame, change);
+        }
+        if let Some(place) = self.place_of(frame.stream) {
+            let row = &mut self.rows[place];
+            row.meet(found, initial, frame, change)?;
+        }
+        Ok(())
+    }
+}
