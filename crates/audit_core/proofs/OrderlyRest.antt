@@ -25,3 +25,11 @@ drop-next (x ∷ xs) (suc i) d l =
     let e : suc i + 1 ≡ suc (i + 1) = omega arith in
     let k : i < length xs = omega arith in
     rw e (drop-next xs i d k)
+
+pub number-get_or : (low : ℕ) (frames : List Frame) (i : ℕ) (d : Frame) → IsOrderlyFrom low frames → i < length frames →
+    (get_or frames i d).number ≤ 2 ^ 28 - 2
+number-get_or low frames i d h l = let r = (in_range-get_or low frames i d h l).number in omega arith
+
+pub stream-get_or : (low : ℕ) (frames : List Frame) (i : ℕ) (d : Frame) → IsOrderlyFrom low frames → i < length frames →
+    (get_or frames i d).stream < 2 ^ 31
+stream-get_or low frames i d h l = (in_range-get_or low frames i d h l).stream

@@ -5,8 +5,12 @@ ghost use Rattle.audit_core.specs.Pass.{full};
 ghost use Rattle.audit_core.specs.Shown.{is_shown_so_far};
 
 use crate::connections::ConnectionState;
-use crate::findings::{Finding, cut_at_stop, put_in_order};
+use crate::findings::{Finding, cut_at_stop, put_in_order, say_if};
 use crate::frames::Frame;
+use crate::items::Change;
+use crate::kinds::Kind;
+use crate::settings::SettingsSoFar;
+use crate::tables::StreamTable;
 use std::alloc::{AllocError, Global};
 
 /// The plain pass over a connection's frames in capture order: its findings of the kinds that are shown so far, in
@@ -16,11 +20,28 @@ pub fn one_pass(alloc: Global, frames: &[Frame]) -> Result<Vec<Finding>, AllocEr
     ensures { IfOk result (λ found. found.items ≡ upto_stop (filter is_shown_so_far (full frames.now))) }
 {
     let mut found = Vec::new(alloc);
+    let mut settings = SettingsSoFar::start(alloc);
     let mut connection = ConnectionState::start();
+    let mut streams = StreamTable::of(alloc, frames)?;
     for frame in frames {
+        let initial = settings.initial();
+        let change = settings.meet(frame)?;
+        let ack = Finding::at(Kind::UnmatchedAck, frame.number, frame.stream, frame.side, 0);
+        say_if(&mut found, takes_nothing(frame, &change), ack)?;
         connection.meet_windows(&mut found, frame)?;
+        streams.meet(&mut found, &initial, frame, &change)?;
     }
     put_in_order(&mut found)?;
     cut_at_stop(&mut found);
     Ok(found)
+}
+
+ghost use Rattle.std.specs.Prelude.{◌&&◌, is_none};
+ghost use Rattle.audit_core.specs.Frame.{is_ack};
+
+/// Is the frame an acknowledgement that brings no change (RFC 9113, 6.5.3)?
+fn takes_nothing(frame: &Frame, change: &Option<Change>) -> bool
+    ensures { result ≡ (is_ack frame.now.body && is_none change.now) }
+{
+    frame.body.is_ack() && change.is_none()
 }

@@ -1,17 +1,22 @@
-use Rattle.std.proofs.Common.{◌≡◌, ℕ, ◌+◌, ◌*◌, ◌^◌, ◌++◌, drop, List}
-use Rattle.audit_core.specs.declared.findings.Finding.{Finding}
-use Rattle.audit_core.specs.Finding.{in_order}
+use Rattle.std.proofs.Common.{◌≡◌, ℕ, ◌+◌, ◌*◌, ◌^◌, ◌≤◌, ◌++◌, drop, vec_len}
 use Rattle.audit_core.specs.Window.{IsWithin}
+use Rattle.audit_core.specs.SettingsSoFar.{in_force_of}
+use Rattle.audit_core.specs.StreamTable.{streams_in, RowsFit, IsIndex}
 use Rattle.audit_core.specs.Pass.{PassState, pass_start, streams_of}
-use Rattle.audit_core.proofs.PassRows.{shown_rows}
+use Rattle.audit_core.proofs.PassRows.{shown_rows, rows_at}
 use Rattle.audit_core.proofs.passes.one_pass.Given as goal
 
 abbrev pub invariant-loop-frame : goal.invariant-loop-frame
 invariant-loop-frame l = record {
   state : PassState;
+  in_force : in_force_of l.settings ≡ state.in_force;
   credit : l.connection.credit ≡ state.connection.credit;
+  table : l.streams.rows.items ≡ rows_at state (streams_of l.frames);
+  index : IsIndex (streams_in l.streams.rows.items) l.streams.positions;
   rows : l.found.items ++ shown_rows (streams_of l.frames) state (drop l.frame-index l.frames)
       ≡ shown_rows (streams_of l.frames) pass_start l.frames;
-  client : IsWithin (2 ^ 17 + l.frame-index * 2 ^ 33) l.connection.credit.client;
-  server : IsWithin (2 ^ 17 + l.frame-index * 2 ^ 33) l.connection.credit.server;
-}
+  client_paired : l.settings.paired.client ≤ vec_len l.settings.sent.server;
+  server_paired : l.settings.paired.server ≤ vec_len l.settings.sent.client;
+  client : IsWithin (2 ^ 17 + l.frame-index * 2 ^ 34) l.connection.credit.client;
+  server : IsWithin (2 ^ 17 + l.frame-index * 2 ^ 34) l.connection.credit.server;
+  fits : RowsFit (2 ^ 17 + l.frame-index * 2 ^ 34) l.streams.rows.items }
