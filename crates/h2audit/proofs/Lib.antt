@@ -1,2 +1,3 @@
 mod Capture
 mod Leaving
+mod Audits

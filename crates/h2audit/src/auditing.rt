@@ -1,17 +1,15 @@
-ghost use Rattle.std.specs.Prelude.{◌≡◌, IfOk, IfErr, length};
+ghost use Rattle.std.specs.Prelude.{◌≡◌, ◌<◌, ◌^◌, IfOk, IfErr, length};
 ghost use Rattle.pcap_records.specs.Place.{AreTimely, AreWithin};
-ghost use Rattle.tcp_streams.specs.Membership.{strays_of};
-ghost use Rattle.tcp_streams.specs.Packets.{past_of};
-ghost use Rattle.audit_report.specs.CaptureLines.{capture_text};
 ghost use Rattle.h2audit.specs.Choices.{choices};
-ghost use Rattle.h2audit.specs.Report.{IsReport, packets_of};
+ghost use Rattle.h2audit.specs.Report.{IsReport, IsReportOn};
 ghost use Rattle.h2audit.specs.Run.{IsNoReport};
 
+use crate::connection::{audit_each, verdict_on};
 use crate::fault::AuditFault;
 use crate::gate::Gate;
 use crate::options::Options;
 use crate::verdict::Verdict;
-use audit_report::capture_lines;
+use audit_report::report;
 use packet_heads::decode_all;
 use pcap_records::{PcapFault, Records, records};
 use std::alloc::{AllocError, Global};
@@ -24,17 +22,17 @@ use tcp_streams::connections;
 pub fn audit(
     rt: &(impl Threads + Sync),
     alloc: Global,
-    _options: &Options,
+    options: &Options,
     capture: &[u8],
     _gate: &impl Gate,
 ) -> Result<(Vec<u8>, Verdict), AuditFault>
     ensures report { IfOk result
-        (λ r. IsReport capture.now (choices _options.now).frames_shown r.0.items r.1) }
+        (λ r. IsReport capture.now (choices options.now).frames_shown r.0.items r.1) }
     ensures refused { IfErr result (λ e. IsNoReport capture.now e) }
 {
     match records(alloc, capture) {
-        Ok(found) => match report_of(rt, alloc, &found, capture) {
-            Ok(text) => Ok((text, Verdict::Clean)),
+        Ok(found) => match report_on(rt, alloc, &found, capture, options.frames_shown()) {
+            Ok(answer) => Ok(answer),
             Err(_) => Err(AuditFault::OutOfMemory),
         },
         Err(PcapFault::OutOfMemory) => Err(AuditFault::OutOfMemory),
@@ -42,25 +40,36 @@ pub fn audit(
     }
 }
 
-/// The report's text.
-fn report_of(
+/// The report of a capture whose records are these, and its verdict.
+fn report_on(
     rt: &(impl Threads + Sync),
     alloc: Global,
     found: &Records,
     capture: &[u8],
-) -> Result<Vec<u8>, AllocError>
+    frames_shown: bool,
+) -> Result<(Vec<u8>, Verdict), AllocError>
+    requires size { length capture.now < 2 ^ 31 }
     requires ethernet { found.now.link ≡ 1 }
     requires within { AreWithin (length capture.now) found.now.rows.items }
     requires timely { AreTimely found.now.rows.items }
-    ensures { IfOk result (λ text. text.items ≡ capture_text found.now (packets_of capture.now found.now)
-        (strays_of (past_of (packets_of capture.now found.now)))) }
+    ensures { IfOk result (λ r. IsReportOn capture.now found.now frames_shown r.0.items r.1) }
 {
     let packets = decode_all(rt, alloc, found, capture)?;
     let connections = connections(alloc, packets.as_slice())?;
-    capture_lines(
+    let audited = audit_each(
+        alloc,
+        capture,
+        packets.as_slice(),
+        connections.opened.as_slice(),
+    )?;
+    let text = report(
         alloc,
         found,
         packets.as_slice(),
-        connections.strays.as_slice(),
-    )
+        &connections,
+        audited.as_slice(),
+        frames_shown,
+    )?;
+    let verdict = verdict_on(audited.as_slice());
+    Ok((text, verdict))
 }

@@ -3,6 +3,7 @@
 
 mod auditing;
 mod command;
+mod connection;
 mod fault;
 mod gate;
 mod options;

@@ -1,0 +1,41 @@
+use Rattle.std.proofs.Common.{◌≡◌, ◌∙◌, List, length, subst, ap}
+use Rattle.audit_report.specs.declared.audited.Audited.{Audited}
+use Rattle.audit_report.specs.Entry.{entries_of}
+use Rattle.audit_report.specs.ReportText.{report_text}
+use Rattle.packet_heads.specs.declared.packets.Packet.{Packet}
+use Rattle.tcp_streams.specs.declared.members.Connection.{Connection}
+use Rattle.tcp_streams.specs.declared.members.Stray.{Stray}
+use Rattle.tcp_streams.specs.Membership.{connections_of, strays_of}
+use Rattle.tcp_streams.specs.Packets.{past_of}
+use Rattle.h2audit.specs.Audited.{AreAudited, verdict_of}
+use Rattle.h2audit.specs.Report.{packets_of}
+use Rattle.h2audit.proofs.Audits.{AreAudited-length}
+use Rattle.h2audit.proofs.auditing.report_on.Goals as goal
+
+pub report-requires-clause-each : goal.report-requires-clause-each
+report-requires-clause-each g c =
+    ap length c.as_slice-5.ensures.value ∙ AreAudited-length c.args.capture.now c.as_slice-2.result.now c.as_slice-3.result.now c.in_ok-audited.audited.items c.in_ok-audited.ensures.audits ∙ ap length c.as_slice-3.ensures.value
+
+pub returns : goal.returns
+returns g c =
+    let capture = c.args.capture.now in
+    let packets = packets_of capture c.args.found.now in
+    let opened = c.in_ok-connections.connections.opened.items in
+    let audited = c.in_ok-audited.audited.items in
+    let exact = c.in_ok-packets.ensures.exact in
+    let given : c.as_slice.result.now ≡ packets = c.as_slice.ensures.value ∙ exact in
+    let lent : c.as_slice-2.result.now ≡ packets = c.as_slice-2.ensures.value ∙ exact in
+    let shown : c.as_slice-4.result.now ≡ packets = c.as_slice-4.ensures.value ∙ exact in
+    let strays = c.in_ok-connections.ensures.strays ∙ ap (λ (p : List Packet). strays_of (past_of p)) given in
+    let by_packets = subst (λ (p : List Packet). AreAudited capture p c.as_slice-3.result.now audited) lent c.in_ok-audited.ensures.audits in
+    record {
+      opened = opened;
+      audited = audited;
+      connections = c.in_ok-connections.ensures.opened ∙ ap (λ (p : List Packet). connections_of (past_of p)) given;
+      audits = subst (λ (cs : List Connection). AreAudited capture packets cs audited) c.as_slice-3.ensures.value by_packets;
+      spelled = c.in_ok-text.ensures
+          ∙ ap (λ (p : List Packet). report_text c.args.found.now p c.in_ok-connections.connections.strays.items (entries_of opened c.as_slice-5.result.now) c.args.frames_shown) shown
+          ∙ ap (λ (s : List Stray). report_text c.args.found.now packets s (entries_of opened c.as_slice-5.result.now) c.args.frames_shown) strays
+          ∙ ap (λ (a : List Audited). report_text c.args.found.now packets (strays_of (past_of packets)) (entries_of opened a) c.args.frames_shown) c.as_slice-5.ensures.value;
+      judged = c.verdict_on-verdict.ensures ∙ ap verdict_of c.as_slice-6.ensures.value;
+    }

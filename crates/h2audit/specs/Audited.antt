@@ -1,0 +1,68 @@
+-- The audit of one connection.
+use Rattle.std.specs.Prelude.{◌≡◌, ℕ, Bool, false, nat_le, if◌then◌else◌, List, [], ◌∷◌, filter, Option, None, Some, IsTrue}
+use Rattle.std.specs.List.{list_any}
+use Rattle.audit_core.specs.declared.sides.Side.{Side}
+use Rattle.audit_core.specs.declared.sides.Side.TheVariants.{Client, Server}
+use Rattle.audit_core.specs.declared.findings.Finding.{Finding}
+use Rattle.audit_core.specs.Finding.{upto_stop}
+use Rattle.audit_core.specs.Kind.{rank_of}
+use Rattle.audit_core.specs.Pass.{full}
+use Rattle.audit_core.specs.Shown.{is_shown_so_far}
+use Rattle.packet_heads.specs.declared.packets.Packet.{Packet}
+use Rattle.packet_heads.specs.declared.packets.Segment.{Segment}
+use Rattle.tcp_streams.specs.declared.members.Connection.{Connection}
+use Rattle.tcp_streams.specs.declared.streams.Flow.{Flow}
+use Rattle.tcp_streams.specs.Flow.{IsFlow}
+use Rattle.tcp_streams.specs.Members.{initial_of, side_segments}
+use Rattle.tcp_streams.specs.Sequence.{source}
+use Rattle.h2_frames.specs.declared.connections.Cut.{Cut}
+use Rattle.h2_frames.specs.declared.connections.Cut.TheVariants.{Http2}
+use Rattle.h2_frames.specs.Cut.{IsCut}
+use Rattle.audit_report.specs.declared.audited.Audited.{Audited}
+use Rattle.h2audit.specs.declared.verdict.Verdict.{Verdict}
+use Rattle.h2audit.specs.declared.verdict.Verdict.TheVariants.{Clean, Faults}
+
+-- the flow of segments, from the initial sequence number on; without such a number it is empty and not started
+abbrev pub IsFlowFrom : Option ℕ → List ℕ → List Segment → Flow → Type 0
+IsFlowFrom (Some isn) capture segments flow =
+    IsTrue flow.started × IsFlow capture (source isn segments) flow.bytes.items flow.arrivals.items flow.gap
+IsFlowFrom None capture segments flow =
+    (flow.started ≡ false) × (flow.bytes.items ≡ []) × (flow.arrivals.items ≡ []) × (flow.gap ≡ None)
+
+-- the flow of a side of a connection
+abbrev pub IsFlowOf : List ℕ → List Packet → Connection → Side → Flow → Type 0
+IsFlowOf capture packets connection side flow =
+    IsFlowFrom (initial_of connection side) capture (side_segments packets connection side) flow
+
+-- what is found in the frames of an HTTP/2 connection: what one pass over them says, up to the first connection error
+abbrev pub findings_of : Cut → List Finding
+findings_of (Http2 frames tails) = upto_stop (filter is_shown_so_far (full frames.items))
+findings_of _ = []
+
+-- the audit of a connection: its two flows, what they hold, and what is found in the frames
+pub record IsAudited (capture : List ℕ) (packets : List Packet) (connection : Connection) (audited : Audited) : Type 0 where
+  pub client : Flow
+  pub server : Flow
+  pub flows : audited.flows ≡ client ∷ server ∷ []
+  pub client_is : IsFlowOf capture packets connection Client client
+  pub server_is : IsFlowOf capture packets connection Server server
+  pub cut : IsCut client server audited.cut
+  pub findings : audited.findings.items ≡ findings_of audited.cut
+
+-- each connection's audit, in order
+abbrev pub AreAudited : List ℕ → List Packet → List Connection → List Audited → Type 0
+AreAudited capture packets [] [] = Unit {0}
+AreAudited capture packets (connection ∷ connections) (audited ∷ rest) =
+    IsAudited capture packets connection audited × AreAudited capture packets connections rest
+AreAudited capture packets _ _ = ⊥
+
+-- connection errors and other breaches of the protocol; the kinds above rank 20 tell of stalls and of credit
+abbrev pub is_fault : Finding → Bool
+is_fault finding = nat_le (rank_of finding.kind) 20
+
+abbrev pub has_fault : Audited → Bool
+has_fault audited = list_any is_fault audited.findings.items
+
+-- Faults exactly where some connection has a finding that is a fault
+abbrev pub verdict_of : List Audited → Verdict
+verdict_of audited = if list_any has_fault audited then Faults else Clean

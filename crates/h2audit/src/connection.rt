@@ -1,0 +1,127 @@
+ghost use Rattle.std.specs.Prelude.{◌≡◌, ◌<◌, ◌≤◌, ◌^◌, All, IfOk, length, vec_len};
+ghost use Rattle.packet_heads.specs.Order.{AreNumberedFrom, PayloadsRise, TimesFit};
+ghost use Rattle.tcp_streams.specs.Arrivals.{IsOrderly};
+ghost use Rattle.tcp_streams.specs.Members.{AreMembers, payload_sum, side_segments};
+ghost use Rattle.tcp_streams.specs.declared.members.Connection.{Connection};
+ghost use Rattle.h2_frames.specs.Cut.{HasOrderlyFrames};
+ghost use Rattle.audit_report.specs.declared.audited.Audited.{Audited};
+ghost use Rattle.h2audit.specs.Audited.{AreAudited, IsAudited, IsFlowOf, findings_of, has_fault, is_fault, verdict_of};
+ghost use Rattle.std.specs.List.{list_any};
+
+use crate::verdict::Verdict;
+use audit_core::{Finding, Side, one_pass};
+use audit_report::Audited;
+use h2_frames::{Cut, cut};
+use packet_heads::Packet;
+use std::alloc::{AllocError, Global};
+use tcp_streams::{Connection, Flow, assemble};
+
+/// The audits of the connections of a capture, in order.
+pub(crate) fn audit_each(
+    alloc: Global,
+    capture: &[u8],
+    packets: &[Packet],
+    opened: &[Connection],
+) -> Result<Vec<Audited>, AllocError>
+    requires size { length capture.now < 2 ^ 31 }
+    requires numbered { AreNumberedFrom 1 packets.now }
+    requires payloads { PayloadsRise 0 (length capture.now) packets.now }
+    requires times { TimesFit packets.now }
+    requires members { All (λ (c : Connection). AreMembers 0 packets.now c.members.items) opened.now }
+    ensures audits { IfOk result (λ each. AreAudited capture.now packets.now opened.now each.items) }
+    ensures orderly { IfOk result (λ each. All (λ (a : Audited). HasOrderlyFrames a.cut) each.items) }
+{
+    let mut each = Vec::new(alloc);
+    for connection in opened {
+        let audited = audit_connection(alloc, capture, packets, connection)?;
+        each.push(audited)?;
+    }
+    Ok(each)
+}
+
+/// The audit of one connection: its two flows, what they hold, and what is found in the frames.
+fn audit_connection(
+    alloc: Global,
+    capture: &[u8],
+    packets: &[Packet],
+    connection: &Connection,
+) -> Result<Audited, AllocError>
+    requires size { length capture.now < 2 ^ 31 }
+    requires numbered { AreNumberedFrom 1 packets.now }
+    requires payloads { PayloadsRise 0 (length capture.now) packets.now }
+    requires times { TimesFit packets.now }
+    requires members { AreMembers 0 packets.now connection.now.members.items }
+    ensures audit { IfOk result (IsAudited capture.now packets.now connection.now) }
+    ensures orderly { IfOk result (λ a. HasOrderlyFrames a.cut) }
+{
+    let client = flow_of(alloc, capture, packets, connection, Side::Client)?;
+    let server = flow_of(alloc, capture, packets, connection, Side::Server)?;
+    let cut = cut(alloc, &client, &server)?;
+    let findings = findings_in(alloc, &cut)?;
+    Ok(Audited {
+        flows: [client, server],
+        cut,
+        findings,
+    })
+}
+
+/// The flow of one side.
+fn flow_of(
+    alloc: Global,
+    capture: &[u8],
+    packets: &[Packet],
+    connection: &Connection,
+    side: Side,
+) -> Result<Flow, AllocError>
+    requires size { length capture.now < 2 ^ 31 }
+    requires numbered { AreNumberedFrom 1 packets.now }
+    requires payloads { PayloadsRise 0 (length capture.now) packets.now }
+    requires times { TimesFit packets.now }
+    requires members { AreMembers 0 packets.now connection.now.members.items }
+    ensures flow { IfOk result (IsFlowOf capture.now packets.now connection.now side) }
+    ensures within { IfOk result (λ f. vec_len f.bytes ≤ payload_sum (side_segments packets.now connection.now side)) }
+    ensures orderly { IfOk result IsOrderly }
+{
+    assemble(alloc, capture, packets, connection, side)
+}
+
+/// What is found in the frames of a cut.
+fn findings_in(alloc: Global, cut: &Cut) -> Result<Vec<Finding>, AllocError>
+    requires { HasOrderlyFrames cut.now }
+    ensures { IfOk result (λ found. found.items ≡ findings_of cut.now) }
+{
+    match cut {
+        Cut::Http2 { frames, .. } => one_pass(alloc, frames.as_slice()),
+        _ => Ok(Vec::new(alloc)),
+    }
+}
+
+/// The greatest rank of a finding that is a fault. Those above tell of stalls and of credit.
+const LAST_FAULT: u8 = 20;
+
+/// Faults where some connection has a finding that is a fault.
+pub(crate) fn verdict_on(audited: &[Audited]) -> Verdict
+    ensures { result ≡ verdict_of audited.now }
+{
+    if any_has_fault(audited) {
+        Verdict::Faults
+    } else {
+        Verdict::Clean
+    }
+}
+
+fn any_has_fault(audited: &[Audited]) -> bool
+    ensures { result ≡ list_any has_fault audited.now }
+{
+    audited
+        .iter()
+        .any(|audit| has_fault_in(audit.findings.as_slice()))
+}
+
+fn has_fault_in(findings: &[Finding]) -> bool
+    ensures { result ≡ list_any is_fault findings.now }
+{
+    findings
+        .iter()
+        .any(|finding| finding.kind.rank() <= LAST_FAULT)
+}
