@@ -166,13 +166,13 @@ fn stream_overflow(rt: HostRuntime) -> Result<(), Fail> {
 }
 
 #[test]
-fn padded_stall_then_end(rt: HostRuntime) -> Result<(), Fail> {
+fn padded_stall(rt: HostRuntime) -> Result<(), Fail> {
     let frames = [
         headers(5),
-        content(6, Side::Client, 0, 65535 - 16383),
+        content(6, Side::Client, 0, 16384),
+        content(7, Side::Client, 0, 16384),
+        content(8, Side::Client, 0, 16384),
         content(9, Side::Client, 8, 16383),
-        content(11, Side::Client, 1, 0),
-        content(12, Side::Client, 0, 1),
     ];
     let run = run(rt.alloc(), &frames, &[])?;
     assert_eq!(rt;
@@ -180,13 +180,48 @@ fn padded_stall_then_end(rt: HostRuntime) -> Result<(), Fail> {
         [
             finding(5, Kind::StreamCredit, Side::Client, 65535),
             finding(5, Kind::StreamCredit, Side::Server, 65535),
-            finding(6, Kind::StreamCredit, Side::Client, 16383),
+            finding(6, Kind::StreamCredit, Side::Client, 49151),
+            finding(7, Kind::StreamCredit, Side::Client, 32767),
+            finding(8, Kind::StreamCredit, Side::Client, 16383),
             finding(9, Kind::StreamStallBegin, Side::Client, 0),
             finding(9, Kind::StreamCredit, Side::Client, 0),
+        ]
+        .as_slice()
+    );
+    Ok(())
+}
+
+#[test]
+fn after_end_and_reset(rt: HostRuntime) -> Result<(), Fail> {
+    let frames = [
+        headers(5),
+        content(10, Side::Client, 0, 65535),
+        content(11, Side::Client, 1, 0),
+        content(12, Side::Client, 0, 1),
+    ];
+    let ended = run(rt.alloc(), &frames, &[])?;
+    assert_eq!(rt;
+        ended.findings.as_slice(),
+        [
+            finding(5, Kind::StreamCredit, Side::Client, 65535),
+            finding(5, Kind::StreamCredit, Side::Server, 65535),
+            finding(10, Kind::StreamStallBegin, Side::Client, 0),
+            finding(10, Kind::StreamCredit, Side::Client, 0),
             finding(11, Kind::StreamStallEnd, Side::Client, 0),
             finding(12, Kind::AfterEnd, Side::Client, 0),
         ]
         .as_slice()
+    );
+    let frames = [
+        headers(6),
+        reset(13, Side::Server),
+        content(14, Side::Client, 0, 1),
+    ];
+    let gone = run(rt.alloc(), &frames, &[])?;
+    assert_eq!(rt; gone.findings.len(), 2);
+    assert_eq!(rt;
+        gone.findings[1],
+        finding(6, Kind::StreamCredit, Side::Server, 65535)
     );
     Ok(())
 }
