@@ -17,3 +17,4 @@ pub mod QuietSteps
 pub mod OneRow
 pub mod OwnRow
 pub mod NamedStreams
+pub mod StopLemmas

@@ -25,3 +25,4 @@ pub mod SingleFaults
 pub mod Room
 pub mod CreditLaws
 pub mod PartsLaw
+pub mod StopLaw

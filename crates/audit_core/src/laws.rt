@@ -24,3 +24,12 @@ ghost use Rattle.audit_core.specs.PartsLaw.{PartsMakeFull};
 pub fn parts_make_full()
     ensures { PartsMakeFull }
 {}
+
+ghost use Rattle.audit_core.specs.StopLaw.{KeptUptoFirstStop, FindingsStandInOrder};
+
+/// What the pass keeps is a front of all findings, in which nothing but its last is an error of the connection; and all
+/// findings stand in order, so that this error is the least.
+pub fn findings_end_at_first_stop()
+    ensures kept { KeptUptoFirstStop }
+    ensures in_order { FindingsStandInOrder }
+{}
