@@ -78,17 +78,6 @@ pub record IsPartlyCaptured (side : Side) (bytes : List ℕ) (offset : ℕ) (arr
   pub ahead : (o : ℕ) → upto ≤ o → arrivals_from o to_come ≡ arrivals_from o arrivals
   pub readable : AllByRecursion IsReadable frames
 
--- before the first frame
-pub partly-captured-none : (side : Side) (bytes : List ℕ) (offset : ℕ) (arrivals : List Arrival) →
-    IsPartlyCaptured side bytes offset arrivals bytes offset arrivals []
-partly-captured-none side bytes offset arrivals = record {
-  spelled = λ later tail spells. (later, spells, refl);
-  place = refl;
-  few = omega arith;
-  ahead = λ o h. refl;
-  readable = tt;
-}
-
 all_push : {A : Type 0} (P : A → Type 0) (xs : List A) (x : A) → AllByRecursion P xs → P x → AllByRecursion P (xs ++ x ∷ [])
 all_push P [] x all p = (p, tt)
 all_push P (y ∷ ys) x all p = (all.0, all_push P ys x all.1 p)

@@ -1,5 +1,5 @@
 -- Reading the settings of a payload one after the other.
-use Rattle.std.proofs.Common.{◌≡◌, ℕ, ◌<◌, ◌≤◌, ◌+◌, Bool, true, false, cond, not, ◌&&◌, List, [], ◌∷◌, length, take, drop, Option, None, Some, refl, ap, arith, sym, ◌∙◌}
+use Rattle.std.proofs.Common.{◌≡◌, ℕ, ◌≤◌, ◌+◌, Bool, true, false, cond, not, ◌&&◌, List, [], ◌∷◌, length, take, drop, Option, None, Some, refl, ap, arith, sym, ◌∙◌}
 use Rattle.std.specs.Prelude.{option_map, find, is_none, if◌then◌else◌, ◌==◌}
 use Rattle.std.specs.Option.{option_or}
 use Rattle.audit_core.specs.declared.frames.Settings.{Settings}
@@ -56,14 +56,6 @@ with_later-step settings s later =
         let right : Settings = record { push = a'; initial = b'; max_frame = c'; bad = d' } in left ≡ right)
     same p q r s = cc
 
--- with nothing to come, the settings are what they are
-pub with_later-none : (settings : Settings) → with_later settings [] ≡ settings
-with_later-none settings = let e = or_none settings.bad in rw e refl
-  where
-    or_none : (o : Option ℕ) → option_or o None ≡ o
-    or_none None = refl
-    or_none (Some x) = refl
-
 -- whole settings begin with one
 pub settings_in-step : (payload : List ℕ) → 6 ≤ length payload →
     settings_in payload ≡ setting_at (take 6 payload) ∷ settings_in (drop 6 payload)
@@ -75,16 +67,6 @@ settings_in-step (a ∷ b ∷ c ∷ []) h = absurd (omega arith)
 settings_in-step (a ∷ b ∷ c ∷ d ∷ []) h = absurd (omega arith)
 settings_in-step (a ∷ b ∷ c ∷ d ∷ e ∷ []) h = absurd (omega arith)
 
--- less than a whole setting holds none
-pub settings_in-none : (payload : List ℕ) → length payload < 6 → settings_in payload ≡ []
-settings_in-none (a ∷ b ∷ c ∷ d ∷ e ∷ f ∷ later) h = absurd (omega arith)
-settings_in-none [] h = refl
-settings_in-none (a ∷ []) h = refl
-settings_in-none (a ∷ b ∷ []) h = refl
-settings_in-none (a ∷ b ∷ c ∷ []) h = refl
-settings_in-none (a ∷ b ∷ c ∷ d ∷ []) h = refl
-settings_in-none (a ∷ b ∷ c ∷ d ∷ e ∷ []) h = refl
-
 -- one turn of the loop over a payload
 pub with_later-turn : (settings new : Settings) (s : Setting) (rest pair later : List ℕ) →
     pair ≡ take 6 rest → later ≡ drop 6 rest → length later + 6 ≡ length rest →
@@ -92,4 +74,11 @@ pub with_later-turn : (settings new : Settings) (s : Setting) (rest pair later :
     with_later new (settings_in later) ≡ with_later settings (settings_in rest)
 with_later-turn settings new s rest pair later pair_is later_is size s_is new_is =
     let found = settings_in-step rest (omega arith) in
-    rw (new_is, with_later-step settings s (settings_in later), s_is, pair_is, later_is, found) refl
+    let first : s ≡ setting_at (take 6 rest) = s_is ∙ ap setting_at pair_is in
+    let begins : s ∷ settings_in later ≡ settings_in rest =
+    ap (λ (t : Setting). t ∷ settings_in later) first
+    ∙ ap (λ (xs : List ℕ). setting_at (take 6 rest) ∷ settings_in xs) later_is
+    ∙ sym found in
+    ap (λ (n : Settings). with_later n (settings_in later)) new_is
+    ∙ with_later-step settings s (settings_in later)
+    ∙ ap (with_later settings) begins

@@ -10,7 +10,7 @@ use std::alloc::{AllocError, Global};
 fn comes_after(x: &Frame, y: &Frame) -> bool
     ensures { result ≡ comes_after x.now y.now }
 {
-    (x.rec, x.number, x.side as u8) > (y.rec, y.number, y.side as u8)
+    (x.rec, x.number, x.side) > (y.rec, y.number, y.side)
 }
 
 /// Numbers the frames from 1.

@@ -34,9 +34,7 @@ impl Setting {
             _ => true,
         }
     }
-}
 
-impl Setting {
     /// The setting in the first six bytes.
     fn read(bytes: &[u8]) -> Self
         requires { 6 ≤ length bytes.now }
