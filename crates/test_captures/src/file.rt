@@ -1,4 +1,7 @@
-use byteorder::{BigEndian, ByteOrder, LittleEndian};
+ghost use Rattle.std.specs.Prelude.{◌≡◌, ◌++◌, OnOk};
+ghost use Rattle.test_captures.specs.FileBytes.{header_bytes, magic_number, number_bytes};
+
+use crate::bytes::push_bytes;
 use std::alloc::AllocError;
 
 /// The four magics of the classic pcap format.
@@ -33,7 +36,10 @@ impl FileHeader {
     };
 
     /// Puts the 24 bytes of the header at the end. The snapshot length is 262,144.
-    pub fn push_to(self, out: &mut Vec<u8>) -> Result<(), AllocError> {
+    #[tactic(auto, using(crate::proofs::Joins::joins))]
+    pub fn push_to(self, out: &mut Vec<u8>) -> Result<(), AllocError>
+        ensures { OnOk result (out.new.items ≡ out.old.items ++ header_bytes self) }
+    {
         self.magic.push_u32(out, self.magic.number())?;
         self.magic.push_u16(out, self.major)?;
         self.magic.push_u16(out, self.minor)?;
@@ -46,36 +52,38 @@ impl FileHeader {
 
 impl Magic {
     /// The number that the magic is in the file's own order of bytes.
-    fn number(self) -> u32 {
+    fn number(self) -> u32
+        ensures { result ≡ magic_number self }
+    {
         match self {
             Magic::LittleMicroseconds | Magic::BigMicroseconds => 0xa1b2_c3d4,
             Magic::LittleNanoseconds | Magic::BigNanoseconds => 0xa1b2_3c4d,
         }
     }
 
-    fn is_big_endian(self) -> bool {
-        matches!(self, Magic::BigMicroseconds | Magic::BigNanoseconds)
-    }
-
     /// Puts a number of 32 bits at the end, in the order of bytes that the magic tells.
-    pub fn push_u32(self, out: &mut Vec<u8>, n: u32) -> Result<(), AllocError> {
-        let mut bytes = [0u8; 4];
-        if self.is_big_endian() {
-            BigEndian::write_u32(&mut bytes, n);
-        } else {
-            LittleEndian::write_u32(&mut bytes, n);
+    pub fn push_u32(self, out: &mut Vec<u8>, n: u32) -> Result<(), AllocError>
+        ensures { OnOk result (out.new.items ≡ out.old.items ++ number_bytes self 4 n) }
+    {
+        match self {
+            Magic::LittleMicroseconds | Magic::LittleNanoseconds => push_bytes(
+                out,
+                &n.to_le_bytes(),
+            ),
+            Magic::BigMicroseconds | Magic::BigNanoseconds => push_bytes(out, &n.to_be_bytes()),
         }
-        out.extend_from_slice(&bytes)
     }
 
     /// Puts a number of 16 bits at the end, in the order of bytes that the magic tells.
-    pub fn push_u16(self, out: &mut Vec<u8>, n: u16) -> Result<(), AllocError> {
-        let mut bytes = [0u8; 2];
-        if self.is_big_endian() {
-            BigEndian::write_u16(&mut bytes, n);
-        } else {
-            LittleEndian::write_u16(&mut bytes, n);
+    pub fn push_u16(self, out: &mut Vec<u8>, n: u16) -> Result<(), AllocError>
+        ensures { OnOk result (out.new.items ≡ out.old.items ++ number_bytes self 2 n) }
+    {
+        match self {
+            Magic::LittleMicroseconds | Magic::LittleNanoseconds => push_bytes(
+                out,
+                &n.to_le_bytes(),
+            ),
+            Magic::BigMicroseconds | Magic::BigNanoseconds => push_bytes(out, &n.to_be_bytes()),
         }
-        out.extend_from_slice(&bytes)
     }
 }

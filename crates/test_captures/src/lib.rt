@@ -15,6 +15,7 @@
 #![tactic(auto)]
 
 mod builder;
+mod bytes;
 mod file;
 mod frames;
 mod segments;
