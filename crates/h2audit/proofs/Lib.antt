@@ -1,3 +1,4 @@
 mod Capture
 mod Leaving
 mod Audits
+mod OneReport

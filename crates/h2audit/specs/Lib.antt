@@ -6,3 +6,4 @@ pub mod Audited
 pub mod Report
 pub mod Run
 pub mod Words
+pub mod Laws

@@ -6,6 +6,7 @@ mod command;
 mod connection;
 mod fault;
 mod gate;
+pub mod laws;
 mod options;
 mod reading;
 mod running;

@@ -1,0 +1,186 @@
+-- Two reports of one capture are the same.
+use Rattle.std.proofs.Common.{◌≡◌, ◌∙◌, ℕ, Bool, true, false, ◌||◌, List, [], ◌∷◌, ◌++◌, filter, length, map, Option, Some, None, refl, sym, ap, ap₂, subst}
+use Rattle.std.specs.Prelude.{slice_index, not, if◌then◌else◌}
+use Rattle.std.specs.List.{list_any}
+use Rattle.audit_core.specs.declared.findings.Finding.{Finding}
+use Rattle.audit_core.specs.declared.frames.Frame.{Frame}
+use Rattle.audit_core.specs.declared.sides.Side.TheVariants.{Client, Server}
+use Rattle.audit_report.specs.declared.audited.Audited.{Audited}
+use Rattle.audit_report.specs.CaptureLine.{capture_line}
+use Rattle.audit_report.specs.RecordLines.{record_lines}
+use Rattle.audit_report.specs.CutLine.{cut_line}
+use Rattle.audit_report.specs.UnopenedLines.{unopened_lines}
+use Rattle.audit_report.specs.Contents.{Contents, Http2 as HoldsFrames, contents_of}
+use Rattle.audit_report.specs.Entry.{Entry, entry_of, entries_of, entries_text, extent_at}
+use Rattle.audit_report.specs.FlowLine.{Extent, extent_of}
+use Rattle.audit_core.specs.Finding.{upto_stop}
+use Rattle.audit_core.specs.Pass.{full}
+use Rattle.audit_core.specs.Shown.{is_shown_so_far}
+use Rattle.h2_frames.specs.declared.connections.Cut.{Cut}
+use Rattle.h2_frames.specs.declared.connections.Cut.TheVariants.{Http2, NotHttp2, NoPreface, NoHandshake}
+use Rattle.h2_frames.specs.Cut.{IsSameCut}
+use Rattle.h2_frames.specs.Law.{IsSameFlow}
+use Rattle.h2_frames.proofs.Uniqueness.{cut-unique}
+use Rattle.packet_heads.specs.declared.packets.Endpoint.{Endpoint}
+use Rattle.packet_heads.specs.declared.packets.Packet.{Packet}
+use Rattle.packet_heads.specs.declared.packets.Segment.{Segment}
+use Rattle.packet_heads.specs.Decision.{packet_decisions}
+use Rattle.pcap_records.specs.declared.capture.Record.{Record}
+use Rattle.pcap_records.proofs.Unique.{one_reading_lem}
+use Rattle.tcp_streams.specs.declared.members.Connection.{Connection}
+use Rattle.tcp_streams.specs.declared.streams.Flow.{Flow}
+use Rattle.tcp_streams.specs.Members.{segments_of}
+use Rattle.tcp_streams.specs.Membership.{Membership, connections_of, membership, strays_of}
+use Rattle.tcp_streams.specs.Packets.{past_of}
+use Rattle.tcp_streams.specs.Pair.{is_endpoint}
+use Rattle.tcp_streams.specs.Sequence.{source}
+use Rattle.tcp_streams.proofs.UniqueFlow.{IsFlow-unique}
+use Rattle.h2audit.specs.Audited.{AreAudited, IsAudited, IsFlowFrom, findings_of, has_fault, is_fault, verdict_of}
+use Rattle.h2audit.specs.Laws.{OneReport}
+use Rattle.h2audit.specs.Report.{IsReport}
+use Rattle.h2audit.specs.declared.verdict.Verdict.{Verdict}
+use Rattle.h2audit.specs.declared.verdict.Verdict.TheVariants.{Clean, Faults}
+
+-- ---- the flow of a side
+
+record IsOneFlow (f g : Flow) : Type 0 where
+  pub same : IsSameFlow f g
+  pub gap : f.gap ≡ g.gap
+
+one_flow : (isn : Option ℕ) (capture : List ℕ) (segments : List Segment) (f g : Flow) → IsFlowFrom isn capture segments f → IsFlowFrom isn capture segments g → IsOneFlow f g
+one_flow None capture segments f g h k = record {
+  same = record { started = h.0 ∙ sym k.0; bytes = h.1 ∙ sym k.1; arrivals = h.2 ∙ sym k.2 };
+  gap = h.3 ∙ sym k.3;
+}
+one_flow (Some isn) capture segments f g h k =
+    let parts = IsFlow-unique capture (source isn segments) f.bytes.items g.bytes.items f.arrivals.items g.arrivals.items f.gap g.gap h.1 k.1 in
+    record {
+      same = record { started = h.0 ∙ sym k.0; bytes = parts.0; arrivals = parts.1 };
+      gap = parts.2;
+    }
+
+-- the segments of a side, by the connection's membership
+abbrev clients : List Packet → Membership → List Segment
+clients packets m = filter (λ (s : Segment). is_endpoint s.from m.client) (segments_of packets m.members)
+
+abbrev servers : List Packet → Membership → List Segment
+servers packets m = filter (λ (s : Segment). not (is_endpoint s.from m.client)) (segments_of packets m.members)
+
+abbrev IsClientFlow : List ℕ → List Packet → Membership → Flow → Type 0
+IsClientFlow capture packets m flow = IsFlowFrom (Some m.client_isn) capture (clients packets m) flow
+
+abbrev IsServerFlow : List ℕ → List Packet → Membership → Flow → Type 0
+IsServerFlow capture packets m flow = IsFlowFrom m.server_isn capture (servers packets m) flow
+
+-- ---- what the flows hold
+
+record IsOneCut (x y : Cut) : Type 0 where
+  pub contents : contents_of x ≡ contents_of y
+  pub findings : findings_of x ≡ findings_of y
+
+one_cut : (x y : Cut) → IsSameCut x y → IsOneCut x y
+one_cut (Http2 frames tails) (Http2 others rests) h = record {
+  contents = ap (λ (fs : List Frame). HoldsFrames fs (slice_index tails 0) (slice_index tails 1)) h.0
+      ∙ ap (λ (ts : List ℕ). HoldsFrames others.items (slice_index ts 0) (slice_index ts 1)) h.1;
+  findings = ap (λ (fs : List Frame). upto_stop (filter is_shown_so_far (full fs))) h.0;
+}
+one_cut NotHttp2 NotHttp2 h = record { contents = refl; findings = refl }
+one_cut NoPreface NoPreface h = record { contents = refl; findings = refl }
+one_cut NoHandshake NoHandshake h = record { contents = refl; findings = refl }
+one_cut _ _ h = absurd h
+
+-- ---- the entry of a connection
+
+abbrev extent : ℕ → Option ℕ → Extent
+extent size gap = record { size = size; gap = gap }
+
+one_extent : (f g : Flow) → IsOneFlow f g → extent_of f ≡ extent_of g
+one_extent f g h = ap₂ extent (ap length h.same.bytes) h.gap
+
+abbrev entry : Membership → Extent → Extent → Contents → List Finding → Entry
+entry m client_flow server_flow contents findings = record {
+  client = m.client;
+  server = m.server;
+  rec = m.rec;
+  client_flow = client_flow;
+  server_flow = server_flow;
+  contents = contents;
+  findings = findings;
+}
+
+record IsOneEntry (c d : Connection) (a b : Audited) : Type 0 where
+  pub entry_is : entry_of c a ≡ entry_of d b
+  pub findings : a.findings.items ≡ b.findings.items
+
+one_entry : (capture : List ℕ) (packets : List Packet) (c d : Connection) (a b : Audited) → membership c ≡ membership d → IsAudited capture packets c a → IsAudited capture packets d b → IsOneEntry c d a b
+one_entry capture packets c d a b m h k =
+    let client = one_flow (Some c.client_isn) capture (clients packets (membership c)) h.client k.client h.client_is
+    (subst (λ (n : Membership). IsClientFlow capture packets n k.client) (sym m) k.client_is) in
+    let server = one_flow c.server_isn capture (servers packets (membership c)) h.server k.server h.server_is
+    (subst (λ (n : Membership). IsServerFlow capture packets n k.server) (sym m) k.server_is) in
+    let cut = one_cut a.cut b.cut (cut-unique h.client h.server k.client k.server a.cut b.cut client.same server.same h.cut k.cut) in
+    let found : a.findings.items ≡ b.findings.items = h.findings ∙ cut.findings ∙ sym k.findings in
+    let of_client : extent_at a.flows 0 ≡ extent_at b.flows 0 =
+    ap (λ (fs : List Flow). extent_at fs 0) h.flows ∙ one_extent h.client k.client client ∙ sym (ap (λ (fs : List Flow). extent_at fs 0) k.flows) in
+    let of_server : extent_at a.flows 1 ≡ extent_at b.flows 1 =
+    ap (λ (fs : List Flow). extent_at fs 1) h.flows ∙ one_extent h.server k.server server ∙ sym (ap (λ (fs : List Flow). extent_at fs 1) k.flows) in
+    record {
+      entry_is = ap (λ (n : Membership). entry n (extent_at a.flows 0) (extent_at a.flows 1) (contents_of a.cut) a.findings.items) m
+          ∙ ap (λ (e : Extent). entry (membership d) e (extent_at a.flows 1) (contents_of a.cut) a.findings.items) of_client
+          ∙ ap (λ (e : Extent). entry (membership d) (extent_at b.flows 0) e (contents_of a.cut) a.findings.items) of_server
+          ∙ ap (λ (k : Contents). entry (membership d) (extent_at b.flows 0) (extent_at b.flows 1) k a.findings.items) cut.contents
+          ∙ ap (λ (fs : List Finding). entry (membership d) (extent_at b.flows 0) (extent_at b.flows 1) (contents_of b.cut) fs) found;
+      findings = found;
+    }
+
+-- ---- all connections
+
+record AreOneAudit (cs ds : List Connection) (xs ys : List Audited) : Type 0 where
+  pub entries : entries_of cs xs ≡ entries_of ds ys
+  pub faults : list_any has_fault xs ≡ list_any has_fault ys
+
+one_audit : (capture : List ℕ) (packets : List Packet) (cs ds : List Connection) (xs ys : List Audited) → map membership cs ≡ map membership ds → AreAudited capture packets cs xs → AreAudited capture packets ds ys → AreOneAudit cs ds xs ys
+one_audit capture packets [] [] [] [] m h k = record { entries = refl; faults = refl }
+one_audit capture packets [] [] [] (b ∷ ys) m h k = absurd k
+one_audit capture packets [] [] (a ∷ xs) ys m h k = absurd h
+one_audit capture packets [] (d ∷ ds) xs ys m h k = absurd cc
+one_audit capture packets (c ∷ cs) [] xs ys m h k = absurd cc
+one_audit capture packets (c ∷ cs) (d ∷ ds) [] ys m h k = absurd h
+one_audit capture packets (c ∷ cs) (d ∷ ds) (a ∷ xs) [] m h k = absurd k
+one_audit capture packets (c ∷ cs) (d ∷ ds) (a ∷ xs) (b ∷ ys) m h k =
+    let here : membership c ≡ membership d = cc in
+    let later : map membership cs ≡ map membership ds = cc in
+    let first = one_entry capture packets c d a b here h.0 k.0 in
+    let rest = one_audit capture packets cs ds xs ys later h.1 k.1 in
+    record {
+      entries = ap₂ (λ (e : Entry) (es : List Entry). e ∷ es) first.entry_is rest.entries;
+      faults = ap₂ (λ (p q : Bool). p || q) (ap (λ (fs : List Finding). list_any is_fault fs) first.findings) rest.faults;
+    }
+
+-- ---- the report
+
+abbrev text_by : Bool → List Record → Option ℕ → List Packet → List Entry → List ℕ
+text_by shown rows cut packets entries =
+    (capture_line rows packets ++ record_lines packets ++ cut_line cut ++ unopened_lines (strays_of (past_of packets)))
+    ++ entries_text shown 1 entries
+
+abbrev verdict_by : Bool → Verdict
+verdict_by faults = if faults then Faults else Clean
+
+pub one_report_lem : OneReport
+one_report_lem bytes shown text other verdict judged x y =
+    let reading = one_reading_lem bytes x.found y.found x.reading y.reading in
+    let decide : List Record → List Packet = λ rows. packet_decisions rows bytes in
+    let packets = ap decide reading.1 in
+    let opened = x.report.connections ∙ ap (λ (p : List Packet). connections_of (past_of p)) packets ∙ sym y.report.connections in
+    let audits = subst (λ (p : List Packet). AreAudited bytes p y.report.opened y.report.audited) (sym packets) y.report.audits in
+    let same = one_audit bytes (decide x.found.rows.items) x.report.opened y.report.opened x.report.audited y.report.audited opened x.report.audits audits in
+    let entries = entries_of x.report.opened x.report.audited in (
+      x.report.spelled
+          ∙ ap (λ (rows : List Record). text_by shown rows x.found.cut (decide x.found.rows.items) entries) reading.1
+          ∙ ap (λ (cut : Option ℕ). text_by shown y.found.rows.items cut (decide x.found.rows.items) entries) reading.2
+          ∙ ap (λ (p : List Packet). text_by shown y.found.rows.items y.found.cut p entries) packets
+          ∙ ap (λ (es : List Entry). text_by shown y.found.rows.items y.found.cut (decide y.found.rows.items) es) same.entries
+          ∙ sym y.report.spelled,
+      x.report.judged ∙ ap verdict_by same.faults ∙ sym y.report.judged,
+    )
