@@ -129,3 +129,6 @@ fn tail(cut: &Cut, side: Side) -> u32
         _ => 0,
     }
 }
+
+#[cfg(test)]
+mod tests;

@@ -98,3 +98,6 @@ fn tells_credit(kind: Kind) -> bool
 {
     matches!(kind, Kind::ConnectionCredit | Kind::StreamCredit)
 }
+
+#[cfg(test)]
+mod tests;

@@ -117,3 +117,6 @@ fn push_audit(
     push_stall_lines(out, &stalls)?;
     push_end_line(out, findings)
 }
+
+#[cfg(test)]
+mod tests;
