@@ -17,7 +17,7 @@ fn record(nanos: u64, original: u32, start: usize, length: usize) -> Record {
     }
 }
 
-// A segment with no payload, whose one byte that matters here says whether it is snapped.
+// A segment of the server with no payload.
 fn segment(rec: u32, snapped: bool) -> Packet {
     let (client, server) = (endpoint(0x0a000001, 40000), endpoint(0x0a000002, 80));
     Packet::Segment(Segment {
