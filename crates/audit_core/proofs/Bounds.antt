@@ -1,5 +1,5 @@
 -- Bounds of credits.
-use Rattle.std.proofs.Common.{◌≡◌, ℕ, ℤ, pos, neg_ℤ, ◌+◌, ◌≤◌, ◌≤ℤ◌, arith}
+use Rattle.std.proofs.Common.{ℕ, ℤ, ◌≤◌, arith}
 use Rattle.std.proofs.lemmas.Int.{ints}
 use Rattle.audit_core.specs.Window.{IsWithin}
 

@@ -1,5 +1,5 @@
 -- A credit that is carried from frame to frame is the sum over the frames.
-use Rattle.std.proofs.Common.{◌≡◌, ℕ, suc, ℤ, pos, ◌+◌, ◌+ℤ◌, ◌-ℤ◌, ◌<◌, ◌≤◌, Bool, true, false, ◌&&◌, ◌||◌, ◌==◌, nat_le, if◌then◌else◌, List, [], ◌∷◌, filter, sum_by, Option, Some, None, is_none, ◌%◌, refl, sym, ap, ◌∙◌, subst, ◌⊎◌, inl, inr, arith}
+use Rattle.std.proofs.Common.{◌≡◌, ℕ, ℤ, pos, ◌+◌, ◌+ℤ◌, ◌-ℤ◌, ◌<◌, ◌≤◌, Bool, true, false, ◌&&◌, ◌==◌, nat_le, if◌then◌else◌, List, [], ◌∷◌, sum_by, Option, Some, None, is_none, ◌%◌, refl, sym, ap, ◌∙◌, ◌⊎◌, inl, inr, arith}
 use Rattle.std.proofs.lemmas.Int.{ints}
 use Rattle.std.proofs.lemmas.List.Sums.{sum_by-cons}
 use Rattle.std.proofs.lemmas.Option.{same_Some, none-some}
@@ -11,16 +11,16 @@ use Rattle.audit_core.specs.declared.frames.Body.TheVariants.{Content, Headers, 
 use Rattle.audit_core.specs.declared.frames.Frame.{Frame}
 use Rattle.audit_core.specs.declared.items.Step.{Step}
 use Rattle.audit_core.specs.declared.streams.Stream.{Stream}
-use Rattle.audit_core.specs.Side.{other, is_side}
+use Rattle.audit_core.specs.Side.{is_side}
 use Rattle.audit_core.specs.Sides.{side_of}
-use Rattle.audit_core.specs.Frame.{is_ack, is_content, is_headers, increment, content_by, grant_to, sends_end, IsInRange, IsOrderlyFrom}
+use Rattle.audit_core.specs.Frame.{is_ack, is_content, is_headers, increment, content_by, grant_to, sends_end, IsOrderlyFrom}
 use Rattle.audit_core.specs.Change.{new_initial}
 use Rattle.audit_core.specs.InForce.{change_of}
 use Rattle.audit_core.specs.Connection.{credit_after}
 use Rattle.audit_core.specs.Stream.{step_test, step_amount, counted, opens, window_ends, window_after, window_at_opening}
 use Rattle.audit_core.specs.Pass.{PassState, pass_start, step_of, next, state_from}
 use Rattle.audit_core.specs.CreditLaws.{ConnectionCreditIsSum, StreamCreditIsSum}
-use Rattle.audit_core.specs.Credit.{content_on, credit_sum, since, stream_credit_sum}
+use Rattle.audit_core.specs.Credit.{content_on, since, stream_credit_sum}
 
 -- ---- the connection
 

@@ -1,5 +1,5 @@
 -- The streams that frames name, gathered one by one.
-use Rattle.std.proofs.Common.{◌≡◌, ◌≢◌, ℕ, zero, suc, ◌+◌, ◌<◌, Bool, true, false, not, ◌==◌, ◌||◌, ◌&&◌, cond, List, [], ◌∷◌, ◌++◌, length, map, slice_get, filter, refl, sym, ap, ◌∙◌, subst, arith, Option, Some, None, MatchOption, nat_eq, is_some, append_assoc, true≢false, if◌then◌else◌}
+use Rattle.std.proofs.Common.{◌≡◌, ◌≢◌, ℕ, zero, suc, Bool, true, false, not, ◌==◌, ◌||◌, ◌&&◌, cond, List, [], ◌∷◌, ◌++◌, length, slice_get, filter, refl, sym, ap, ◌∙◌, subst, Option, Some, None, MatchOption, nat_eq, is_some, append_assoc, true≢false}
 use Rattle.std.specs.HashMap.{get, IsEmpty}
 use Rattle.audit_core.specs.declared.tables.StreamRow.{StreamRow}
 use borrow.Author.Tests.{eqb-true, eq-eqb}

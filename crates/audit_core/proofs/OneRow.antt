@@ -1,10 +1,9 @@
 -- What all rows show and become at a frame, where each row but one is quiet.
-use Rattle.std.proofs.Common.{◌≡◌, ◌≢◌, ℕ, zero, suc, ◌+◌, ◌<◌, List, [], ◌∷◌, ◌++◌, length, get_or, set, map, slice_get, refl, sym, ap, ◌∙◌, arith, Option, Some, None, append-nil, subst, take, drop, ◌≤◌, ℤ}
+use Rattle.std.proofs.Common.{◌≡◌, ◌≢◌, ℕ, zero, suc, ◌<◌, List, [], ◌∷◌, ◌++◌, length, get_or, set, map, slice_get, refl, sym, ap, ◌∙◌, arith, Option, Some, append-nil, subst, take, drop, ◌≤◌, ℤ}
 use Rattle.std.specs.List.{flat_map}
 use Rattle.audit_core.specs.declared.sides.Sides.{Sides}
 use Rattle.audit_core.specs.declared.tables.StreamRow.{StreamRow}
 use Rattle.audit_core.specs.declared.findings.Finding.{Finding}
-use Rattle.std.specs.Option.{ForSome}
 use Rattle.std.proofs.lemmas.Int.{ints}
 use Rattle.std.proofs.lemmas.List.{drop_all, take_all}
 use Rattle.audit_core.specs.Room.{HasRoom, WindowHasRoom}

@@ -22,7 +22,7 @@ use Rattle.audit_core.specs.Finding.{finding_at, say, say_of, comes_after, in_or
 use Rattle.audit_core.specs.Frame.{IsOrderlyFrom, IsOrderly}
 use Rattle.audit_core.specs.LocalFault.{local_said, fault, body_said, reading_fault}
 use Rattle.audit_core.specs.InForce.{InForce, settings_said}
-use Rattle.audit_core.specs.Connection.{connection_said, length_said, connection_windows_said, connection_window_said}
+use Rattle.audit_core.specs.Connection.{connection_said, connection_windows_said, connection_window_said}
 use Rattle.audit_core.specs.Stream.{stream_said, frame_said, stream_window_said, live_window_said, opened_window_said}
 use Rattle.audit_core.specs.Pass.{PassState, pass_start, said, full_from, full, next, streams_of, streams_said, step_of, item_of}
 use Rattle.audit_core.proofs.OrderedLists.{IsInOrder, NoneBefore, Precedes, in_order-ordered, in_order-append, ordered-in_order}

@@ -1,12 +1,10 @@
 -- What `one_pass` shows, frame by frame, before it is put in order.
-use Rattle.std.proofs.Common.{map, is_none, ◌&&◌, ap, ◌∙◌, nat_lt, append_assoc, append-nil, drop, get_or, length, suc, ◌≡◌, ℕ, ℤ, pos, ◌+◌, ◌*◌, ◌^◌, ◌<◌, ◌≤◌, Bool, true, false, ◌==◌, List, [], ◌∷◌, ◌++◌, refl, sym, arith, Option, Some, None, lit≤, if◌then◌else◌, filter}
-use Rattle.std.specs.declared.cmp.Ordering.TheVariants.{Less}
-use Rattle.std.specs.Cmp.{nat_cmp_is}
+use Rattle.std.proofs.Common.{map, is_none, ◌&&◌, ap, ◌∙◌, nat_lt, append_assoc, append-nil, ◌≡◌, ℕ, ℤ, pos, ◌^◌, ◌<◌, Bool, true, false, List, [], ◌∷◌, ◌++◌, refl, sym, Option, Some, None, if◌then◌else◌, filter}
 use Rattle.audit_core.specs.declared.sides.Side.{Side}
 use Rattle.audit_core.specs.declared.sides.Side.TheVariants.{Client, Server}
 use Rattle.audit_core.specs.declared.sides.Sides.{Sides}
 use Rattle.audit_core.specs.declared.kinds.Kind.{Kind}
-use Rattle.audit_core.specs.declared.kinds.Kind.TheVariants.{BadPreface, BrokenBlock, TooLong, WrongStream, WrongSize, BadPadding, BadSetting, Push, PushNotAudited, NotOpened, IdNotGreater, ZeroConnectionGrant, ConnectionOverflow, SettingOverflow, LongFrame, AfterEnd, ConnectionOverrun, StreamOverrun, ZeroStreamGrant, StreamOverflow, UnmatchedAck, BadPriority, ConnectionStallEnd, ConnectionStallBegin, StreamStallEnd, StreamStallBegin, ConnectionCredit, StreamCredit}
+use Rattle.audit_core.specs.declared.kinds.Kind.TheVariants.{TooLong, WrongSize, BadPadding, BadSetting, LongFrame, UnmatchedAck, BadPriority}
 use Rattle.audit_core.specs.declared.frames.Body.{Body}
 use Rattle.audit_core.specs.declared.frames.Body.TheVariants.{Settings as SettingsBody, Unreadable}
 use Rattle.audit_core.specs.declared.frames.Frame.{Frame}
@@ -16,10 +14,8 @@ use Rattle.audit_core.specs.declared.connections.ConnectionState.{ConnectionStat
 use Rattle.audit_core.specs.declared.streams.Stream.{Stream}
 use Rattle.audit_core.specs.declared.findings.Finding.{Finding}
 use Rattle.audit_core.specs.Sides.{side_of}
-use Rattle.audit_core.specs.Kind.{rank_of}
-use Rattle.audit_core.specs.Order.{put_by}
-use Rattle.audit_core.specs.Finding.{finding_at, say, say_of, comes_after, in_order}
-use Rattle.audit_core.specs.Frame.{IsOrderlyFrom, IsOrderly}
+use Rattle.audit_core.specs.Finding.{finding_at, say, in_order}
+use Rattle.audit_core.specs.Frame.{IsOrderly}
 use Rattle.audit_core.specs.LocalFault.{push_kind, local_said, fault, body_said, reading_fault}
 use Rattle.audit_core.specs.InForce.{InForce, settings_said}
 use Rattle.audit_core.specs.Connection.{opening_order_said, connection_said, length_said, connection_windows_said, connection_window_said}
@@ -38,7 +34,7 @@ use Rattle.audit_core.proofs.Rows.{three_rows}
 use Rattle.audit_core.specs.Shown.{is_shown_so_far}
 use Rattle.audit_core.proofs.FindingOrder.{in_order-alike, in_order-in_order, filter-in_order}
 use Rattle.audit_core.proofs.PassOrder.{rows_of, full-in_order, AreStreams}
-use Rattle.audit_core.proofs.Kept.{Keeps, Drops, filter-append, keeps-append, keeps-nil, keeps-cons, keeps-say, keeps-say_of, keeps-choice, keeps-flat_map, drops-append, drops-nil, drops-cons, drops-say, drops-say_of, drops-choice, drops-flat_map}
+use Rattle.audit_core.proofs.Kept.{Keeps, Drops, filter-append, keeps-append, keeps-nil, keeps-cons, keeps-say, keeps-say_of, keeps-choice, keeps-flat_map, drops-append, drops-nil, drops-cons, drops-say, drops-say_of}
 
 -- what is shown of a frame, before it is put in order
 abbrev pub shown_at : List ℕ → PassState → Frame → List Finding
@@ -55,9 +51,9 @@ in_order-shown streams state [] = refl
 in_order-shown streams state (frame ∷ frames) =
     ap in_order (filter-append is_shown_so_far (said streams state frame) (full_from streams (next state frame) frames))
     ∙ in_order-alike (filter is_shown_so_far (said streams state frame)) (shown_at streams state frame)
-        (filter is_shown_so_far (full_from streams (next state frame) frames)) (shown_rows streams (next state frame) frames)
-        (ap in_order (filter-in_order is_shown_so_far (rows_of streams state frame)) ∙ in_order-in_order (shown_at streams state frame))
-        (in_order-shown streams (next state frame) frames)
+    (filter is_shown_so_far (full_from streams (next state frame) frames)) (shown_rows streams (next state frame) frames)
+    (ap in_order (filter-in_order is_shown_so_far (rows_of streams state frame)) ∙ in_order-in_order (shown_at streams state frame))
+    (in_order-shown streams (next state frame) frames)
 
 -- all that is shown, in order
 pub shown-full : (frames : List Frame) → IsOrderly frames →
@@ -77,7 +73,7 @@ drops-body : (frame : Frame) (body : Body) → Drops is_shown_so_far (body_said 
 drops-body frame (Unreadable kind value) = drops-reading_fault frame kind value
 drops-body frame (SettingsBody settings) =
     drops-say_of is_shown_so_far (λ identifier. fault BadSetting frame identifier ∷ []) settings.bad
-        (λ identifier. drops-cons is_shown_so_far _ [] refl (drops-nil _))
+    (λ identifier. drops-cons is_shown_so_far _ [] refl (drops-nil _))
 drops-body frame _ = drops-nil _
 
 drops-push : (holds : Bool) (side : Side) (frame : Frame) → Drops is_shown_so_far (say holds (fault (push_kind side) frame 0))
@@ -125,7 +121,7 @@ keeps-stream stream initial entry step = search (keeps-append, keeps-say_of, kee
 keeps-streams : (streams : List ℕ) (state : PassState) (frame : Frame) → Keeps is_shown_so_far (streams_said streams state frame)
 keeps-streams streams state frame =
     keeps-flat_map is_shown_so_far _ streams
-        (λ stream. keeps-stream stream state.in_force.initial (state.streams stream) (step_of state.in_force frame stream))
+    (λ stream. keeps-stream stream state.in_force.initial (state.streams stream) (step_of state.in_force frame stream))
 
 -- of the connection, its windows are shown
 shown-connection : (state : ConnectionState) (item : Item) →
@@ -133,14 +129,16 @@ shown-connection : (state : ConnectionState) (item : Item) →
 shown-connection state item =
     filter-append is_shown_so_far (length ++ opening) windows
     ∙ ap (λ l. l ++ filter is_shown_so_far windows)
-        (drops-append is_shown_so_far length opening (drops-length _ item.frame) (drops-opening_order state.greatest item)).dropped
+    (drops-append is_shown_so_far length opening (drops-length _ item.frame) (drops-opening_order state.greatest item)).dropped
     ∙ (keeps-connection_windows state.credit item.frame).kept where
-  length : List Finding
-  length = length_said (new_limit item.change item.frame.side (side_of item.frame.side state.limit)) item.frame
-  opening : List Finding
-  opening = opening_order_said state.greatest item
-  windows : List Finding
-  windows = connection_windows_said state.credit item.frame
+      length : List Finding
+      length = length_said (new_limit item.change item.frame.side (side_of item.frame.side state.limit)) item.frame
+
+      opening : List Finding
+      opening = opening_order_said state.greatest item
+
+      windows : List Finding
+      windows = connection_windows_said state.credit item.frame
 
 -- what is shown of a frame: of settings, of the connection's windows, of streams
 abbrev pub shown_parts : List ℕ → PassState → Frame → List Finding
@@ -153,21 +151,24 @@ pub shown-parts : (streams : List ℕ) (state : PassState) (frame : Frame) → s
 shown-parts streams state frame =
     filter-append is_shown_so_far (local ++ settings ++ connection) on_streams
     ∙ ap (λ l. l ++ filter is_shown_so_far on_streams)
-        (filter-append is_shown_so_far (local ++ settings) connection
-        ∙ ap (λ l. l ++ filter is_shown_so_far connection)
-            (filter-append is_shown_so_far local settings
-            ∙ ap (λ l. l ++ filter is_shown_so_far settings) (drops-local (side_of frame.side state.previous) frame).dropped
-            ∙ (keeps-settings state.in_force frame).kept)
-        ∙ ap (λ l. settings ++ l) (shown-connection state.connection (item_of state frame)))
+    (filter-append is_shown_so_far (local ++ settings) connection
+    ∙ ap (λ l. l ++ filter is_shown_so_far connection)
+    (filter-append is_shown_so_far local settings
+    ∙ ap (λ l. l ++ filter is_shown_so_far settings) (drops-local (side_of frame.side state.previous) frame).dropped
+    ∙ (keeps-settings state.in_force frame).kept)
+    ∙ ap (λ l. settings ++ l) (shown-connection state.connection (item_of state frame)))
     ∙ ap (λ l. (settings ++ connection_windows_said state.connection.credit frame) ++ l) (keeps-streams streams state frame).kept where
-  local : List Finding
-  local = local_said (side_of frame.side state.previous) frame
-  settings : List Finding
-  settings = settings_said state.in_force frame
-  connection : List Finding
-  connection = connection_said state.connection (item_of state frame)
-  on_streams : List Finding
-  on_streams = streams_said streams state frame
+      local : List Finding
+      local = local_said (side_of frame.side state.previous) frame
+
+      settings : List Finding
+      settings = settings_said state.in_force frame
+
+      connection : List Finding
+      connection = connection_said state.connection (item_of state frame)
+
+      on_streams : List Finding
+      on_streams = streams_said streams state frame
 
 -- one more frame
 pub rows-more : (all old new : List Finding) (streams : List ℕ) (state : PassState) (frame : Frame) (left rest : List Frame) →
@@ -178,8 +179,8 @@ rows-more all old new streams state frame left rest l n h =
     ∙ append_assoc old (shown_parts streams state frame) after
     ∙ ap (λ k. old ++ k) (ap (λ k. k ++ after) (sym (shown-parts streams state frame)) ∙ ap (shown_rows streams state) (sym l))
     ∙ h where
-  after : List Finding
-  after = shown_rows streams (next state frame) rest
+      after : List Finding
+      after = shown_rows streams (next state frame) rest
 
 -- no further frame
 pub rows-done : (all found : List Finding) (streams : List ℕ) (state : PassState) (left : List Frame) →
@@ -196,7 +197,7 @@ pub said-rows_at : (state : PassState) (frame : Frame) (streams : List ℕ) →
 said-rows_at state frame [] = refl
 said-rows_at state frame (stream ∷ streams) =
     ap (λ l. stream_said stream state.in_force.initial (state.streams stream) (step_of state.in_force frame stream) ++ l)
-        (said-rows_at state frame streams)
+    (said-rows_at state frame streams)
 
 pub after-rows_at : (state : PassState) (frame : Frame) (streams : List ℕ) →
     map (row_after state.in_force.initial frame (change_of state.in_force frame)) (rows_at state streams) ≡ rows_at (next state frame) streams
@@ -217,7 +218,7 @@ pub settings_said-change : (now : InForce) (frame : Frame) →
     ≡ settings_said now frame
 settings_said-change now frame =
     ap (λ b. say (is_ack frame.body && b) (finding_at UnmatchedAck frame.number frame.stream frame.side (pos 0)))
-        (none-taking frame (taken now frame))
+    (none-taking frame (taken now frame))
 
 -- the parts of a frame, as the code adds them
 module _ (state : PassState) (frame : Frame) (names : List ℕ) (initial : Sides ℕ) (change : Option Change) (rows : List StreamRow)
@@ -245,13 +246,13 @@ module _ (state : PassState) (frame : Frame) (names : List ℕ) (initial : Sides
       three ≡ old ++ shown_parts names state frame
   parts-more credit c old one two three unmatched u p q r =
       three_rows old (settings_said state.in_force frame) (connection_windows_said state.connection.credit frame)
-          (streams_said names state frame) one two three
-          (p ∙ ap (λ l. old ++ l)
-              (ap (λ b. say b (finding_at UnmatchedAck frame.number frame.stream frame.side (pos 0)))
-                  (u ∙ ap (λ k. is_ack frame.body && is_none k) same_change)
-              ∙ settings_said-change state.in_force frame))
-          (q ∙ ap (λ k. one ++ connection_windows_said k frame) c)
-          (r ∙ ap (λ l. two ++ l) same_said)
+      (streams_said names state frame) one two three
+      (p ∙ ap (λ l. old ++ l)
+      (ap (λ b. say b (finding_at UnmatchedAck frame.number frame.stream frame.side (pos 0)))
+      (u ∙ ap (λ k. is_ack frame.body && is_none k) same_change)
+      ∙ settings_said-change state.in_force frame))
+      (q ∙ ap (λ k. one ++ connection_windows_said k frame) c)
+      (r ∙ ap (λ l. two ++ l) same_said)
 
 idle-fits : (bound stream : ℕ) → stream < 2 ^ 31 → RowFits bound (record { stream = stream; entry = idle_stream })
 idle-fits bound stream h = record { stream = h; client = λ x e. absurd (none_is_none x e); server = λ x e. absurd (none_is_none x e) } where

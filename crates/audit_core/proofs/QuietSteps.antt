@@ -1,7 +1,7 @@
 -- A step without a frame of the stream and without a new initial window shows and changes nothing.
-use Rattle.std.proofs.Common.{◌≡◌, ◌≢◌, ℕ, ℤ, pos, ◌+ℤ◌, ◌-ℤ◌, ◌+◌, Bool, true, false, not, ◌==◌, ◌&&◌, ◌||◌, if◌then◌else◌, List, [], ◌∷◌, ◌++◌, refl, sym, ap, ◌∙◌, arith, Option, Some, None, is_none, is_some, int_lt, cond}
+use Rattle.std.proofs.Common.{◌≡◌, ◌≢◌, ℕ, ℤ, Bool, true, false, not, ◌==◌, ◌&&◌, ◌||◌, [], refl, ap, ◌∙◌, arith, Option, Some, None, is_some, int_lt, cond}
 use Rattle.std.specs.declared.cmp.Ordering.TheVariants.{Less, Equal, Greater}
-use Rattle.std.specs.Ordering.{int_eq, int_cmp, is_eq}
+use Rattle.std.specs.Ordering.{int_eq, is_eq}
 use Rattle.std.proofs.lemmas.Cmp.{int_cmp_total, tied_itself}
 use Rattle.std.proofs.lemmas.Int.{ints}
 use borrow.Author.Tests.{eqb-true}
@@ -12,12 +12,11 @@ use Rattle.audit_core.specs.declared.frames.Frame.{Frame}
 use Rattle.audit_core.specs.declared.items.Change.{Change}
 use Rattle.audit_core.specs.declared.items.Step.{Step}
 use Rattle.audit_core.specs.declared.streams.Stream.{Stream}
-use Rattle.audit_core.specs.declared.findings.Finding.{Finding}
 use Rattle.audit_core.specs.Finding.{say_of}
 use Rattle.audit_core.specs.Sides.{side_of}
 use Rattle.audit_core.specs.Change.{new_initial}
-use Rattle.audit_core.specs.Window.{is_used_up, overflows}
-use Rattle.audit_core.specs.Stream.{opens, counted, live_window_said, window_after, stream_window_said, stream_said, stream_after, initial_after}
+use Rattle.audit_core.specs.Window.{is_used_up}
+use Rattle.audit_core.specs.Stream.{opens, counted, live_window_said, window_after, stream_said, stream_after, initial_after}
 use Rattle.audit_core.specs.declared.tables.StreamRow.{StreamRow}
 use Rattle.audit_core.specs.StreamTable.{step_at, row_said, row_after}
 

@@ -1,7 +1,5 @@
 -- The settings that `one_pass` keeps, as settings in force.
-use Rattle.audit_core.specs.declared.sides.Side.{Side}
 use Rattle.audit_core.specs.declared.settings.SettingsSoFar.{SettingsSoFar}
-use Rattle.audit_core.specs.Sides.{each_side, side_of}
 use Rattle.audit_core.specs.InForce.{InForce}
 
 -- the settings in force that the code keeps

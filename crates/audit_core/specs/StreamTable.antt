@@ -1,5 +1,5 @@
 -- The table of streams that `one_pass` keeps: a row for each stream that the frames name, and where each row stands.
-use Rattle.std.specs.Prelude.{◌≡◌, ◌≢◌, ℕ, ◌+◌, ◌^◌, ◌<◌, ◌==◌, if◌then◌else◌, ◌||◌, Bool, false, List, [], ◌∷◌, ◌++◌, Option, Some, None, nat_eq, map, slice_get, MatchOption}
+use Rattle.std.specs.Prelude.{◌≡◌, ◌≢◌, ℕ, ◌^◌, ◌<◌, ◌==◌, if◌then◌else◌, ◌||◌, Bool, false, List, [], ◌∷◌, ◌++◌, Option, Some, None, nat_eq, map, slice_get, MatchOption}
 use Rattle.std.specs.HashMap.{get, HashMap}
 use Rattle.std.specs.declared.hash.FoldHasher.{FoldHasher}
 use Rattle.std.specs.declared.hash.BuildHasherDefault.{BuildHasherDefault}
@@ -7,7 +7,6 @@ use Rattle.audit_core.specs.declared.sides.Sides.{Sides}
 use Rattle.audit_core.specs.declared.frames.Frame.{Frame}
 use Rattle.audit_core.specs.declared.items.Change.{Change}
 use Rattle.audit_core.specs.declared.items.Step.{Step}
-use Rattle.audit_core.specs.declared.streams.Stream.{Stream}
 use Rattle.audit_core.specs.declared.tables.StreamRow.{StreamRow}
 use Rattle.audit_core.specs.declared.findings.Finding.{Finding}
 use Rattle.audit_core.specs.Stream.{idle_stream, stream_after, stream_said}

@@ -26,7 +26,13 @@ pub fn one_pass(alloc: Global, frames: &[Frame]) -> Result<Vec<Finding>, AllocEr
     for frame in frames {
         let initial = settings.initial();
         let change = settings.meet(frame)?;
-        let ack = Finding::at(Kind::UnmatchedAck, frame.number, frame.stream, frame.side, 0);
+        let ack = Finding::at(
+            Kind::UnmatchedAck,
+            frame.number,
+            frame.stream,
+            frame.side,
+            0,
+        );
         say_if(&mut found, takes_nothing(frame, &change), ack)?;
         connection.meet_windows(&mut found, frame)?;
         streams.meet(&mut found, &initial, frame, &change)?;

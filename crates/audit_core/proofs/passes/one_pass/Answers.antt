@@ -1,11 +1,11 @@
-use Rattle.std.proofs.Common.{◌≡◌, ℕ, ℤ, pos, ◌+◌, ◌-◌, ◌*◌, ◌^◌, ◌<◌, ◌≤◌, ◌++◌, ◌∷◌, drop, get_or, length, refl, sym, ap, ◌∙◌, subst, arith}
+use Rattle.std.proofs.Common.{◌≡◌, ℤ, pos, ◌+◌, ◌*◌, ◌^◌, ◌++◌, drop, get_or, refl, sym, ap, ◌∙◌, subst, arith}
 use Rattle.std.proofs.lemmas.List.{drop_all}
 use Rattle.std.proofs.lemmas.Int.{ints}
 use Rattle.audit_core.specs.declared.sides.Sides.{Sides}
 use Rattle.audit_core.specs.Sides.{side_of, each_side}
 use Rattle.audit_core.specs.Window.{IsWithin}
 use Rattle.audit_core.specs.InForce.{InForce, in_force_after, change_of}
-use Rattle.audit_core.specs.Connection.{connection_start, credit_after}
+use Rattle.audit_core.specs.Connection.{credit_after}
 use Rattle.audit_core.specs.StreamTable.{RowsFit}
 use Rattle.audit_core.specs.Finding.{say, in_order, upto_stop}
 use Rattle.audit_core.specs.Pass.{pass_start, next, streams_of}
@@ -37,7 +37,8 @@ loop-frame-init c =
       client = rw start start-within;
       server = rw start start-within;
       fits = subst (RowsFit (2 ^ 17)) (sym c.in_ok-streams.ensures.rows)
-          (idle_rows-fit (2 ^ 17) (streams_of c.args.frames.now) (streams-streams_of 0 c.args.frames.now c.requires)) }
+          (idle_rows-fit (2 ^ 17) (streams_of c.args.frames.now) (streams-streams_of 0 c.args.frames.now c.requires));
+    }
 
 pub at-ack-requires-clause-numbered : goal.at-ack-requires-clause-numbered
 at-ack-requires-clause-numbered c = number-get_or 0 c.args.frames.now c.loop-frame.frame-index _ c.requires c.loop-frame-test.true
@@ -84,24 +85,25 @@ loop-frame-preserved c =
           (drop c.loop-frame.frame-index c.args.frames.now) (drop (c.loop-frame.frame-index + 1) c.args.frames.now)
           (drop-next c.args.frames.now c.loop-frame.frame-index _ c.loop-frame-test.true)
           (parts-more old.state frame (streams_of c.args.frames.now) c.initial-initial.result c.in_ok-change.change
-              c.loop-frame.streams.rows.items initial change old.table c.loop-frame.connection.credit old.credit
-              c.loop-frame.found.items c.say_if.new.found.items c.meet_windows.new.found.items _ c.takes_nothing.result
-              c.takes_nothing.ensures
-              (c.in_ok-say_if.ensures.ok ∙ ap (λ x. c.loop-frame.found.items ++ say c.takes_nothing.result x) c.at-ack.ensures)
-              c.in_ok-meet_windows.ensures.said c.in_ok-meet.ensures.said)
+          c.loop-frame.streams.rows.items initial change old.table c.loop-frame.connection.credit old.credit
+          c.loop-frame.found.items c.say_if.new.found.items c.meet_windows.new.found.items _ c.takes_nothing.result
+          c.takes_nothing.ensures
+          (c.in_ok-say_if.ensures.ok ∙ ap (λ x. c.loop-frame.found.items ++ say c.takes_nothing.result x) c.at-ack.ensures)
+          c.in_ok-meet_windows.ensures.said c.in_ok-meet.ensures.said)
           old.rows;
       client_paired = c.in_ok-change.ensures.client;
       server_paired = c.in_ok-change.ensures.server;
       client = within-wider (2 ^ 17 + c.loop-frame.frame-index * 2 ^ 34 + 2 ^ 33) _ _ (omega arith) (c.meet_windows.ensures.client _ old.client);
       server = within-wider (2 ^ 17 + c.loop-frame.frame-index * 2 ^ 34 + 2 ^ 33) _ _ (omega arith) (c.meet_windows.ensures.server _ old.server);
-      fits = all_fit-wider (2 ^ 17 + c.loop-frame.frame-index * 2 ^ 34 + 2 ^ 34) _ _ (omega arith) (c.in_ok-meet.ensures.fits _ old.fits) }
+      fits = all_fit-wider (2 ^ 17 + c.loop-frame.frame-index * 2 ^ 34 + 2 ^ 34) _ _ (omega arith) (c.in_ok-meet.ensures.fits _ old.fits);
+    }
 
 pub returns : goal.returns
 returns c =
     let last = c.loop-frame.invariant in
     c.cut_at_stop.ensures
     ∙ ap upto_stop (c.in_ok-put_in_order.ensures.ok
-        ∙ ap in_order (rows-done _ c.loop-frame.found.items (streams_of c.args.frames.now) last.state
-            (drop c.loop-frame.frame-index c.args.frames.now)
-            (drop_all c.loop-frame.frame-index c.args.frames.now c.loop-frame-test.false) last.rows)
-        ∙ sym (shown-full c.args.frames.now c.requires))
+    ∙ ap in_order (rows-done _ c.loop-frame.found.items (streams_of c.args.frames.now) last.state
+    (drop c.loop-frame.frame-index c.args.frames.now)
+    (drop_all c.loop-frame.frame-index c.args.frames.now c.loop-frame-test.false) last.rows)
+    ∙ sym (shown-full c.args.frames.now c.requires))

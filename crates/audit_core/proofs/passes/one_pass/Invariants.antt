@@ -1,4 +1,4 @@
-use Rattle.std.proofs.Common.{◌≡◌, ℕ, ◌+◌, ◌*◌, ◌^◌, ◌≤◌, ◌++◌, drop, vec_len}
+use Rattle.std.proofs.Common.{◌≡◌, ◌+◌, ◌*◌, ◌^◌, ◌≤◌, ◌++◌, drop, vec_len}
 use Rattle.audit_core.specs.Window.{IsWithin}
 use Rattle.audit_core.specs.SettingsSoFar.{in_force_of}
 use Rattle.audit_core.specs.StreamTable.{streams_in, RowsFit, IsIndex}
@@ -19,4 +19,5 @@ invariant-loop-frame l = record {
   server_paired : l.settings.paired.server ≤ vec_len l.settings.sent.client;
   client : IsWithin (2 ^ 17 + l.frame-index * 2 ^ 34) l.connection.credit.client;
   server : IsWithin (2 ^ 17 + l.frame-index * 2 ^ 34) l.connection.credit.server;
-  fits : RowsFit (2 ^ 17 + l.frame-index * 2 ^ 34) l.streams.rows.items }
+  fits : RowsFit (2 ^ 17 + l.frame-index * 2 ^ 34) l.streams.rows.items;
+}

@@ -1,4 +1,4 @@
-use Rattle.std.proofs.Common.{rules, arith}
+use Rattle.std.proofs.Common.{arith}
 use Rattle.std.proofs.lemmas.Int.{ints}
 use Rattle.audit_core.specs.Window.{IsWithin}
 use Rattle.audit_core.proofs.connections.ConnectionState.count.Goals as goal

@@ -1,6 +1,5 @@
-use Rattle.std.proofs.Common.{rules, ◌+◌, ◌^◌, arith, SFits, w64, pos, neg_ℤ, ◌≤ℤ◌}
+use Rattle.std.proofs.Common.{rules, arith, SFits, w64}
 use Rattle.std.proofs.lemmas.Int.{ints, to_z-of_z}
-use Rattle.audit_core.specs.Window.{IsWithin}
 use Rattle.audit_core.proofs.connections.ConnectionState.meet_windows.Goals as goal
 
 pub returns-in_err-say_window-2-clause-client : goal.returns-in_err-say_window-2-clause-client

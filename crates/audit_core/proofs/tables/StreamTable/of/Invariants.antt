@@ -1,4 +1,4 @@
-use Rattle.std.proofs.Common.{◌≡◌, ℕ, ◌++◌, drop}
+use Rattle.std.proofs.Common.{◌≡◌, ◌++◌, drop}
 use Rattle.audit_core.specs.Pass.{streams_of}
 use Rattle.audit_core.specs.StreamTable.{streams_in, idle_rows, IsIndex}
 use Rattle.audit_core.proofs.NamedStreams.{without}
