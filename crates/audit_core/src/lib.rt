@@ -27,3 +27,6 @@ pub use passes::one_pass;
 pub use places::Place;
 pub use sides::{Side, Sides};
 pub use streams::Stream;
+
+#[cfg(test)]
+mod tests;
