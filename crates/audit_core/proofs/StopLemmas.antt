@@ -1,5 +1,5 @@
 -- What is kept of the findings ends at the first that stops.
-use Rattle.std.proofs.Common.{◌≡◌, Bool, true, false, List, [], ◌∷◌, ◌++◌, refl, ap, ◌⊎◌, inl, inr, if◌then◌else◌}
+use Rattle.std.proofs.Common.{◌≡◌, Bool, true, false, List, [], ◌∷◌, refl, ap, ◌⊎◌, inl, inr}
 use Rattle.audit_core.specs.declared.findings.Finding.{Finding}
 use Rattle.audit_core.specs.Finding.{stops, upto_stop}
 use Rattle.audit_core.specs.StopLaw.{NoneStops, EndsAt, KeptUptoFirstStop}

@@ -1,4 +1,4 @@
-use Rattle.std.proofs.Common.{◌≡◌, ℕ, drop}
+use Rattle.std.proofs.Common.{drop}
 use Rattle.audit_core.specs.Frame.{IsOrderlyFrom}
 use Rattle.audit_core.proofs.tests.are_orderly.Given as goal
 
