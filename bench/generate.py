@@ -1,0 +1,117 @@
+#!/usr/bin/env python3
+"""Writes a capture for measuring: generate.py SHAPE MEGABYTES FILE.
+
+Shapes:
+  bulk         one connection, one stream, a download of 16,384-byte DATA frames in full TCP segments, with window updates
+  small        one connection, many streams, DATA frames of a few bytes, a frame in a record
+  connections  many short connections of a handshake, a request and a response
+The same words always give the same bytes.
+"""
+import struct
+import sys
+
+CLIENT, SERVER = 0, 1
+PREFACE = b"PRI * HTTP/2.0\r\n\r\nSM\r\n\r\n"
+SYN, SYN_ACK, ACK = 0x02, 0x12, 0x10
+ADDRESSES = (0x0A000001, 0x0A000002)
+
+
+def frame(kind, flags, stream, payload=b""):
+    return struct.pack(">I", len(payload))[1:] + struct.pack(">BBI", kind, flags, stream) + payload
+
+
+def window_update(stream, increment):
+    return frame(8, 0, stream, struct.pack(">I", increment))
+
+
+class Capture:
+    """A capture that is written record by record, a microsecond apart."""
+
+    def __init__(self, file):
+        self.file = file
+        self.size = 24
+        self.records = 0
+        file.write(struct.pack("<IHHIIII", 0xA1B2C3D4, 2, 4, 0, 0, 262144, 1))
+
+    def segment(self, ports, side, seq, flags, payload=b""):
+        total = 40 + len(payload)
+        ends = (ADDRESSES[side], ADDRESSES[1 - side])
+        ip = struct.pack(">BBHIBBHII", 0x45, 0, total, 0, 64, 6, 0, *ends)
+        tcp = struct.pack(">HHIIBBHHH", ports[side], ports[1 - side], seq % 2 ** 32, 0, 0x50, flags, 0, 0, 0)
+        packet = bytes(12) + b"\x08\x00" + ip + tcp + payload
+        self.records += 1
+        head = struct.pack("<IIII", self.records // 1000000, self.records % 1000000, len(packet), len(packet))
+        self.file.write(head + packet)
+        self.size += 16 + len(packet)
+
+
+class Connection:
+    """Two sides that send whole frames in order."""
+
+    def __init__(self, capture, port):
+        self.capture, self.ports, self.next = capture, (port, 80), [1001, 5001]
+        capture.segment(self.ports, CLIENT, 1000, SYN)
+        capture.segment(self.ports, SERVER, 5000, SYN_ACK)
+        self.send(CLIENT, PREFACE + frame(4, 0, 0))
+        self.send(SERVER, frame(4, 0, 0))
+        self.send(CLIENT, frame(4, 1, 0))
+        self.send(SERVER, frame(4, 1, 0))
+
+    def send(self, side, data, most=1460):
+        for start in range(0, len(data), most):
+            piece = data[start:start + most]
+            self.capture.segment(self.ports, side, self.next[side], ACK, piece)
+            self.next[side] += len(piece)
+
+
+def bulk(capture, size):
+    one = Connection(capture, 40000)
+    one.send(CLIENT, frame(1, 4, 1))
+    while capture.size < size:
+        one.send(SERVER, frame(0, 0, 1, bytes(16384)))
+        one.send(CLIENT, window_update(0, 16384) + window_update(1, 16384))
+
+
+def small(capture, size):
+    one = Connection(capture, 40000)
+    stream = 1
+    while capture.size < size:
+        one.send(CLIENT, frame(1, 4, stream))
+        for _ in range(20):
+            one.send(SERVER, frame(0, 0, stream, b"abcd"))
+        one.send(SERVER, frame(0, 1, stream, b"end"))
+        one.send(CLIENT, frame(0, 1, stream))
+        one.send(CLIENT, window_update(0, 83))
+        stream += 2
+
+
+def connections(capture, size):
+    port = 1024
+    while capture.size < size:
+        one = Connection(capture, port)
+        one.send(CLIENT, frame(1, 5, 1))
+        one.send(SERVER, frame(1, 4, 1) + frame(0, 1, 1, bytes(1000)))
+        port += 1
+        if port == 65536:
+            port = 1024
+            next_client()
+
+
+def next_client():
+    """The next client address, where the ports of one are used up."""
+    global ADDRESSES
+    ADDRESSES = (ADDRESSES[0] + 256, ADDRESSES[1])
+
+
+SHAPES = {"bulk": bulk, "small": small, "connections": connections}
+
+
+def main():
+    if len(sys.argv) != 4 or sys.argv[1] not in SHAPES:
+        sys.exit(__doc__)
+    with open(sys.argv[3], "wb", buffering=1 << 20) as file:
+        SHAPES[sys.argv[1]](Capture(file), int(float(sys.argv[2]) * 1000000))
+
+
+if __name__ == "__main__":
+    main()
