@@ -1,6 +1,6 @@
 //! Credit, stalls and overruns of connections and streams.
 
-use crate::judge::{Shown, expect};
+use crate::judge::{Shown, expect, expect_both};
 use std::alloc::{AllocError, Global};
 use std::test::Fail;
 use test_captures::{
@@ -92,17 +92,30 @@ fn stall_ends_then_overrun(rt: HostRuntime) -> Result<(), Fail> {
         "connection 1 client 10.0.0.1:40000 server 10.0.0.2:80 record 1 http2 frames 11",
         "flow client bytes 65632 gap none tail 0",
         "flow server bytes 31 gap none tail 0",
+        "frame 5 record 7 time 7000 client stream-credit stream 1 value 65535",
+        "frame 5 record 7 time 7000 server stream-credit stream 1 value 65535",
+        "frame 6 record 8 time 8000 client connection-credit stream 0 value 49151",
+        "frame 6 record 8 time 8000 client stream-credit stream 1 value 49151",
+        "frame 7 record 9 time 9000 client connection-credit stream 0 value 32767",
+        "frame 7 record 9 time 9000 client stream-credit stream 1 value 32767",
+        "frame 8 record 10 time 10000 client connection-credit stream 0 value 16383",
+        "frame 8 record 10 time 10000 client stream-credit stream 1 value 16383",
         "frame 9 record 11 time 11000 client connection-stall-begin stream 0 value 0",
         "frame 9 record 11 time 11000 client stream-stall-begin stream 1 value 0",
+        "frame 9 record 11 time 11000 client connection-credit stream 0 value 0",
+        "frame 9 record 11 time 11000 client stream-credit stream 1 value 0",
         "frame 10 record 12 time 12000 client connection-stall-end stream 0 value 1",
+        "frame 10 record 12 time 12000 client connection-credit stream 0 value 1",
         "frame 11 record 13 time 13000 client stream-overrun stream 1 value -1",
         "frame 11 record 13 time 13000 client connection-stall-begin stream 0 value 0",
+        "frame 11 record 13 time 13000 client connection-credit stream 0 value 0",
+        "frame 11 record 13 time 13000 client stream-credit stream 1 value -1",
         "stall client stream 0 from 9 to 10 nanos 1000",
         "stall client stream 1 from 9 open",
         "stall client stream 0 from 11 open",
         "audit of all frames",
     ];
-    expect(&rt, &capture, Shown::Findings, 1, &lines)
+    expect_both(&rt, &capture, 1, &lines)
 }
 
 #[test]
@@ -196,10 +209,16 @@ fn setting_overflow(rt: HostRuntime) -> Result<(), Fail> {
         "connection 1 client 10.0.0.1:40000 server 10.0.0.2:80 record 1 http2 frames 10",
         "flow client bytes 69 gap none tail 0",
         "flow server bytes 59 gap none tail 0",
+        "frame 5 record 7 time 7000 client stream-credit stream 1 value 65535",
+        "frame 5 record 7 time 7000 server stream-credit stream 1 value 65535",
+        "frame 6 record 8 time 8000 client stream-credit stream 3 value 65535",
+        "frame 6 record 8 time 8000 server stream-credit stream 3 value 65535",
+        "frame 7 record 9 time 9000 client stream-credit stream 3 value 2147483647",
+        "frame 8 record 10 time 10000 client stream-credit stream 1 value 2147483647",
         "frame 10 record 12 time 12000 client setting-overflow stream 1 value 2147483648",
         "audit stopped at frame 10",
     ];
-    expect(&rt, &capture, Shown::Findings, 1, &lines)
+    expect_both(&rt, &capture, 1, &lines)
 }
 
 #[test]
@@ -220,15 +239,29 @@ fn after_end_and_reset(rt: HostRuntime) -> Result<(), Fail> {
         "connection 1 client 10.0.0.1:40000 server 10.0.0.2:80 record 1 http2 frames 14",
         "flow client bytes 65660 gap none tail 0",
         "flow server bytes 31 gap none tail 0",
+        "frame 5 record 7 time 7000 client stream-credit stream 1 value 65535",
+        "frame 5 record 7 time 7000 server stream-credit stream 1 value 65535",
+        "frame 6 record 8 time 8000 client stream-credit stream 3 value 65535",
+        "frame 6 record 8 time 8000 server stream-credit stream 3 value 65535",
+        "frame 7 record 9 time 9000 client connection-credit stream 0 value 49151",
+        "frame 7 record 9 time 9000 client stream-credit stream 1 value 49151",
+        "frame 8 record 10 time 10000 client connection-credit stream 0 value 32767",
+        "frame 8 record 10 time 10000 client stream-credit stream 1 value 32767",
+        "frame 9 record 11 time 11000 client connection-credit stream 0 value 16383",
+        "frame 9 record 11 time 11000 client stream-credit stream 1 value 16383",
         "frame 10 record 12 time 12000 client connection-stall-begin stream 0 value 0",
         "frame 10 record 12 time 12000 client stream-stall-begin stream 1 value 0",
+        "frame 10 record 12 time 12000 client connection-credit stream 0 value 0",
+        "frame 10 record 12 time 12000 client stream-credit stream 1 value 0",
         "frame 11 record 13 time 13000 client stream-stall-end stream 1 value 0",
         "frame 12 record 14 time 14000 client after-end stream 1 value 0",
         "frame 12 record 14 time 14000 client connection-overrun stream 0 value -1",
+        "frame 12 record 14 time 14000 client connection-credit stream 0 value -1",
         "frame 14 record 16 time 16000 client connection-overrun stream 0 value -2",
+        "frame 14 record 16 time 16000 client connection-credit stream 0 value -2",
         "stall client stream 0 from 10 open",
         "stall client stream 1 from 10 to 11 nanos 1000",
         "audit of all frames",
     ];
-    expect(&rt, &capture, Shown::Findings, 1, &lines)
+    expect_both(&rt, &capture, 1, &lines)
 }

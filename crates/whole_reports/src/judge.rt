@@ -28,7 +28,18 @@ pub fn expect(
     Ok(())
 }
 
-/// The same in one mix, for any bytes.
+/// The capture's report with credit lines is these lines, and without them the others of these.
+pub fn expect_both(
+    rt: &(impl Abort + AllocGlobal + Sync + Threads),
+    capture: &Capture,
+    status: u8,
+    lines: &[&str],
+) -> Result<(), Fail> {
+    expect(rt, capture, Shown::Credit, status, lines)?;
+    expect(rt, capture, Shown::Findings, status, lines)
+}
+
+/// The same in one mix, for any bytes. Lines of credit count only where they are shown.
 pub fn expect_in(
     rt: &(impl Abort + AllocGlobal + Sync + Threads),
     mix: (u32, u32, u32),
@@ -39,8 +50,10 @@ pub fn expect_in(
 ) -> Result<(), Fail> {
     let mut want = String::new(rt.alloc());
     for line in lines {
-        want.push_str(line)?;
-        want.push_str("\n")?;
+        if shown == Shown::Credit || !line.contains("-credit stream ") {
+            want.push_str(line)?;
+            want.push_str("\n")?;
+        }
     }
     let (answer, text) = report_of(rt, mix, capture, shown)?;
     assert_eq!(rt; text.as_str(), want.as_str(), "in {mix:?}");

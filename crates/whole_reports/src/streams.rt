@@ -1,7 +1,7 @@
 //! Uses of streams that the rules name, and where an audit stops.
 
 use crate::credit::stalled;
-use crate::judge::{Shown, expect};
+use crate::judge::{Shown, expect, expect_both};
 use std::test::Fail;
 use test_captures::{Capture, data, headers, rst_stream, settings_ack, window_update};
 
@@ -16,11 +16,13 @@ fn zero_grants(rt: HostRuntime) -> Result<(), Fail> {
         "connection 1 client 10.0.0.1:40000 server 10.0.0.2:80 record 1 http2 frames 7",
         "flow client bytes 51 gap none tail 0",
         "flow server bytes 44 gap none tail 0",
+        "frame 5 record 7 time 7000 client stream-credit stream 1 value 65535",
+        "frame 5 record 7 time 7000 server stream-credit stream 1 value 65535",
         "frame 6 record 8 time 8000 server zero-stream-grant stream 1 value 0",
         "frame 7 record 9 time 9000 server zero-connection-grant stream 0 value 0",
         "audit stopped at frame 7",
     ];
-    expect(&rt, &capture, Shown::Findings, 1, &lines)
+    expect_both(&rt, &capture, 1, &lines)
 }
 
 // What stands past the stop is withdrawn: the overruns at frames 10 and 12, the stall's end at 11.
@@ -35,14 +37,24 @@ fn withdrawn_findings(rt: HostRuntime) -> Result<(), Fail> {
         "connection 1 client 10.0.0.1:40000 server 10.0.0.2:80 record 1 http2 frames 12",
         "flow client bytes 65646 gap none tail 0",
         "flow server bytes 31 gap none tail 0",
+        "frame 5 record 7 time 7000 client stream-credit stream 1 value 65535",
+        "frame 5 record 7 time 7000 server stream-credit stream 1 value 65535",
+        "frame 6 record 8 time 8000 client connection-credit stream 0 value 49151",
+        "frame 6 record 8 time 8000 client stream-credit stream 1 value 49151",
+        "frame 7 record 9 time 9000 client connection-credit stream 0 value 32767",
+        "frame 7 record 9 time 9000 client stream-credit stream 1 value 32767",
+        "frame 8 record 10 time 10000 client connection-credit stream 0 value 16383",
+        "frame 8 record 10 time 10000 client stream-credit stream 1 value 16383",
         "frame 9 record 11 time 11000 client connection-stall-begin stream 0 value 0",
         "frame 9 record 11 time 11000 client stream-stall-begin stream 1 value 0",
+        "frame 9 record 11 time 11000 client connection-credit stream 0 value 0",
+        "frame 9 record 11 time 11000 client stream-credit stream 1 value 0",
         "frame 10 record 12 time 12000 client not-opened stream 7 value 0",
         "stall client stream 0 from 9 open",
         "stall client stream 1 from 9 open",
         "audit stopped at frame 10",
     ];
-    expect(&rt, &capture, Shown::Findings, 1, &lines)
+    expect_both(&rt, &capture, 1, &lines)
 }
 
 #[test]
@@ -58,10 +70,14 @@ fn first_error_below_overflow(rt: HostRuntime) -> Result<(), Fail> {
         "connection 1 client 10.0.0.1:40000 server 10.0.0.2:80 record 1 http2 frames 9",
         "flow client bytes 69 gap none tail 0",
         "flow server bytes 44 gap none tail 0",
+        "frame 5 record 7 time 7000 client stream-credit stream 1 value 65535",
+        "frame 5 record 7 time 7000 server stream-credit stream 1 value 65535",
+        "frame 6 record 8 time 8000 client stream-credit stream 3 value 65535",
+        "frame 6 record 8 time 8000 server stream-credit stream 3 value 65535",
         "frame 7 record 9 time 9000 server not-opened stream 9 value 8",
         "audit stopped at frame 7",
     ];
-    expect(&rt, &capture, Shown::Findings, 1, &lines)
+    expect_both(&rt, &capture, 1, &lines)
 }
 
 #[test]
@@ -76,7 +92,7 @@ fn unmatched_ack(rt: HostRuntime) -> Result<(), Fail> {
         "frame 5 record 7 time 7000 server unmatched-ack stream 0 value 0",
         "audit of all frames",
     ];
-    expect(&rt, &capture, Shown::Findings, 1, &lines)
+    expect_both(&rt, &capture, 1, &lines)
 }
 
 #[test]
