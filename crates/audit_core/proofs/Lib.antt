@@ -18,3 +18,7 @@ pub mod OneRow
 pub mod OwnRow
 pub mod NamedStreams
 pub mod StopLemmas
+pub mod Pairs
+pub mod TableRows
+pub mod FrameRows
+pub mod Apart

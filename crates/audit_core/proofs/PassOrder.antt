@@ -65,7 +65,7 @@ at-nil n = record { within = tt }
 at-cons : (n : ℕ) (x : Finding) (xs : List Finding) → n * 2 ^ 36 ≤ x.place → x.place < n * 2 ^ 36 + 2 ^ 36 → AreAt n xs → AreAt n (x ∷ xs)
 at-cons n x xs p q h = record { within = (p, q, h.within) }
 
-rank-small : (kind : Kind) → rank_of kind ≤ 26
+pub rank-small : (kind : Kind) → rank_of kind ≤ 26
 rank-small BadPreface = lit≤ tt
 rank-small BrokenBlock = lit≤ tt
 rank-small TooLong = lit≤ tt

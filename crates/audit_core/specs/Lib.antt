@@ -26,3 +26,4 @@ pub mod Room
 pub mod CreditLaws
 pub mod PartsLaw
 pub mod StopLaw
+pub mod ApartLaw

@@ -33,3 +33,10 @@ pub fn findings_end_at_first_stop()
     ensures kept { KeptUptoFirstStop }
     ensures in_order { FindingsStandInOrder }
 {}
+
+ghost use Rattle.audit_core.specs.ApartLaw.{FindingsStandApart};
+
+/// No two of all findings of a connection share place and side: at each place at most one thing is said of an endpoint.
+pub fn findings_stand_apart()
+    ensures { FindingsStandApart }
+{}

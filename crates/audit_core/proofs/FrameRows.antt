@@ -1,0 +1,217 @@
+-- What is said at one frame stands in different rows of the table, or is of different streams.
+use Rattle.std.proofs.Common.{◌≡◌, ◌≢◌, ℕ, ℤ, pos, ◌+◌, ◌^◌, ◌<◌, Bool, true, false, List, [], ◌∷◌, refl, sym, ap, subst, ◌∙◌, arith, Option, if◌then◌else◌, nat_lt}
+use Rattle.std.specs.List.{AllByRecursion}
+use Rattle.audit_core.specs.declared.sides.Side.{Side}
+use Rattle.audit_core.specs.declared.sides.Side.TheVariants.{Client, Server}
+use Rattle.audit_core.specs.declared.sides.Sides.{Sides}
+use Rattle.audit_core.specs.declared.kinds.Kind.{Kind}
+use Rattle.audit_core.specs.declared.kinds.Kind.TheVariants.{BadPreface, BrokenBlock, TooLong, WrongStream, WrongSize, BadPadding, BadSetting, Push, PushNotAudited, NotOpened, IdNotGreater, ZeroConnectionGrant, ConnectionOverflow, SettingOverflow, LongFrame, AfterEnd, ConnectionOverrun, StreamOverrun, ZeroStreamGrant, StreamOverflow, UnmatchedAck, BadPriority, ConnectionStallEnd, ConnectionStallBegin, StreamStallEnd, StreamStallBegin, ConnectionCredit, StreamCredit}
+use Rattle.audit_core.specs.declared.frames.Body.{Body}
+use Rattle.audit_core.specs.declared.frames.Body.TheVariants.{Settings as SettingsBody, Unreadable}
+use Rattle.audit_core.specs.declared.frames.Frame.{Frame}
+use Rattle.audit_core.specs.declared.items.Item.{Item}
+use Rattle.audit_core.specs.declared.items.Step.{Step}
+use Rattle.audit_core.specs.declared.connections.ConnectionState.{ConnectionState}
+use Rattle.audit_core.specs.declared.streams.Stream.{Stream}
+use Rattle.audit_core.specs.declared.findings.Finding.{Finding}
+use Rattle.audit_core.specs.Sides.{side_of}
+use Rattle.audit_core.specs.Kind.{rank_of}
+use Rattle.audit_core.specs.Place.{place_stream}
+use Rattle.audit_core.specs.Finding.{finding_at, say}
+use Rattle.audit_core.specs.LocalFault.{local_said, fault, push_kind, body_said, reading_fault}
+use Rattle.audit_core.specs.InForce.{InForce, settings_said}
+use Rattle.audit_core.specs.Connection.{connection_said, length_said, connection_windows_said, connection_window_said}
+use Rattle.audit_core.specs.Stream.{opens, window_at_opening, stream_said, frame_said, stream_window_said, live_window_said, opened_window_said}
+use Rattle.audit_core.specs.StreamTable.{NotAmong, AreDistinct}
+use Rattle.audit_core.specs.Pass.{PassState, streams_said, step_of, item_of}
+use Rattle.audit_core.specs.ApartLaw.{IsApart, StandApart}
+use Rattle.audit_core.proofs.Pairs.{all-append, across-by, pairs-append}
+use Rattle.audit_core.proofs.PassOrder.{AreStreams, rows_of}
+use Rattle.audit_core.proofs.TableRows.{row_at, row-either, IsRow, AreRows, Only, rows-wider, rows-nil, rows-append, rows-three, rows-six, rows-say_of, rows-choice, rows-say}
+
+-- any stream
+abbrev Any : ℕ → Type 0
+Any stream = Unit {0}
+
+any : (on : ℕ → Type 0) (low high : ℕ) (xs : List Finding) → AreRows on low high xs → AreRows Any low high xs
+any on low high xs h = rows-wider on Any low high low high (λ s p. tt) (omega arith) (omega arith) xs h
+
+-- what is said of a frame by itself
+module _ (frame : Frame) (h : frame.stream < 2 ^ 31) where
+  -- a row that is said of the frame's sender
+  said : (kind : Kind) (value : ℤ) (holds : Bool) (row : ℕ) → row_at Client (rank_of kind) ≡ row → row_at Server (rank_of kind) ≡ row →
+      AreRows (Only frame.stream) row (row + 1) (say holds (finding_at kind frame.number frame.stream frame.side value))
+  said kind value holds row p q =
+      rows-say kind frame.number frame.stream frame.side value holds row h (row-either (rank_of kind) row p q frame.side)
+
+  rows-reading_fault : (kind : Kind) (value : ℕ) → AreRows (Only frame.stream) 3 4 (reading_fault kind frame value)
+  rows-reading_fault WrongSize value = said WrongSize (pos value) true 3 refl refl
+  rows-reading_fault BadPadding value = said BadPadding (pos value) true 3 refl refl
+  rows-reading_fault BadPriority value = said BadPriority (pos value) true 3 refl refl
+  rows-reading_fault _ value = rows-nil _ 3 4
+
+  rows-body : (body : Body) → AreRows (Only frame.stream) 3 4 (body_said frame body)
+  rows-body (Unreadable kind value) = rows-reading_fault kind value
+  rows-body (SettingsBody settings) =
+      rows-say_of (Only frame.stream) 3 4 (λ identifier. fault BadSetting frame identifier ∷ []) settings.bad
+      (λ identifier. said BadSetting (pos identifier) true 3 refl refl)
+  rows-body _ = rows-nil _ 3 4
+
+  rows-push : (holds : Bool) (side : Side) → AreRows (Only frame.stream) 4 5 (say holds (fault (push_kind side) frame 0))
+  rows-push holds Client = said Push (pos 0) holds 4 refl refl
+  rows-push holds Server = said PushNotAudited (pos 0) holds 4 refl refl
+
+  rows-local : (previous : Option Frame) → AreRows (Only frame.stream) 0 5 (local_said previous frame)
+  rows-local previous =
+      rows-append (Only frame.stream) 0 4 5 (omega arith) (omega arith) _ _
+      (rows-append (Only frame.stream) 0 3 4 (omega arith) (omega arith) _ _
+      (rows-three (Only frame.stream) 0 _ _ _ (said BadPreface _ _ 0 refl refl) (said BrokenBlock _ _ 1 refl refl)
+      (said WrongStream _ _ 2 refl refl))
+      (rows-body frame.body))
+      (rows-push _ frame.side)
+
+  rows-settings : (now : InForce) → AreRows (Only frame.stream) 5 6 (settings_said now frame)
+  rows-settings now = said UnmatchedAck _ _ 5 refl refl
+
+  rows-length : (limit : ℕ) → AreRows (Only frame.stream) 6 7 (length_said limit frame)
+  rows-length limit = step _ where
+    step : (b : Bool) → AreRows (Only frame.stream) 6 7 (say (nat_lt limit frame.length)
+        (finding_at (if b then TooLong else LongFrame) frame.number frame.stream frame.side (pos frame.length)))
+    step true = said TooLong _ _ 6 refl refl
+    step false = said LongFrame _ _ 6 refl refl
+
+  zero-small : 0 < 2 ^ 31
+  zero-small = omega arith
+
+  rows-client_window : (before : ℤ) → AreRows (Only 0) 8 14 (connection_window_said Client before frame)
+  rows-client_window before =
+      rows-six (Only 0) 8 _ _ _ _ _ _
+      (rows-say ZeroConnectionGrant frame.number 0 Server _ _ 8 zero-small refl)
+      (rows-say ConnectionOverflow frame.number 0 Client _ _ 9 zero-small refl)
+      (rows-say ConnectionOverrun frame.number 0 Client _ _ 10 zero-small refl)
+      (rows-say ConnectionStallEnd frame.number 0 Client _ _ 11 zero-small refl)
+      (rows-say ConnectionStallBegin frame.number 0 Client _ _ 12 zero-small refl)
+      (rows-say ConnectionCredit frame.number 0 Client _ _ 13 zero-small refl)
+
+  rows-server_window : (before : ℤ) → AreRows (Only 0) 14 20 (connection_window_said Server before frame)
+  rows-server_window before =
+      rows-six (Only 0) 14 _ _ _ _ _ _
+      (rows-say ZeroConnectionGrant frame.number 0 Client _ _ 14 zero-small refl)
+      (rows-say ConnectionOverflow frame.number 0 Server _ _ 15 zero-small refl)
+      (rows-say ConnectionOverrun frame.number 0 Server _ _ 16 zero-small refl)
+      (rows-say ConnectionStallEnd frame.number 0 Server _ _ 17 zero-small refl)
+      (rows-say ConnectionStallBegin frame.number 0 Server _ _ 18 zero-small refl)
+      (rows-say ConnectionCredit frame.number 0 Server _ _ 19 zero-small refl)
+
+  rows-connection_windows : (credit : Sides ℤ) → AreRows (Only 0) 8 20 (connection_windows_said credit frame)
+  rows-connection_windows credit =
+      rows-append (Only 0) 8 14 20 (omega arith) (omega arith) _ _ (rows-client_window credit.client) (rows-server_window credit.server)
+
+rows-connection : (now : ConnectionState) (item : Item) → item.frame.stream < 2 ^ 31 → AreRows Any 6 20 (connection_said now item)
+rows-connection now item h =
+    rows-append Any 6 8 20 (omega arith) (omega arith) _ _
+    (any (Only item.frame.stream) 6 8 _
+    (rows-append (Only item.frame.stream) 6 7 8 (omega arith) (omega arith) _ _ (rows-length item.frame h _)
+    (said item.frame h IdNotGreater _ _ 7 refl refl)))
+    (any (Only 0) 8 20 _ (rows-connection_windows item.frame h now.credit))
+
+-- what is said of a stream
+module _ (stream : ℕ) (initial : Sides ℕ) (entry : Stream) (step : Step) (h : stream < 2 ^ 31) where
+  -- a row that is said of an endpoint
+  of_side : (d : Side) (kind : Kind) (value : ℤ) (holds : Bool) (row : ℕ) → row_at d (rank_of kind) ≡ row →
+      AreRows (Only stream) row (row + 1) (say holds (finding_at kind step.number stream d value))
+  of_side d kind value holds row e = rows-say kind step.number stream d value holds row h e
+
+  of_sender : (d : Side) (kind : Kind) (value : ℤ) (holds : Bool) (row : ℕ) → row_at Client (rank_of kind) ≡ row → row_at Server (rank_of kind) ≡ row →
+      AreRows (Only stream) row (row + 1) (say holds (finding_at kind step.number stream d value))
+  of_sender d kind value holds row p q = of_side d kind value holds row (row-either (rank_of kind) row p q d)
+
+  rows-frame : (frame : Frame) → AreRows (Only stream) 20 23 (frame_said stream entry step frame)
+  rows-frame frame =
+      rows-three (Only stream) 20 _ _ _ (of_sender frame.side NotOpened _ _ 20 refl refl)
+      (of_sender frame.side AfterEnd _ _ 21 refl refl) (of_sender frame.side ZeroStreamGrant _ _ 22 refl refl)
+
+  rows-live_client : (before : ℤ) → AreRows (Only stream) 23 29 (live_window_said Client stream initial step before)
+  rows-live_client before =
+      rows-six (Only stream) 23 _ _ _ _ _ _
+      (of_side Client SettingOverflow _ _ 23 refl) (of_side Client StreamOverrun _ _ 24 refl) (of_side Client StreamOverflow _ _ 25 refl)
+      (of_side Client StreamStallEnd _ _ 26 refl) (of_side Client StreamStallBegin _ _ 27 refl) (of_side Client StreamCredit _ _ 28 refl)
+
+  rows-opened_client : (credit : ℤ) → AreRows (Only stream) 23 29 (opened_window_said Client stream step credit)
+  rows-opened_client credit =
+      rows-wider (Only stream) (Only stream) 27 29 23 29 (λ s e. e) (omega arith) (omega arith) _
+      (rows-append (Only stream) 27 28 29 (omega arith) (omega arith) _ _
+      (of_side Client StreamStallBegin _ _ 27 refl) (of_side Client StreamCredit _ true 28 refl))
+
+  rows-live_server : (before : ℤ) → AreRows (Only stream) 29 35 (live_window_said Server stream initial step before)
+  rows-live_server before =
+      rows-six (Only stream) 29 _ _ _ _ _ _
+      (of_side Server SettingOverflow _ _ 29 refl) (of_side Server StreamOverrun _ _ 30 refl) (of_side Server StreamOverflow _ _ 31 refl)
+      (of_side Server StreamStallEnd _ _ 32 refl) (of_side Server StreamStallBegin _ _ 33 refl) (of_side Server StreamCredit _ _ 34 refl)
+
+  rows-opened_server : (credit : ℤ) → AreRows (Only stream) 29 35 (opened_window_said Server stream step credit)
+  rows-opened_server credit =
+      rows-wider (Only stream) (Only stream) 33 35 29 35 (λ s e. e) (omega arith) (omega arith) _
+      (rows-append (Only stream) 33 34 35 (omega arith) (omega arith) _ _
+      (of_side Server StreamStallBegin _ _ 33 refl) (of_side Server StreamCredit _ true 34 refl))
+
+  rows-client : AreRows (Only stream) 23 29 (stream_window_said Client stream initial entry step)
+  rows-client =
+      rows-choice (Only stream) 23 29 (opens stream entry step) _ _
+      (rows-say_of (Only stream) 23 29 _ (window_at_opening Client initial step) rows-opened_client)
+      (rows-say_of (Only stream) 23 29 _ entry.window.client rows-live_client)
+
+  rows-server : AreRows (Only stream) 29 35 (stream_window_said Server stream initial entry step)
+  rows-server =
+      rows-choice (Only stream) 29 35 (opens stream entry step) _ _
+      (rows-say_of (Only stream) 29 35 _ (window_at_opening Server initial step) rows-opened_server)
+      (rows-say_of (Only stream) 29 35 _ entry.window.server rows-live_server)
+
+  rows-stream : AreRows (Only stream) 20 35 (stream_said stream initial entry step)
+  rows-stream =
+      rows-append (Only stream) 20 29 35 (omega arith) (omega arith) _ _
+      (rows-append (Only stream) 20 23 29 (omega arith) (omega arith) _ _
+      (rows-say_of (Only stream) 20 23 _ step.frame rows-frame) rows-client) rows-server
+
+all-differ : (stream : ℕ) (streams : List ℕ) → NotAmong stream streams → AllByRecursion (λ other. stream ≢ other) streams
+all-differ stream [] h = tt
+all-differ stream (other ∷ others) h = (h.0, all-differ stream others h.1)
+
+-- two streams differ in place
+streams-apart : (stream low high : ℕ) (x y : Finding) → IsRow (Only stream) low high x → IsRow (λ other. stream ≢ other) low high y → IsApart x y
+streams-apart stream low high x y p q e s = q.stream (sym p.stream ∙ ap place_stream e)
+
+-- what is said of streams that are all different, each of this sort
+module _ (state : PassState) (frame : Frame) where
+  rows-streams : (on : ℕ → Type 0) (streams : List ℕ) → AreStreams streams → AreDistinct streams → AllByRecursion on streams →
+      AreRows on 20 35 (streams_said streams state frame)
+  rows-streams on [] h d all = rows-nil on 20 35
+  rows-streams on (stream ∷ streams) h d all =
+      let one = rows-stream stream state.in_force.initial (state.streams stream) (step_of state.in_force frame stream) h.0 in
+      let others = rows-streams on streams h.1 d.1 all.1 in
+      let differ = rows-streams (λ other. stream ≢ other) streams h.1 d.1 (all-differ stream streams d.0) in
+      let first = rows-wider (Only stream) on 20 35 20 35 (λ s e. subst on (sym e) all.0) (omega arith) (omega arith) _ one in
+      record {
+        within = all-append (IsRow on 20 35) _ _ first.within others.within;
+        apart = pairs-append IsApart _ _ one.apart others.apart
+            (across-by IsApart (IsRow (Only stream) 20 35) (IsRow (λ other. stream ≢ other) 20 35) (streams-apart stream 20 35) _ _
+            one.within differ.within);
+      }
+
+all-any : (streams : List ℕ) → AllByRecursion Any streams
+all-any [] = tt
+all-any (stream ∷ streams) = (tt, all-any streams)
+
+-- no two findings at a frame share place and side
+pub rows-apart-at : (streams : List ℕ) (state : PassState) (frame : Frame) → AreStreams streams → AreDistinct streams → frame.stream < 2 ^ 31 →
+    StandApart (rows_of streams state frame)
+rows-apart-at streams state frame small distinct h = all.apart where
+  all : AreRows Any 0 35 (rows_of streams state frame)
+  all =
+      rows-append Any 0 20 35 (omega arith) (omega arith) _ _
+      (rows-append Any 0 6 20 (omega arith) (omega arith) _ _
+      (any (Only frame.stream) 0 6 _
+      (rows-append (Only frame.stream) 0 5 6 (omega arith) (omega arith) _ _ (rows-local frame h (side_of frame.side state.previous))
+      (rows-settings frame h state.in_force)))
+      (rows-connection state.connection (item_of state frame) h))
+      (rows-streams state frame Any streams small distinct (all-any streams))

@@ -1,0 +1,51 @@
+-- What holds of each two elements of a list holds of them in any order.
+use Rattle.std.proofs.Common.{◌≡◌, Bool, true, false, List, [], ◌∷◌, ◌++◌, refl}
+use Rattle.std.specs.List.{AllByRecursion}
+use Rattle.audit_core.specs.Order.{put_by, ordered_by}
+use Rattle.audit_core.specs.ApartLaw.{EachPair}
+
+module _ {X : Type 0} (P : X → Type 0) where
+  pub all-append : (xs ys : List X) → AllByRecursion P xs → AllByRecursion P ys → AllByRecursion P (xs ++ ys)
+  all-append [] ys p q = q
+  all-append (x ∷ xs) ys p q = (p.0, all-append xs ys p.1 q)
+
+  pub all-put : (after : X → X → Bool) (x : X) (ys : List X) → P x → AllByRecursion P ys → AllByRecursion P (put_by after x ys)
+  all-put after x [] p q = (p, tt)
+  all-put after x (y ∷ ys) p q = step _ refl (all-put after x ys p q.1) where
+    step : (b : Bool) → after x y ≡ b → AllByRecursion P (put_by after x ys) → AllByRecursion P (put_by after x (y ∷ ys))
+    step true e ih = rw e (q.0, ih)
+    step false e ih = rw e (p, q)
+
+  pub all-ordered : (after : X → X → Bool) (xs : List X) → AllByRecursion P xs → AllByRecursion P (ordered_by after xs)
+  all-ordered after [] p = tt
+  all-ordered after (x ∷ xs) p = all-put after x (ordered_by after xs) p.0 (all-ordered after xs p.1)
+
+pub all-map : {X : Type 0} (P Q : X → Type 0) → ((x : X) → P x → Q x) → (xs : List X) → AllByRecursion P xs → AllByRecursion Q xs
+all-map P Q f [] h = tt
+all-map P Q f (x ∷ xs) h = (f x h.0, all-map P Q f xs h.1)
+
+module _ {X : Type 0} (R : X → X → Type 0) where
+  -- each of the first list stands so to each of the second
+  abbrev pub Across : List X → List X → Type 0
+  Across xs ys = AllByRecursion (λ x. AllByRecursion (R x) ys) xs
+
+  -- where the one is of one sort and the other of another
+  pub across-by : (P Q : X → Type 0) → ((x y : X) → P x → Q y → R x y) → (xs ys : List X) →
+      AllByRecursion P xs → AllByRecursion Q ys → Across xs ys
+  across-by P Q f xs ys p q = all-map P (λ x. AllByRecursion (R x) ys) (λ x px. all-map Q (R x) (λ y qy. f x y px qy) ys q) xs p
+
+  pub pairs-append : (xs ys : List X) → EachPair R xs → EachPair R ys → Across xs ys → EachPair R (xs ++ ys)
+  pairs-append [] ys p q r = q
+  pairs-append (x ∷ xs) ys p q r = (all-append (R x) xs ys p.0 r.0, pairs-append xs ys p.1 q r.1)
+
+  module _ (after : X → X → Bool) (turned : (x y : X) → R x y → R y x) where
+    pairs-put : (x : X) (ys : List X) → AllByRecursion (R x) ys → EachPair R ys → EachPair R (put_by after x ys)
+    pairs-put x [] p q = (tt, tt)
+    pairs-put x (y ∷ ys) p q = step _ refl (pairs-put x ys p.1 q.1) where
+      step : (b : Bool) → after x y ≡ b → EachPair R (put_by after x ys) → EachPair R (put_by after x (y ∷ ys))
+      step true e ih = rw e (all-put (R y) after x ys (turned x y p.0) q.0, ih)
+      step false e ih = rw e (p, q)
+
+    pub pairs-ordered : (xs : List X) → EachPair R xs → EachPair R (ordered_by after xs)
+    pairs-ordered [] p = tt
+    pairs-ordered (x ∷ xs) p = pairs-put x (ordered_by after xs) (all-ordered (R x) after xs p.0) (pairs-ordered xs p.1)

@@ -1,0 +1,24 @@
+-- No two findings of a connection stand at one place for one endpoint.
+use Rattle.std.specs.Prelude.{◌≡◌, ◌≢◌, List, [], ◌∷◌}
+use Rattle.std.specs.List.{AllByRecursion}
+use Rattle.audit_core.specs.declared.frames.Frame.{Frame}
+use Rattle.audit_core.specs.declared.findings.Finding.{Finding}
+use Rattle.audit_core.specs.Frame.{IsOrderly}
+use Rattle.audit_core.specs.Pass.{full}
+
+-- each element stands so to every later one
+abbrev pub EachPair : {X : Type 0} → (X → X → Type 0) → List X → Type 0
+EachPair related [] = Unit {0}
+EachPair related (x ∷ xs) = AllByRecursion (related x) xs × EachPair related xs
+
+-- two findings that differ in place or in side
+abbrev pub IsApart : Finding → Finding → Type 0
+IsApart x y = x.place ≡ y.place → x.side ≢ y.side
+
+-- no two of these findings share place and side
+abbrev pub StandApart : List Finding → Type 0
+StandApart findings = EachPair IsApart findings
+
+-- so it is with all findings of a connection: what is said of an endpoint at a place is said once
+abbrev pub FindingsStandApart : Type 0
+FindingsStandApart = (frames : List Frame) → IsOrderly frames → StandApart (full frames)
