@@ -9,7 +9,7 @@ use Rattle.audit_core.specs.Finding.{comes_after}
 use Rattle.audit_core.specs.Frame.{IsOrderlyFrom, IsOrderly}
 use Rattle.audit_core.specs.StreamTable.{NotAmong, AreDistinct}
 use Rattle.audit_core.specs.Pass.{PassState, pass_start, said, full_from, full, next, streams_of}
-use Rattle.audit_core.specs.ApartLaw.{EachPair, IsApart, StandApart}
+use Rattle.audit_core.specs.ApartLaw.{EachPair, AreApart, StandApart}
 use Rattle.audit_core.proofs.Pairs.{Across, pairs-append, pairs-ordered}
 use Rattle.audit_core.proofs.PassOrder.{AreWithin, AreFrom, AreStreams, at-said, from-full_from, rows_of, streams-streams_of}
 use Rattle.audit_core.proofs.FrameRows.{rows-apart-at}
@@ -37,7 +37,7 @@ not_among-others stream (other ∷ others) = step _ refl (not_among-others strea
   step false e ih = rw e (λ p. true≢false (sym (eq-eqb other stream (sym p)) ∙ e), ih)
 
 -- no stream is named twice
-distinct-streams_of : (frames : List Frame) → AreDistinct (streams_of frames)
+pub distinct-streams_of : (frames : List Frame) → AreDistinct (streams_of frames)
 distinct-streams_of [] = tt
 distinct-streams_of (frame ∷ frames) = step _ refl (distinct-streams_of frames) where
   step : (b : Bool) → (frame.stream == 0) ≡ b → AreDistinct (streams_of frames) → AreDistinct (streams_of (frame ∷ frames))
@@ -58,7 +58,7 @@ module _ (R : Finding → Finding → Type 0) (elsewhere : (x y : Finding) → x
 
   module _ (streams : List ℕ) (small : AreStreams streams) (at : (state : PassState) (frame : Frame) → frame.stream < 2 ^ 31 →
       EachPair R (said streams state frame)) where
-    pairs-full_from : (state : PassState) (low : ℕ) (frames : List Frame) → IsOrderlyFrom low frames →
+    pub pairs-full_from : (state : PassState) (low : ℕ) (frames : List Frame) → IsOrderlyFrom low frames →
         EachPair R (full_from streams state frames)
     pairs-full_from state low [] h = tt
     pairs-full_from state low (frame ∷ frames) h =
@@ -68,14 +68,18 @@ module _ (R : Finding → Finding → Type 0) (elsewhere : (x y : Finding) → x
         (across-frames frame.number _ _ (at-said streams state frame small h.1.stream).within
         (from-full_from streams (next state frame) (frame.number + 1) frames small h.2))
 
-apart-turned : (x y : Finding) → IsApart x y → IsApart y x
+apart-turned : (x y : Finding) → AreApart x y → AreApart y x
 apart-turned x y h p s = h (sym p) (sym s)
+
+pub apart-said : (streams : List ℕ) (state : PassState) (frame : Frame) → AreStreams streams → AreDistinct streams → frame.stream < 2 ^ 31 →
+    StandApart (said streams state frame)
+apart-said streams state frame small distinct h =
+    pairs-ordered AreApart comes_after apart-turned (rows_of streams state frame) (rows-apart-at streams state frame small distinct h)
 
 pub findings_stand_apart : (frames : List Frame) → IsOrderly frames → StandApart (full frames)
 findings_stand_apart frames h =
-    pairs-full_from IsApart (λ x y n p. absurd (n p)) (streams_of frames) small
-    (λ state frame k. pairs-ordered IsApart comes_after apart-turned (rows_of (streams_of frames) state frame)
-    (rows-apart-at (streams_of frames) state frame small (distinct-streams_of frames) k))
+    pairs-full_from AreApart (λ x y n p. absurd (n p)) (streams_of frames) small
+    (λ state frame k. apart-said (streams_of frames) state frame small (distinct-streams_of frames) k)
     pass_start 0 frames h where
       small : AreStreams (streams_of frames)
       small = streams-streams_of 0 frames h

@@ -24,7 +24,7 @@ use Rattle.audit_core.specs.Connection.{connection_said, length_said, connection
 use Rattle.audit_core.specs.Stream.{opens, window_at_opening, stream_said, frame_said, stream_window_said, live_window_said, opened_window_said}
 use Rattle.audit_core.specs.StreamTable.{NotAmong, AreDistinct}
 use Rattle.audit_core.specs.Pass.{PassState, streams_said, step_of, item_of}
-use Rattle.audit_core.specs.ApartLaw.{IsApart, StandApart}
+use Rattle.audit_core.specs.ApartLaw.{AreApart, StandApart}
 use Rattle.audit_core.proofs.Pairs.{all-append, across-by, pairs-append}
 use Rattle.audit_core.proofs.PassOrder.{AreStreams, rows_of}
 use Rattle.audit_core.proofs.TableRows.{row_at, row-either, IsRow, AreRows, Only, rows-wider, rows-nil, rows-append, rows-three, rows-six, rows-say_of, rows-choice, rows-say}
@@ -178,7 +178,7 @@ all-differ stream [] h = tt
 all-differ stream (other ∷ others) h = (h.0, all-differ stream others h.1)
 
 -- two streams differ in place
-streams-apart : (stream low high : ℕ) (x y : Finding) → IsRow (Only stream) low high x → IsRow (λ other. stream ≢ other) low high y → IsApart x y
+streams-apart : (stream low high : ℕ) (x y : Finding) → IsRow (Only stream) low high x → IsRow (λ other. stream ≢ other) low high y → AreApart x y
 streams-apart stream low high x y p q e s = q.stream (sym p.stream ∙ ap place_stream e)
 
 -- what is said of streams that are all different, each of this sort
@@ -193,8 +193,8 @@ module _ (state : PassState) (frame : Frame) where
       let first = rows-wider (Only stream) on 20 35 20 35 (λ s e. subst on (sym e) all.0) (omega arith) (omega arith) _ one in
       record {
         within = all-append (IsRow on 20 35) _ _ first.within others.within;
-        apart = pairs-append IsApart _ _ one.apart others.apart
-            (across-by IsApart (IsRow (Only stream) 20 35) (IsRow (λ other. stream ≢ other) 20 35) (streams-apart stream 20 35) _ _
+        apart = pairs-append AreApart _ _ one.apart others.apart
+            (across-by AreApart (IsRow (Only stream) 20 35) (IsRow (λ other. stream ≢ other) 20 35) (streams-apart stream 20 35) _ _
             one.within differ.within);
       }
 

@@ -22,3 +22,4 @@ pub mod Pairs
 pub mod TableRows
 pub mod FrameRows
 pub mod Apart
+pub mod ErrorSides

@@ -49,3 +49,13 @@ module _ {X : Type 0} (R : X → X → Type 0) where
     pub pairs-ordered : (xs : List X) → EachPair R xs → EachPair R (ordered_by after xs)
     pairs-ordered [] p = tt
     pairs-ordered (x ∷ xs) p = pairs-put x (ordered_by after xs) (all-ordered (R x) after xs p.0) (pairs-ordered xs p.1)
+
+-- two elements that stand so, and each of which is of a sort, stand so too
+module _ {X : Type 0} (R S : X → X → Type 0) (P : X → Type 0) (f : (x y : X) → P x → P y → R x y → S x y) where
+  refine-later : (x : X) (ys : List X) → P x → AllByRecursion P ys → AllByRecursion (R x) ys → AllByRecursion (S x) ys
+  refine-later x [] p q r = tt
+  refine-later x (y ∷ ys) p q r = (f x y p q.0 r.0, refine-later x ys p q.1 r.1)
+
+  pub pairs-refine : (xs : List X) → AllByRecursion P xs → EachPair R xs → EachPair S xs
+  pairs-refine [] p r = tt
+  pairs-refine (x ∷ xs) p r = (refine-later x xs p.0 p.1 r.0, pairs-refine xs p.1 r.1)

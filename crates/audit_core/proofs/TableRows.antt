@@ -9,7 +9,7 @@ use Rattle.audit_core.specs.declared.findings.Finding.{Finding}
 use Rattle.audit_core.specs.Kind.{rank_of}
 use Rattle.audit_core.specs.Place.{place_of, place_rank, place_stream}
 use Rattle.audit_core.specs.Finding.{finding_at, say, say_of}
-use Rattle.audit_core.specs.ApartLaw.{IsApart, StandApart}
+use Rattle.audit_core.specs.ApartLaw.{AreApart, StandApart}
 use Rattle.audit_core.proofs.Pairs.{all-append, all-map, across-by, pairs-append}
 use Rattle.audit_core.proofs.PassOrder.{rank-small}
 
@@ -36,7 +36,7 @@ same-row : (x y : Finding) → x.place ≡ y.place → x.side ≡ y.side → row
 unfolding row_of
 same-row x y p s = cc
 
-rank-place : (number rank stream : ℕ) → rank ≤ 26 → stream < 2 ^ 31 → place_rank (place_of number rank stream) ≡ rank
+pub rank-place : (number rank stream : ℕ) → rank ≤ 26 → stream < 2 ^ 31 → place_rank (place_of number rank stream) ≡ rank
 rank-place number rank stream r s = omega arith
 
 stream-place : (number rank stream : ℕ) → stream < 2 ^ 31 → place_stream (place_of number rank stream) ≡ stream
@@ -73,7 +73,7 @@ rows-wider on other low high bottom top f p q xs h = record {
   apart = h.apart;
 }
 
-rows-apart : (on : ℕ → Type 0) (low mid high : ℕ) (x y : Finding) → IsRow on low mid x → IsRow on mid high y → IsApart x y
+rows-apart : (on : ℕ → Type 0) (low mid high : ℕ) (x y : Finding) → IsRow on low mid x → IsRow on mid high y → AreApart x y
 rows-apart on low mid high x y p q e s =
     let a = p.below in
     let b = q.from in
@@ -90,8 +90,8 @@ module _ (on : ℕ → Type 0) where
     within = all-append (IsRow on low high) xs ys
         (all-map (IsRow on low mid) (IsRow on low high) (row-wider on on low mid low high (λ s h. h) (omega arith) q) xs a.within)
         (all-map (IsRow on mid high) (IsRow on low high) (row-wider on on mid high low high (λ s h. h) p (omega arith)) ys b.within);
-    apart = pairs-append IsApart xs ys a.apart b.apart
-        (across-by IsApart (IsRow on low mid) (IsRow on mid high) (rows-apart on low mid high) xs ys a.within b.within);
+    apart = pairs-append AreApart xs ys a.apart b.apart
+        (across-by AreApart (IsRow on low mid) (IsRow on mid high) (rows-apart on low mid high) xs ys a.within b.within);
   }
 
   pub rows-three : (low : ℕ) (a b c : List Finding) → AreRows on low (low + 1) a → AreRows on (low + 1) (low + 2) b →

@@ -34,9 +34,11 @@ pub fn findings_end_at_first_stop()
     ensures in_order { FindingsStandInOrder }
 {}
 
-ghost use Rattle.audit_core.specs.ApartLaw.{FindingsStandApart};
+ghost use Rattle.audit_core.specs.ApartLaw.{FindingsStandApart, ErrorsStandAlone};
 
 /// No two of all findings of a connection share place and side: at each place at most one thing is said of an endpoint.
+/// Errors of the connection do not even share a place.
 pub fn findings_stand_apart()
-    ensures { FindingsStandApart }
+    ensures apart { FindingsStandApart }
+    ensures errors { ErrorsStandAlone }
 {}
