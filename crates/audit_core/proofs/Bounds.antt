@@ -1,11 +1,11 @@
 -- Bounds of credits.
 use Rattle.std.proofs.Common.{ℕ, ℤ, ◌≤◌, arith}
 use Rattle.std.proofs.lemmas.Int.{ints}
-use Rattle.audit_core.specs.Window.{IsWithin}
+use Rattle.audit_core.specs.Room.{HasRoom}
 
 -- a wider bound
-pub within-wider : (m n : ℕ) (credit : ℤ) → m ≤ n → IsWithin m credit → IsWithin n credit
-within-wider m n credit h w =
-    let low = w.low in
-    let high = w.high in
-    record { low = omega (arith, ints); high = omega (arith, ints) }
+pub room-wider : (bound more : ℕ) (credit : ℤ) → bound ≤ more → HasRoom bound credit → HasRoom more credit
+room-wider bound more credit l h =
+    let low = h.0 in
+    let high = h.1 in
+    (omega (arith, ints), omega (arith, ints))

@@ -4,10 +4,10 @@ use Rattle.std.specs.List.{flat_map}
 use Rattle.audit_core.specs.declared.sides.Sides.{Sides}
 use Rattle.audit_core.specs.declared.tables.StreamRow.{StreamRow}
 use Rattle.audit_core.specs.declared.findings.Finding.{Finding}
-use Rattle.std.proofs.lemmas.Int.{ints}
 use Rattle.std.proofs.lemmas.List.{drop_all, take_all}
-use Rattle.audit_core.specs.Room.{HasRoom, WindowHasRoom}
+use Rattle.audit_core.specs.Room.{WindowHasRoom}
 use Rattle.audit_core.specs.StreamTable.{streams_in, NotAmong, AreDistinct, RowFits, RowsFit}
+use Rattle.audit_core.proofs.Bounds.{room-wider}
 
 module _ (stream : ℕ) (said : StreamRow → List Finding) (after : StreamRow → StreamRow)
     (silent : (row : StreamRow) → stream ≢ row.stream → said row ≡ [])
@@ -59,12 +59,6 @@ pub fit-get_or : (bound : ℕ) (rows : List StreamRow) (i : ℕ) (d : StreamRow)
 fit-get_or bound [] i d l h = absurd (omega arith)
 fit-get_or bound (row ∷ rows) zero d l h = h.0
 fit-get_or bound (row ∷ rows) (suc i) d l h = fit-get_or bound rows i d (omega arith) h.1
-
-room-wider : (bound more : ℕ) (credit : ℤ) → bound ≤ more → HasRoom bound credit → HasRoom more credit
-room-wider bound more credit l h =
-    let low = h.0 in
-    let high = h.1 in
-    (omega (arith, ints), omega (arith, ints))
 
 window-wider : (bound more : ℕ) (window : Option ℤ) → bound ≤ more → WindowHasRoom bound window → WindowHasRoom more window
 window-wider bound more window l h = λ credit e. room-wider bound more credit l (h credit e)

@@ -1,5 +1,5 @@
 -- One flow-control window (RFC 9113, 6.9 and 6.9.1): what a frame does to its credit, by the credit before and after.
-use Rattle.std.specs.Prelude.{ℕ, ℤ, pos, neg_ℤ, ◌≤ℤ◌, ◌-◌, ◌^◌, Bool, ◌&&◌, not, nat_lt, int_lt, int_le}
+use Rattle.std.specs.Prelude.{ℕ, ℤ, pos, ◌-◌, ◌^◌, Bool, ◌&&◌, not, nat_lt, int_lt, int_le}
 
 -- no window exceeds this credit (6.9.1)
 abbrev pub largest_window : ℤ
@@ -24,8 +24,3 @@ overflows before after = int_lt before after && int_lt largest_window after
 -- content above the credit before it (6.9); an empty frame is never above it (6.9.1)
 abbrev pub overruns : (before : ℤ) → (content : ℕ) → Bool
 overruns before content = nat_lt 0 content && int_lt before (pos content)
-
--- a credit at most n from 0
-pub record IsWithin (n : ℕ) (credit : ℤ) : Type 0 where
-  pub low : neg_ℤ (pos n) ≤ℤ credit
-  pub high : credit ≤ℤ pos n

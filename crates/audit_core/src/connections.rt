@@ -24,7 +24,7 @@ pub struct ConnectionState {
 impl ConnectionState {
     ghost use Rattle.audit_core.specs.Sides.{side_of, each_side};
     ghost use Rattle.audit_core.specs.Frame.{IsInRange, content_by};
-    ghost use Rattle.audit_core.specs.Window.{IsWithin};
+    ghost use Rattle.audit_core.specs.Room.{HasRoom};
     ghost use Rattle.audit_core.specs.Connection.{connection_start, credit_after, connection_window_said, connection_windows_said};
 
     /// The connection before any frame.
@@ -46,12 +46,12 @@ impl ConnectionState {
 
     /// What a frame does to the connection window of a side.
     fn count(&self, side: Side, frame: &Frame) -> Count
-        requires client { IsWithin (2 ^ 62) self.now.credit.client }
-        requires server { IsWithin (2 ^ 62) self.now.credit.server }
+        requires client { HasRoom (2 ^ 62) self.now.credit.client }
+        requires server { HasRoom (2 ^ 62) self.now.credit.server }
         ensures before { result.before ≡ side_of side self.now.credit }
         ensures after { result.after ≡ credit_after side (side_of side self.now.credit) frame.now }
         ensures content { result.content ≡ content_by side frame.now }
-        ensures moved { (n : ℕ) → IsWithin n (side_of side self.now.credit) → IsWithin (n + 2 ^ 33) result.after }
+        ensures moved { (n : ℕ) → HasRoom n (side_of side self.now.credit) → HasRoom (n + 2 ^ 33) result.after }
     {
         let content = frame.content_by(side);
         let granted = frame.grant_to(side, 0);
@@ -74,8 +74,8 @@ impl ConnectionState {
         frame: &Frame,
     ) -> Result<(), AllocError>
         requires frame { IsInRange frame.now }
-        requires client { IsWithin (2 ^ 62) self.now.credit.client }
-        requires server { IsWithin (2 ^ 62) self.now.credit.server }
+        requires client { HasRoom (2 ^ 62) self.now.credit.client }
+        requires server { HasRoom (2 ^ 62) self.now.credit.server }
         ensures { OnOk result (found.new.items ≡ found.old.items
             ++ connection_window_said side (side_of side self.now.credit) frame.now) }
     {
@@ -103,16 +103,16 @@ impl ConnectionState {
         frame: &Frame,
     ) -> Result<(), AllocError>
         requires frame { IsInRange frame.now }
-        requires client { IsWithin (2 ^ 62) self.old.credit.client }
-        requires server { IsWithin (2 ^ 62) self.old.credit.server }
+        requires client { HasRoom (2 ^ 62) self.old.credit.client }
+        requires server { HasRoom (2 ^ 62) self.old.credit.server }
         ensures said { OnOk result (found.new.items ≡ found.old.items
             ++ connection_windows_said self.old.credit frame.now) }
         ensures counted { OnOk result (self.new ≡ record self.old {
           credit = each_side (λ d. credit_after d (side_of d self.old.credit) frame.now);
         }) }
         ensures err { OnErr result (self.new ≡ self.old) }
-        ensures client { (n : ℕ) → IsWithin n self.old.credit.client → IsWithin (n + 2 ^ 33) self.new.credit.client }
-        ensures server { (n : ℕ) → IsWithin n self.old.credit.server → IsWithin (n + 2 ^ 33) self.new.credit.server }
+        ensures client { (n : ℕ) → HasRoom n self.old.credit.client → HasRoom (n + 2 ^ 33) self.new.credit.client }
+        ensures server { (n : ℕ) → HasRoom n self.old.credit.server → HasRoom (n + 2 ^ 33) self.new.credit.server }
     {
         self.say_window(found, Side::Client, frame)?;
         self.say_window(found, Side::Server, frame)?;

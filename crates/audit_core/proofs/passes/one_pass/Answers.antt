@@ -3,21 +3,21 @@ use Rattle.std.proofs.lemmas.List.{drop_all}
 use Rattle.std.proofs.lemmas.Int.{ints}
 use Rattle.audit_core.specs.declared.sides.Sides.{Sides}
 use Rattle.audit_core.specs.Sides.{side_of, each_side}
-use Rattle.audit_core.specs.Window.{IsWithin}
+use Rattle.audit_core.specs.Room.{HasRoom}
 use Rattle.audit_core.specs.InForce.{InForce, in_force_after, change_of}
 use Rattle.audit_core.specs.Connection.{credit_after}
 use Rattle.audit_core.specs.StreamTable.{RowsFit}
 use Rattle.audit_core.specs.Finding.{say, in_order, upto_stop}
 use Rattle.audit_core.specs.Pass.{pass_start, next, streams_of}
 use Rattle.audit_core.proofs.OrderlyRest.{in_range-get_or, number-get_or, stream-get_or, length-orderly, drop-next}
-use Rattle.audit_core.proofs.Bounds.{within-wider}
+use Rattle.audit_core.proofs.Bounds.{room-wider}
 use Rattle.audit_core.proofs.OneRow.{all_fit-wider}
 use Rattle.audit_core.proofs.PassOrder.{streams-streams_of}
 use Rattle.audit_core.proofs.PassRows.{rows-more, rows-done, shown-full, table-more, parts-more, idle_rows-fit}
 use Rattle.audit_core.proofs.passes.one_pass.Goals as goal
 
-start-within : IsWithin (2 ^ 17) (pos 65535)
-start-within = record { low = omega (arith, ints); high = omega (arith, ints) }
+start-room : HasRoom (2 ^ 17) (pos 65535)
+start-room = (omega (arith, ints), omega (arith, ints))
 
 pub loop-frame-init : goal.loop-frame-init
 loop-frame-init c =
@@ -34,8 +34,8 @@ loop-frame-init c =
       rows = rw c.new-found.ensures.items refl;
       client_paired = omega arith;
       server_paired = omega arith;
-      client = rw start start-within;
-      server = rw start start-within;
+      client = rw start start-room;
+      server = rw start start-room;
       fits = subst (RowsFit (2 ^ 17)) (sym c.in_ok-streams.ensures.rows)
           (idle_rows-fit (2 ^ 17) (streams_of c.args.frames.now) (streams-streams_of 0 c.args.frames.now c.requires));
     }
@@ -52,12 +52,12 @@ meet_windows-requires-clause-frame c = in_range-get_or 0 c.args.frames.now c.loo
 pub meet_windows-requires-clause-client : goal.meet_windows-requires-clause-client
 meet_windows-requires-clause-client c =
     let few = length-orderly 0 c.args.frames.now (omega arith) c.requires in
-    within-wider (2 ^ 17 + c.loop-frame.frame-index * 2 ^ 34) (2 ^ 62) _ (omega arith) c.loop-frame.invariant.client
+    room-wider (2 ^ 17 + c.loop-frame.frame-index * 2 ^ 34) (2 ^ 62) _ (omega arith) c.loop-frame.invariant.client
 
 pub meet_windows-requires-clause-server : goal.meet_windows-requires-clause-server
 meet_windows-requires-clause-server c =
     let few = length-orderly 0 c.args.frames.now (omega arith) c.requires in
-    within-wider (2 ^ 17 + c.loop-frame.frame-index * 2 ^ 34) (2 ^ 62) _ (omega arith) c.loop-frame.invariant.server
+    room-wider (2 ^ 17 + c.loop-frame.frame-index * 2 ^ 34) (2 ^ 62) _ (omega arith) c.loop-frame.invariant.server
 
 pub meet-requires-in-loop-frame-clause-numbered : goal.meet-requires-in-loop-frame-clause-numbered
 meet-requires-in-loop-frame-clause-numbered c = number-get_or 0 c.args.frames.now c.loop-frame.frame-index _ c.requires c.loop-frame-test.true
@@ -93,8 +93,8 @@ loop-frame-preserved c =
           old.rows;
       client_paired = c.in_ok-change.ensures.client;
       server_paired = c.in_ok-change.ensures.server;
-      client = within-wider (2 ^ 17 + c.loop-frame.frame-index * 2 ^ 34 + 2 ^ 33) _ _ (omega arith) (c.meet_windows.ensures.client _ old.client);
-      server = within-wider (2 ^ 17 + c.loop-frame.frame-index * 2 ^ 34 + 2 ^ 33) _ _ (omega arith) (c.meet_windows.ensures.server _ old.server);
+      client = room-wider (2 ^ 17 + c.loop-frame.frame-index * 2 ^ 34 + 2 ^ 33) _ _ (omega arith) (c.meet_windows.ensures.client _ old.client);
+      server = room-wider (2 ^ 17 + c.loop-frame.frame-index * 2 ^ 34 + 2 ^ 33) _ _ (omega arith) (c.meet_windows.ensures.server _ old.server);
       fits = all_fit-wider (2 ^ 17 + c.loop-frame.frame-index * 2 ^ 34 + 2 ^ 34) _ _ (omega arith) (c.in_ok-meet.ensures.fits _ old.fits);
     }
 

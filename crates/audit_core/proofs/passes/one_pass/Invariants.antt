@@ -1,5 +1,5 @@
 use Rattle.std.proofs.Common.{◌≡◌, ◌+◌, ◌*◌, ◌^◌, ◌≤◌, ◌++◌, drop, vec_len}
-use Rattle.audit_core.specs.Window.{IsWithin}
+use Rattle.audit_core.specs.Room.{HasRoom}
 use Rattle.audit_core.specs.SettingsSoFar.{in_force_of}
 use Rattle.audit_core.specs.StreamTable.{streams_in, RowsFit, IsIndex}
 use Rattle.audit_core.specs.Pass.{PassState, pass_start, streams_of}
@@ -17,7 +17,7 @@ invariant-loop-frame l = record {
       ≡ shown_rows (streams_of l.frames) pass_start l.frames;
   client_paired : l.settings.paired.client ≤ vec_len l.settings.sent.server;
   server_paired : l.settings.paired.server ≤ vec_len l.settings.sent.client;
-  client : IsWithin (2 ^ 17 + l.frame-index * 2 ^ 34) l.connection.credit.client;
-  server : IsWithin (2 ^ 17 + l.frame-index * 2 ^ 34) l.connection.credit.server;
+  client : HasRoom (2 ^ 17 + l.frame-index * 2 ^ 34) l.connection.credit.client;
+  server : HasRoom (2 ^ 17 + l.frame-index * 2 ^ 34) l.connection.credit.server;
   fits : RowsFit (2 ^ 17 + l.frame-index * 2 ^ 34) l.streams.rows.items;
 }

@@ -3,7 +3,7 @@ use Rattle.std.proofs.lemmas.Int.{ints, to_z-of_z}
 use Rattle.audit_core.proofs.connections.ConnectionState.meet_windows.Goals as goal
 
 pub returns-in_err-say_window-2-clause-client : goal.returns-in_err-say_window-2-clause-client
-returns-in_err-say_window-2-clause-client c = λ n h. record { low = omega (arith, ints); high = omega (arith, ints) }
+returns-in_err-say_window-2-clause-client c = λ n h. (omega (arith, ints), omega (arith, ints))
 
 pub returns-clause-client : goal.returns-clause-client
 returns-clause-client c = λ n h.
