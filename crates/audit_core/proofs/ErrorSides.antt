@@ -3,6 +3,8 @@
 use Rattle.std.proofs.Common.{◌≡◌, ℕ, ℤ, pos, ◌+ℤ◌, ◌-ℤ◌, ◌^◌, ◌<◌, Bool, true, false, ◌==◌, ◌&&◌, nat_le, int_lt, List, [], ◌∷◌, ◌++◌, refl, sym, ap, ◌∙◌, arith, Option, Some, None, is_some, if◌then◌else◌, nat_lt}
 use Rattle.std.specs.List.{AllByRecursion}
 use Rattle.std.specs.Option.{option_map_or}
+use Rattle.std.proofs.Math.Bool.{and-false}
+use Rattle.std.proofs.lemmas.Bool.{and_parts}
 use Rattle.std.proofs.lemmas.Int.{ints}
 use Rattle.audit_core.specs.declared.sides.Side.{Side}
 use Rattle.audit_core.specs.declared.sides.Side.TheVariants.{Client, Server}
@@ -46,18 +48,6 @@ pub record IsOf (sender : Side) (x : Finding) : Type 0 where
 
 pub record AreOf (sender : Side) (xs : List Finding) : Type 0 where
   pub all : AllByRecursion (IsOf sender) xs
-
-first_true : (a b : Bool) → (a && b) ≡ true → a ≡ true
-first_true true b e = refl
-first_true false b e = e
-
-second_true : (a b : Bool) → (a && b) ≡ true → b ≡ true
-second_true true b e = e
-second_true false b e = cc
-
-and_false : (a : Bool) → (a && false) ≡ false
-and_false true = refl
-and_false false = refl
 
 no_choice : (b : Bool) (n : ℕ) → n ≡ 0 → (if b then n else 0) ≡ 0
 no_choice true n e = e
@@ -160,14 +150,14 @@ module _ (frame : Frame) (h : frame.stream < 2 ^ 31) where
   of-zero_grant : (d : Side) → AreOf frame.side (say (grants_nothing d 0 frame) (finding_at ZeroConnectionGrant frame.number 0 (other d) (pos 0)))
   of-zero_grant d =
       of-say frame.side ZeroConnectionGrant frame.number 0 (other d) (pos 0) (grants_nothing d 0 frame) zero-small
-      (λ _ e. same_side (other d) frame.side (first_true _ _ (first_true _ _ e)))
+      (λ _ e. same_side (other d) frame.side (and_parts _ _ (and_parts _ _ e).0).0)
 
   -- a connection window rises only by a grant of the sender to the other endpoint
   granted-side : (d : Side) (before : ℤ) (b : Bool) → is_side (other d) frame.side ≡ b → overflows before (credit_after d before frame) ≡ true →
       d ≡ other frame.side
   granted-side d before true e o = other_side d frame.side e
   granted-side d before false e o =
-      absurd (no-rise before (grant_to d 0 frame) (content_by d frame) (rw e refl) (first_true _ _ o))
+      absurd (no-rise before (grant_to d 0 frame) (content_by d frame) (rw e refl) (and_parts _ _ o).0)
 
   of-overflow : (d : Side) (before : ℤ) → AreOf frame.side
       (say (overflows before (credit_after d before frame)) (finding_at ConnectionOverflow frame.number 0 d (credit_after d before frame)))
@@ -221,7 +211,7 @@ module _ (now : InForce) (initial : Sides ℕ) (entry : Stream) (frame : Frame) 
   counted-still d before c e =
       let ack = ack-only frame.body (change-ack _ refl c) in
       let grant = no_amount (grant_to d stream) (frame.stream == stream) (no_choice _ _ ack.0) in
-      let content = no_amount (content_by d) (frame.stream == stream) (rw (ack.1, and_false) refl) in
+      let content = no_amount (content_by d) (frame.stream == stream) (rw (ack.1, and-false) refl) in
       let still = same_initial d (taken now frame) (side_of d initial) e in
       omega (arith, ints)
 
@@ -229,8 +219,8 @@ module _ (now : InForce) (initial : Sides ℕ) (entry : Stream) (frame : Frame) 
       (is_some (change_of now frame) && overflows before (counted d stream initial (step_of now frame stream) before)) ≡ true → d ≡ frame.side
   moved-side d before true e o = same_side d frame.side e
   moved-side d before false e o =
-      let same : counted d stream initial (step_of now frame stream) before ≡ before = counted-still d before (first_true _ _ o) e in
-      let above : int_lt before (counted d stream initial (step_of now frame stream) before) ≡ true = first_true _ _ (second_true _ _ o) in
+      let same : counted d stream initial (step_of now frame stream) before ≡ before = counted-still d before (and_parts _ _ o).0 e in
+      let above : int_lt before (counted d stream initial (step_of now frame stream) before) ≡ true = (and_parts _ _ (and_parts _ _ o).1).0 in
       absurd (not_below before (ap (int_lt before) (sym same) ∙ above))
 
   of-live_window : (d : Side) (before : ℤ) → AreOf frame.side (live_window_said d stream initial (step_of now frame stream) before)
