@@ -2,3 +2,5 @@ mod Capture
 mod Leaving
 mod Audits
 mod OneReport
+mod Numbers
+mod OptionReads

@@ -1,10 +1,9 @@
 -- Two reports of one capture are the same.
-use Rattle.std.proofs.Common.{◌≡◌, ◌∙◌, ℕ, Bool, true, false, ◌||◌, List, [], ◌∷◌, ◌++◌, filter, length, map, Option, Some, None, refl, sym, ap, ap₂, subst}
+use Rattle.std.proofs.Common.{◌≡◌, ◌∙◌, ℕ, Bool, ◌||◌, List, [], ◌∷◌, ◌++◌, filter, length, map, Option, Some, None, refl, sym, ap, ap₂, subst}
 use Rattle.std.specs.Prelude.{slice_index, not, if◌then◌else◌}
 use Rattle.std.specs.List.{list_any}
 use Rattle.audit_core.specs.declared.findings.Finding.{Finding}
 use Rattle.audit_core.specs.declared.frames.Frame.{Frame}
-use Rattle.audit_core.specs.declared.sides.Side.TheVariants.{Client, Server}
 use Rattle.audit_report.specs.declared.audited.Audited.{Audited}
 use Rattle.audit_report.specs.CaptureLine.{capture_line}
 use Rattle.audit_report.specs.RecordLines.{record_lines}
@@ -21,7 +20,6 @@ use Rattle.h2_frames.specs.declared.connections.Cut.TheVariants.{Http2, NotHttp2
 use Rattle.h2_frames.specs.Cut.{IsSameCut}
 use Rattle.h2_frames.specs.Law.{IsSameFlow}
 use Rattle.h2_frames.proofs.Uniqueness.{cut-unique}
-use Rattle.packet_heads.specs.declared.packets.Endpoint.{Endpoint}
 use Rattle.packet_heads.specs.declared.packets.Packet.{Packet}
 use Rattle.packet_heads.specs.declared.packets.Segment.{Segment}
 use Rattle.packet_heads.specs.Decision.{packet_decisions}
@@ -35,9 +33,8 @@ use Rattle.tcp_streams.specs.Packets.{past_of}
 use Rattle.tcp_streams.specs.Pair.{is_endpoint}
 use Rattle.tcp_streams.specs.Sequence.{source}
 use Rattle.tcp_streams.proofs.UniqueFlow.{IsFlow-unique}
-use Rattle.h2audit.specs.Audited.{AreAudited, IsAudited, IsFlowFrom, findings_of, has_fault, is_fault, verdict_of}
+use Rattle.h2audit.specs.Audited.{AreAudited, IsAudited, IsFlowFrom, findings_of, has_fault, is_fault}
 use Rattle.h2audit.specs.Laws.{OneReport}
-use Rattle.h2audit.specs.Report.{IsReport}
 use Rattle.h2audit.specs.declared.verdict.Verdict.{Verdict}
 use Rattle.h2audit.specs.declared.verdict.Verdict.TheVariants.{Clean, Faults}
 

@@ -6,4 +6,7 @@ pub mod Audited
 pub mod Report
 pub mod Run
 pub mod Words
+pub mod Asked
+pub mod KnownWords
+pub mod Numbers
 pub mod Laws

@@ -1,4 +1,5 @@
-use Rattle.std.specs.Prelude.{◌≡◌, true, Result, Ok, Err}
+-- What a run's account of its reader and writer tells.
+use Rattle.std.specs.Prelude.{◌≡◌, true, false, Result, Ok, Err}
 use Rattle.h2audit.specs.declared.seen.Seen.{Seen}
 use Rattle.h2audit.specs.declared.fault.AuditFault.{AuditFault}
 use Rattle.h2audit.specs.declared.fault.AuditFault.TheVariants as fault
@@ -10,9 +11,11 @@ IsReadingFault fault.Read old new = new ≡ record old { read_failed = true }
 IsReadingFault fault.OutOfMemory old new = new ≡ old
 IsReadingFault _ _ _ = ⊥
 
--- a fault of reading or of writing is answered only where it was met, and a verdict only after a flush
+-- the account at the end of a run: after a verdict nothing failed, and a flush that went well was the writer's last call;
+-- after a failed read or a failed write nothing else failed and no flush went well before it; after any other fault no
+-- call failed and nothing was flushed
 abbrev pub Tells : Seen → Result Verdict AuditFault → Type 0
-Tells seen (Ok _) = seen.flushed ≡ true
-Tells seen (Err fault.Read) = seen.read_failed ≡ true
-Tells seen (Err fault.Write) = seen.write_failed ≡ true
-Tells seen (Err _) = Unit {0}
+Tells seen (Ok _) = seen ≡ record { read_failed = false; write_failed = false; flushed = true }
+Tells seen (Err fault.Read) = seen ≡ record { read_failed = true; write_failed = false; flushed = false }
+Tells seen (Err fault.Write) = seen ≡ record { read_failed = false; write_failed = true; flushed = false }
+Tells seen (Err _) = seen ≡ record { read_failed = false; write_failed = false; flushed = false }

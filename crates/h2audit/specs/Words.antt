@@ -2,13 +2,14 @@
 use Rattle.std.specs.Prelude.{ℕ, true, [], ◌∷◌, Some, pos, codes}
 use Rattle.clap.specs.Words.{App, Rule, Text, new_app, new_rule, with_rule}
 use Rattle.clap.specs.Simple.{on_top}
-use Rattle.clap.specs.declared.builder.action.ArgAction.TheVariants.{SetTrue}
+use Rattle.clap.specs.declared.builder.action.ArgAction.TheVariants.{Set, SetTrue}
 use Rattle.clap.specs.declared.builder.value_parser.ValueParser.TheVariants as value
 
 -- `--NAME N`, a number from 1 to `most`, with a default
 abbrev pub number_rule : (name : Text) (most : ℕ) (default : Text) → Rule
 number_rule name most default = record (new_rule name) {
   long = Some name;
+  action = Some Set;
   parser = Some (value.Signed (pos 1) (pos most));
   value_names = 1;
   defaults = default ∷ [];

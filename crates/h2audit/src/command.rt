@@ -1,5 +1,6 @@
 ghost use Rattle.std.specs.Prelude.{◌≡◌, ◌<◌, ◌^◌, IfOk, false, map};
-ghost use Rattle.clap.specs.Words.{app_of, found_of, matches_of, new_app, rows_of, rule_of, with_rule};
+ghost use Rattle.clap.specs.Words.{app_of, fault_of, found_of, matches_of, new_app, rows_of, rule_of, with_rule, FailsBy};
+ghost use Rattle.h2audit.specs.Numbers.{HasNumbers};
 ghost use Rattle.h2audit.specs.Words.{app, command_start, file_rule, frames_rule, number_rule};
 
 use crate::options::Options;
@@ -19,7 +20,9 @@ pub(crate) const FILE: &str = "FILE";
 
 /// What clap finds in the program's words, which do not begin with the program's name.
 pub(crate) fn matches<'a>(alloc: Global, words: &'a [&'a str]) -> Result<ArgMatches<'a>, Error>
-    ensures { IfOk result (λ m. rows_of (found_of m) ≡ matches_of app (map (λ w. w.now) words.entry.now)) }
+    ensures rows { IfOk result (λ m. rows_of (found_of m) ≡ matches_of app (map (λ w. w.now) words.entry.now)) }
+    ensures numbers { IfOk result (λ m. HasNumbers (found_of m)) }
+    ensures fails { FailsBy (fault_of app (map (λ w. w.now) words.entry.now)) result }
 {
     command(alloc)?.try_get_matches_from(words)
 }
@@ -79,6 +82,7 @@ fn numbered<'a>(alloc: Global, name: &'a str, most: u32, default: &'a str, help:
 {
     Arg::new(alloc, name)
         .long(name)
+        .action(ArgAction::Set)
         .value_name("N")
         .value_parser(value_parser!(u32).range(1..=i64::from(most)))
         .default_value(default)

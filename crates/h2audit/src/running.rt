@@ -38,7 +38,8 @@ pub fn run<R: Read, W: Write>(
     run_seen(rt, alloc, options, reader, writer, gate, &mut seen)
 }
 
-/// `run`, with an account of what its reader and writer answered.
+/// `run`, with an account of what its reader and writer answered: no call is made again after it failed, and nothing is
+/// flushed before the whole report was written.
 pub fn run_seen<R: Read, W: Write>(
     rt: &(impl Threads + Sync),
     alloc: Global,
@@ -73,7 +74,7 @@ fn report_on<W: Write>(
     ensures leaves { Leaves capture.now (choices options.now).frames_shown (W.contents writer.old) (W.contents writer.new) result }
     ensures silent { IfErr result (λ e. e ≢ AuditFault.Write → Keeps (W.contents writer.old) (W.contents writer.new)) }
     ensures not_read { result ≢ Err AuditFault.Read }
-    ensures tells { Tells seen.new result }
+    ensures tells { seen.old ≡ Seen.NOTHING → Tells seen.new result }
 {
     match audit(rt, alloc, options, capture, gate) {
         Ok((text, verdict)) => match write_report(writer, text.as_slice(), seen) {

@@ -1,4 +1,4 @@
-ghost use Rattle.std.specs.Prelude.{◌≡◌, ◌<◌, ◌≤◌, length, take, true, IfOk, OnOk, OnErr};
+ghost use Rattle.std.specs.Prelude.{◌≡◌, ◌<◌, ◌≤◌, length, take, true, false, IfOk, OnOk, OnErr};
 ghost use Rattle.std.specs.Io.KnownBytes.{Appends, Consumes, IsAtEnd, Keeps};
 
 use std::io::{Read, Write};
@@ -14,7 +14,7 @@ pub struct Seen {
     pub read_failed: bool,
     /// A write or a flush answered an error, or a write took no byte.
     pub write_failed: bool,
-    /// A flush went well.
+    /// A flush went well, and nothing was written after it.
     pub flushed: bool,
 }
 
@@ -62,7 +62,7 @@ pub(crate) fn write_once<W: Write>(
     ensures bound { IfOk result (λ n. (0 < n) × (n ≤ length text.now)) }
     ensures bytes { IfOk result (λ n. Appends (W.contents writer.old) (W.contents writer.new) (take n text.now)) }
     ensures kept { OnErr result (Keeps (W.contents writer.old) (W.contents writer.new)) }
-    ensures ok { OnOk result (seen.new ≡ seen.old) }
+    ensures ok { OnOk result (seen.new ≡ record seen.old { flushed = false }) }
     ensures err { OnErr result (seen.new ≡ record seen.old { write_failed = true }) }
 {
     match writer.write(text) {
@@ -70,7 +70,10 @@ pub(crate) fn write_once<W: Write>(
             seen.write_failed = true;
             Err(Failed)
         }
-        Ok(count) => Ok(count),
+        Ok(count) => {
+            seen.flushed = false;
+            Ok(count)
+        }
     }
 }
 

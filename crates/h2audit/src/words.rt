@@ -1,3 +1,9 @@
+ghost use Rattle.std.specs.Prelude.{IfOk, codes, map, option_map, string_bytes, ◌≡◌};
+ghost use Rattle.clap.specs.Words.{first_of, found_of, rows_of};
+ghost use Rattle.h2audit.specs.Asked.{Asks, IsFound};
+ghost use Rattle.h2audit.specs.Choices.{choices};
+ghost use Rattle.h2audit.specs.Numbers.{HasNumbers};
+
 use crate::command::{BLOCK, FILE, FRAMES, GROUPS, WORKERS, matches};
 use crate::options::Options;
 use clap::ArgMatches;
@@ -18,10 +24,12 @@ pub enum Parsed {
 /// Reads the words of the command line, without the program's name:
 /// `[--workers N] [--groups N] [--block N] [--frames] [FILE]`.
 ///
-/// Without a word for them there are 4 workers, 16 groups and blocks of 4096 frames.
-pub fn parse(alloc: Global, words: &[&str]) -> Result<Parsed, AllocError> {
+/// Without a word for them there are 4 workers, 16 groups and blocks of 4096 frames. A number out of its range is refused.
+pub fn parse(alloc: Global, words: &[&str]) -> Result<Parsed, AllocError>
+    ensures { IfOk result (Asks (map (λ w. w.now) words.now)) }
+{
     match matches(alloc, words) {
-        Ok(found) => asked_for(alloc, &found),
+        Ok(found) => Ok(Parsed::Run(options_in(&found), file_in(alloc, &found)?)),
         Err(error) => {
             let kind = error.kind();
             if kind == ErrorKind::OutOfMemory {
@@ -37,25 +45,24 @@ pub fn parse(alloc: Global, words: &[&str]) -> Result<Parsed, AllocError> {
     }
 }
 
-/// The audit that the words ask for, as clap found it in them.
-fn asked_for(alloc: Global, found: &ArgMatches<'_>) -> Result<Parsed, AllocError> {
-    match options_in(found) {
-        Some(options) => {
-            let file = match found.get_str(FILE) {
-                Some(path) => Some(String::from_str(alloc, path)?),
-                None => None,
-            };
-            Ok(Parsed::Run(options, file))
-        }
-        None => Ok(Parsed::Refused(String::from_str(alloc, OUT_OF_RANGE)?)),
-    }
+/// The options that clap found. It gives each number a default, and refuses one out of range.
+fn options_in(found: &ArgMatches<'_>) -> Options
+    requires { HasNumbers (found_of found.now) }
+    ensures { IsFound (rows_of (found_of found.now)) (choices result) }
+{
+    let workers = found.get_one::<u32>(WORKERS).unwrap();
+    let groups = found.get_one::<u32>(GROUPS).unwrap();
+    let block = found.get_one::<u32>(BLOCK).unwrap();
+    let frames_shown = found.get_one(FRAMES).unwrap_or(false);
+    Options::of(workers, groups, block, frames_shown).unwrap()
 }
 
-const OUT_OF_RANGE: &str = "error: a number is out of range\n";
-
-fn options_in(found: &ArgMatches<'_>) -> Option<Options> {
-    let workers = found.get_one::<u32>(WORKERS)?;
-    let groups = found.get_one::<u32>(GROUPS)?;
-    let block = found.get_one::<u32>(BLOCK)?;
-    Options::of(workers, groups, block, found.get_flag(FRAMES))
+/// The path of the capture, if a word gives one.
+fn file_in(alloc: Global, found: &ArgMatches<'_>) -> Result<Option<String>, AllocError>
+    ensures { IfOk result (λ file. option_map string_bytes file ≡ first_of (codes "FILE") (rows_of (found_of found.now))) }
+{
+    match found.get_str(FILE) {
+        Some(path) => Ok(Some(String::from_str(alloc, path)?)),
+        None => Ok(None),
+    }
 }

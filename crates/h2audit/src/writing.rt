@@ -1,4 +1,4 @@
-ghost use Rattle.std.specs.Prelude.{◌≡◌, ℕ, true, take, OnOk, OnErr};
+ghost use Rattle.std.specs.Prelude.{◌≡◌, ℕ, true, false, take, OnOk, OnErr};
 ghost use Rattle.std.specs.Io.KnownBytes.{Appends};
 
 use crate::seen::{Failed, Seen, flush_once, write_once};
@@ -13,9 +13,9 @@ pub(crate) fn write_report<W: Write>(
     seen: &mut Seen,
 ) -> Result<(), Failed>
     ensures ok { OnOk result (Appends (W.contents writer.old) (W.contents writer.new) text.now) }
-    ensures flushed { OnOk result (seen.new.flushed ≡ true) }
+    ensures flushed { OnOk result (seen.new ≡ record seen.old { flushed = true }) }
     ensures err { OnErr result ((n : ℕ) × Appends (W.contents writer.old) (W.contents writer.new) (take n text.now)) }
-    ensures told { OnErr result (seen.new.write_failed ≡ true) }
+    ensures told { seen.old.flushed ≡ false → OnErr result (seen.new ≡ record seen.old { write_failed = true }) }
 {
     let mut written = 0;
     while written < text.len() {

@@ -5,7 +5,7 @@
 //! do not parse have status 2.
 #![tactic(auto)]
 
-use h2audit::{AuditFault, NoGate, Parsed, Verdict, ending, parse, run};
+use h2audit::{AuditFault, NoGate, Parsed, Seen, Verdict, ending, parse, run_seen};
 use std::alloc::AllocError;
 use std::fs::File;
 use std::io::ErrorKind;
@@ -17,25 +17,28 @@ use std::{env, io};
 const WORDS_REFUSED: u8 = 2;
 
 fn main(rt: HostRuntime) -> ExitCode {
+    let mut seen = Seen::NOTHING;
     let answer = match asked(&rt) {
         Ok(Parsed::Run(options, Some(path))) => match File::open(&rt, path) {
-            Ok(mut capture) => run(
+            Ok(mut capture) => run_seen(
                 &rt,
                 rt.alloc(),
                 &options,
                 &mut capture,
                 &mut rt.stdout(),
                 &NoGate,
+                &mut seen,
             ),
             Err(error) => Err(fault_of(&error, AuditFault::Read)),
         },
-        Ok(Parsed::Run(options, None)) => run(
+        Ok(Parsed::Run(options, None)) => run_seen(
             &rt,
             rt.alloc(),
             &options,
             &mut rt.stdin(),
             &mut rt.stdout(),
             &NoGate,
+            &mut seen,
         ),
         Ok(Parsed::Help(text)) => match rt.print(text) {
             Ok(()) => Ok(Verdict::Clean),

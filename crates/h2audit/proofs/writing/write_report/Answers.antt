@@ -1,7 +1,8 @@
-use Rattle.std.proofs.Common.{take, drop, arith}
+use Rattle.std.proofs.Common.{ap, sym, ◌∙◌, true, false, take, drop, arith}
 use Rattle.std.proofs.KnownBytes.{Appends-trans}
 use Rattle.std.proofs.Math.Seq.{take-add}
 use Rattle.std.proofs.lemmas.List.{take_rest, length-drop}
+use Rattle.h2audit.specs.declared.seen.Seen.{Seen}
 use Rattle.h2audit.proofs.writing.write_report.Goals as goal
 
 pub loop-written-preserved : goal.loop-written-preserved
@@ -11,4 +12,14 @@ loop-written-preserved g c =
     let count = c.in_ok-written.field-0 in
     let now = rw (take_rest text written) at c.in_ok-written.ensures.bytes in
     let fits = rw (take_rest text written) at c.in_ok-written.ensures.bound.1 in
-    (omega (arith, fits, length-drop written text), rw (take-add written count text) (Appends-trans (g.W.Write.contents c.args.writer.now) (g.W.Write.contents c.loop-written.writer) (g.W.Write.contents c.write_once.new.writer) (take written text) (take count (drop written text)) c.loop-written.invariant.1 now))
+    let old = c.args.seen.now in
+    let others = ap (λ (s : Seen). record s { flushed = true }) c.in_ok-written.ensures.ok ∙ c.loop-written.invariant.others in
+    record {
+      within = omega (arith, fits, length-drop written text);
+      written = rw (take-add written count text) (Appends-trans (g.W.Write.contents c.args.writer.now)
+          (g.W.Write.contents c.loop-written.writer) (g.W.Write.contents c.write_once.new.writer)
+          (take written text) (take count (drop written text)) c.loop-written.invariant.written now);
+      others = others;
+      unflushed = λ h. c.in_ok-written.ensures.ok ∙ ap (λ (s : Seen). record s { flushed = false }) (c.loop-written.invariant.unflushed h)
+          ∙ ap (λ b. record old { flushed = b }) (sym h);
+    }

@@ -1,0 +1,64 @@
+-- What the getters of clap's matches read for the program's options.
+use Rattle.std.proofs.Common.{ℕ, ◌≡◌, ◌∙◌, ◌<◌, ◌≤◌, ◌^◌, ap, sym, subst, refl, Bool, true, false, List, Option, Some, None, Result, codes, option_map}
+use Rattle.std.specs.Prelude.{unwrap_or, SomeIff, IsSome}
+use Rattle.std.specs.Bool.{Decides}
+use Rattle.std.specs.Str.Parse.{ParsesBool, ParsesUnsigned, ExplainsUnsignedError, HasUnsignedDigitsIfOk}
+use Rattle.std.specs.declared.num.ParseIntError.{ParseIntError}
+use Rattle.clap.specs.Words.{ReadsOne, Text, one_of, one_text, rows_of, without_minus}
+use Rattle.clap.specs.declared.parser.matches.Found.{Found}
+use Rattle.clap.proofs.CallerReads.{signed_reads}
+use Rattle.clap.proofs.WalkLemmas.{one_text-rows}
+use Rattle.h2audit.specs.declared.options.Options.{Options}
+use Rattle.h2audit.specs.Asked.{IsNumberOf}
+use Rattle.h2audit.specs.Choices.{Choices, choices}
+use Rattle.h2audit.specs.Numbers.{HasNumber}
+
+-- what `u32` reads in a text
+abbrev ReadsU32 : List ℕ → Result ℕ ParseIntError → Type 0
+ReadsU32 bs r = ParsesUnsigned 32 10 bs r × ExplainsUnsignedError 10 bs r × HasUnsignedDigitsIfOk bs r
+
+-- a getter's answer for a name
+abbrev pub IsReadOf : Found → (name : Text) → Option ℕ → Type 0
+IsReadOf f name r = (t : Text) → one_text f name ≡ Some t → ReadsOne ReadsU32 t r
+
+number_read : (f : Found) (name : Text) (most : ℕ) (r : Option ℕ) → most < 2 ^ 32 → HasNumber f name most → IsReadOf f name r
+    → (n : ℕ) × (r ≡ Some n) × (1 ≤ n) × (n ≤ most) × IsNumberOf name (rows_of f) n
+number_read f name most r fits has reads =
+    let read = reads (without_minus has.0) has.1 in
+    let got = signed_reads ParseIntError ReadsU32 32 1 most has.0 r read (λ u x g. g.0) fits has.2 in
+    let spelled = (rw got.1 at read).0 in
+    (got.0, got.1, got.2, got.3, (without_minus has.0, sym (one_text-rows f name) ∙ has.1, (spelled.0.0, spelled.1)))
+
+-- a number that was found is read
+pub number_some : (f : Found) (name : Text) (most : ℕ) (r : Option ℕ) → most < 2 ^ 32 → HasNumber f name most → IsReadOf f name r
+    → IsSome r
+number_some f name most r fits has reads = rw (number_read f name most r fits has reads).1 refl
+
+-- it is in its range, and the one that is spelled
+pub number_is : (f : Found) (name : Text) (most : ℕ) (r : Option ℕ) (n : ℕ) → most < 2 ^ 32 → HasNumber f name most
+    → IsReadOf f name r → r ≡ Some n → ((1 ≤ n) × (n ≤ most)) × IsNumberOf name (rows_of f) n
+number_is f name most r n fits has reads is =
+    let got = number_read f name most r fits has reads in
+    let same : got.0 ≡ n = ap (λ (o : Option ℕ). unwrap_or o n) (sym got.1 ∙ is) in
+    subst (λ (k : ℕ). ((1 ≤ k) × (k ≤ most)) × IsNumberOf name (rows_of f) k) same ((got.2, got.3), got.4)
+
+-- a flag is true exactly where its text is
+pub flag_read : (E : Type 0) (f : Found) (name : Text) (r : Option Bool) → (one_text f name ≡ None → r ≡ None)
+    → ((t : Text) → one_text f name ≡ Some t → ReadsOne (ParsesBool {E = E}) t r)
+    → Decides (unwrap_or r false) (one_of name (rows_of f) ≡ Some (codes "true"))
+flag_read E f name r none reads = rw (sym (one_text-rows f name)) (go (one_text f name) refl)
+  where
+    at_text : (t : Text) (o : Option Bool) → ReadsOne (ParsesBool {E = E}) t o
+        → Decides (unwrap_or o false) (Some t ≡ Some (codes "true"))
+    at_text t (Some true) is = (λ _. ap Some is, λ _. refl)
+    at_text t (Some false) is = (λ e. let bad : false ≡ true = e in cc, λ e. cc)
+    at_text t None is = (λ e. let bad : false ≡ true = e in cc, λ e. absurd (is.1.0 (ap (λ (o : Option Text). unwrap_or o t) e)))
+
+    go : (o : Option Text) → one_text f name ≡ o → Decides (unwrap_or r false) (o ≡ Some (codes "true"))
+    go None e = rw (none e) (λ h. let bad : false ≡ true = h in cc, λ h. cc)
+    go (Some t) e = at_text t r (reads t e)
+
+-- options in range are some
+pub options_some : (o : Option Options) (P : Type 0) (v : Choices) → SomeIff (option_map choices o) P v → P → IsSome o
+options_some None P v fails holds = absurd (fails holds)
+options_some (Some x) P v made holds = refl

@@ -1,0 +1,68 @@
+use Rattle.std.proofs.Common.{refl, ◌≡◌, true, false, List, [], ◌∷◌, codes, Some, None, rules}
+use Rattle.clap.specs.Words.{Text, fault_of}
+use Rattle.clap.specs.declared.error.kind.ErrorKind.TheVariants.{DisplayHelp, UnknownArgument, ValueValidation}
+use Rattle.clap.proofs.OnLiterals.{clap_on_literals}
+use Rattle.h2audit.specs.KnownWords.{AreFound}
+use Rattle.h2audit.specs.Words.{app}
+use Rattle.h2audit.proofs.laws.known_words.Goals as goal
+
+abbrev all : List Text
+all = codes "--workers" ∷ codes "64" ∷ codes "--groups=1" ∷ codes "capture.pcap" ∷ codes "--frames"
+    ∷ codes "--block" ∷ codes "1048576" ∷ []
+
+none_found : AreFound [] (record { workers = 4; groups = 16; block = 4096; frames_shown = false }) None
+unfolding clap_on_literals
+none_found = (
+  refl,
+  record {
+    workers = (codes "4", refl, (search rules, refl));
+    groups = (codes "16", refl, (search rules, refl));
+    block = (codes "4096", refl, (search rules, refl));
+    frames_shown = (λ e. let bad : false ≡ true = e in cc, λ e. cc);
+  },
+  refl,
+)
+
+all_found : AreFound all (record { workers = 64; groups = 1; block = 1048576; frames_shown = true }) (Some (codes "capture.pcap"))
+unfolding clap_on_literals
+all_found = (
+  refl,
+  record {
+    workers = (codes "64", refl, (search rules, refl));
+    groups = (codes "1", refl, (search rules, refl));
+    block = (codes "1048576", refl, (search rules, refl));
+    frames_shown = (λ _. refl, λ _. refl);
+  },
+  refl,
+)
+
+help : fault_of app (codes "--help" ∷ []) ≡ DisplayHelp ∷ []
+unfolding clap_on_literals
+help = refl
+
+zero_workers : fault_of app (codes "--workers" ∷ codes "0" ∷ []) ≡ ValueValidation ∷ []
+unfolding clap_on_literals
+zero_workers = refl
+
+many_workers : fault_of app (codes "--workers" ∷ codes "65" ∷ []) ≡ ValueValidation ∷ []
+unfolding clap_on_literals
+many_workers = refl
+
+unknown : fault_of app (codes "--unknown" ∷ []) ≡ UnknownArgument ∷ []
+unfolding clap_on_literals
+unknown = refl
+
+second_path : fault_of app (codes "one.pcap" ∷ codes "two.pcap" ∷ []) ≡ UnknownArgument ∷ []
+unfolding clap_on_literals
+second_path = refl
+
+pub returns : goal.returns
+returns c = record {
+  none = none_found;
+  all = all_found;
+  help = help;
+  zero = zero_workers;
+  above = many_workers;
+  unknown = unknown;
+  second_path = second_path;
+}
