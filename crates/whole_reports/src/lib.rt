@@ -1,5 +1,8 @@
-//! Tests that cross crates: whole captures through `run`, each with the report that it must give,
-//! for several mixes of workers, groups and block lengths.
+//! Tests that cross crates: whole captures through `run`.
+//!
+//! All but two (`each_prefix`, `many_openings`) compare the whole report and the exit status. All but
+//! these and two more (`refused_headers`, `nanoseconds_and_cut_record`) run in three mixes of workers,
+//! groups and block lengths.
 //!
 //! The reports are the worked examples of the format's description and of the audit's rules, written
 //! out by hand from these; none was taken from the program.
