@@ -1,4 +1,4 @@
-ghost use Rattle.std.specs.Prelude.{◌≡◌, ℕ, ◌+◌, ◌^◌, ◌<◌, ◌≤◌, IfOk, OnOk, vec_len};
+ghost use Rattle.std.specs.Prelude.{◌≡◌, ℕ, ◌+◌, ◌^◌, ◌<◌, ◌≤◌, IfOk, OnOk, OnErr, vec_len};
 
 use crate::frames::{Body, Frame, Settings};
 use crate::items::Change;
@@ -77,6 +77,7 @@ impl SettingsSoFar {
         ensures after { OnOk result (in_force_of self.new ≡ in_force_after (in_force_of self.old) frame.now) }
         ensures client { OnOk result (self.new.paired.client ≤ vec_len self.new.sent.server) }
         ensures server { OnOk result (self.new.paired.server ≤ vec_len self.new.sent.client) }
+        ensures err { OnErr result (in_force_of self.new ≡ in_force_of self.old) }
     {
         let taken = self.taken(frame);
         let change = change_taking(frame, &taken);
