@@ -9,7 +9,8 @@ abbrev pub RiseFrom : ℕ → ℕ → List Record → Type 0
 RiseFrom from size [] = from ≤ size
 RiseFrom from size (r ∷ rs) = (from ≤ r.start) × RiseFrom (r.start + r.length) size rs
 
--- the records lie behind the file header of a capture of this size, and are so few that 32 bits number them
+-- the records lie behind the file header of a capture of this size, and are fewer than 2 ^ 27, so that 32 bits number
+-- them
 abbrev pub AreWithin : ℕ → List Record → Type 0
 AreWithin size rows = (length rows < 2 ^ 27) × RiseFrom 24 size rows
 

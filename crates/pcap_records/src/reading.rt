@@ -1,4 +1,4 @@
-ghost use Rattle.std.specs.Prelude.{◌≡◌, ◌≤◌, ◌⊎◌, IfOk, IfErr, IfSome, length};
+ghost use Rattle.std.specs.Prelude.{◌≡◌, ◌<◌, ◌≤◌, ◌^◌, ◌⊎◌, IfOk, IfErr, IfSome, OnOk, length};
 ghost use Rattle.pcap_records.specs.FileHeader.{header_of};
 ghost use Rattle.pcap_records.specs.Place.{AreWithin, AreTimely};
 ghost use Rattle.pcap_records.specs.Reading.{IsReading, IsReadingBy};
@@ -26,6 +26,7 @@ fn read_in<T: ByteOrder>(alloc: Global, capture: &[u8], unit: u64) -> Result<Rec
     ensures placed { IfOk result (λ found. AreWithin (length capture.now) found.rows.items) }
     ensures timely { IfOk result (λ found. AreTimely found.rows.items) }
     ensures ethernet { IfOk result (λ found. found.link ≡ 1) }
+    ensures short { OnOk result (length capture.now < 2 ^ 31) }
 {
     let header = &capture[..FILE_HEADER];
     if let Some(fault) = late_fault::<T>(header, capture.len()) {
@@ -59,11 +60,12 @@ pub fn records(alloc: Global, capture: &[u8]) -> Result<Records, PcapFault>
     // Each fault other than want of memory is that refusal.
     ensures err { IfErr result (λ e. (e ≡ PcapFault.OutOfMemory) ⊎ (refusal capture.now ≡ Some e)) }
 
-    // For those who go on from the records: they lie in the capture in order, their times fit, and the
-    // packets begin with an Ethernet header.
+    // For those who go on from the records: they lie in the capture in order, their times fit, the packets
+    // begin with an Ethernet header, and a place in the capture has 31 bits.
     ensures placed { IfOk result (λ found. AreWithin (length capture.now) found.rows.items) }
     ensures timely { IfOk result (λ found. AreTimely found.rows.items) }
     ensures ethernet { IfOk result (λ found. found.link ≡ 1) }
+    ensures short { OnOk result (length capture.now < 2 ^ 31) }
 {
     if capture.len() < FILE_HEADER {
         return Err(PcapFault::ShortHeader);
