@@ -22,11 +22,11 @@ sequence_number segment = big_number 4 (drop 4 segment)
 unfoldable pub data_offset : List ℕ → ℕ
 data_offset segment = slice_index segment 12 / 2 ^ 4
 
--- Control bits, byte 13: bit 1 from the right is SYN
+-- Control bits, byte 13: bit 1, counted from 0 at the right, is SYN
 unfoldable pub syn : List ℕ → Bool
 syn segment = bit_at (slice_index segment 13) 1 == 1
 
--- and bit 4 is ACK
+-- and bit 4, counted from 0 at the right, is ACK
 unfoldable pub ack : List ℕ → Bool
 ack segment = bit_at (slice_index segment 13) 4 == 1
 

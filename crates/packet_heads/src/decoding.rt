@@ -48,7 +48,8 @@ fn segment_of(number: u32, row: &Record, cut: bool, datagram: &[u8]) -> Segment
 
 /// What a record holds: the first line of the table that applies to its captured bytes.
 ///
-/// `link` is the link type of the capture, 1 (Ethernet); `number` is the record's.
+/// `link` is the link type of the capture, 1 (Ethernet); `number` is the record's. The captured bytes of
+/// `row` are to lie in `capture`, as those of `pcap_records::records` do.
 pub fn decode(link: u16, number: u32, row: &Record, capture: &[u8]) -> Packet
     requires ethernet { link ≡ 1 }
     requires inside { row.now.start + row.now.length ≤ length capture.now }
@@ -90,6 +91,8 @@ fn decode_rows(
 }
 
 /// What each record of a capture holds, in order.
+///
+/// `records` are to be those that `pcap_records::records` reads in `capture`.
 pub fn decode_all(
     _rt: &(impl Threads + Sync),
     alloc: Global,

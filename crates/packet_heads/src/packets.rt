@@ -27,21 +27,32 @@ pub struct Segment {
 /// Why a packet is passed over.
 #[derive(Clone, Copy, Debug, PartialEq, Eq)]
 pub enum Skip {
+    /// Its Ethernet type is another than IPv4's, a VLAN tag's too.
     NotIpv4,
+    /// A part of a datagram, by its offset or by More Fragments (RFC 791, 3.1).
     Fragment,
+    /// Its protocol is another than TCP.
     NotTcp,
 }
 
 /// What is wrong with a packet that cannot be read.
 #[derive(Clone, Copy, Debug, PartialEq, Eq)]
 pub enum Refusal {
+    /// Fewer than the 14 bytes of an Ethernet header were captured.
     ShortEthernet,
+    /// Fewer than 20 bytes were captured behind it, the least IPv4 header.
     ShortIpv4,
+    /// The version is not 4.
     BadVersion,
+    /// The header is said to be shorter than 20 bytes, or longer than what was captured.
     BadHeaderLength,
+    /// The total length is less than the header's, and not 0.
     BadTotalLength,
+    /// The total length goes past the captured bytes of a packet that was captured whole.
     PastEnd,
+    /// Fewer than 20 bytes of the segment were captured, the least TCP header.
     ShortTcp,
+    /// The data offset is less than 20 bytes, or more than what was captured of the segment.
     BadDataOffset,
 }
 
