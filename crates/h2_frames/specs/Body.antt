@@ -4,13 +4,9 @@ use Rattle.std.specs.Prelude.{ℕ, ◌+◌, ◌-◌, ◌%◌, Bool, not, ◌&&�
 use Rattle.audit_core.specs.declared.frames.Body.{Body}
 use Rattle.audit_core.specs.declared.frames.Body.TheVariants.{Content, Headers, Priority, RstStream, Settings, SettingsAck, PushPromise, Ping, GoAway, WindowUpdate, Continuation, Unknown, Unreadable}
 use Rattle.audit_core.specs.declared.kinds.Kind.TheVariants.{WrongSize, BadPadding, BadPriority}
-use Rattle.audit_core.specs.FrameType.{has_flag, ack_flag, data_type, headers_type, priority_type, rst_stream_type, settings_type, push_promise_type, ping_type, goaway_type, window_update_type, continuation_type}
+use Rattle.audit_core.specs.FrameType.{has_flag, ack_flag, padded_flag, data_type, headers_type, priority_type, rst_stream_type, settings_type, push_promise_type, ping_type, goaway_type, window_update_type, continuation_type}
 use Rattle.h2_frames.specs.Header.{number_of_31_bits}
 use Rattle.h2_frames.specs.Settings.{settings_of}
-
--- the flag PADDED (6.1, 6.2, 6.6)
-abbrev pub padded_flag : ℕ
-padded_flag = 8
 
 -- the flag PRIORITY (6.2)
 abbrev pub priority_flag : ℕ

@@ -1,16 +1,17 @@
 -- The frames of both sides as they were captured. A frame is there when its last byte arrives.
-use Rattle.std.specs.Prelude.{ℕ, ◌+◌, ◌-◌, Bool, ◌==◌, ◌&&◌, ◌||◌, nat_lt, List, [], ◌∷◌, ◌++◌, find, unwrap_or}
+use Rattle.std.specs.Prelude.{ℕ, ◌+◌, ◌-◌, Bool, ◌==◌, ◌&&◌, ◌||◌, nat_lt, List, [], ◌∷◌, ◌++◌, unwrap_or}
 use Rattle.tcp_streams.specs.declared.streams.Arrival.{Arrival}
+use Rattle.tcp_streams.specs.Flow.{entry_at}
 use Rattle.audit_core.specs.declared.sides.Side.{Side}
 use Rattle.audit_core.specs.declared.frames.Frame.{Frame}
 use Rattle.audit_core.specs.Side.{side_order}
 use Rattle.audit_core.specs.Order.{ordered_by}
 use Rattle.h2_frames.specs.declared.spelling.Spelled.{Spelled}
 
--- the byte at this offset arrives at the first entry whose upto is above it; each byte of a flow has one
+-- the entry at which the byte at this offset arrives; each byte of a flow has one
 abbrev pub arrival_at : List Arrival → (offset : ℕ) → Arrival
 arrival_at arrivals offset =
-    unwrap_or (find (λ (a : Arrival). nat_lt offset a.upto) arrivals) (record { upto = 0; rec = 0; nanos = 0 })
+    unwrap_or (entry_at arrivals offset) (record { upto = 0; rec = 0; nanos = 0 })
 
 -- a side's frame of this number, whose last byte arrived so
 abbrev pub captured : Side → (number : ℕ) → Arrival → Spelled → Frame

@@ -1,4 +1,4 @@
-ghost use Rattle.std.specs.Prelude.{◌≡◌, ◌+◌, ◌<◌, ◌^◌, vec_len, IfOk};
+ghost use Rattle.std.specs.Prelude.{◌≡◌, ℕ, ◌+◌, ◌<◌, ◌^◌, List, vec_len, IsTrue, IfOk, OnErr};
 ghost use Rattle.tcp_streams.specs.Arrivals.{IsOrderly};
 ghost use Rattle.h2_frames.specs.Cut.{HasOrderlyFrames, IsCut, IsHttp2Cut, IsSameCut};
 ghost use Rattle.h2_frames.specs.declared.connections.Cut.{Cut};
@@ -36,7 +36,8 @@ fn http2(alloc: Global, rest: &[u8], client: &Flow, server: &Flow) -> Result<Cut
 
 /// What the flows of a connection's client and server hold.
 ///
-/// Each flow is to be as `tcp_streams::assemble` gives it, and the two together shorter than 2^31 bytes. Where the server's
+/// Each flow is to be as `tcp_streams::assemble` gives it, and the two together shorter than 2^31 bytes: for the two flows of
+/// one connection `tcp_streams::laws::sides_fit`, with `assemble`'s clause `within`, gives this. Where the server's
 /// flow is not started the answer is [`Cut::NoHandshake`]; else the client's bytes decide, by the connection preface (RFC
 /// 9113, 3.4): [`Cut::NoPreface`] where they end within it, [`Cut::NotHttp2`] where they do not begin with it. The frames of
 /// [`Cut::Http2`] are numbered from 1 in capture order. One pass over each flow, its payloads not copied.
@@ -51,6 +52,9 @@ pub fn cut(alloc: Global, client: &Flow, server: &Flow) -> Result<Cut, AllocErro
 
     // Its frames are in range, their numbers rising.
     ensures orderly { IfOk result HasOrderlyFrames }
+
+    // Memory can be wanting only where there are bytes to cut into frames.
+    ensures memory { OnErr result (IsTrue server.now.started × (rest : List ℕ) × BeginsWithPreface client.now.bytes.items rest) }
 {
     if !server.started {
         return Ok(Cut::NoHandshake);

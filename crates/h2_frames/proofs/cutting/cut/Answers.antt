@@ -1,3 +1,4 @@
+use Rattle.std.proofs.Common.{Result, Ok, Err, OnErr}
 use Rattle.h2_frames.specs.declared.connections.Cut.TheVariants.{NoPreface, NotHttp2}
 use Rattle.h2_frames.proofs.Uniqueness.{only-cut, only-http2}
 use Rattle.h2_frames.proofs.cutting.cut.Goals as goal
@@ -20,3 +21,13 @@ returns-in-Other-clause-only c =
 pub returns-in-Preface-clause-only : goal.returns-in-Preface-clause-only
 returns-in-Preface-clause-only c =
     only-http2 c.args.client.now c.args.server.now c.http2.result c.if-not-server.false c.http2.ensures.is
+
+-- what holds anyway holds of an error
+on_any_err : {T E P : Type 0} (r : Result T E) → P → OnErr r P
+on_any_err (Ok x) p = tt
+on_any_err (Err e) p = p
+
+pub returns-in-Preface-clause-memory : goal.returns-in-Preface-clause-memory
+returns-in-Preface-clause-memory c =
+    let begins = rw c.as_slice.ensures.value at c.in-Preface.ensures in
+    on_any_err c.http2.result (c.if-not-server.false, c.in-Preface.rest.now, begins)
