@@ -81,10 +81,11 @@ piece isn s =
     then stretch s 0 (start_of isn s) (min (start_of isn s + payload_length s) end_of_offsets)
     else stretch s (modulus - start_of isn s) 0 (start_of isn s + payload_length s - modulus)
 
--- the piece of a member, if it is the side's
+-- the segment of a member, if it is the side's
 abbrev pub side_segment : List Packet → Connection → Side → ℕ → Option Segment
 side_segment packets connection side m = option_and_then (λ s. if is_sent_by connection side s then Some s else None) (segment_of packets m)
 
+-- the piece of a member, if it is the side's
 abbrev pub member_piece : ℕ → List Packet → Connection → Side → ℕ → Option Interval
 member_piece isn packets connection side m = option_and_then (piece isn) (side_segment packets connection side m)
 

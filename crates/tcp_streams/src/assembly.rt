@@ -1,4 +1,4 @@
-ghost use Rattle.std.specs.Prelude.{◌≡◌, ◌<◌, ◌≤◌, ◌^◌, None, [], false, length, vec_len, IsTrue, IfOk, IfSome};
+ghost use Rattle.std.specs.Prelude.{◌≡◌, ◌<◌, ◌≤◌, ◌^◌, None, [], false, length, vec_len, IsTrue, IfOk, IsOk, IfSome};
 ghost use Rattle.packet_heads.specs.Order.{AreNumberedFrom, PayloadsRise, TimesFit};
 ghost use Rattle.tcp_streams.specs.Arrivals.{IsOrderly};
 ghost use Rattle.tcp_streams.specs.Flow.{IsFlow};
@@ -20,6 +20,11 @@ use std::alloc::{AllocError, Global};
 /// Payload bytes count from the side's initial sequence number, modulo 2^32, and only the first 2^31 of
 /// them. Where segments overlap, the first record that brings a byte wins. A side whose initial number is
 /// not known has an empty flow that is not started.
+///
+/// `packets` are to be those of `capture`, as `packet_heads::decode_all` gives them, of a capture that
+/// `pcap_records::records` does not refuse; `connection` is to be one of theirs, as [`connections`] gives it.
+///
+/// [`connections`]: crate::connections
 pub fn assemble(
     alloc: Global,
     capture: &[u8],
@@ -41,6 +46,8 @@ pub fn assemble(
     // Any other.
     ensures unknown { initial_of connection.now side ≡ None → IfOk result (λ f.
         (f.started ≡ false) × (f.bytes.items ≡ []) × (f.arrivals.items ≡ []) × (f.gap ≡ None)) }
+    // Its empty flow takes no memory, so none is wanting.
+    ensures answered { initial_of connection.now side ≡ None → IsOk result }
 
     ensures within { IfOk result (λ f. vec_len f.bytes ≤ payload_sum (side_segments packets.now connection.now side)) }
     ensures orderly { IfOk result IsOrderly }

@@ -14,6 +14,8 @@ use std::alloc::{AllocError, Global};
 /// A SYN without ACK opens a connection of its pair, unless its sender and sequence number are those of
 /// the pair's last opening (RFC 9293, 3.5). Each segment belongs to the last opening of its pair at or
 /// before it; one without such an opening is a stray.
+///
+/// `packets` are to be those of a capture, as `packet_heads::decode_all` gives them.
 pub fn connections(alloc: Global, packets: &[Packet]) -> Result<Connections, AllocError>
     requires few { length packets.now < 2 ^ 32 }
     requires numbered { AreNumberedFrom 1 packets.now }
