@@ -5,6 +5,9 @@ use crate::kinds::Kind;
 use crate::places::Place;
 use crate::sides::Side;
 
+/// The largest credit that a window may have (RFC 9113, 6.9.1).
+const LARGEST_WINDOW: i64 = 0x7fff_ffff;
+
 /// What one step does to the credit of one window (RFC 9113, 6.9 and 6.9.1).
 #[derive(Clone, Copy, Debug, PartialEq, Eq)]
 pub struct Count {
@@ -25,7 +28,7 @@ impl Count {
     pub fn overflows(&self) -> bool
         ensures { result ≡ overflows self.now.before self.now.after }
     {
-        self.before < self.after && self.after > 0x7fff_ffff
+        self.before < self.after && self.after > LARGEST_WINDOW
     }
 
     /// Is more content sent than there was credit? An empty frame is never more.
@@ -39,14 +42,14 @@ impl Count {
     pub fn stall_ends(&self) -> bool
         ensures { result ≡ stall_ends self.now.before self.now.after }
     {
-        self.before <= 0 && !(self.after <= 0)
+        self.before <= 0 && self.after > 0
     }
 
     /// Is credit used up that was there?
     pub fn stall_begins(&self) -> bool
         ensures { result ≡ stall_begins self.now.before self.now.after }
     {
-        !(self.before <= 0) && self.after <= 0
+        self.before > 0 && self.after <= 0
     }
 
     /// Does the credit change?

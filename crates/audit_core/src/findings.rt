@@ -6,6 +6,9 @@ use crate::sides::Side;
 use std::alloc::AllocError;
 use std::cmp::Ordering;
 
+/// The greatest rank of a connection error, which stops the audit of a connection (RFC 9113, 5.4.1).
+const LAST_THAT_STOPS: u8 = 12;
+
 /// One thing that the audit of a connection says.
 #[derive(Clone, Copy, Debug, PartialEq, Eq, PartialOrd, Ord)]
 pub struct Finding {
@@ -33,11 +36,11 @@ impl Finding {
         }
     }
 
-    /// Is it a connection error (RFC 9113, 5.4.1), which stops the audit of the connection? Ranks 0 to 12 are.
+    /// Is it a connection error (RFC 9113, 5.4.1), which stops the audit of the connection?
     pub fn stops(&self) -> bool
         ensures { result ≡ stops self.now }
     {
-        self.kind.rank() <= 12
+        self.kind.rank() <= LAST_THAT_STOPS
     }
 
     /// The order of findings: by place, then the client before the server, then by kind and value.
