@@ -5,9 +5,10 @@ use Rattle.std.proofs.lemmas.List.{take_all, length-take}
 use Rattle.pcap_records.specs.Refusal.{refusal}
 use Rattle.pcap_records.proofs.Sizes.{front_decides_lem, allowed_is_short_lem}
 use Rattle.h2audit.specs.Report.{IsReport}
-use Rattle.h2audit.specs.Run.{Leaves}
+use Rattle.h2audit.specs.Run.{IsJudged, Leaves}
 use Rattle.h2audit.specs.declared.fault.AuditFault.{AuditFault}
 use Rattle.h2audit.specs.declared.fault.AuditFault.TheVariants as fault
+use Rattle.h2audit.specs.declared.seen.Seen.{Seen}
 use Rattle.h2audit.specs.declared.verdict.Verdict.{Verdict}
 
 -- a fact of the value that entails another
@@ -38,3 +39,11 @@ leaves_by_front all front shown old new (Err fault.Read) is left = left
 leaves_by_front all front shown old new (Err fault.OutOfMemory) is left = left
 leaves_by_front all front shown old new (Err fault.Worker) is left =
     (sym (ap refusal is ∙ front_decides_lem all) ∙ left.0, left.1)
+
+pub judged_by_front : (all front : List ℕ) (seen : Seen) (answer : Result Verdict AuditFault) → front ≡ take 2147483648 all → IsJudged front seen answer → IsJudged all seen answer
+judged_by_front all front seen (Ok verdict) is judged = judged
+judged_by_front all front seen (Err fault.OutOfMemory) is judged = λ room. sym (ap refusal is ∙ front_decides_lem all) ∙ judged room
+judged_by_front all front seen (Err fault.Write) is judged = judged
+judged_by_front all front seen (Err (fault.Pcap e)) is judged = judged
+judged_by_front all front seen (Err fault.Read) is judged = judged
+judged_by_front all front seen (Err fault.Worker) is judged = judged

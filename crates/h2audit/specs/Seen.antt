@@ -5,17 +5,28 @@ use Rattle.h2audit.specs.declared.fault.AuditFault.{AuditFault}
 use Rattle.h2audit.specs.declared.fault.AuditFault.TheVariants as fault
 use Rattle.h2audit.specs.declared.verdict.Verdict.{Verdict}
 
--- the faults of reading a capture: a read that failed, which the account then shows, or want of memory
+-- the account before the first call
+abbrev pub nothing_seen : Seen
+nothing_seen = record {
+  read_failed = false;
+  room_refused = false;
+  wrote = false;
+  write_failed = false;
+  flushed = false;
+}
+
+-- the faults of reading a capture, as the account then shows them: a read that failed, or want of memory for its bytes
 abbrev pub IsReadingFault : AuditFault → Seen → Seen → Type 0
 IsReadingFault fault.Read old new = new ≡ record old { read_failed = true }
-IsReadingFault fault.OutOfMemory old new = new ≡ old
+IsReadingFault fault.OutOfMemory old new = new ≡ record old { room_refused = true }
 IsReadingFault _ _ _ = ⊥
 
--- the account at the end of a run: after a verdict nothing failed, and a flush that went well was the writer's last call;
--- after a failed read or a failed write nothing else failed and no flush went well before it; after any other fault no
--- call failed and nothing was flushed
+-- the account at the end of a run: after a verdict nothing failed, and a flush that went well came last; after a failed
+-- read or write nothing else failed, and no flush went well; after any other fault no call failed. Only before a verdict
+-- or a failed write was a byte written
 abbrev pub Tells : Seen → Result Verdict AuditFault → Type 0
-Tells seen (Ok _) = seen ≡ record { read_failed = false; write_failed = false; flushed = true }
-Tells seen (Err fault.Read) = seen ≡ record { read_failed = true; write_failed = false; flushed = false }
-Tells seen (Err fault.Write) = seen ≡ record { read_failed = false; write_failed = true; flushed = false }
-Tells seen (Err _) = seen ≡ record { read_failed = false; write_failed = false; flushed = false }
+Tells seen (Ok _) = seen ≡ record nothing_seen { wrote = seen.wrote; flushed = true }
+Tells seen (Err fault.Read) = seen ≡ record nothing_seen { read_failed = true }
+Tells seen (Err fault.Write) = seen ≡ record nothing_seen { wrote = seen.wrote; write_failed = true }
+Tells seen (Err fault.OutOfMemory) = seen ≡ record nothing_seen { room_refused = seen.room_refused }
+Tells seen (Err _) = seen ≡ nothing_seen

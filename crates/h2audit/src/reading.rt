@@ -59,6 +59,7 @@ fn read_more<R: Read>(
     ensures err { IfErr result (λ e. IsReadingFault e seen.old seen.new) }
 {
     if make_room(bytes, filled).is_err() {
+        seen.room_refused = true;
         return Err(AuditFault::OutOfMemory);
     }
     let end = bytes.len().min(LIMIT);

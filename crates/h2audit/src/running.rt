@@ -1,7 +1,7 @@
 ghost use Rattle.std.specs.Prelude.{◌≡◌, ◌≢◌, ◌<◌, ◌^◌, IfErr, IfSome, length};
 ghost use Rattle.std.specs.Io.KnownBytes.{Keeps};
 ghost use Rattle.h2audit.specs.Choices.{choices};
-ghost use Rattle.h2audit.specs.Run.{Leaves};
+ghost use Rattle.h2audit.specs.Run.{IsJudged, Leaves};
 ghost use Rattle.h2audit.specs.Seen.{Tells};
 
 use crate::auditing::audit;
@@ -38,8 +38,9 @@ pub fn run<R: Read, W: Write>(
     run_seen(rt, alloc, options, reader, writer, gate, &mut seen)
 }
 
-/// `run`, with an account of what its reader and writer answered: no call is made again after it failed, and nothing is
-/// flushed before the whole report was written.
+/// `run`, with an account of what its reader and writer answered.
+///
+/// A refused capture is answered as such unless reading failed or there was no memory for its bytes.
 pub fn run_seen<R: Read, W: Write>(
     rt: &(impl Threads + Sync),
     alloc: Global,
@@ -54,6 +55,7 @@ pub fn run_seen<R: Read, W: Write>(
         (λ bytes. Leaves bytes (choices options.now).frames_shown (W.contents writer.old) (W.contents writer.new) result) }
     ensures silent { IfErr result (λ e. e ≢ AuditFault.Write → Keeps (W.contents writer.old) (W.contents writer.new)) }
     ensures tells { Tells seen.new result }
+    ensures judged { IfSome (R.remaining reader.old) (λ bytes. IsJudged bytes seen.new result) }
 {
     match read_capture(alloc, reader, seen) {
         Ok(capture) => report_on(rt, alloc, options, capture.as_slice(), writer, gate, seen),
@@ -75,6 +77,7 @@ fn report_on<W: Write>(
     ensures silent { IfErr result (λ e. e ≢ AuditFault.Write → Keeps (W.contents writer.old) (W.contents writer.new)) }
     ensures not_read { result ≢ Err AuditFault.Read }
     ensures tells { seen.old ≡ Seen.NOTHING → Tells seen.new result }
+    ensures judged { IsJudged capture.now seen.new result }
 {
     match audit(rt, alloc, options, capture, gate) {
         Ok((text, verdict)) => match write_report(writer, text.as_slice(), seen) {

@@ -3,15 +3,19 @@ ghost use Rattle.std.specs.Io.KnownBytes.{Appends, Consumes, IsAtEnd, Keeps};
 
 use std::io::{Read, Write};
 
-/// What a reader and a writer have answered so far.
+/// What a reader, the memory for its bytes, and a writer have answered so far.
 ///
-/// A type of reader or writer tells which bytes it gives or holds, and not whether a call on it
-/// failed. This account does: the three functions of this module keep it, and they make the only
-/// calls of `read`, `write` and `flush`.
+/// A type of reader or writer tells which bytes it gives or holds, if any, and not whether a call on
+/// it failed. This account does: the three functions of this module make the crate's only calls of
+/// `read`, `write` and `flush`, and enter what these answer.
 #[derive(Clone, Copy, Debug, PartialEq, Eq)]
 pub struct Seen {
     /// A read answered an error.
     pub read_failed: bool,
+    /// There was no memory for more of the capture's bytes.
+    pub room_refused: bool,
+    /// A write took a byte.
+    pub wrote: bool,
     /// A write or a flush answered an error, or a write took no byte.
     pub write_failed: bool,
     /// A flush went well, and nothing was written after it.
@@ -22,6 +26,8 @@ impl Seen {
     /// The account before the first call.
     pub const NOTHING: Seen = Seen {
         read_failed: false,
+        room_refused: false,
+        wrote: false,
         write_failed: false,
         flushed: false,
     };
@@ -62,7 +68,7 @@ pub(crate) fn write_once<W: Write>(
     ensures bound { IfOk result (λ n. (0 < n) × (n ≤ length text.now)) }
     ensures bytes { IfOk result (λ n. Appends (W.contents writer.old) (W.contents writer.new) (take n text.now)) }
     ensures kept { OnErr result (Keeps (W.contents writer.old) (W.contents writer.new)) }
-    ensures ok { OnOk result (seen.new ≡ record seen.old { flushed = false }) }
+    ensures ok { OnOk result (seen.new ≡ record seen.old { wrote = true; flushed = false }) }
     ensures err { OnErr result (seen.new ≡ record seen.old { write_failed = true }) }
 {
     match writer.write(text) {
@@ -71,6 +77,7 @@ pub(crate) fn write_once<W: Write>(
             Err(Failed)
         }
         Ok(count) => {
+            seen.wrote = true;
             seen.flushed = false;
             Ok(count)
         }

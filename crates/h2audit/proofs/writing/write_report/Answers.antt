@@ -12,14 +12,15 @@ loop-written-preserved g c =
     let count = c.in_ok-written.field-0 in
     let now = rw (take_rest text written) at c.in_ok-written.ensures.bytes in
     let fits = rw (take_rest text written) at c.in_ok-written.ensures.bound.1 in
-    let old = c.args.seen.now in
-    let others = ap (λ (s : Seen). record s { flushed = true }) c.in_ok-written.ensures.ok ∙ c.loop-written.invariant.others in
+    let entered = c.in_ok-written.ensures.ok in
     record {
       within = omega (arith, fits, length-drop written text);
       written = rw (take-add written count text) (Appends-trans (g.W.Write.contents c.args.writer.now)
           (g.W.Write.contents c.loop-written.writer) (g.W.Write.contents c.write_once.new.writer)
           (take written text) (take count (drop written text)) c.loop-written.invariant.written now);
-      others = others;
-      unflushed = λ h. c.in_ok-written.ensures.ok ∙ ap (λ (s : Seen). record s { flushed = false }) (c.loop-written.invariant.unflushed h)
-          ∙ ap (λ b. record old { flushed = b }) (sym h);
+      others = ap (λ (s : Seen). record s { wrote = true; flushed = true }) entered ∙ c.loop-written.invariant.others;
+      unflushed = λ h. entered
+          ∙ ap (λ (s : Seen). record s { wrote = true; flushed = false }) (c.loop-written.invariant.unflushed h)
+          ∙ ap (λ b. record c.args.seen.now { wrote = true; flushed = b }) (sym h)
+          ∙ ap (λ b. record c.args.seen.now { wrote = b }) (sym (ap (λ (s : Seen). s.wrote) entered));
     }

@@ -6,8 +6,8 @@ abbrev pub invariant-loop-written : goal.invariant-loop-written
 invariant-loop-written g l = record {
   within : l.written ≤ length l.text;
   written : Appends (g.W.Write.contents l.initial.writer) (g.W.Write.contents l.writer) (take l.written l.text);
-  others : record l.seen { flushed = true } ≡ record l.initial.seen { flushed = true };
-  unflushed : l.initial.seen.flushed ≡ false → l.seen ≡ l.initial.seen;
+  others : record l.seen { wrote = true; flushed = true } ≡ record l.initial.seen { wrote = true; flushed = true };
+  unflushed : l.initial.seen.flushed ≡ false → l.seen ≡ record l.initial.seen { wrote = l.seen.wrote };
 }
 
 abbrev pub decreases-loop-written : goal.decreases-loop-written
