@@ -1,4 +1,4 @@
-ghost use Rattle.std.specs.Prelude.{◌≡◌, ℕ, ◌+◌, ◌-◌, ◌^◌, ◌<◌, ◌≤◌, length, take, drop, true, IfOk, IfErr, IfSome, OnOk, OnErr, vec_len};
+ghost use Rattle.std.specs.Prelude.{◌≡◌, ℕ, ◌+◌, ◌-◌, ◌^◌, ◌<◌, ◌≤◌, length, take, drop, true, false, IfOk, IfErr, IfSome, OnOk, OnErr, vec_len};
 ghost use Rattle.std.specs.Io.KnownBytes.{Consumes, IsAtEnd, Keeps};
 ghost use Rattle.h2audit.specs.Seen.{IsReadingFault};
 
@@ -21,6 +21,7 @@ pub(crate) fn read_capture<R: Read>(
     reader: &mut R,
     seen: &mut Seen,
 ) -> Result<Vec<u8>, AuditFault>
+    requires { seen.old.read_failed ≡ false }
     ensures bytes { IfOk result (λ bytes. IfSome (R.remaining reader.old) (λ all. bytes.items ≡ take (2 ^ 31) all)) }
     ensures ok { OnOk result (seen.new ≡ seen.old) }
     ensures err { IfErr result (λ e. IsReadingFault e seen.old seen.new) }
@@ -50,6 +51,7 @@ fn read_more<R: Read>(
 ) -> Result<usize, AuditFault>
     requires filled { filled ≤ vec_len bytes.old }
     requires room { filled < 2 ^ 31 }
+    requires unfailed { seen.old.read_failed ≡ false }
     ensures front { take filled bytes.new.items ≡ take filled bytes.old.items }
     ensures grown { filled ≤ vec_len bytes.new }
     ensures fits { IfOk result (λ n. (filled + n ≤ vec_len bytes.new) × (filled + n ≤ 2 ^ 31)) }

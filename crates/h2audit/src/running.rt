@@ -73,10 +73,11 @@ fn report_on<W: Write>(
     gate: &impl Gate,
     seen: &mut Seen,
 ) -> Result<Verdict, AuditFault>
+    requires { seen.old ≡ Seen.NOTHING }
     ensures leaves { Leaves capture.now (choices options.now).frames_shown (W.contents writer.old) (W.contents writer.new) result }
     ensures silent { IfErr result (λ e. e ≢ AuditFault.Write → Keeps (W.contents writer.old) (W.contents writer.new)) }
     ensures not_read { result ≢ Err AuditFault.Read }
-    ensures tells { seen.old ≡ Seen.NOTHING → Tells seen.new result }
+    ensures tells { Tells seen.new result }
     ensures judged { IsJudged capture.now seen.new result }
 {
     match audit(rt, alloc, options, capture, gate) {

@@ -37,12 +37,13 @@ impl Seen {
 #[derive(Clone, Copy, Debug, PartialEq, Eq)]
 pub(crate) struct Failed;
 
-/// Reads once, into the front of `piece`. `Ok(0)` is the end where `piece` has room.
+/// Reads once, into the front of `piece`. `Ok(0)` is the end where `piece` has room. No read comes after one that failed.
 pub(crate) fn read_once<R: Read>(
     reader: &mut R,
     piece: &mut [u8],
     seen: &mut Seen,
 ) -> Result<usize, Failed>
+    requires unfailed { seen.old.read_failed ≡ false }
     ensures bound { IfOk result (λ n. n ≤ length piece.new) }
     ensures bytes { IfOk result (λ n. Consumes (R.remaining reader.old) (R.remaining reader.new) (take n piece.new)) }
     ensures end { IfOk result (λ n. n ≡ 0 → 0 < length piece.new → IsAtEnd (R.remaining reader.new)) }
@@ -58,13 +59,14 @@ pub(crate) fn read_once<R: Read>(
     }
 }
 
-/// Writes once, from the front of `text`. To take no byte of some is a failure.
+/// Writes once, from the front of `text`. To take no byte of some is a failure. No write comes after one that failed.
 pub(crate) fn write_once<W: Write>(
     writer: &mut W,
     text: &[u8],
     seen: &mut Seen,
 ) -> Result<usize, Failed>
-    requires { 0 < length text.now }
+    requires some { 0 < length text.now }
+    requires unfailed { seen.old.write_failed ≡ false }
     ensures bound { IfOk result (λ n. (0 < n) × (n ≤ length text.now)) }
     ensures bytes { IfOk result (λ n. Appends (W.contents writer.old) (W.contents writer.new) (take n text.now)) }
     ensures kept { OnErr result (Keeps (W.contents writer.old) (W.contents writer.new)) }
@@ -84,8 +86,10 @@ pub(crate) fn write_once<W: Write>(
     }
 }
 
-/// Flushes once.
+/// Flushes, which comes after no failure and once.
 pub(crate) fn flush_once<W: Write>(writer: &mut W, seen: &mut Seen) -> Result<(), Failed>
+    requires unfailed { seen.old.write_failed ≡ false }
+    requires unflushed { seen.old.flushed ≡ false }
     ensures bytes { Keeps (W.contents writer.old) (W.contents writer.new) }
     ensures ok { OnOk result (seen.new ≡ record seen.old { flushed = true }) }
     ensures err { OnErr result (seen.new ≡ record seen.old { write_failed = true }) }

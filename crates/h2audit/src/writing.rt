@@ -12,11 +12,12 @@ pub(crate) fn write_report<W: Write>(
     text: &[u8],
     seen: &mut Seen,
 ) -> Result<(), Failed>
+    requires unfailed { seen.old.write_failed ≡ false }
+    requires unflushed { seen.old.flushed ≡ false }
     ensures ok { OnOk result (Appends (W.contents writer.old) (W.contents writer.new) text.now) }
     ensures flushed { OnOk result (seen.new ≡ record seen.old { wrote = seen.new.wrote; flushed = true }) }
     ensures err { OnErr result ((n : ℕ) × Appends (W.contents writer.old) (W.contents writer.new) (take n text.now)) }
-    ensures told { seen.old.flushed ≡ false
-        → OnErr result (seen.new ≡ record seen.old { wrote = seen.new.wrote; write_failed = true }) }
+    ensures told { OnErr result (seen.new ≡ record seen.old { wrote = seen.new.wrote; write_failed = true }) }
 {
     let mut written = 0;
     while written < text.len() {

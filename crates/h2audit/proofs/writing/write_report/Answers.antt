@@ -18,9 +18,8 @@ loop-written-preserved g c =
       written = rw (take-add written count text) (Appends-trans (g.W.Write.contents c.args.writer.now)
           (g.W.Write.contents c.loop-written.writer) (g.W.Write.contents c.write_once.new.writer)
           (take written text) (take count (drop written text)) c.loop-written.invariant.written now);
-      others = ap (λ (s : Seen). record s { wrote = true; flushed = true }) entered ∙ c.loop-written.invariant.others;
-      unflushed = λ h. entered
-          ∙ ap (λ (s : Seen). record s { wrote = true; flushed = false }) (c.loop-written.invariant.unflushed h)
-          ∙ ap (λ b. record c.args.seen.now { wrote = true; flushed = b }) (sym h)
+      account = entered
+          ∙ ap (λ (s : Seen). record s { wrote = true; flushed = false }) c.loop-written.invariant.account
+          ∙ ap (λ b. record c.args.seen.now { wrote = true; flushed = b }) (sym c.requires.unflushed)
           ∙ ap (λ b. record c.args.seen.now { wrote = b }) (sym (ap (λ (s : Seen). s.wrote) entered));
     }

@@ -1,4 +1,4 @@
-use Rattle.std.proofs.Common.{◌≡◌, true, false, length, ◌-◌, ◌≤◌, take}
+use Rattle.std.proofs.Common.{◌≡◌, length, ◌-◌, ◌≤◌, take}
 use Rattle.std.specs.Io.KnownBytes.{Appends}
 use Rattle.h2audit.proofs.writing.write_report.Given as goal
 
@@ -6,8 +6,7 @@ abbrev pub invariant-loop-written : goal.invariant-loop-written
 invariant-loop-written g l = record {
   within : l.written ≤ length l.text;
   written : Appends (g.W.Write.contents l.initial.writer) (g.W.Write.contents l.writer) (take l.written l.text);
-  others : record l.seen { wrote = true; flushed = true } ≡ record l.initial.seen { wrote = true; flushed = true };
-  unflushed : l.initial.seen.flushed ≡ false → l.seen ≡ record l.initial.seen { wrote = l.seen.wrote };
+  account : l.seen ≡ record l.initial.seen { wrote = l.seen.wrote };
 }
 
 abbrev pub decreases-loop-written : goal.decreases-loop-written
