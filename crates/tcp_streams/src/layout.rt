@@ -48,13 +48,17 @@ fn run_length(intervals: &[Interval]) -> usize
     count
 }
 
-/// The bytes of the intervals, one after the other.
+/// The bytes of the intervals, one after the other. In a run from offset 0 the last one's end is how many there are.
 fn bytes_in(alloc: Global, capture: &[u8], run: &[Interval]) -> Result<Vec<u8>, AllocError>
     requires intervals { All IsInterval run.now }
     requires placed { All (λ (x : Held). x.place + (x.upto - x.from) ≤ length capture.now) run.now }
     ensures { IfOk result (λ v. v.items ≡ bytes_in capture.now run.now) }
 {
-    let mut bytes = Vec::new(alloc);
+    let size = match run.last() {
+        Some(last) => last.upto as usize,
+        None => 0,
+    };
+    let mut bytes = Vec::with_capacity(alloc, size)?;
     for x in run {
         let width = (x.upto - x.from) as usize;
         bytes.extend_from_slice(&capture[x.place..x.place + width])?;
