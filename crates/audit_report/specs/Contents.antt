@@ -20,7 +20,7 @@ contents_of CutNotHttp2 = NotHttp2
 contents_of CutNoPreface = NoPreface
 contents_of CutNoHandshake = NoHandshake
 
--- how many bytes of a side are left over after its last frame; 0 where there are no frames
+-- how many bytes of a side are left over after its last frame; 0 where the connection is not HTTP/2
 abbrev pub tail_of : Side → Contents → ℕ
 tail_of Client (Http2 _ client_tail _) = client_tail
 tail_of Server (Http2 _ _ server_tail) = server_tail
