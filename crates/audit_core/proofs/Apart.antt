@@ -3,12 +3,12 @@
 use Rattle.std.proofs.Common.{◌≡◌, ◌≢◌, ℕ, ◌+◌, ◌*◌, ◌^◌, ◌<◌, Bool, true, false, not, ◌==◌, List, [], ◌∷◌, refl, sym, ◌∙◌, arith, filter, true≢false}
 use Rattle.std.specs.List.{AllByRecursion}
 use borrow.Author.Tests.{eq-eqb}
-use Rattle.audit_core.specs.declared.frames.Frame.{Frame}
-use Rattle.audit_core.specs.declared.findings.Finding.{Finding}
-use Rattle.audit_core.specs.Finding.{comes_after}
-use Rattle.audit_core.specs.Frame.{IsOrderlyFrom, IsOrderly}
-use Rattle.audit_core.specs.StreamTable.{NotAmong, AreDistinct}
-use Rattle.audit_core.specs.Pass.{PassState, pass_start, said, full_from, full, next, streams_of}
+use Rattle.audit_terms.specs.declared.frames.Frame.{Frame}
+use Rattle.audit_terms.specs.declared.findings.Finding.{Finding}
+use Rattle.audit_terms.specs.Finding.{comes_after}
+use Rattle.audit_terms.specs.Frame.{IsOrderlyFrom, IsOrderly}
+use Rattle.audit_core.specs.code.StreamTable.{NotAmong, AreDistinct}
+use Rattle.audit_terms.specs.Pass.{PassState, pass_start, said, full_from, full, next, streams_of}
 use Rattle.audit_core.specs.ApartLaw.{EachPair, AreApart, StandApart}
 use Rattle.audit_core.proofs.Pairs.{Across, pairs-append, pairs-ordered}
 use Rattle.audit_core.proofs.PassOrder.{AreWithin, AreFrom, AreStreams, at-said, from-full_from, rows_of, streams-streams_of}

@@ -4,23 +4,23 @@ use Rattle.std.proofs.lemmas.Int.{ints}
 use Rattle.std.proofs.lemmas.List.Sums.{sum_by-cons}
 use Rattle.std.proofs.lemmas.Option.{same_Some, none-some}
 use Rattle.std.proofs.lemmas.Bool.Decides.{nat_tests}
-use Rattle.audit_core.specs.declared.sides.Side.{Side}
-use Rattle.audit_core.specs.declared.sides.Side.TheVariants.{Client, Server}
-use Rattle.audit_core.specs.declared.frames.Body.{Body}
-use Rattle.audit_core.specs.declared.frames.Body.TheVariants.{Content, Headers, Priority, RstStream, Settings, SettingsAck, PushPromise, Ping, GoAway, WindowUpdate, Continuation, Unknown, Unreadable}
-use Rattle.audit_core.specs.declared.frames.Frame.{Frame}
-use Rattle.audit_core.specs.declared.items.Step.{Step}
-use Rattle.audit_core.specs.declared.streams.Stream.{Stream}
-use Rattle.audit_core.specs.Side.{is_side}
-use Rattle.audit_core.specs.Sides.{side_of}
-use Rattle.audit_core.specs.Frame.{is_ack, is_content, is_headers, increment, content_by, grant_to, sends_end, IsOrderlyFrom}
-use Rattle.audit_core.specs.Change.{new_initial}
-use Rattle.audit_core.specs.InForce.{change_of}
-use Rattle.audit_core.specs.Connection.{credit_after}
-use Rattle.audit_core.specs.Stream.{step_test, step_amount, counted, opens, window_ends, window_after, window_at_opening}
-use Rattle.audit_core.specs.Pass.{PassState, pass_start, step_of, next, state_from}
+use Rattle.audit_terms.specs.declared.sides.Side.{Side}
+use Rattle.audit_terms.specs.declared.sides.Side.TheVariants.{Client, Server}
+use Rattle.audit_terms.specs.declared.frames.Body.{Body}
+use Rattle.audit_terms.specs.declared.frames.Body.TheVariants.{Content, Headers, Priority, RstStream, Settings, SettingsAck, PushPromise, Ping, GoAway, WindowUpdate, Continuation, Unknown, Unreadable}
+use Rattle.audit_terms.specs.declared.frames.Frame.{Frame}
+use Rattle.audit_terms.specs.declared.items.Step.{Step}
+use Rattle.audit_terms.specs.declared.streams.Stream.{Stream}
+use Rattle.audit_terms.specs.Side.{is_side}
+use Rattle.audit_terms.specs.Sides.{side_of}
+use Rattle.audit_terms.specs.Frame.{is_ack, is_content, is_headers, increment, content_by, grant_to, sends_end, IsOrderlyFrom}
+use Rattle.audit_terms.specs.Change.{new_initial}
+use Rattle.audit_terms.specs.InForce.{change_of}
+use Rattle.audit_terms.specs.Connection.{credit_after}
+use Rattle.audit_terms.specs.Stream.{step_test, step_amount, counted, opens, window_ends, window_after, window_at_opening}
+use Rattle.audit_terms.specs.Pass.{PassState, pass_start, step_of, next, state_from}
 use Rattle.audit_core.specs.CreditLaws.{ConnectionCreditIsSum, StreamCreditIsSum}
-use Rattle.audit_core.specs.Credit.{content_on, since, stream_credit_sum}
+use Rattle.audit_terms.specs.Credit.{content_on, since, stream_credit_sum}
 
 -- ---- the connection
 

@@ -6,32 +6,32 @@ use Rattle.std.specs.Option.{option_map_or}
 use Rattle.std.proofs.Math.Bool.{and-false}
 use Rattle.std.proofs.lemmas.Bool.{and_parts}
 use Rattle.std.proofs.lemmas.Int.{ints}
-use Rattle.audit_core.specs.declared.sides.Side.{Side}
-use Rattle.audit_core.specs.declared.sides.Side.TheVariants.{Client, Server}
-use Rattle.audit_core.specs.declared.sides.Sides.{Sides}
-use Rattle.audit_core.specs.declared.kinds.Kind.{Kind}
-use Rattle.audit_core.specs.declared.kinds.Kind.TheVariants.{TooLong, WrongSize, BadPadding, BadSetting, LongFrame, BadPriority, ZeroConnectionGrant, ConnectionOverflow, SettingOverflow, StreamOverrun, StreamOverflow, StreamStallEnd, StreamStallBegin, StreamCredit}
-use Rattle.audit_core.specs.declared.frames.Body.{Body}
-use Rattle.audit_core.specs.declared.frames.Body.TheVariants.{Content, Headers, Priority, RstStream, Settings as SettingsBody, SettingsAck, PushPromise, Ping, GoAway, WindowUpdate, Continuation, Unknown, Unreadable}
-use Rattle.audit_core.specs.declared.frames.Settings.{Settings}
-use Rattle.audit_core.specs.declared.frames.Frame.{Frame}
-use Rattle.audit_core.specs.declared.items.Item.{Item}
-use Rattle.audit_core.specs.declared.connections.ConnectionState.{ConnectionState}
-use Rattle.audit_core.specs.declared.streams.Stream.{Stream}
-use Rattle.audit_core.specs.declared.findings.Finding.{Finding}
-use Rattle.audit_core.specs.Side.{other, is_side}
-use Rattle.audit_core.specs.Sides.{side_of}
-use Rattle.audit_core.specs.Kind.{rank_of}
-use Rattle.audit_core.specs.Place.{place_rank}
-use Rattle.audit_core.specs.Finding.{finding_at, say, say_of, stops, comes_after}
-use Rattle.audit_core.specs.Frame.{is_ack, is_content, increment, content_by, grant_to, grants_nothing, IsOrderly}
-use Rattle.audit_core.specs.Change.{new_initial}
-use Rattle.audit_core.specs.Window.{overflows}
-use Rattle.audit_core.specs.LocalFault.{local_said, fault, push_kind, body_said, reading_fault}
-use Rattle.audit_core.specs.InForce.{InForce, settings_said, taken, change_of, change_taking}
-use Rattle.audit_core.specs.Connection.{credit_after, connection_said, length_said, connection_windows_said, connection_window_said}
-use Rattle.audit_core.specs.Stream.{opens, counted, window_at_opening, stream_said, frame_said, stream_window_said, live_window_said, opened_window_said}
-use Rattle.audit_core.specs.Pass.{PassState, pass_start, said, full, streams_of, streams_said, step_of, item_of}
+use Rattle.audit_terms.specs.declared.sides.Side.{Side}
+use Rattle.audit_terms.specs.declared.sides.Side.TheVariants.{Client, Server}
+use Rattle.audit_terms.specs.declared.sides.Sides.{Sides}
+use Rattle.audit_terms.specs.declared.kinds.Kind.{Kind}
+use Rattle.audit_terms.specs.declared.kinds.Kind.TheVariants.{TooLong, WrongSize, BadPadding, BadSetting, LongFrame, BadPriority, ZeroConnectionGrant, ConnectionOverflow, SettingOverflow, StreamOverrun, StreamOverflow, StreamStallEnd, StreamStallBegin, StreamCredit}
+use Rattle.audit_terms.specs.declared.frames.Body.{Body}
+use Rattle.audit_terms.specs.declared.frames.Body.TheVariants.{Content, Headers, Priority, RstStream, Settings as SettingsBody, SettingsAck, PushPromise, Ping, GoAway, WindowUpdate, Continuation, Unknown, Unreadable}
+use Rattle.audit_terms.specs.declared.frames.Settings.{Settings}
+use Rattle.audit_terms.specs.declared.frames.Frame.{Frame}
+use Rattle.audit_terms.specs.declared.items.Item.{Item}
+use Rattle.audit_terms.specs.declared.connections.ConnectionState.{ConnectionState}
+use Rattle.audit_terms.specs.declared.streams.Stream.{Stream}
+use Rattle.audit_terms.specs.declared.findings.Finding.{Finding}
+use Rattle.audit_terms.specs.Side.{other, is_side}
+use Rattle.audit_terms.specs.Sides.{side_of}
+use Rattle.audit_terms.specs.Kind.{rank_of}
+use Rattle.audit_terms.specs.Place.{place_rank}
+use Rattle.audit_terms.specs.Finding.{finding_at, say, say_of, stops, comes_after}
+use Rattle.audit_terms.specs.Frame.{is_ack, is_content, increment, content_by, grant_to, grants_nothing, IsOrderly}
+use Rattle.audit_terms.specs.Change.{new_initial}
+use Rattle.audit_terms.specs.Window.{overflows}
+use Rattle.audit_terms.specs.LocalFault.{local_said, fault, push_kind, body_said, reading_fault}
+use Rattle.audit_terms.specs.InForce.{InForce, settings_said, taken, change_of, change_taking}
+use Rattle.audit_terms.specs.Connection.{credit_after, connection_said, length_said, connection_windows_said, connection_window_said}
+use Rattle.audit_terms.specs.Stream.{opens, counted, window_at_opening, stream_said, frame_said, stream_window_said, live_window_said, opened_window_said}
+use Rattle.audit_terms.specs.Pass.{PassState, pass_start, said, full, streams_of, streams_said, step_of, item_of}
 use Rattle.audit_core.specs.ApartLaw.{EachPair, AreApart, AreApartAsErrors}
 use Rattle.audit_core.proofs.Pairs.{all-append, all-ordered, pairs-refine}
 use Rattle.audit_core.proofs.PassOrder.{AreStreams, rows_of, rank-small, streams-streams_of}

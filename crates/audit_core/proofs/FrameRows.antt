@@ -1,29 +1,29 @@
 -- What is said at one frame stands in different rows of the table, or is of different streams.
 use Rattle.std.proofs.Common.{◌≡◌, ◌≢◌, ℕ, ℤ, pos, ◌+◌, ◌^◌, ◌<◌, Bool, true, false, List, [], ◌∷◌, refl, sym, ap, subst, ◌∙◌, arith, Option, if◌then◌else◌, nat_lt}
 use Rattle.std.specs.List.{AllByRecursion}
-use Rattle.audit_core.specs.declared.sides.Side.{Side}
-use Rattle.audit_core.specs.declared.sides.Side.TheVariants.{Client, Server}
-use Rattle.audit_core.specs.declared.sides.Sides.{Sides}
-use Rattle.audit_core.specs.declared.kinds.Kind.{Kind}
-use Rattle.audit_core.specs.declared.kinds.Kind.TheVariants.{BadPreface, BrokenBlock, TooLong, WrongStream, WrongSize, BadPadding, BadSetting, Push, PushNotAudited, NotOpened, IdNotGreater, ZeroConnectionGrant, ConnectionOverflow, SettingOverflow, LongFrame, AfterEnd, ConnectionOverrun, StreamOverrun, ZeroStreamGrant, StreamOverflow, UnmatchedAck, BadPriority, ConnectionStallEnd, ConnectionStallBegin, StreamStallEnd, StreamStallBegin, ConnectionCredit, StreamCredit}
-use Rattle.audit_core.specs.declared.frames.Body.{Body}
-use Rattle.audit_core.specs.declared.frames.Body.TheVariants.{Settings as SettingsBody, Unreadable}
-use Rattle.audit_core.specs.declared.frames.Frame.{Frame}
-use Rattle.audit_core.specs.declared.items.Item.{Item}
-use Rattle.audit_core.specs.declared.items.Step.{Step}
-use Rattle.audit_core.specs.declared.connections.ConnectionState.{ConnectionState}
-use Rattle.audit_core.specs.declared.streams.Stream.{Stream}
-use Rattle.audit_core.specs.declared.findings.Finding.{Finding}
-use Rattle.audit_core.specs.Sides.{side_of}
-use Rattle.audit_core.specs.Kind.{rank_of}
-use Rattle.audit_core.specs.Place.{place_stream}
-use Rattle.audit_core.specs.Finding.{finding_at, say}
-use Rattle.audit_core.specs.LocalFault.{local_said, fault, push_kind, body_said, reading_fault}
-use Rattle.audit_core.specs.InForce.{InForce, settings_said}
-use Rattle.audit_core.specs.Connection.{connection_said, length_said, connection_windows_said, connection_window_said}
-use Rattle.audit_core.specs.Stream.{opens, window_at_opening, stream_said, frame_said, stream_window_said, live_window_said, opened_window_said}
-use Rattle.audit_core.specs.StreamTable.{NotAmong, AreDistinct}
-use Rattle.audit_core.specs.Pass.{PassState, streams_said, step_of, item_of}
+use Rattle.audit_terms.specs.declared.sides.Side.{Side}
+use Rattle.audit_terms.specs.declared.sides.Side.TheVariants.{Client, Server}
+use Rattle.audit_terms.specs.declared.sides.Sides.{Sides}
+use Rattle.audit_terms.specs.declared.kinds.Kind.{Kind}
+use Rattle.audit_terms.specs.declared.kinds.Kind.TheVariants.{BadPreface, BrokenBlock, TooLong, WrongStream, WrongSize, BadPadding, BadSetting, Push, PushNotAudited, NotOpened, IdNotGreater, ZeroConnectionGrant, ConnectionOverflow, SettingOverflow, LongFrame, AfterEnd, ConnectionOverrun, StreamOverrun, ZeroStreamGrant, StreamOverflow, UnmatchedAck, BadPriority, ConnectionStallEnd, ConnectionStallBegin, StreamStallEnd, StreamStallBegin, ConnectionCredit, StreamCredit}
+use Rattle.audit_terms.specs.declared.frames.Body.{Body}
+use Rattle.audit_terms.specs.declared.frames.Body.TheVariants.{Settings as SettingsBody, Unreadable}
+use Rattle.audit_terms.specs.declared.frames.Frame.{Frame}
+use Rattle.audit_terms.specs.declared.items.Item.{Item}
+use Rattle.audit_terms.specs.declared.items.Step.{Step}
+use Rattle.audit_terms.specs.declared.connections.ConnectionState.{ConnectionState}
+use Rattle.audit_terms.specs.declared.streams.Stream.{Stream}
+use Rattle.audit_terms.specs.declared.findings.Finding.{Finding}
+use Rattle.audit_terms.specs.Sides.{side_of}
+use Rattle.audit_terms.specs.Kind.{rank_of}
+use Rattle.audit_terms.specs.Place.{place_stream}
+use Rattle.audit_terms.specs.Finding.{finding_at, say}
+use Rattle.audit_terms.specs.LocalFault.{local_said, fault, push_kind, body_said, reading_fault}
+use Rattle.audit_terms.specs.InForce.{InForce, settings_said}
+use Rattle.audit_terms.specs.Connection.{connection_said, length_said, connection_windows_said, connection_window_said}
+use Rattle.audit_terms.specs.Stream.{opens, window_at_opening, stream_said, frame_said, stream_window_said, live_window_said, opened_window_said}
+use Rattle.audit_core.specs.code.StreamTable.{NotAmong, AreDistinct}
+use Rattle.audit_terms.specs.Pass.{PassState, streams_said, step_of, item_of}
 use Rattle.audit_core.specs.ApartLaw.{AreApart, StandApart}
 use Rattle.audit_core.proofs.Pairs.{all-append, across-by, pairs-append}
 use Rattle.audit_core.proofs.PassOrder.{AreStreams, rows_of}

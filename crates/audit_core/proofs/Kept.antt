@@ -1,8 +1,8 @@
 -- Rows of findings that a test keeps whole, and rows that it drops whole.
 use Rattle.std.proofs.Common.{◌≡◌, Bool, true, false, List, [], ◌∷◌, ◌++◌, refl, ap, ◌∙◌, Option, Some, None, filter, if◌then◌else◌}
 use Rattle.std.specs.List.{flat_map}
-use Rattle.audit_core.specs.declared.findings.Finding.{Finding}
-use Rattle.audit_core.specs.Finding.{say, say_of}
+use Rattle.audit_terms.specs.declared.findings.Finding.{Finding}
+use Rattle.audit_terms.specs.Finding.{say, say_of}
 
 module _ (test : Finding → Bool) where
   pub record Keeps (xs : List Finding) : Type 0 where

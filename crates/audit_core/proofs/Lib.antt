@@ -1,13 +1,8 @@
-pub mod OrderedLists
-pub mod FindingOrder
-pub mod UptoStop
-pub mod PlaceOrder
 pub mod PassOrder
 pub mod Rows
 pub mod Kept
 pub mod PassRows
 pub mod OrderlyRest
-pub mod Bounds
 pub mod CreditLemmas
 pub mod StreamSteps
 pub mod StreamAlone

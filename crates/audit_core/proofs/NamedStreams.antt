@@ -3,9 +3,9 @@ use Rattle.std.proofs.Common.{◌≡◌, ◌≢◌, ℕ, zero, suc, Bool, true, 
 use Rattle.std.specs.HashMap.{get, IsEmpty}
 use Rattle.audit_core.specs.declared.tables.StreamRow.{StreamRow}
 use borrow.Author.Tests.{eqb-true, eq-eqb}
-use Rattle.audit_core.specs.declared.frames.Frame.{Frame}
-use Rattle.audit_core.specs.Pass.{streams_of}
-use Rattle.audit_core.specs.StreamTable.{NotAmong, AreDistinct, IsIndex, Positions, is_among, with_stream, streams_in}
+use Rattle.audit_terms.specs.declared.frames.Frame.{Frame}
+use Rattle.audit_terms.specs.Pass.{streams_of}
+use Rattle.audit_core.specs.code.StreamTable.{NotAmong, AreDistinct, IsIndex, Positions, is_among, with_stream, streams_in}
 
 -- the streams that are not among those seen
 abbrev pub without : List ℕ → List ℕ → List ℕ

@@ -1,13 +1,13 @@
 -- What all rows show and become at a frame, where each row but one is quiet.
 use Rattle.std.proofs.Common.{◌≡◌, ◌≢◌, ℕ, zero, suc, ◌<◌, List, [], ◌∷◌, ◌++◌, length, get_or, set, map, slice_get, refl, sym, ap, ◌∙◌, arith, Option, Some, append-nil, subst, take, drop, ◌≤◌, ℤ}
 use Rattle.std.specs.List.{flat_map}
-use Rattle.audit_core.specs.declared.sides.Sides.{Sides}
+use Rattle.audit_terms.specs.declared.sides.Sides.{Sides}
 use Rattle.audit_core.specs.declared.tables.StreamRow.{StreamRow}
-use Rattle.audit_core.specs.declared.findings.Finding.{Finding}
+use Rattle.audit_terms.specs.declared.findings.Finding.{Finding}
 use Rattle.std.proofs.lemmas.List.{drop_all, take_all}
-use Rattle.audit_core.specs.Room.{WindowHasRoom}
-use Rattle.audit_core.specs.StreamTable.{streams_in, NotAmong, AreDistinct, RowFits, RowsFit}
-use Rattle.audit_core.proofs.Bounds.{room-wider}
+use Rattle.audit_terms.specs.code.Room.{WindowHasRoom}
+use Rattle.audit_core.specs.code.StreamTable.{streams_in, NotAmong, AreDistinct, RowFits, RowsFit}
+use Rattle.audit_terms.proofs.Bounds.{room-wider}
 
 module _ (stream : ℕ) (said : StreamRow → List Finding) (after : StreamRow → StreamRow)
     (silent : (row : StreamRow) → stream ≢ row.stream → said row ≡ [])

@@ -1,7 +1,7 @@
 -- What is left of orderly frames.
 use Rattle.std.proofs.Common.{◌≡◌, ℕ, zero, suc, ◌+◌, ◌-◌, ◌^◌, ◌<◌, ◌≤◌, List, [], ◌∷◌, length, drop, get_or, refl, arith}
-use Rattle.audit_core.specs.declared.frames.Frame.{Frame}
-use Rattle.audit_core.specs.Frame.{IsInRange, IsOrderlyFrom}
+use Rattle.audit_terms.specs.declared.frames.Frame.{Frame}
+use Rattle.audit_terms.specs.Frame.{IsInRange, IsOrderlyFrom}
 
 -- each frame of an orderly list is in range
 pub in_range-get_or : (low : ℕ) (frames : List Frame) (i : ℕ) (d : Frame) → IsOrderlyFrom low frames → i < length frames →

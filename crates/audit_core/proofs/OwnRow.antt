@@ -2,12 +2,12 @@
 use Rattle.std.proofs.Common.{◌≡◌, ℕ, List, [], map, set, get_or, slice_get, Some, None, MatchOption, nat_eq, sym, ap, ◌∙◌, subst, Option, refl}
 use Rattle.std.specs.List.{flat_map}
 use Rattle.std.specs.HashMap.{get}
-use Rattle.audit_core.specs.declared.sides.Sides.{Sides}
-use Rattle.audit_core.specs.declared.frames.Frame.{Frame}
-use Rattle.audit_core.specs.declared.items.Change.{Change}
+use Rattle.audit_terms.specs.declared.sides.Sides.{Sides}
+use Rattle.audit_terms.specs.declared.frames.Frame.{Frame}
+use Rattle.audit_terms.specs.declared.items.Change.{Change}
 use Rattle.audit_core.specs.declared.tables.StreamRow.{StreamRow}
-use Rattle.audit_core.specs.Stream.{initial_after}
-use Rattle.audit_core.specs.StreamTable.{row_said, row_after, streams_in, IsIndex, NotAmong, AreDistinct, Positions}
+use Rattle.audit_terms.specs.Stream.{initial_after}
+use Rattle.audit_core.specs.code.StreamTable.{row_said, row_after, streams_in, IsIndex, NotAmong, AreDistinct, Positions}
 use Rattle.audit_core.proofs.OneRow.{said-one, after-one, said-none, after-none, streams_in-map}
 use Rattle.audit_core.proofs.QuietSteps.{row_said-other, row_after-other}
 

@@ -1,7 +1,7 @@
 -- What holds of each two elements of a list holds of them in any order.
 use Rattle.std.proofs.Common.{◌≡◌, Bool, true, false, List, [], ◌∷◌, ◌++◌, refl}
 use Rattle.std.specs.List.{AllByRecursion}
-use Rattle.audit_core.specs.Order.{put_by, ordered_by}
+use Rattle.audit_terms.specs.Order.{put_by, ordered_by}
 use Rattle.audit_core.specs.ApartLaw.{EachPair}
 
 module _ {X : Type 0} (P : X → Type 0) where

@@ -2,21 +2,21 @@
 use Rattle.std.proofs.Common.{◌≡◌, ℕ, List, [], ◌∷◌, ◌++◌, refl, sym, ap, ◌∙◌, append_assoc, append-nil}
 use Rattle.std.proofs.lemmas.Grind.{flat_map-append}
 use Rattle.std.specs.List.{flat_map}
-use Rattle.audit_core.specs.declared.frames.Frame.{Frame}
-use Rattle.audit_core.specs.declared.items.Item.{Item}
-use Rattle.audit_core.specs.declared.connections.ConnectionState.{ConnectionState}
-use Rattle.audit_core.specs.declared.findings.Finding.{Finding}
-use Rattle.audit_core.specs.Sides.{side_of}
-use Rattle.audit_core.specs.Frame.{IsOrderly}
-use Rattle.audit_core.specs.Finding.{in_order}
-use Rattle.audit_core.specs.LocalFault.{local_said, local_run_from}
-use Rattle.audit_core.specs.InForce.{settings_said, settings_run_from, changes_of}
-use Rattle.audit_core.specs.Connection.{connection_start, connection_said, connection_after, connection_after_all, block_run}
-use Rattle.audit_core.specs.Stream.{stream_said}
-use Rattle.audit_core.specs.Pass.{PassState, pass_start, next, item_of, items_from, step_of, streams_of, streams_said, full_from}
-use Rattle.audit_core.specs.Run.{frames_on, stream_run, group_run, block_runs}
+use Rattle.audit_terms.specs.declared.frames.Frame.{Frame}
+use Rattle.audit_terms.specs.declared.items.Item.{Item}
+use Rattle.audit_terms.specs.declared.connections.ConnectionState.{ConnectionState}
+use Rattle.audit_terms.specs.declared.findings.Finding.{Finding}
+use Rattle.audit_terms.specs.Sides.{side_of}
+use Rattle.audit_terms.specs.Frame.{IsOrderly}
+use Rattle.audit_terms.specs.Finding.{in_order}
+use Rattle.audit_terms.specs.LocalFault.{local_said, local_run_from}
+use Rattle.audit_terms.specs.InForce.{settings_said, settings_run_from, changes_of}
+use Rattle.audit_terms.specs.Connection.{connection_start, connection_said, connection_after, connection_after_all, block_run}
+use Rattle.audit_terms.specs.Stream.{stream_said}
+use Rattle.audit_terms.specs.Pass.{PassState, pass_start, next, item_of, items_from, step_of, streams_of, streams_said, full_from}
+use Rattle.audit_terms.specs.Run.{frames_on, stream_run, group_run, block_runs}
 use Rattle.audit_core.specs.PartsLaw.{joined, PartsMakeFull}
-use Rattle.audit_core.proofs.FindingOrder.{in_order-append_comm, in_order-alike, in_order-in_order}
+use Rattle.audit_terms.proofs.FindingOrder.{in_order-append_comm, in_order-alike, in_order-in_order}
 use Rattle.audit_core.proofs.PassOrder.{full-in_order}
 use Rattle.audit_core.proofs.StreamAlone.{alone, run-alone}
 

@@ -2,31 +2,31 @@
 use Rattle.std.proofs.Common.{◌≡◌, ℕ, ℤ, pos, ◌+◌, ◌*◌, ◌^◌, ◌<◌, ◌≤◌, Bool, true, false, ◌==◌, List, [], ◌∷◌, ◌++◌, refl, sym, arith, Option, Some, None, lit≤, if◌then◌else◌, filter}
 use Rattle.std.specs.declared.cmp.Ordering.TheVariants.{Less}
 use Rattle.std.specs.Cmp.{nat_cmp_is}
-use Rattle.audit_core.specs.declared.sides.Side.{Side}
-use Rattle.audit_core.specs.declared.sides.Side.TheVariants.{Client, Server}
-use Rattle.audit_core.specs.declared.sides.Sides.{Sides}
-use Rattle.audit_core.specs.declared.kinds.Kind.{Kind}
-use Rattle.audit_core.specs.declared.kinds.Kind.TheVariants.{BadPreface, BrokenBlock, TooLong, WrongStream, WrongSize, BadPadding, BadSetting, Push, PushNotAudited, NotOpened, IdNotGreater, ZeroConnectionGrant, ConnectionOverflow, SettingOverflow, LongFrame, AfterEnd, ConnectionOverrun, StreamOverrun, ZeroStreamGrant, StreamOverflow, UnmatchedAck, BadPriority, ConnectionStallEnd, ConnectionStallBegin, StreamStallEnd, StreamStallBegin, ConnectionCredit, StreamCredit}
-use Rattle.audit_core.specs.declared.frames.Body.{Body}
-use Rattle.audit_core.specs.declared.frames.Body.TheVariants.{Settings as SettingsBody, Unreadable}
-use Rattle.audit_core.specs.declared.frames.Frame.{Frame}
-use Rattle.audit_core.specs.declared.items.Item.{Item}
-use Rattle.audit_core.specs.declared.items.Step.{Step}
-use Rattle.audit_core.specs.declared.connections.ConnectionState.{ConnectionState}
-use Rattle.audit_core.specs.declared.streams.Stream.{Stream}
-use Rattle.audit_core.specs.declared.findings.Finding.{Finding}
-use Rattle.audit_core.specs.Sides.{side_of}
-use Rattle.audit_core.specs.Kind.{rank_of}
-use Rattle.audit_core.specs.Order.{put_by}
-use Rattle.audit_core.specs.Finding.{finding_at, say, say_of, comes_after, in_order}
-use Rattle.audit_core.specs.Frame.{IsOrderlyFrom, IsOrderly}
-use Rattle.audit_core.specs.LocalFault.{local_said, fault, body_said, reading_fault}
-use Rattle.audit_core.specs.InForce.{InForce, settings_said}
-use Rattle.audit_core.specs.Connection.{connection_said, connection_windows_said, connection_window_said}
-use Rattle.audit_core.specs.Stream.{stream_said, frame_said, stream_window_said, live_window_said, opened_window_said}
-use Rattle.audit_core.specs.Pass.{PassState, pass_start, said, full_from, full, next, streams_of, streams_said, step_of, item_of}
-use Rattle.audit_core.proofs.OrderedLists.{IsInOrder, NoneBefore, Precedes, in_order-ordered, in_order-append, ordered-in_order}
-use Rattle.audit_core.proofs.FindingOrder.{comes_after_is}
+use Rattle.audit_terms.specs.declared.sides.Side.{Side}
+use Rattle.audit_terms.specs.declared.sides.Side.TheVariants.{Client, Server}
+use Rattle.audit_terms.specs.declared.sides.Sides.{Sides}
+use Rattle.audit_terms.specs.declared.kinds.Kind.{Kind}
+use Rattle.audit_terms.specs.declared.kinds.Kind.TheVariants.{BadPreface, BrokenBlock, TooLong, WrongStream, WrongSize, BadPadding, BadSetting, Push, PushNotAudited, NotOpened, IdNotGreater, ZeroConnectionGrant, ConnectionOverflow, SettingOverflow, LongFrame, AfterEnd, ConnectionOverrun, StreamOverrun, ZeroStreamGrant, StreamOverflow, UnmatchedAck, BadPriority, ConnectionStallEnd, ConnectionStallBegin, StreamStallEnd, StreamStallBegin, ConnectionCredit, StreamCredit}
+use Rattle.audit_terms.specs.declared.frames.Body.{Body}
+use Rattle.audit_terms.specs.declared.frames.Body.TheVariants.{Settings as SettingsBody, Unreadable}
+use Rattle.audit_terms.specs.declared.frames.Frame.{Frame}
+use Rattle.audit_terms.specs.declared.items.Item.{Item}
+use Rattle.audit_terms.specs.declared.items.Step.{Step}
+use Rattle.audit_terms.specs.declared.connections.ConnectionState.{ConnectionState}
+use Rattle.audit_terms.specs.declared.streams.Stream.{Stream}
+use Rattle.audit_terms.specs.declared.findings.Finding.{Finding}
+use Rattle.audit_terms.specs.Sides.{side_of}
+use Rattle.audit_terms.specs.Kind.{rank_of}
+use Rattle.audit_terms.specs.Order.{put_by}
+use Rattle.audit_terms.specs.Finding.{finding_at, say, say_of, comes_after, in_order}
+use Rattle.audit_terms.specs.Frame.{IsOrderlyFrom, IsOrderly}
+use Rattle.audit_terms.specs.LocalFault.{local_said, fault, body_said, reading_fault}
+use Rattle.audit_terms.specs.InForce.{InForce, settings_said}
+use Rattle.audit_terms.specs.Connection.{connection_said, connection_windows_said, connection_window_said}
+use Rattle.audit_terms.specs.Stream.{stream_said, frame_said, stream_window_said, live_window_said, opened_window_said}
+use Rattle.audit_terms.specs.Pass.{PassState, pass_start, said, full_from, full, next, streams_of, streams_said, step_of, item_of}
+use Rattle.audit_terms.proofs.OrderedLists.{IsInOrder, NoneBefore, Precedes, in_order-ordered, in_order-append, ordered-in_order}
+use Rattle.audit_terms.proofs.FindingOrder.{comes_after_is}
 
 -- all places from low up to below high
 abbrev pub AreWithin : (low high : ℕ) → List Finding → Type 0

@@ -1,38 +1,38 @@
 -- What `one_pass` shows, frame by frame, before it is put in order.
 use Rattle.std.proofs.Common.{map, is_none, ◌&&◌, ap, ◌∙◌, nat_lt, append_assoc, append-nil, ◌≡◌, ℕ, ℤ, pos, ◌^◌, ◌<◌, Bool, true, false, List, [], ◌∷◌, ◌++◌, refl, sym, Option, Some, None, if◌then◌else◌, filter}
-use Rattle.audit_core.specs.declared.sides.Side.{Side}
-use Rattle.audit_core.specs.declared.sides.Side.TheVariants.{Client, Server}
-use Rattle.audit_core.specs.declared.sides.Sides.{Sides}
-use Rattle.audit_core.specs.declared.kinds.Kind.{Kind}
-use Rattle.audit_core.specs.declared.kinds.Kind.TheVariants.{TooLong, WrongSize, BadPadding, BadSetting, LongFrame, UnmatchedAck, BadPriority}
-use Rattle.audit_core.specs.declared.frames.Body.{Body}
-use Rattle.audit_core.specs.declared.frames.Body.TheVariants.{Settings as SettingsBody, Unreadable}
-use Rattle.audit_core.specs.declared.frames.Frame.{Frame}
-use Rattle.audit_core.specs.declared.items.Item.{Item}
-use Rattle.audit_core.specs.declared.items.Step.{Step}
-use Rattle.audit_core.specs.declared.connections.ConnectionState.{ConnectionState}
-use Rattle.audit_core.specs.declared.streams.Stream.{Stream}
-use Rattle.audit_core.specs.declared.findings.Finding.{Finding}
-use Rattle.audit_core.specs.Sides.{side_of}
-use Rattle.audit_core.specs.Finding.{finding_at, say, in_order}
-use Rattle.audit_core.specs.Frame.{IsOrderly}
-use Rattle.audit_core.specs.LocalFault.{push_kind, local_said, fault, body_said, reading_fault}
-use Rattle.audit_core.specs.InForce.{InForce, settings_said}
-use Rattle.audit_core.specs.Connection.{opening_order_said, connection_said, length_said, connection_windows_said, connection_window_said}
-use Rattle.audit_core.specs.Stream.{stream_said, frame_said, stream_window_said, live_window_said, opened_window_said}
-use Rattle.audit_core.specs.Pass.{PassState, pass_start, said, full_from, full, next, streams_of, streams_said, step_of, item_of}
-use Rattle.audit_core.specs.Change.{new_limit}
-use Rattle.audit_core.specs.declared.frames.Settings.{Settings}
+use Rattle.audit_terms.specs.declared.sides.Side.{Side}
+use Rattle.audit_terms.specs.declared.sides.Side.TheVariants.{Client, Server}
+use Rattle.audit_terms.specs.declared.sides.Sides.{Sides}
+use Rattle.audit_terms.specs.declared.kinds.Kind.{Kind}
+use Rattle.audit_terms.specs.declared.kinds.Kind.TheVariants.{TooLong, WrongSize, BadPadding, BadSetting, LongFrame, UnmatchedAck, BadPriority}
+use Rattle.audit_terms.specs.declared.frames.Body.{Body}
+use Rattle.audit_terms.specs.declared.frames.Body.TheVariants.{Settings as SettingsBody, Unreadable}
+use Rattle.audit_terms.specs.declared.frames.Frame.{Frame}
+use Rattle.audit_terms.specs.declared.items.Item.{Item}
+use Rattle.audit_terms.specs.declared.items.Step.{Step}
+use Rattle.audit_terms.specs.declared.connections.ConnectionState.{ConnectionState}
+use Rattle.audit_terms.specs.declared.streams.Stream.{Stream}
+use Rattle.audit_terms.specs.declared.findings.Finding.{Finding}
+use Rattle.audit_terms.specs.Sides.{side_of}
+use Rattle.audit_terms.specs.Finding.{finding_at, say, in_order}
+use Rattle.audit_terms.specs.Frame.{IsOrderly}
+use Rattle.audit_terms.specs.LocalFault.{push_kind, local_said, fault, body_said, reading_fault}
+use Rattle.audit_terms.specs.InForce.{InForce, settings_said}
+use Rattle.audit_terms.specs.Connection.{opening_order_said, connection_said, length_said, connection_windows_said, connection_window_said}
+use Rattle.audit_terms.specs.Stream.{stream_said, frame_said, stream_window_said, live_window_said, opened_window_said}
+use Rattle.audit_terms.specs.Pass.{PassState, pass_start, said, full_from, full, next, streams_of, streams_said, step_of, item_of}
+use Rattle.audit_terms.specs.Change.{new_limit}
+use Rattle.audit_terms.specs.declared.frames.Settings.{Settings}
 use Rattle.audit_core.specs.declared.tables.StreamRow.{StreamRow}
-use Rattle.audit_core.specs.InForce.{change_of, change_taking, taken}
-use Rattle.audit_core.specs.Frame.{is_ack}
+use Rattle.audit_terms.specs.InForce.{change_of, change_taking, taken}
+use Rattle.audit_terms.specs.Frame.{is_ack}
 use Rattle.std.specs.List.{flat_map}
-use Rattle.audit_core.specs.StreamTable.{row_said, row_after, idle_rows, RowFits, RowsFit}
-use Rattle.audit_core.specs.declared.items.Change.{Change}
-use Rattle.audit_core.specs.Stream.{idle_stream}
+use Rattle.audit_core.specs.code.StreamTable.{row_said, row_after, idle_rows, RowFits, RowsFit}
+use Rattle.audit_terms.specs.declared.items.Change.{Change}
+use Rattle.audit_terms.specs.Stream.{idle_stream}
 use Rattle.audit_core.proofs.Rows.{three_rows}
-use Rattle.audit_core.specs.Shown.{is_shown_so_far}
-use Rattle.audit_core.proofs.FindingOrder.{in_order-alike, in_order-in_order, filter-in_order}
+use Rattle.audit_terms.specs.Shown.{is_shown_so_far}
+use Rattle.audit_terms.proofs.FindingOrder.{in_order-alike, in_order-in_order, filter-in_order}
 use Rattle.audit_core.proofs.PassOrder.{rows_of, full-in_order, AreStreams}
 use Rattle.audit_core.proofs.Kept.{Keeps, Drops, filter-append, keeps-append, keeps-nil, keeps-cons, keeps-say, keeps-say_of, keeps-choice, keeps-flat_map, drops-append, drops-nil, drops-cons, drops-say, drops-say_of}
 

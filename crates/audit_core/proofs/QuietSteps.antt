@@ -5,20 +5,20 @@ use Rattle.std.specs.Ordering.{int_eq, is_eq}
 use Rattle.std.proofs.lemmas.Cmp.{int_cmp_total, tied_itself}
 use Rattle.std.proofs.lemmas.Int.{ints}
 use borrow.Author.Tests.{eqb-true}
-use Rattle.audit_core.specs.declared.sides.Side.{Side}
-use Rattle.audit_core.specs.declared.sides.Side.TheVariants.{Client, Server}
-use Rattle.audit_core.specs.declared.sides.Sides.{Sides}
-use Rattle.audit_core.specs.declared.frames.Frame.{Frame}
-use Rattle.audit_core.specs.declared.items.Change.{Change}
-use Rattle.audit_core.specs.declared.items.Step.{Step}
-use Rattle.audit_core.specs.declared.streams.Stream.{Stream}
-use Rattle.audit_core.specs.Finding.{say_of}
-use Rattle.audit_core.specs.Sides.{side_of}
-use Rattle.audit_core.specs.Change.{new_initial}
-use Rattle.audit_core.specs.Window.{is_used_up}
-use Rattle.audit_core.specs.Stream.{opens, counted, live_window_said, window_after, stream_said, stream_after, initial_after}
+use Rattle.audit_terms.specs.declared.sides.Side.{Side}
+use Rattle.audit_terms.specs.declared.sides.Side.TheVariants.{Client, Server}
+use Rattle.audit_terms.specs.declared.sides.Sides.{Sides}
+use Rattle.audit_terms.specs.declared.frames.Frame.{Frame}
+use Rattle.audit_terms.specs.declared.items.Change.{Change}
+use Rattle.audit_terms.specs.declared.items.Step.{Step}
+use Rattle.audit_terms.specs.declared.streams.Stream.{Stream}
+use Rattle.audit_terms.specs.Finding.{say_of}
+use Rattle.audit_terms.specs.Sides.{side_of}
+use Rattle.audit_terms.specs.Change.{new_initial}
+use Rattle.audit_terms.specs.Window.{is_used_up}
+use Rattle.audit_terms.specs.Stream.{opens, counted, live_window_said, window_after, stream_said, stream_after, initial_after}
 use Rattle.audit_core.specs.declared.tables.StreamRow.{StreamRow}
-use Rattle.audit_core.specs.StreamTable.{step_at, row_said, row_after}
+use Rattle.audit_core.specs.code.StreamTable.{step_at, row_said, row_after}
 
 -- a step of a change alone, or of nothing
 abbrev pub bare_step : ℕ → Option Change → Step

@@ -3,7 +3,7 @@ use Rattle.std.proofs.Common.{◌≡◌, ℕ, ◌+◌, ◌<◌, List, [], ◌∷
 use Rattle.std.specs.List.{flat_map}
 use Rattle.std.proofs.lemmas.List.{drop-set-lt, take_more_set}
 use Rattle.audit_core.specs.declared.tables.StreamRow.{StreamRow}
-use Rattle.audit_core.specs.StreamTable.{RowFits, RowsFit}
+use Rattle.audit_core.specs.code.StreamTable.{RowFits, RowsFit}
 
 module _ {X : Type 0} (xs : List X) (i : ℕ) (x y : X) (within : i < length xs) (next : drop i xs ≡ x ∷ drop (i + 1) xs) where
   pub left-set : drop (i + 1) (set xs i y) ≡ drop (i + 1) xs

@@ -3,23 +3,23 @@ use Rattle.std.proofs.Common.{◌≡◌, ℕ, ℤ, Bool, true, false, ◌==◌, 
 use Rattle.std.proofs.lemmas.Int.{ints}
 use Rattle.std.proofs.lemmas.Bool.Decides.{Decides-int_eq}
 use Rattle.std.specs.Ordering.{int_eq}
-use Rattle.audit_core.specs.declared.sides.Side.{Side}
-use Rattle.audit_core.specs.declared.sides.Side.TheVariants.{Client, Server}
-use Rattle.audit_core.specs.declared.sides.Sides.{Sides}
-use Rattle.audit_core.specs.declared.kinds.Kind.TheVariants.{StreamStallEnd, StreamStallBegin, StreamCredit}
-use Rattle.audit_core.specs.declared.frames.Frame.{Frame}
-use Rattle.audit_core.specs.declared.items.Change.{Change}
-use Rattle.audit_core.specs.declared.items.Step.{Step}
-use Rattle.audit_core.specs.declared.streams.Stream.{Stream}
-use Rattle.audit_core.specs.declared.findings.Finding.{Finding}
-use Rattle.audit_core.specs.Sides.{side_of}
-use Rattle.audit_core.specs.Window.{is_used_up}
-use Rattle.audit_core.specs.Finding.{say, say_of, in_order}
-use Rattle.audit_core.specs.Frame.{IsOrderly}
-use Rattle.audit_core.specs.InForce.{initial_in_force, in_force_after, change_of, changes_of}
-use Rattle.audit_core.specs.Stream.{opens, counted, window_after, window_at_opening, idle_stream, opened_window_said, live_window_said, stream_window_said, stream_said, stream_after, stream_run_from, initial_after, stream_finding}
-use Rattle.audit_core.specs.Pass.{PassState, pass_start, next, step_of}
-use Rattle.audit_core.specs.Run.{frames_on, stream_run}
+use Rattle.audit_terms.specs.declared.sides.Side.{Side}
+use Rattle.audit_terms.specs.declared.sides.Side.TheVariants.{Client, Server}
+use Rattle.audit_terms.specs.declared.sides.Sides.{Sides}
+use Rattle.audit_terms.specs.declared.kinds.Kind.TheVariants.{StreamStallEnd, StreamStallBegin, StreamCredit}
+use Rattle.audit_terms.specs.declared.frames.Frame.{Frame}
+use Rattle.audit_terms.specs.declared.items.Change.{Change}
+use Rattle.audit_terms.specs.declared.items.Step.{Step}
+use Rattle.audit_terms.specs.declared.streams.Stream.{Stream}
+use Rattle.audit_terms.specs.declared.findings.Finding.{Finding}
+use Rattle.audit_terms.specs.Sides.{side_of}
+use Rattle.audit_terms.specs.Window.{is_used_up}
+use Rattle.audit_terms.specs.Finding.{say, say_of, in_order}
+use Rattle.audit_terms.specs.Frame.{IsOrderly}
+use Rattle.audit_terms.specs.InForce.{initial_in_force, in_force_after, change_of, changes_of}
+use Rattle.audit_terms.specs.Stream.{opens, counted, window_after, window_at_opening, idle_stream, opened_window_said, live_window_said, stream_window_said, stream_said, stream_after, stream_run_from, initial_after, stream_finding}
+use Rattle.audit_terms.specs.Pass.{PassState, pass_start, next, step_of}
+use Rattle.audit_terms.specs.Run.{frames_on, stream_run}
 use Rattle.audit_core.proofs.StreamSteps.{step_if_any, steps_from, steps_of-steps_from}
 
 -- what the pass says of one stream

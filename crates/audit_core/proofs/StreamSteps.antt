@@ -2,15 +2,15 @@
 use Rattle.std.proofs.Common.{◌≡◌, ℕ, ◌+◌, ◌<◌, ◌≤◌, Bool, true, false, ◌==◌, nat_lt, List, [], ◌∷◌, ◌++◌, map, Option, Some, None, refl, ap, ◌∙◌, if◌then◌else◌, arith}
 use Rattle.std.specs.Option.{option_to_list}
 use Rattle.std.proofs.lemmas.Bool.Decides.{nat_tests}
-use Rattle.audit_core.specs.declared.frames.Settings.{Settings}
-use Rattle.audit_core.specs.declared.frames.Frame.{Frame}
-use Rattle.audit_core.specs.declared.items.Change.{Change}
-use Rattle.audit_core.specs.declared.items.Step.{Step}
-use Rattle.audit_core.specs.Frame.{IsOrderlyFrom}
-use Rattle.audit_core.specs.Change.{change_by}
-use Rattle.audit_core.specs.InForce.{InForce, in_force_after, change_taking, taken, changes_from}
-use Rattle.audit_core.specs.Pass.{step_of}
-use Rattle.audit_core.specs.Run.{frames_on, frame_step, change_step, with_change, steps_of}
+use Rattle.audit_terms.specs.declared.frames.Settings.{Settings}
+use Rattle.audit_terms.specs.declared.frames.Frame.{Frame}
+use Rattle.audit_terms.specs.declared.items.Change.{Change}
+use Rattle.audit_terms.specs.declared.items.Step.{Step}
+use Rattle.audit_terms.specs.Frame.{IsOrderlyFrom}
+use Rattle.audit_terms.specs.Change.{change_by}
+use Rattle.audit_terms.specs.InForce.{InForce, in_force_after, change_taking, taken, changes_from}
+use Rattle.audit_terms.specs.Pass.{step_of}
+use Rattle.audit_terms.specs.Run.{frames_on, frame_step, change_step, with_change, steps_of}
 
 -- all numbers at or above one
 abbrev pub FramesFrom : (low : ℕ) → List Frame → Type 0

@@ -1,11 +1,11 @@
 -- No two findings of a connection share place and side, and no two errors of the connection share a place.
 use Rattle.std.specs.Prelude.{◌≡◌, ◌≢◌, true, List, [], ◌∷◌}
 use Rattle.std.specs.List.{AllByRecursion}
-use Rattle.audit_core.specs.declared.frames.Frame.{Frame}
-use Rattle.audit_core.specs.declared.findings.Finding.{Finding}
-use Rattle.audit_core.specs.Finding.{stops}
-use Rattle.audit_core.specs.Frame.{IsOrderly}
-use Rattle.audit_core.specs.Pass.{full}
+use Rattle.audit_terms.specs.declared.frames.Frame.{Frame}
+use Rattle.audit_terms.specs.declared.findings.Finding.{Finding}
+use Rattle.audit_terms.specs.Finding.{stops}
+use Rattle.audit_terms.specs.Frame.{IsOrderly}
+use Rattle.audit_terms.specs.Pass.{full}
 
 -- each element stands so to every later one
 abbrev pub EachPair : {X : Type 0} → (X → X → Type 0) → List X → Type 0

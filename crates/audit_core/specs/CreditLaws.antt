@@ -1,11 +1,11 @@
 -- The credits that the pass carries from frame to frame are the closed sums (RFC 9113, 6.9, 6.9.1, 6.9.2).
 use Rattle.std.specs.Prelude.{◌≡◌, ℕ, ℤ, ◌<◌, List, Some}
-use Rattle.audit_core.specs.declared.sides.Side.{Side}
-use Rattle.audit_core.specs.declared.frames.Frame.{Frame}
-use Rattle.audit_core.specs.Sides.{side_of}
-use Rattle.audit_core.specs.Frame.{IsOrderly}
-use Rattle.audit_core.specs.Pass.{state_after}
-use Rattle.audit_core.specs.Credit.{connection_credit_sum, stream_credit_sum}
+use Rattle.audit_terms.specs.declared.sides.Side.{Side}
+use Rattle.audit_terms.specs.declared.frames.Frame.{Frame}
+use Rattle.audit_terms.specs.Sides.{side_of}
+use Rattle.audit_terms.specs.Frame.{IsOrderly}
+use Rattle.audit_terms.specs.Pass.{state_after}
+use Rattle.audit_terms.specs.Credit.{connection_credit_sum, stream_credit_sum}
 
 -- each side's connection window: all of that side's content counts, whatever its stream
 abbrev pub ConnectionCreditIsSum : Type 0

@@ -1,16 +1,16 @@
 -- The pass is, in order, what its parts show by themselves, however streams are grouped and frames cut into blocks.
 use Rattle.std.specs.Prelude.{◌≡◌, ℕ, List, ◌++◌}
 use Rattle.std.specs.List.{flat_map}
-use Rattle.audit_core.specs.declared.frames.Frame.{Frame}
-use Rattle.audit_core.specs.declared.items.Item.{Item}
-use Rattle.audit_core.specs.declared.findings.Finding.{Finding}
-use Rattle.audit_core.specs.Frame.{IsOrderly}
-use Rattle.audit_core.specs.Finding.{in_order}
-use Rattle.audit_core.specs.LocalFault.{local_run}
-use Rattle.audit_core.specs.InForce.{settings_run}
-use Rattle.audit_core.specs.Connection.{connection_start}
-use Rattle.audit_core.specs.Pass.{full, streams_of, items_of}
-use Rattle.audit_core.specs.Run.{group_run, block_runs}
+use Rattle.audit_terms.specs.declared.frames.Frame.{Frame}
+use Rattle.audit_terms.specs.declared.items.Item.{Item}
+use Rattle.audit_terms.specs.declared.findings.Finding.{Finding}
+use Rattle.audit_terms.specs.Frame.{IsOrderly}
+use Rattle.audit_terms.specs.Finding.{in_order}
+use Rattle.audit_terms.specs.LocalFault.{local_run}
+use Rattle.audit_terms.specs.InForce.{settings_run}
+use Rattle.audit_terms.specs.Connection.{connection_start}
+use Rattle.audit_terms.specs.Pass.{full, streams_of, items_of}
+use Rattle.audit_terms.specs.Run.{group_run, block_runs}
 
 -- consecutive parts of a list, joined
 abbrev pub joined : {A : Type 0} → List (List A) → List A

@@ -1,16 +1,16 @@
 -- Short scripts of a connection, for the worked examples: each frame is spelled by its number, its side and its type.
 use Rattle.std.specs.Prelude.{ℕ, ◌+◌, ◌*◌, nat_le, List, [], ◌∷◌, ◌++◌, filter, Some, None}
-use Rattle.audit_core.specs.declared.sides.Side.{Side}
-use Rattle.audit_core.specs.declared.sides.Side.TheVariants.{Client, Server}
-use Rattle.audit_core.specs.declared.frames.Settings.{Settings}
-use Rattle.audit_core.specs.declared.frames.Body.{Body}
-use Rattle.audit_core.specs.declared.frames.Body.TheVariants.{Content, Headers, RstStream, Settings as SettingsBody, SettingsAck, PushPromise, Ping, WindowUpdate, Unreadable}
-use Rattle.audit_core.specs.declared.frames.Frame.{Frame}
-use Rattle.audit_core.specs.declared.kinds.Kind.{Kind}
-use Rattle.audit_core.specs.declared.findings.Finding.{Finding}
-use Rattle.audit_core.specs.Kind.{rank_of}
-use Rattle.audit_core.specs.FrameType.{data_type, headers_type, rst_stream_type, settings_type, push_promise_type, ping_type, window_update_type, end_stream_flag, ack_flag, end_headers_flag, padded_flag}
-use Rattle.audit_core.specs.Pass.{pass}
+use Rattle.audit_terms.specs.declared.sides.Side.{Side}
+use Rattle.audit_terms.specs.declared.sides.Side.TheVariants.{Client, Server}
+use Rattle.audit_terms.specs.declared.frames.Settings.{Settings}
+use Rattle.audit_terms.specs.declared.frames.Body.{Body}
+use Rattle.audit_terms.specs.declared.frames.Body.TheVariants.{Content, Headers, RstStream, Settings as SettingsBody, SettingsAck, PushPromise, Ping, WindowUpdate, Unreadable}
+use Rattle.audit_terms.specs.declared.frames.Frame.{Frame}
+use Rattle.audit_terms.specs.declared.kinds.Kind.{Kind}
+use Rattle.audit_terms.specs.declared.findings.Finding.{Finding}
+use Rattle.audit_terms.specs.Kind.{rank_of}
+use Rattle.audit_terms.specs.FrameType.{data_type, headers_type, rst_stream_type, settings_type, push_promise_type, ping_type, window_update_type, end_stream_flag, ack_flag, end_headers_flag, padded_flag}
+use Rattle.audit_terms.specs.Pass.{pass}
 
 -- a frame, captured in the record two after its number, at a thousand nanoseconds a record
 abbrev pub scripted : ℕ → Side → (code flags stream length : ℕ) → Body → Frame

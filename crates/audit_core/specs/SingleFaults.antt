@@ -1,12 +1,12 @@
 -- Worked examples of one fault each, and of what is none.
 use Rattle.std.specs.Prelude.{◌≡◌, pos, [], ◌∷◌, ◌++◌, Some}
-use Rattle.audit_core.specs.declared.sides.Side.TheVariants.{Client, Server}
-use Rattle.audit_core.specs.declared.kinds.Kind.TheVariants.{BadPreface, BrokenBlock, BadPadding, BadSetting, LongFrame, TooLong, StreamOverflow, StreamCredit, WrongStream, Push, PushNotAudited, BadPriority}
-use Rattle.audit_core.specs.Finding.{finding_at}
+use Rattle.audit_terms.specs.declared.sides.Side.TheVariants.{Client, Server}
+use Rattle.audit_terms.specs.declared.kinds.Kind.TheVariants.{BadPreface, BrokenBlock, BadPadding, BadSetting, LongFrame, TooLong, StreamOverflow, StreamCredit, WrongStream, Push, PushNotAudited, BadPriority}
+use Rattle.audit_terms.specs.Finding.{finding_at}
 use Rattle.audit_core.specs.Script.{scripted, headers_frame, data_frame, padded_data_frame, reset_frame, update_frame, promise_frame, ping_frame, settings_frame, unreadable_frame, no_settings, without_credits, audit_of, audit_with_credits_of}
-use Rattle.audit_core.specs.FrameType.{data_type, headers_type, priority_type, settings_type, end_headers_flag, padded_flag}
-use Rattle.audit_core.specs.declared.frames.Body.TheVariants.{Headers, Settings as SettingsBody}
-use Rattle.audit_core.specs.Pass.{pass}
+use Rattle.audit_terms.specs.FrameType.{data_type, headers_type, priority_type, settings_type, end_headers_flag, padded_flag}
+use Rattle.audit_terms.specs.declared.frames.Body.TheVariants.{Headers, Settings as SettingsBody}
+use Rattle.audit_terms.specs.Pass.{pass}
 use Rattle.audit_core.specs.Stalls.{padded_stall_script, padded_stall_findings}
 
 -- the server begins with a PING

@@ -1,14 +1,14 @@
 -- Worked examples of windows: stalls, overruns, overflows, grants of 0.
 use Rattle.std.specs.Prelude.{◌≡◌, pos, ◌-ℤ◌, List, [], ◌∷◌, ◌++◌, Some}
-use Rattle.audit_core.specs.declared.sides.Side.TheVariants.{Client, Server}
-use Rattle.audit_core.specs.declared.frames.Frame.{Frame}
-use Rattle.audit_core.specs.declared.findings.Finding.{Finding}
-use Rattle.audit_core.specs.declared.kinds.Kind.TheVariants.{ConnectionStallBegin, ConnectionStallEnd, StreamStallBegin, StreamStallEnd, ConnectionCredit, StreamCredit, StreamOverrun, ConnectionOverflow, SettingOverflow, ZeroStreamGrant, ZeroConnectionGrant, WrongSize}
-use Rattle.audit_core.specs.Finding.{finding_at}
+use Rattle.audit_terms.specs.declared.sides.Side.TheVariants.{Client, Server}
+use Rattle.audit_terms.specs.declared.frames.Frame.{Frame}
+use Rattle.audit_terms.specs.declared.findings.Finding.{Finding}
+use Rattle.audit_terms.specs.declared.kinds.Kind.TheVariants.{ConnectionStallBegin, ConnectionStallEnd, StreamStallBegin, StreamStallEnd, ConnectionCredit, StreamCredit, StreamOverrun, ConnectionOverflow, SettingOverflow, ZeroStreamGrant, ZeroConnectionGrant, WrongSize}
+use Rattle.audit_terms.specs.Finding.{finding_at}
 use Rattle.audit_core.specs.Script.{headers_frame, data_frame, padded_data_frame, update_frame, initial_window_frame, ack_frame, unreadable_frame, no_settings, opening_frames, audit_of, audit_with_credits_of}
-use Rattle.audit_core.specs.FrameType.{window_update_type}
-use Rattle.audit_core.specs.Change.{change_by}
-use Rattle.audit_core.specs.InForce.{changes_of}
+use Rattle.audit_terms.specs.FrameType.{window_update_type}
+use Rattle.audit_terms.specs.Change.{change_by}
+use Rattle.audit_terms.specs.InForce.{changes_of}
 
 -- all of the first 65,535 bytes of credit, padding included, are sent
 abbrev pub padded_stall_script : List Frame

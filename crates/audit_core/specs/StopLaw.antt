@@ -1,11 +1,11 @@
 -- Where the findings of a connection end, and the order in which they stand.
 use Rattle.std.specs.Prelude.{◌≡◌, true, false, List, [], ◌∷◌, ◌++◌, ◌⊎◌}
 use Rattle.std.specs.List.{AllByRecursion}
-use Rattle.audit_core.specs.declared.frames.Frame.{Frame}
-use Rattle.audit_core.specs.declared.findings.Finding.{Finding}
-use Rattle.audit_core.specs.Frame.{IsOrderly}
-use Rattle.audit_core.specs.Finding.{stops, in_order, upto_stop}
-use Rattle.audit_core.specs.Pass.{full}
+use Rattle.audit_terms.specs.declared.frames.Frame.{Frame}
+use Rattle.audit_terms.specs.declared.findings.Finding.{Finding}
+use Rattle.audit_terms.specs.Frame.{IsOrderly}
+use Rattle.audit_terms.specs.Finding.{stops, in_order, upto_stop}
+use Rattle.audit_terms.specs.Pass.{full}
 
 -- none of them is an error of the connection
 abbrev pub NoneStops : List Finding → Type 0

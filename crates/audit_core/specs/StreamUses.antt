@@ -1,10 +1,10 @@
 -- Worked examples of streams: use before the opening and after the end, the order of openings, unmatched acknowledgements.
 use Rattle.std.specs.Prelude.{◌≡◌, pos, ◌-ℤ◌, [], ◌∷◌, ◌++◌}
-use Rattle.audit_core.specs.declared.sides.Side.TheVariants.{Client, Server}
-use Rattle.audit_core.specs.declared.kinds.Kind.TheVariants.{ConnectionStallBegin, ConnectionStallEnd, StreamStallBegin, StreamStallEnd, StreamCredit, ConnectionOverrun, StreamOverrun, NotOpened, AfterEnd, IdNotGreater, UnmatchedAck}
-use Rattle.audit_core.specs.Finding.{finding_at}
+use Rattle.audit_terms.specs.declared.sides.Side.TheVariants.{Client, Server}
+use Rattle.audit_terms.specs.declared.kinds.Kind.TheVariants.{ConnectionStallBegin, ConnectionStallEnd, StreamStallBegin, StreamStallEnd, StreamCredit, ConnectionOverrun, StreamOverrun, NotOpened, AfterEnd, IdNotGreater, UnmatchedAck}
+use Rattle.audit_terms.specs.Finding.{finding_at}
 use Rattle.audit_core.specs.Script.{headers_frame, data_frame, last_data_frame, reset_frame, update_frame, ping_frame, ack_frame, opening_frames, without_credits, audit_of, audit_with_credits_of}
-use Rattle.audit_core.specs.Pass.{full}
+use Rattle.audit_terms.specs.Pass.{full}
 use Rattle.audit_core.specs.Stalls.{padded_stall_script, padded_stall_findings}
 
 -- a stream is used that was never opened: what later frames show is withdrawn

@@ -1,12 +1,5 @@
 //! Laws of the definitions in `specs/`. The functions do nothing; each contract is a law.
 
-ghost use Rattle.audit_core.specs.Place.{PlacesAreInOrder};
-
-/// Places stand in the order of frame number, then rank, then stream, and none is the word of all ones.
-pub fn places_are_in_order()
-    ensures { PlacesAreInOrder }
-{}
-
 ghost use Rattle.audit_core.specs.CreditLaws.{ConnectionCreditIsSum, StreamCreditIsSum};
 
 /// Every credit that the pass carries is the sum of RFC 9113, 6.9: of each side's connection window, and of each live

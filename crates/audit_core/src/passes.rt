@@ -1,14 +1,14 @@
 ghost use Rattle.std.specs.Prelude.{◌≡◌, IfOk, filter};
-ghost use Rattle.audit_core.specs.Frame.{IsOrderly};
-ghost use Rattle.audit_core.specs.Finding.{upto_stop};
-ghost use Rattle.audit_core.specs.Pass.{full};
-ghost use Rattle.audit_core.specs.Shown.{is_shown_so_far};
+ghost use Rattle.audit_terms.specs.Frame.{IsOrderly};
+ghost use Rattle.audit_terms.specs.Finding.{upto_stop};
+ghost use Rattle.audit_terms.specs.Pass.{full};
+ghost use Rattle.audit_terms.specs.Shown.{is_shown_so_far};
 
-use crate::connections::ConnectionState;
-use crate::findings::{Finding, cut_at_stop, put_in_order, say_if};
-use crate::frames::Frame;
-use crate::items::Change;
-use crate::kinds::Kind;
+use audit_terms::ConnectionState;
+use audit_terms::{Finding, cut_at_stop, put_in_order, say_if};
+use audit_terms::Frame;
+use audit_terms::Change;
+use audit_terms::Kind;
 use crate::settings::SettingsSoFar;
 use crate::tables::StreamTable;
 use std::alloc::{AllocError, Global};
@@ -43,7 +43,7 @@ pub fn one_pass(alloc: Global, frames: &[Frame]) -> Result<Vec<Finding>, AllocEr
 }
 
 ghost use Rattle.std.specs.Prelude.{◌&&◌, is_none};
-ghost use Rattle.audit_core.specs.Frame.{is_ack};
+ghost use Rattle.audit_terms.specs.Frame.{is_ack};
 
 /// Is the frame an acknowledgement that brings no change (RFC 9113, 6.5.3)?
 fn takes_nothing(frame: &Frame, change: &Option<Change>) -> bool

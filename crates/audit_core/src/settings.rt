@@ -1,9 +1,9 @@
 ghost use Rattle.std.specs.Prelude.{◌≡◌, ℕ, ◌+◌, ◌^◌, ◌<◌, ◌≤◌, IfOk, OnOk, OnErr, vec_len};
 
-use crate::frames::{Body, Frame, Settings};
-use crate::items::Change;
-use crate::sides::{Side, Sides};
-use crate::windows::initial_after;
+use audit_terms::{Body, Frame, Settings};
+use audit_terms::Change;
+use audit_terms::{Side, Sides};
+use audit_terms::initial_after;
 use std::alloc::{AllocError, Global};
 
 /// The settings sent, taken and in force (RFC 9113, 6.5.3): all SETTINGS of each side in their order, and how many of
@@ -21,8 +21,8 @@ pub struct SettingsSoFar {
 }
 
 impl SettingsSoFar {
-    ghost use Rattle.audit_core.specs.InForce.{initial_in_force, taken, change_of, in_force_after};
-    ghost use Rattle.audit_core.specs.SettingsSoFar.{in_force_of};
+    ghost use Rattle.audit_terms.specs.InForce.{initial_in_force, taken, change_of, in_force_after};
+    ghost use Rattle.audit_core.specs.code.SettingsSoFar.{in_force_of};
 
     /// The settings at the start (RFC 9113, 6.5.2).
     pub fn start(alloc: Global) -> Self
@@ -99,9 +99,9 @@ impl SettingsSoFar {
     }
 }
 
-ghost use Rattle.audit_core.specs.InForce.{change_taking};
-ghost use Rattle.audit_core.specs.Change.{new_limit};
-ghost use Rattle.audit_core.specs.Sides.{side_of, each_side};
+ghost use Rattle.audit_terms.specs.InForce.{change_taking};
+ghost use Rattle.audit_terms.specs.Change.{new_limit};
+ghost use Rattle.audit_terms.specs.Sides.{side_of, each_side};
 
 /// The change that a frame makes which takes these settings.
 fn change_taking(frame: &Frame, taken: &Option<Settings>) -> Option<Change>

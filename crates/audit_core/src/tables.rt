@@ -1,16 +1,16 @@
 ghost use Rattle.std.specs.Prelude.{◌≡◌, ℕ, ◌+◌, ◌-◌, ◌^◌, ◌≤◌, ◌++◌, IfOk, OnOk, map, nat_eq, false};
-ghost use Rattle.audit_core.specs.Stream.{initial_after};
+ghost use Rattle.audit_terms.specs.Stream.{initial_after};
 ghost use Rattle.std.specs.HashMap.{get};
 ghost use Rattle.std.specs.List.{flat_map};
-ghost use Rattle.audit_core.specs.StreamTable.{step_at, row_said, row_after, streams_in, idle_rows, with_stream, RowFits, RowsFit, IsIndex};
-ghost use Rattle.audit_core.specs.Pass.{streams_of};
+ghost use Rattle.audit_core.specs.code.StreamTable.{step_at, row_said, row_after, streams_in, idle_rows, with_stream, RowFits, RowsFit, IsIndex};
+ghost use Rattle.audit_terms.specs.Pass.{streams_of};
 
-use crate::findings::Finding;
-use crate::frames::Frame;
-use crate::items::{Change, Step};
-use crate::sides::Sides;
-use crate::streams::Stream;
-use crate::windows::initial_after;
+use audit_terms::Finding;
+use audit_terms::Frame;
+use audit_terms::{Change, Step};
+use audit_terms::Sides;
+use audit_terms::Stream;
+use audit_terms::initial_after;
 use std::alloc::{AllocError, Global};
 use std::collections::HashMap;
 

@@ -1,8 +1,8 @@
 -- What the two flows of a connection hold, in plain lists and numbers.
 use Rattle.std.specs.Prelude.{ℕ, List, slice_index}
-use Rattle.audit_core.specs.declared.frames.Frame.{Frame}
-use Rattle.audit_core.specs.declared.sides.Side.{Side}
-use Rattle.audit_core.specs.declared.sides.Side.TheVariants.{Client, Server}
+use Rattle.audit_terms.specs.declared.frames.Frame.{Frame}
+use Rattle.audit_terms.specs.declared.sides.Side.{Side}
+use Rattle.audit_terms.specs.declared.sides.Side.TheVariants.{Client, Server}
 use Rattle.h2_frames.specs.declared.connections.Cut.{Cut}
 use Rattle.h2_frames.specs.declared.connections.Cut.TheVariants.{Http2 as CutHttp2, NotHttp2 as CutNotHttp2, NoPreface as CutNoPreface, NoHandshake as CutNoHandshake}
 

@@ -1,9 +1,9 @@
 -- The last line of an HTTP/2 connection: how far its audit went.
 use Rattle.std.specs.Prelude.{ℕ, List, ◌-◌, codes, if◌then◌else◌, length, slice_get, Option, Some, None}
 use Rattle.audit_report.specs.Line.{line, field}
-use Rattle.audit_core.specs.declared.findings.Finding.{Finding}
-use Rattle.audit_core.specs.Finding.{stops}
-use Rattle.audit_core.specs.Place.{place_number}
+use Rattle.audit_terms.specs.declared.findings.Finding.{Finding}
+use Rattle.audit_terms.specs.Finding.{stops}
+use Rattle.audit_terms.specs.Place.{place_number}
 
 -- the last finding, if there is one
 abbrev pub last_of : List Finding → Option Finding

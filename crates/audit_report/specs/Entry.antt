@@ -7,9 +7,9 @@ use Rattle.audit_report.specs.FindingLine.{finding_lines}
 use Rattle.audit_report.specs.FlowLine.{Extent, extent_of, flow_line}
 use Rattle.audit_report.specs.StallLine.{stall_lines}
 use Rattle.audit_report.specs.declared.audited.Audited.{Audited}
-use Rattle.audit_core.specs.declared.findings.Finding.{Finding}
-use Rattle.audit_core.specs.declared.frames.Frame.{Frame}
-use Rattle.audit_core.specs.declared.sides.Side.TheVariants.{Client, Server}
+use Rattle.audit_terms.specs.declared.findings.Finding.{Finding}
+use Rattle.audit_terms.specs.declared.frames.Frame.{Frame}
+use Rattle.audit_terms.specs.declared.sides.Side.TheVariants.{Client, Server}
 use Rattle.packet_heads.specs.declared.packets.Endpoint.{Endpoint}
 use Rattle.split_merge.specs.Stalls.{stalls}
 use Rattle.tcp_streams.specs.declared.members.Connection.{Connection}

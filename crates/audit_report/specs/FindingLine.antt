@@ -3,13 +3,13 @@ use Rattle.std.specs.Prelude.{ℕ, List, [], ◌++◌, codes, Bool, true, false,
 use Rattle.std.specs.Fmt.{signed_decimal}
 use Rattle.std.specs.List.{flat_map}
 use Rattle.audit_report.specs.Line.{line, field}
-use Rattle.audit_core.specs.declared.findings.Finding.{Finding}
-use Rattle.audit_core.specs.declared.frames.Frame.{Frame}
-use Rattle.audit_core.specs.declared.kinds.Kind.{Kind}
-use Rattle.audit_core.specs.declared.kinds.Kind.TheVariants.{ConnectionCredit, StreamCredit}
-use Rattle.audit_core.specs.Kind.{kind_name}
-use Rattle.audit_core.specs.Place.{place_number, place_stream}
-use Rattle.audit_core.specs.Side.{side_name}
+use Rattle.audit_terms.specs.declared.findings.Finding.{Finding}
+use Rattle.audit_terms.specs.declared.frames.Frame.{Frame}
+use Rattle.audit_terms.specs.declared.kinds.Kind.{Kind}
+use Rattle.audit_terms.specs.declared.kinds.Kind.TheVariants.{ConnectionCredit, StreamCredit}
+use Rattle.audit_terms.specs.Kind.{kind_name}
+use Rattle.audit_terms.specs.Place.{place_number, place_stream}
+use Rattle.audit_terms.specs.Side.{side_name}
 use Rattle.split_merge.specs.FrameLookup.{frame_numbered, nanos_at}
 
 -- the record at which the last byte of the frame of this number arrived; 0 where there is no such frame

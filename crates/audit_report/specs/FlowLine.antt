@@ -2,8 +2,8 @@
 use Rattle.std.specs.Prelude.{ℕ, List, ◌++◌, length, codes, Option, Some, None}
 use Rattle.std.specs.Fmt.{decimal}
 use Rattle.audit_report.specs.Line.{line, field}
-use Rattle.audit_core.specs.declared.sides.Side.{Side}
-use Rattle.audit_core.specs.Side.{side_name}
+use Rattle.audit_terms.specs.declared.sides.Side.{Side}
+use Rattle.audit_terms.specs.Side.{side_name}
 use Rattle.tcp_streams.specs.declared.streams.Flow.{Flow}
 
 -- how many bytes a flow has, and where bytes are missing, if later ones were captured

@@ -3,7 +3,7 @@ use Rattle.std.specs.Prelude.{ℕ, ℤ, List, ◌++◌, codes, Option, Some, Non
 use Rattle.std.specs.Fmt.{signed_decimal}
 use Rattle.std.specs.List.{flat_map}
 use Rattle.audit_report.specs.Line.{line, field}
-use Rattle.audit_core.specs.Side.{side_name}
+use Rattle.audit_terms.specs.Side.{side_name}
 use Rattle.split_merge.specs.declared.stalls.Stall.{Stall}
 
 -- ` to M nanos D`, or ` open` where the stall does not end

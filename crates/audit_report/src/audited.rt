@@ -1,4 +1,4 @@
-use audit_core::Finding;
+use audit_terms::Finding;
 use h2_frames::Cut;
 use tcp_streams::Flow;
 

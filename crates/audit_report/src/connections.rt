@@ -1,7 +1,7 @@
 ghost use Rattle.std.specs.Prelude.{◌≡◌, ◌++◌, OnOk, IfOk};
 ghost use Rattle.std.specs.String.{string_bytes};
 ghost use Rattle.packet_heads.specs.declared.packets.Endpoint.{Endpoint};
-ghost use Rattle.audit_core.specs.declared.sides.Side.{Side};
+ghost use Rattle.audit_terms.specs.declared.sides.Side.{Side};
 ghost use Rattle.audit_report.specs.ConnectionLine.{contents_text, roles_text, opening_text, connection_line};
 ghost use Rattle.audit_report.specs.Contents.{contents_of, tail_of};
 ghost use Rattle.audit_report.specs.FlowLine.{extent_of, gap_text, flow_line};
@@ -9,7 +9,7 @@ ghost use Rattle.audit_report.specs.Entry.{connection_text};
 
 use crate::endpoints::push_endpoint;
 use crate::words::{push_field, push_number, push_word};
-use audit_core::Side;
+use audit_terms::Side;
 use h2_frames::Cut;
 use packet_heads::Endpoint;
 use std::alloc::{AllocError, Global};

@@ -4,7 +4,7 @@ ghost use Rattle.audit_report.specs.StallLine.{ending_text, stall_line, stall_li
 ghost use Rattle.audit_report.specs.EndLine.{stop_line, ending_line, end_line};
 
 use crate::words::{push_field, push_signed, push_word};
-use audit_core::Finding;
+use audit_terms::Finding;
 use split_merge::Stall;
 use std::alloc::AllocError;
 

@@ -1,10 +1,10 @@
 ghost use Rattle.std.specs.Prelude.{◌≡◌, ◌++◌, OnOk, IfOk};
 ghost use Rattle.std.specs.String.{string_bytes};
-ghost use Rattle.audit_core.specs.Frame.{IsOrderly};
+ghost use Rattle.audit_terms.specs.Frame.{IsOrderly};
 ghost use Rattle.audit_report.specs.FindingLine.{moment_text, said_text, finding_line, is_credit, shown_line, finding_lines};
 
 use crate::words::{push_field, push_signed, push_word};
-use audit_core::{Finding, Frame, Kind};
+use audit_terms::{Finding, Frame, Kind};
 use split_merge::frame_at;
 use std::alloc::{AllocError, Global};
 

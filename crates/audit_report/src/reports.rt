@@ -1,6 +1,6 @@
 ghost use Rattle.std.specs.Prelude.{◌≡◌, ◌++◌, ◌+◌, ◌<◌, ◌^◌, OnOk, IfOk, All, length};
 ghost use Rattle.std.specs.String.{string_bytes};
-ghost use Rattle.audit_core.specs.Frame.{IsOrderly};
+ghost use Rattle.audit_terms.specs.Frame.{IsOrderly};
 ghost use Rattle.h2_frames.specs.Cut.{HasOrderlyFrames};
 ghost use Rattle.audit_report.specs.Contents.{contents_of};
 ghost use Rattle.audit_report.specs.Entry.{audit_text, findings_text, entry_text, entry_of, entries_of, entries_text};
@@ -12,7 +12,7 @@ use crate::capture::push_capture_text;
 use crate::connections::push_connection_text;
 use crate::endings::{push_end_line, push_stall_lines};
 use crate::findings::push_finding_lines;
-use audit_core::{Finding, Frame};
+use audit_terms::{Finding, Frame};
 use h2_frames::Cut;
 use packet_heads::Packet;
 use pcap_records::Records;

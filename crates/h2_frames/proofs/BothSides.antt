@@ -5,10 +5,10 @@ use Rattle.itertools.specs.List.{merge_by}
 use Rattle.tcp_streams.specs.declared.streams.Arrival.{Arrival}
 use Rattle.tcp_streams.specs.declared.streams.Flow.{Flow}
 use Rattle.tcp_streams.specs.Arrivals.{IsOrderly}
-use Rattle.audit_core.specs.declared.sides.Side.{Side}
-use Rattle.audit_core.specs.declared.sides.Side.TheVariants.{Client, Server}
-use Rattle.audit_core.specs.declared.frames.Frame.{Frame}
-use Rattle.audit_core.specs.Frame.{IsOrderly as AreOrderly}
+use Rattle.audit_terms.specs.declared.sides.Side.{Side}
+use Rattle.audit_terms.specs.declared.sides.Side.TheVariants.{Client, Server}
+use Rattle.audit_terms.specs.declared.frames.Frame.{Frame}
+use Rattle.audit_terms.specs.Frame.{IsOrderly as AreOrderly}
 use Rattle.h2_frames.specs.declared.spelling.Spelled.{Spelled}
 use Rattle.h2_frames.specs.Spelling.{Spells}
 use Rattle.h2_frames.specs.CaptureOrder.{captured_from, numbered}

@@ -6,11 +6,11 @@ use Rattle.std.proofs.lemmas.Bool.Decides.{nat_tests}
 use Rattle.itertools.specs.List.{merge_by, merge_at}
 use Rattle.tcp_streams.specs.declared.streams.Arrival.{Arrival}
 use Rattle.tcp_streams.specs.Arrivals.{Rises}
-use Rattle.audit_core.specs.declared.sides.Side.{Side}
-use Rattle.audit_core.specs.declared.frames.Frame.{Frame}
-use Rattle.audit_core.specs.Order.{put_by, ordered_by}
-use Rattle.audit_core.specs.Side.{side_order}
-use Rattle.audit_core.specs.Frame.{IsOrderlyFrom}
+use Rattle.audit_terms.specs.declared.sides.Side.{Side}
+use Rattle.audit_terms.specs.declared.frames.Frame.{Frame}
+use Rattle.audit_terms.specs.Order.{put_by, ordered_by}
+use Rattle.audit_terms.specs.Side.{side_order}
+use Rattle.audit_terms.specs.Frame.{IsOrderlyFrom}
 use Rattle.h2_frames.specs.Steps.{IsReadable}
 use Rattle.h2_frames.specs.declared.spelling.Spelled.{Spelled}
 use Rattle.h2_frames.specs.Spelling.{Spells}

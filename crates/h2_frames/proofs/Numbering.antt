@@ -1,6 +1,6 @@
 -- Numbering frames one after the other.
 use Rattle.std.proofs.Common.{◌≡◌, ℕ, zero, suc, ◌+◌, ◌<◌, List, [], ◌∷◌, ◌++◌, length, take, drop, get_or, set, ap, arith, add-one}
-use Rattle.audit_core.specs.declared.frames.Frame.{Frame}
+use Rattle.audit_terms.specs.declared.frames.Frame.{Frame}
 use Rattle.h2_frames.specs.CaptureOrder.{numbered}
 
 -- the first i frames have their numbers

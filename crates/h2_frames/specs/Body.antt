@@ -1,10 +1,10 @@
 -- What a frame carries, by its type, its flags and its payload (RFC 9113, 6.1 to 6.10). Where a payload has several
 -- faults, the first line of its definition that applies names the one.
 use Rattle.std.specs.Prelude.{ℕ, ◌+◌, ◌-◌, ◌%◌, Bool, not, ◌&&◌, ◌==◌, nat_lt, nat_le, if◌then◌else◌, List, length, drop, slice_index}
-use Rattle.audit_core.specs.declared.frames.Body.{Body}
-use Rattle.audit_core.specs.declared.frames.Body.TheVariants.{Content, Headers, Priority, RstStream, Settings, SettingsAck, PushPromise, Ping, GoAway, WindowUpdate, Continuation, Unknown, Unreadable}
-use Rattle.audit_core.specs.declared.kinds.Kind.TheVariants.{WrongSize, BadPadding, BadPriority}
-use Rattle.audit_core.specs.FrameType.{has_flag, ack_flag, padded_flag, data_type, headers_type, priority_type, rst_stream_type, settings_type, push_promise_type, ping_type, goaway_type, window_update_type, continuation_type}
+use Rattle.audit_terms.specs.declared.frames.Body.{Body}
+use Rattle.audit_terms.specs.declared.frames.Body.TheVariants.{Content, Headers, Priority, RstStream, Settings, SettingsAck, PushPromise, Ping, GoAway, WindowUpdate, Continuation, Unknown, Unreadable}
+use Rattle.audit_terms.specs.declared.kinds.Kind.TheVariants.{WrongSize, BadPadding, BadPriority}
+use Rattle.audit_terms.specs.FrameType.{has_flag, ack_flag, padded_flag, data_type, headers_type, priority_type, rst_stream_type, settings_type, push_promise_type, ping_type, goaway_type, window_update_type, continuation_type}
 use Rattle.h2_frames.specs.Header.{number_of_31_bits}
 use Rattle.h2_frames.specs.Settings.{settings_of}
 

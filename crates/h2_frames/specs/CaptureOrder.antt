@@ -2,10 +2,10 @@
 use Rattle.std.specs.Prelude.{ℕ, ◌+◌, ◌-◌, Bool, ◌==◌, ◌&&◌, ◌||◌, nat_lt, List, [], ◌∷◌, ◌++◌, unwrap_or}
 use Rattle.tcp_streams.specs.declared.streams.Arrival.{Arrival}
 use Rattle.tcp_streams.specs.Flow.{entry_at}
-use Rattle.audit_core.specs.declared.sides.Side.{Side}
-use Rattle.audit_core.specs.declared.frames.Frame.{Frame}
-use Rattle.audit_core.specs.Side.{side_order}
-use Rattle.audit_core.specs.Order.{ordered_by}
+use Rattle.audit_terms.specs.declared.sides.Side.{Side}
+use Rattle.audit_terms.specs.declared.frames.Frame.{Frame}
+use Rattle.audit_terms.specs.Side.{side_order}
+use Rattle.audit_terms.specs.Order.{ordered_by}
 use Rattle.h2_frames.specs.declared.spelling.Spelled.{Spelled}
 
 -- the entry at which the byte at this offset arrives; each byte of a flow has one

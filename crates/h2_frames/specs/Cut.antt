@@ -2,9 +2,9 @@
 -- order: no handshake, no preface, not HTTP/2, HTTP/2.
 use Rattle.std.specs.Prelude.{◌≡◌, ℕ, ◌∷◌, [], List, length, IsTrue, IsFalse}
 use Rattle.tcp_streams.specs.declared.streams.Flow.{Flow}
-use Rattle.audit_core.specs.declared.sides.Side.TheVariants.{Client, Server}
-use Rattle.audit_core.specs.declared.frames.Frame.{Frame}
-use Rattle.audit_core.specs.Frame.{IsOrderly}
+use Rattle.audit_terms.specs.declared.sides.Side.TheVariants.{Client, Server}
+use Rattle.audit_terms.specs.declared.frames.Frame.{Frame}
+use Rattle.audit_terms.specs.Frame.{IsOrderly}
 use Rattle.h2_frames.specs.declared.connections.Cut.{Cut}
 use Rattle.h2_frames.specs.declared.connections.Cut.TheVariants.{Http2, NotHttp2, NoPreface, NoHandshake}
 use Rattle.h2_frames.specs.declared.spelling.Spelled.{Spelled}

@@ -2,7 +2,7 @@
 use Rattle.std.specs.Prelude.{ℕ, ◌-◌, ◌^◌, ◌&&◌, drop, Bool, true, not, ◌==◌, nat_le, if◌then◌else◌, List, [], ◌∷◌, Option, None, Some, option_map, find}
 use Rattle.std.specs.Option.{option_or}
 use Rattle.byteorder.specs.Endian.{big_number}
-use Rattle.audit_core.specs.declared.frames.Settings.{Settings}
+use Rattle.audit_terms.specs.declared.frames.Settings.{Settings}
 use Rattle.h2_frames.specs.declared.settings.Setting.{Setting}
 
 -- an identifier of 16 bits and a value of 32

@@ -1,9 +1,9 @@
 -- What single steps of the code leave. No public clause cites these.
 use Rattle.std.specs.Prelude.{ℕ, ◌<◌, ◌^◌, List, [], ◌∷◌, nat_lt, ◌&&◌, not, ◌==◌, if◌then◌else◌, Some, is_none}
 use Rattle.tcp_streams.specs.declared.streams.Arrival.{Arrival}
-use Rattle.audit_core.specs.declared.frames.Frame.{Frame}
-use Rattle.audit_core.specs.declared.frames.Settings.{Settings}
-use Rattle.audit_core.specs.Frame.{promised_in}
+use Rattle.audit_terms.specs.declared.frames.Frame.{Frame}
+use Rattle.audit_terms.specs.declared.frames.Settings.{Settings}
+use Rattle.audit_terms.specs.Frame.{promised_in}
 use Rattle.h2_frames.specs.declared.settings.Setting.{Setting}
 use Rattle.h2_frames.specs.Settings.{is_in_range}
 

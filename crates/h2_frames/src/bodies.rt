@@ -1,11 +1,11 @@
 ghost use Rattle.std.specs.Prelude.{◌≡◌, ◌+◌, ◌-◌, ◌<◌, ◌≤◌, ◌^◌, length};
-ghost use Rattle.audit_core.specs.Frame.{promised_in};
-ghost use Rattle.audit_core.specs.FrameType.{has_flag};
+ghost use Rattle.audit_terms.specs.Frame.{promised_in};
+ghost use Rattle.audit_terms.specs.FrameType.{has_flag};
 ghost use Rattle.h2_frames.specs.Body.{body_of, data_body, field_block_body, go_away_body, headers_body, of_length, priority_body, push_promise_body, settings_body, window_update_body, wrong_size};
 
 use crate::headers::number_of_31_bits;
 use crate::settings::{SETTING_LENGTH, settings_of};
-use audit_core::{Body, Kind};
+use audit_terms::{Body, Kind};
 
 #[cfg(test)]
 mod tests;

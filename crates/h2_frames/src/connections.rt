@@ -1,4 +1,4 @@
-use audit_core::Frame;
+use audit_terms::Frame;
 
 /// What the two flows of a connection hold.
 #[derive(Debug, Drop)]

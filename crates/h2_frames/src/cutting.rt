@@ -8,7 +8,7 @@ use crate::connections::Cut;
 use crate::one_side::captured_frames;
 use crate::opening::{Opening, PREFACE, opening_of};
 use crate::order::in_capture_order;
-use audit_core::Side;
+use audit_terms::Side;
 use std::alloc::{AllocError, Global};
 use tcp_streams::Flow;
 

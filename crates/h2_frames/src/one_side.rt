@@ -8,7 +8,7 @@ ghost use Rattle.h2_frames.specs.Steps.{IsReadable, arrivals_from};
 
 use crate::headers::HEADER_LENGTH;
 use crate::spelling::{Spelled, first_frame};
-use audit_core::{Frame, Side};
+use audit_terms::{Frame, Side};
 use std::alloc::{AllocError, Global};
 use tcp_streams::Arrival;
 

@@ -2,7 +2,7 @@ ghost use Rattle.std.specs.Prelude.{◌≡◌, ◌+◌, ◌<◌, ◌^◌, length
 ghost use Rattle.itertools.specs.List.{merge_by};
 ghost use Rattle.h2_frames.specs.CaptureOrder.{comes_after, numbered};
 
-use audit_core::Frame;
+use audit_terms::Frame;
 use itertools::Itertools;
 use std::alloc::{AllocError, Global};
 

@@ -2,7 +2,7 @@ ghost use Rattle.std.specs.Prelude.{◌≡◌, ◌≤◌, length};
 ghost use Rattle.h2_frames.specs.Settings.{is_in_range, setting_at, settings_of};
 ghost use Rattle.h2_frames.specs.Steps.{with_setting};
 
-use audit_core::Settings;
+use audit_terms::Settings;
 use byteorder::{BigEndian, ByteOrder};
 
 /// SETTINGS_ENABLE_PUSH (RFC 9113, 6.5.2).

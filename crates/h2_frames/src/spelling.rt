@@ -1,10 +1,10 @@
 ghost use Rattle.std.specs.Prelude.{◌≡◌, ◌<◌, ◌^◌, ◌++◌, ℕ, List, length, IfSome, IfNone};
-ghost use Rattle.audit_core.specs.Frame.{promised_in};
+ghost use Rattle.audit_terms.specs.Frame.{promised_in};
 ghost use Rattle.h2_frames.specs.Spelling.{HoldsNoFrame, Makes};
 
 use crate::bodies::body_of;
 use crate::headers::{HEADER_LENGTH, Header};
-use audit_core::Body;
+use audit_terms::Body;
 
 /// A frame as its bytes spell it (RFC 9113, 4.1).
 #[derive(Clone, Copy, Debug, PartialEq, Eq)]

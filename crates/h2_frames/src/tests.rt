@@ -2,7 +2,7 @@ ghost use Rattle.std.specs.Prelude.{◌≡◌, IsTrue};
 ghost use Rattle.tcp_streams.specs.Arrivals.{IsOrderly};
 
 use crate::{Cut, cut};
-use audit_core::{Body, Frame, Side};
+use audit_terms::{Body, Frame, Side};
 use std::alloc::{AllocError, Global};
 use std::process::Abort;
 use std::test::Fail;

@@ -2,8 +2,8 @@
 use Rattle.std.proofs.Common.{◌≡◌, ◌∙◌, ℕ, Bool, ◌||◌, List, [], ◌∷◌, ◌++◌, filter, length, map, Option, Some, None, refl, sym, ap, ap₂, subst}
 use Rattle.std.specs.Prelude.{slice_index, not, if◌then◌else◌}
 use Rattle.std.specs.List.{list_any}
-use Rattle.audit_core.specs.declared.findings.Finding.{Finding}
-use Rattle.audit_core.specs.declared.frames.Frame.{Frame}
+use Rattle.audit_terms.specs.declared.findings.Finding.{Finding}
+use Rattle.audit_terms.specs.declared.frames.Frame.{Frame}
 use Rattle.audit_report.specs.declared.audited.Audited.{Audited}
 use Rattle.audit_report.specs.CaptureLine.{capture_line}
 use Rattle.audit_report.specs.RecordLines.{record_lines}
@@ -12,9 +12,9 @@ use Rattle.audit_report.specs.UnopenedLines.{unopened_lines}
 use Rattle.audit_report.specs.Contents.{Contents, Http2 as HoldsFrames, contents_of}
 use Rattle.audit_report.specs.Entry.{Entry, entry_of, entries_of, entries_text, extent_at}
 use Rattle.audit_report.specs.FlowLine.{Extent, extent_of}
-use Rattle.audit_core.specs.Finding.{upto_stop}
-use Rattle.audit_core.specs.Pass.{full}
-use Rattle.audit_core.specs.Shown.{is_shown_so_far}
+use Rattle.audit_terms.specs.Finding.{upto_stop}
+use Rattle.audit_terms.specs.Pass.{full}
+use Rattle.audit_terms.specs.Shown.{is_shown_so_far}
 use Rattle.h2_frames.specs.declared.connections.Cut.{Cut}
 use Rattle.h2_frames.specs.declared.connections.Cut.TheVariants.{Http2, NotHttp2, NoPreface, NoHandshake}
 use Rattle.h2_frames.specs.Cut.{IsSameCut}

@@ -9,7 +9,8 @@ ghost use Rattle.h2audit.specs.Audited.{AreAudited, IsAudited, IsFlowOf, finding
 ghost use Rattle.std.specs.List.{list_any};
 
 use crate::verdict::Verdict;
-use audit_core::{Finding, Side, one_pass};
+use audit_core::one_pass;
+use audit_terms::{Finding, Side};
 use audit_report::Audited;
 use h2_frames::{Cut, cut};
 use packet_heads::Packet;

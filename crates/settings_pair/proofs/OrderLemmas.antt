@@ -2,11 +2,11 @@
 use Rattle.std.proofs.Common.{◌≡◌, ℕ, ◌+◌, ◌≤◌, List, [], ◌∷◌, ◌++◌, Option, Some, None, length, drop, sym, ap, ◌∙◌, subst, arith}
 use Rattle.std.specs.Option.{option_to_list}
 use Rattle.std.proofs.lemmas.List.{append-nil, drop_all}
-use Rattle.audit_core.specs.declared.frames.Settings.{Settings}
-use Rattle.audit_core.specs.declared.frames.Frame.{Frame}
-use Rattle.audit_core.specs.declared.items.Change.{Change}
-use Rattle.audit_core.specs.Frame.{IsInRange, IsOrderlyFrom, IsOrderly}
-use Rattle.audit_core.specs.InForce.{InForce, initial_in_force, changes_of, taken, change_taking, in_force_after, changes_from}
+use Rattle.audit_terms.specs.declared.frames.Settings.{Settings}
+use Rattle.audit_terms.specs.declared.frames.Frame.{Frame}
+use Rattle.audit_terms.specs.declared.items.Change.{Change}
+use Rattle.audit_terms.specs.Frame.{IsInRange, IsOrderlyFrom, IsOrderly}
+use Rattle.audit_terms.specs.InForce.{InForce, initial_in_force, changes_of, taken, change_taking, in_force_after, changes_from}
 use Rattle.settings_pair.specs.Changes.{AreOrderlyFrom, AreOrderly}
 
 orderly-lower : (low lower : ℕ) (changes : List Change) → lower ≤ low → AreOrderlyFrom low changes → AreOrderlyFrom lower changes

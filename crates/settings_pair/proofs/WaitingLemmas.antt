@@ -2,17 +2,17 @@
 use Rattle.std.proofs.Common.{◌≡◌, ℕ, suc, zero, ◌+◌, ◌≤◌, Bool, true, false, ◌&&◌, if◌then◌else◌, List, [], ◌∷◌, ◌++◌, length, drop, slice_get, Option, Some, None, is_some, is_none, pos, refl, sym, ap, ◌∙◌, add-zero, arith}
 use Rattle.std.proofs.lemmas.List.{append-nil, drop-drop}
 use Rattle.std.proofs.lemmas.Option.{slice_get_within}
-use Rattle.audit_core.specs.declared.sides.Side.{Side}
-use Rattle.audit_core.specs.declared.sides.Side.TheVariants.{Client, Server}
-use Rattle.audit_core.specs.declared.frames.Settings.{Settings}
-use Rattle.audit_core.specs.declared.frames.Body.TheVariants.{SettingsAck}
-use Rattle.audit_core.specs.declared.frames.Frame.{Frame}
-use Rattle.audit_core.specs.Side.{other, is_side}
-use Rattle.audit_core.specs.Sides.{side_of}
-use Rattle.audit_core.specs.Frame.{settings_in}
-use Rattle.audit_core.specs.declared.kinds.Kind.TheVariants.{UnmatchedAck}
-use Rattle.audit_core.specs.Finding.{finding_at, say}
-use Rattle.audit_core.specs.InForce.{InForce, initial_in_force, taken, change_taking, change_of, in_force_after, settings_said}
+use Rattle.audit_terms.specs.declared.sides.Side.{Side}
+use Rattle.audit_terms.specs.declared.sides.Side.TheVariants.{Client, Server}
+use Rattle.audit_terms.specs.declared.frames.Settings.{Settings}
+use Rattle.audit_terms.specs.declared.frames.Body.TheVariants.{SettingsAck}
+use Rattle.audit_terms.specs.declared.frames.Frame.{Frame}
+use Rattle.audit_terms.specs.Side.{other, is_side}
+use Rattle.audit_terms.specs.Sides.{side_of}
+use Rattle.audit_terms.specs.Frame.{settings_in}
+use Rattle.audit_terms.specs.declared.kinds.Kind.TheVariants.{UnmatchedAck}
+use Rattle.audit_terms.specs.Finding.{finding_at, say}
+use Rattle.audit_terms.specs.InForce.{InForce, initial_in_force, taken, change_taking, change_of, in_force_after, settings_said}
 use Rattle.settings_pair.specs.declared.waiting.Waiting.{Waiting}
 use Rattle.settings_pair.specs.Waiting.{waiting_of, IsWaiting}
 

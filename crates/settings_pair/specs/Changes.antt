@@ -1,6 +1,6 @@
 -- Lists of changes, as the acknowledgements of a connection bring them.
 use Rattle.std.specs.Prelude.{ℕ, ◌+◌, ◌-◌, ◌^◌, ◌<◌, ◌≤◌, List, [], ◌∷◌}
-use Rattle.audit_core.specs.declared.items.Change.{Change}
+use Rattle.audit_terms.specs.declared.items.Change.{Change}
 
 -- each number below 2^28 - 1, the first `low` or above, each further one above the one before it
 abbrev pub AreOrderlyFrom : (low : ℕ) → List Change → Type 0

@@ -1,11 +1,11 @@
 -- The SETTINGS that wait for an acknowledgement, and how they stand to the positions that the settings in force count by.
 use Rattle.std.specs.Prelude.{◌≡◌, ◌≤◌, List, length, drop}
-use Rattle.audit_core.specs.declared.sides.Side.{Side}
-use Rattle.audit_core.specs.declared.sides.Side.TheVariants.{Client, Server}
-use Rattle.audit_core.specs.declared.frames.Settings.{Settings}
-use Rattle.audit_core.specs.Side.{other}
-use Rattle.audit_core.specs.Sides.{side_of}
-use Rattle.audit_core.specs.InForce.{InForce}
+use Rattle.audit_terms.specs.declared.sides.Side.{Side}
+use Rattle.audit_terms.specs.declared.sides.Side.TheVariants.{Client, Server}
+use Rattle.audit_terms.specs.declared.frames.Settings.{Settings}
+use Rattle.audit_terms.specs.Side.{other}
+use Rattle.audit_terms.specs.Sides.{side_of}
+use Rattle.audit_terms.specs.InForce.{InForce}
 use Rattle.settings_pair.specs.declared.waiting.Waiting.{Waiting}
 
 -- the queue of side d's SETTINGS

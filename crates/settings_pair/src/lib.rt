@@ -4,7 +4,7 @@
 //! Values count from the acknowledgement, for the frames of the side that acknowledges. [`pair`] gives one [`Change`]
 //! for each acknowledgement that has something to answer, and a finding of kind `UnmatchedAck` for each that has not.
 //!
-//! [`Change`]: audit_core::Change
+//! [`Change`]: audit_terms::Change
 #![tactic(auto)]
 
 mod pairing;

@@ -1,14 +1,14 @@
 ghost use Rattle.std.specs.Prelude.{◌≡◌, ◌++◌, pos, IfOk, OnOk};
 ghost use Rattle.std.specs.Option.{option_to_list};
-ghost use Rattle.audit_core.specs.Frame.{IsInRange, IsOrderly};
-ghost use Rattle.audit_core.specs.Change.{change_by};
-ghost use Rattle.audit_core.specs.InForce.{InForce, in_force_after, change_of, changes_of, settings_said, settings_run};
-ghost use Rattle.audit_core.specs.Finding.{finding_at};
+ghost use Rattle.audit_terms.specs.Frame.{IsInRange, IsOrderly};
+ghost use Rattle.audit_terms.specs.Change.{change_by};
+ghost use Rattle.audit_terms.specs.InForce.{InForce, in_force_after, change_of, changes_of, settings_said, settings_run};
+ghost use Rattle.audit_terms.specs.Finding.{finding_at};
 ghost use Rattle.settings_pair.specs.Changes.{AreOrderly};
 ghost use Rattle.settings_pair.specs.Waiting.{IsWaiting};
 
 use crate::waiting::Waiting;
-use audit_core::{Body, Change, Finding, Frame, Kind, Place, Settings};
+use audit_terms::{Body, Change, Finding, Frame, Kind, Place, Settings};
 use std::alloc::{AllocError, Global};
 
 /// What the acknowledgements of a connection's frames bring into force, and which of them answer nothing.

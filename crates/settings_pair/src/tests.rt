@@ -1,8 +1,8 @@
 ghost use Rattle.std.specs.Prelude.{◌≡◌, ◌<◌};
-ghost use Rattle.audit_core.specs.Frame.{IsInRange, promised_in};
+ghost use Rattle.audit_terms.specs.Frame.{IsInRange, promised_in};
 
 use crate::pair;
-use audit_core::{Body, Change, Finding, Frame, Kind, Place, Settings, Side};
+use audit_terms::{Body, Change, Finding, Frame, Kind, Place, Settings, Side};
 use std::test::Fail;
 
 /// A frame without payload.

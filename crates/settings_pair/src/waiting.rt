@@ -1,6 +1,6 @@
 ghost use Rattle.std.specs.Prelude.{◌≡◌, ℕ, [], ◌∷◌, ◌++◌, drop, slice_get, if◌then◌else◌, OnOk};
 
-use audit_core::{Settings, Side};
+use audit_terms::{Settings, Side};
 use std::alloc::{AllocError, Global};
 use std::collections::VecDeque;
 
@@ -12,8 +12,8 @@ pub(crate) struct Waiting {
 }
 
 impl Waiting {
-    ghost use Rattle.audit_core.specs.declared.sides.Side.{Side};
-    ghost use Rattle.audit_core.specs.Side.{is_side};
+    ghost use Rattle.audit_terms.specs.declared.sides.Side.{Side};
+    ghost use Rattle.audit_terms.specs.Side.{is_side};
     ghost use Rattle.settings_pair.specs.Waiting.{waiting_of};
 
     pub(crate) fn new(alloc: Global) -> Self

@@ -1,10 +1,10 @@
 -- The sweep from the back meets the stalls in reverse.
 use Rattle.std.proofs.Common.{◌≡◌, ℕ, ◌+◌, ◌-◌, ◌<◌, ◌≤◌, Bool, true, false, cond, if◌then◌else◌, List, [], ◌∷◌, ◌++◌, reverse, drop, length, get_or, refl, ap, subst, sym, ◌∙◌, arith, Option, Some, None}
 use Rattle.std.proofs.lemmas.List.{reverse-append, drop_more}
-use Rattle.audit_core.specs.declared.sides.Side.{Side}
-use Rattle.audit_core.specs.declared.findings.Finding.{Finding}
-use Rattle.audit_core.specs.declared.frames.Frame.{Frame}
-use Rattle.audit_core.specs.Place.{place_stream}
+use Rattle.audit_terms.specs.declared.sides.Side.{Side}
+use Rattle.audit_terms.specs.declared.findings.Finding.{Finding}
+use Rattle.audit_terms.specs.declared.frames.Frame.{Frame}
+use Rattle.audit_terms.specs.Place.{place_stream}
 use Rattle.split_merge.specs.Ends.{end_in, begun_by}
 use Rattle.split_merge.specs.Stalls.{is_stall_begin, is_end_of, first_end, stall_of, stalls}
 use Rattle.split_merge.specs.declared.ends.Ends.{Ends}

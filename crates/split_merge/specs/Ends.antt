@@ -1,11 +1,11 @@
 -- What a table of stall ends says.
 use Rattle.std.specs.Prelude.{ℕ, nat_eq, List, [], ◌∷◌, if◌then◌else◌, Option}
 use Rattle.std.specs.HashMap.{get}
-use Rattle.audit_core.specs.declared.sides.Side.{Side}
-use Rattle.audit_core.specs.declared.sides.Side.TheVariants.{Client, Server}
-use Rattle.audit_core.specs.declared.findings.Finding.{Finding}
-use Rattle.audit_core.specs.declared.frames.Frame.{Frame}
-use Rattle.audit_core.specs.Place.{place_stream}
+use Rattle.audit_terms.specs.declared.sides.Side.{Side}
+use Rattle.audit_terms.specs.declared.sides.Side.TheVariants.{Client, Server}
+use Rattle.audit_terms.specs.declared.findings.Finding.{Finding}
+use Rattle.audit_terms.specs.declared.frames.Frame.{Frame}
+use Rattle.audit_terms.specs.Place.{place_stream}
 use Rattle.split_merge.specs.Stalls.{is_stall_begin, stall_of}
 use Rattle.split_merge.specs.declared.ends.Ends.{Ends}
 use Rattle.split_merge.specs.declared.stalls.Stall.{Stall}

@@ -1,6 +1,6 @@
 -- The frame that a number names.
 use Rattle.std.specs.Prelude.{ℕ, ◌==◌, List, Option, find, option_map, unwrap_or}
-use Rattle.audit_core.specs.declared.frames.Frame.{Frame}
+use Rattle.audit_terms.specs.declared.frames.Frame.{Frame}
 
 -- the frame of this number, if it is among these
 abbrev pub frame_numbered : List Frame → ℕ → Option Frame

@@ -1,12 +1,12 @@
 -- Stalls (this profile's own notion): a window's credit was used up at one frame, and is above zero again from another.
 use Rattle.std.specs.Prelude.{ℕ, ℤ, pos, ◌-ℤ◌, ◌==◌, ◌&&◌, Bool, true, false, if◌then◌else◌, List, [], ◌∷◌, Option, Some, None, find}
-use Rattle.audit_core.specs.declared.sides.Side.{Side}
-use Rattle.audit_core.specs.declared.kinds.Kind.{Kind}
-use Rattle.audit_core.specs.declared.kinds.Kind.TheVariants.{ConnectionStallEnd, ConnectionStallBegin, StreamStallEnd, StreamStallBegin}
-use Rattle.audit_core.specs.declared.findings.Finding.{Finding}
-use Rattle.audit_core.specs.declared.frames.Frame.{Frame}
-use Rattle.audit_core.specs.Side.{is_side}
-use Rattle.audit_core.specs.Place.{place_number, place_stream}
+use Rattle.audit_terms.specs.declared.sides.Side.{Side}
+use Rattle.audit_terms.specs.declared.kinds.Kind.{Kind}
+use Rattle.audit_terms.specs.declared.kinds.Kind.TheVariants.{ConnectionStallEnd, ConnectionStallBegin, StreamStallEnd, StreamStallBegin}
+use Rattle.audit_terms.specs.declared.findings.Finding.{Finding}
+use Rattle.audit_terms.specs.declared.frames.Frame.{Frame}
+use Rattle.audit_terms.specs.Side.{is_side}
+use Rattle.audit_terms.specs.Place.{place_number, place_stream}
 use Rattle.split_merge.specs.FrameLookup.{nanos_at}
 use Rattle.split_merge.specs.declared.stalls.Stall.{Stall}
 

@@ -1,9 +1,9 @@
 ghost use Rattle.std.specs.Prelude.{◌≡◌, ℕ, ◌==◌, ◌&&◌, OnOk, None, Some, if◌then◌else◌};
-ghost use Rattle.audit_core.specs.declared.sides.Side.{Side};
-ghost use Rattle.audit_core.specs.Side.{is_side};
-ghost use Rattle.audit_core.specs.Place.{place_stream};
+ghost use Rattle.audit_terms.specs.declared.sides.Side.{Side};
+ghost use Rattle.audit_terms.specs.Side.{is_side};
+ghost use Rattle.audit_terms.specs.Place.{place_stream};
 
-use audit_core::{Finding, Side};
+use audit_terms::{Finding, Side};
 use std::alloc::{AllocError, Global};
 use std::collections::HashMap;
 

@@ -1,8 +1,8 @@
 ghost use Rattle.std.specs.Prelude.{◌≡◌, ◌<◌, ◌^◌, IfSome};
-ghost use Rattle.audit_core.specs.Frame.{IsOrderly};
+ghost use Rattle.audit_terms.specs.Frame.{IsOrderly};
 ghost use Rattle.split_merge.specs.FrameLookup.{frame_numbered};
 
-use audit_core::Frame;
+use audit_terms::Frame;
 
 /// The frame of this number, found by halving.
 pub fn frame_at(frames: &[Frame], number: u32) -> Option<Frame>

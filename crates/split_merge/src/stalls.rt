@@ -1,14 +1,14 @@
 ghost use Rattle.std.specs.Prelude.{◌≡◌, ℕ, ◌++◌, if◌then◌else◌, IfOk, OnOk, pos, Some};
-ghost use Rattle.audit_core.specs.Frame.{IsOrderly};
-ghost use Rattle.audit_core.specs.Place.{place_stream};
+ghost use Rattle.audit_terms.specs.Frame.{IsOrderly};
+ghost use Rattle.audit_terms.specs.Place.{place_stream};
 ghost use Rattle.split_merge.specs.FrameLookup.{nanos_at};
 ghost use Rattle.split_merge.specs.Stalls.{is_stall_begin, is_stall_end, is_end_of, stall_of, stalls};
 ghost use Rattle.split_merge.specs.Ends.{end_in, begun_by};
-ghost use Rattle.audit_core.specs.declared.sides.Side.{Side};
+ghost use Rattle.audit_terms.specs.declared.sides.Side.{Side};
 
 use crate::ends::Ends;
 use crate::lookup::frame_at;
-use audit_core::{Finding, Frame, Kind, Side};
+use audit_terms::{Finding, Frame, Kind, Side};
 use std::alloc::{AllocError, Global};
 
 /// A time during which a window had no credit.

@@ -1,21 +1,21 @@
 -- What a stream's life says of a frame is what the definition says of it.
 use Rattle.std.proofs.Common.{◌≡◌, ℕ, ℤ, pos, List, ◌++◌, append_assoc, ◌+◌, ◌-◌, ◌*◌, ◌^◌, ◌<◌, ◌≤◌, Bool, true, false, ◌&&◌, ◌||◌, not, if◌then◌else◌, Option, Some, None, is_some, is_none, refl, sym, ap, ◌∙◌, arith}
 use Rattle.std.proofs.lemmas.Int.{ints}
-use Rattle.audit_core.specs.declared.sides.Side.{Side}
-use Rattle.audit_core.specs.declared.sides.Side.TheVariants.{Client, Server}
-use Rattle.audit_core.specs.declared.frames.Frame.{Frame}
-use Rattle.audit_core.specs.declared.items.Step.{Step}
-use Rattle.audit_core.specs.Sides.{side_of}
-use Rattle.audit_core.specs.Stream.{opens, frame_said, stream_after}
+use Rattle.audit_terms.specs.declared.sides.Side.{Side}
+use Rattle.audit_terms.specs.declared.sides.Side.TheVariants.{Client, Server}
+use Rattle.audit_terms.specs.declared.frames.Frame.{Frame}
+use Rattle.audit_terms.specs.declared.items.Step.{Step}
+use Rattle.audit_terms.specs.Sides.{side_of}
+use Rattle.audit_terms.specs.Stream.{opens, frame_said, stream_after}
 use Rattle.stream_life.specs.declared.lives.LifeOutcome.{LifeOutcome}
 use Rattle.stream_life.specs.declared.lives.LifeOutcome.TheVariants.{Opened, Moved, AfterEnd, NotOpened, Nothing}
 use Rattle.stream_life.specs.Life.{StreamLife, is_opening, is_not_opened, is_after_end, outcome_of, life_after}
 use Rattle.stream_credit.specs.declared.accounts.Account.{Account}
-use Rattle.audit_core.specs.declared.kinds.Kind.TheVariants.{NotOpened as NotOpenedKind, AfterEnd as AfterEndKind, ZeroStreamGrant}
-use Rattle.audit_core.specs.declared.findings.Finding.{Finding}
-use Rattle.audit_core.specs.Finding.{finding_at, say, say_of}
-use Rattle.audit_core.specs.Frame.{is_zero_grant}
-use Rattle.audit_core.specs.Room.{WindowHasRoom}
+use Rattle.audit_terms.specs.declared.kinds.Kind.TheVariants.{NotOpened as NotOpenedKind, AfterEnd as AfterEndKind, ZeroStreamGrant}
+use Rattle.audit_terms.specs.declared.findings.Finding.{Finding}
+use Rattle.audit_terms.specs.Finding.{finding_at, say, say_of}
+use Rattle.audit_terms.specs.Frame.{is_zero_grant}
+use Rattle.audit_terms.specs.code.Room.{WindowHasRoom}
 use Rattle.stream_credit.specs.Outcome as outcome
 use Rattle.stream_credit.specs.Account.{entry_of, IsSound}
 

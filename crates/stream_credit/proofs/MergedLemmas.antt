@@ -4,11 +4,11 @@ use Rattle.std.specs.List.{AllByRecursion}
 use Rattle.std.proofs.lemmas.Bool.{cases_order}
 use Rattle.std.proofs.lemmas.Option.{same_Some}
 use Rattle.std.proofs.lemmas.Bool.Decides.{nat_tests}
-use Rattle.audit_core.specs.declared.frames.Frame.{Frame}
-use Rattle.audit_core.specs.declared.items.Change.{Change}
-use Rattle.audit_core.specs.declared.items.Step.{Step}
-use Rattle.audit_core.specs.Frame.{IsInRange, IsOrderlyFrom}
-use Rattle.audit_core.specs.Run.{frame_step, change_step, with_change, steps_of}
+use Rattle.audit_terms.specs.declared.frames.Frame.{Frame}
+use Rattle.audit_terms.specs.declared.items.Change.{Change}
+use Rattle.audit_terms.specs.declared.items.Step.{Step}
+use Rattle.audit_terms.specs.Frame.{IsInRange, IsOrderlyFrom}
+use Rattle.audit_terms.specs.Run.{frame_step, change_step, with_change, steps_of}
 use Rattle.settings_pair.specs.Changes.{AreOrderlyFrom}
 use Rattle.stream_credit.specs.Merged.{joined_step, merged_at, merged, IsStepOn, AreStepsFrom}
 

@@ -1,15 +1,15 @@
 -- The ends of the walk over a stream's steps.
 use Rattle.std.proofs.Common.{◌≡◌, ◌++◌, ℕ, List, [], sym, ap, ◌∙◌}
 use Rattle.std.proofs.lemmas.List.{append-nil}
-use Rattle.audit_core.specs.declared.sides.Sides.{Sides}
-use Rattle.audit_core.specs.declared.frames.Frame.{Frame}
-use Rattle.audit_core.specs.declared.items.Change.{Change}
-use Rattle.audit_core.specs.declared.items.Step.{Step}
-use Rattle.audit_core.specs.declared.streams.Stream.{Stream}
-use Rattle.audit_core.specs.declared.findings.Finding.{Finding}
-use Rattle.audit_core.specs.InForce.{initial_in_force}
-use Rattle.audit_core.specs.Stream.{idle_stream, stream_run_from, stream_after_all}
-use Rattle.audit_core.specs.Run.{stream_run, stream_at_end}
+use Rattle.audit_terms.specs.declared.sides.Sides.{Sides}
+use Rattle.audit_terms.specs.declared.frames.Frame.{Frame}
+use Rattle.audit_terms.specs.declared.items.Change.{Change}
+use Rattle.audit_terms.specs.declared.items.Step.{Step}
+use Rattle.audit_terms.specs.declared.streams.Stream.{Stream}
+use Rattle.audit_terms.specs.declared.findings.Finding.{Finding}
+use Rattle.audit_terms.specs.InForce.{initial_in_force}
+use Rattle.audit_terms.specs.Stream.{idle_stream, stream_run_from, stream_after_all}
+use Rattle.audit_terms.specs.Run.{stream_run, stream_at_end}
 use Rattle.settings_pair.specs.Changes.{AreOrderly}
 use Rattle.stream_credit.specs.Merged.{merged}
 use Rattle.stream_credit.proofs.MergedLemmas.{steps_of-merged}

@@ -1,11 +1,11 @@
 -- A stream between two of its steps, as the run keeps it, beside the entry of the definition.
 use Rattle.std.specs.Prelude.{◌≡◌, ℕ, ◌*◌, ◌^◌, ◌<◌}
-use Rattle.audit_core.specs.declared.sides.Side.{Side}
-use Rattle.audit_core.specs.declared.items.Step.{Step}
-use Rattle.audit_core.specs.declared.streams.Stream.{Stream}
-use Rattle.audit_core.specs.Sides.{side_of}
-use Rattle.audit_core.specs.Stream.{stream_after}
-use Rattle.audit_core.specs.Room.{WindowHasRoom}
+use Rattle.audit_terms.specs.declared.sides.Side.{Side}
+use Rattle.audit_terms.specs.declared.items.Step.{Step}
+use Rattle.audit_terms.specs.declared.streams.Stream.{Stream}
+use Rattle.audit_terms.specs.Sides.{side_of}
+use Rattle.audit_terms.specs.Stream.{stream_after}
+use Rattle.audit_terms.specs.code.Room.{WindowHasRoom}
 use Rattle.stream_credit.specs.declared.accounts.Account.{Account}
 
 -- the opening and the ends by the stream's life, and the windows

@@ -1,11 +1,11 @@
 -- The steps of a stream by one forward walk over its frames and the connection's changes.
 use Rattle.std.specs.Prelude.{◌≡◌, ℕ, ◌+◌, ◌-◌, ◌^◌, ◌<◌, ◌≤◌, ◌==◌, nat_lt, if◌then◌else◌, List, [], ◌∷◌, map, Some}
 use Rattle.std.specs.Option.{ForSome}
-use Rattle.audit_core.specs.declared.frames.Frame.{Frame}
-use Rattle.audit_core.specs.declared.items.Change.{Change}
-use Rattle.audit_core.specs.declared.items.Step.{Step}
-use Rattle.audit_core.specs.Frame.{IsInRange}
-use Rattle.audit_core.specs.Run.{frame_step, change_step}
+use Rattle.audit_terms.specs.declared.frames.Frame.{Frame}
+use Rattle.audit_terms.specs.declared.items.Change.{Change}
+use Rattle.audit_terms.specs.declared.items.Step.{Step}
+use Rattle.audit_terms.specs.Frame.{IsInRange}
+use Rattle.audit_terms.specs.Run.{frame_step, change_step}
 
 -- a frame with the change that it brings
 abbrev pub joined_step : Frame → Change → Step

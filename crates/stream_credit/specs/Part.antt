@@ -1,7 +1,7 @@
 -- What a stream's part of a connection holds.
 use Rattle.std.specs.Prelude.{◌≡◌, ◌^◌, ◌<◌, All}
-use Rattle.audit_core.specs.declared.frames.Frame.{Frame}
-use Rattle.audit_core.specs.Frame.{IsOrderly}
+use Rattle.audit_terms.specs.declared.frames.Frame.{Frame}
+use Rattle.audit_terms.specs.Frame.{IsOrderly}
 use Rattle.stream_credit.specs.declared.parts.StreamPart.{StreamPart}
 
 -- a stream other than 0, and frames that are all on it, their numbers strictly rising

@@ -1,15 +1,15 @@
 ghost use Rattle.std.specs.Prelude.{◌≡◌, ℕ, ◌+◌, ◌^◌, ◌<◌, ◌++◌, ◌&&◌, is_some, OnOk, IfOk};
-ghost use Rattle.audit_core.specs.Frame.{is_zero_grant};
-ghost use Rattle.audit_core.specs.Finding.{say_of};
-ghost use Rattle.audit_core.specs.InForce.{initial_in_force};
-ghost use Rattle.audit_core.specs.Stream.{idle_stream, opens, frame_said, initial_after, stream_after, stream_said};
+ghost use Rattle.audit_terms.specs.Frame.{is_zero_grant};
+ghost use Rattle.audit_terms.specs.Finding.{say_of};
+ghost use Rattle.audit_terms.specs.InForce.{initial_in_force};
+ghost use Rattle.audit_terms.specs.Stream.{idle_stream, opens, frame_said, initial_after, stream_after, stream_said};
 ghost use Rattle.stream_credit.specs.Account.{entry_of, IsSound, KeepsLife};
 ghost use Rattle.stream_credit.specs.Merged.{IsStepOn};
 ghost use Rattle.stream_credit.specs.Outcome.{is_opened, is_not_opened, is_after_end};
 
-use audit_core::findings::say_if;
-use audit_core::windows::{initial_after, say_window};
-use audit_core::{Finding, Frame, Kind, Side, Sides, Step};
+use audit_terms::say_if;
+use audit_terms::{initial_after, say_window};
+use audit_terms::{Finding, Frame, Kind, Side, Sides, Step};
 use std::alloc::AllocError;
 use stream_life::{Life, LifeOutcome};
 

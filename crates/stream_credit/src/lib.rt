@@ -2,7 +2,7 @@
 //! 0, and the credit, overruns, overflows and stalls of its two windows.
 //!
 //! A [`StreamPart`] has the frames of one stream. Settings change the windows of every stream, so [`stream_run`] takes all
-//! changes of the connection beside them (RFC 9113, 6.9.2). Its findings are the run of the stream as `audit_core` defines
+//! changes of the connection beside them (RFC 9113, 6.9.2). Its findings are the run of the stream as `audit_terms` defines
 //! it, over the whole of the part: it knows no stop.
 #![tactic(auto)]
 

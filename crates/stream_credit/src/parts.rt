@@ -1,4 +1,4 @@
-use audit_core::{Finding, Frame};
+use audit_terms::{Finding, Frame};
 
 /// The frames of one stream, in order.
 #[derive(Drop)]

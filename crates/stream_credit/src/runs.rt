@@ -1,12 +1,12 @@
 ghost use Rattle.std.specs.Prelude.{◌≡◌, IfOk};
-ghost use Rattle.audit_core.specs.Run.{stream_run, stream_at_end};
+ghost use Rattle.audit_terms.specs.Run.{stream_run, stream_at_end};
 ghost use Rattle.settings_pair.specs.Changes.{AreOrderly};
 ghost use Rattle.stream_credit.specs.Part.{IsPart};
 
 use crate::accounts::Account;
 use crate::parts::{StreamPart, StreamRun};
 use crate::steps::Steps;
-use audit_core::{Change, put_in_order};
+use audit_terms::{Change, put_in_order};
 use std::alloc::{AllocError, Global};
 
 /// The findings of one stream, from its frames and all changes of its connection, and its opening.

@@ -1,9 +1,9 @@
 ghost use Rattle.std.specs.Prelude.{◌≡◌};
 ghost use Rattle.std.specs.Iterator.{YieldsFirst, item_count};
-ghost use Rattle.audit_core.specs.Run.{frame_step, change_step};
+ghost use Rattle.audit_terms.specs.Run.{frame_step, change_step};
 ghost use Rattle.stream_credit.specs.Merged.{joined_step, merged};
 
-use audit_core::{Change, Frame, Step};
+use audit_terms::{Change, Frame, Step};
 use std::cmp::Ordering;
 
 /// The steps of a stream: its frames and the connection's changes, by number.

@@ -1,9 +1,9 @@
 ghost use Rattle.std.specs.Prelude.{◌≡◌, ◌^◌, ◌<◌, All};
-ghost use Rattle.audit_core.specs.Frame.{IsInRange, IsOrderly, promised_in};
+ghost use Rattle.audit_terms.specs.Frame.{IsInRange, IsOrderly, promised_in};
 ghost use Rattle.settings_pair.specs.Changes.{AreOrderly};
 
 use crate::{StreamPart, StreamRun, stream_run};
-use audit_core::{Body, Change, Finding, Frame, Kind, Place, Side};
+use audit_terms::{Body, Change, Finding, Frame, Kind, Place, Side};
 use std::alloc::{AllocError, Global};
 use std::test::Fail;
 

@@ -2,19 +2,19 @@
 use Rattle.std.proofs.Common.{◌≡◌, ℕ, ℤ, pos, ◌%◌, Bool, true, false, ◌==◌, ◌&&◌, ◌||◌, not, if◌then◌else◌, nat_lt, List, [], ◌∷◌, ◌++◌, Option, Some, None, is_some, is_none, refl, sym, ap, ◌∙◌, subst}
 use Rattle.std.specs.Option.{option_map_or, option_to_list, ForSome}
 use Rattle.std.proofs.lemmas.Option.{none-some, same_Some}
-use Rattle.audit_core.specs.declared.sides.Side.{Side}
-use Rattle.audit_core.specs.declared.sides.Side.TheVariants.{Client, Server}
-use Rattle.audit_core.specs.declared.sides.Sides.{Sides}
-use Rattle.audit_core.specs.declared.frames.Frame.{Frame}
-use Rattle.audit_core.specs.declared.items.Change.{Change}
-use Rattle.audit_core.specs.declared.items.Step.{Step}
-use Rattle.audit_core.specs.declared.streams.Stream.{Stream}
-use Rattle.audit_core.specs.Side.{is_side}
-use Rattle.audit_core.specs.Sides.{side_of, each_side}
-use Rattle.audit_core.specs.Frame.{is_reset, is_headers, sends_end}
-use Rattle.audit_core.specs.InForce.{initial_in_force}
-use Rattle.audit_core.specs.Stream.{idle_stream, opens, is_overflowing_grant, counted, window_at_opening, window_after, initial_after, stream_after, stream_after_all}
-use Rattle.audit_core.specs.Run.{change_step, with_change, steps_of, stream_at_end}
+use Rattle.audit_terms.specs.declared.sides.Side.{Side}
+use Rattle.audit_terms.specs.declared.sides.Side.TheVariants.{Client, Server}
+use Rattle.audit_terms.specs.declared.sides.Sides.{Sides}
+use Rattle.audit_terms.specs.declared.frames.Frame.{Frame}
+use Rattle.audit_terms.specs.declared.items.Change.{Change}
+use Rattle.audit_terms.specs.declared.items.Step.{Step}
+use Rattle.audit_terms.specs.declared.streams.Stream.{Stream}
+use Rattle.audit_terms.specs.Side.{is_side}
+use Rattle.audit_terms.specs.Sides.{side_of, each_side}
+use Rattle.audit_terms.specs.Frame.{is_reset, is_headers, sends_end}
+use Rattle.audit_terms.specs.InForce.{initial_in_force}
+use Rattle.audit_terms.specs.Stream.{idle_stream, opens, is_overflowing_grant, counted, window_at_opening, window_after, initial_after, stream_after, stream_after_all}
+use Rattle.audit_terms.specs.Run.{change_step, with_change, steps_of, stream_at_end}
 use Rattle.stream_life.specs.Life.{StreamLife, idle_life, is_opening, is_live_after, life_after_all}
 use Rattle.stream_life.specs.Entry.{overflows_over, has_overflowed, IsSameLife, LifeIsTheEntry}
 

@@ -1,16 +1,16 @@
 -- The life of a stream beside the entry that the pass keeps of it (RFC 9113, 5.1, 6.9.1).
 use Rattle.std.specs.Prelude.{◌≡◌, ℕ, Bool, false, ◌&&◌, ◌||◌, not, List, [], ◌∷◌, is_some}
 use Rattle.std.specs.Option.{option_map_or}
-use Rattle.audit_core.specs.declared.sides.Side.{Side}
-use Rattle.audit_core.specs.declared.sides.Sides.{Sides}
-use Rattle.audit_core.specs.declared.frames.Frame.{Frame}
-use Rattle.audit_core.specs.declared.items.Change.{Change}
-use Rattle.audit_core.specs.declared.items.Step.{Step}
-use Rattle.audit_core.specs.declared.streams.Stream.{Stream}
-use Rattle.audit_core.specs.Sides.{side_of}
-use Rattle.audit_core.specs.InForce.{initial_in_force}
-use Rattle.audit_core.specs.Stream.{idle_stream, is_overflowing_grant, initial_after, stream_after}
-use Rattle.audit_core.specs.Run.{steps_of, stream_at_end}
+use Rattle.audit_terms.specs.declared.sides.Side.{Side}
+use Rattle.audit_terms.specs.declared.sides.Sides.{Sides}
+use Rattle.audit_terms.specs.declared.frames.Frame.{Frame}
+use Rattle.audit_terms.specs.declared.items.Change.{Change}
+use Rattle.audit_terms.specs.declared.items.Step.{Step}
+use Rattle.audit_terms.specs.declared.streams.Stream.{Stream}
+use Rattle.audit_terms.specs.Sides.{side_of}
+use Rattle.audit_terms.specs.InForce.{initial_in_force}
+use Rattle.audit_terms.specs.Stream.{idle_stream, is_overflowing_grant, initial_after, stream_after}
+use Rattle.audit_terms.specs.Run.{steps_of, stream_at_end}
 use Rattle.stream_life.specs.Life.{StreamLife, idle_life, life_after_all}
 
 -- does some step grant the live window of side d more than the largest window holds?

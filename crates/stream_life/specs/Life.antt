@@ -1,13 +1,13 @@
 -- The life of one stream, by its frames alone: its opening, its ends, and which windows live (RFC 9113, 5.1, 5.1.1).
 use Rattle.std.specs.Prelude.{ℕ, ◌%◌, Bool, false, ◌==◌, ◌&&◌, ◌||◌, not, if◌then◌else◌, List, [], ◌∷◌, Option, Some, None, is_some, is_none}
-use Rattle.audit_core.specs.declared.sides.Side.{Side}
-use Rattle.audit_core.specs.declared.sides.Side.TheVariants.{Client, Server}
-use Rattle.audit_core.specs.declared.sides.Sides.{Sides}
-use Rattle.audit_core.specs.declared.frames.Frame.{Frame}
-use Rattle.audit_core.specs.Side.{is_side}
-use Rattle.audit_core.specs.Sides.{side_of, each_side}
-use Rattle.audit_core.specs.Frame.{is_content, is_headers, is_reset, sends_end, sends_reset}
-use Rattle.audit_core.specs.Stream.{needs_opening}
+use Rattle.audit_terms.specs.declared.sides.Side.{Side}
+use Rattle.audit_terms.specs.declared.sides.Side.TheVariants.{Client, Server}
+use Rattle.audit_terms.specs.declared.sides.Sides.{Sides}
+use Rattle.audit_terms.specs.declared.frames.Frame.{Frame}
+use Rattle.audit_terms.specs.Side.{is_side}
+use Rattle.audit_terms.specs.Sides.{side_of, each_side}
+use Rattle.audit_terms.specs.Frame.{is_content, is_headers, is_reset, sends_end, sends_reset}
+use Rattle.audit_terms.specs.Stream.{needs_opening}
 use Rattle.stream_life.specs.declared.lives.LifeOutcome.{LifeOutcome}
 use Rattle.stream_life.specs.declared.lives.LifeOutcome.TheVariants.{Opened, Moved, AfterEnd, NotOpened, Nothing}
 

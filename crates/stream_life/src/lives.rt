@@ -1,9 +1,9 @@
 ghost use Rattle.std.specs.Prelude.{◌≡◌, ℕ, ◌^◌, ◌<◌, Option};
-ghost use Rattle.audit_core.specs.Sides.{side_of};
-ghost use Rattle.audit_core.specs.Stream.{needs_opening};
+ghost use Rattle.audit_terms.specs.Sides.{side_of};
+ghost use Rattle.audit_terms.specs.Stream.{needs_opening};
 ghost use Rattle.stream_life.specs.Life.{StreamLife, idle_life, is_opening, ends_side, is_live_after, is_after_end, ends_window, life_after, outcome_of};
 
-use audit_core::{Frame, Side, Sides};
+use audit_terms::{Frame, Side, Sides};
 use std::marker::Model;
 
 /// What a frame is to the life of its stream.

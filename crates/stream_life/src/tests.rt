@@ -1,7 +1,7 @@
 ghost use Rattle.std.specs.Prelude.{◌≡◌};
 
 use crate::{Life, LifeOutcome};
-use audit_core::{Body, Frame, Side};
+use audit_terms::{Body, Frame, Side};
 
 /// A frame on a stream, with flags.
 fn frame(number: u32, side: Side, stream: u32, flags: u8, body: Body) -> Frame

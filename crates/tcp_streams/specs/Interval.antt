@@ -1,7 +1,7 @@
 -- The intervals that `assemble` works with: runs of offsets, each from one segment. In no public clause.
 use Rattle.std.specs.Prelude.{◌≡◌, ℕ, suc, ◌+◌, ◌-◌, ◌<◌, ◌≤◌, ◌^◌, ◌==◌, Bool, ◌&&◌, nat_lt, nat_le, min, max, if◌then◌else◌, List, [], ◌∷◌, ◌++◌, Option, None, Some, IfSome, option_and_then, sum_by}
 use Rattle.std.specs.List.{slice_range}
-use Rattle.audit_core.specs.declared.sides.Side.{Side}
+use Rattle.audit_terms.specs.declared.sides.Side.{Side}
 use Rattle.packet_heads.specs.declared.packets.Packet.{Packet}
 use Rattle.packet_heads.specs.declared.packets.Packet.TheVariants.{Segment as Carried, Skipped, Refused}
 use Rattle.packet_heads.specs.declared.packets.Segment.{Segment}

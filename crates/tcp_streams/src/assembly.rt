@@ -10,7 +10,7 @@ use crate::members::Connection;
 use crate::overlay::settle;
 use crate::pieces::pieces_of;
 use crate::streams::Flow;
-use audit_core::Side;
+use audit_terms::Side;
 use packet_heads::Packet;
 use std::alloc::{AllocError, Global};
 

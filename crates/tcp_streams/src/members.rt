@@ -1,6 +1,6 @@
 ghost use Rattle.std.specs.Prelude.{◌≡◌, ◌+◌, ◌<◌, ◌^◌, IsTrue, ◌↔◌, IfOk, OnOk};
 
-use audit_core::Side;
+use audit_terms::Side;
 use packet_heads::{Endpoint, Segment};
 use std::alloc::{AllocError, Global};
 

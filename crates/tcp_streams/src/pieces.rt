@@ -6,7 +6,7 @@ ghost use Rattle.tcp_streams.specs.Packets.{segment_of};
 
 use crate::interval::{END_OF_OFFSETS, Interval};
 use crate::members::Connection;
-use audit_core::Side;
+use audit_terms::Side;
 use packet_heads::{Packet, Segment};
 use std::alloc::{AllocError, Global};
 

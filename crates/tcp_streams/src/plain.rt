@@ -2,7 +2,7 @@
 
 use crate::members::Connection;
 use crate::streams::{Arrival, Flow};
-use audit_core::Side;
+use audit_terms::Side;
 use packet_heads::{Packet, Segment};
 use std::alloc::{AllocError, Global};
 

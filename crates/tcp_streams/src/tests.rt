@@ -6,7 +6,7 @@ mod openings;
 mod random;
 
 use crate::{Connections, Flow, assemble, connections, plain};
-use audit_core::Side;
+use audit_terms::Side;
 use packet_heads::decode_all;
 use pcap_records::records;
 use std::alloc::Global;

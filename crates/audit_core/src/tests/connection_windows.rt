@@ -3,7 +3,7 @@
 use super::scripts::{
     audit, audit_without_credits, content, grant, headers, line, padded_stall_script,
 };
-use crate::{Kind, Side};
+use audit_terms::{Kind, Side};
 use std::test::Fail;
 
 #[test]

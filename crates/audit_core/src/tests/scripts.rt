@@ -1,9 +1,10 @@
 //! Scripts of frames, and what one pass shows of them.
 
 ghost use Rattle.std.specs.Prelude.{◌≡◌, ◌<◌, ◌^◌, true};
-ghost use Rattle.audit_core.specs.Frame.{IsInRange, IsOrderly, promised_in};
+ghost use Rattle.audit_terms.specs.Frame.{IsInRange, IsOrderly, promised_in};
 
-use crate::{Body, Finding, Frame, Kind, Place, Settings, Side, one_pass};
+use crate::one_pass;
+use audit_terms::{Body, Finding, Frame, Kind, Place, Settings, Side};
 use std::alloc::Global;
 use std::process::Abort;
 use std::test::Fail;

@@ -3,7 +3,7 @@
 use super::scripts::{
     acknowledgement, audit, audit_without_credits, content, frame, grant, headers, line, settings,
 };
-use crate::{Body, Kind, Side};
+use audit_terms::{Body, Kind, Side};
 use std::test::Fail;
 
 #[test]

@@ -1,6 +1,6 @@
 //! Places, kinds and sides as words.
 
-use crate::{Kind, Place, Side};
+use audit_terms::{Kind, Place, Side};
 
 #[test]
 fn places_are_words(rt: HostRuntime) {

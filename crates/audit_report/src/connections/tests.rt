@@ -1,5 +1,5 @@
 use super::connection_lines;
-use audit_core::{Body, Frame, Side};
+use audit_terms::{Body, Frame, Side};
 use h2_frames::Cut;
 use packet_heads::Endpoint;
 use std::alloc::{AllocError, Global};

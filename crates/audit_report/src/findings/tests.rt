@@ -1,8 +1,8 @@
 ghost use Rattle.std.specs.Prelude.{◌≡◌, ◌+◌, ◌*◌, ◌<◌, ◌^◌};
-ghost use Rattle.audit_core.specs.Frame.{IsInRange};
+ghost use Rattle.audit_terms.specs.Frame.{IsInRange};
 
 use super::finding_line;
-use audit_core::{Body, Finding, Frame, Kind, Place, Side};
+use audit_terms::{Body, Finding, Frame, Kind, Place, Side};
 use std::test::Fail;
 
 // A WINDOW_UPDATE of the server, two records after its number, at a thousand nanoseconds a record.

@@ -1,10 +1,10 @@
 ghost use Rattle.std.specs.Prelude.{◌≡◌, ◌<◌, ◌^◌, IfOk, length};
-ghost use Rattle.audit_core.specs.Frame.{IsInRange, IsOrderly};
+ghost use Rattle.audit_terms.specs.Frame.{IsInRange, IsOrderly};
 ghost use Rattle.h2_frames.specs.Cut.{HasOrderlyFrames};
 
 use super::report;
 use crate::audited::Audited;
-use audit_core::{Body, Finding, Frame, Kind, Place, Side};
+use audit_terms::{Body, Finding, Frame, Kind, Place, Side};
 use h2_frames::Cut;
 use packet_heads::{Endpoint, Packet, Segment};
 use pcap_records::{Record, Records};

@@ -1,5 +1,5 @@
 use crate::bodies::body_of;
-use audit_core::{Body, Kind, Settings};
+use audit_terms::{Body, Kind, Settings};
 use std::process::Abort;
 
 const NONE: Settings = Settings {

@@ -1,8 +1,8 @@
 ghost use Rattle.std.specs.Prelude.{◌≡◌, ◌+◌, ◌<◌, ◌^◌};
-ghost use Rattle.audit_core.specs.Frame.{IsInRange};
+ghost use Rattle.audit_terms.specs.Frame.{IsInRange};
 
 use super::frame_at;
-use audit_core::{Body, Frame, Side};
+use audit_terms::{Body, Frame, Side};
 
 fn ping(number: u32) -> Frame
     requires { number < 2 ^ 20 }

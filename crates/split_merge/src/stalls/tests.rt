@@ -1,8 +1,8 @@
 ghost use Rattle.std.specs.Prelude.{◌≡◌, ◌<◌, ◌^◌};
-ghost use Rattle.audit_core.specs.Frame.{IsInRange};
+ghost use Rattle.audit_terms.specs.Frame.{IsInRange};
 
 use super::{Stall, stall_pairs};
-use audit_core::{Body, Finding, Frame, Kind, Place, Side};
+use audit_terms::{Body, Finding, Frame, Kind, Place, Side};
 use std::test::Fail;
 
 // A PING of the client, captured at record number + 2.

@@ -2,7 +2,7 @@
 
 use super::flow_of;
 use crate::{Arrival, Flow};
-use audit_core::Side;
+use audit_terms::Side;
 use std::process::Abort;
 use std::test::Fail;
 use test_captures::{CLIENT, Capture, SERVER, SYN, Segment};

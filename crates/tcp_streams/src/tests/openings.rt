@@ -1,7 +1,7 @@
 //! Which SYNs open a connection, and what belongs to it.
 
 use super::{flow_of, streams_of};
-use audit_core::Side;
+use audit_terms::Side;
 use packet_heads::Endpoint;
 use std::alloc::Global;
 use std::process::Abort;

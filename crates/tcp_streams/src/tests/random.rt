@@ -1,7 +1,7 @@
 //! Small captures of segments at random, on which `assemble` and the plain program agree.
 
 use super::flow_of;
-use audit_core::Side;
+use audit_terms::Side;
 use std::alloc::{AllocError, Global};
 use std::test::Fail;
 use test_captures::Capture;

@@ -1,16 +1,16 @@
 use Rattle.std.proofs.Common.{◌≡◌, ℤ, pos, ◌+◌, ◌*◌, ◌^◌, ◌++◌, drop, get_or, refl, sym, ap, ◌∙◌, subst, arith}
 use Rattle.std.proofs.lemmas.List.{drop_all}
 use Rattle.std.proofs.lemmas.Int.{ints}
-use Rattle.audit_core.specs.declared.sides.Sides.{Sides}
-use Rattle.audit_core.specs.Sides.{side_of, each_side}
-use Rattle.audit_core.specs.Room.{HasRoom}
-use Rattle.audit_core.specs.InForce.{InForce, in_force_after, change_of}
-use Rattle.audit_core.specs.Connection.{credit_after}
-use Rattle.audit_core.specs.StreamTable.{RowsFit}
-use Rattle.audit_core.specs.Finding.{say, in_order, upto_stop}
-use Rattle.audit_core.specs.Pass.{pass_start, next, streams_of}
+use Rattle.audit_terms.specs.declared.sides.Sides.{Sides}
+use Rattle.audit_terms.specs.Sides.{side_of, each_side}
+use Rattle.audit_terms.specs.code.Room.{HasRoom}
+use Rattle.audit_terms.specs.InForce.{InForce, in_force_after, change_of}
+use Rattle.audit_terms.specs.Connection.{credit_after}
+use Rattle.audit_core.specs.code.StreamTable.{RowsFit}
+use Rattle.audit_terms.specs.Finding.{say, in_order, upto_stop}
+use Rattle.audit_terms.specs.Pass.{pass_start, next, streams_of}
 use Rattle.audit_core.proofs.OrderlyRest.{in_range-get_or, number-get_or, stream-get_or, length-orderly, drop-next}
-use Rattle.audit_core.proofs.Bounds.{room-wider}
+use Rattle.audit_terms.proofs.Bounds.{room-wider}
 use Rattle.audit_core.proofs.OneRow.{all_fit-wider}
 use Rattle.audit_core.proofs.PassOrder.{streams-streams_of}
 use Rattle.audit_core.proofs.PassRows.{rows-more, rows-done, shown-full, table-more, parts-more, idle_rows-fit}

@@ -1,8 +1,8 @@
 use Rattle.std.proofs.Common.{◌≡◌, ◌+◌, ◌*◌, ◌^◌, ◌≤◌, ◌++◌, drop, vec_len}
-use Rattle.audit_core.specs.Room.{HasRoom}
-use Rattle.audit_core.specs.SettingsSoFar.{in_force_of}
-use Rattle.audit_core.specs.StreamTable.{streams_in, RowsFit, IsIndex}
-use Rattle.audit_core.specs.Pass.{PassState, pass_start, streams_of}
+use Rattle.audit_terms.specs.code.Room.{HasRoom}
+use Rattle.audit_core.specs.code.SettingsSoFar.{in_force_of}
+use Rattle.audit_core.specs.code.StreamTable.{streams_in, RowsFit, IsIndex}
+use Rattle.audit_terms.specs.Pass.{PassState, pass_start, streams_of}
 use Rattle.audit_core.proofs.PassRows.{shown_rows, rows_at}
 use Rattle.audit_core.proofs.passes.one_pass.Given as goal
 

@@ -1,6 +1,6 @@
 use Rattle.std.proofs.Common.{◌+◌, ◌^◌, ◌<◌, ◌≤◌, length, arith, subst}
 use Rattle.std.proofs.lemmas.List.{take_all}
-use Rattle.audit_core.specs.StreamTable.{row_said, row_after, RowsFit}
+use Rattle.audit_core.specs.code.StreamTable.{row_said, row_after, RowsFit}
 use Rattle.audit_core.proofs.OrderlyRest.{drop-next}
 use Rattle.audit_core.proofs.RowSteps.{said-more, after-more, room-more, front-more}
 use Rattle.audit_core.proofs.tables.meet_all.Goals as goal

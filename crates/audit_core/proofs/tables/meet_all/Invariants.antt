@@ -1,6 +1,6 @@
 use Rattle.std.proofs.Common.{◌≡◌, ℕ, ◌+◌, ◌^◌, ◌++◌, take, drop, map}
 use Rattle.std.specs.List.{flat_map}
-use Rattle.audit_core.specs.StreamTable.{row_said, row_after, RowsFit}
+use Rattle.audit_core.specs.code.StreamTable.{row_said, row_after, RowsFit}
 use Rattle.audit_core.proofs.tables.meet_all.Given as goal
 
 abbrev pub invariant-loop-row : goal.invariant-loop-row

@@ -2,7 +2,7 @@ use Rattle.std.proofs.Common.{◌≡◌, ◌+◌, ◌<◌, ◌^◌, [], ◌∷�
 use Rattle.std.proofs.lemmas.List.Elements.{recursion_from_All}
 use Rattle.std.proofs.lemmas.List.{append-nil}
 use Rattle.tcp_streams.specs.declared.streams.Arrival.{Arrival}
-use Rattle.audit_core.specs.declared.frames.Frame.{Frame}
+use Rattle.audit_terms.specs.declared.frames.Frame.{Frame}
 use Rattle.h2_frames.specs.CaptureOrder.{captured}
 use Rattle.h2_frames.proofs.Capturing.{partly-captured-there, partly-captured-turn}
 use Rattle.h2_frames.proofs.one_side.captured_frames.Goals as goal

@@ -1,5 +1,5 @@
 use Rattle.std.proofs.Common.{refl, arith}
-use Rattle.audit_core.specs.InForce.{initial_in_force}
+use Rattle.audit_terms.specs.InForce.{initial_in_force}
 use Rattle.settings_pair.proofs.WaitingLemmas.{waiting-at_start}
 use Rattle.settings_pair.proofs.OrderLemmas.{found-orderly}
 use Rattle.settings_pair.proofs.pairing.pair.Goals as goal

@@ -1,6 +1,6 @@
 use Rattle.std.proofs.Common.{◌≡◌, ◌++◌, ℕ, drop}
-use Rattle.audit_core.specs.Frame.{IsOrderlyFrom}
-use Rattle.audit_core.specs.InForce.{InForce, changes_from, changes_of, settings_run_from, settings_run}
+use Rattle.audit_terms.specs.Frame.{IsOrderlyFrom}
+use Rattle.audit_terms.specs.InForce.{InForce, changes_from, changes_of, settings_run_from, settings_run}
 use Rattle.settings_pair.specs.Waiting.{IsWaiting}
 use Rattle.settings_pair.proofs.pairing.pair.Given as goal
 

@@ -1,7 +1,7 @@
 use Rattle.std.proofs.Common.{◌≡◌, List, refl, ap, ◌∙◌, subst}
 use Rattle.std.proofs.lemmas.List.Elements.{recursion_from_All}
-use Rattle.audit_core.specs.declared.frames.Frame.{Frame}
-use Rattle.audit_core.specs.declared.items.Step.{Step}
+use Rattle.audit_terms.specs.declared.frames.Frame.{Frame}
+use Rattle.audit_terms.specs.declared.items.Step.{Step}
 use Rattle.stream_credit.specs.Account.{entry_of}
 use Rattle.stream_credit.specs.Merged.{merged, AreStepsFrom}
 use Rattle.stream_credit.proofs.AccountLemmas.{IsSound-later}

@@ -1,6 +1,6 @@
 use Rattle.std.proofs.Common.{◌≡◌, ◌++◌, ℕ}
-use Rattle.audit_core.specs.InForce.{initial_in_force}
-use Rattle.audit_core.specs.Stream.{idle_stream, stream_run_from, stream_after_all}
+use Rattle.audit_terms.specs.InForce.{initial_in_force}
+use Rattle.audit_terms.specs.Stream.{idle_stream, stream_run_from, stream_after_all}
 use Rattle.stream_credit.specs.Account.{entry_of, IsSound}
 use Rattle.stream_credit.specs.Merged.{merged, AreStepsFrom}
 use Rattle.stream_credit.proofs.runs.stream_run.Given as goal

@@ -1,7 +1,7 @@
 use Rattle.std.proofs.Common.{◌≡◌, ℕ, List, ◌<◌, ◌≤◌, ◌^◌, length, vec_len, Option, sym, ap, subst, ◌∙◌, arith}
 use Rattle.std.specs.Prelude.{All, IfOk, IfSome}
 use Rattle.std.specs.List.{filter_map}
-use Rattle.audit_core.specs.declared.sides.Side.{Side}
+use Rattle.audit_terms.specs.declared.sides.Side.{Side}
 use Rattle.packet_heads.specs.declared.packets.Packet.{Packet}
 use Rattle.packet_heads.specs.Order.{AreNumberedFrom, PayloadsRise, TimesFit}
 use Rattle.tcp_streams.specs.declared.interval.Interval.{Interval}

@@ -1,6 +1,6 @@
 use Rattle.std.proofs.Common.{◌+◌, ◌^◌, ◌++◌, refl, sym, ap, ◌∙◌, arith, subst, set, append-nil, map}
 use Rattle.std.proofs.lemmas.Result.{on_ok_weaker}
-use Rattle.audit_core.specs.StreamTable.{row_said, row_after, streams_in, RowFits, RowsFit}
+use Rattle.audit_core.specs.code.StreamTable.{row_said, row_after, streams_in, RowFits, RowsFit}
 use Rattle.audit_core.proofs.OneRow.{place-within, fit-get_or, fit-set, all_fit-wider, whole-back}
 use Rattle.audit_core.proofs.OwnRow.{said-own, after-own, said-no_row, after-no_row, place-found, place-none, index-kept}
 use Rattle.audit_core.proofs.tables.StreamTable.meet.Goals as goal

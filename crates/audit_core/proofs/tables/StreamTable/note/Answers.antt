@@ -1,6 +1,6 @@
 use Rattle.std.proofs.Common.{◌≡◌, Some, cond, nat_eq, length, refl, sym, ap, ◌∙◌, subst, arith}
 use Rattle.std.specs.HashMap.{get}
-use Rattle.audit_core.specs.StreamTable.{streams_in, IsIndex}
+use Rattle.audit_core.specs.code.StreamTable.{streams_in, IsIndex}
 use Rattle.audit_core.proofs.NamedStreams.{with-seen, with-new, among-from_map, absent-from_map, index-more, streams_in-push, length-streams_in}
 use Rattle.audit_core.proofs.tables.StreamTable.note.Goals as goal
 

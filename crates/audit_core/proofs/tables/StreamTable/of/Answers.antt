@@ -1,6 +1,6 @@
 use Rattle.std.proofs.Common.{◌+◌, ◌++◌, drop, get_or, refl, sym, ap, ◌∙◌}
-use Rattle.audit_core.specs.Pass.{streams_of}
-use Rattle.audit_core.specs.StreamTable.{streams_in}
+use Rattle.audit_terms.specs.Pass.{streams_of}
+use Rattle.audit_core.specs.code.StreamTable.{streams_in}
 use Rattle.audit_core.proofs.OrderlyRest.{drop-next}
 use Rattle.audit_core.proofs.NamedStreams.{without, named-more, named-first, index-empty}
 use Rattle.audit_core.proofs.tables.StreamTable.of.Goals as goal

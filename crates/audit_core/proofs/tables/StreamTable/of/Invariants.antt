@@ -1,6 +1,6 @@
 use Rattle.std.proofs.Common.{◌≡◌, ◌++◌, drop}
-use Rattle.audit_core.specs.Pass.{streams_of}
-use Rattle.audit_core.specs.StreamTable.{streams_in, idle_rows, IsIndex}
+use Rattle.audit_terms.specs.Pass.{streams_of}
+use Rattle.audit_core.specs.code.StreamTable.{streams_in, idle_rows, IsIndex}
 use Rattle.audit_core.proofs.NamedStreams.{without}
 use Rattle.audit_core.proofs.tables.StreamTable.of.Given as goal
 

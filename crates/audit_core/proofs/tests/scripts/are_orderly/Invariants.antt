@@ -1,5 +1,5 @@
 use Rattle.std.proofs.Common.{drop}
-use Rattle.audit_core.specs.Frame.{IsOrderlyFrom}
+use Rattle.audit_terms.specs.Frame.{IsOrderlyFrom}
 use Rattle.audit_core.proofs.tests.scripts.are_orderly.Given as goal
 
 abbrev pub invariant-loop-frame : goal.invariant-loop-frame

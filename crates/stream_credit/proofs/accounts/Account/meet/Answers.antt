@@ -1,4 +1,4 @@
-use Rattle.audit_core.specs.declared.sides.Side.TheVariants.{Client, Server}
+use Rattle.audit_terms.specs.declared.sides.Side.TheVariants.{Client, Server}
 use Rattle.stream_credit.proofs.AccountLemmas.{room-wide, IsSound-after}
 use Rattle.stream_credit.proofs.accounts.Account.meet.Goals as goal
 

@@ -1,0 +1,2 @@
+pub mod SettingsSoFar
+pub mod StreamTable

@@ -1,0 +1,5 @@
+pub mod OrderedLists
+pub mod FindingOrder
+pub mod UptoStop
+pub mod PlaceOrder
+pub mod Bounds

@@ -1,0 +1,92 @@
+-- The connection: each side's connection window, the order of opened streams, the length of frames
+-- (RFC 9113, 4.2, 5.1.1, 6.9).
+use Rattle.std.specs.Prelude.{ℕ, ℤ, pos, ◌+ℤ◌, ◌-ℤ◌, max, Bool, ◌==◌, ◌&&◌, ◌||◌, not, nat_lt, nat_le, if◌then◌else◌, List, [], ◌∷◌, ◌++◌}
+use Rattle.std.specs.Ordering.{int_eq}
+use Rattle.audit_terms.specs.declared.sides.Side.{Side}
+use Rattle.audit_terms.specs.declared.sides.Side.TheVariants.{Client, Server}
+use Rattle.audit_terms.specs.declared.sides.Sides.{Sides}
+use Rattle.audit_terms.specs.declared.kinds.Kind.TheVariants.{TooLong, IdNotGreater, ZeroConnectionGrant, ConnectionOverflow, LongFrame, ConnectionOverrun, ConnectionStallEnd, ConnectionStallBegin, ConnectionCredit}
+use Rattle.audit_terms.specs.declared.frames.Frame.{Frame}
+use Rattle.audit_terms.specs.declared.items.Item.{Item}
+use Rattle.audit_terms.specs.declared.connections.ConnectionState.{ConnectionState}
+use Rattle.audit_terms.specs.declared.findings.Finding.{Finding}
+use Rattle.audit_terms.specs.Side.{other}
+use Rattle.audit_terms.specs.Sides.{side_of, each_side}
+use Rattle.audit_terms.specs.FrameType.{headers_type, settings_type, push_promise_type, continuation_type}
+use Rattle.audit_terms.specs.Frame.{content_by, grant_to, grants_nothing}
+use Rattle.audit_terms.specs.Window.{overflows, overruns, stall_begins, stall_ends}
+use Rattle.audit_terms.specs.Change.{new_limit}
+use Rattle.audit_terms.specs.Finding.{finding_at, say, in_order}
+
+-- the connection before any frame (5.1.1, 6.5.2, 6.9.2)
+abbrev pub connection_start : ConnectionState
+connection_start = record {
+  credit = each_side (λ _. pos 65535);
+  greatest = 0;
+  limit = each_side (λ _. 16384);
+}
+
+-- connection credit of side d after a frame: less its own content, whatever the stream, plus the other side's grants
+-- on stream 0, also above the largest window (6.9, 6.9.1)
+abbrev pub credit_after : Side → (before : ℤ) → Frame → ℤ
+credit_after d before frame = (before +ℤ pos (grant_to d 0 frame)) -ℤ pos (content_by d frame)
+
+-- the connection after an item
+abbrev pub connection_after : ConnectionState → Item → ConnectionState
+connection_after now item = record {
+  credit = each_side (λ d. credit_after d (side_of d now.credit) item.frame);
+  greatest = (if item.opens then max now.greatest item.frame.stream else now.greatest);
+  limit = each_side (λ d. new_limit item.change d (side_of d now.limit));
+}
+
+-- frames whose excess length is an error of the connection: those that carry a field block or settings, and all on
+-- stream 0 (4.2)
+abbrev pub is_length_fatal : Frame → Bool
+is_length_fatal frame =
+    (frame.code == headers_type) || (frame.code == settings_type) || (frame.code == push_promise_type)
+    || (frame.code == continuation_type) || (frame.stream == 0)
+
+-- a frame longer than its side's limit (4.2)
+abbrev pub length_said : (limit : ℕ) → Frame → List Finding
+length_said limit frame =
+    say (nat_lt limit frame.length)
+    (finding_at (if is_length_fatal frame then TooLong else LongFrame) frame.number frame.stream frame.side (pos frame.length))
+
+-- an opened stream that is not above each one opened before (5.1.1)
+abbrev pub opening_order_said : (greatest : ℕ) → Item → List Finding
+opening_order_said greatest item =
+    say (item.opens && nat_le item.frame.stream greatest)
+    (finding_at IdNotGreater item.frame.number item.frame.stream item.frame.side (pos greatest))
+
+-- what a frame shows of the connection window of side d, whose credit before it is `before`
+abbrev pub connection_window_said : Side → (before : ℤ) → Frame → List Finding
+connection_window_said d before frame =
+    let after = credit_after d before frame in
+    say (grants_nothing d 0 frame) (finding_at ZeroConnectionGrant frame.number 0 (other d) (pos 0))
+    ++ say (overflows before after) (finding_at ConnectionOverflow frame.number 0 d after)
+    ++ say (overruns before (content_by d frame)) (finding_at ConnectionOverrun frame.number 0 d after)
+    ++ say (stall_ends before after) (finding_at ConnectionStallEnd frame.number 0 d after)
+    ++ say (stall_begins before after) (finding_at ConnectionStallBegin frame.number 0 d after)
+    ++ say (not (int_eq before after)) (finding_at ConnectionCredit frame.number 0 d after)
+
+-- what a frame shows of both connection windows
+abbrev pub connection_windows_said : Sides ℤ → Frame → List Finding
+connection_windows_said credit frame =
+    connection_window_said Client (side_of Client credit) frame ++ connection_window_said Server (side_of Server credit) frame
+
+-- what an item shows of the connection; a frame's length is judged by the limit that its own acknowledgement brings
+abbrev pub connection_said : ConnectionState → Item → List Finding
+connection_said now item =
+    length_said (new_limit item.change item.frame.side (side_of item.frame.side now.limit)) item.frame
+    ++ opening_order_said now.greatest item
+    ++ connection_windows_said now.credit item.frame
+
+-- the connection after some items
+abbrev pub connection_after_all : ConnectionState → List Item → ConnectionState
+connection_after_all now [] = now
+connection_after_all now (item ∷ items) = connection_after_all (connection_after now item) items
+
+-- the run of a block of items, from the connection before it, with no stop
+abbrev pub block_run : ConnectionState → List Item → List Finding
+block_run now [] = []
+block_run now (item ∷ items) = in_order (connection_said now item) ++ block_run (connection_after now item) items

@@ -1,0 +1,91 @@
+-- What a frame does to windows, streams and settings (RFC 9113, 4 and 6). These rules go by the body:
+-- a frame whose payload cannot be read does nothing.
+use Rattle.std.specs.Prelude.{ℕ, ◌+◌, ◌-◌, ◌^◌, ◌<◌, ◌≤◌, Bool, true, false, ◌==◌, ◌&&◌, ◌||◌, if◌then◌else◌, List, [], ◌∷◌}
+use Rattle.audit_terms.specs.declared.sides.Side.{Side}
+use Rattle.audit_terms.specs.declared.frames.Settings.{Settings}
+use Rattle.audit_terms.specs.declared.frames.Body.{Body}
+use Rattle.audit_terms.specs.declared.frames.Body.TheVariants.{Content, Headers, RstStream, Settings as SettingsBody, SettingsAck, PushPromise, WindowUpdate}
+use Rattle.audit_terms.specs.declared.frames.Frame.{Frame}
+use Rattle.audit_terms.specs.Side.{other, is_side}
+use Rattle.audit_terms.specs.FrameType.{has_flag, end_stream_flag}
+
+-- DATA (6.1)
+abbrev pub is_content : Body → Bool
+is_content Content = true
+is_content _ = false
+
+-- HEADERS (6.2)
+abbrev pub is_headers : Body → Bool
+is_headers Headers = true
+is_headers _ = false
+
+-- RST_STREAM (6.4)
+abbrev pub is_reset : Body → Bool
+is_reset RstStream = true
+is_reset _ = false
+
+-- SETTINGS with ACK (6.5)
+abbrev pub is_ack : Body → Bool
+is_ack SettingsAck = true
+is_ack _ = false
+
+-- WINDOW_UPDATE (6.9)
+abbrev pub is_update : Body → Bool
+is_update (WindowUpdate _) = true
+is_update _ = false
+
+-- the increment of a WINDOW_UPDATE (6.9), 0 of any other
+abbrev pub increment : Body → ℕ
+increment (WindowUpdate amount) = amount
+increment _ = 0
+
+-- a WINDOW_UPDATE whose increment is 0 (6.9)
+abbrev pub is_zero_grant : Body → Bool
+is_zero_grant body = is_update body && (increment body == 0)
+
+-- the settings of a SETTINGS frame (6.5), none of any other
+abbrev pub settings_in : Body → List Settings
+settings_in (SettingsBody settings) = settings ∷ []
+settings_in _ = []
+
+-- the promised stream of a PUSH_PROMISE (6.6), 0 of any other
+abbrev pub promised_in : Body → ℕ
+promised_in (PushPromise stream) = stream
+promised_in _ = 0
+
+-- the flow-controlled length that endpoint d sends with this frame (6.9.1): all of a DATA frame, padding included
+abbrev pub content_by : Side → Frame → ℕ
+content_by d frame = if is_side d frame.side && is_content frame.body then frame.length else 0
+
+-- what this frame grants to endpoint d on the stream, or on the connection where the stream is 0 (6.9)
+abbrev pub grant_to : Side → ℕ → Frame → ℕ
+grant_to d stream frame = if is_side (other d) frame.side && (frame.stream == stream) then increment frame.body else 0
+
+-- the other endpoint grants 0 to endpoint d on the stream (6.9)
+abbrev pub grants_nothing : Side → ℕ → Frame → Bool
+grants_nothing d stream frame = is_side (other d) frame.side && (frame.stream == stream) && is_zero_grant frame.body
+
+-- endpoint d ends its side of the stream with this DATA or HEADERS (5.1, 6.1, 6.2)
+abbrev pub sends_end : Side → Frame → Bool
+sends_end d frame = is_side d frame.side && (is_content frame.body || is_headers frame.body) && has_flag frame.flags end_stream_flag
+
+-- endpoint d resets the stream (6.4)
+abbrev pub sends_reset : Side → Frame → Bool
+sends_reset d frame = is_side d frame.side && is_reset frame.body
+
+-- the ranges of what a frame holds: 28 bits of number, 31 bits of stream, 24 bits of length (4.1), a time below 2^63
+pub record IsInRange (frame : Frame) : Type 0 where
+  pub number : frame.number < 2 ^ 28 - 1
+  pub stream : frame.stream < 2 ^ 31
+  pub promised : promised_in frame.body < 2 ^ 31
+  pub length : frame.length < 2 ^ 24
+  pub nanos : frame.nanos < 2 ^ 63
+
+-- each frame in range, the first numbered `low` or above, each further one above the one before it
+abbrev pub IsOrderlyFrom : (low : ℕ) → List Frame → Type 0
+IsOrderlyFrom low [] = Unit {0}
+IsOrderlyFrom low (frame ∷ frames) = (low ≤ frame.number) × IsInRange frame × IsOrderlyFrom (frame.number + 1) frames
+
+-- frames in range, their numbers strictly rising
+abbrev pub IsOrderly : List Frame → Type 0
+IsOrderly frames = IsOrderlyFrom 0 frames

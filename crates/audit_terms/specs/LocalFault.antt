@@ -1,0 +1,97 @@
+-- What a frame and the frame of its side just before it show by themselves (RFC 9113, 3.4, 4.3, 6). These rules go by
+-- the type byte, the flags and the stream; only what cannot be read goes by the body.
+use Rattle.std.specs.Prelude.{ℕ, pos, Bool, ◌==◌, ◌&&◌, ◌||◌, not, if◌then◌else◌, List, [], ◌∷◌, ◌++◌, Option, Some, None, is_none}
+use Rattle.audit_terms.specs.declared.sides.Side.{Side}
+use Rattle.audit_terms.specs.declared.sides.Side.TheVariants.{Client, Server}
+use Rattle.audit_terms.specs.declared.sides.Sides.{Sides}
+use Rattle.audit_terms.specs.declared.kinds.Kind.{Kind}
+use Rattle.audit_terms.specs.declared.kinds.Kind.TheVariants.{BadPreface, BrokenBlock, WrongStream, WrongSize, BadPadding, BadSetting, Push, PushNotAudited, BadPriority}
+use Rattle.audit_terms.specs.declared.frames.Body.{Body}
+use Rattle.audit_terms.specs.declared.frames.Body.TheVariants.{Settings as SettingsBody, Unreadable}
+use Rattle.audit_terms.specs.declared.frames.Frame.{Frame}
+use Rattle.audit_terms.specs.declared.findings.Finding.{Finding}
+use Rattle.audit_terms.specs.Side.{is_side}
+use Rattle.audit_terms.specs.Sides.{side_of, each_side}
+use Rattle.audit_terms.specs.FrameType.{data_type, headers_type, priority_type, rst_stream_type, settings_type, push_promise_type, ping_type, goaway_type, continuation_type, ack_flag, end_headers_flag, has_flag}
+use Rattle.audit_terms.specs.Finding.{finding_at, say, say_of, in_order}
+
+-- a SETTINGS frame that is no acknowledgement, as each side's first frame is to be (3.4)
+abbrev pub is_settings : Frame → Bool
+is_settings frame = (frame.code == settings_type) && not (has_flag frame.flags ack_flag)
+
+-- a field block that further CONTINUATION frames go on with (4.3, 6.2, 6.6, 6.10)
+abbrev pub leaves_block_open : Frame → Bool
+leaves_block_open frame =
+    ((frame.code == headers_type) || (frame.code == push_promise_type) || (frame.code == continuation_type))
+    && not (has_flag frame.flags end_headers_flag)
+
+-- an open block goes on with a CONTINUATION on its stream and nothing else, and no block goes on unless it is open (4.3, 6.10)
+abbrev pub breaks_block : Option Frame → Frame → Bool
+breaks_block None frame = frame.code == continuation_type
+breaks_block (Some previous) frame =
+    if leaves_block_open previous
+    then not ((frame.code == continuation_type) && (frame.stream == previous.stream))
+    else frame.code == continuation_type
+
+-- frames of these types are of a stream (6.1 to 6.4, 6.6, 6.10)
+abbrev pub needs_stream : (code : ℕ) → Bool
+needs_stream code =
+    (code == data_type) || (code == headers_type) || (code == priority_type) || (code == rst_stream_type)
+    || (code == push_promise_type) || (code == continuation_type)
+
+-- frames of these types are of the connection (6.5, 6.7, 6.8)
+abbrev pub needs_connection : (code : ℕ) → Bool
+needs_connection code = (code == settings_type) || (code == ping_type) || (code == goaway_type)
+
+-- a frame of a stream on stream 0, or one of the connection on another
+abbrev pub is_on_wrong_stream : Frame → Bool
+is_on_wrong_stream frame = if frame.stream == 0 then needs_stream frame.code else needs_connection frame.code
+
+-- a PUSH_PROMISE: of the client it is an error (8.4), of the server it is not audited
+abbrev pub push_kind : Side → Kind
+push_kind Client = Push
+push_kind Server = PushNotAudited
+
+-- a fault of the frame's sender
+abbrev pub fault : Kind → Frame → ℕ → Finding
+fault kind frame value = finding_at kind frame.number frame.stream frame.side (pos value)
+
+-- the ways in which a payload cannot be read (4.2, 6)
+abbrev pub reading_fault : Kind → Frame → ℕ → List Finding
+reading_fault WrongSize frame value = fault WrongSize frame value ∷ []
+reading_fault BadPadding frame value = fault BadPadding frame value ∷ []
+reading_fault BadPriority frame value = fault BadPriority frame value ∷ []
+reading_fault _ frame value = []
+
+-- what the body shows: a payload that cannot be read, or a setting out of range (6.5.2)
+abbrev pub body_said : Frame → Body → List Finding
+body_said frame (Unreadable kind value) = reading_fault kind frame value
+body_said frame (SettingsBody settings) = say_of (λ identifier. fault BadSetting frame identifier ∷ []) settings.bad
+body_said frame _ = []
+
+-- the findings of a frame, given the frame of its side just before it
+abbrev pub local_said : Option Frame → Frame → List Finding
+local_said previous frame =
+    say (is_none previous && not (is_settings frame)) (fault BadPreface frame frame.code)
+    ++ say (breaks_block previous frame) (fault BrokenBlock frame frame.code)
+    ++ say (is_on_wrong_stream frame) (fault WrongStream frame frame.code)
+    ++ body_said frame frame.body
+    ++ say (frame.code == push_promise_type) (fault (push_kind frame.side) frame 0)
+
+-- the last frame of each side
+abbrev pub previous_after : Sides (Option Frame) → Frame → Sides (Option Frame)
+previous_after previous frame = each_side (λ d. if is_side d frame.side then Some frame else side_of d previous)
+
+-- no frame of either side
+abbrev pub no_previous : Sides (Option Frame)
+no_previous = each_side (λ _. None)
+
+-- the local faults of a list of frames, from the last frame of each side before it
+abbrev pub local_run_from : Sides (Option Frame) → List Frame → List Finding
+local_run_from previous [] = []
+local_run_from previous (frame ∷ frames) =
+    in_order (local_said (side_of frame.side previous) frame) ++ local_run_from (previous_after previous frame) frames
+
+-- the local faults of a connection's frames
+abbrev pub local_run : List Frame → List Finding
+local_run frames = local_run_from no_previous frames

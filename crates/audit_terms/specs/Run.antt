@@ -1,0 +1,57 @@
+-- What a stream, a group of streams and a block of frames show by themselves, with no stop.
+use Rattle.std.specs.Prelude.{ℕ, ◌==◌, nat_lt, if◌then◌else◌, List, [], ◌∷◌, ◌++◌, filter, map, Some, None}
+use Rattle.std.specs.List.{flat_map}
+use Rattle.audit_terms.specs.declared.frames.Frame.{Frame}
+use Rattle.audit_terms.specs.declared.items.Change.{Change}
+use Rattle.audit_terms.specs.declared.items.Item.{Item}
+use Rattle.audit_terms.specs.declared.items.Step.{Step}
+use Rattle.audit_terms.specs.declared.connections.ConnectionState.{ConnectionState}
+use Rattle.audit_terms.specs.declared.streams.Stream.{Stream}
+use Rattle.audit_terms.specs.declared.findings.Finding.{Finding}
+use Rattle.audit_terms.specs.InForce.{initial_in_force, changes_of}
+use Rattle.audit_terms.specs.Connection.{connection_after_all, block_run}
+use Rattle.audit_terms.specs.Stream.{idle_stream, stream_run_from, stream_after_all}
+
+-- the frames on one stream
+abbrev pub frames_on : (stream : ℕ) → List Frame → List Frame
+frames_on stream frames = filter (λ (frame : Frame). frame.stream == stream) frames
+
+-- a frame alone
+abbrev pub frame_step : Frame → Step
+frame_step frame = record { number = frame.number; frame = Some frame; change = None }
+
+-- a change alone
+abbrev pub change_step : Change → Step
+change_step change = record { number = change.number; frame = None; change = Some change }
+
+-- the steps with one more change, in order of numbers: it joins the step of its own number, or is a step by itself
+abbrev pub with_change : List Step → Change → List Step
+with_change [] change = change_step change ∷ []
+with_change (step ∷ steps) change =
+    if step.number == change.number then record step { change = Some change } ∷ steps
+    else if nat_lt change.number step.number then change_step change ∷ step ∷ steps
+    else step ∷ with_change steps change
+
+-- the steps of some frames and some changes, in order of numbers
+abbrev pub steps_of : List Frame → List Change → List Step
+steps_of frames [] = map frame_step frames
+steps_of frames (change ∷ changes) = with_change (steps_of frames changes) change
+
+-- the findings of one stream, from its frames and all changes of the connection
+abbrev pub stream_run : (stream : ℕ) → List Frame → List Change → List Finding
+stream_run stream frames changes =
+    stream_run_from stream initial_in_force.initial idle_stream (steps_of frames changes)
+
+-- the stream after its frames and all changes of the connection
+abbrev pub stream_at_end : (stream : ℕ) → List Frame → List Change → Stream
+stream_at_end stream frames changes =
+    stream_after_all stream initial_in_force.initial idle_stream (steps_of frames changes)
+
+-- the findings of a group of streams, from the connection's frames
+abbrev pub group_run : List Frame → List ℕ → List Finding
+group_run frames streams = flat_map (λ stream. stream_run stream (frames_on stream frames) (changes_of frames)) streams
+
+-- the findings of consecutive blocks, each from the connection before it
+abbrev pub block_runs : ConnectionState → List (List Item) → List Finding
+block_runs now [] = []
+block_runs now (block ∷ blocks) = block_run now block ++ block_runs (connection_after_all now block) blocks

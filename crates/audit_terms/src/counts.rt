@@ -1,0 +1,75 @@
+ghost use Rattle.std.specs.Prelude.{◌≡◌, ℕ, ◌-◌, ◌^◌, ◌<◌, ◌≤◌, not};
+
+use crate::findings::Finding;
+use crate::kinds::Kind;
+use crate::places::Place;
+use crate::sides::Side;
+
+/// The largest credit that a window may have (RFC 9113, 6.9.1).
+const LARGEST_WINDOW: i64 = 0x7fff_ffff;
+
+/// What one step does to the credit of one window (RFC 9113, 6.9 and 6.9.1).
+#[derive(Clone, Copy, Debug, PartialEq, Eq)]
+pub struct Count {
+    /// The credit in bytes before the step.
+    pub before: i64,
+    /// The credit after it: less the content, plus what is granted.
+    pub after: i64,
+    /// The content sent through the window, in bytes.
+    pub content: u32,
+}
+
+impl Count {
+    ghost use Rattle.std.specs.Ordering.{int_eq};
+    ghost use Rattle.audit_terms.specs.Window.{is_used_up, overflows, overruns, stall_begins, stall_ends};
+    ghost use Rattle.audit_terms.specs.Finding.{finding_at};
+
+    /// Does the credit rise above the largest window, 2^31 - 1?
+    pub fn overflows(&self) -> bool
+        ensures { result ≡ overflows self.now.before self.now.after }
+    {
+        self.before < self.after && self.after > LARGEST_WINDOW
+    }
+
+    /// Is more content sent than there was credit? An empty frame is never more.
+    pub fn overruns(&self) -> bool
+        ensures { result ≡ overruns self.now.before self.now.content }
+    {
+        self.content > 0 && self.before < i64::from(self.content)
+    }
+
+    /// Is credit there again that was used up?
+    pub fn stall_ends(&self) -> bool
+        ensures { result ≡ stall_ends self.now.before self.now.after }
+    {
+        self.before <= 0 && self.after > 0
+    }
+
+    /// Is credit used up that was there?
+    pub fn stall_begins(&self) -> bool
+        ensures { result ≡ stall_begins self.now.before self.now.after }
+    {
+        self.before > 0 && self.after <= 0
+    }
+
+    /// Does the credit change?
+    pub fn moves(&self) -> bool
+        ensures { result ≡ not (int_eq self.now.before self.now.after) }
+    {
+        self.before != self.after
+    }
+
+    /// The finding of a kind with the credit after the step, at a frame's number and a stream, of the window's side.
+    pub fn finding(&self, kind: Kind, number: u32, stream: u32, side: Side) -> Finding
+        requires numbered { number ≤ 2 ^ 28 - 2 }
+        requires streamed { stream < 2 ^ 31 }
+        ensures { result ≡ finding_at kind number stream side self.now.after }
+    {
+        Finding {
+            place: Place::of(number, kind.rank(), stream),
+            side,
+            kind,
+            value: self.after,
+        }
+    }
+}

@@ -1,0 +1,96 @@
+ghost use Rattle.std.specs.Prelude.{◌≡◌, ℕ, ◌-◌, ◌^◌, ◌<◌, ◌≤◌, ◌++◌, pos, OnOk, OnErr};
+
+use crate::kinds::Kind;
+use crate::places::Place;
+use crate::sides::Side;
+use std::alloc::AllocError;
+use std::cmp::Ordering;
+
+/// The greatest rank of a connection error, which stops the audit of a connection (RFC 9113, 5.4.1).
+const LAST_THAT_STOPS: u8 = 12;
+
+/// One thing that the audit of a connection says.
+#[derive(Clone, Copy, Debug, PartialEq, Eq, PartialOrd, Ord)]
+pub struct Finding {
+    pub place: Place,
+    pub side: Side,
+    pub kind: Kind,
+    /// A credit, a length, an identifier or a type, by the kind.
+    pub value: i64,
+}
+
+impl Finding {
+    ghost use Rattle.audit_terms.specs.Finding.{finding_at, stops, finding_cmp};
+
+    /// The finding of a kind at a frame's number and a stream, of a side.
+    pub fn at(kind: Kind, number: u32, stream: u32, side: Side, value: u32) -> Self
+        requires numbered { number ≤ 2 ^ 28 - 2 }
+        requires streamed { stream < 2 ^ 31 }
+        ensures { result ≡ finding_at kind number stream side (pos value) }
+    {
+        Finding {
+            place: Place::of(number, kind.rank(), stream),
+            side,
+            kind,
+            value: i64::from(value),
+        }
+    }
+
+    /// Is it a connection error (RFC 9113, 5.4.1), which stops the audit of the connection?
+    pub fn stops(&self) -> bool
+        ensures { result ≡ stops self.now }
+    {
+        self.kind.rank() <= LAST_THAT_STOPS
+    }
+
+    /// The order of findings: by place, then the client before the server, then by kind and value.
+    pub fn compare(&self, other: &Self) -> Ordering
+        ensures { result ≡ finding_cmp self.now other.now }
+    {
+        self.place
+            .word()
+            .cmp(&other.place.word())
+            .then(self.side.order().cmp(&other.side.order()))
+            .then(self.kind.order().cmp(&other.kind.order()))
+            .then(self.value.cmp(&other.value))
+    }
+}
+
+ghost use Rattle.audit_terms.specs.Finding.{say, stops, in_order, upto_stop};
+ghost use Rattle.std.specs.Prelude.{position};
+
+/// Adds a finding where a test holds.
+pub fn say_if(found: &mut Vec<Finding>, holds: bool, finding: Finding) -> Result<(), AllocError>
+    ensures ok { OnOk result (found.new.items ≡ found.old.items ++ say holds finding) }
+    ensures err { OnErr result (found.new.items ≡ found.old.items) }
+{
+    if holds {
+        found.push(finding)?;
+    }
+    Ok(())
+}
+
+/// Puts findings in order, in n log n steps.
+pub fn put_in_order(found: &mut Vec<Finding>) -> Result<(), AllocError>
+    ensures ok { OnOk result (found.new.items ≡ in_order found.old.items) }
+    ensures err { OnErr result (found.new.items ≡ found.old.items) }
+{
+    found.sort_by(|a, b| a.compare(b))?;
+    Ok(())
+}
+
+/// Where the first finding that stops stands.
+fn first_stop(found: &[Finding]) -> Option<usize>
+    ensures { result ≡ position stops found.now }
+{
+    found.iter().position(|one| one.stops())
+}
+
+/// Drops what stands after the first finding that stops.
+pub fn cut_at_stop(found: &mut Vec<Finding>)
+    ensures { found.new.items ≡ upto_stop found.old.items }
+{
+    if let Some(last) = first_stop(found) {
+        found.truncate(last + 1);
+    }
+}

@@ -1,0 +1,167 @@
+ghost use Rattle.std.specs.Prelude.{◌≡◌, ℕ};
+
+use crate::kinds::Kind;
+use crate::sides::Side;
+
+/// END_STREAM, of DATA and HEADERS (RFC 9113, 6.1 and 6.2).
+pub const END_STREAM: u8 = 0x1;
+
+/// The values of one SETTINGS frame that matter here (RFC 9113, 6.5.2): the last value of each identifier, and the
+/// identifier of the first pair whose value is out of range.
+#[derive(Clone, Copy, Debug, PartialEq, Eq)]
+pub struct Settings {
+    /// SETTINGS_ENABLE_PUSH (2).
+    pub push: Option<u32>,
+    /// SETTINGS_INITIAL_WINDOW_SIZE (4), in bytes.
+    pub initial: Option<u32>,
+    /// SETTINGS_MAX_FRAME_SIZE (5), in bytes.
+    pub max_frame: Option<u32>,
+    /// The identifier of the first pair out of range.
+    pub bad: Option<u16>,
+}
+
+/// What a frame carries, by its type (RFC 9113, 6.1 to 6.10).
+#[derive(Clone, Copy, Debug, PartialEq, Eq)]
+pub enum Body {
+    /// DATA: flow-controlled content, padding included.
+    Content,
+    Headers,
+    Priority,
+    RstStream,
+    Settings(Settings),
+    SettingsAck,
+    /// PUSH_PROMISE, with the promised stream.
+    PushPromise(u32),
+    Ping,
+    GoAway,
+    /// WINDOW_UPDATE, with the increment in bytes.
+    WindowUpdate(u32),
+    Continuation,
+    /// A frame of a type that RFC 9113 does not define.
+    Unknown,
+    /// A frame whose payload cannot be read: wrong-size, bad-padding or bad-priority, with the finding's value.
+    Unreadable(Kind, u32),
+}
+
+impl Body {
+    ghost use Rattle.audit_terms.specs.Frame.{is_content, is_headers, is_reset, is_ack, is_update, increment, is_zero_grant};
+
+    pub fn is_content(&self) -> bool
+        ensures { result ≡ is_content self.now }
+    {
+        matches!(self, Body::Content)
+    }
+
+    pub fn is_headers(&self) -> bool
+        ensures { result ≡ is_headers self.now }
+    {
+        matches!(self, Body::Headers)
+    }
+
+    pub fn is_reset(&self) -> bool
+        ensures { result ≡ is_reset self.now }
+    {
+        matches!(self, Body::RstStream)
+    }
+
+    pub fn is_ack(&self) -> bool
+        ensures { result ≡ is_ack self.now }
+    {
+        matches!(self, Body::SettingsAck)
+    }
+
+    pub fn is_update(&self) -> bool
+        ensures { result ≡ is_update self.now }
+    {
+        matches!(self, Body::WindowUpdate(_))
+    }
+
+    /// The increment of a WINDOW_UPDATE in bytes, 0 of any other frame.
+    pub fn increment(&self) -> u32
+        ensures { result ≡ increment self.now }
+    {
+        match self {
+            Body::WindowUpdate(amount) => *amount,
+            _ => 0,
+        }
+    }
+
+    /// Is it a WINDOW_UPDATE whose increment is 0 (RFC 9113, 6.9)?
+    pub fn is_zero_grant(&self) -> bool
+        ensures { result ≡ is_zero_grant self.now }
+    {
+        self.is_update() && self.increment() == 0
+    }
+}
+
+/// A frame of one connection, in capture order.
+#[derive(Clone, Copy, Debug, PartialEq, Eq)]
+pub struct Frame {
+    /// Its number in the connection, from 1.
+    pub number: u32,
+    /// Who sent it.
+    pub side: Side,
+    /// The record at which its last byte arrived.
+    pub rec: u32,
+    /// When that record was captured, in nanoseconds.
+    pub nanos: u64,
+    /// The type byte (RFC 9113, 4.1).
+    pub code: u8,
+    /// The flags byte.
+    pub flags: u8,
+    /// The stream identifier, 31 bits; 0 is the connection.
+    pub stream: u32,
+    /// The length of the payload in bytes, 24 bits.
+    pub length: u32,
+    pub body: Body,
+}
+
+impl Frame {
+    ghost use Rattle.audit_terms.specs.Frame.{content_by, grant_to, grants_nothing, sends_end, sends_reset};
+
+    /// The flow-controlled length in bytes that a side sends with this frame (RFC 9113, 6.9.1): all of a DATA frame,
+    /// padding included; 0 of any other frame, and of a frame of the other side.
+    pub fn content_by(&self, side: Side) -> u32
+        ensures { result ≡ content_by side self.now }
+    {
+        if side == self.side && self.body.is_content() {
+            self.length
+        } else {
+            0
+        }
+    }
+
+    /// What this frame grants to a side on a stream, in bytes, or on the connection where the stream is 0 (6.9).
+    pub fn grant_to(&self, side: Side, stream: u32) -> u32
+        ensures { result ≡ grant_to side stream self.now }
+    {
+        if side.other() == self.side && self.stream == stream {
+            self.body.increment()
+        } else {
+            0
+        }
+    }
+
+    /// Does this frame grant 0 to a side on a stream, or on the connection where the stream is 0 (6.9)?
+    pub fn grants_nothing(&self, side: Side, stream: u32) -> bool
+        ensures { result ≡ grants_nothing side stream self.now }
+    {
+        side.other() == self.side && self.stream == stream && self.body.is_zero_grant()
+    }
+
+    /// Does a side end its side of the stream with this DATA or HEADERS (5.1)?
+    pub fn sends_end(&self, side: Side) -> bool
+        ensures { result ≡ sends_end side self.now }
+    {
+        side == self.side
+            && (self.body.is_content() || self.body.is_headers())
+            && self.flags & END_STREAM != 0
+    }
+
+    /// Does a side reset the stream with this frame (6.4)?
+    pub fn sends_reset(&self, side: Side) -> bool
+        ensures { result ≡ sends_reset side self.now }
+    {
+        side == self.side && self.body.is_reset()
+    }
+}

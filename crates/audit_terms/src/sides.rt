@@ -1,0 +1,60 @@
+ghost use Rattle.std.specs.Prelude.{◌≡◌};
+
+/// An endpoint of a connection (RFC 9113, 2.2): the client opened it.
+#[derive(Clone, Copy, Debug, PartialEq, Eq, PartialOrd, Ord)]
+pub enum Side {
+    Client,
+    Server,
+}
+
+impl Side {
+    ghost use Rattle.audit_terms.specs.Side.{other, side_order, side_name};
+
+    /// The endpoint at the other end.
+    pub fn other(self) -> Side
+        ensures { result ≡ other self }
+    {
+        match self {
+            Side::Client => Side::Server,
+            Side::Server => Side::Client,
+        }
+    }
+
+    /// The client stands before the server.
+    pub(crate) fn order(self) -> u8
+        ensures { result ≡ side_order self }
+    {
+        self as u8
+    }
+
+    /// The word that a report prints.
+    pub fn name(self) -> &'static str
+        ensures { result.now ≡ side_name self }
+    {
+        match self {
+            Side::Client => "client",
+            Side::Server => "server",
+        }
+    }
+}
+
+/// A value for each endpoint.
+#[derive(Clone, Copy, Debug, PartialEq, Eq)]
+pub struct Sides<T> {
+    pub client: T,
+    pub server: T,
+}
+
+impl<T: Copy> Sides<T> {
+    ghost use Rattle.audit_terms.specs.Sides.{side_of};
+
+    /// The value of one endpoint.
+    pub fn of(&self, side: Side) -> T
+        ensures { result ≡ side_of side self.now }
+    {
+        match side {
+            Side::Client => self.client,
+            Side::Server => self.server,
+        }
+    }
+}

@@ -1,0 +1,257 @@
+ghost use Rattle.std.specs.Prelude.{◌≡◌, ℕ, ◌+◌, ◌-◌, ◌^◌, ◌<◌, ◌≤◌, ◌++◌, pos, neg_ℤ, ◌≤ℤ◌, if◌then◌else◌, IfOk, OnOk};
+ghost use Rattle.std.specs.Option.{ForSome};
+ghost use Rattle.audit_terms.specs.Sides.{side_of};
+ghost use Rattle.audit_terms.specs.Change.{new_initial};
+ghost use Rattle.audit_terms.specs.Finding.{say_of};
+ghost use Rattle.audit_terms.specs.Frame.{content_by};
+ghost use Rattle.audit_terms.specs.Stream.{step_amount, counted, is_overflowing_grant, window_ends, window_after, window_at_opening, live_window_said, opened_window_said, initial_after};
+ghost use Rattle.audit_terms.specs.code.Room.{HasRoom, WindowHasRoom};
+ghost use Rattle.audit_terms.specs.Window.{is_used_up};
+
+use crate::counts::Count;
+use crate::findings::{Finding, say_if};
+use crate::items::{Change, Step};
+use crate::kinds::Kind;
+use crate::sides::{Side, Sides};
+use std::alloc::AllocError;
+
+/// The initial windows in force after a change (RFC 9113, 6.5.2, 6.9.2).
+pub fn initial_after(change: &Option<Change>, initial: &Sides<u32>) -> Sides<u32>
+    ensures { result ≡ initial_after change.now initial.now }
+{
+    Sides {
+        client: new_initial(change, Side::Client, initial.client),
+        server: new_initial(change, Side::Server, initial.server),
+    }
+}
+
+/// The initial window in force for a side after a change, from the one before it.
+fn new_initial(change: &Option<Change>, side: Side, before: u32) -> u32
+    ensures { result ≡ new_initial change.now side before }
+{
+    match change {
+        Some(change) if change.side == side => change.initial.unwrap_or(before),
+        _ => before,
+    }
+}
+
+/// Says what a step shows of one side's window on a stream, and brings the window to its state after the step: `None`
+/// is a window that is not live. `opens` tells whether the step opens the stream.
+pub fn say_window(
+    found: &mut Vec<Finding>,
+    window: &mut Option<i64>,
+    side: Side,
+    stream: u32,
+    initial: &Sides<u32>,
+    opens: bool,
+    step: &Step,
+) -> Result<(), AllocError>
+    requires numbered { step.now.number ≤ 2 ^ 28 - 2 }
+    requires streamed { stream < 2 ^ 31 }
+    requires room { WindowHasRoom (2 ^ 62) window.old }
+    ensures said { OnOk result (found.new.items ≡ found.old.items
+        ++ (if opens then say_of (opened_window_said side stream step.now) (window_at_opening side initial.now step.now)
+        else say_of (live_window_said side stream initial.now step.now) window.old)) }
+    ensures window { OnOk result (window.new
+        ≡ (if opens then window_at_opening side initial.now step.now
+        else window_after side stream initial.now step.now window.old)) }
+    ensures room { OnOk result ((bound : ℕ) → WindowHasRoom bound window.old
+        → WindowHasRoom (bound + 2 ^ 34) window.new) }
+{
+    if opens {
+        *window = at_opening(side, initial, step);
+        say_opened(found, window, side, stream, step)?;
+    } else if let Some(before) = *window {
+        *window = say_live(found, side, stream, initial, step, &before)?;
+    }
+    Ok(())
+}
+
+/// The window of a side at the opening: the initial window in force, unless the client ends its side at once.
+fn at_opening(side: Side, initial: &Sides<u32>, step: &Step) -> Option<i64>
+    ensures window { result ≡ window_at_opening side initial.now step.now }
+    ensures room { WindowHasRoom (2 ^ 34) result }
+{
+    if side == Side::Client && step.sends_end(Side::Client) {
+        None
+    } else {
+        Some(i64::from(initial.of(side)))
+    }
+}
+
+/// Says what a step shows of a window that it makes live.
+fn say_opened(
+    found: &mut Vec<Finding>,
+    window: &Option<i64>,
+    side: Side,
+    stream: u32,
+    step: &Step,
+) -> Result<(), AllocError>
+    requires numbered { step.now.number ≤ 2 ^ 28 - 2 }
+    requires streamed { stream < 2 ^ 31 }
+    ensures { OnOk result (found.new.items
+        ≡ found.old.items ++ say_of (opened_window_said side stream step.now) window.now) }
+{
+    let Some(credit) = *window else {
+        return Ok(());
+    };
+    let count = Count {
+        before: credit,
+        after: credit,
+        content: 0,
+    };
+    let begins = count.finding(Kind::StreamStallBegin, step.number, stream, side);
+    say_if(found, is_used_up(&credit), begins)?;
+    found.push(count.finding(Kind::StreamCredit, step.number, stream, side))?;
+    Ok(())
+}
+
+/// Is no credit left, or less than none?
+fn is_used_up(credit: &i64) -> bool
+    ensures { result ≡ is_used_up credit.now }
+{
+    *credit <= 0
+}
+
+/// Says what a step shows of a live window, and gives the window after it.
+fn say_live(
+    found: &mut Vec<Finding>,
+    side: Side,
+    stream: u32,
+    initial: &Sides<u32>,
+    step: &Step,
+    before: &i64,
+) -> Result<Option<i64>, AllocError>
+    requires numbered { step.now.number ≤ 2 ^ 28 - 2 }
+    requires streamed { stream < 2 ^ 31 }
+    requires room { HasRoom (2 ^ 62) before.now }
+    ensures said { OnOk result (found.new.items
+        ≡ found.old.items ++ live_window_said side stream initial.now step.now before.now) }
+    ensures window { IfOk result (λ after. after ≡ window_after side stream initial.now step.now (Some before.now)) }
+    ensures room { IfOk result (λ after. (bound : ℕ) → HasRoom bound before.now → WindowHasRoom (bound + 2 ^ 34) after) }
+{
+    let live = LiveStep::of(side, stream, initial, step, before);
+    let number = step.number;
+    let overflow = live
+        .count
+        .finding(Kind::SettingOverflow, number, stream, side);
+    say_if(found, live.overflows_by_setting(step), overflow)?;
+    let overrun = live
+        .count
+        .finding(Kind::StreamOverrun, number, stream, side);
+    say_if(found, live.count.overruns(), overrun)?;
+    let overflow = live
+        .count
+        .finding(Kind::StreamOverflow, number, stream, side);
+    say_if(found, live.is_overflowing, overflow)?;
+    let end = live
+        .last
+        .finding(Kind::StreamStallEnd, number, stream, side);
+    say_if(found, live.stall_ends(), end)?;
+    let begin = live
+        .last
+        .finding(Kind::StreamStallBegin, number, stream, side);
+    say_if(found, live.stall_begins(), begin)?;
+    let credit = live.last.finding(Kind::StreamCredit, number, stream, side);
+    say_if(found, live.last.moves(), credit)?;
+    Ok(live.after)
+}
+
+/// What a step makes of a live window.
+#[derive(Clone, Copy)]
+struct LiveStep {
+    /// The credit before the step, and after the step is counted.
+    count: Count,
+    /// The credit before the step, and the last that is known of the window: an overflowing grant is not added.
+    last: Count,
+    /// Does a grant bring the window above the largest?
+    is_overflowing: bool,
+    /// The credit after the step, if the window still lives.
+    after: Option<i64>,
+}
+
+impl LiveStep {
+    ghost use Rattle.audit_terms.specs.Stream.{step_amount, counted, is_overflowing_grant, last_credit, window_after, live_window_said, is_stalled};
+    ghost use Rattle.std.specs.Prelude.{◌&&◌, not, is_some};
+    ghost use Rattle.audit_terms.specs.Frame.{content_by, grant_to};
+    ghost use Rattle.audit_terms.specs.Window.{overflows};
+
+    fn of(side: Side, stream: u32, initial: &Sides<u32>, step: &Step, before: &i64) -> Self
+        requires { HasRoom (2 ^ 62) before.now }
+        ensures before { result.count.before ≡ before.now }
+        ensures counted { result.count.after ≡ counted side stream initial.now step.now before.now }
+        ensures content { result.count.content ≡ step_amount (content_by side) step.now }
+        ensures last_before { result.last.before ≡ before.now }
+        ensures last { result.last.after ≡ last_credit side stream initial.now step.now before.now }
+        ensures overflowing { result.is_overflowing
+            ≡ is_overflowing_grant side stream initial.now step.now before.now }
+        ensures after { result.after ≡ window_after side stream initial.now step.now (Some before.now) }
+        ensures room { (bound : ℕ) → HasRoom bound before.now → WindowHasRoom (bound + 2 ^ 34) result.after }
+    {
+        let count = count(side, stream, initial, step, before);
+        let is_overflowing = step.grant_to(side, stream) > 0 && count.overflows();
+        let ends = step.sends_end(side) || step.is_reset() || is_overflowing;
+        LiveStep {
+            last: Count {
+                after: if is_overflowing {
+                    count.before
+                } else {
+                    count.after
+                },
+                ..count
+            },
+            is_overflowing,
+            after: if ends { None } else { Some(count.after) },
+            count,
+        }
+    }
+
+    /// Does an acknowledgement bring the window above the largest?
+    fn overflows_by_setting(&self, step: &Step) -> bool
+        ensures { result ≡ (is_some step.now.change && overflows self.now.count.before self.now.count.after) }
+    {
+        step.change.is_some() && self.count.overflows()
+    }
+
+    /// Is the window live and its credit used up after the step?
+    fn is_stalled(&self) -> bool
+        ensures { result ≡ is_stalled self.now.after }
+    {
+        match self.after {
+            Some(credit) => is_used_up(&credit),
+            None => false,
+        }
+    }
+
+    fn stall_ends(&self) -> bool
+        ensures { result ≡ (is_used_up self.now.count.before && not (is_stalled self.now.after)) }
+    {
+        is_used_up(&self.count.before) && !self.is_stalled()
+    }
+
+    fn stall_begins(&self) -> bool
+        ensures { result ≡ (not (is_used_up self.now.count.before) && is_stalled self.now.after) }
+    {
+        !is_used_up(&self.count.before) && self.is_stalled()
+    }
+}
+
+/// What a step does to the credit of a live window: less the content, plus the grant, plus the new initial window
+/// minus the old.
+fn count(side: Side, stream: u32, initial: &Sides<u32>, step: &Step, before: &i64) -> Count
+    requires { HasRoom (2 ^ 62) before.now }
+    ensures before { result.before ≡ before.now }
+    ensures after { result.after ≡ counted side stream initial.now step.now before.now }
+    ensures content { result.content ≡ step_amount (content_by side) step.now }
+    ensures room { (bound : ℕ) → HasRoom bound before.now → HasRoom (bound + 2 ^ 34) result.after }
+{
+    let content = step.content_by(side);
+    let granted = step.grant_to(side, stream);
+    let old = initial.of(side);
+    let new = new_initial(&step.change, side, old);
+    Count {
+        before: *before,
+        after: *before + i64::from(granted) - i64::from(content) + i64::from(new) - i64::from(old),
+        content,
+    }
+}
