@@ -14,7 +14,7 @@ use Rattle.audit_terms.specs.InForce.{settings_said, settings_run_from, changes_
 use Rattle.audit_terms.specs.Connection.{connection_start, connection_said, connection_after, connection_after_all, block_run}
 use Rattle.audit_terms.specs.Stream.{stream_said}
 use Rattle.audit_terms.specs.Pass.{PassState, pass_start, next, item_of, items_from, step_of, streams_of, streams_said, full_from}
-use Rattle.audit_terms.specs.Run.{frames_on, stream_run, group_run, block_runs}
+use Rattle.audit_terms.specs.Run.{frames_of, stream_run, group_run, block_runs}
 use Rattle.audit_core.specs.PartsLaw.{joined, PartsMakeFull}
 use Rattle.audit_terms.proofs.FindingOrder.{in_order-append_comm, in_order-alike, in_order-in_order}
 use Rattle.audit_core.proofs.PassOrder.{full-in_order}
@@ -117,7 +117,7 @@ groups-joined : (frames : List Frame) (groups : List (List ℕ)) → flat_map (g
 groups-joined frames [] = refl
 groups-joined frames (group ∷ groups) =
     ap (λ l. group_run frames group ++ l) (groups-joined frames groups)
-    ∙ sym (flat_map-append (λ stream. stream_run stream (frames_on stream frames) (changes_of frames)) group (joined groups))
+    ∙ sym (flat_map-append (λ stream. stream_run stream (frames_of stream frames) (changes_of frames)) group (joined groups))
 
 group-alone : (frames : List Frame) (streams : List ℕ) → IsOrderly frames → group_run frames streams ≡ flat_map (λ stream. alone stream pass_start frames) streams
 group-alone frames [] h = refl

@@ -19,7 +19,7 @@ use Rattle.audit_terms.specs.Frame.{IsOrderly}
 use Rattle.audit_terms.specs.InForce.{initial_in_force, in_force_after, change_of, changes_of}
 use Rattle.audit_terms.specs.Stream.{opens, counted, window_after, window_at_opening, idle_stream, opened_window_said, live_window_said, stream_window_said, stream_said, stream_after, stream_run_from, initial_after, stream_finding}
 use Rattle.audit_terms.specs.Pass.{PassState, pass_start, next, step_of}
-use Rattle.audit_terms.specs.Run.{frames_on, stream_run}
+use Rattle.audit_terms.specs.Run.{frames_of, stream_run}
 use Rattle.audit_core.proofs.StreamSteps.{step_if_any, steps_from, steps_of-steps_from}
 
 -- what the pass says of one stream
@@ -147,7 +147,7 @@ run_from-alone stream state (frame ∷ frames) =
     (run_from-alone stream (next state frame) frames)
 
 -- the run of a stream
-pub run-alone : (stream : ℕ) (frames : List Frame) → IsOrderly frames → stream_run stream (frames_on stream frames) (changes_of frames) ≡ alone stream pass_start frames
+pub run-alone : (stream : ℕ) (frames : List Frame) → IsOrderly frames → stream_run stream (frames_of stream frames) (changes_of frames) ≡ alone stream pass_start frames
 run-alone stream frames h =
     ap (stream_run_from stream initial_in_force.initial idle_stream) (steps_of-steps_from 0 stream initial_in_force frames h)
     ∙ run_from-alone stream pass_start frames

@@ -10,7 +10,7 @@ use Rattle.audit_terms.specs.Frame.{IsOrderlyFrom}
 use Rattle.audit_terms.specs.Change.{change_by}
 use Rattle.audit_terms.specs.InForce.{InForce, in_force_after, change_taking, taken, changes_from}
 use Rattle.audit_terms.specs.Pass.{step_of}
-use Rattle.audit_terms.specs.Run.{frames_on, frame_step, change_step, with_change, steps_of}
+use Rattle.audit_terms.specs.Run.{frames_of, frame_step, change_step, with_change, steps_of}
 
 -- all numbers at or above one
 abbrev pub FramesFrom : (low : ℕ) → List Frame → Type 0
@@ -87,10 +87,10 @@ frames-later : (low high : ℕ) (frames : List Frame) → low ≤ high → IsOrd
 frames-later low high [] p h = tt
 frames-later low high (frame ∷ frames) p h = (omega (arith, h.0), frames-later low (frame.number + 1) frames (omega (arith, h.0)) h.2)
 
-frames_on-from : (low stream : ℕ) (frames : List Frame) → FramesFrom low frames → FramesFrom low (frames_on stream frames)
-frames_on-from low stream [] h = tt
-frames_on-from low stream (frame ∷ frames) h = by_test (frame.stream == stream) (frames_on-from low stream frames h.1) where
-  by_test : (on : Bool) → FramesFrom low (frames_on stream frames) → FramesFrom low (if on then frame ∷ frames_on stream frames else frames_on stream frames)
+frames_of-from : (low stream : ℕ) (frames : List Frame) → FramesFrom low frames → FramesFrom low (frames_of stream frames)
+frames_of-from low stream [] h = tt
+frames_of-from low stream (frame ∷ frames) h = by_test (frame.stream == stream) (frames_of-from low stream frames h.1) where
+  by_test : (on : Bool) → FramesFrom low (frames_of stream frames) → FramesFrom low (if on then frame ∷ frames_of stream frames else frames_of stream frames)
   by_test true rest = (h.0, rest)
   by_test false rest = rest
 
@@ -105,7 +105,7 @@ changes-later low high now (frame ∷ frames) p h =
 
 -- the steps of a stream's frames and all changes are those of the connection's frames at which something is there
 pub steps_of-steps_from : (low stream : ℕ) (now : InForce) (frames : List Frame) → IsOrderlyFrom low frames
-    → steps_of (frames_on stream frames) (changes_from now frames) ≡ steps_from stream now frames
+    → steps_of (frames_of stream frames) (changes_from now frames) ≡ steps_from stream now frames
 steps_of-steps_from low stream now [] h = refl
 steps_of-steps_from low stream now (frame ∷ frames) h =
     by_cases (frame.stream == stream) (taken now frame)
@@ -113,19 +113,19 @@ steps_of-steps_from low stream now (frame ∷ frames) h =
       later-from : ChangesFrom (frame.number + 1) (changes_from (in_force_after now frame) frames)
       later-from = changes-later (frame.number + 1) (frame.number + 1) (in_force_after now frame) frames (omega arith) h.2
 
-      steps-from : StepsFrom (frame.number + 1) (steps_of (frames_on stream frames) (changes_from (in_force_after now frame) frames))
-      steps-from = steps_of-from (frame.number + 1) (frames_on stream frames) (changes_from (in_force_after now frame) frames)
-          (frames_on-from (frame.number + 1) stream frames (frames-later (frame.number + 1) (frame.number + 1) frames (omega arith) h.2)) later-from
+      steps-from : StepsFrom (frame.number + 1) (steps_of (frames_of stream frames) (changes_from (in_force_after now frame) frames))
+      steps-from = steps_of-from (frame.number + 1) (frames_of stream frames) (changes_from (in_force_after now frame) frames)
+          (frames_of-from (frame.number + 1) stream frames (frames-later (frame.number + 1) (frame.number + 1) frames (omega arith) h.2)) later-from
 
       by_cases : (on : Bool) (o : Option Settings)
-          → steps_of (frames_on stream frames) (changes_from (in_force_after now frame) frames) ≡ steps_from stream (in_force_after now frame) frames
-          → steps_of (if on then frame ∷ frames_on stream frames else frames_on stream frames) (option_to_list (change_taking frame o) ++ changes_from (in_force_after now frame) frames)
+          → steps_of (frames_of stream frames) (changes_from (in_force_after now frame) frames) ≡ steps_from stream (in_force_after now frame) frames
+          → steps_of (if on then frame ∷ frames_of stream frames else frames_of stream frames) (option_to_list (change_taking frame o) ++ changes_from (in_force_after now frame) frames)
           ≡ step_if_any (record { number = frame.number; frame = (if on then Some frame else None); change = change_taking frame o }) ++ steps_from stream (in_force_after now frame) frames
-      by_cases true None ih = steps_of-first frame (frames_on stream frames) (changes_from (in_force_after now frame) frames) later-from ∙ ap (λ steps. frame_step frame ∷ steps) ih
+      by_cases true None ih = steps_of-first frame (frames_of stream frames) (changes_from (in_force_after now frame) frames) later-from ∙ ap (λ steps. frame_step frame ∷ steps) ih
       by_cases true (Some settings) ih =
-          ap (λ steps. with_change steps (change_by frame settings)) (steps_of-first frame (frames_on stream frames) (changes_from (in_force_after now frame) frames) later-from)
+          ap (λ steps. with_change steps (change_by frame settings)) (steps_of-first frame (frames_of stream frames) (changes_from (in_force_after now frame) frames) later-from)
           ∙ rw (same_test frame.number) (ap (λ steps. record { number = frame.number; frame = Some frame; change = Some (change_by frame settings) } ∷ steps) ih)
       by_cases false None ih = ih
       by_cases false (Some settings) ih =
-          with_change-first (steps_of (frames_on stream frames) (changes_from (in_force_after now frame) frames)) (change_by frame settings) steps-from
+          with_change-first (steps_of (frames_of stream frames) (changes_from (in_force_after now frame) frames)) (change_by frame settings) steps-from
           ∙ ap (λ steps. change_step (change_by frame settings) ∷ steps) ih

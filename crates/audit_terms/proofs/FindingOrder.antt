@@ -9,10 +9,10 @@ use Rattle.std.proofs.lemmas.Cmp.{nat_cmp_total, int_cmp_total, on_total, then_t
 use Rattle.audit_terms.specs.declared.sides.Side.{Side}
 use Rattle.audit_terms.specs.declared.sides.Side.TheVariants.{Client, Server}
 use Rattle.audit_terms.specs.declared.kinds.Kind.{Kind}
-use Rattle.audit_terms.specs.declared.kinds.Kind.TheVariants.{BadPreface, BrokenBlock, TooLong, WrongStream, WrongSize, BadPadding, BadSetting, Push, PushNotAudited, NotOpened, IdNotGreater, ZeroConnectionGrant, ConnectionOverflow, SettingOverflow, LongFrame, AfterEnd, ConnectionOverrun, StreamOverrun, ZeroStreamGrant, StreamOverflow, UnmatchedAck, BadPriority, ConnectionStallEnd, ConnectionStallBegin, StreamStallEnd, StreamStallBegin, ConnectionCredit, StreamCredit}
+use Rattle.audit_terms.specs.declared.kinds.Kind.TheVariants.{BadPreface, BrokenBlock, TooLong, WrongStream, WrongSize, BadPadding, BadSetting, Push, NotOpened, IdNotGreater, ZeroConnectionGrant, ConnectionOverflow, SettingOverflow, LongFrame, AfterEnd, ConnectionOverrun, StreamOverrun, ZeroStreamGrant, StreamOverflow, UnmatchedAck, BadPriority, ConnectionStallEnd, ConnectionStallBegin, StreamStallEnd, StreamStallBegin, ConnectionCredit, StreamCredit}
 use Rattle.audit_terms.specs.declared.findings.Finding.{Finding}
 use Rattle.audit_terms.specs.Side.{side_order}
-use Rattle.audit_terms.specs.Kind.{kind_order}
+use Rattle.audit_terms.specs.Kind.{rank_of}
 use Rattle.audit_terms.specs.Finding.{finding_cmp, comes_after, in_order}
 use Rattle.audit_terms.proofs.OrderedLists.{IsAfter, IsRising, ordered-left, ordered-right, ordered-both, ordered-append_comm, ordered-alike, ordered-ordered, ordered-permutation, ordered-in_order, in_order-rising, filter-ordered}
 
@@ -20,7 +20,7 @@ pub finding_total : IsTotalOrder finding_cmp
 finding_total =
     then_total (on_total (λ (found : Finding). found.place) nat_cmp_total)
     (then_total (on_total (λ (found : Finding). side_order found.side) nat_cmp_total)
-    (then_total (on_total (λ (found : Finding). kind_order found.kind) nat_cmp_total)
+    (then_total (on_total (λ (found : Finding). rank_of found.kind) nat_cmp_total)
     (on_total (λ (found : Finding). found.value) int_cmp_total)))
 
 first_equal : (a b : Ordering) → ordering_then a b ≡ Equal → a ≡ Equal
@@ -47,12 +47,12 @@ side_level Server Server e = refl
 
 kinds_in_order : List Kind
 kinds_in_order =
-    BadPreface ∷ BrokenBlock ∷ TooLong ∷ WrongStream ∷ WrongSize ∷ BadPadding ∷ BadSetting ∷ Push ∷ PushNotAudited ∷ NotOpened
+    BadPreface ∷ BrokenBlock ∷ TooLong ∷ WrongStream ∷ WrongSize ∷ BadPadding ∷ BadSetting ∷ Push ∷ NotOpened
     ∷ IdNotGreater ∷ ZeroConnectionGrant ∷ ConnectionOverflow ∷ SettingOverflow ∷ LongFrame ∷ AfterEnd ∷ ConnectionOverrun
     ∷ StreamOverrun ∷ ZeroStreamGrant ∷ StreamOverflow ∷ UnmatchedAck ∷ BadPriority ∷ ConnectionStallEnd ∷ ConnectionStallBegin
     ∷ StreamStallEnd ∷ StreamStallBegin ∷ ConnectionCredit ∷ StreamCredit ∷ []
 
-kind_at : (kind : Kind) → slice_get kinds_in_order (kind_order kind) ≡ Some kind
+kind_at : (kind : Kind) → slice_get kinds_in_order (rank_of kind) ≡ Some kind
 unfolding kinds_in_order
 kind_at BadPreface = refl
 kind_at BrokenBlock = refl
@@ -62,7 +62,6 @@ kind_at WrongSize = refl
 kind_at BadPadding = refl
 kind_at BadSetting = refl
 kind_at Push = refl
-kind_at PushNotAudited = refl
 kind_at NotOpened = refl
 kind_at IdNotGreater = refl
 kind_at ZeroConnectionGrant = refl
@@ -83,7 +82,7 @@ kind_at StreamStallBegin = refl
 kind_at ConnectionCredit = refl
 kind_at StreamCredit = refl
 
-kind_level : (x y : Kind) → kind_order x ≡ kind_order y → x ≡ y
+kind_level : (x y : Kind) → rank_of x ≡ rank_of y → x ≡ y
 kind_level x y e =
     let h : Some x ≡ Some y = sym (kind_at x) ∙ ap (slice_get kinds_in_order) e ∙ kind_at y in cc
 
@@ -108,7 +107,7 @@ same_fields x y p s k v = same_made x.place y.place x.side y.side x.kind y.kind 
 pub finding_level : (x y : Finding) → finding_cmp x y ≡ Equal → x ≡ y
 finding_level x y e =
     let all = all_equal (nat_cmp x.place y.place) (nat_cmp (side_order x.side) (side_order y.side))
-    (nat_cmp (kind_order x.kind) (kind_order y.kind)) (int_cmp x.value y.value) e in
+    (nat_cmp (rank_of x.kind) (rank_of y.kind)) (int_cmp x.value y.value) e in
     same_fields x y (nat_level _ _ all.0) (side_level _ _ (nat_level _ _ all.1)) (kind_level _ _ (nat_level _ _ all.2))
     (int_level _ _ all.3)
 

@@ -1,6 +1,7 @@
 -- What an acknowledged SETTINGS frame brings into force (RFC 9113, 6.5.3), for the endpoint that acknowledges.
 use Rattle.std.specs.Prelude.{ℕ, if◌then◌else◌, Option, Some, None, unwrap_or}
 use Rattle.audit_terms.specs.declared.sides.Side.{Side}
+use Rattle.audit_terms.specs.declared.sides.Side.TheVariants.{Server}
 use Rattle.audit_terms.specs.declared.frames.Settings.{Settings}
 use Rattle.audit_terms.specs.declared.frames.Frame.{Frame}
 use Rattle.audit_terms.specs.declared.items.Change.{Change}
@@ -25,3 +26,8 @@ new_initial (Some change) d before = if is_side d change.side then unwrap_or cha
 abbrev pub new_limit : Option Change → Side → ℕ → ℕ
 new_limit None d before = before
 new_limit (Some change) d before = if is_side d change.side then unwrap_or change.max_frame before else before
+
+-- SETTINGS_ENABLE_PUSH of the client, in force for the server, after a change, from the one before it (6.5.2)
+abbrev pub new_push : Option Change → ℕ → ℕ
+new_push None before = before
+new_push (Some change) before = if is_side Server change.side then unwrap_or change.push before else before

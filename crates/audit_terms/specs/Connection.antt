@@ -1,11 +1,11 @@
 -- The connection: each side's connection window, the order of opened streams, the length of frames
 -- (RFC 9113, 4.2, 5.1.1, 6.9).
-use Rattle.std.specs.Prelude.{ℕ, ℤ, pos, ◌+ℤ◌, ◌-ℤ◌, max, Bool, ◌==◌, ◌&&◌, ◌||◌, not, nat_lt, nat_le, if◌then◌else◌, List, [], ◌∷◌, ◌++◌}
+use Rattle.std.specs.Prelude.{ℕ, ℤ, pos, ◌%◌, ◌+ℤ◌, ◌-ℤ◌, max, Bool, ◌==◌, ◌&&◌, ◌||◌, not, nat_lt, nat_le, if◌then◌else◌, List, [], ◌∷◌, ◌++◌}
 use Rattle.std.specs.Ordering.{int_eq}
 use Rattle.audit_terms.specs.declared.sides.Side.{Side}
 use Rattle.audit_terms.specs.declared.sides.Side.TheVariants.{Client, Server}
 use Rattle.audit_terms.specs.declared.sides.Sides.{Sides}
-use Rattle.audit_terms.specs.declared.kinds.Kind.TheVariants.{TooLong, IdNotGreater, ZeroConnectionGrant, ConnectionOverflow, LongFrame, ConnectionOverrun, ConnectionStallEnd, ConnectionStallBegin, ConnectionCredit}
+use Rattle.audit_terms.specs.declared.kinds.Kind.TheVariants.{TooLong, Push, IdNotGreater, ZeroConnectionGrant, ConnectionOverflow, LongFrame, ConnectionOverrun, ConnectionStallEnd, ConnectionStallBegin, ConnectionCredit}
 use Rattle.audit_terms.specs.declared.frames.Frame.{Frame}
 use Rattle.audit_terms.specs.declared.items.Item.{Item}
 use Rattle.audit_terms.specs.declared.connections.ConnectionState.{ConnectionState}
@@ -13,29 +13,49 @@ use Rattle.audit_terms.specs.declared.findings.Finding.{Finding}
 use Rattle.audit_terms.specs.Side.{other}
 use Rattle.audit_terms.specs.Sides.{side_of, each_side}
 use Rattle.audit_terms.specs.FrameType.{headers_type, settings_type, push_promise_type, continuation_type}
-use Rattle.audit_terms.specs.Frame.{content_by, grant_to, grants_nothing}
-use Rattle.audit_terms.specs.Window.{overflows, overruns, stall_begins, stall_ends}
-use Rattle.audit_terms.specs.Change.{new_limit}
+use Rattle.audit_terms.specs.Frame.{is_headers, is_server_promise, promised_in, content_by, grant_to, grants_nothing}
+use Rattle.audit_terms.specs.Window.{first_window, overflows, overruns, stall_begins, stall_ends}
+use Rattle.audit_terms.specs.Change.{new_limit, new_push}
 use Rattle.audit_terms.specs.Finding.{finding_at, say, in_order}
 
--- the connection before any frame (5.1.1, 6.5.2, 6.9.2)
+-- the greatest frame length at the start (4.2, 6.5.2)
+abbrev pub first_limit : ℕ
+first_limit = 16384
+
+-- the connection before any frame (5.1.1, 6.5.2, 6.9.2); a server may promise streams until the client forbids it
 abbrev pub connection_start : ConnectionState
 connection_start = record {
-  credit = each_side (λ _. pos 65535);
-  greatest = 0;
-  limit = each_side (λ _. 16384);
+  credit = each_side (λ _. pos first_window);
+  opened = 0;
+  promised = 0;
+  push = 1;
+  limit = each_side (λ _. first_limit);
 }
 
--- connection credit of side d after a frame: less its own content, whatever the stream, plus the other side's grants
--- on stream 0, also above the largest window (6.9, 6.9.1)
+-- what a frame moves the connection credit of side d by: the other side's grants on stream 0, less its own content, whatever
+-- the stream (6.9, 6.9.1)
+abbrev pub credit_moved : Side → Frame → ℤ
+credit_moved d frame = pos (grant_to d 0 frame) -ℤ pos (content_by d frame)
+
+-- connection credit of side d after a frame, also above the largest window
 abbrev pub credit_after : Side → (before : ℤ) → Frame → ℤ
-credit_after d before frame = (before +ℤ pos (grant_to d 0 frame)) -ℤ pos (content_by d frame)
+credit_after d before frame = before +ℤ credit_moved d frame
+
+-- HEADERS that open their stream
+abbrev pub is_opened_by_headers : Item → Bool
+is_opened_by_headers item = item.opens && is_headers item.frame.body
+
+-- a promise of the server of an even stream
+abbrev pub is_even_promise : Frame → Bool
+is_even_promise frame = is_server_promise frame && (promised_in frame.body % 2 == 0)
 
 -- the connection after an item
 abbrev pub connection_after : ConnectionState → Item → ConnectionState
 connection_after now item = record {
   credit = each_side (λ d. credit_after d (side_of d now.credit) item.frame);
-  greatest = (if item.opens then max now.greatest item.frame.stream else now.greatest);
+  opened = (if is_opened_by_headers item then max now.opened item.frame.stream else now.opened);
+  promised = (if is_even_promise item.frame then max now.promised (promised_in item.frame.body) else now.promised);
+  push = new_push item.change now.push;
   limit = each_side (λ d. new_limit item.change d (side_of d now.limit));
 }
 
@@ -52,11 +72,22 @@ length_said limit frame =
     say (nat_lt limit frame.length)
     (finding_at (if is_length_fatal frame then TooLong else LongFrame) frame.number frame.stream frame.side (pos frame.length))
 
--- an opened stream that is not above each one opened before (5.1.1)
-abbrev pub opening_order_said : (greatest : ℕ) → Item → List Finding
-opening_order_said greatest item =
-    say (item.opens && nat_le item.frame.stream greatest)
-    (finding_at IdNotGreater item.frame.number item.frame.stream item.frame.side (pos greatest))
+-- a stream that the client opens, not above each one that it opened before (5.1.1)
+abbrev pub opening_order_said : (opened : ℕ) → Item → List Finding
+opening_order_said opened item =
+    say (is_opened_by_headers item && nat_le item.frame.stream opened)
+    (finding_at IdNotGreater item.frame.number item.frame.stream item.frame.side (pos opened))
+
+-- a promise of the server of a stream that is odd or 0, or not above each even one that it promised before (5.1.1)
+abbrev pub promise_order_said : (promised : ℕ) → Frame → List Finding
+promise_order_said promised frame =
+    say (is_server_promise frame && ((promised_in frame.body % 2 == 1) || nat_le (promised_in frame.body) promised))
+    (finding_at IdNotGreater frame.number (promised_in frame.body) frame.side (pos promised))
+
+-- a promise of the server while the client takes none (6.5.2, 8.4)
+abbrev pub push_said : (push : ℕ) → Frame → List Finding
+push_said push frame =
+    say (is_server_promise frame && (push == 0)) (finding_at Push frame.number frame.stream frame.side (pos 0))
 
 -- what a frame shows of the connection window of side d, whose credit before it is `before`
 abbrev pub connection_window_said : Side → (before : ℤ) → Frame → List Finding
@@ -78,7 +109,9 @@ connection_windows_said credit frame =
 abbrev pub connection_said : ConnectionState → Item → List Finding
 connection_said now item =
     length_said (new_limit item.change item.frame.side (side_of item.frame.side now.limit)) item.frame
-    ++ opening_order_said now.greatest item
+    ++ push_said now.push item.frame
+    ++ opening_order_said now.opened item
+    ++ promise_order_said now.promised item.frame
     ++ connection_windows_said now.credit item.frame
 
 -- the connection after some items

@@ -4,6 +4,7 @@ use Rattle.std.specs.Prelude.{ℕ, ℤ, pos, ◌+◌, ◌-ℤ◌, ◌==◌, nat_
 use Rattle.audit_terms.specs.declared.sides.Side.{Side}
 use Rattle.audit_terms.specs.declared.frames.Frame.{Frame}
 use Rattle.audit_terms.specs.Frame.{content_by, grant_to}
+use Rattle.audit_terms.specs.Window.{first_window}
 
 -- the content that side d sends on one stream with this frame
 abbrev pub content_on : Side → (stream : ℕ) → Frame → ℕ
@@ -16,7 +17,7 @@ credit_sum beginning stream d frames content =
 
 -- the credit of side d's connection window after some frames: all content of d counts, on every stream
 abbrev pub connection_credit_sum : Side → List Frame → ℤ
-connection_credit_sum d frames = credit_sum 65535 0 d frames (content_by d)
+connection_credit_sum d frames = credit_sum first_window 0 d frames (content_by d)
 
 -- the frames from a number on
 abbrev pub since : (number : ℕ) → List Frame → List Frame

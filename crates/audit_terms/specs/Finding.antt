@@ -1,12 +1,12 @@
 -- What an audit says of a frame, in which order, and where it stops.
-use Rattle.std.specs.Prelude.{ℕ, ℤ, Bool, nat_le, List, [], ◌∷◌, if◌then◌else◌, Option, Some, None}
+use Rattle.std.specs.Prelude.{ℕ, ℤ, Bool, List, [], ◌∷◌, if◌then◌else◌, Option, Some, None}
 use Rattle.std.specs.declared.cmp.Ordering.{Ordering}
 use Rattle.std.specs.Ordering.{nat_cmp, int_cmp, then_cmp, on, is_gt}
 use Rattle.audit_terms.specs.declared.sides.Side.{Side}
 use Rattle.audit_terms.specs.declared.kinds.Kind.{Kind}
 use Rattle.audit_terms.specs.declared.findings.Finding.{Finding}
 use Rattle.audit_terms.specs.Side.{side_order}
-use Rattle.audit_terms.specs.Kind.{rank_of, kind_order}
+use Rattle.audit_terms.specs.Kind.{rank_of, is_connection_error}
 use Rattle.audit_terms.specs.Place.{place_of}
 use Rattle.audit_terms.specs.Order.{ordered_by}
 
@@ -28,16 +28,16 @@ abbrev pub say_of : {A : Type 0} → (A → List Finding) → Option A → List 
 say_of said None = []
 say_of said (Some a) = said a
 
--- connection errors (RFC 9113, 5.4.1) stop the audit of a connection: ranks 0 to 12
+-- connection errors stop the audit of a connection (RFC 9113, 5.4.1)
 abbrev pub stops : Finding → Bool
-stops found = nat_le (rank_of found.kind) 12
+stops found = is_connection_error found.kind
 
 -- in order of place, then the client before the server; kind and value make the order total
 abbrev pub finding_cmp : Finding → Finding → Ordering
 finding_cmp =
     then_cmp (on (λ (found : Finding). found.place) nat_cmp)
     (then_cmp (on (λ (found : Finding). side_order found.side) nat_cmp)
-    (then_cmp (on (λ (found : Finding). kind_order found.kind) nat_cmp)
+    (then_cmp (on (λ (found : Finding). rank_of found.kind) nat_cmp)
     (on (λ (found : Finding). found.value) int_cmp)))
 
 -- does the first finding stand after the second?

@@ -1,7 +1,8 @@
 -- What a frame does to windows, streams and settings (RFC 9113, 4 and 6). These rules go by the body:
 -- a frame whose payload cannot be read does nothing.
-use Rattle.std.specs.Prelude.{ℕ, ◌+◌, ◌-◌, ◌^◌, ◌<◌, ◌≤◌, Bool, true, false, ◌==◌, ◌&&◌, ◌||◌, if◌then◌else◌, List, [], ◌∷◌}
+use Rattle.std.specs.Prelude.{ℕ, ◌+◌, ◌-◌, ◌%◌, ◌^◌, ◌<◌, ◌≤◌, Bool, true, false, ◌==◌, ◌&&◌, ◌||◌, not, if◌then◌else◌, List, [], ◌∷◌}
 use Rattle.audit_terms.specs.declared.sides.Side.{Side}
+use Rattle.audit_terms.specs.declared.sides.Side.TheVariants.{Client, Server}
 use Rattle.audit_terms.specs.declared.frames.Settings.{Settings}
 use Rattle.audit_terms.specs.declared.frames.Body.{Body}
 use Rattle.audit_terms.specs.declared.frames.Body.TheVariants.{Content, Headers, RstStream, Settings as SettingsBody, SettingsAck, PushPromise, WindowUpdate}
@@ -53,6 +54,32 @@ abbrev pub promised_in : Body → ℕ
 promised_in (PushPromise stream) = stream
 promised_in _ = 0
 
+-- PUSH_PROMISE (6.6)
+abbrev pub is_promise : Body → Bool
+is_promise (PushPromise _) = true
+is_promise _ = false
+
+-- a promise of the server that can be read
+abbrev pub is_server_promise : Frame → Bool
+is_server_promise frame = is_side Server frame.side && is_promise frame.body
+
+-- HEADERS of the client
+abbrev pub is_client_headers : Frame → Bool
+is_client_headers frame = is_side Client frame.side && is_headers frame.body
+
+-- the server promises the stream, an even one, by a frame on another stream (5.1.1, 6.6)
+abbrev pub promises : (stream : ℕ) → Frame → Bool
+promises stream frame =
+    is_server_promise frame && (promised_in frame.body == stream) && (stream % 2 == 0) && not (frame.stream == stream)
+
+-- the stream that a frame promises, 0 where it promises none
+abbrev pub promised_by : Frame → ℕ
+promised_by frame = if promises (promised_in frame.body) frame then promised_in frame.body else 0
+
+-- the stream meets the frame: it is on the stream, or promises it
+abbrev pub meets : (stream : ℕ) → Frame → Bool
+meets stream frame = (frame.stream == stream) || promises stream frame
+
 -- the flow-controlled length that endpoint d sends with this frame (6.9.1): all of a DATA frame, padding included
 abbrev pub content_by : Side → Frame → ℕ
 content_by d frame = if is_side d frame.side && is_content frame.body then frame.length else 0
@@ -72,6 +99,10 @@ sends_end d frame = is_side d frame.side && (is_content frame.body || is_headers
 -- endpoint d resets the stream (6.4)
 abbrev pub sends_reset : Side → Frame → Bool
 sends_reset d frame = is_side d frame.side && is_reset frame.body
+
+-- frames that only an opened stream carries (5.1)
+abbrev pub needs_opening : Frame → Bool
+needs_opening frame = is_content frame.body || is_headers frame.body || is_reset frame.body || is_update frame.body
 
 -- the ranges of what a frame holds: 28 bits of number, 31 bits of stream, 24 bits of length (4.1), a time below 2^63
 pub record IsInRange (frame : Frame) : Type 0 where

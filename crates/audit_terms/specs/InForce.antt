@@ -10,7 +10,8 @@ use Rattle.audit_terms.specs.declared.findings.Finding.{Finding}
 use Rattle.audit_terms.specs.Side.{other, is_side}
 use Rattle.audit_terms.specs.Sides.{side_of, each_side}
 use Rattle.audit_terms.specs.Frame.{is_ack, settings_in}
-use Rattle.audit_terms.specs.Change.{change_by, new_initial, new_limit}
+use Rattle.audit_terms.specs.Change.{change_by, new_initial}
+use Rattle.audit_terms.specs.Window.{first_window}
 use Rattle.audit_terms.specs.Finding.{finding_at, say}
 
 -- what stands after some frames
@@ -18,15 +19,13 @@ pub record InForce : Type 0 where
   pub sent : Sides (List Settings)  -- all SETTINGS that each side sent
   pub paired : Sides ℕ  -- how many acknowledgements of each side took one
   pub initial : Sides ℕ  -- the initial window in force for the streams on which the side sends (6.9.2)
-  pub limit : Sides ℕ  -- the greatest frame length that the side may send (4.2)
 
--- the values at the start (6.5.2)
+-- before any frame
 abbrev pub initial_in_force : InForce
 initial_in_force = record {
   sent = each_side (λ _. []);
   paired = each_side (λ _. 0);
-  initial = each_side (λ _. 65535);
-  limit = each_side (λ _. 16384);
+  initial = each_side (λ _. first_window);
 }
 
 -- the SETTINGS that a frame takes: with m acknowledgements of its side paired before it, an acknowledgement takes the
@@ -50,7 +49,6 @@ in_force_after now frame = record {
   sent = each_side (λ d. side_of d now.sent ++ (if is_side d frame.side then settings_in frame.body else []));
   paired = each_side (λ d. side_of d now.paired + (if is_side d frame.side && is_some (taken now frame) then 1 else 0));
   initial = each_side (λ d. new_initial (change_of now frame) d (side_of d now.initial));
-  limit = each_side (λ d. new_limit (change_of now frame) d (side_of d now.limit));
 }
 
 -- an acknowledgement with no SETTINGS left to take

@@ -1,7 +1,7 @@
--- The kinds of findings: their ranks, their order and the words that a report prints.
-use Rattle.std.specs.Prelude.{ℕ, List, codes}
+-- The kinds of findings: their ranks, what each rank is, and the words that a report prints.
+use Rattle.std.specs.Prelude.{ℕ, Bool, true, false, nat_le, List, codes}
 use Rattle.audit_terms.specs.declared.kinds.Kind.{Kind}
-use Rattle.audit_terms.specs.declared.kinds.Kind.TheVariants.{BadPreface, BrokenBlock, TooLong, WrongStream, WrongSize, BadPadding, BadSetting, Push, PushNotAudited, NotOpened, IdNotGreater, ZeroConnectionGrant, ConnectionOverflow, SettingOverflow, LongFrame, AfterEnd, ConnectionOverrun, StreamOverrun, ZeroStreamGrant, StreamOverflow, UnmatchedAck, BadPriority, ConnectionStallEnd, ConnectionStallBegin, StreamStallEnd, StreamStallBegin, ConnectionCredit, StreamCredit}
+use Rattle.audit_terms.specs.declared.kinds.Kind.TheVariants.{BadPreface, BrokenBlock, TooLong, WrongStream, WrongSize, BadPadding, BadSetting, Push, NotOpened, IdNotGreater, ZeroConnectionGrant, ConnectionOverflow, SettingOverflow, LongFrame, AfterEnd, ConnectionOverrun, StreamOverrun, ZeroStreamGrant, StreamOverflow, UnmatchedAck, BadPriority, ConnectionStallEnd, ConnectionStallBegin, StreamStallEnd, StreamStallBegin, ConnectionCredit, StreamCredit}
 
 -- the rank of a kind: 0 to 12 are connection errors (RFC 9113, 5.4.1), 13 to 20 other faults,
 -- 21 to 24 stalls, 25 and 26 credits
@@ -14,7 +14,6 @@ rank_of WrongSize = 4
 rank_of BadPadding = 5
 rank_of BadSetting = 6
 rank_of Push = 7
-rank_of PushNotAudited = 7
 rank_of NotOpened = 8
 rank_of IdNotGreater = 9
 rank_of ZeroConnectionGrant = 10
@@ -35,36 +34,31 @@ rank_of StreamStallBegin = 24
 rank_of ConnectionCredit = 25
 rank_of StreamCredit = 26
 
--- the place of a kind in the order of kinds, which tells the two kinds of rank 7 apart
-abbrev pub kind_order : Kind → ℕ
-kind_order BadPreface = 0
-kind_order BrokenBlock = 1
-kind_order TooLong = 2
-kind_order WrongStream = 3
-kind_order WrongSize = 4
-kind_order BadPadding = 5
-kind_order BadSetting = 6
-kind_order Push = 7
-kind_order PushNotAudited = 8
-kind_order NotOpened = 9
-kind_order IdNotGreater = 10
-kind_order ZeroConnectionGrant = 11
-kind_order ConnectionOverflow = 12
-kind_order SettingOverflow = 13
-kind_order LongFrame = 14
-kind_order AfterEnd = 15
-kind_order ConnectionOverrun = 16
-kind_order StreamOverrun = 17
-kind_order ZeroStreamGrant = 18
-kind_order StreamOverflow = 19
-kind_order UnmatchedAck = 20
-kind_order BadPriority = 21
-kind_order ConnectionStallEnd = 22
-kind_order ConnectionStallBegin = 23
-kind_order StreamStallEnd = 24
-kind_order StreamStallBegin = 25
-kind_order ConnectionCredit = 26
-kind_order StreamCredit = 27
+-- connection errors (RFC 9113, 5.4.1), which stop the audit of a connection
+abbrev pub is_connection_error : Kind → Bool
+is_connection_error kind = nat_le (rank_of kind) 12
+
+-- breaches of a rule, of the connection, of a stream or of a frame; the other kinds tell of stalls and credit
+abbrev pub is_fault : Kind → Bool
+is_fault kind = nat_le (rank_of kind) 20
+
+-- credit is used up from here on
+abbrev pub begins_stall : Kind → Bool
+begins_stall ConnectionStallBegin = true
+begins_stall StreamStallBegin = true
+begins_stall _ = false
+
+-- credit is there again
+abbrev pub ends_stall : Kind → Bool
+ends_stall ConnectionStallEnd = true
+ends_stall StreamStallEnd = true
+ends_stall _ = false
+
+-- the credit of a window that changed
+abbrev pub is_credit : Kind → Bool
+is_credit ConnectionCredit = true
+is_credit StreamCredit = true
+is_credit _ = false
 
 -- the word that a report prints
 abbrev pub kind_name : Kind → List ℕ
@@ -76,7 +70,6 @@ kind_name WrongSize = codes "wrong-size"
 kind_name BadPadding = codes "bad-padding"
 kind_name BadSetting = codes "bad-setting"
 kind_name Push = codes "push"
-kind_name PushNotAudited = codes "push-not-audited"
 kind_name NotOpened = codes "not-opened"
 kind_name IdNotGreater = codes "id-not-greater"
 kind_name ZeroConnectionGrant = codes "zero-connection-grant"

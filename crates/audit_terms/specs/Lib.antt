@@ -6,6 +6,7 @@ pub mod Order
 pub mod Finding
 pub mod FrameType
 pub mod Frame
+pub mod Life
 pub mod Window
 pub mod Change
 pub mod LocalFault

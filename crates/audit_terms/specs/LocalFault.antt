@@ -1,11 +1,10 @@
 -- What a frame and the frame of its side just before it show by themselves (RFC 9113, 3.4, 4.3, 6). These rules go by
 -- the type byte, the flags and the stream; only what cannot be read goes by the body.
 use Rattle.std.specs.Prelude.{ℕ, pos, Bool, ◌==◌, ◌&&◌, ◌||◌, not, if◌then◌else◌, List, [], ◌∷◌, ◌++◌, Option, Some, None, is_none}
-use Rattle.audit_terms.specs.declared.sides.Side.{Side}
-use Rattle.audit_terms.specs.declared.sides.Side.TheVariants.{Client, Server}
+use Rattle.audit_terms.specs.declared.sides.Side.TheVariants.{Client}
 use Rattle.audit_terms.specs.declared.sides.Sides.{Sides}
 use Rattle.audit_terms.specs.declared.kinds.Kind.{Kind}
-use Rattle.audit_terms.specs.declared.kinds.Kind.TheVariants.{BadPreface, BrokenBlock, WrongStream, WrongSize, BadPadding, BadSetting, Push, PushNotAudited, BadPriority}
+use Rattle.audit_terms.specs.declared.kinds.Kind.TheVariants.{BadPreface, BrokenBlock, WrongStream, WrongSize, BadPadding, BadSetting, Push, BadPriority}
 use Rattle.audit_terms.specs.declared.frames.Body.{Body}
 use Rattle.audit_terms.specs.declared.frames.Body.TheVariants.{Settings as SettingsBody, Unreadable}
 use Rattle.audit_terms.specs.declared.frames.Frame.{Frame}
@@ -47,11 +46,6 @@ needs_connection code = (code == settings_type) || (code == ping_type) || (code 
 abbrev pub is_on_wrong_stream : Frame → Bool
 is_on_wrong_stream frame = if frame.stream == 0 then needs_stream frame.code else needs_connection frame.code
 
--- a PUSH_PROMISE: of the client it is an error (8.4), of the server it is not audited
-abbrev pub push_kind : Side → Kind
-push_kind Client = Push
-push_kind Server = PushNotAudited
-
 -- a fault of the frame's sender
 abbrev pub fault : Kind → Frame → ℕ → Finding
 fault kind frame value = finding_at kind frame.number frame.stream frame.side (pos value)
@@ -69,14 +63,14 @@ body_said frame (Unreadable kind value) = reading_fault kind frame value
 body_said frame (SettingsBody settings) = say_of (λ identifier. fault BadSetting frame identifier ∷ []) settings.bad
 body_said frame _ = []
 
--- the findings of a frame, given the frame of its side just before it
+-- the findings of a frame, given the frame of its side just before it; a client promises nothing (8.4)
 abbrev pub local_said : Option Frame → Frame → List Finding
 local_said previous frame =
     say (is_none previous && not (is_settings frame)) (fault BadPreface frame frame.code)
     ++ say (breaks_block previous frame) (fault BrokenBlock frame frame.code)
     ++ say (is_on_wrong_stream frame) (fault WrongStream frame frame.code)
     ++ body_said frame frame.body
-    ++ say (frame.code == push_promise_type) (fault (push_kind frame.side) frame 0)
+    ++ say ((frame.code == push_promise_type) && is_side Client frame.side) (fault Push frame 0)
 
 -- the last frame of each side
 abbrev pub previous_after : Sides (Option Frame) → Frame → Sides (Option Frame)

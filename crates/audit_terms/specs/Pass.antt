@@ -9,6 +9,7 @@ use Rattle.audit_terms.specs.declared.connections.ConnectionState.{ConnectionSta
 use Rattle.audit_terms.specs.declared.streams.Stream.{Stream}
 use Rattle.audit_terms.specs.declared.findings.Finding.{Finding}
 use Rattle.audit_terms.specs.Sides.{side_of}
+use Rattle.audit_terms.specs.Frame.{promised_by, meets}
 use Rattle.audit_terms.specs.LocalFault.{local_said, previous_after, no_previous}
 use Rattle.audit_terms.specs.InForce.{InForce, initial_in_force, in_force_after, change_of, settings_said}
 use Rattle.audit_terms.specs.Connection.{connection_start, connection_after, connection_said}
@@ -31,11 +32,11 @@ pass_start = record {
   streams = λ _. idle_stream;
 }
 
--- what a stream meets at a frame: the frame, where it is the stream's, and the change that the frame brings
+-- what a stream meets at a frame: the frame, where the stream meets it, and the change that the frame brings
 abbrev pub step_of : InForce → Frame → (stream : ℕ) → Step
 step_of now frame stream = record {
   number = frame.number;
-  frame = (if frame.stream == stream then Some frame else None);
+  frame = (if meets stream frame then Some frame else None);
   change = change_of now frame;
 }
 
@@ -81,12 +82,14 @@ abbrev pub full_from : List ℕ → PassState → List Frame → List Finding
 full_from streams state [] = []
 full_from streams state (frame ∷ frames) = said streams state frame ++ full_from streams (next state frame) frames
 
--- each stream other than 0 that the frames name, in order of its first frame
+-- the streams with this one before them, unless it is 0
+abbrev pub first_of : (stream : ℕ) → List ℕ → List ℕ
+first_of stream streams = if stream == 0 then streams else stream ∷ filter (λ other. not (other == stream)) streams
+
+-- each stream other than 0 that meets one of the frames, in order of its first frame; of one frame its own stream first
 abbrev pub streams_of : List Frame → List ℕ
 streams_of [] = []
-streams_of (frame ∷ frames) =
-    if frame.stream == 0 then streams_of frames
-    else frame.stream ∷ filter (λ stream. not (stream == frame.stream)) (streams_of frames)
+streams_of (frame ∷ frames) = first_of frame.stream (first_of (promised_by frame) (streams_of frames))
 
 -- all findings of a connection's frames, with no stop
 abbrev pub full : List Frame → List Finding

@@ -8,13 +8,14 @@ use Rattle.audit_terms.specs.declared.items.Step.{Step}
 use Rattle.audit_terms.specs.declared.connections.ConnectionState.{ConnectionState}
 use Rattle.audit_terms.specs.declared.streams.Stream.{Stream}
 use Rattle.audit_terms.specs.declared.findings.Finding.{Finding}
+use Rattle.audit_terms.specs.Frame.{meets}
 use Rattle.audit_terms.specs.InForce.{initial_in_force, changes_of}
 use Rattle.audit_terms.specs.Connection.{connection_after_all, block_run}
 use Rattle.audit_terms.specs.Stream.{idle_stream, stream_run_from, stream_after_all}
 
--- the frames on one stream
-abbrev pub frames_on : (stream : ℕ) → List Frame → List Frame
-frames_on stream frames = filter (λ (frame : Frame). frame.stream == stream) frames
+-- the frames that one stream meets
+abbrev pub frames_of : (stream : ℕ) → List Frame → List Frame
+frames_of stream frames = filter (meets stream) frames
 
 -- a frame alone
 abbrev pub frame_step : Frame → Step
@@ -49,7 +50,7 @@ stream_at_end stream frames changes =
 
 -- the findings of a group of streams, from the connection's frames
 abbrev pub group_run : List Frame → List ℕ → List Finding
-group_run frames streams = flat_map (λ stream. stream_run stream (frames_on stream frames) (changes_of frames)) streams
+group_run frames streams = flat_map (λ stream. stream_run stream (frames_of stream frames) (changes_of frames)) streams
 
 -- the findings of consecutive blocks, each from the connection before it
 abbrev pub block_runs : ConnectionState → List (List Item) → List Finding

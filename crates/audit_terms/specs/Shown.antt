@@ -1,7 +1,7 @@
 -- The kinds of findings that `one_pass` has so far: those of settings, of streams and of the connection's windows.
 use Rattle.std.specs.Prelude.{Bool, true, false}
 use Rattle.audit_terms.specs.declared.kinds.Kind.{Kind}
-use Rattle.audit_terms.specs.declared.kinds.Kind.TheVariants.{BadPreface, BrokenBlock, TooLong, WrongStream, WrongSize, BadPadding, BadSetting, Push, PushNotAudited, IdNotGreater, LongFrame, BadPriority}
+use Rattle.audit_terms.specs.declared.kinds.Kind.TheVariants.{BadPreface, BrokenBlock, TooLong, WrongStream, WrongSize, BadPadding, BadSetting, Push, IdNotGreater, LongFrame, BadPriority}
 use Rattle.audit_terms.specs.declared.findings.Finding.{Finding}
 
 -- all kinds but those of a frame by itself, of its length and of the order of openings
@@ -14,7 +14,6 @@ is_shown_kind WrongSize = false
 is_shown_kind BadPadding = false
 is_shown_kind BadSetting = false
 is_shown_kind Push = false
-is_shown_kind PushNotAudited = false
 is_shown_kind IdNotGreater = false
 is_shown_kind LongFrame = false
 is_shown_kind BadPriority = false

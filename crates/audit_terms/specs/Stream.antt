@@ -1,5 +1,5 @@
 -- One stream: its opening, its ends and the windows of both sides on it (RFC 9113, 5.1, 6.1, 6.4, 6.9, 6.9.1, 6.9.2).
-use Rattle.std.specs.Prelude.{ℕ, ℤ, pos, ◌%◌, ◌+ℤ◌, ◌-ℤ◌, Bool, false, ◌==◌, ◌&&◌, ◌||◌, not, nat_lt, if◌then◌else◌, List, [], ◌∷◌, ◌++◌, Option, Some, None, is_some, is_none}
+use Rattle.std.specs.Prelude.{ℕ, ℤ, pos, ◌+ℤ◌, ◌-ℤ◌, Bool, false, ◌&&◌, ◌||◌, not, nat_lt, if◌then◌else◌, List, [], ◌∷◌, ◌++◌, Option, Some, None, is_some}
 use Rattle.std.specs.Option.{option_map_or}
 use Rattle.std.specs.Ordering.{int_eq}
 use Rattle.audit_terms.specs.declared.sides.Side.{Side}
@@ -10,22 +10,19 @@ use Rattle.audit_terms.specs.declared.kinds.Kind.TheVariants.{NotOpened, Setting
 use Rattle.audit_terms.specs.declared.frames.Frame.{Frame}
 use Rattle.audit_terms.specs.declared.items.Change.{Change}
 use Rattle.audit_terms.specs.declared.items.Step.{Step}
+use Rattle.audit_terms.specs.declared.lives.StreamLife.{StreamLife}
 use Rattle.audit_terms.specs.declared.streams.Stream.{Stream}
 use Rattle.audit_terms.specs.declared.findings.Finding.{Finding}
-use Rattle.audit_terms.specs.Side.{is_side}
 use Rattle.audit_terms.specs.Sides.{side_of, each_side}
-use Rattle.audit_terms.specs.Frame.{is_content, is_headers, is_reset, is_update, is_zero_grant, content_by, grant_to, sends_end, sends_reset}
+use Rattle.audit_terms.specs.Frame.{is_zero_grant, content_by, grant_to}
+use Rattle.audit_terms.specs.Life.{idle_life, is_opening, life_after, is_last_of, ends_window, is_not_opened, is_after_end}
 use Rattle.audit_terms.specs.Window.{is_used_up, overflows, overruns}
 use Rattle.audit_terms.specs.Change.{new_initial}
 use Rattle.audit_terms.specs.Finding.{finding_at, say, say_of, in_order}
 
--- a stream that is not opened (5.1)
+-- a stream that is not opened
 abbrev pub idle_stream : Stream
-idle_stream = record {
-  opened = None;
-  ended = each_side (λ _. false);
-  window = each_side (λ _. None);
-}
+idle_stream = record { life = idle_life; window = each_side (λ _. None) }
 
 -- a test of the step's frame, false where it has none
 abbrev pub step_test : (Frame → Bool) → Step → Bool
@@ -39,17 +36,24 @@ step_amount amount step = option_map_or amount step.frame 0
 abbrev pub stream_finding : Kind → (stream : ℕ) → Step → Side → ℤ → Finding
 stream_finding kind stream step side value = finding_at kind step.number stream side value
 
--- the first HEADERS of the client on an odd identifier opens the stream (5.1.1)
+-- does the step open the stream?
 abbrev pub opens : (stream : ℕ) → Stream → Step → Bool
-opens stream entry step =
-    is_none entry.opened && (stream % 2 == 1) && step_test (λ frame. is_side Client frame.side && is_headers frame.body) step
+opens stream entry step = step_test (is_opening stream entry.life) step
 
--- the windows of side d that live: credit counts the grants and the content of the step (6.9, 6.9.1), and moves by the new
+-- the life of the stream after the step
+abbrev pub life_at : (stream : ℕ) → Stream → Step → StreamLife
+life_at stream entry step = option_map_or (life_after stream entry.life) step.frame entry.life
+
+-- what the step moves a live window of side d by: what is granted to it, less what is sent through it (6.9, 6.9.1), and the new
 -- initial window minus the old (6.9.2)
+abbrev pub window_moved : Side → (stream : ℕ) → Sides ℕ → Step → ℤ
+window_moved d stream initial step =
+    (pos (step_amount (grant_to d stream) step) -ℤ pos (step_amount (content_by d) step))
+    +ℤ (pos (new_initial step.change d (side_of d initial)) -ℤ pos (side_of d initial))
+
+-- the credit of a live window once the step is counted
 abbrev pub counted : Side → (stream : ℕ) → Sides ℕ → Step → (before : ℤ) → ℤ
-counted d stream initial step before =
-    (((before +ℤ pos (step_amount (grant_to d stream) step)) -ℤ pos (step_amount (content_by d) step))
-    +ℤ pos (new_initial step.change d (side_of d initial))) -ℤ pos (side_of d initial)
+counted d stream initial step before = before +ℤ window_moved d stream initial step
 
 -- a grant that would bring the window above the largest (6.9.1)
 abbrev pub is_overflowing_grant : Side → (stream : ℕ) → Sides ℕ → Step → (before : ℤ) → Bool
@@ -61,12 +65,10 @@ abbrev pub last_credit : Side → (stream : ℕ) → Sides ℕ → Step → (bef
 last_credit d stream initial step before =
     if is_overflowing_grant d stream initial step before then before else counted d stream initial step before
 
--- a live window of side d ends with that side's END_STREAM, with a RST_STREAM of either side (5.1), or with an
--- overflowing grant
+-- a live window of side d ends with a frame that ends it, or with an overflowing grant
 abbrev pub window_ends : Side → (stream : ℕ) → Sides ℕ → Step → (before : ℤ) → Bool
 window_ends d stream initial step before =
-    step_test (sends_end d) step || step_test (λ frame. is_reset frame.body) step
-    || is_overflowing_grant d stream initial step before
+    step_test (ends_window d) step || is_overflowing_grant d stream initial step before
 
 -- the window of side d after the step, from its credit before it; one that is not live has none
 abbrev pub window_after : Side → (stream : ℕ) → Sides ℕ → Step → Option ℤ → Option ℤ
@@ -74,53 +76,63 @@ window_after d stream initial step None = None
 window_after d stream initial step (Some before) =
     if window_ends d stream initial step before then None else Some (counted d stream initial step before)
 
--- the window of side d at the opening: the initial window in force, unless the client ends its side at once
-abbrev pub window_at_opening : Side → Sides ℕ → Step → Option ℤ
-window_at_opening d initial step =
-    if is_side d Client && step_test (sends_end Client) step then None else Some (pos (side_of d initial))
+-- the window of side d at the opening: the initial window in force, unless the side sends nothing more
+abbrev pub window_at_opening : Side → (stream : ℕ) → Sides ℕ → Step → Option ℤ
+window_at_opening d stream initial step =
+    if step_test (is_last_of d stream) step then None else Some (pos (side_of d initial))
 
 -- the stream after the step, where `initial` are the initial windows in force before it
 abbrev pub stream_after : (stream : ℕ) → Sides ℕ → Stream → Step → Stream
-stream_after stream initial entry step =
-    let opening = opens stream entry step in
-    record {
-      opened = (if opening then Some step.number else entry.opened);
-      ended = each_side (λ d. side_of d entry.ended
-          || ((opening || is_some entry.opened) && (step_test (sends_end d) step || step_test (sends_reset d) step)));
-      window = each_side (λ d.
-          if opening then window_at_opening d initial step else window_after d stream initial step (side_of d entry.window));
-    }
-
--- frames that only an opened stream carries (5.1)
-abbrev pub needs_opening : Frame → Bool
-needs_opening frame = is_content frame.body || is_headers frame.body || is_reset frame.body || is_update frame.body
+stream_after stream initial entry step = record {
+  life = life_at stream entry step;
+  window = each_side (λ d.
+      if opens stream entry step then window_at_opening d stream initial step
+      else window_after d stream initial step (side_of d entry.window));
+}
 
 -- what the step's frame shows: use before the opening, after the sender's end, a grant of 0 (5.1, 6.9)
 abbrev pub frame_said : (stream : ℕ) → Stream → Step → Frame → List Finding
 frame_said stream entry step frame =
-    say (needs_opening frame && is_none entry.opened && not (opens stream entry step))
-    (stream_finding NotOpened stream step frame.side (pos frame.code))
-    ++ say ((is_content frame.body || is_headers frame.body) && is_some entry.opened && side_of frame.side entry.ended)
-    (stream_finding AfterEnd stream step frame.side (pos frame.code))
-    ++ say (is_zero_grant frame.body && is_some entry.opened)
+    say (is_not_opened stream entry.life frame) (stream_finding NotOpened stream step frame.side (pos frame.code))
+    ++ say (is_after_end entry.life frame) (stream_finding AfterEnd stream step frame.side (pos frame.code))
+    ++ say (is_zero_grant frame.body && is_some entry.life.opened)
     (stream_finding ZeroStreamGrant stream step frame.side (pos 0))
+
+-- a live window at a step
+pub record WindowStep : Type 0 where
+  pub before : ℤ  -- the credit before the step
+  pub counted : ℤ  -- the credit once the step is counted
+  pub overflowing : Bool  -- does a grant bring it above the largest?
+  pub last : ℤ  -- the last credit that is known
+  pub after : Option ℤ  -- the credit after the step, where the window lives on
+
+-- the window of side d at the step, from its credit before it
+abbrev pub window_step : Side → (stream : ℕ) → Sides ℕ → Step → (before : ℤ) → WindowStep
+window_step d stream initial step before = record {
+  before = before;
+  counted = counted d stream initial step before;
+  overflowing = is_overflowing_grant d stream initial step before;
+  last = last_credit d stream initial step before;
+  after = window_after d stream initial step (Some before);
+}
 
 -- is the window live and its credit used up?
 abbrev pub is_stalled : Option ℤ → Bool
 is_stalled window = option_map_or is_used_up window false
 
--- what the step shows of a window of side d that is live before it, with this credit
-abbrev pub live_window_said : Side → (stream : ℕ) → Sides ℕ → Step → (before : ℤ) → List Finding
-live_window_said d stream initial step before =
-    let count = counted d stream initial step before in
-    let last = last_credit d stream initial step before in
-    let stalled = is_stalled (window_after d stream initial step (Some before)) in
-    say (is_some step.change && overflows before count) (stream_finding SettingOverflow stream step d count)
-    ++ say (overruns before (step_amount (content_by d) step)) (stream_finding StreamOverrun stream step d count)
-    ++ say (is_overflowing_grant d stream initial step before) (stream_finding StreamOverflow stream step d count)
-    ++ say (is_used_up before && not stalled) (stream_finding StreamStallEnd stream step d last)
-    ++ say (not (is_used_up before) && stalled) (stream_finding StreamStallBegin stream step d last)
-    ++ say (not (int_eq before last)) (stream_finding StreamCredit stream step d last)
+-- what the step shows of a window of side d that is live before it
+abbrev pub live_window_said : Side → (stream : ℕ) → Step → WindowStep → List Finding
+live_window_said d stream step window =
+    say (is_some step.change && overflows window.before window.counted)
+    (stream_finding SettingOverflow stream step d window.counted)
+    ++ say (overruns window.before (step_amount (content_by d) step))
+    (stream_finding StreamOverrun stream step d window.counted)
+    ++ say window.overflowing (stream_finding StreamOverflow stream step d window.counted)
+    ++ say (is_used_up window.before && not (is_stalled window.after))
+    (stream_finding StreamStallEnd stream step d window.last)
+    ++ say (not (is_used_up window.before) && is_stalled window.after)
+    (stream_finding StreamStallBegin stream step d window.last)
+    ++ say (not (int_eq window.before window.last)) (stream_finding StreamCredit stream step d window.last)
 
 -- what the step shows of a window of side d that it makes live
 abbrev pub opened_window_said : Side → (stream : ℕ) → Step → (credit : ℤ) → List Finding
@@ -132,8 +144,8 @@ opened_window_said d stream step credit =
 abbrev pub stream_window_said : Side → (stream : ℕ) → Sides ℕ → Stream → Step → List Finding
 stream_window_said d stream initial entry step =
     if opens stream entry step
-    then say_of (opened_window_said d stream step) (window_at_opening d initial step)
-    else say_of (live_window_said d stream initial step) (side_of d entry.window)
+    then say_of (opened_window_said d stream step) (window_at_opening d stream initial step)
+    else say_of (λ before. live_window_said d stream step (window_step d stream initial step before)) (side_of d entry.window)
 
 -- what the step shows of the stream
 abbrev pub stream_said : (stream : ℕ) → Sides ℕ → Stream → Step → List Finding

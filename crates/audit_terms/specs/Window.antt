@@ -5,6 +5,10 @@ use Rattle.std.specs.Prelude.{ℕ, ℤ, pos, ◌-◌, ◌^◌, Bool, ◌&&◌, n
 abbrev pub largest_window : ℤ
 largest_window = pos (2 ^ 31 - 1)
 
+-- the credit with which each window begins: of the connection always, of a stream until settings change it (6.9.2)
+abbrev pub first_window : ℕ
+first_window = 65535
+
 -- no credit is left, or less than none (6.9.2)
 abbrev pub is_used_up : ℤ → Bool
 is_used_up credit = int_le credit (pos 0)

@@ -5,18 +5,23 @@ use crate::findings::{Finding, say_if};
 use crate::frames::Frame;
 use crate::kinds::Kind;
 use crate::sides::{Side, Sides};
+use crate::windows::FIRST_WINDOW;
 use std::alloc::AllocError;
 
-/// The credit in bytes of a connection window at the start (RFC 9113, 6.9.2).
-const INITIAL_CREDIT: i64 = 65_535;
+/// The greatest length in bytes of a frame at the start (RFC 9113, 4.2 and 6.5.2).
+const FIRST_LIMIT: u32 = 16_384;
 
 /// A connection between two frames (RFC 9113, 4.2, 5.1.1, 6.9).
 #[derive(Clone, Copy, Debug, PartialEq, Eq)]
 pub struct ConnectionState {
     /// The credit in bytes of each side's connection window.
     pub credit: Sides<i64>,
-    /// The greatest stream opened so far, or 0.
-    pub greatest: u32,
+    /// The greatest stream, an odd one, that the client opened so far, or 0.
+    pub opened: u32,
+    /// The greatest even stream that the server promised so far, or 0.
+    pub promised: u32,
+    /// ENABLE_PUSH of the client, in force for the server (6.5.2): 0 where it may promise nothing.
+    pub push: u32,
     /// The greatest length in bytes of a frame that each side may send.
     pub limit: Sides<u32>,
 }
@@ -33,13 +38,15 @@ impl ConnectionState {
     {
         ConnectionState {
             credit: Sides {
-                client: INITIAL_CREDIT,
-                server: INITIAL_CREDIT,
+                client: i64::from(FIRST_WINDOW),
+                server: i64::from(FIRST_WINDOW),
             },
-            greatest: 0,
+            opened: 0,
+            promised: 0,
+            push: 1,
             limit: Sides {
-                client: 16_384,
-                server: 16_384,
+                client: FIRST_LIMIT,
+                server: FIRST_LIMIT,
             },
         }
     }

@@ -6,9 +6,6 @@ use crate::sides::Side;
 use std::alloc::AllocError;
 use std::cmp::Ordering;
 
-/// The greatest rank of a connection error, which stops the audit of a connection (RFC 9113, 5.4.1).
-const LAST_THAT_STOPS: u8 = 12;
-
 /// One thing that the audit of a connection says.
 #[derive(Clone, Copy, Debug, PartialEq, Eq, PartialOrd, Ord)]
 pub struct Finding {
@@ -40,7 +37,7 @@ impl Finding {
     pub fn stops(&self) -> bool
         ensures { result ≡ stops self.now }
     {
-        self.kind.rank() <= LAST_THAT_STOPS
+        self.kind.is_connection_error()
     }
 
     /// The order of findings: by place, then the client before the server, then by kind and value.
@@ -51,7 +48,7 @@ impl Finding {
             .word()
             .cmp(&other.place.word())
             .then(self.side.order().cmp(&other.side.order()))
-            .then(self.kind.order().cmp(&other.kind.order()))
+            .then(self.kind.rank().cmp(&other.kind.rank()))
             .then(self.value.cmp(&other.value))
     }
 }

@@ -44,7 +44,7 @@ pub enum Body {
 }
 
 impl Body {
-    ghost use Rattle.audit_terms.specs.Frame.{is_content, is_headers, is_reset, is_ack, is_update, increment, is_zero_grant};
+    ghost use Rattle.audit_terms.specs.Frame.{is_content, is_headers, is_reset, is_ack, is_update, increment, is_zero_grant, is_promise, promised_in};
 
     pub fn is_content(&self) -> bool
         ensures { result ≡ is_content self.now }
@@ -86,6 +86,22 @@ impl Body {
         }
     }
 
+    pub fn is_promise(&self) -> bool
+        ensures { result ≡ is_promise self.now }
+    {
+        matches!(self, Body::PushPromise(_))
+    }
+
+    /// The promised stream of a PUSH_PROMISE, 0 of any other frame.
+    pub fn promised(&self) -> u32
+        ensures { result ≡ promised_in self.now }
+    {
+        match self {
+            Body::PushPromise(stream) => *stream,
+            _ => 0,
+        }
+    }
+
     /// Is it a WINDOW_UPDATE whose increment is 0 (RFC 9113, 6.9)?
     pub fn is_zero_grant(&self) -> bool
         ensures { result ≡ is_zero_grant self.now }
@@ -117,7 +133,8 @@ pub struct Frame {
 }
 
 impl Frame {
-    ghost use Rattle.audit_terms.specs.Frame.{content_by, grant_to, grants_nothing, sends_end, sends_reset};
+    ghost use Rattle.audit_terms.specs.Frame.{content_by, grant_to, grants_nothing, sends_end, sends_reset, is_server_promise, is_client_headers, promises, promised_by, meets, needs_opening};
+    ghost use Rattle.audit_terms.specs.Life.{is_last_of, ends_window};
 
     /// The flow-controlled length in bytes that a side sends with this frame (RFC 9113, 6.9.1): all of a DATA frame,
     /// padding included; 0 of any other frame, and of a frame of the other side.
@@ -163,5 +180,69 @@ impl Frame {
         ensures { result ≡ sends_reset side self.now }
     {
         side == self.side && self.body.is_reset()
+    }
+
+    /// Is it a promise of the server that can be read (6.6)?
+    pub fn is_server_promise(&self) -> bool
+        ensures { result ≡ is_server_promise self.now }
+    {
+        Side::Server == self.side && self.body.is_promise()
+    }
+
+    /// Is it a HEADERS of the client (6.2)?
+    pub fn is_client_headers(&self) -> bool
+        ensures { result ≡ is_client_headers self.now }
+    {
+        Side::Client == self.side && self.body.is_headers()
+    }
+
+    /// Does the server promise this stream, an even one, by a frame on another stream (5.1.1, 6.6)?
+    pub fn promises(&self, stream: u32) -> bool
+        ensures { result ≡ promises stream self.now }
+    {
+        self.is_server_promise()
+            && self.body.promised() == stream
+            && stream % 2 == 0
+            && self.stream != stream
+    }
+
+    /// The stream that this frame promises, 0 where it promises none.
+    pub fn promised_by(&self) -> u32
+        ensures { result ≡ promised_by self.now }
+    {
+        let promised = self.body.promised();
+        if self.promises(promised) { promised } else { 0 }
+    }
+
+    /// Does the stream meet this frame: is it on the stream, or does it promise the stream?
+    pub fn meets(&self, stream: u32) -> bool
+        ensures { result ≡ meets stream self.now }
+    {
+        self.stream == stream || self.promises(stream)
+    }
+
+    /// Is it a frame that only an opened stream carries (5.1)?
+    pub fn needs_opening(&self) -> bool
+        ensures { result ≡ needs_opening self.now }
+    {
+        let body = &self.body;
+        body.is_content() || body.is_headers() || body.is_reset() || body.is_update()
+    }
+
+    /// Does a side send nothing more on the stream: its END_STREAM or RST_STREAM, or the promise of a stream, on which
+    /// the client never sends (5.1)?
+    pub fn is_last_of(&self, side: Side, stream: u32) -> bool
+        ensures { result ≡ is_last_of side stream self.now }
+    {
+        self.sends_end(side)
+            || self.sends_reset(side)
+            || (Side::Client == side && self.promises(stream))
+    }
+
+    /// Does this frame end a side's window on the stream: the side's END_STREAM, or a RST_STREAM of either (5.1)?
+    pub fn ends_window(&self, side: Side) -> bool
+        ensures { result ≡ ends_window side self.now }
+    {
+        self.sends_end(side) || self.body.is_reset()
     }
 }

@@ -35,9 +35,8 @@ pub struct Step {
 }
 
 impl Step {
-    ghost use Rattle.audit_terms.specs.Frame.{content_by, grant_to, is_headers, is_reset, sends_end, sends_reset};
-    ghost use Rattle.std.specs.Prelude.{◌&&◌};
-    ghost use Rattle.audit_terms.specs.Side.{is_side};
+    ghost use Rattle.audit_terms.specs.Frame.{content_by, grant_to};
+    ghost use Rattle.audit_terms.specs.Life.{is_last_of, ends_window};
     ghost use Rattle.audit_terms.specs.Stream.{step_test, step_amount};
 
     /// The flow-controlled length in bytes that a side sends at this step (RFC 9113, 6.9.1), 0 where there is no frame.
@@ -60,42 +59,22 @@ impl Step {
         }
     }
 
-    /// Does a side end its side of the stream at this step (5.1)?
-    pub fn sends_end(&self, side: Side) -> bool
-        ensures { result ≡ step_test (sends_end side) self.now }
+    /// Does a side send nothing more on the stream from this step on (5.1)?
+    pub fn is_last_of(&self, side: Side, stream: u32) -> bool
+        ensures { result ≡ step_test (is_last_of side stream) self.now }
     {
         match self.frame {
-            Some(frame) => frame.sends_end(side),
+            Some(frame) => frame.is_last_of(side, stream),
             None => false,
         }
     }
 
-    /// Is the stream reset at this step (6.4)?
-    pub fn is_reset(&self) -> bool
-        ensures { result ≡ step_test (λ frame. is_reset frame.body) self.now }
+    /// Does this step's frame end a side's window (5.1)?
+    pub fn ends_window(&self, side: Side) -> bool
+        ensures { result ≡ step_test (ends_window side) self.now }
     {
         match self.frame {
-            Some(frame) => frame.body.is_reset(),
-            None => false,
-        }
-    }
-
-    /// Does a side reset the stream at this step (6.4)?
-    pub fn sends_reset(&self, side: Side) -> bool
-        ensures { result ≡ step_test (sends_reset side) self.now }
-    {
-        match self.frame {
-            Some(frame) => frame.sends_reset(side),
-            None => false,
-        }
-    }
-
-    /// Is there a HEADERS of the client at this step (6.2)?
-    pub fn has_client_headers(&self) -> bool
-        ensures { result ≡ step_test (λ frame. is_side Side.Client frame.side && is_headers frame.body) self.now }
-    {
-        match self.frame {
-            Some(frame) => Side::Client == frame.side && frame.body.is_headers(),
+            Some(frame) => frame.ends_window(side),
             None => false,
         }
     }

@@ -12,7 +12,6 @@ pub enum Kind {
     BadPadding,
     BadSetting,
     Push,
-    PushNotAudited,
     NotOpened,
     IdNotGreater,
     ZeroConnectionGrant,
@@ -35,49 +34,48 @@ pub enum Kind {
 }
 
 impl Kind {
-    ghost use Rattle.audit_terms.specs.Kind.{rank_of, kind_order, kind_name};
+    ghost use Rattle.audit_terms.specs.Kind.{rank_of, is_connection_error, is_fault, begins_stall, ends_stall, is_credit, kind_name};
 
-    /// The rank, from 0 to 26. Findings of one frame stand in order of rank, and ranks 0 to 12 stop the audit.
+    /// The rank, from 0 to 26. Findings of one frame stand in order of rank.
     pub fn rank(self) -> u8
         ensures { result ≡ rank_of self }
     {
-        match self {
-            Kind::BadPreface => 0,
-            Kind::BrokenBlock => 1,
-            Kind::TooLong => 2,
-            Kind::WrongStream => 3,
-            Kind::WrongSize => 4,
-            Kind::BadPadding => 5,
-            Kind::BadSetting => 6,
-            Kind::Push => 7,
-            Kind::PushNotAudited => 7,
-            Kind::NotOpened => 8,
-            Kind::IdNotGreater => 9,
-            Kind::ZeroConnectionGrant => 10,
-            Kind::ConnectionOverflow => 11,
-            Kind::SettingOverflow => 12,
-            Kind::LongFrame => 13,
-            Kind::AfterEnd => 14,
-            Kind::ConnectionOverrun => 15,
-            Kind::StreamOverrun => 16,
-            Kind::ZeroStreamGrant => 17,
-            Kind::StreamOverflow => 18,
-            Kind::UnmatchedAck => 19,
-            Kind::BadPriority => 20,
-            Kind::ConnectionStallEnd => 21,
-            Kind::ConnectionStallBegin => 22,
-            Kind::StreamStallEnd => 23,
-            Kind::StreamStallBegin => 24,
-            Kind::ConnectionCredit => 25,
-            Kind::StreamCredit => 26,
-        }
+        self as u8
     }
 
-    /// The place in the order of kinds.
-    pub(crate) fn order(self) -> u8
-        ensures { result ≡ kind_order self }
+    /// Is it a connection error (RFC 9113, 5.4.1), which stops the audit of the connection? Ranks 0 to 12 are.
+    pub fn is_connection_error(self) -> bool
+        ensures { result ≡ is_connection_error self }
     {
-        self as u8
+        self.rank() <= Kind::SettingOverflow.rank()
+    }
+
+    /// Is a rule broken? Ranks 0 to 20 are faults; the others tell of stalls and credit.
+    pub fn is_fault(self) -> bool
+        ensures { result ≡ is_fault self }
+    {
+        self.rank() <= Kind::BadPriority.rank()
+    }
+
+    /// Is credit used up from here on?
+    pub fn begins_stall(self) -> bool
+        ensures { result ≡ begins_stall self }
+    {
+        matches!(self, Kind::ConnectionStallBegin | Kind::StreamStallBegin)
+    }
+
+    /// Is credit there again?
+    pub fn ends_stall(self) -> bool
+        ensures { result ≡ ends_stall self }
+    {
+        matches!(self, Kind::ConnectionStallEnd | Kind::StreamStallEnd)
+    }
+
+    /// Is it the credit of a window that changed?
+    pub fn is_credit(self) -> bool
+        ensures { result ≡ is_credit self }
+    {
+        matches!(self, Kind::ConnectionCredit | Kind::StreamCredit)
     }
 
     /// The word that a report prints.
@@ -93,7 +91,6 @@ impl Kind {
             Kind::BadPadding => "bad-padding",
             Kind::BadSetting => "bad-setting",
             Kind::Push => "push",
-            Kind::PushNotAudited => "push-not-audited",
             Kind::NotOpened => "not-opened",
             Kind::IdNotGreater => "id-not-greater",
             Kind::ZeroConnectionGrant => "zero-connection-grant",

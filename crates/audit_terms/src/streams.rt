@@ -4,6 +4,7 @@ use crate::findings::{Finding, say_if};
 use crate::frames::Frame;
 use crate::items::Step;
 use crate::kinds::Kind;
+use crate::lives::StreamLife;
 use crate::sides::{Side, Sides};
 use crate::windows::say_window;
 use std::alloc::AllocError;
@@ -11,33 +12,22 @@ use std::alloc::AllocError;
 /// One stream between two frames (RFC 9113, 5.1 and 6.9).
 #[derive(Clone, Copy, Debug, PartialEq, Eq)]
 pub struct Stream {
-    /// The number of the frame that opened it.
-    pub opened: Option<u32>,
-    /// Did this side end it, by END_STREAM or RST_STREAM?
-    pub ended: Sides<bool>,
+    /// Its opening and its ends.
+    pub life: StreamLife,
     /// The credit in bytes of each side's window, while that window is live.
     pub window: Sides<Option<i64>>,
 }
 
 impl Stream {
-    ghost use Rattle.std.specs.Option.{option_map_or};
-    ghost use Rattle.std.specs.Prelude.{◌||◌, ◌&&◌, false, is_some, if◌then◌else◌};
     ghost use Rattle.audit_terms.specs.code.Room.{WindowHasRoom};
-    ghost use Rattle.audit_terms.specs.Sides.{side_of};
-    ghost use Rattle.audit_terms.specs.Frame.{sends_end, sends_reset};
-    ghost use Rattle.audit_terms.specs.Finding.{say_of};
-    ghost use Rattle.audit_terms.specs.Stream.{idle_stream, opens, needs_opening, frame_said, stream_said, stream_after, step_test};
+    ghost use Rattle.audit_terms.specs.Stream.{idle_stream, opens, frame_said, stream_said, stream_after, life_at};
 
     /// A stream that is not opened.
     pub fn idle() -> Self
         ensures { result ≡ idle_stream }
     {
         Stream {
-            opened: None,
-            ended: Sides {
-                client: false,
-                server: false,
-            },
+            life: StreamLife::idle(),
             window: Sides {
                 client: None,
                 server: None,
@@ -45,11 +35,24 @@ impl Stream {
         }
     }
 
-    /// Does a step open the stream? The first HEADERS of the client on an odd identifier does (RFC 9113, 5.1.1).
-    pub fn opens(&self, stream: u32, step: &Step) -> bool
+    /// Does a step open the stream (RFC 9113, 5.1.1)?
+    fn opens(&self, stream: u32, step: &Step) -> bool
         ensures { result ≡ opens stream self.now step.now }
     {
-        self.opened.is_none() && stream % 2 == 1 && step.has_client_headers()
+        match &step.frame {
+            Some(frame) => self.life.is_opening(stream, frame),
+            None => false,
+        }
+    }
+
+    /// The life of the stream after a step.
+    fn life_at(&self, stream: u32, step: &Step) -> StreamLife
+        ensures { result ≡ life_at stream self.now step.now }
+    {
+        match &step.frame {
+            Some(frame) => self.life.after(stream, frame),
+            None => self.life,
+        }
     }
 
     /// Adds what a step's frame shows of the stream: use before the opening, use after the sender's end, a grant of 0.
@@ -64,36 +67,15 @@ impl Stream {
         requires streamed { stream < 2 ^ 31 }
         ensures { OnOk result (found.new.items ≡ found.old.items ++ frame_said stream self.now step.now frame.now) }
     {
+        let number = step.number;
         let code = u32::from(frame.code);
-        let not_opened = needs_opening(frame) && self.opened.is_none() && !self.opens(stream, step);
-        say_if(
-            found,
-            not_opened,
-            Finding::at(Kind::NotOpened, step.number, stream, frame.side, code),
-        )?;
-        let is_use = frame.body.is_content() || frame.body.is_headers();
-        let after_end = is_use && self.opened.is_some() && self.ended.of(frame.side);
-        say_if(
-            found,
-            after_end,
-            Finding::at(Kind::AfterEnd, step.number, stream, frame.side, code),
-        )?;
-        let zero = frame.body.is_zero_grant() && self.opened.is_some();
-        say_if(
-            found,
-            zero,
-            Finding::at(Kind::ZeroStreamGrant, step.number, stream, frame.side, 0),
-        )
-    }
-
-    /// Has a side ended the stream after a step?
-    fn ended_after(&self, side: Side, opening: bool, step: &Step) -> bool
-        ensures { result ≡ (side_of side self.now.ended
-            || ((opening || is_some self.now.opened) && (step_test (sends_end side) step.now || step_test (sends_reset side) step.now))) }
-    {
-        self.ended.of(side)
-            || (opening || self.opened.is_some())
-                && (step.sends_end(side) || step.sends_reset(side))
+        let not_opened = Finding::at(Kind::NotOpened, number, stream, frame.side, code);
+        say_if(found, self.life.is_not_opened(stream, frame), not_opened)?;
+        let after_end = Finding::at(Kind::AfterEnd, number, stream, frame.side, code);
+        say_if(found, self.life.is_after_end(frame), after_end)?;
+        let is_zero = frame.body.is_zero_grant() && self.life.opened.is_some();
+        let zero = Finding::at(Kind::ZeroStreamGrant, number, stream, frame.side, 0);
+        say_if(found, is_zero, zero)
     }
 
     /// Adds what a step shows of the stream, and brings the stream to its state after the step; `initial` are the
@@ -119,13 +101,10 @@ impl Stream {
             → WindowHasRoom (bound + 2 ^ 34) self.new.window.server) }
     {
         let opening = self.opens(stream, step);
+        let life = self.life_at(stream, step);
         if let Some(frame) = &step.frame {
             self.say_frame(found, stream, step, frame)?;
         }
-        let ended = Sides {
-            client: self.ended_after(Side::Client, opening, step),
-            server: self.ended_after(Side::Server, opening, step),
-        };
         say_window(
             found,
             &mut self.window.client,
@@ -144,20 +123,7 @@ impl Stream {
             opening,
             step,
         )?;
-        self.ended = ended;
-        if opening {
-            self.opened = Some(step.number);
-        }
+        self.life = life;
         Ok(())
     }
-}
-
-ghost use Rattle.audit_terms.specs.Stream.{needs_opening};
-
-/// Is it a frame that only an opened stream carries (RFC 9113, 5.1)?
-fn needs_opening(frame: &Frame) -> bool
-    ensures { result ≡ needs_opening frame.now }
-{
-    let body = &frame.body;
-    body.is_content() || body.is_headers() || body.is_reset() || body.is_update()
 }

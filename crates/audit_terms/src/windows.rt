@@ -4,7 +4,7 @@ ghost use Rattle.audit_terms.specs.Sides.{side_of};
 ghost use Rattle.audit_terms.specs.Change.{new_initial};
 ghost use Rattle.audit_terms.specs.Finding.{say_of};
 ghost use Rattle.audit_terms.specs.Frame.{content_by};
-ghost use Rattle.audit_terms.specs.Stream.{step_amount, counted, is_overflowing_grant, window_ends, window_after, window_at_opening, live_window_said, opened_window_said, initial_after};
+ghost use Rattle.audit_terms.specs.Stream.{step_amount, counted, is_overflowing_grant, window_ends, window_after, window_at_opening, window_step, live_window_said, opened_window_said, initial_after};
 ghost use Rattle.audit_terms.specs.code.Room.{HasRoom, WindowHasRoom};
 ghost use Rattle.audit_terms.specs.Window.{is_used_up};
 
@@ -14,6 +14,10 @@ use crate::items::{Change, Step};
 use crate::kinds::Kind;
 use crate::sides::{Side, Sides};
 use std::alloc::AllocError;
+
+/// The credit in bytes with which each window begins: of the connection always, of a stream until settings change it
+/// (RFC 9113, 6.9.2).
+pub const FIRST_WINDOW: u32 = 65_535;
 
 /// The initial windows in force after a change (RFC 9113, 6.5.2, 6.9.2).
 pub fn initial_after(change: &Option<Change>, initial: &Sides<u32>) -> Sides<u32>
@@ -50,16 +54,17 @@ pub fn say_window(
     requires streamed { stream < 2 ^ 31 }
     requires room { WindowHasRoom (2 ^ 62) window.old }
     ensures said { OnOk result (found.new.items ≡ found.old.items
-        ++ (if opens then say_of (opened_window_said side stream step.now) (window_at_opening side initial.now step.now)
-        else say_of (live_window_said side stream initial.now step.now) window.old)) }
+        ++ (if opens then say_of (opened_window_said side stream step.now) (window_at_opening side stream initial.now step.now)
+        else say_of (λ before. live_window_said side stream step.now (window_step side stream initial.now step.now before))
+        window.old)) }
     ensures window { OnOk result (window.new
-        ≡ (if opens then window_at_opening side initial.now step.now
+        ≡ (if opens then window_at_opening side stream initial.now step.now
         else window_after side stream initial.now step.now window.old)) }
     ensures room { OnOk result ((bound : ℕ) → WindowHasRoom bound window.old
         → WindowHasRoom (bound + 2 ^ 34) window.new) }
 {
     if opens {
-        *window = at_opening(side, initial, step);
+        *window = at_opening(side, stream, initial, step);
         say_opened(found, window, side, stream, step)?;
     } else if let Some(before) = *window {
         *window = say_live(found, side, stream, initial, step, &before)?;
@@ -67,12 +72,12 @@ pub fn say_window(
     Ok(())
 }
 
-/// The window of a side at the opening: the initial window in force, unless the client ends its side at once.
-fn at_opening(side: Side, initial: &Sides<u32>, step: &Step) -> Option<i64>
-    ensures window { result ≡ window_at_opening side initial.now step.now }
+/// The window of a side at the opening: the initial window in force, unless the side sends nothing more.
+fn at_opening(side: Side, stream: u32, initial: &Sides<u32>, step: &Step) -> Option<i64>
+    ensures window { result ≡ window_at_opening side stream initial.now step.now }
     ensures room { WindowHasRoom (2 ^ 34) result }
 {
-    if side == Side::Client && step.sends_end(Side::Client) {
+    if step.is_last_of(side, stream) {
         None
     } else {
         Some(i64::from(initial.of(side)))
@@ -126,7 +131,8 @@ fn say_live(
     requires streamed { stream < 2 ^ 31 }
     requires room { HasRoom (2 ^ 62) before.now }
     ensures said { OnOk result (found.new.items
-        ≡ found.old.items ++ live_window_said side stream initial.now step.now before.now) }
+        ≡ found.old.items
+        ++ live_window_said side stream step.now (window_step side stream initial.now step.now before.now)) }
     ensures window { IfOk result (λ after. after ≡ window_after side stream initial.now step.now (Some before.now)) }
     ensures room { IfOk result (λ after. (bound : ℕ) → HasRoom bound before.now → WindowHasRoom (bound + 2 ^ 34) after) }
 {
@@ -190,7 +196,7 @@ impl LiveStep {
     {
         let count = count(side, stream, initial, step, before);
         let is_overflowing = step.grant_to(side, stream) > 0 && count.overflows();
-        let ends = step.sends_end(side) || step.is_reset() || is_overflowing;
+        let ends = step.ends_window(side) || is_overflowing;
         LiveStep {
             last: Count {
                 after: if is_overflowing {

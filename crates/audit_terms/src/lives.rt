@@ -1,0 +1,95 @@
+ghost use Rattle.std.specs.Prelude.{◌≡◌};
+
+use crate::frames::Frame;
+use crate::sides::{Side, Sides};
+
+/// What the frames that a stream met have made of it (RFC 9113, 5.1).
+#[derive(Clone, Copy, Debug, PartialEq, Eq)]
+pub struct StreamLife {
+    /// The number of the frame that opened it.
+    pub opened: Option<u32>,
+    /// Has this side ended it?
+    pub ended: Sides<bool>,
+}
+
+impl StreamLife {
+    ghost use Rattle.std.specs.Prelude.{◌&&◌, ◌||◌, is_some};
+    ghost use Rattle.audit_terms.specs.Sides.{side_of};
+    ghost use Rattle.audit_terms.specs.Life.{idle_life, is_opening, is_last_of, life_after, is_misplaced_promise, is_not_opened, is_after_end};
+
+    /// A stream that no frame has met.
+    pub fn idle() -> Self
+        ensures { result ≡ idle_life }
+    {
+        StreamLife {
+            opened: None,
+            ended: Sides {
+                client: false,
+                server: false,
+            },
+        }
+    }
+
+    /// Does the frame open the stream? The first HEADERS of the client opens one of an odd identifier, the first promise
+    /// of the server one of an even identifier (RFC 9113, 5.1.1).
+    pub fn is_opening(&self, stream: u32, frame: &Frame) -> bool
+        ensures { result ≡ is_opening stream self.now frame.now }
+    {
+        self.opened.is_none()
+            && ((stream % 2 == 1 && frame.is_client_headers()) || frame.promises(stream))
+    }
+
+    /// The life of the stream after a frame that it meets.
+    pub fn after(&self, stream: u32, frame: &Frame) -> Self
+        ensures { result ≡ life_after stream self.now frame.now }
+    {
+        let opening = self.is_opening(stream, frame);
+        StreamLife {
+            opened: if opening {
+                Some(frame.number)
+            } else {
+                self.opened
+            },
+            ended: Sides {
+                client: self.ended_after(Side::Client, stream, frame),
+                server: self.ended_after(Side::Server, stream, frame),
+            },
+        }
+    }
+
+    /// Has a side ended the stream after a frame? Only an opened stream ends.
+    fn ended_after(&self, side: Side, stream: u32, frame: &Frame) -> bool
+        ensures { result ≡ (side_of side self.now.ended
+            || ((is_opening stream self.now frame.now || is_some self.now.opened) && is_last_of side stream frame.now)) }
+    {
+        self.ended.of(side)
+            || ((self.is_opening(stream, frame) || self.opened.is_some())
+                && frame.is_last_of(side, stream))
+    }
+
+    /// Is it a promise of the server on a stream on which it can promise nothing (6.6)?
+    fn is_misplaced_promise(&self, stream: u32, frame: &Frame) -> bool
+        ensures { result ≡ is_misplaced_promise stream self.now frame.now }
+    {
+        frame.is_server_promise()
+            && frame.stream == stream
+            && (stream % 2 == 0 || self.opened.is_none() || self.ended.server)
+    }
+
+    /// Does the frame need an opened stream, where this one is not?
+    pub fn is_not_opened(&self, stream: u32, frame: &Frame) -> bool
+        ensures { result ≡ is_not_opened stream self.now frame.now }
+    {
+        (frame.needs_opening() && self.opened.is_none() && !self.is_opening(stream, frame))
+            || self.is_misplaced_promise(stream, frame)
+    }
+
+    /// Is it DATA or HEADERS of a side that has ended the stream (5.1)?
+    pub fn is_after_end(&self, frame: &Frame) -> bool
+        ensures { result ≡ is_after_end self.now frame.now }
+    {
+        (frame.body.is_content() || frame.body.is_headers())
+            && self.opened.is_some()
+            && self.ended.of(frame.side)
+    }
+}
