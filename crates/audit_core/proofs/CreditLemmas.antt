@@ -1,5 +1,5 @@
 -- A credit that is carried from frame to frame is the sum over the frames.
-use Rattle.std.proofs.Common.{◌≡◌, ℕ, ℤ, pos, ◌+◌, ◌+ℤ◌, ◌-ℤ◌, ◌<◌, ◌≤◌, Bool, true, false, ◌&&◌, ◌==◌, nat_le, if◌then◌else◌, List, [], ◌∷◌, sum_by, Option, Some, None, is_none, ◌%◌, refl, sym, ap, ◌∙◌, ◌⊎◌, inl, inr, arith}
+use Rattle.std.proofs.Common.{◌≡◌, ℕ, ℤ, pos, ◌+◌, ◌+ℤ◌, ◌-ℤ◌, ◌<◌, ◌≤◌, Bool, true, false, nat_le, if◌then◌else◌, List, [], ◌∷◌, sum_by, Option, Some, None, refl, sym, ap, ◌∙◌, ◌⊎◌, inl, inr, arith}
 use Rattle.std.specs.Option.{option_map_or}
 use Rattle.std.proofs.lemmas.Int.{ints}
 use Rattle.std.proofs.lemmas.List.Sums.{sum_by-cons}
@@ -17,7 +17,7 @@ use Rattle.audit_terms.specs.Window.{first_window}
 use Rattle.audit_terms.specs.Change.{new_initial}
 use Rattle.audit_terms.specs.InForce.{change_of}
 use Rattle.audit_terms.specs.Connection.{credit_after}
-use Rattle.audit_terms.specs.Stream.{step_test, step_amount, counted, opens, window_ends, window_after, window_at_opening}
+use Rattle.audit_terms.specs.Stream.{step_test, counted, opens, window_ends, window_after, window_at_opening}
 use Rattle.audit_terms.specs.Pass.{PassState, pass_start, step_of, next, state_from}
 use Rattle.audit_core.specs.CreditLaws.{ConnectionCreditIsSum, StreamCreditIsSum}
 use Rattle.audit_terms.specs.Credit.{content_on, since, stream_credit_sum}

@@ -1,5 +1,5 @@
 -- How a stream meets a frame: it is on the stream, or promises it, or does neither; and what the frame that opens a stream is.
-use Rattle.std.proofs.Common.{◌≡◌, ℕ, Bool, true, false, ◌&&◌, ◌||◌, ◌==◌, not, if◌then◌else◌, ◌%◌, Option, Some, None, is_none, refl, sym, ◌∙◌}
+use Rattle.std.proofs.Common.{◌≡◌, ℕ, Bool, true, false, ◌&&◌, ◌||◌, ◌==◌, if◌then◌else◌, ◌%◌, Some, None, is_none, refl, sym}
 use Rattle.std.specs.Option.{option_map_or}
 use Rattle.audit_terms.specs.declared.sides.Side.{Side}
 use Rattle.audit_terms.specs.declared.sides.Side.TheVariants.{Client, Server}
@@ -9,11 +9,11 @@ use Rattle.audit_terms.specs.declared.frames.Frame.{Frame}
 use Rattle.audit_terms.specs.declared.lives.StreamLife.{StreamLife}
 use Rattle.audit_terms.specs.declared.streams.Stream.{Stream}
 use Rattle.audit_terms.specs.Side.{is_side}
-use Rattle.audit_terms.specs.Frame.{is_ack, is_content, is_headers, is_promise, is_server_promise, is_client_headers, promised_in, increment, content_by, grant_to, promises, meets}
+use Rattle.audit_terms.specs.Frame.{is_ack, is_content, is_headers, is_promise, is_server_promise, is_client_headers, increment, content_by, grant_to, promises, meets}
 use Rattle.audit_terms.specs.Credit.{content_on}
-use Rattle.audit_terms.specs.InForce.{InForce, change_of}
+use Rattle.audit_terms.specs.InForce.{InForce}
 use Rattle.audit_terms.specs.Life.{is_opening, life_after}
-use Rattle.audit_terms.specs.Stream.{step_test, step_amount, opens, life_at}
+use Rattle.audit_terms.specs.Stream.{step_amount, opens, life_at}
 use Rattle.audit_terms.specs.Pass.{step_of}
 
 pub and-left : (a b : Bool) → (a && b) ≡ true → a ≡ true
