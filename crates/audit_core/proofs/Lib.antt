@@ -3,6 +3,7 @@ pub mod Rows
 pub mod Kept
 pub mod PassRows
 pub mod OrderlyRest
+pub mod Meetings
 pub mod CreditLemmas
 pub mod StreamSteps
 pub mod StreamAlone
