@@ -13,6 +13,7 @@ pub mod RowSteps
 pub mod QuietSteps
 pub mod OneRow
 pub mod OwnRow
+pub mod MetRows
 pub mod NamedStreams
 pub mod StopLemmas
 pub mod Pairs

@@ -3,3 +3,4 @@ pub mod FindingOrder
 pub mod UptoStop
 pub mod PlaceOrder
 pub mod Bounds
+pub mod Acknowledged

@@ -1,6 +1,6 @@
 -- One stream: its opening, its ends and the windows of both sides on it (RFC 9113, 5.1, 6.1, 6.4, 6.9, 6.9.1, 6.9.2).
-use Rattle.std.specs.Prelude.{ℕ, ℤ, pos, ◌+ℤ◌, ◌-ℤ◌, Bool, false, ◌&&◌, ◌||◌, not, nat_lt, if◌then◌else◌, List, [], ◌∷◌, ◌++◌, Option, Some, None, is_some}
-use Rattle.std.specs.Option.{option_map_or}
+use Rattle.std.specs.Prelude.{◌≡◌, ℕ, ℤ, pos, ◌+ℤ◌, ◌-ℤ◌, Bool, true, false, ◌&&◌, ◌||◌, not, nat_lt, if◌then◌else◌, List, [], ◌∷◌, ◌++◌, Option, Some, None, is_some}
+use Rattle.std.specs.Option.{option_map_or, ForSome}
 use Rattle.std.specs.Ordering.{int_eq}
 use Rattle.audit_terms.specs.declared.sides.Side.{Side}
 use Rattle.audit_terms.specs.declared.sides.Side.TheVariants.{Client, Server}
@@ -14,7 +14,7 @@ use Rattle.audit_terms.specs.declared.lives.StreamLife.{StreamLife}
 use Rattle.audit_terms.specs.declared.streams.Stream.{Stream}
 use Rattle.audit_terms.specs.declared.findings.Finding.{Finding}
 use Rattle.audit_terms.specs.Sides.{side_of, each_side}
-use Rattle.audit_terms.specs.Frame.{is_zero_grant, content_by, grant_to}
+use Rattle.audit_terms.specs.Frame.{is_ack, is_zero_grant, content_by, grant_to}
 use Rattle.audit_terms.specs.Life.{idle_life, is_opening, life_after, is_last_of, ends_window, is_not_opened, is_after_end}
 use Rattle.audit_terms.specs.Window.{is_used_up, overflows, overruns}
 use Rattle.audit_terms.specs.Change.{new_initial}
@@ -31,6 +31,10 @@ step_test test step = option_map_or test step.frame false
 -- an amount of the step's frame, 0 where it has none
 abbrev pub step_amount : (Frame → ℕ) → Step → ℕ
 step_amount amount step = option_map_or amount step.frame 0
+
+-- a frame that brings a change is an acknowledgement (6.5.3)
+abbrev pub IsAcknowledged : Step → Type 0
+IsAcknowledged step = ForSome step.change (λ _. ForSome step.frame (λ frame. is_ack frame.body ≡ true))
 
 -- a finding of the stream at the step's number
 abbrev pub stream_finding : Kind → (stream : ℕ) → Step → Side → ℤ → Finding

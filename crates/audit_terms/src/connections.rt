@@ -53,12 +53,12 @@ impl ConnectionState {
 
     /// What a frame does to the connection window of a side.
     fn count(&self, side: Side, frame: &Frame) -> Count
-        requires client { HasRoom (2 ^ 62) self.now.credit.client }
-        requires server { HasRoom (2 ^ 62) self.now.credit.server }
+        requires client { HasRoom (2 ^ 60) self.now.credit.client }
+        requires server { HasRoom (2 ^ 60) self.now.credit.server }
         ensures before { result.before ≡ side_of side self.now.credit }
         ensures after { result.after ≡ credit_after side (side_of side self.now.credit) frame.now }
         ensures content { result.content ≡ content_by side frame.now }
-        ensures moved { (n : ℕ) → HasRoom n (side_of side self.now.credit) → HasRoom (n + 2 ^ 33) result.after }
+        ensures moved { (n : ℕ) → HasRoom n (side_of side self.now.credit) → HasRoom (n + 2 ^ 32) result.after }
     {
         let content = frame.content_by(side);
         let granted = frame.grant_to(side, 0);
@@ -81,8 +81,8 @@ impl ConnectionState {
         frame: &Frame,
     ) -> Result<(), AllocError>
         requires frame { IsInRange frame.now }
-        requires client { HasRoom (2 ^ 62) self.now.credit.client }
-        requires server { HasRoom (2 ^ 62) self.now.credit.server }
+        requires client { HasRoom (2 ^ 60) self.now.credit.client }
+        requires server { HasRoom (2 ^ 60) self.now.credit.server }
         ensures { OnOk result (found.new.items ≡ found.old.items
             ++ connection_window_said side (side_of side self.now.credit) frame.now) }
     {
@@ -110,16 +110,16 @@ impl ConnectionState {
         frame: &Frame,
     ) -> Result<(), AllocError>
         requires frame { IsInRange frame.now }
-        requires client { HasRoom (2 ^ 62) self.old.credit.client }
-        requires server { HasRoom (2 ^ 62) self.old.credit.server }
+        requires client { HasRoom (2 ^ 60) self.old.credit.client }
+        requires server { HasRoom (2 ^ 60) self.old.credit.server }
         ensures said { OnOk result (found.new.items ≡ found.old.items
             ++ connection_windows_said self.old.credit frame.now) }
         ensures counted { OnOk result (self.new ≡ record self.old {
           credit = each_side (λ d. credit_after d (side_of d self.old.credit) frame.now);
         }) }
         ensures err { OnErr result (self.new ≡ self.old) }
-        ensures client { (n : ℕ) → HasRoom n self.old.credit.client → HasRoom (n + 2 ^ 33) self.new.credit.client }
-        ensures server { (n : ℕ) → HasRoom n self.old.credit.server → HasRoom (n + 2 ^ 33) self.new.credit.server }
+        ensures client { (n : ℕ) → HasRoom n self.old.credit.client → HasRoom (n + 2 ^ 32) self.new.credit.client }
+        ensures server { (n : ℕ) → HasRoom n self.old.credit.server → HasRoom (n + 2 ^ 32) self.new.credit.server }
     {
         self.say_window(found, Side::Client, frame)?;
         self.say_window(found, Side::Server, frame)?;

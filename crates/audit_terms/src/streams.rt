@@ -20,7 +20,7 @@ pub struct Stream {
 
 impl Stream {
     ghost use Rattle.audit_terms.specs.code.Room.{WindowHasRoom};
-    ghost use Rattle.audit_terms.specs.Stream.{idle_stream, opens, frame_said, stream_said, stream_after, life_at};
+    ghost use Rattle.audit_terms.specs.Stream.{IsAcknowledged, idle_stream, opens, frame_said, stream_said, stream_after, life_at};
 
     /// A stream that is not opened.
     pub fn idle() -> Self
@@ -90,15 +90,16 @@ impl Stream {
     ) -> Result<(), AllocError>
         requires numbered { step.now.number ≤ 2 ^ 28 - 2 }
         requires streamed { stream < 2 ^ 31 }
-        requires client { WindowHasRoom (2 ^ 62) self.old.window.client }
-        requires server { WindowHasRoom (2 ^ 62) self.old.window.server }
+        requires acknowledged { IsAcknowledged step.now }
+        requires client { WindowHasRoom (2 ^ 60) self.old.window.client }
+        requires server { WindowHasRoom (2 ^ 60) self.old.window.server }
         ensures said { OnOk result (found.new.items
             ≡ found.old.items ++ stream_said stream initial.now self.old step.now) }
         ensures after { OnOk result (self.new ≡ stream_after stream initial.now self.old step.now) }
         ensures client { OnOk result ((bound : ℕ) → WindowHasRoom bound self.old.window.client
-            → WindowHasRoom (bound + 2 ^ 34) self.new.window.client) }
+            → WindowHasRoom (bound + 2 ^ 32) self.new.window.client) }
         ensures server { OnOk result ((bound : ℕ) → WindowHasRoom bound self.old.window.server
-            → WindowHasRoom (bound + 2 ^ 34) self.new.window.server) }
+            → WindowHasRoom (bound + 2 ^ 32) self.new.window.server) }
     {
         let opening = self.opens(stream, step);
         let life = self.life_at(stream, step);

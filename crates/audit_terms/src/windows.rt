@@ -4,7 +4,7 @@ ghost use Rattle.audit_terms.specs.Sides.{side_of};
 ghost use Rattle.audit_terms.specs.Change.{new_initial};
 ghost use Rattle.audit_terms.specs.Finding.{say_of};
 ghost use Rattle.audit_terms.specs.Frame.{content_by};
-ghost use Rattle.audit_terms.specs.Stream.{step_amount, counted, is_overflowing_grant, window_ends, window_after, window_at_opening, window_step, live_window_said, opened_window_said, initial_after};
+ghost use Rattle.audit_terms.specs.Stream.{IsAcknowledged, step_amount, counted, is_overflowing_grant, window_ends, window_after, window_at_opening, window_step, live_window_said, opened_window_said, initial_after};
 ghost use Rattle.audit_terms.specs.code.Room.{HasRoom, WindowHasRoom};
 ghost use Rattle.audit_terms.specs.Window.{is_used_up};
 
@@ -52,7 +52,8 @@ pub fn say_window(
 ) -> Result<(), AllocError>
     requires numbered { step.now.number ≤ 2 ^ 28 - 2 }
     requires streamed { stream < 2 ^ 31 }
-    requires room { WindowHasRoom (2 ^ 62) window.old }
+    requires acknowledged { IsAcknowledged step.now }
+    requires room { WindowHasRoom (2 ^ 60) window.old }
     ensures said { OnOk result (found.new.items ≡ found.old.items
         ++ (if opens then say_of (opened_window_said side stream step.now) (window_at_opening side stream initial.now step.now)
         else say_of (λ before. live_window_said side stream step.now (window_step side stream initial.now step.now before))
@@ -61,7 +62,7 @@ pub fn say_window(
         ≡ (if opens then window_at_opening side stream initial.now step.now
         else window_after side stream initial.now step.now window.old)) }
     ensures room { OnOk result ((bound : ℕ) → WindowHasRoom bound window.old
-        → WindowHasRoom (bound + 2 ^ 34) window.new) }
+        → WindowHasRoom (bound + 2 ^ 32) window.new) }
 {
     if opens {
         *window = at_opening(side, stream, initial, step);
@@ -75,7 +76,7 @@ pub fn say_window(
 /// The window of a side at the opening: the initial window in force, unless the side sends nothing more.
 fn at_opening(side: Side, stream: u32, initial: &Sides<u32>, step: &Step) -> Option<i64>
     ensures window { result ≡ window_at_opening side stream initial.now step.now }
-    ensures room { WindowHasRoom (2 ^ 34) result }
+    ensures room { WindowHasRoom (2 ^ 32) result }
 {
     if step.is_last_of(side, stream) {
         None
@@ -129,12 +130,13 @@ fn say_live(
 ) -> Result<Option<i64>, AllocError>
     requires numbered { step.now.number ≤ 2 ^ 28 - 2 }
     requires streamed { stream < 2 ^ 31 }
-    requires room { HasRoom (2 ^ 62) before.now }
+    requires acknowledged { IsAcknowledged step.now }
+    requires room { HasRoom (2 ^ 60) before.now }
     ensures said { OnOk result (found.new.items
         ≡ found.old.items
         ++ live_window_said side stream step.now (window_step side stream initial.now step.now before.now)) }
     ensures window { IfOk result (λ after. after ≡ window_after side stream initial.now step.now (Some before.now)) }
-    ensures room { IfOk result (λ after. (bound : ℕ) → HasRoom bound before.now → WindowHasRoom (bound + 2 ^ 34) after) }
+    ensures room { IfOk result (λ after. (bound : ℕ) → HasRoom bound before.now → WindowHasRoom (bound + 2 ^ 32) after) }
 {
     let live = LiveStep::of(side, stream, initial, step, before);
     let number = step.number;
@@ -183,7 +185,8 @@ impl LiveStep {
     ghost use Rattle.audit_terms.specs.Window.{overflows};
 
     fn of(side: Side, stream: u32, initial: &Sides<u32>, step: &Step, before: &i64) -> Self
-        requires { HasRoom (2 ^ 62) before.now }
+        requires acknowledged { IsAcknowledged step.now }
+        requires room { HasRoom (2 ^ 60) before.now }
         ensures before { result.count.before ≡ before.now }
         ensures counted { result.count.after ≡ counted side stream initial.now step.now before.now }
         ensures content { result.count.content ≡ step_amount (content_by side) step.now }
@@ -192,7 +195,7 @@ impl LiveStep {
         ensures overflowing { result.is_overflowing
             ≡ is_overflowing_grant side stream initial.now step.now before.now }
         ensures after { result.after ≡ window_after side stream initial.now step.now (Some before.now) }
-        ensures room { (bound : ℕ) → HasRoom bound before.now → WindowHasRoom (bound + 2 ^ 34) result.after }
+        ensures room { (bound : ℕ) → HasRoom bound before.now → WindowHasRoom (bound + 2 ^ 32) result.after }
     {
         let count = count(side, stream, initial, step, before);
         let is_overflowing = step.grant_to(side, stream) > 0 && count.overflows();
@@ -245,11 +248,12 @@ impl LiveStep {
 /// What a step does to the credit of a live window: less the content, plus the grant, plus the new initial window
 /// minus the old.
 fn count(side: Side, stream: u32, initial: &Sides<u32>, step: &Step, before: &i64) -> Count
-    requires { HasRoom (2 ^ 62) before.now }
+    requires acknowledged { IsAcknowledged step.now }
+    requires room { HasRoom (2 ^ 60) before.now }
     ensures before { result.before ≡ before.now }
     ensures after { result.after ≡ counted side stream initial.now step.now before.now }
     ensures content { result.content ≡ step_amount (content_by side) step.now }
-    ensures room { (bound : ℕ) → HasRoom bound before.now → HasRoom (bound + 2 ^ 34) result.after }
+    ensures room { (bound : ℕ) → HasRoom bound before.now → HasRoom (bound + 2 ^ 32) result.after }
 {
     let content = step.content_by(side);
     let granted = step.grant_to(side, stream);
