@@ -1,14 +1,14 @@
 -- No two findings of a connection share place and side: at one frame they stand in different rows of the table or are of
 -- different streams, and different frames have different places.
-use Rattle.std.proofs.Common.{◌≡◌, ◌≢◌, ℕ, ◌+◌, ◌*◌, ◌^◌, ◌<◌, Bool, true, false, not, ◌==◌, List, [], ◌∷◌, refl, sym, ◌∙◌, arith, filter, true≢false}
+use Rattle.std.proofs.Common.{◌≡◌, ◌≢◌, ℕ, ◌+◌, ◌*◌, ◌^◌, ◌<◌, Bool, true, false, not, ◌==◌, List, [], ◌∷◌, refl, sym, ◌∙◌, arith, filter, true≢false, if◌then◌else◌}
 use Rattle.std.specs.List.{AllByRecursion}
 use borrow.Author.Tests.{eq-eqb}
 use Rattle.audit_terms.specs.declared.frames.Frame.{Frame}
 use Rattle.audit_terms.specs.declared.findings.Finding.{Finding}
 use Rattle.audit_terms.specs.Finding.{comes_after}
-use Rattle.audit_terms.specs.Frame.{IsOrderlyFrom, IsOrderly}
+use Rattle.audit_terms.specs.Frame.{promised_by, IsInRange, IsOrderlyFrom, IsOrderly}
 use Rattle.audit_core.specs.code.StreamTable.{NotAmong, AreDistinct}
-use Rattle.audit_terms.specs.Pass.{PassState, pass_start, said, full_from, full, next, streams_of}
+use Rattle.audit_terms.specs.Pass.{PassState, pass_start, said, full_from, full, next, first_of, streams_of}
 use Rattle.audit_core.specs.ApartLaw.{EachPair, AreApart, StandApart}
 use Rattle.audit_core.proofs.Pairs.{Across, pairs-append, pairs-ordered}
 use Rattle.audit_core.proofs.PassOrder.{AreWithin, AreFrom, AreStreams, at-said, from-full_from, rows_of, streams-streams_of}
@@ -36,13 +36,17 @@ not_among-others stream (other ∷ others) = step _ refl (not_among-others strea
   step true e ih = rw e ih
   step false e ih = rw e (λ p. true≢false (sym (eq-eqb other stream (sym p)) ∙ e), ih)
 
+distinct-first_of : (stream : ℕ) (streams : List ℕ) → AreDistinct streams → AreDistinct (first_of stream streams)
+distinct-first_of stream streams h = by_test (stream == 0) where
+  by_test : (b : Bool) → AreDistinct (if b then streams else stream ∷ filter (λ other. not (other == stream)) streams)
+  by_test true = h
+  by_test false = (not_among-others stream streams, distinct-filter _ streams h)
+
 -- no stream is named twice
 pub distinct-streams_of : (frames : List Frame) → AreDistinct (streams_of frames)
 distinct-streams_of [] = tt
-distinct-streams_of (frame ∷ frames) = step _ refl (distinct-streams_of frames) where
-  step : (b : Bool) → (frame.stream == 0) ≡ b → AreDistinct (streams_of frames) → AreDistinct (streams_of (frame ∷ frames))
-  step true e ih = rw e ih
-  step false e ih = rw e (not_among-others frame.stream (streams_of frames), distinct-filter _ (streams_of frames) ih)
+distinct-streams_of (frame ∷ frames) =
+    distinct-first_of frame.stream _ (distinct-first_of (promised_by frame) _ (distinct-streams_of frames))
 
 -- findings of different frames differ in place, whatever else is asked of two at one place
 module _ (R : Finding → Finding → Type 0) (elsewhere : (x y : Finding) → x.place ≢ y.place → R x y) where
@@ -56,22 +60,22 @@ module _ (R : Finding → Finding → Type 0) (elsewhere : (x y : Finding) → x
   across-frames number [] ys p h = tt
   across-frames number (x ∷ xs) ys p h = (later number x ys p.1 h, across-frames number xs ys p.2 h)
 
-  module _ (streams : List ℕ) (small : AreStreams streams) (at : (state : PassState) (frame : Frame) → frame.stream < 2 ^ 31 →
+  module _ (streams : List ℕ) (small : AreStreams streams) (at : (state : PassState) (frame : Frame) → IsInRange frame →
       EachPair R (said streams state frame)) where
     pub pairs-full_from : (state : PassState) (low : ℕ) (frames : List Frame) → IsOrderlyFrom low frames →
         EachPair R (full_from streams state frames)
     pairs-full_from state low [] h = tt
     pairs-full_from state low (frame ∷ frames) h =
         pairs-append R (said streams state frame) (full_from streams (next state frame) frames)
-        (at state frame h.1.stream)
+        (at state frame h.1)
         (pairs-full_from (next state frame) (frame.number + 1) frames h.2)
-        (across-frames frame.number _ _ (at-said streams state frame small h.1.stream).within
+        (across-frames frame.number _ _ (at-said streams state frame small h.1).within
         (from-full_from streams (next state frame) (frame.number + 1) frames small h.2))
 
 apart-turned : (x y : Finding) → AreApart x y → AreApart y x
 apart-turned x y h p s = h (sym p) (sym s)
 
-pub apart-said : (streams : List ℕ) (state : PassState) (frame : Frame) → AreStreams streams → AreDistinct streams → frame.stream < 2 ^ 31 →
+pub apart-said : (streams : List ℕ) (state : PassState) (frame : Frame) → AreStreams streams → AreDistinct streams → IsInRange frame →
     StandApart (said streams state frame)
 apart-said streams state frame small distinct h =
     pairs-ordered AreApart comes_after apart-turned (rows_of streams state frame) (rows-apart-at streams state frame small distinct h)

@@ -1,26 +1,27 @@
 -- A credit that is carried from frame to frame is the sum over the frames.
-use Rattle.std.proofs.Common.{◌≡◌, ℕ, ℤ, pos, ◌+◌, ◌+ℤ◌, ◌-ℤ◌, ◌<◌, ◌≤◌, Bool, true, false, ◌&&◌, ◌==◌, nat_le, if◌then◌else◌, List, [], ◌∷◌, sum_by, Option, Some, None, is_none, ◌%◌, refl, sym, ap, ◌∙◌, ◌⊎◌, inl, inr, arith}
+use Rattle.std.proofs.Common.{◌≡◌, ℕ, ℤ, pos, ◌+◌, ◌+ℤ◌, ◌-ℤ◌, ◌<◌, ◌≤◌, Bool, true, false, nat_le, if◌then◌else◌, List, [], ◌∷◌, sum_by, Option, Some, None, refl, sym, ap, ◌∙◌, ◌⊎◌, inl, inr, arith}
+use Rattle.std.specs.Option.{option_map_or}
 use Rattle.std.proofs.lemmas.Int.{ints}
 use Rattle.std.proofs.lemmas.List.Sums.{sum_by-cons}
 use Rattle.std.proofs.lemmas.Option.{same_Some, none-some}
 use Rattle.std.proofs.lemmas.Bool.Decides.{nat_tests}
 use Rattle.audit_terms.specs.declared.sides.Side.{Side}
 use Rattle.audit_terms.specs.declared.sides.Side.TheVariants.{Client, Server}
-use Rattle.audit_terms.specs.declared.frames.Body.{Body}
-use Rattle.audit_terms.specs.declared.frames.Body.TheVariants.{Content, Headers, Priority, RstStream, Settings, SettingsAck, PushPromise, Ping, GoAway, WindowUpdate, Continuation, Unknown, Unreadable}
 use Rattle.audit_terms.specs.declared.frames.Frame.{Frame}
 use Rattle.audit_terms.specs.declared.items.Step.{Step}
 use Rattle.audit_terms.specs.declared.streams.Stream.{Stream}
-use Rattle.audit_terms.specs.Side.{is_side}
 use Rattle.audit_terms.specs.Sides.{side_of}
-use Rattle.audit_terms.specs.Frame.{is_ack, is_content, is_headers, increment, content_by, grant_to, sends_end, IsOrderlyFrom}
+use Rattle.audit_terms.specs.Frame.{content_by, grant_to, IsOrderlyFrom}
+use Rattle.audit_terms.specs.Life.{is_opening, is_last_of}
+use Rattle.audit_terms.specs.Window.{first_window}
 use Rattle.audit_terms.specs.Change.{new_initial}
 use Rattle.audit_terms.specs.InForce.{change_of}
 use Rattle.audit_terms.specs.Connection.{credit_after}
-use Rattle.audit_terms.specs.Stream.{step_test, step_amount, counted, opens, window_ends, window_after, window_at_opening}
+use Rattle.audit_terms.specs.Stream.{step_test, counted, opens, window_ends, window_after, window_at_opening}
 use Rattle.audit_terms.specs.Pass.{PassState, pass_start, step_of, next, state_from}
 use Rattle.audit_core.specs.CreditLaws.{ConnectionCreditIsSum, StreamCreditIsSum}
 use Rattle.audit_terms.specs.Credit.{content_on, since, stream_credit_sum}
+use Rattle.audit_core.proofs.Meetings.{CountsNothing, no-choice, and-false, step-grant, step-content, step-opening, step-opened}
 
 -- ---- the connection
 
@@ -40,14 +41,14 @@ connection-credit d state (frame ∷ frames) =
 -- ---- one frame at a stream
 
 opened-next : (stream : ℕ) (state : PassState) (frame : Frame)
-    → ((next state frame).streams stream).opened
-    ≡ (if opens stream (state.streams stream) (step_of state.in_force frame stream) then Some frame.number else (state.streams stream).opened)
-opened-next stream state frame = refl
+    → ((next state frame).streams stream).life.opened
+    ≡ (if opens stream (state.streams stream) (step_of state.in_force frame stream) then Some frame.number else (state.streams stream).life.opened)
+opened-next stream state frame = step-opened stream state.in_force frame (state.streams stream)
 
 window-next : (d : Side) (stream : ℕ) (state : PassState) (frame : Frame)
     → side_of d ((next state frame).streams stream).window
     ≡ (if opens stream (state.streams stream) (step_of state.in_force frame stream)
-    then window_at_opening d state.in_force.initial (step_of state.in_force frame stream)
+    then window_at_opening d stream state.in_force.initial (step_of state.in_force frame stream)
     else window_after d stream state.in_force.initial (step_of state.in_force frame stream) (side_of d (state.streams stream).window))
 window-next Client stream state frame = refl
 window-next Server stream state frame = refl
@@ -57,88 +58,36 @@ initial-next : (d : Side) (state : PassState) (frame : Frame)
 initial-next Client state frame = refl
 initial-next Server state frame = refl
 
-no-choice : {A : Type 0} (b : Bool) (x : A) → (if b then x else x) ≡ x
-no-choice true x = refl
-no-choice false x = refl
-
-and-right : (a b : Bool) → (a && b) ≡ true → b ≡ true
-and-right true b e = e
-and-right false b e = cc
-
-and-false : (b : Bool) → (b && false) ≡ false
-and-false true = refl
-and-false false = refl
-
 -- an opened stream is not opened again
-opened-once : (stream opening : ℕ) (entry : Stream) (step : Step) → entry.opened ≡ Some opening → opens stream entry step ≡ false
-opened-once stream opening entry step e = rw e refl
-
--- what a step grants and carries is what the frame does on the stream
-step-grant : (d : Side) (stream : ℕ) (state : PassState) (frame : Frame)
-    → step_amount (grant_to d stream) (step_of state.in_force frame stream) ≡ grant_to d stream frame
-step-grant d stream state frame = by_test (frame.stream == stream) refl where
-  by_test : (on : Bool) → (frame.stream == stream) ≡ on
-      → step_amount (grant_to d stream) (record { number = frame.number; frame = (if on then Some frame else None); change = change_of state.in_force frame })
-      ≡ grant_to d stream frame
-  by_test true e = refl
-  by_test false e = sym (rw (e, and-false) refl)
-
-step-content : (d : Side) (stream : ℕ) (state : PassState) (frame : Frame)
-    → step_amount (content_by d) (step_of state.in_force frame stream) ≡ content_on d stream frame
-step-content d stream state frame = by_test (frame.stream == stream) where
-  by_test : (on : Bool)
-      → step_amount (content_by d) (record { number = frame.number; frame = (if on then Some frame else None); change = change_of state.in_force frame })
-      ≡ (if on then content_by d frame else 0)
-  by_test true = refl
-  by_test false = refl
+opened-once : (stream opening : ℕ) (entry : Stream) (step : Step) → entry.life.opened ≡ Some opening → opens stream entry step ≡ false
+opened-once stream opening entry step e = by_frame step.frame where
+  by_frame : (o : Option Frame) → option_map_or (is_opening stream entry.life) o false ≡ false
+  by_frame None = refl
+  by_frame (Some frame) = rw e refl
 
 -- ---- the frame that opens a stream counts nothing, and brings no settings
 
-headers-only : (body : Body) → is_headers body ≡ true → (increment body ≡ 0) × (is_content body ≡ false) × (is_ack body ≡ false)
-headers-only Headers e = (refl, refl, refl)
-headers-only Content e = cc
-headers-only Priority e = cc
-headers-only RstStream e = cc
-headers-only (Settings settings) e = cc
-headers-only SettingsAck e = cc
-headers-only (PushPromise stream) e = cc
-headers-only Ping e = cc
-headers-only GoAway e = cc
-headers-only (WindowUpdate amount) e = cc
-headers-only Continuation e = cc
-headers-only Unknown e = cc
-headers-only (Unreadable kind value) e = cc
+opening-grant : (d : Side) (stream : ℕ) (frame : Frame) → CountsNothing frame.body → grant_to d stream frame ≡ 0
+opening-grant d stream frame h = rw h.grants (no-choice _ 0)
 
-opening-headers : (stream : ℕ) (state : PassState) (frame : Frame)
-    → opens stream (state.streams stream) (step_of state.in_force frame stream) ≡ true → is_headers frame.body ≡ true
-opening-headers stream state frame = by_test (frame.stream == stream) where
-  by_test : (on : Bool)
-      → opens stream (state.streams stream) (record { number = frame.number; frame = (if on then Some frame else None); change = change_of state.in_force frame }) ≡ true
-      → is_headers frame.body ≡ true
-  by_test true e = and-right (is_side Client frame.side) _ (and-right _ _ e)
-  by_test false e = let f : false ≡ true = and-right (is_none (state.streams stream).opened && (stream % 2 == 1)) false e in cc
+opening-content : (d : Side) (stream : ℕ) (frame : Frame) → CountsNothing frame.body → content_on d stream frame ≡ 0
+opening-content d stream frame h = rw (h.content, and-false) (no-choice _ 0)
 
-headers-grant : (d : Side) (stream : ℕ) (frame : Frame) → is_headers frame.body ≡ true → grant_to d stream frame ≡ 0
-headers-grant d stream frame h = rw (headers-only frame.body h).0 (no-choice _ 0)
-
-headers-content : (d : Side) (stream : ℕ) (frame : Frame) → is_headers frame.body ≡ true → content_on d stream frame ≡ 0
-headers-content d stream frame h = rw ((headers-only frame.body h).1, and-false) (no-choice _ 0)
-
-headers-change : (state : PassState) (frame : Frame) → is_headers frame.body ≡ true → change_of state.in_force frame ≡ None
-headers-change state frame h = rw (headers-only frame.body h).2 refl
+opening-change : (state : PassState) (frame : Frame) → CountsNothing frame.body → change_of state.in_force frame ≡ None
+opening-change state frame h = rw h.ack refl
 
 -- ---- a stream that is opened
 
 -- it stays so
-opened-stays : (stream opening : ℕ) (state : PassState) (frames : List Frame) → (state.streams stream).opened ≡ Some opening
-    → ((state_from state frames).streams stream).opened ≡ Some opening
+opened-stays : (stream opening : ℕ) (state : PassState) (frames : List Frame) → (state.streams stream).life.opened ≡ Some opening
+    → ((state_from state frames).streams stream).life.opened ≡ Some opening
 opened-stays stream opening state [] e = e
 opened-stays stream opening state (frame ∷ frames) e =
     opened-stays stream opening (next state frame) frames
     (opened-next stream state frame ∙ rw (opened-once stream opening (state.streams stream) (step_of state.in_force frame stream) e) e)
 
 -- a window that is not live stays so
-window-gone : (d : Side) (stream opening : ℕ) (state : PassState) (frames : List Frame) → (state.streams stream).opened ≡ Some opening
+window-gone : (d : Side) (stream opening : ℕ) (state : PassState) (frames : List Frame) → (state.streams stream).life.opened ≡ Some opening
     → side_of d (state.streams stream).window ≡ None → side_of d ((state_from state frames).streams stream).window ≡ None
 window-gone d stream opening state [] e w = w
 window-gone d stream opening state (frame ∷ frames) e w =
@@ -153,7 +102,7 @@ CountsOn d stream state frames before credit =
     +ℤ pos (side_of d (state_from state frames).in_force.initial)) -ℤ pos (side_of d state.in_force.initial)
 
 window-counts : (d : Side) (stream opening : ℕ) (state : PassState) (frames : List Frame) (before credit : ℤ)
-    → (state.streams stream).opened ≡ Some opening → side_of d (state.streams stream).window ≡ Some before
+    → (state.streams stream).life.opened ≡ Some opening → side_of d (state.streams stream).window ≡ Some before
     → side_of d ((state_from state frames).streams stream).window ≡ Some credit → CountsOn d stream state frames before credit
 window-counts d stream opening state [] before credit e w last =
     let same : before ≡ credit = same_Some before credit (sym w ∙ last) in
@@ -165,7 +114,7 @@ window-counts d stream opening state (frame ∷ frames) before credit e w last =
       once : opens stream (state.streams stream) (step_of state.in_force frame stream) ≡ false
       once = opened-once stream opening (state.streams stream) (step_of state.in_force frame stream) e
 
-      opened : ((next state frame).streams stream).opened ≡ Some opening
+      opened : ((next state frame).streams stream).life.opened ≡ Some opening
       opened = opened-next stream state frame ∙ rw once e
 
       here : side_of d ((next state frame).streams stream).window
@@ -186,8 +135,8 @@ window-counts d stream opening state (frame ∷ frames) before credit e w last =
             arith,
             ints,
             rest,
-            step-grant d stream state frame,
-            step-content d stream state frame,
+            step-grant stream state.in_force frame d,
+            step-content stream state.in_force frame d,
             initial-next d state frame,
             sum_by-cons (grant_to d stream) frame frames,
             sum_by-cons (content_on d stream) frame frames,
@@ -214,17 +163,17 @@ since-later : (opening : ℕ) (frame : Frame) (frames : List Frame) → frame.nu
 since-later opening frame frames h = rw (not_le_test opening frame.number h) refl
 
 -- a stream that is opened among some frames is opened by one of them
-opening-within : (stream opening low : ℕ) (state : PassState) (frames : List Frame) → IsOrderlyFrom low frames → (state.streams stream).opened ≡ None
-    → ((state_from state frames).streams stream).opened ≡ Some opening → low ≤ opening
+opening-within : (stream opening low : ℕ) (state : PassState) (frames : List Frame) → IsOrderlyFrom low frames → (state.streams stream).life.opened ≡ None
+    → ((state_from state frames).streams stream).life.opened ≡ Some opening → low ≤ opening
 opening-within stream opening low state [] h none last = absurd (none-some opening (sym none ∙ last))
 opening-within stream opening low state (frame ∷ frames) h none last =
     by_test (opens stream (state.streams stream) (step_of state.in_force frame stream)) (opened-next stream state frame)
-    (λ (at : ((next state frame).streams stream).opened ≡ Some frame.number). opened-stays stream frame.number (next state frame) frames at)
-    (λ (at : ((next state frame).streams stream).opened ≡ None). opening-within stream opening (frame.number + 1) (next state frame) frames h.2 at last) where
+    (λ (at : ((next state frame).streams stream).life.opened ≡ Some frame.number). opened-stays stream frame.number (next state frame) frames at)
+    (λ (at : ((next state frame).streams stream).life.opened ≡ None). opening-within stream opening (frame.number + 1) (next state frame) frames h.2 at last) where
       by_test : (here : Bool)
-          → ((next state frame).streams stream).opened ≡ (if here then Some frame.number else (state.streams stream).opened)
-          → (((next state frame).streams stream).opened ≡ Some frame.number → ((state_from (next state frame) frames).streams stream).opened ≡ Some frame.number)
-          → (((next state frame).streams stream).opened ≡ None → frame.number + 1 ≤ opening)
+          → ((next state frame).streams stream).life.opened ≡ (if here then Some frame.number else (state.streams stream).life.opened)
+          → (((next state frame).streams stream).life.opened ≡ Some frame.number → ((state_from (next state frame) frames).streams stream).life.opened ≡ Some frame.number)
+          → (((next state frame).streams stream).life.opened ≡ None → frame.number + 1 ≤ opening)
           → low ≤ opening
       by_test true at stays later = let same : frame.number ≡ opening = same_Some frame.number opening (sym (stays at) ∙ last) in omega (arith, h.0)
       by_test false at stays later = omega (arith, h.0, later (at ∙ none))
@@ -235,25 +184,25 @@ IsSumSince d stream opening state frames credit =
     credit ≡ stream_credit_sum (side_of d (state_from state frames).in_force.initial) d stream opening frames
 
 window-is_sum : (d : Side) (stream opening low : ℕ) (state : PassState) (frames : List Frame) (credit : ℤ) → IsOrderlyFrom low frames
-    → (state.streams stream).opened ≡ None → ((state_from state frames).streams stream).opened ≡ Some opening
+    → (state.streams stream).life.opened ≡ None → ((state_from state frames).streams stream).life.opened ≡ Some opening
     → side_of d ((state_from state frames).streams stream).window ≡ Some credit → IsSumSince d stream opening state frames credit
 window-is_sum d stream opening low state [] credit h none opened last = absurd (none-some opening (sym none ∙ opened))
 window-is_sum d stream opening low state (frame ∷ frames) credit h none opened last =
     by_test (opens stream (state.streams stream) (step_of state.in_force frame stream)) refl (opened-next stream state frame) (window-next d stream state frame)
-    (λ (at : ((next state frame).streams stream).opened ≡ None). window-is_sum d stream opening (frame.number + 1) (next state frame) frames credit h.2 at opened last) where
+    (λ (at : ((next state frame).streams stream).life.opened ≡ None). window-is_sum d stream opening (frame.number + 1) (next state frame) frames credit h.2 at opened last) where
       -- at the opening
       begun : opens stream (state.streams stream) (step_of state.in_force frame stream) ≡ true
-          → ((next state frame).streams stream).opened ≡ Some frame.number → frame.number ≡ opening
+          → ((next state frame).streams stream).life.opened ≡ Some frame.number → frame.number ≡ opening
           → (window : Option ℤ) → side_of d ((next state frame).streams stream).window ≡ window
           → (window ≡ None) ⊎ (window ≡ Some (pos (side_of d state.in_force.initial)))
           → IsSumSince d stream opening state (frame ∷ frames) credit
       begun here at same window now (inl gone) =
           absurd (none-some credit (sym (window-gone d stream frame.number (next state frame) frames at (now ∙ gone)) ∙ last))
       begun here at same window now (inr live) =
-          let headers = opening-headers stream state frame here in
+          let counts_nothing = step-opening stream state.in_force frame (state.streams stream) here in
           let counts = window-counts d stream frame.number (next state frame) frames _ credit at (now ∙ live) last in
           let unchanged : side_of d (next state frame).in_force.initial ≡ side_of d state.in_force.initial =
-          initial-next d state frame ∙ ap (λ change. new_initial change d (side_of d state.in_force.initial)) (headers-change state frame headers) in
+          initial-next d state frame ∙ ap (λ change. new_initial change d (side_of d state.in_force.initial)) (opening-change state frame counts_nothing) in
           let all : since opening (frame ∷ frames) ≡ frame ∷ frames =
           since-all opening frame.number (frame ∷ frames) (omega (arith, same)) (omega arith, h.1, h.2) in
           rw all (omega (
@@ -263,20 +212,20 @@ window-is_sum d stream opening low state (frame ∷ frames) credit h none opened
             unchanged,
             sum_by-cons (grant_to d stream) frame frames,
             sum_by-cons (content_on d stream) frame frames,
-            headers-grant d stream frame headers,
-            headers-content d stream frame headers,
+            opening-grant d stream frame counts_nothing,
+            opening-content d stream frame counts_nothing,
           ))
 
       by_test : (here : Bool) → opens stream (state.streams stream) (step_of state.in_force frame stream) ≡ here
-          → ((next state frame).streams stream).opened ≡ (if here then Some frame.number else (state.streams stream).opened)
+          → ((next state frame).streams stream).life.opened ≡ (if here then Some frame.number else (state.streams stream).life.opened)
           → side_of d ((next state frame).streams stream).window
-          ≡ (if here then window_at_opening d state.in_force.initial (step_of state.in_force frame stream)
+          ≡ (if here then window_at_opening d stream state.in_force.initial (step_of state.in_force frame stream)
           else window_after d stream state.in_force.initial (step_of state.in_force frame stream) (side_of d (state.streams stream).window))
-          → (((next state frame).streams stream).opened ≡ None → IsSumSince d stream opening (next state frame) frames credit)
+          → (((next state frame).streams stream).life.opened ≡ None → IsSumSince d stream opening (next state frame) frames credit)
           → IsSumSince d stream opening state (frame ∷ frames) credit
       by_test true here at now later =
           begun here at (same_Some frame.number opening (sym (opened-stays stream frame.number (next state frame) frames at) ∙ opened)) _ now
-          (either (is_side d Client && step_test (sends_end Client) (step_of state.in_force frame stream)) (pos (side_of d state.in_force.initial)))
+          (either (step_test (is_last_of d stream) (step_of state.in_force frame stream)) (pos (side_of d state.in_force.initial)))
       by_test false here at now later =
           let above = opening-within stream opening (frame.number + 1) (next state frame) frames h.2 (at ∙ none) opened in
           rw (since-later opening frame frames (omega (arith, above))) (later (at ∙ none))
@@ -284,7 +233,7 @@ window-is_sum d stream opening low state (frame ∷ frames) credit h none opened
 -- ---- the laws
 
 from_start : (d : Side) (granted sent : ℕ)
-    → (side_of d pass_start.connection.credit +ℤ pos granted) -ℤ pos sent ≡ pos (65535 + granted) -ℤ pos sent
+    → (side_of d pass_start.connection.credit +ℤ pos granted) -ℤ pos sent ≡ pos (first_window + granted) -ℤ pos sent
 from_start Client granted sent = omega (arith, ints)
 from_start Server granted sent = omega (arith, ints)
 

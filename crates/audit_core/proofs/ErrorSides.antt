@@ -24,13 +24,13 @@ use Rattle.audit_terms.specs.Sides.{side_of}
 use Rattle.audit_terms.specs.Kind.{rank_of}
 use Rattle.audit_terms.specs.Place.{place_rank}
 use Rattle.audit_terms.specs.Finding.{finding_at, say, say_of, stops, comes_after}
-use Rattle.audit_terms.specs.Frame.{is_ack, is_content, increment, content_by, grant_to, grants_nothing, IsOrderly}
+use Rattle.audit_terms.specs.Frame.{is_ack, is_content, increment, content_by, grant_to, grants_nothing, meets, IsInRange, IsOrderly}
 use Rattle.audit_terms.specs.Change.{new_initial}
 use Rattle.audit_terms.specs.Window.{overflows}
-use Rattle.audit_terms.specs.LocalFault.{local_said, fault, push_kind, body_said, reading_fault}
+use Rattle.audit_terms.specs.LocalFault.{local_said, fault, body_said, reading_fault}
 use Rattle.audit_terms.specs.InForce.{InForce, settings_said, taken, change_of, change_taking}
 use Rattle.audit_terms.specs.Connection.{credit_after, connection_said, length_said, connection_windows_said, connection_window_said}
-use Rattle.audit_terms.specs.Stream.{opens, counted, window_at_opening, stream_said, frame_said, stream_window_said, live_window_said, opened_window_said}
+use Rattle.audit_terms.specs.Stream.{opens, counted, window_at_opening, window_step, stream_said, frame_said, stream_window_said, live_window_said, opened_window_said}
 use Rattle.audit_terms.specs.Pass.{PassState, pass_start, said, full, streams_of, streams_said, step_of, item_of}
 use Rattle.audit_core.specs.ApartLaw.{EachPair, AreApart, AreApartAsErrors}
 use Rattle.audit_core.proofs.Pairs.{all-append, all-ordered, pairs-refine}
@@ -107,7 +107,7 @@ zero-small = omega arith
 not_below : (credit : ℤ) → int_lt credit credit ≡ true → ⊥
 not_below credit h = absurd (omega (arith, ints))
 
-no-rise : (before : ℤ) (grant content : ℕ) → grant ≡ 0 → int_lt before ((before +ℤ pos grant) -ℤ pos content) ≡ true → ⊥
+no-rise : (before : ℤ) (grant content : ℕ) → grant ≡ 0 → int_lt before (before +ℤ (pos grant -ℤ pos content)) ≡ true → ⊥
 no-rise before grant content e h = absurd (omega (arith, ints))
 
 -- what is said of a frame by itself and of the connection
@@ -125,16 +125,8 @@ module _ (frame : Frame) (h : frame.stream < 2 ^ 31) where
       (λ identifier. of-sender frame.side BadSetting frame.number frame.stream (pos identifier) true h refl)
   of-body _ = of-nil frame.side
 
-  push-rank : (side : Side) → rank_of (push_kind side) ≡ 7
-  push-rank Client = refl
-  push-rank Server = refl
-
-  of-push : (holds : Bool) → AreOf frame.side (say holds (fault (push_kind frame.side) frame 0))
-  of-push holds =
-      of-sender frame.side (push_kind frame.side) frame.number frame.stream (pos 0) holds h (ap (error_side frame.side) (push-rank frame.side))
-
   of-local : (previous : Option Frame) → AreOf frame.side (local_said previous frame)
-  of-local previous = search (of-append, of-sender, of-body, of-push, h) depth 12
+  of-local previous = search (of-append, of-sender, of-body, h) depth 12
 
   of-settings : (now : InForce) → AreOf frame.side (settings_said now frame)
   of-settings now = search (of-sender, h)
@@ -172,8 +164,11 @@ module _ (frame : Frame) (h : frame.stream < 2 ^ 31) where
   of-connection_windows credit =
       of-append frame.side _ _ (of-connection_window Client credit.client) (of-connection_window Server credit.server)
 
-of-connection : (now : ConnectionState) (item : Item) → item.frame.stream < 2 ^ 31 → AreOf item.frame.side (connection_said now item)
-of-connection now item h = search (of-append, of-length, of-sender, of-connection_windows, h) depth 12
+of-connection : (now : ConnectionState) (item : Item) → IsInRange item.frame → AreOf item.frame.side (connection_said now item)
+of-connection now item h =
+    let own = h.stream in
+    let promised = h.promised in
+    search (of-append, of-length, of-sender, of-connection_windows, own, promised) depth 12
 
 -- an acknowledgement grants nothing and has no content
 ack-only : (body : Body) → is_ack body ≡ true → (increment body ≡ 0) × (is_content body ≡ false)
@@ -210,8 +205,8 @@ module _ (now : InForce) (initial : Sides ℕ) (entry : Stream) (frame : Frame) 
       counted d stream initial (step_of now frame stream) before ≡ before
   counted-still d before c e =
       let ack = ack-only frame.body (change-ack _ refl c) in
-      let grant = no_amount (grant_to d stream) (frame.stream == stream) (no_choice _ _ ack.0) in
-      let content = no_amount (content_by d) (frame.stream == stream) (rw (ack.1, and-false) refl) in
+      let grant = no_amount (grant_to d stream) (meets stream frame) (no_choice _ _ ack.0) in
+      let content = no_amount (content_by d) (meets stream frame) (rw (ack.1, and-false) refl) in
       let still = same_initial d (taken now frame) (side_of d initial) e in
       omega (arith, ints)
 
@@ -223,7 +218,7 @@ module _ (now : InForce) (initial : Sides ℕ) (entry : Stream) (frame : Frame) 
       let above : int_lt before (counted d stream initial (step_of now frame stream) before) ≡ true = (and_parts _ _ (and_parts _ _ o).1).0 in
       absurd (not_below before (ap (int_lt before) (sym same) ∙ above))
 
-  of-live_window : (d : Side) (before : ℤ) → AreOf frame.side (live_window_said d stream initial (step_of now frame stream) before)
+  of-live_window : (d : Side) (before : ℤ) → AreOf frame.side (live_window_said d stream (step_of now frame stream) (window_step d stream initial (step_of now frame stream) before))
   of-live_window d before =
       of-append frame.side _ _
       (of-append frame.side _ _
@@ -245,7 +240,7 @@ module _ (now : InForce) (initial : Sides ℕ) (entry : Stream) (frame : Frame) 
   of-stream_window : (d : Side) → AreOf frame.side (stream_window_said d stream initial entry (step_of now frame stream))
   of-stream_window d =
       of-choice frame.side (opens stream entry (step_of now frame stream)) _ _
-      (of-say_of frame.side _ (window_at_opening d initial (step_of now frame stream)) (of-opened_window d))
+      (of-say_of frame.side _ (window_at_opening d stream initial (step_of now frame stream)) (of-opened_window d))
       (of-say_of frame.side _ (side_of d entry.window) (of-live_window d))
 
   of-frame : (b : Bool) → AreOf frame.side (say_of (frame_said stream entry (step_of now frame stream)) (if b then Some frame else None))
@@ -254,7 +249,7 @@ module _ (now : InForce) (initial : Sides ℕ) (entry : Stream) (frame : Frame) 
 
   of-stream : AreOf frame.side (stream_said stream initial entry (step_of now frame stream))
   of-stream =
-      of-append frame.side _ _ (of-append frame.side _ _ (of-frame (frame.stream == stream)) (of-stream_window Client)) (of-stream_window Server)
+      of-append frame.side _ _ (of-append frame.side _ _ (of-frame (meets stream frame)) (of-stream_window Client)) (of-stream_window Server)
 
 of-streams : (streams : List ℕ) (state : PassState) (frame : Frame) → AreStreams streams → AreOf frame.side (streams_said streams state frame)
 of-streams [] state frame h = of-nil frame.side
@@ -263,14 +258,14 @@ of-streams (stream ∷ streams) state frame h =
     (of-stream state.in_force state.in_force.initial (state.streams stream) frame stream h.0)
     (of-streams streams state frame h.1)
 
-of-said : (streams : List ℕ) (state : PassState) (frame : Frame) → AreStreams streams → frame.stream < 2 ^ 31 →
+of-said : (streams : List ℕ) (state : PassState) (frame : Frame) → AreStreams streams → IsInRange frame →
     AllByRecursion (IsOf frame.side) (said streams state frame)
 of-said streams state frame small h = all-ordered (IsOf frame.side) comes_after (rows_of streams state frame) rows.all where
   rows : AreOf frame.side (rows_of streams state frame)
   rows =
       of-append frame.side _ _
       (of-append frame.side _ _
-      (of-append frame.side _ _ (of-local frame h (side_of frame.side state.previous)) (of-settings frame h state.in_force))
+      (of-append frame.side _ _ (of-local frame h.stream (side_of frame.side state.previous)) (of-settings frame h.stream state.in_force))
       (of-connection state.connection (item_of state frame) h))
       (of-streams streams state frame small)
 

@@ -3,7 +3,9 @@ pub mod Rows
 pub mod Kept
 pub mod PassRows
 pub mod OrderlyRest
+pub mod Meetings
 pub mod CreditLemmas
+pub mod LiveWindows
 pub mod StreamSteps
 pub mod StreamAlone
 pub mod PartsLemmas
@@ -11,10 +13,12 @@ pub mod RowSteps
 pub mod QuietSteps
 pub mod OneRow
 pub mod OwnRow
+pub mod MetRows
 pub mod NamedStreams
 pub mod StopLemmas
 pub mod Pairs
 pub mod TableRows
 pub mod FrameRows
 pub mod Apart
+pub mod JoinedSteps
 pub mod ErrorSides

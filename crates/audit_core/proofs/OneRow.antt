@@ -6,7 +6,7 @@ use Rattle.audit_core.specs.declared.tables.StreamRow.{StreamRow}
 use Rattle.audit_terms.specs.declared.findings.Finding.{Finding}
 use Rattle.std.proofs.lemmas.List.{drop_all, take_all}
 use Rattle.audit_terms.specs.code.Room.{WindowHasRoom}
-use Rattle.audit_core.specs.code.StreamTable.{streams_in, NotAmong, AreDistinct, RowFits, RowsFit}
+use Rattle.audit_core.specs.code.StreamTable.{streams_in, NotAmong, AreDistinct, RowFits, RowsFit, RowsFitBy}
 use Rattle.audit_terms.proofs.Bounds.{room-wider}
 
 module _ (stream : ℕ) (said : StreamRow → List Finding) (after : StreamRow → StreamRow)
@@ -63,22 +63,24 @@ fit-get_or bound (row ∷ rows) (suc i) d l h = fit-get_or bound rows i d (omega
 window-wider : (bound more : ℕ) (window : Option ℤ) → bound ≤ more → WindowHasRoom bound window → WindowHasRoom more window
 window-wider bound more window l h = λ credit e. room-wider bound more credit l (h credit e)
 
-fit-wider : (bound more : ℕ) (row : StreamRow) → bound ≤ more → RowFits bound row → RowFits more row
+pub fit-wider : (bound more : ℕ) (row : StreamRow) → bound ≤ more → RowFits bound row → RowFits more row
 fit-wider bound more row l h = record {
   stream = h.stream;
   client = window-wider bound more row.entry.window.client l h.client;
   server = window-wider bound more row.entry.window.server l h.server;
 }
 
-pub all_fit-wider : (bound more : ℕ) (rows : List StreamRow) → bound ≤ more → RowsFit bound rows → RowsFit more rows
-all_fit-wider bound more [] l h = tt
-all_fit-wider bound more (row ∷ rows) l h = (fit-wider bound more row l h.0, all_fit-wider bound more rows l h.1)
+-- wider bounds, stream by stream
+pub all_fit-by : (bound more : ℕ → ℕ) → ((stream : ℕ) → bound stream ≤ more stream) → (rows : List StreamRow) →
+    RowsFitBy bound rows → RowsFitBy more rows
+all_fit-by bound more l [] h = tt
+all_fit-by bound more l (row ∷ rows) h = (
+  fit-wider (bound row.stream) (more row.stream) row (l row.stream) h.0,
+  all_fit-by bound more l rows h.1,
+)
 
-pub fit-set : (bound more : ℕ) (rows : List StreamRow) (i : ℕ) (d y : StreamRow) → bound ≤ more →
-    (RowFits bound (get_or rows i d) → RowFits more y) → RowsFit bound rows → RowsFit more (set rows i y)
-fit-set bound more [] i d y l f h = tt
-fit-set bound more (row ∷ rows) zero d y l f h = (f h.0, all_fit-wider bound more rows l h.1)
-fit-set bound more (row ∷ rows) (suc i) d y l f h = (fit-wider bound more row l h.0, fit-set bound more rows i d y l f h.1)
+pub all_fit-wider : (bound more : ℕ) (rows : List StreamRow) → bound ≤ more → RowsFit bound rows → RowsFit more rows
+all_fit-wider bound more rows l = all_fit-by (λ _. bound) (λ _. more) (λ _. l) rows
 
 abbrev both : ℕ → ℕ → Sides ℕ
 both client server = record { client = client; server = server }

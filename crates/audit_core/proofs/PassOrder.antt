@@ -1,12 +1,12 @@
 -- The pass stands in order: what is said at a frame has the frame's number, and the numbers rise.
-use Rattle.std.proofs.Common.{◌≡◌, ℕ, ℤ, pos, ◌+◌, ◌*◌, ◌^◌, ◌<◌, ◌≤◌, Bool, true, false, ◌==◌, List, [], ◌∷◌, ◌++◌, refl, sym, arith, Option, Some, None, lit≤, if◌then◌else◌, filter}
+use Rattle.std.proofs.Common.{◌≡◌, ℕ, ℤ, pos, ◌+◌, ◌*◌, ◌^◌, ◌<◌, ◌≤◌, Bool, true, false, not, ◌==◌, List, [], ◌∷◌, ◌++◌, refl, sym, arith, Option, Some, None, lit≤, if◌then◌else◌, filter}
 use Rattle.std.specs.declared.cmp.Ordering.TheVariants.{Less}
 use Rattle.std.specs.Cmp.{nat_cmp_is}
 use Rattle.audit_terms.specs.declared.sides.Side.{Side}
 use Rattle.audit_terms.specs.declared.sides.Side.TheVariants.{Client, Server}
 use Rattle.audit_terms.specs.declared.sides.Sides.{Sides}
 use Rattle.audit_terms.specs.declared.kinds.Kind.{Kind}
-use Rattle.audit_terms.specs.declared.kinds.Kind.TheVariants.{BadPreface, BrokenBlock, TooLong, WrongStream, WrongSize, BadPadding, BadSetting, Push, PushNotAudited, NotOpened, IdNotGreater, ZeroConnectionGrant, ConnectionOverflow, SettingOverflow, LongFrame, AfterEnd, ConnectionOverrun, StreamOverrun, ZeroStreamGrant, StreamOverflow, UnmatchedAck, BadPriority, ConnectionStallEnd, ConnectionStallBegin, StreamStallEnd, StreamStallBegin, ConnectionCredit, StreamCredit}
+use Rattle.audit_terms.specs.declared.kinds.Kind.TheVariants.{BadPreface, BrokenBlock, TooLong, WrongStream, WrongSize, BadPadding, BadSetting, Push, NotOpened, IdNotGreater, ZeroConnectionGrant, ConnectionOverflow, SettingOverflow, LongFrame, AfterEnd, ConnectionOverrun, StreamOverrun, ZeroStreamGrant, StreamOverflow, UnmatchedAck, BadPriority, ConnectionStallEnd, ConnectionStallBegin, StreamStallEnd, StreamStallBegin, ConnectionCredit, StreamCredit}
 use Rattle.audit_terms.specs.declared.frames.Body.{Body}
 use Rattle.audit_terms.specs.declared.frames.Body.TheVariants.{Settings as SettingsBody, Unreadable}
 use Rattle.audit_terms.specs.declared.frames.Frame.{Frame}
@@ -19,12 +19,12 @@ use Rattle.audit_terms.specs.Sides.{side_of}
 use Rattle.audit_terms.specs.Kind.{rank_of}
 use Rattle.audit_terms.specs.Order.{put_by}
 use Rattle.audit_terms.specs.Finding.{finding_at, say, say_of, comes_after, in_order}
-use Rattle.audit_terms.specs.Frame.{IsOrderlyFrom, IsOrderly}
+use Rattle.audit_terms.specs.Frame.{promised_in, promises, promised_by, IsInRange, IsOrderlyFrom, IsOrderly}
 use Rattle.audit_terms.specs.LocalFault.{local_said, fault, body_said, reading_fault}
 use Rattle.audit_terms.specs.InForce.{InForce, settings_said}
 use Rattle.audit_terms.specs.Connection.{connection_said, connection_windows_said, connection_window_said}
-use Rattle.audit_terms.specs.Stream.{stream_said, frame_said, stream_window_said, live_window_said, opened_window_said}
-use Rattle.audit_terms.specs.Pass.{PassState, pass_start, said, full_from, full, next, streams_of, streams_said, step_of, item_of}
+use Rattle.audit_terms.specs.Stream.{WindowStep, stream_said, frame_said, stream_window_said, live_window_said, opened_window_said}
+use Rattle.audit_terms.specs.Pass.{PassState, pass_start, said, full_from, full, next, first_of, streams_of, streams_said, step_of, item_of}
 use Rattle.audit_terms.proofs.OrderedLists.{IsInOrder, NoneBefore, Precedes, in_order-ordered, in_order-append, ordered-in_order}
 use Rattle.audit_terms.proofs.FindingOrder.{comes_after_is}
 
@@ -74,7 +74,6 @@ rank-small WrongSize = lit≤ tt
 rank-small BadPadding = lit≤ tt
 rank-small BadSetting = lit≤ tt
 rank-small Push = lit≤ tt
-rank-small PushNotAudited = lit≤ tt
 rank-small NotOpened = lit≤ tt
 rank-small IdNotGreater = lit≤ tt
 rank-small ZeroConnectionGrant = lit≤ tt
@@ -144,16 +143,19 @@ module _ (frame : Frame) (h : frame.stream < 2 ^ 31) where
   pub at-connection_windows : (credit : Sides ℤ) → AreAt frame.number (connection_windows_said credit frame)
   at-connection_windows credit = at-append frame.number _ _ (at-connection_window Client credit.client) (at-connection_window Server credit.server)
 
-pub at-connection : (now : ConnectionState) (item : Item) → item.frame.stream < 2 ^ 31 → AreAt item.frame.number (connection_said now item)
-at-connection now item h = search (at-append, at-say, at-connection_windows, h) depth 12
+pub at-connection : (now : ConnectionState) (item : Item) → IsInRange item.frame → AreAt item.frame.number (connection_said now item)
+at-connection now item h =
+    let own = h.stream in
+    let promised = h.promised in
+    search (at-append, at-say, at-connection_windows, own, promised) depth 12
 
 -- what is said of a stream
 module _ (stream : ℕ) (initial : Sides ℕ) (entry : Stream) (step : Step) (h : stream < 2 ^ 31) where
   at-frame : (frame : Frame) → AreAt step.number (frame_said stream entry step frame)
   at-frame frame = search (at-append, at-say, h) depth 12
 
-  at-live_window : (d : Side) (before : ℤ) → AreAt step.number (live_window_said d stream initial step before)
-  at-live_window d before = search (at-append, at-say, h) depth 12
+  at-live_window : (d : Side) (window : WindowStep) → AreAt step.number (live_window_said d stream step window)
+  at-live_window d window = search (at-append, at-say, h) depth 12
 
   at-opened_window : (d : Side) (credit : ℤ) → AreAt step.number (opened_window_said d stream step credit)
   at-opened_window d credit = search (at-append, at-say, at-finding, at-nil, h) depth 12
@@ -185,13 +187,13 @@ rows_of streams state frame =
     ++ streams_said streams state frame
 
 -- what is said at a frame has its number
-pub at-said : (streams : List ℕ) (state : PassState) (frame : Frame) → AreStreams streams → frame.stream < 2 ^ 31 →
+pub at-said : (streams : List ℕ) (state : PassState) (frame : Frame) → AreStreams streams → IsInRange frame →
     AreAt frame.number (said streams state frame)
 at-said streams state frame small h =
     at-in_order frame.number _
     (at-append frame.number _ _
     (at-append frame.number _ _
-    (at-append frame.number _ _ (at-local frame h (side_of frame.side state.previous)) (at-settings frame h state.in_force))
+    (at-append frame.number _ _ (at-local frame h.stream (side_of frame.side state.previous)) (at-settings frame h.stream state.in_force))
     (at-connection state.connection (item_of state frame) h))
     (at-streams streams state frame small))
 
@@ -232,7 +234,7 @@ pub from-full_from : (streams : List ℕ) (state : PassState) (low : ℕ) (frame
 from-full_from streams state low [] small h = tt
 from-full_from streams state low (frame ∷ frames) small h =
     from-append low (said streams state frame) (full_from streams (next state frame) frames)
-    (from-at low frame.number _ h.0 (at-said streams state frame small h.1.stream).within)
+    (from-at low frame.number _ h.0 (at-said streams state frame small h.1).within)
     (from-from low (frame.number + 1) _ (omega arith) (from-full_from streams (next state frame) (frame.number + 1) frames small h.2))
 
 -- the whole pass stands in order
@@ -243,7 +245,7 @@ in_order-full_from streams state low (frame ∷ frames) small h =
     in_order-append comes_after comes_after_is (said streams state frame) (full_from streams (next state frame) frames)
     (in_order-ordered comes_after comes_after_is (rows_of streams state frame))
     (in_order-full_from streams (next state frame) (frame.number + 1) frames small h.2)
-    (precedes-at frame.number _ _ (at-said streams state frame small h.1.stream).within
+    (precedes-at frame.number _ _ (at-said streams state frame small h.1).within
     (from-full_from streams (next state frame) (frame.number + 1) frames small h.2))
 
 streams-filter : (test : ℕ → Bool) (streams : List ℕ) → AreStreams streams → AreStreams (filter test streams)
@@ -253,13 +255,24 @@ streams-filter test (stream ∷ streams) h = step _ refl (streams-filter test st
   step true e ih = rw e (h.0, ih)
   step false e ih = rw e ih
 
+streams-first_of : (stream : ℕ) (streams : List ℕ) → stream < 2 ^ 31 → AreStreams streams → AreStreams (first_of stream streams)
+streams-first_of stream streams p h = step (stream == 0) where
+  step : (b : Bool) → AreStreams (if b then streams else stream ∷ filter (λ other. not (other == stream)) streams)
+  step true = h
+  step false = (p, streams-filter _ streams h)
+
+promised_by-small : (frame : Frame) → promised_in frame.body < 2 ^ 31 → promised_by frame < 2 ^ 31
+promised_by-small frame h = step (promises (promised_in frame.body) frame) where
+  step : (b : Bool) → (if b then promised_in frame.body else 0) < 2 ^ 31
+  step true = h
+  step false = zero-small
+
 -- the streams that orderly frames name
 pub streams-streams_of : (low : ℕ) (frames : List Frame) → IsOrderlyFrom low frames → AreStreams (streams_of frames)
 streams-streams_of low [] h = tt
-streams-streams_of low (frame ∷ frames) h = step _ refl (streams-streams_of (frame.number + 1) frames h.2) where
-  step : (b : Bool) → (frame.stream == 0) ≡ b → AreStreams (streams_of frames) → AreStreams (streams_of (frame ∷ frames))
-  step true e ih = rw e ih
-  step false e ih = rw e (h.1.stream, streams-filter _ (streams_of frames) ih)
+streams-streams_of low (frame ∷ frames) h =
+    streams-first_of frame.stream _ h.1.stream
+    (streams-first_of (promised_by frame) _ (promised_by-small frame h.1.promised) (streams-streams_of (frame.number + 1) frames h.2))
 
 pub full-in_order : (frames : List Frame) → IsOrderly frames → in_order (full frames) ≡ full frames
 full-in_order frames h =

@@ -6,7 +6,7 @@ use Rattle.audit_terms.specs.declared.frames.Settings.{Settings}
 use Rattle.audit_terms.specs.declared.frames.Frame.{Frame}
 use Rattle.audit_terms.specs.declared.items.Change.{Change}
 use Rattle.audit_terms.specs.declared.items.Step.{Step}
-use Rattle.audit_terms.specs.Frame.{IsOrderlyFrom}
+use Rattle.audit_terms.specs.Frame.{meets, IsOrderlyFrom}
 use Rattle.audit_terms.specs.Change.{change_by}
 use Rattle.audit_terms.specs.InForce.{InForce, in_force_after, change_taking, taken, changes_from}
 use Rattle.audit_terms.specs.Pass.{step_of}
@@ -89,8 +89,8 @@ frames-later low high (frame ∷ frames) p h = (omega (arith, h.0), frames-later
 
 frames_of-from : (low stream : ℕ) (frames : List Frame) → FramesFrom low frames → FramesFrom low (frames_of stream frames)
 frames_of-from low stream [] h = tt
-frames_of-from low stream (frame ∷ frames) h = by_test (frame.stream == stream) (frames_of-from low stream frames h.1) where
-  by_test : (on : Bool) → FramesFrom low (frames_of stream frames) → FramesFrom low (if on then frame ∷ frames_of stream frames else frames_of stream frames)
+frames_of-from low stream (frame ∷ frames) h = by_test (meets stream frame) (frames_of-from low stream frames h.1) where
+  by_test : (met : Bool) → FramesFrom low (frames_of stream frames) → FramesFrom low (if met then frame ∷ frames_of stream frames else frames_of stream frames)
   by_test true rest = (h.0, rest)
   by_test false rest = rest
 
@@ -108,7 +108,7 @@ pub steps_of-steps_from : (low stream : ℕ) (now : InForce) (frames : List Fram
     → steps_of (frames_of stream frames) (changes_from now frames) ≡ steps_from stream now frames
 steps_of-steps_from low stream now [] h = refl
 steps_of-steps_from low stream now (frame ∷ frames) h =
-    by_cases (frame.stream == stream) (taken now frame)
+    by_cases (meets stream frame) (taken now frame)
     (steps_of-steps_from (frame.number + 1) stream (in_force_after now frame) frames h.2) where
       later-from : ChangesFrom (frame.number + 1) (changes_from (in_force_after now frame) frames)
       later-from = changes-later (frame.number + 1) (frame.number + 1) (in_force_after now frame) frames (omega arith) h.2
@@ -117,10 +117,10 @@ steps_of-steps_from low stream now (frame ∷ frames) h =
       steps-from = steps_of-from (frame.number + 1) (frames_of stream frames) (changes_from (in_force_after now frame) frames)
           (frames_of-from (frame.number + 1) stream frames (frames-later (frame.number + 1) (frame.number + 1) frames (omega arith) h.2)) later-from
 
-      by_cases : (on : Bool) (o : Option Settings)
+      by_cases : (met : Bool) (o : Option Settings)
           → steps_of (frames_of stream frames) (changes_from (in_force_after now frame) frames) ≡ steps_from stream (in_force_after now frame) frames
-          → steps_of (if on then frame ∷ frames_of stream frames else frames_of stream frames) (option_to_list (change_taking frame o) ++ changes_from (in_force_after now frame) frames)
-          ≡ step_if_any (record { number = frame.number; frame = (if on then Some frame else None); change = change_taking frame o }) ++ steps_from stream (in_force_after now frame) frames
+          → steps_of (if met then frame ∷ frames_of stream frames else frames_of stream frames) (option_to_list (change_taking frame o) ++ changes_from (in_force_after now frame) frames)
+          ≡ step_if_any (record { number = frame.number; frame = (if met then Some frame else None); change = change_taking frame o }) ++ steps_from stream (in_force_after now frame) frames
       by_cases true None ih = steps_of-first frame (frames_of stream frames) (changes_from (in_force_after now frame) frames) later-from ∙ ap (λ steps. frame_step frame ∷ steps) ih
       by_cases true (Some settings) ih =
           ap (λ steps. with_change steps (change_by frame settings)) (steps_of-first frame (frames_of stream frames) (changes_from (in_force_after now frame) frames) later-from)

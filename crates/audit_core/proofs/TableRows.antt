@@ -13,17 +13,17 @@ use Rattle.audit_core.specs.ApartLaw.{AreApart, StandApart}
 use Rattle.audit_core.proofs.Pairs.{all-append, all-map, across-by, pairs-append}
 use Rattle.audit_core.proofs.PassOrder.{rank-small}
 
--- the row in which a rank is said of an endpoint, by rank: 0 to 4 local faults, 5 settings, 6 length, 7 order of
--- openings, 8 to 13 and 14 to 19 the connection windows of client and server, 20 to 22 what a frame shows of its
--- stream, 23 to 28 and 29 to 34 the stream windows of client and server. The server is told that it grants 0 in a
+-- the row in which a rank is said of an endpoint, by rank: 0 to 4 local faults, 5 settings, 6 length, 7 the server's push,
+-- 8 order of openings, 9 to 14 and 15 to 20 the connection windows of client and server, 21 to 23 what a frame shows of
+-- its stream, 24 to 29 and 30 to 35 the stream windows of client and server. The server is told that it grants 0 in a
 -- row of the client's window.
 abbrev client_rows : List ℕ
 client_rows =
-    0 ∷ 1 ∷ 6 ∷ 2 ∷ 3 ∷ 3 ∷ 3 ∷ 4 ∷ 20 ∷ 7 ∷ 14 ∷ 9 ∷ 23 ∷ 6 ∷ 21 ∷ 10 ∷ 24 ∷ 22 ∷ 25 ∷ 5 ∷ 3 ∷ 11 ∷ 12 ∷ 26 ∷ 27 ∷ 13 ∷ 28 ∷ []
+    0 ∷ 1 ∷ 6 ∷ 2 ∷ 3 ∷ 3 ∷ 3 ∷ 4 ∷ 21 ∷ 8 ∷ 15 ∷ 10 ∷ 24 ∷ 6 ∷ 22 ∷ 11 ∷ 25 ∷ 23 ∷ 26 ∷ 5 ∷ 3 ∷ 12 ∷ 13 ∷ 27 ∷ 28 ∷ 14 ∷ 29 ∷ []
 
 abbrev server_rows : List ℕ
 server_rows =
-    0 ∷ 1 ∷ 6 ∷ 2 ∷ 3 ∷ 3 ∷ 3 ∷ 4 ∷ 20 ∷ 7 ∷ 8 ∷ 15 ∷ 29 ∷ 6 ∷ 21 ∷ 16 ∷ 30 ∷ 22 ∷ 31 ∷ 5 ∷ 3 ∷ 17 ∷ 18 ∷ 32 ∷ 33 ∷ 19 ∷ 34 ∷ []
+    0 ∷ 1 ∷ 6 ∷ 2 ∷ 3 ∷ 3 ∷ 3 ∷ 7 ∷ 21 ∷ 8 ∷ 9 ∷ 16 ∷ 30 ∷ 6 ∷ 22 ∷ 17 ∷ 31 ∷ 23 ∷ 32 ∷ 5 ∷ 3 ∷ 18 ∷ 19 ∷ 33 ∷ 34 ∷ 20 ∷ 35 ∷ []
 
 abbrev pub row_at : Side → (rank : ℕ) → ℕ
 row_at Client rank = get_or client_rows rank 0

@@ -15,6 +15,6 @@ ConnectionCreditIsSum = (d : Side) (frames : List Frame) →
 -- each live window of each stream other than 0: it counts from the frame that opened its stream
 abbrev pub StreamCreditIsSum : Type 0
 StreamCreditIsSum = (d : Side) (stream opening : ℕ) (credit : ℤ) (frames : List Frame) → IsOrderly frames → 0 < stream →
-    ((state_after frames).streams stream).opened ≡ Some opening →
+    ((state_after frames).streams stream).life.opened ≡ Some opening →
     side_of d ((state_after frames).streams stream).window ≡ Some credit →
     credit ≡ stream_credit_sum (side_of d (state_after frames).in_force.initial) d stream opening frames

@@ -3,7 +3,9 @@ pub mod Stalls
 pub mod StreamUses
 pub mod SingleFaults
 pub mod CreditLaws
+pub mod LiveLaw
 pub mod PartsLaw
 pub mod StopLaw
 pub mod ApartLaw
+pub mod StepsLaw
 pub mod code

@@ -4,13 +4,11 @@ ghost use Rattle.audit_terms.specs.Finding.{upto_stop};
 ghost use Rattle.audit_terms.specs.Pass.{full};
 ghost use Rattle.audit_terms.specs.Shown.{is_shown_so_far};
 
-use audit_terms::ConnectionState;
-use audit_terms::{Finding, cut_at_stop, put_in_order, say_if};
-use audit_terms::Frame;
-use audit_terms::Change;
-use audit_terms::Kind;
 use crate::settings::SettingsSoFar;
 use crate::tables::StreamTable;
+use audit_terms::{
+    Change, ConnectionState, Finding, Frame, Kind, cut_at_stop, put_in_order, say_if,
+};
 use std::alloc::{AllocError, Global};
 
 /// The plain pass over a connection's frames in capture order: its findings of the kinds that are shown so far, in

@@ -1,9 +1,6 @@
 ghost use Rattle.std.specs.Prelude.{◌≡◌, ℕ, ◌+◌, ◌^◌, ◌<◌, ◌≤◌, IfOk, OnOk, OnErr, vec_len};
 
-use audit_terms::{Body, Frame, Settings};
-use audit_terms::Change;
-use audit_terms::{Side, Sides};
-use audit_terms::initial_after;
+use audit_terms::{Body, Change, FIRST_WINDOW, Frame, Settings, Side, Sides, initial_after};
 use std::alloc::{AllocError, Global};
 
 /// The settings sent, taken and in force (RFC 9113, 6.5.3): all SETTINGS of each side in their order, and how many of
@@ -16,8 +13,6 @@ pub struct SettingsSoFar {
     paired: Sides<usize>,
     /// The initial window in force for the streams on which the side sends.
     initial: Sides<u32>,
-    /// The greatest length in bytes of a frame that the side may send.
-    limit: Sides<u32>,
 }
 
 impl SettingsSoFar {
@@ -38,12 +33,8 @@ impl SettingsSoFar {
                 server: 0,
             },
             initial: Sides {
-                client: 65_535,
-                server: 65_535,
-            },
-            limit: Sides {
-                client: 16_384,
-                server: 16_384,
+                client: FIRST_WINDOW,
+                server: FIRST_WINDOW,
             },
         }
     }
@@ -94,14 +85,11 @@ impl SettingsSoFar {
             }
         }
         self.initial = initial_after(&change, &self.initial);
-        self.limit = limit_after(&change, &self.limit);
         Ok(change)
     }
 }
 
 ghost use Rattle.audit_terms.specs.InForce.{change_taking};
-ghost use Rattle.audit_terms.specs.Change.{new_limit};
-ghost use Rattle.audit_terms.specs.Sides.{side_of, each_side};
 
 /// The change that a frame makes which takes these settings.
 fn change_taking(frame: &Frame, taken: &Option<Settings>) -> Option<Change>
@@ -116,25 +104,5 @@ fn change_taking(frame: &Frame, taken: &Option<Settings>) -> Option<Change>
             max_frame: settings.max_frame,
             push: settings.push,
         }),
-    }
-}
-
-/// The frame limits in force after a change (RFC 9113, 6.5.2).
-fn limit_after(change: &Option<Change>, limit: &Sides<u32>) -> Sides<u32>
-    ensures { result ≡ each_side (λ d. new_limit change.now d (side_of d limit.now)) }
-{
-    Sides {
-        client: new_limit(change, Side::Client, limit.client),
-        server: new_limit(change, Side::Server, limit.server),
-    }
-}
-
-/// The frame limit in force for a side after a change, from the one before it.
-fn new_limit(change: &Option<Change>, side: Side, before: u32) -> u32
-    ensures { result ≡ new_limit change.now side before }
-{
-    match change {
-        Some(change) if change.side == side => change.max_frame.unwrap_or(before),
-        _ => before,
     }
 }

@@ -1,16 +1,12 @@
 ghost use Rattle.std.specs.Prelude.{◌≡◌, ℕ, ◌+◌, ◌-◌, ◌^◌, ◌≤◌, ◌++◌, IfOk, OnOk, map, nat_eq, false};
+ghost use Rattle.audit_terms.specs.Finding.{in_order};
 ghost use Rattle.audit_terms.specs.Stream.{initial_after};
 ghost use Rattle.std.specs.HashMap.{get};
 ghost use Rattle.std.specs.List.{flat_map};
-ghost use Rattle.audit_core.specs.code.StreamTable.{step_at, row_said, row_after, streams_in, idle_rows, with_stream, RowFits, RowsFit, IsIndex};
+ghost use Rattle.audit_core.specs.code.StreamTable.{step_at, row_said, row_after, row_said_of, row_after_of, streams_in, idle_rows, with_stream, RowFits, RowsFit, RowsFitBy, bound_more, IsIndex};
 ghost use Rattle.audit_terms.specs.Pass.{streams_of};
 
-use audit_terms::Finding;
-use audit_terms::Frame;
-use audit_terms::{Change, Step};
-use audit_terms::Sides;
-use audit_terms::Stream;
-use audit_terms::initial_after;
+use audit_terms::{Change, Finding, Frame, Sides, Step, Stream, initial_after};
 use std::alloc::{AllocError, Global};
 use std::collections::HashMap;
 
@@ -48,7 +44,7 @@ fn step_at(frame: &Frame, change: &Option<Change>, stream: u32) -> Step
 {
     Step {
         number: frame.number,
-        frame: if frame.stream == stream {
+        frame: if frame.meets(stream) {
             Some(*frame)
         } else {
             None
@@ -106,6 +102,7 @@ impl StreamTable {
         };
         for frame in frames {
             table.note(frame.stream)?;
+            table.note(frame.promised_by())?;
         }
         Ok(table)
     }
@@ -141,10 +138,10 @@ impl StreamTable {
         self.positions.get(&stream).copied()
     }
 
-    /// Adds what all streams show at a frame, and brings them to their states after it; `initial` are the initial
-    /// windows in force before it. Only a frame that changes an initial window touches streams other than its own.
-    pub fn meet(
+    /// Adds what one stream shows at a frame, where it has a row, and brings that row to its state after the frame.
+    fn meet_stream(
         &mut self,
+        stream: u32,
         found: &mut Vec<Finding>,
         initial: &Sides<u32>,
         frame: &Frame,
@@ -154,7 +151,35 @@ impl StreamTable {
         requires fits { RowsFit (2 ^ 62) self.old.rows.items }
         requires index { IsIndex (streams_in self.old.rows.items) self.old.positions }
         ensures said { OnOk result (found.new.items
-            ≡ found.old.items ++ flat_map (row_said initial.now frame.now change.now) self.old.rows.items) }
+            ≡ found.old.items ++ flat_map (row_said_of stream initial.now frame.now change.now) self.old.rows.items) }
+        ensures after { OnOk result (self.new.rows.items
+            ≡ map (row_after_of stream initial.now frame.now change.now) self.old.rows.items) }
+        ensures fits { OnOk result ((bound : ℕ → ℕ) → RowsFitBy bound self.old.rows.items
+            → RowsFitBy (bound_more (2 ^ 34) stream bound) self.new.rows.items) }
+        ensures index { OnOk result (IsIndex (streams_in self.new.rows.items) self.new.positions) }
+    {
+        if let Some(place) = self.place_of(stream) {
+            let row = &mut self.rows[place];
+            row.meet(found, initial, frame, change)?;
+        }
+        Ok(())
+    }
+
+    /// Adds what all streams show at a frame, in any order, and brings them to their states after it; `initial` are
+    /// the initial windows in force before it. Only a frame that changes an initial window touches other streams than
+    /// its own and the one that it promises.
+    pub fn meet(
+        &mut self,
+        found: &mut Vec<Finding>,
+        initial: &Sides<u32>,
+        frame: &Frame,
+        change: &Option<Change>,
+    ) -> Result<(), AllocError>
+        requires numbered { frame.now.number ≤ 2 ^ 28 - 2 }
+        requires fits { RowsFit (2 ^ 61) self.old.rows.items }
+        requires index { IsIndex (streams_in self.old.rows.items) self.old.positions }
+        ensures said { OnOk result (in_order found.new.items ≡ in_order (found.old.items
+            ++ flat_map (row_said initial.now frame.now change.now) self.old.rows.items)) }
         ensures after { OnOk result (self.new.rows.items
             ≡ map (row_after initial.now frame.now change.now) self.old.rows.items) }
         ensures fits { OnOk result ((bound : ℕ) → RowsFit bound self.old.rows.items
@@ -164,10 +189,11 @@ impl StreamTable {
         if moves_initial(change, initial) {
             return meet_all(&mut self.rows, found, initial, frame, change);
         }
-        if let Some(place) = self.place_of(frame.stream) {
-            let row = &mut self.rows[place];
-            row.meet(found, initial, frame, change)?;
+        self.meet_stream(frame.stream, found, initial, frame, change)?;
+        let promised = frame.promised_by();
+        if promised == frame.stream {
+            return Ok(());
         }
-        Ok(())
+        self.meet_stream(promised, found, initial, frame, change)
     }
 }

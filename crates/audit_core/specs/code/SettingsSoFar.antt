@@ -8,5 +8,4 @@ in_force_of so_far = record {
   sent = record { client = so_far.sent.client.items; server = so_far.sent.server.items };
   paired = so_far.paired;
   initial = so_far.initial;
-  limit = so_far.limit;
 }

@@ -1,5 +1,5 @@
 -- The table of streams that `one_pass` keeps: a row for each stream that the frames name, and where each row stands.
-use Rattle.std.specs.Prelude.{◌≡◌, ◌≢◌, ℕ, ◌^◌, ◌<◌, ◌==◌, if◌then◌else◌, ◌||◌, Bool, false, List, [], ◌∷◌, ◌++◌, Option, Some, None, nat_eq, map, slice_get, MatchOption}
+use Rattle.std.specs.Prelude.{◌≡◌, ◌≢◌, ℕ, ◌+◌, ◌^◌, ◌<◌, ◌==◌, if◌then◌else◌, ◌||◌, Bool, false, List, [], ◌∷◌, ◌++◌, Option, Some, None, nat_eq, map, slice_get, MatchOption}
 use Rattle.std.specs.HashMap.{get, HashMap}
 use Rattle.std.specs.declared.hash.FoldHasher.{FoldHasher}
 use Rattle.std.specs.declared.hash.BuildHasherDefault.{BuildHasherDefault}
@@ -9,6 +9,7 @@ use Rattle.audit_terms.specs.declared.items.Change.{Change}
 use Rattle.audit_terms.specs.declared.items.Step.{Step}
 use Rattle.audit_core.specs.declared.tables.StreamRow.{StreamRow}
 use Rattle.audit_terms.specs.declared.findings.Finding.{Finding}
+use Rattle.audit_terms.specs.Frame.{meets}
 use Rattle.audit_terms.specs.Stream.{idle_stream, stream_after, stream_said}
 use Rattle.audit_terms.specs.code.Room.{WindowHasRoom}
 
@@ -16,7 +17,7 @@ use Rattle.audit_terms.specs.code.Room.{WindowHasRoom}
 abbrev pub step_at : Frame → Option Change → (stream : ℕ) → Step
 step_at frame change stream = record {
   number = frame.number;
-  frame = (if frame.stream == stream then Some frame else None);
+  frame = (if meets stream frame then Some frame else None);
   change = change;
 }
 
@@ -30,6 +31,14 @@ row_after initial frame change row = record {
   stream = row.stream;
   entry = stream_after row.stream initial row.entry (step_at frame change row.stream);
 }
+
+-- what a row shows at a frame, where it is the row of this stream
+abbrev pub row_said_of : (stream : ℕ) → Sides ℕ → Frame → Option Change → StreamRow → List Finding
+row_said_of stream initial frame change row = if row.stream == stream then row_said initial frame change row else []
+
+-- the row after a frame, where it is the row of this stream; else the row as it was
+abbrev pub row_after_of : (stream : ℕ) → Sides ℕ → Frame → Option Change → StreamRow → StreamRow
+row_after_of stream initial frame change row = if row.stream == stream then row_after initial frame change row else row
 
 -- the streams of the rows
 abbrev pub streams_in : List StreamRow → List ℕ
@@ -45,10 +54,18 @@ pub record RowFits (bound : ℕ) (row : StreamRow) : Type 0 where
   pub client : WindowHasRoom bound row.entry.window.client
   pub server : WindowHasRoom bound row.entry.window.server
 
--- each row fits
+-- each row fits, with a bound by its stream
+abbrev pub RowsFitBy : (bound : ℕ → ℕ) → List StreamRow → Type 0
+RowsFitBy bound [] = Unit {0}
+RowsFitBy bound (row ∷ rows) = RowFits (bound row.stream) row × RowsFitBy bound rows
+
+-- each row fits, with one bound
 abbrev pub RowsFit : (bound : ℕ) → List StreamRow → Type 0
-RowsFit bound [] = Unit {0}
-RowsFit bound (row ∷ rows) = RowFits bound row × RowsFit bound rows
+RowsFit bound rows = RowsFitBy (λ _. bound) rows
+
+-- the bounds with more room for one stream
+abbrev pub bound_more : (more stream : ℕ) → (ℕ → ℕ) → ℕ → ℕ
+bound_more more stream bound other = if other == stream then bound other + more else bound other
 
 -- the stream is not among these
 abbrev pub NotAmong : ℕ → List ℕ → Type 0

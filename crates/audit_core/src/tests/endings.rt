@@ -4,8 +4,7 @@ use super::scripts::{
     acknowledgement, audit_without_credits, content, frame, grant, headers, line,
     padded_stall_script, reset,
 };
-use audit_terms::END_STREAM;
-use audit_terms::{Body, Kind, Side};
+use audit_terms::{Body, END_STREAM, Kind, Side};
 use std::test::Fail;
 
 #[test]
