@@ -90,12 +90,12 @@ loop-frame-preserved c =
       table = table-more old.state frame (streams_of c.args.frames.now) c.initial-initial.result c.in_ok-change.change
           c.loop-frame.streams.rows.items initial change old.table _ c.in_ok-meet.ensures.after;
       index = c.in_ok-meet.ensures.index;
-      rows = rows-more _ c.loop-frame.found.items c.meet.new.found.items (streams_of c.args.frames.now) old.state frame
+      rows = rows-more _ c.loop-frame.found.items c.meet-in-loop-frame.new.found.items (streams_of c.args.frames.now) old.state frame
           (drop c.loop-frame.frame-index c.args.frames.now) (drop (c.loop-frame.frame-index + 1) c.args.frames.now)
           (drop-next c.args.frames.now c.loop-frame.frame-index _ c.loop-frame-test.true)
           (parts-more old.state frame (streams_of c.args.frames.now) c.initial-initial.result c.in_ok-change.change
           c.loop-frame.streams.rows.items initial change old.table c.loop-frame.connection.credit old.credit
-          c.loop-frame.found.items c.say_if.new.found.items c.meet_windows.new.found.items c.meet.new.found.items c.takes_nothing.result
+          c.loop-frame.found.items c.say_if.new.found.items c.meet_windows.new.found.items c.meet-in-loop-frame.new.found.items c.takes_nothing.result
           c.takes_nothing.ensures
           (c.in_ok-say_if.ensures.ok ∙ ap (λ x. c.loop-frame.found.items ++ say c.takes_nothing.result x) c.at-ack.ensures)
           c.in_ok-meet_windows.ensures.said c.in_ok-meet.ensures.said)
