@@ -1,4 +1,5 @@
 mod Bits
+mod Headers
 mod Placing
 mod Progress
 mod Rows

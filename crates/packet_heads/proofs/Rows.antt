@@ -5,7 +5,8 @@ use Rattle.pcap_records.specs.declared.capture.Record.{Record}
 use Rattle.pcap_records.specs.Place.{RiseFrom}
 use Rattle.packet_heads.specs.declared.packets.Packet.{Packet}
 use Rattle.packet_heads.specs.declared.packets.Packet.TheVariants.{Segment, Skipped, Refused}
-use Rattle.packet_heads.specs.Order.{AllStand, AreNumberedFrom, PayloadsRise, TimesFit}
+use Rattle.packet_heads.specs.Order.{AreNumberedFrom, PayloadsRise, TimesFit}
+use Rattle.packet_heads.specs.code.Standing.{AllStand}
 
 -- rows that rise from a place to the end have it before the end
 pub RiseFrom-le : (from size : ℕ) (rows : List Record) → RiseFrom from size rows → from ≤ size

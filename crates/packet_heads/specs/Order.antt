@@ -1,25 +1,7 @@
--- What the packets of a capture keep: each stands in its record's place, and payloads lie apart.
+-- What the packets of a capture keep: each names its place among them, and payloads lie apart.
 use Rattle.std.specs.Prelude.{◌≡◌, ℕ, ◌+◌, ◌^◌, ◌<◌, ◌≤◌, List, [], ◌∷◌}
-use Rattle.pcap_records.specs.declared.capture.Record.{Record}
 use Rattle.packet_heads.specs.declared.packets.Packet.{Packet}
 use Rattle.packet_heads.specs.declared.packets.Packet.TheVariants.{Segment}
-
--- a segment has the number and the time of its record, and its payload lies in the captured bytes
-abbrev pub StandsIn : ℕ → Record → Packet → Type 0
-StandsIn number row (Segment s) =
-    (s.rec ≡ number) × (s.nanos ≡ row.nanos) × (row.start ≤ s.lo) × (s.lo ≤ s.hi) × (s.hi ≤ row.start + row.length)
-StandsIn number row _ = Unit {0}
-
--- the packets of these records, one for each, where the first has this number
-abbrev pub AllStand : ℕ → List Record → List Packet → Type 0
-AllStand number [] [] = Unit {0}
-AllStand number (row ∷ rows) (p ∷ packets) = StandsIn number row p × AllStand (number + 1) rows packets
-AllStand number _ _ = ⊥
-
--- skipped or refused
-abbrev pub IsPassedOver : Packet → Type 0
-IsPassedOver (Segment s) = ⊥
-IsPassedOver _ = Unit {0}
 
 -- each segment names its own place, where the first packet has this number
 abbrev pub AreNumberedFrom : ℕ → List Packet → Type 0

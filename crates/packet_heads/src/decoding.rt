@@ -1,31 +1,32 @@
 //! From a record to what it holds.
 
-ghost use Rattle.std.specs.Prelude.{◌≡◌, ◌+◌, ◌^◌, ◌<◌, ◌≤◌, length, IfOk};
+ghost use Rattle.std.specs.Prelude.{◌≡◌, ◌+◌, ◌^◌, ◌<◌, ◌≤◌, length, IfOk, IsTrue};
+ghost use Rattle.pcap_records.specs.LinkType.{is_read};
 ghost use Rattle.pcap_records.specs.Place.{AreWithin, AreTimely};
 ghost use Rattle.packet_heads.specs.Decision.{packet_decision, packet_decisions, segment_of, is_cut};
 ghost use Rattle.packet_heads.specs.Ipv4 as ipv4_words;
-ghost use Rattle.packet_heads.specs.Order.{StandsIn, AllStand, AreNumberedFrom, PayloadsRise, TimesFit};
+ghost use Rattle.packet_heads.specs.Order.{AreNumberedFrom, PayloadsRise, TimesFit};
 ghost use Rattle.packet_heads.specs.Tcp as tcp_words;
+ghost use Rattle.packet_heads.specs.code.Standing.{StandsIn, AllStand};
 
 use crate::packets::{Endpoint, Packet, Segment};
-use crate::{ethernet, ipv4, tcp};
+use crate::{ipv4, link, tcp};
 use pcap_records::{Record, Records};
 use std::alloc::{AllocError, Global};
 use std::thread::Threads;
 
-/// The segment in a datagram of the record whose headers are whole.
-fn segment_of(number: u32, row: &Record, cut: bool, datagram: &[u8]) -> Segment
+/// The segment in a datagram whose headers are whole, and which begins at this offset of the capture.
+fn segment_of(number: u32, row: &Record, cut: bool, at: usize, datagram: &[u8]) -> Segment
     requires cut_is { cut ≡ is_cut row.now }
-    requires place { row.now.start + 14 + length datagram.now < 2 ^ 64 }
+    requires place { at + length datagram.now < 2 ^ 64 }
     requires datagram { ipv4_words.HasHeader datagram.now }
     requires segment { tcp_words.HasHeader (ipv4_words.segment_bytes datagram.now) }
-    ensures segment { result ≡ segment_of number row.now datagram.now }
-    ensures from { row.now.start ≤ result.lo }
+    ensures segment { result ≡ segment_of number row.now at datagram.now }
+    ensures from { at ≤ result.lo }
     ensures payload { result.lo ≤ result.hi }
-    ensures upto { result.hi ≤ row.now.start + 14 + length datagram.now }
+    ensures upto { result.hi ≤ at + length datagram.now }
 {
     let segment = ipv4::segment(datagram);
-    let at = row.start + ethernet::HEADER;
     Segment {
         rec: number,
         nanos: row.nanos,
@@ -48,19 +49,20 @@ fn segment_of(number: u32, row: &Record, cut: bool, datagram: &[u8]) -> Segment
 
 /// What a record holds: the first line of the table that applies to its captured bytes.
 ///
-/// `link` is the link type of the capture, 1 (Ethernet); `number` is the record's. The captured bytes of
+/// `link` is the link type of the capture, 1 (Ethernet) or 101 (raw IP); `number` is the record's. The captured bytes of
 /// `row` are to lie in `capture`, as those of `pcap_records::records` do.
 pub fn decode(link: u16, number: u32, row: &Record, capture: &[u8]) -> Packet
-    requires ethernet { link ≡ 1 }
+    requires linked { IsTrue (is_read link) }
     requires inside { row.now.start + row.now.length ≤ length capture.now }
-    ensures decided { result ≡ packet_decision number row.now capture.now }
+    ensures decided { result ≡ packet_decision link number row.now capture.now }
     ensures placed { StandsIn number row.now result }
 {
-    let frame = &capture[row.start..row.start + row.length];
-    if let Some(answer) = ethernet::answer(frame) {
+    let packet = &capture[row.start..row.start + row.length];
+    if let Some(answer) = link::answer(link, packet) {
         return answer;
     }
-    let datagram = ethernet::data(frame);
+    let start = link::datagram_start(link, packet);
+    let datagram = link::datagram(packet, start);
     let cut = row.length < row.original as usize;
     if let Some(answer) = ipv4::answer(cut, datagram) {
         return answer;
@@ -68,7 +70,7 @@ pub fn decode(link: u16, number: u32, row: &Record, capture: &[u8]) -> Packet
     if let Some(answer) = tcp::answer(ipv4::segment(datagram)) {
         return answer;
     }
-    Packet::Segment(segment_of(number, row, cut, datagram))
+    Packet::Segment(segment_of(number, row, cut, row.start + start, datagram))
 }
 
 /// What each of these rows holds, in order; the first has the number 1.
@@ -78,9 +80,9 @@ fn decode_rows(
     rows: &[Record],
     capture: &[u8],
 ) -> Result<Vec<Packet>, AllocError>
-    requires ethernet { link ≡ 1 }
+    requires linked { IsTrue (is_read link) }
     requires within { AreWithin (length capture.now) rows.now }
-    ensures exact { IfOk result (λ packets. packets.items ≡ packet_decisions rows.now capture.now) }
+    ensures exact { IfOk result (λ packets. packets.items ≡ packet_decisions link rows.now capture.now) }
     ensures stand { IfOk result (λ packets. AllStand 1 rows.now packets.items) }
 {
     let mut packets = Vec::with_capacity(alloc, rows.len())?;
@@ -99,12 +101,12 @@ pub fn decode_all(
     records: &Records,
     capture: &[u8],
 ) -> Result<Vec<Packet>, AllocError>
-    requires ethernet { records.now.link ≡ 1 }
+    requires linked { IsTrue (is_read records.now.link) }
     requires within { AreWithin (length capture.now) records.now.rows.items }
     requires timely { AreTimely records.now.rows.items }
     // Each packet is the decision on its record.
     ensures exact { IfOk result
-        (λ packets. packets.items ≡ packet_decisions records.now.rows.items capture.now) }
+        (λ packets. packets.items ≡ packet_decisions records.now.link records.now.rows.items capture.now) }
 
     // For those who go on from the packets.
     ensures few { IfOk result (λ packets. length packets.items < 2 ^ 32) }

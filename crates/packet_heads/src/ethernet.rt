@@ -1,47 +1,74 @@
-//! Ethernet frames (RFC 894).
+//! Ethernet frames (RFC 894), with one VLAN tag or none (IEEE 802.1Q).
 
-ghost use Rattle.std.specs.Prelude.{◌≡◌, ◌+◌, ◌≤◌, length, IfNone, IfSome};
-ghost use Rattle.packet_heads.specs.Ethernet.{ether_type, data_of, ethernet_lines};
+ghost use Rattle.std.specs.Prelude.{◌≡◌, ◌≤◌, length, IfNone, IfSome};
+ghost use Rattle.packet_heads.specs.Ethernet.{is_tagged, header_length, ether_type, ethernet_lines};
 ghost use Rattle.packet_heads.specs.Lines.{first_answer};
-ghost use Rattle.packet_heads.specs.Order.{IsPassedOver};
+ghost use Rattle.packet_heads.specs.code.Standing.{IsPassedOver};
 
 use crate::packets::{Packet, Refusal, Skip};
 use byteorder::{BigEndian, ByteOrder};
 
-/// The length of a frame's header.
-pub const HEADER: usize = 14;
+/// The length of a header without a tag.
+const HEADER: usize = 14;
+
+/// The length of a header with a tag.
+const TAGGED_HEADER: usize = 18;
+
+/// The type that says that a VLAN tag follows.
+const TAG: u16 = 0x8100;
 
 /// The type of an IPv4 datagram.
 const IPV4: u16 = 0x0800;
 
-#[tactic(auto, unfolding(crate::specs::Ethernet::ether_type))]
-fn ether_type(frame: &[u8]) -> u16
+#[tactic(auto, unfolding(crate::specs::Ethernet::is_tagged))]
+fn is_tagged(frame: &[u8]) -> bool
     requires { 14 ≤ length frame.now }
-    ensures { result ≡ ether_type frame.now }
+    ensures { result ≡ is_tagged frame.now }
 {
-    BigEndian::read_u16(&frame[12..])
+    BigEndian::read_u16(&frame[12..]) == TAG
 }
 
-/// What the frame carries.
-pub fn data(frame: &[u8]) -> &[u8]
+/// The length of the header, a tag included.
+#[tactic(auto, unfolding(crate::specs::Ethernet::header_length))]
+pub fn header_length(frame: &[u8]) -> usize
     requires { 14 ≤ length frame.now }
-    ensures data { result.now ≡ data_of frame.now }
-    ensures len { length result.now + 14 ≡ length frame.now }
+    ensures length { result ≡ header_length frame.now }
+    ensures least { 14 ≤ result }
 {
-    &frame[HEADER..]
+    if is_tagged(frame) {
+        TAGGED_HEADER
+    } else {
+        HEADER
+    }
+}
+
+/// What stands behind a header of this length.
+#[tactic(auto, unfolding(crate::specs::Ethernet::ether_type))]
+fn ether_type(frame: &[u8], header: usize) -> u16
+    requires is { header ≡ header_length frame.now }
+    requires least { 14 ≤ header }
+    requires whole { header ≤ length frame.now }
+    ensures { result ≡ ether_type frame.now }
+{
+    BigEndian::read_u16(&frame[header - 2..])
 }
 
 /// What the header says of a frame that carries no whole IPv4 datagram.
+#[tactic(auto, using(crate::proofs::Headers::least))]
 pub fn answer(frame: &[u8]) -> Option<Packet>
     ensures answer { result ≡ first_answer (ethernet_lines frame.now) }
     ensures passed_over { IfSome result IsPassedOver }
-    ensures whole { IfNone result (14 ≤ length frame.now) }
+    ensures whole { IfNone result (header_length frame.now ≤ length frame.now) }
 {
     if frame.len() < HEADER {
-        Some(Packet::Refused(Refusal::ShortEthernet))
-    } else if ether_type(frame) != IPV4 {
-        Some(Packet::Skipped(Skip::NotIpv4))
-    } else {
-        None
+        return Some(Packet::Refused(Refusal::ShortEthernet));
     }
+    let header = header_length(frame);
+    if frame.len() < header {
+        return Some(Packet::Refused(Refusal::ShortEthernet));
+    }
+    if ether_type(frame, header) != IPV4 {
+        return Some(Packet::Skipped(Skip::NotIpv4));
+    }
+    None
 }

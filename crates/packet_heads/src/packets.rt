@@ -27,7 +27,7 @@ pub struct Segment {
 /// Why a packet is passed over.
 #[derive(Clone, Copy, Debug, PartialEq, Eq)]
 pub enum Skip {
-    /// Its Ethernet type is another than IPv4's, a VLAN tag's too.
+    /// A frame of another type than IPv4, or one with two VLAN tags; raw IP of version 6.
     NotIpv4,
     /// A part of a datagram, by its offset or by More Fragments (RFC 791, 3.1).
     Fragment,
@@ -38,9 +38,9 @@ pub enum Skip {
 /// What is wrong with a packet that cannot be read.
 #[derive(Clone, Copy, Debug, PartialEq, Eq)]
 pub enum Refusal {
-    /// Fewer than the 14 bytes of an Ethernet header were captured.
+    /// Fewer bytes were captured than an Ethernet header has: 14, or 18 with a VLAN tag.
     ShortEthernet,
-    /// Fewer than 20 bytes were captured behind it, the least IPv4 header.
+    /// Fewer than 20 bytes of the datagram were captured, the least IPv4 header.
     ShortIpv4,
     /// The version is not 4.
     BadVersion,

@@ -1,9 +1,10 @@
 -- What the refusal knows of the length.
-use Rattle.std.proofs.Common.{◌≡◌, ◌≤◌, ◌-◌, ◌^◌, ◌==◌, ℕ, List, Bool, true, Option, Some, None, length, take, not, nat_lt, if◌then◌else◌, refl, sym, ap, ◌∙◌, arith, inl, inr}
+use Rattle.std.proofs.Common.{◌≡◌, ◌≤◌, ◌-◌, ◌^◌, ℕ, List, Bool, true, Option, Some, None, length, take, not, nat_lt, if◌then◌else◌, refl, sym, ap, ◌∙◌, arith, inl, inr}
 use Rattle.std.proofs.lemmas.Bool.{cases_lt, cond-false, le-ltb, lt-ltb}
 use Rattle.std.proofs.lemmas.List.{length-take-le, take-take, take_all}
 use Rattle.pcap_records.specs.FileHeader.{Order, number_of, header_of, format_of, is_version, link_of}
-use Rattle.pcap_records.specs.Laws.{FrontDecides, AllowedIsShort}
+use Rattle.pcap_records.specs.Laws.{FrontDecides, AllowedIsShort, LargestIsTaken}
+use Rattle.pcap_records.specs.LinkType.{is_read}
 use Rattle.pcap_records.specs.Refusal.{refusal, refusal_in, refusal_by}
 use Rattle.pcap_records.specs.declared.faults.PcapFault.{PcapFault}
 use Rattle.pcap_records.specs.declared.faults.PcapFault.TheVariants.{BadVersion, LinkType, TooLarge}
@@ -14,7 +15,7 @@ refusal_in-large : (number : Order) (header : List ℕ) (a b : ℕ) → 2 ^ 31 �
 refusal_in-large number header a b large_a large_b =
     let By : Bool → Option PcapFault = λ large.
     if not (is_version number header) then Some BadVersion else
-    if not (link_of number header == 1) then Some LinkType else
+    if not (is_read (link_of number header)) then Some LinkType else
     if large then Some TooLarge else None in
     ap By (lt-ltb (2 ^ 31 - 1) a (omega arith) ∙ sym (lt-ltb (2 ^ 31 - 1) b (omega arith)))
 
@@ -60,3 +61,19 @@ allowed_is_short_lem capture allowed = elim (cases_lt (length capture) (2 ^ 31))
   | inr long ↦ absurd (refusal_by-some (format_of (header_of capture)) (header_of capture) (length capture) long
       (sym (refusal-long capture (omega (arith, long))) ∙ allowed))
 ]
+
+-- the largest size is refused for no size
+refusal_in-largest : (number : Order) (header : List ℕ) → refusal_in number header 2147483647 ≡ Some TooLarge → ⊥
+refusal_in-largest number header large = grind arith
+
+-- the same whatever the magic told
+refusal_by-largest : (told : Option Format) (header : List ℕ) → refusal_by told header 2147483647 ≡ Some TooLarge → ⊥
+refusal_by-largest None header large = cc
+refusal_by-largest (Some f) header large = refusal_in-largest (number_of f.endian) header large
+
+-- a capture of 2^31 - 1 bytes is not too large
+pub largest_is_taken_lem : LargestIsTaken
+largest_is_taken_lem capture size large =
+    refusal_by-largest (format_of (header_of capture)) (header_of capture)
+    (ap (λ (n : ℕ). refusal_by (format_of (header_of capture)) (header_of capture) n) (sym size)
+    ∙ sym (refusal-long capture (omega (arith, size))) ∙ large)

@@ -1,8 +1,9 @@
 -- What holds of the definitions of readings and refusals.
-use Rattle.std.specs.Prelude.{◌≡◌, ◌<◌, ◌^◌, ℕ, List, None, length, take}
+use Rattle.std.specs.Prelude.{◌≡◌, ◌≢◌, ◌<◌, ◌^◌, ℕ, List, Some, None, length, take}
 use Rattle.pcap_records.specs.Reading.{IsReading}
 use Rattle.pcap_records.specs.Refusal.{refusal}
 use Rattle.pcap_records.specs.declared.capture.Records.{Records}
+use Rattle.pcap_records.specs.declared.faults.PcapFault.TheVariants.{TooLarge}
 
 -- two readings of one capture have the same link type, the same records and the same cut record
 abbrev pub OneReading : Type 0
@@ -16,3 +17,7 @@ FrontDecides = (capture : List ℕ) → refusal (take (2 ^ 31) capture) ≡ refu
 -- what is not refused is shorter than 2^31 bytes
 abbrev pub AllowedIsShort : Type 0
 AllowedIsShort = (capture : List ℕ) → refusal capture ≡ None → length capture < 2 ^ 31
+
+-- and the largest size of that kind is not too large
+abbrev pub LargestIsTaken : Type 0
+LargestIsTaken = (capture : List ℕ) → length capture ≡ 2147483647 → refusal capture ≢ Some TooLarge

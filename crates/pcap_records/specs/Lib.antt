@@ -1,5 +1,7 @@
+pub mod Example
 pub mod FileHeader
 pub mod Laws
+pub mod LinkType
 pub mod Place
 pub mod Reading
 pub mod Record

@@ -1,6 +1,7 @@
 -- When a capture is refused, and why.
-use Rattle.std.specs.Prelude.{ℕ, ◌-◌, ◌^◌, ◌==◌, if◌then◌else◌, not, nat_lt, Option, Some, None, List, length}
+use Rattle.std.specs.Prelude.{ℕ, ◌-◌, ◌^◌, if◌then◌else◌, not, nat_lt, Option, Some, None, List, length}
 use Rattle.pcap_records.specs.FileHeader.{Order, number_of, header_of, format_of, is_version, link_of}
+use Rattle.pcap_records.specs.LinkType.{is_read}
 use Rattle.pcap_records.specs.declared.format.Format.{Format}
 use Rattle.pcap_records.specs.declared.faults.PcapFault.{PcapFault}
 use Rattle.pcap_records.specs.declared.faults.PcapFault.TheVariants.{ShortHeader, BadMagic, BadVersion, LinkType, TooLarge}
@@ -9,7 +10,7 @@ use Rattle.pcap_records.specs.declared.faults.PcapFault.TheVariants.{ShortHeader
 abbrev pub refusal_in : Order → List ℕ → ℕ → Option PcapFault
 refusal_in number header size =
     if not (is_version number header) then Some BadVersion else
-    if not (link_of number header == 1) then Some LinkType else
+    if not (is_read (link_of number header)) then Some LinkType else
     if nat_lt (2 ^ 31 - 1) size then Some TooLarge else
     None
 

@@ -11,10 +11,16 @@ pub struct Record {
     pub length: usize,
 }
 
+/// The link type of Ethernet (LINKTYPE_ETHERNET): a record holds a frame.
+pub const ETHERNET: u16 = 1;
+
+/// The link type of raw IP (LINKTYPE_RAW): a record holds an IP datagram, with nothing before it.
+pub const RAW_IP: u16 = 101;
+
 /// The records of a capture, numbered from 1 in the order of the file.
 #[derive(Debug, Drop)]
 pub struct Records {
-    /// The link type: the low 16 bits of the header's network field.
+    /// The link type: the low 16 bits of the header's network field, [`ETHERNET`] or [`RAW_IP`].
     pub link: u16,
     pub rows: Vec<Record>,
     /// The number of the record that the end of the capture cuts, if there is one.

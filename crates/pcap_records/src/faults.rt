@@ -12,7 +12,7 @@ pub enum PcapFault {
     /// A version other than 2.4.
     #[error("fault 3")]
     BadVersion,
-    /// A link type that is not read.
+    /// A link type other than Ethernet and raw IP.
     #[error("fault 4")]
     LinkType,
     /// More than 2^31 - 1 bytes.

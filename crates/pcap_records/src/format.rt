@@ -4,14 +4,14 @@ ghost use Rattle.pcap_records.specs.FileHeader.{format_of};
 use byteorder::{BigEndian, ByteOrder};
 
 /// The order in which a file writes the bytes of its numbers.
-#[derive(Clone, Copy, Debug, PartialEq, Eq)]
+#[derive(Clone, Copy)]
 pub enum Endian {
     Big,
     Little,
 }
 
 /// What the magic at the front of a capture tells.
-#[derive(Clone, Copy, Debug, PartialEq, Eq)]
+#[derive(Clone, Copy)]
 pub struct Format {
     pub endian: Endian,
     /// The nanoseconds in one unit of a record's fraction.

@@ -1,6 +1,6 @@
 //! Laws of the definitions. The functions do nothing; their contracts are the laws.
 
-ghost use Rattle.pcap_records.specs.Laws.{OneReading, FrontDecides, AllowedIsShort};
+ghost use Rattle.pcap_records.specs.Laws.{OneReading, FrontDecides, AllowedIsShort, LargestIsTaken};
 
 /// A capture has one reading: link type, records and cut record are the same in any two.
 pub fn one_reading()
@@ -15,4 +15,9 @@ pub fn front_decides()
 /// A capture that is not refused has fewer than 2^31 bytes.
 pub fn allowed_is_short()
     ensures { AllowedIsShort }
+{}
+
+/// A capture of 2^31 - 1 bytes is not too large.
+pub fn largest_is_taken()
+    ensures { LargestIsTaken }
 {}

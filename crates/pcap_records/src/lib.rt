@@ -9,20 +9,18 @@
 //! `specs/Refusal.antt` looks at the header and the length, and `IsReading` of `specs/Reading.antt`
 //! is a relation by cases, a record of 16 header bytes and the captured ones and then the rest. The
 //! laws of [`laws`] say that a capture has one reading, and that its first 2^31 bytes are refused
-//! exactly as the whole is.
+//! exactly as the whole is. [`worked_examples`] has small captures with what the definitions say of them.
 #![tactic(auto)]
 
-pub mod capture;
-pub mod faults;
+mod capture;
+mod faults;
 mod format;
 mod header;
 pub mod laws;
 mod reading;
 mod rows;
+pub mod worked_examples;
 
-pub use capture::{Record, Records};
+pub use capture::{ETHERNET, RAW_IP, Record, Records};
 pub use faults::PcapFault;
 pub use reading::records;
-
-#[cfg(test)]
-mod tests;

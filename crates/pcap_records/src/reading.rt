@@ -1,5 +1,6 @@
-ghost use Rattle.std.specs.Prelude.{◌≡◌, ◌<◌, ◌≤◌, ◌^◌, ◌⊎◌, IfOk, IfErr, IfSome, OnOk, length};
+ghost use Rattle.std.specs.Prelude.{◌≡◌, ◌<◌, ◌≤◌, ◌^◌, ◌⊎◌, IfOk, IfErr, IfSome, IsTrue, OnOk, length};
 ghost use Rattle.pcap_records.specs.FileHeader.{header_of};
+ghost use Rattle.pcap_records.specs.LinkType.{is_read};
 ghost use Rattle.pcap_records.specs.Place.{AreWithin, AreTimely};
 ghost use Rattle.pcap_records.specs.Reading.{IsReading, IsReadingBy};
 ghost use Rattle.pcap_records.specs.Refusal.{refusal, refusal_in};
@@ -25,7 +26,7 @@ fn read_in<T: ByteOrder>(alloc: Global, capture: &[u8], unit: u64) -> Result<Rec
         ⊎ (refusal_in T.number_of (header_of capture.now) (length capture.now) ≡ Some e)) }
     ensures placed { IfOk result (λ found. AreWithin (length capture.now) found.rows.items) }
     ensures timely { IfOk result (λ found. AreTimely found.rows.items) }
-    ensures ethernet { IfOk result (λ found. found.link ≡ 1) }
+    ensures linked { IfOk result (λ found. IsTrue (is_read found.link)) }
     ensures short { OnOk result (length capture.now < 2 ^ 31) }
 {
     let header = &capture[..FILE_HEADER];
@@ -60,11 +61,11 @@ pub fn records(alloc: Global, capture: &[u8]) -> Result<Records, PcapFault>
     // Each fault other than want of memory is that refusal.
     ensures err { IfErr result (λ e. (e ≡ PcapFault.OutOfMemory) ⊎ (refusal capture.now ≡ Some e)) }
 
-    // For those who go on from the records: they lie in the capture in order, their times fit, the packets
-    // begin with an Ethernet header, and a place in the capture has 31 bits.
+    // For those who go on from the records: they lie in the capture in order, their times fit, the
+    // link type is one of the two, and a place in the capture has 31 bits.
     ensures placed { IfOk result (λ found. AreWithin (length capture.now) found.rows.items) }
     ensures timely { IfOk result (λ found. AreTimely found.rows.items) }
-    ensures ethernet { IfOk result (λ found. found.link ≡ 1) }
+    ensures linked { IfOk result (λ found. IsTrue (is_read found.link)) }
     ensures short { OnOk result (length capture.now < 2 ^ 31) }
 {
     if capture.len() < FILE_HEADER {

@@ -1,8 +1,8 @@
-use Rattle.std.proofs.Common.{ap, ◌∙◌, arith}
+use Rattle.std.proofs.Common.{drop, ap, ◌∙◌, arith}
 use Rattle.std.proofs.lemmas.Grind.{common_steps}
 use Rattle.packet_heads.specs.Decision.{packet_decision, is_cut}
 use Rattle.packet_heads.specs.declared.packets.Packet.TheVariants.{Segment}
-use Rattle.packet_heads.specs.Ethernet.{frame_of, data_of, ethernet_lines}
+use Rattle.packet_heads.specs.Link.{packet_of, link_lines, datagram_start}
 use Rattle.packet_heads.specs.Ipv4.{ipv4_lines, segment_bytes}
 use Rattle.packet_heads.specs.Tcp.{tcp_lines}
 use Rattle.packet_heads.proofs.Placing.{StandsIn-passed_over}
@@ -12,40 +12,40 @@ use Rattle.packet_heads.proofs.decoding.decode.Goals as goal
 pub returns-in-Some-clause-decided : goal.returns-in-Some-clause-decided
 unfolding packet_decision
 returns-in-Some-clause-decided c =
-    let frame = frame_of c.args.row.now c.args.capture.now in
-    let datagram = data_of frame in
-    decided_by_first (ethernet_lines frame) (ipv4_lines (is_cut c.args.row.now) datagram) (tcp_lines (segment_bytes datagram)) _ _
+    let packet = packet_of c.args.row.now c.args.capture.now in
+    let datagram = drop (datagram_start c.args.link packet) packet in
+    decided_by_first (link_lines c.args.link packet) (ipv4_lines (is_cut c.args.row.now) datagram) (tcp_lines (segment_bytes datagram)) _ _
     c.in-Some.ensures.answer
 
 pub returns-in-Some-answer-clause-decided : goal.returns-in-Some-answer-clause-decided
 unfolding packet_decision
 returns-in-Some-answer-clause-decided c =
-    let frame = frame_of c.args.row.now c.args.capture.now in
-    let datagram = data_of frame in
-    decided_by_second (ethernet_lines frame) (ipv4_lines (is_cut c.args.row.now) datagram) (tcp_lines (segment_bytes datagram)) _ _
+    let packet = packet_of c.args.row.now c.args.capture.now in
+    let datagram = drop (datagram_start c.args.link packet) packet in
+    decided_by_second (link_lines c.args.link packet) (ipv4_lines (is_cut c.args.row.now) datagram) (tcp_lines (segment_bytes datagram)) _ _
     c.in_default.ensures.answer
-    (rw c.data-datagram.ensures.data at c.in-Some-answer.ensures.answer)
+    (rw (c.datagram-datagram.ensures.datagram, c.datagram_start-start.ensures) at c.in-Some-answer.ensures.answer)
 
 pub returns-in-Some-answer-2-clause-decided : goal.returns-in-Some-answer-2-clause-decided
 unfolding packet_decision
 returns-in-Some-answer-2-clause-decided c =
-    let frame = frame_of c.args.row.now c.args.capture.now in
-    let datagram = data_of frame in
-    decided_by_third (ethernet_lines frame) (ipv4_lines (is_cut c.args.row.now) datagram) (tcp_lines (segment_bytes datagram)) _ _
+    let packet = packet_of c.args.row.now c.args.capture.now in
+    let datagram = drop (datagram_start c.args.link packet) packet in
+    decided_by_third (link_lines c.args.link packet) (ipv4_lines (is_cut c.args.row.now) datagram) (tcp_lines (segment_bytes datagram)) _ _
     c.in_default.ensures.answer
-    (rw c.data-datagram.ensures.data at c.in_default-answer.ensures.answer)
-    (rw (c.segment.ensures, c.data-datagram.ensures.data) at c.in-Some-answer-2.ensures.answer)
+    (rw (c.datagram-datagram.ensures.datagram, c.datagram_start-start.ensures) at c.in_default-answer.ensures.answer)
+    (rw (c.segment.ensures, c.datagram-datagram.ensures.datagram, c.datagram_start-start.ensures) at c.in-Some-answer-2.ensures.answer)
 
 pub returns-clause-decided : goal.returns-clause-decided
 unfolding packet_decision
 returns-clause-decided c =
-    let frame = frame_of c.args.row.now c.args.capture.now in
-    let datagram = data_of frame in
-    ap Segment (rw c.data-datagram.ensures.data at c.segment_of.ensures.segment)
-    ∙ decided_by_last (ethernet_lines frame) (ipv4_lines (is_cut c.args.row.now) datagram) (tcp_lines (segment_bytes datagram)) _
+    let packet = packet_of c.args.row.now c.args.capture.now in
+    let datagram = drop (datagram_start c.args.link packet) packet in
+    ap Segment (rw (c.datagram-datagram.ensures.datagram, c.datagram_start-start.ensures) at c.segment_of.ensures.segment)
+    ∙ decided_by_last (link_lines c.args.link packet) (ipv4_lines (is_cut c.args.row.now) datagram) (tcp_lines (segment_bytes datagram)) _
     c.in_default.ensures.answer
-    (rw c.data-datagram.ensures.data at c.in_default-answer.ensures.answer)
-    (rw (c.segment.ensures, c.data-datagram.ensures.data) at c.in_default-answer-2.ensures.answer)
+    (rw (c.datagram-datagram.ensures.datagram, c.datagram_start-start.ensures) at c.in_default-answer.ensures.answer)
+    (rw (c.segment.ensures, c.datagram-datagram.ensures.datagram, c.datagram_start-start.ensures) at c.in_default-answer-2.ensures.answer)
 
 pub returns-in-Some-clause-placed : goal.returns-in-Some-clause-placed
 returns-in-Some-clause-placed c = StandsIn-passed_over c.args.number c.args.row.now _ c.in-Some.ensures.passed_over
@@ -61,7 +61,7 @@ returns-clause-placed c =
     let made = c.segment_of.ensures in (
       ap (λ s. s.rec) made.segment,
       ap (λ s. s.nanos) made.segment,
-      made.from,
+      grind (arith, made.from),
       made.payload,
-      grind (arith, common_steps, made.upto, c.data-datagram.ensures.len),
+      grind (arith, common_steps, made.upto, c.datagram-datagram.ensures.len),
     )

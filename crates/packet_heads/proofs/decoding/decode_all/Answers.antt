@@ -1,6 +1,7 @@
 use Rattle.std.proofs.Common.{◌^◌, ◌<◌, length, subst, arith}
 use Rattle.std.proofs.lemmas.Result.{IfOk-weaker}
-use Rattle.packet_heads.specs.Order.{AllStand, AreNumberedFrom, PayloadsRise, TimesFit}
+use Rattle.packet_heads.specs.Order.{AreNumberedFrom, PayloadsRise, TimesFit}
+use Rattle.packet_heads.specs.code.Standing.{AllStand}
 use Rattle.packet_heads.proofs.Rows.{AllStand-length, AllStand-numbered, AllStand-rise, AllStand-times}
 use Rattle.packet_heads.proofs.decoding.decode_all.Goals as goal
 
