@@ -7,7 +7,7 @@ use Rattle.packet_heads.specs.declared.packets.Endpoint.{Endpoint}
 
 -- `http2 frames M` counts all frames, audited or not
 abbrev pub contents_text : Contents → List ℕ
-contents_text (Http2 frames _ _) = field (codes "http2 frames ") (length frames)
+contents_text (Http2 frames _) = field (codes "http2 frames ") (length frames)
 contents_text NotHttp2 = codes "not-http2"
 contents_text NoPreface = codes "no-preface"
 contents_text NoHandshake = codes "no-handshake"

@@ -39,7 +39,7 @@ audit_text credits_shown frames findings = finding_lines credits_shown frames fi
 
 -- only an HTTP/2 connection is audited
 abbrev pub findings_text : (credits_shown : Bool) → Contents → List Finding → List ℕ
-findings_text credits_shown (Http2 frames _ _) findings = audit_text credits_shown frames findings
+findings_text credits_shown (Http2 frames _) findings = audit_text credits_shown frames findings
 findings_text credits_shown _ findings = []
 
 -- all that the report says of the k-th connection

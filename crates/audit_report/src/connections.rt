@@ -123,9 +123,8 @@ fn push_gap(out: &mut String, gap: Option<u64>) -> Result<(), AllocError>
 fn tail(cut: &Cut, side: Side) -> u32
     ensures { result ≡ tail_of side (contents_of cut.now) }
 {
-    match (cut, side) {
-        (Cut::Http2 { tails, .. }, Side::Client) => tails[0],
-        (Cut::Http2 { tails, .. }, Side::Server) => tails[1],
+    match cut {
+        Cut::Http2 { tails, .. } => tails.of(side),
         _ => 0,
     }
 }

@@ -1,5 +1,5 @@
 -- The frames of both sides make an HTTP/2 connection's cut.
-use Rattle.std.proofs.Common.{◌≡◌, ℕ, ◌+◌, ◌*◌, ◌^◌, ◌<◌, List, [], ◌∷◌, length, vec_len, ap, ◌∙◌, arith, length-append}
+use Rattle.std.proofs.Common.{◌≡◌, ℕ, ◌+◌, ◌*◌, ◌^◌, ◌<◌, List, [], ◌∷◌, length, vec_len, ap, ap₂, ◌∙◌, arith, length-append}
 use Rattle.std.specs.List.{AllByRecursion}
 use Rattle.itertools.specs.List.{merge_by}
 use Rattle.tcp_streams.specs.declared.streams.Arrival.{Arrival}
@@ -7,6 +7,7 @@ use Rattle.tcp_streams.specs.declared.streams.Flow.{Flow}
 use Rattle.tcp_streams.specs.Arrivals.{IsOrderly}
 use Rattle.audit_terms.specs.declared.sides.Side.{Side}
 use Rattle.audit_terms.specs.declared.sides.Side.TheVariants.{Client, Server}
+use Rattle.audit_terms.specs.declared.sides.Sides.{Sides}
 use Rattle.audit_terms.specs.declared.frames.Frame.{Frame}
 use Rattle.audit_terms.specs.Frame.{IsOrderly as AreOrderly}
 use Rattle.h2_frames.specs.declared.spelling.Spelled.{Spelled}
@@ -23,12 +24,15 @@ IsReadFrom side arrivals offset bytes frames tail_length =
     (spelled : List Spelled) × (tail : List ℕ) × Spells bytes spelled tail
     × (frames ≡ captured_from side arrivals 1 offset spelled) × (tail_length ≡ length tail)
 
+abbrev tails_of : ℕ → ℕ → Sides ℕ
+tails_of client server = record { client = client; server = server }
+
 pub http2-is : (client server : Flow) (rest : List ℕ) (sent answered frames : List Frame) (sent_tail answered_tail : ℕ) →
     BeginsWithPreface client.bytes.items rest → IsOrderly client → IsOrderly server →
     IsReadFrom Client client.arrivals.items 24 rest sent sent_tail →
     IsReadFrom Server server.arrivals.items 0 server.bytes.items answered answered_tail →
     frames ≡ numbered 1 (merge_by is_first sent answered) →
-    IsHttp2 client server frames (sent_tail ∷ answered_tail ∷ [])
+    IsHttp2 client server frames (tails_of sent_tail answered_tail)
 http2-is client server rest sent answered frames sent_tail answered_tail begins client_flow server_flow first second frames_are =
     let size : length client.bytes.items ≡ 24 + length rest = ap length begins ∙ length-append preface rest in
     let client_length = client.bytes.ok.0 in
@@ -48,7 +52,7 @@ http2-is client server rest sent answered frames sent_tail answered_tail begins 
           ∙ ap (λ (fs : List Frame). numbered 1 (merge_by is_first fs answered)) first.3
           ∙ ap (λ (fs : List Frame). numbered 1 (merge_by is_first (captured_from Client client.arrivals.items 1 24 first.0) fs)) second.3
           ∙ merged-capture_order _ _ sent_order answered_order;
-      tails_are = ap (λ (n : ℕ). n ∷ answered_tail ∷ []) first.4 ∙ ap (λ (n : ℕ). length first.1 ∷ n ∷ []) second.4;
+      tails_are = ap₂ tails_of first.4 second.4;
     }
 
 pub http2-orderly : (sent answered frames : List Frame) →

@@ -2,7 +2,7 @@
 use Rattle.std.specs.Prelude.{Result, Ok, Err, IfOk, IsTrue}
 use Rattle.std.specs.declared.alloc.AllocError.{AllocError}
 use Rattle.h2_frames.specs.declared.connections.Cut.{Cut}
-use Rattle.std.proofs.Common.{◌≡◌, ℕ, ◌+◌, ◌<◌, List, [], ◌∷◌, ◌++◌, length, take, drop, refl, ap, sym, ◌∙◌, subst, arith, length-append, append_assoc, inl, inr}
+use Rattle.std.proofs.Common.{◌≡◌, ℕ, ◌+◌, ◌<◌, List, [], ◌∷◌, ◌++◌, length, take, drop, refl, ap, ap₂, sym, ◌∙◌, subst, arith, length-append, append_assoc, inl, inr}
 use Rattle.std.proofs.lemmas.Bool.{false≢true}
 use Rattle.std.proofs.lemmas.List.{append_cancel_left, take_at, drop_at}
 use Rattle.tcp_streams.specs.declared.streams.Arrival.{Arrival}
@@ -10,6 +10,7 @@ use Rattle.tcp_streams.specs.declared.streams.Flow.{Flow}
 use Rattle.audit_terms.specs.declared.frames.Body.{Body}
 use Rattle.audit_terms.specs.declared.frames.Frame.{Frame}
 use Rattle.audit_terms.specs.declared.sides.Side.TheVariants.{Client, Server}
+use Rattle.audit_terms.specs.declared.sides.Sides.{Sides}
 use Rattle.h2_frames.specs.declared.connections.Cut.TheVariants.{Http2, NotHttp2, NoPreface, NoHandshake}
 use Rattle.h2_frames.specs.declared.headers.Header.{Header}
 use Rattle.h2_frames.specs.declared.spelling.Spelled.{Spelled}
@@ -109,7 +110,7 @@ not_both bytes rest short begins =
 short_along : (bytes others : List ℕ) → bytes ≡ others → IsPrefaceCutShort bytes → IsPrefaceCutShort others
 short_along bytes others e short = (short.0, short.1, ap (λ (b : List ℕ). b ++ short.0) (sym e) ∙ short.2)
 
-same_http2 : (client server other_client other_server : Flow) (frames others : List Frame) (tails other_tails : List ℕ) →
+same_http2 : (client server other_client other_server : Flow) (frames others : List Frame) (tails other_tails : Sides ℕ) →
     IsSameFlow client other_client → IsSameFlow server other_server →
     IsHttp2 client server frames tails → IsHttp2 other_client other_server others other_tails →
     (frames ≡ others) × (tails ≡ other_tails)
@@ -127,8 +128,7 @@ same_http2 client server other_client other_server frames others tails other_tai
           ∙ ap (λ (xs : List Arrival). capture_order (captured_from Client other_client.arrivals.items 1 24 second.client_frames) (captured_from Server xs 1 0 second.server_frames)) same_server.arrivals
           ∙ sym second.in_order,
       first.tails_are
-          ∙ ap (λ (t : List ℕ). length t ∷ length first.server_tail ∷ []) clients.1
-          ∙ ap (λ (t : List ℕ). length second.client_tail ∷ length t ∷ []) servers.1
+          ∙ ap₂ (λ (c s : List ℕ). record { client = length c; server = length s }) clients.1 servers.1
           ∙ sym second.tails_are,
     )
 

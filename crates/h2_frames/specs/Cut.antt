@@ -1,8 +1,9 @@
 -- What the two flows of a connection hold (RFC 9113, 3.4 and 4.1). Which of the four a connection is, is decided in this
 -- order: no handshake, no preface, not HTTP/2, HTTP/2.
-use Rattle.std.specs.Prelude.{◌≡◌, ℕ, ◌∷◌, [], List, length, IsTrue, IsFalse}
+use Rattle.std.specs.Prelude.{◌≡◌, ℕ, List, length, IsTrue, IsFalse}
 use Rattle.tcp_streams.specs.declared.streams.Flow.{Flow}
 use Rattle.audit_terms.specs.declared.sides.Side.TheVariants.{Client, Server}
+use Rattle.audit_terms.specs.declared.sides.Sides.{Sides}
 use Rattle.audit_terms.specs.declared.frames.Frame.{Frame}
 use Rattle.audit_terms.specs.Frame.{IsOrderly}
 use Rattle.h2_frames.specs.declared.connections.Cut.{Cut}
@@ -13,7 +14,7 @@ use Rattle.h2_frames.specs.Spelling.{Spells}
 use Rattle.h2_frames.specs.CaptureOrder.{captured_from, capture_order}
 
 -- the client's bytes are the preface and then frames, the server's are frames; the frames of both stand in capture order
-pub record IsHttp2 (client server : Flow) (frames : List Frame) (tails : List ℕ) : Type 0 where
+pub record IsHttp2 (client server : Flow) (frames : List Frame) (tails : Sides ℕ) : Type 0 where
   pub after_preface : List ℕ
   pub client_frames : List Spelled
   pub client_tail : List ℕ
@@ -25,7 +26,7 @@ pub record IsHttp2 (client server : Flow) (frames : List Frame) (tails : List �
   pub in_order : frames ≡ capture_order
       (captured_from Client client.arrivals.items 1 (length preface) client_frames)
       (captured_from Server server.arrivals.items 1 0 server_frames)
-  pub tails_are : tails ≡ length client_tail ∷ length server_tail ∷ []
+  pub tails_are : tails ≡ record { client = length client_tail; server = length server_tail }
 
 -- an HTTP/2 connection's cut
 abbrev pub IsHttp2Cut : (client server : Flow) → Cut → Type 0

@@ -1,10 +1,13 @@
-use audit_terms::Frame;
+use audit_terms::{Frame, Sides};
 
 /// What the two flows of a connection hold.
 #[derive(Debug, Drop)]
 pub enum Cut {
-    /// Both sides' frames in capture order, and for the client and the server the length of what is left over.
-    Http2 { frames: Vec<Frame>, tails: [u32; 2] },
+    /// Both sides' frames in capture order, and how many bytes each side's flow has after its last frame.
+    Http2 {
+        frames: Vec<Frame>,
+        tails: Sides<u32>,
+    },
     /// The client's bytes do not begin with the connection preface.
     NotHttp2,
     /// The client's bytes end within the connection preface.

@@ -8,7 +8,7 @@ use crate::connections::Cut;
 use crate::one_side::captured_frames;
 use crate::opening::{Opening, PREFACE, opening_of};
 use crate::order::in_capture_order;
-use audit_terms::Side;
+use audit_terms::{Side, Sides};
 use std::alloc::{AllocError, Global};
 use tcp_streams::Flow;
 
@@ -28,10 +28,11 @@ fn http2(alloc: Global, rest: &[u8], client: &Flow, server: &Flow) -> Result<Cut
     let answers = server.bytes.as_slice();
     let (answered, answered_tail) = captured_frames(alloc, Side::Server, answers, 0, arrivals)?;
     let frames = in_capture_order(alloc, sent.as_slice(), answered.as_slice())?;
-    Ok(Cut::Http2 {
-        frames,
-        tails: [sent_tail, answered_tail],
-    })
+    let tails = Sides {
+        client: sent_tail,
+        server: answered_tail,
+    };
+    Ok(Cut::Http2 { frames, tails })
 }
 
 /// What the flows of a connection's client and server hold.

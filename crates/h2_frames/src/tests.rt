@@ -77,7 +77,7 @@ fn expect(
     client: &Flow,
     server: &Flow,
     want: &[Row],
-    tails: [u32; 2],
+    tails: (u32, u32),
 ) -> Result<(), Fail> {
     let Cut::Http2 {
         frames,
@@ -87,7 +87,7 @@ fn expect(
         return Err(Fail::from("not HTTP/2"));
     };
     assert_eq!(rt; rows(alloc, frames.as_slice())?.as_slice(), want);
-    assert_eq!(rt; found, tails);
+    assert_eq!(rt; (found.client, found.server), tails);
     Ok(())
 }
 
@@ -139,7 +139,7 @@ fn late_first_segment(rt: HostRuntime) -> Result<(), Fail> {
         (6, Side::Client, 9, 9000, 6, 0),
         (7, Side::Client, 9, 9000, 1, 3),
     ];
-    expect(&rt, alloc, &client, &server, &want, [0, 0])
+    expect(&rt, alloc, &client, &server, &want, (0, 0))
 }
 
 #[test]
@@ -157,7 +157,7 @@ fn not_http2(rt: HostRuntime) -> Result<(), Fail> {
 fn tails(rt: HostRuntime) -> Result<(), Fail> {
     let alloc = rt.alloc();
     let client = flow(alloc, &[(3, PREFACE)])?;
-    expect(&rt, alloc, &client, &flow(alloc, &[])?, &[], [0, 0])?;
+    expect(&rt, alloc, &client, &flow(alloc, &[])?, &[], (0, 0))?;
 
     // The client's last frame has 2^24 - 1 payload bytes, none of which came; the server's header is cut short.
     let header = [0xff, 0xff, 0xff, 0, 0, 0, 0, 0, 1];
@@ -167,12 +167,12 @@ fn tails(rt: HostRuntime) -> Result<(), Fail> {
         (1, Side::Client, 4, 4000, 4, 0),
         (2, Side::Server, 5, 5000, 4, 0),
     ];
-    expect(&rt, alloc, &client, &server, &want, [9, 8])?;
+    expect(&rt, alloc, &client, &server, &want, (9, 8))?;
 
     // All but the last byte of a PING came.
     let client = flow(alloc, &[(3, PREFACE), (4, &PING[..16])])?;
     let want = [(1, Side::Server, 5, 5000, 4, 0)];
-    expect(&rt, alloc, &client, &server, &want, [16, 8])
+    expect(&rt, alloc, &client, &server, &want, (16, 8))
 }
 
 #[test]
@@ -186,7 +186,7 @@ fn frames_stand_where_their_last_byte_arrived(rt: HostRuntime) -> Result<(), Fai
         (2, Side::Client, 7, 7000, 6, 0),
         (3, Side::Server, 8, 8000, 4, 0),
     ];
-    expect(&rt, alloc, &client, &server, &want, [0, 0])
+    expect(&rt, alloc, &client, &server, &want, (0, 0))
 }
 
 #[test]
@@ -208,7 +208,7 @@ fn one_record_of_both_sides(rt: HostRuntime) -> Result<(), Fail> {
         (4, Side::Server, 3, 3000, 6, 0),
         (5, Side::Server, 3, 3000, 6, 0),
     ];
-    expect(&rt, alloc, &client, &server, &want, [0, 0])
+    expect(&rt, alloc, &client, &server, &want, (0, 0))
 }
 
 #[test]

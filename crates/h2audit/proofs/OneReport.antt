@@ -1,6 +1,6 @@
 -- Two reports of one capture are the same.
 use Rattle.std.proofs.Common.{◌≡◌, ◌∙◌, ℕ, Bool, ◌||◌, List, [], ◌∷◌, ◌++◌, filter, length, map, Option, Some, None, refl, sym, ap, ap₂, subst}
-use Rattle.std.specs.Prelude.{slice_index, not, if◌then◌else◌}
+use Rattle.std.specs.Prelude.{not, if◌then◌else◌}
 use Rattle.std.specs.List.{list_any}
 use Rattle.audit_terms.specs.declared.findings.Finding.{Finding}
 use Rattle.audit_terms.specs.declared.frames.Frame.{Frame}
@@ -77,8 +77,7 @@ record IsOneCut (x y : Cut) : Type 0 where
 
 one_cut : (x y : Cut) → IsSameCut x y → IsOneCut x y
 one_cut (Http2 frames tails) (Http2 others rests) h = record {
-  contents = ap (λ (fs : List Frame). HoldsFrames fs (slice_index tails 0) (slice_index tails 1)) h.0
-      ∙ ap (λ (ts : List ℕ). HoldsFrames others.items (slice_index ts 0) (slice_index ts 1)) h.1;
+  contents = ap₂ HoldsFrames h.0 h.1;
   findings = ap (λ (fs : List Frame). upto_stop (filter is_shown_so_far (full fs))) h.0;
 }
 one_cut NotHttp2 NotHttp2 h = record { contents = refl; findings = refl }

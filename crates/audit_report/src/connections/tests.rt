@@ -1,5 +1,5 @@
 use super::connection_lines;
-use audit_terms::{Body, Frame, Side};
+use audit_terms::{Body, Frame, Side, Sides};
 use h2_frames::Cut;
 use packet_heads::Endpoint;
 use std::alloc::{AllocError, Global};
@@ -52,7 +52,10 @@ fn snapped_gap_and_new_opening(rt: HostRuntime) -> Result<(), Fail> {
     let alloc = rt.alloc();
     let cut = Cut::Http2 {
         frames: vec![in alloc; frame(1), frame(2), frame(3), frame(4), frame(5)]?,
-        tails: [59, 0],
+        tails: Sides {
+            client: 59,
+            server: 0,
+        },
     };
     let first = connection_lines(
         alloc,

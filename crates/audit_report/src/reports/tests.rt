@@ -4,7 +4,7 @@ ghost use Rattle.h2_frames.specs.Cut.{HasOrderlyFrames};
 
 use super::report;
 use crate::audited::Audited;
-use audit_terms::{Body, Finding, Frame, Kind, Place, Side};
+use audit_terms::{Body, Finding, Frame, Kind, Place, Side, Sides};
 use h2_frames::Cut;
 use packet_heads::{Endpoint, Packet, Segment};
 use pcap_records::{Record, Records};
@@ -132,7 +132,10 @@ fn audited(
         flows: [flow(alloc, client_size)?, flow(alloc, 18)?],
         cut: Cut::Http2 {
             frames,
-            tails: [0, 0],
+            tails: Sides {
+                client: 0,
+                server: 0,
+            },
         },
         findings: Vec::from_slice(alloc, findings)?,
     })
