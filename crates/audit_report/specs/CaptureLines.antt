@@ -2,7 +2,7 @@
 use Rattle.std.specs.Prelude.{ℕ, List, ◌++◌}
 use Rattle.audit_report.specs.CaptureLine.{capture_line}
 use Rattle.audit_report.specs.RecordLines.{record_lines}
-use Rattle.audit_report.specs.CutLine.{cut_line}
+use Rattle.audit_report.specs.CutRecordLine.{cut_record_line}
 use Rattle.audit_report.specs.UnopenedLines.{unopened_lines}
 use Rattle.pcap_records.specs.declared.capture.Records.{Records}
 use Rattle.packet_heads.specs.declared.packets.Packet.{Packet}
@@ -12,5 +12,5 @@ use Rattle.tcp_streams.specs.declared.members.Stray.{Stray}
 abbrev pub capture_text : Records → List Packet → List Stray → List ℕ
 capture_text records packets strays = capture_line records.rows.items packets
     ++ record_lines packets
-    ++ cut_line records.cut
+    ++ cut_record_line records.cut
     ++ unopened_lines strays

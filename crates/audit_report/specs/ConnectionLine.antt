@@ -17,10 +17,10 @@ unfoldable pub roles_text : (client server : Endpoint) → List ℕ
 roles_text client server = codes " client " ++ endpoint_text client ++ codes " server " ++ endpoint_text server
 
 -- `connection K client ENDPOINT server ENDPOINT record N`; N is the record of the opening
-abbrev pub opening_text : (k : ℕ) (client server : Endpoint) (rec : ℕ) → List ℕ
-opening_text k client server rec = field (codes "connection ") k ++ roles_text client server ++ field (codes " record ") rec
+abbrev pub heading_text : (k : ℕ) (client server : Endpoint) (rec : ℕ) → List ℕ
+heading_text k client server rec = field (codes "connection ") k ++ roles_text client server ++ field (codes " record ") rec
 
 -- the same, and what the connection's flows hold
 abbrev pub connection_line : (k : ℕ) (client server : Endpoint) (rec : ℕ) → Contents → List ℕ
 connection_line k client server rec contents =
-    line (opening_text k client server rec ++ codes " " ++ contents_text contents)
+    line (heading_text k client server rec ++ codes " " ++ contents_text contents)

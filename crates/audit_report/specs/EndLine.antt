@@ -14,9 +14,9 @@ abbrev pub stop_line : (number : ℕ) → List ℕ
 stop_line number = line (field (codes "audit stopped at frame ") number)
 
 -- after a connection error its frame, else all frames
-abbrev pub ending_line : Option Finding → List ℕ
-ending_line None = line (codes "audit of all frames")
-ending_line (Some last) = if stops last then stop_line (place_number last.place) else line (codes "audit of all frames")
+abbrev pub end_line_after : Option Finding → List ℕ
+end_line_after None = line (codes "audit of all frames")
+end_line_after (Some last) = if stops last then stop_line (place_number last.place) else line (codes "audit of all frames")
 
 abbrev pub end_line : List Finding → List ℕ
-end_line findings = ending_line (last_of findings)
+end_line findings = end_line_after (last_of findings)

@@ -7,14 +7,14 @@ use Rattle.audit_terms.specs.Side.{side_name}
 use Rattle.split_merge.specs.declared.stalls.Stall.{Stall}
 
 -- ` to M nanos D`, or ` open` where the stall does not end
-abbrev pub ending_text : Option ℕ → ℤ → List ℕ
-ending_text None nanos = codes " open"
-ending_text (Some number) nanos = field (codes " to ") number ++ codes " nanos " ++ signed_decimal nanos
+abbrev pub stall_end_text : Option ℕ → ℤ → List ℕ
+stall_end_text None nanos = codes " open"
+stall_end_text (Some number) nanos = field (codes " to ") number ++ codes " nanos " ++ signed_decimal nanos
 
 -- `stall SIDE stream S from N to M nanos D` or `stall SIDE stream S from N open`
 abbrev pub stall_line : Stall → List ℕ
 stall_line stall = line (codes "stall " ++ side_name stall.side ++ field (codes " stream ") stall.stream
-    ++ field (codes " from ") stall.from ++ ending_text stall.to stall.nanos)
+    ++ field (codes " from ") stall.from ++ stall_end_text stall.to stall.nanos)
 
 -- a line for each stall, in order
 abbrev pub stall_lines : List Stall → List ℕ

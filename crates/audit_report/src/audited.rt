@@ -1,12 +1,12 @@
-use audit_terms::Finding;
+use audit_terms::{Finding, Sides};
 use h2_frames::Cut;
 use tcp_streams::Flow;
 
 /// What the audit of one connection gave.
 #[derive(Debug, Drop)]
 pub struct Audited {
-    /// The client's flow and the server's.
-    pub flows: [Flow; 2],
+    /// The bytes of each side.
+    pub flows: Sides<Flow>,
     /// What the two flows hold.
     pub cut: Cut,
     /// What was found in the frames, in order; empty where there are none.

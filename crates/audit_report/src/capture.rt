@@ -1,7 +1,7 @@
 ghost use Rattle.std.specs.Prelude.{◌≡◌, ◌++◌, OnOk, IfOk};
 ghost use Rattle.std.specs.String.{string_bytes};
 ghost use Rattle.audit_report.specs.CaptureLine.{capture_line, packet_counts};
-ghost use Rattle.audit_report.specs.CutLine.{cut_line};
+ghost use Rattle.audit_report.specs.CutRecordLine.{cut_record_line};
 ghost use Rattle.audit_report.specs.CaptureLines.{capture_text};
 
 use crate::numbered::push_record_lines;
@@ -40,7 +40,7 @@ pub fn push_capture_text(
 {
     push_capture_line(out, records, packets)?;
     push_record_lines(out, packets)?;
-    push_cut_line(out, records.cut)?;
+    push_cut_record_line(out, records.cut)?;
     push_unopened_lines(out, strays)
 }
 
@@ -71,8 +71,8 @@ fn push_packet_counts(out: &mut String, packets: &[Packet]) -> Result<(), AllocE
 }
 
 #[tactic(auto, using(crate::proofs::Joins::joins))]
-fn push_cut_line(out: &mut String, cut: Option<u32>) -> Result<(), AllocError>
-    ensures { OnOk result (string_bytes out.new ≡ string_bytes out.old ++ cut_line cut) }
+fn push_cut_record_line(out: &mut String, cut: Option<u32>) -> Result<(), AllocError>
+    ensures { OnOk result (string_bytes out.new ≡ string_bytes out.old ++ cut_record_line cut) }
 {
     if let Some(number) = cut {
         push_field(out, "record ", number as u64)?;
@@ -81,6 +81,3 @@ fn push_cut_line(out: &mut String, cut: Option<u32>) -> Result<(), AllocError>
     }
     Ok(())
 }
-
-#[cfg(test)]
-mod tests;

@@ -2,10 +2,10 @@ ghost use Rattle.std.specs.Prelude.{◌≡◌, ◌++◌, OnOk, IfOk};
 ghost use Rattle.std.specs.String.{string_bytes};
 ghost use Rattle.packet_heads.specs.declared.packets.Endpoint.{Endpoint};
 ghost use Rattle.audit_terms.specs.declared.sides.Side.{Side};
-ghost use Rattle.audit_report.specs.ConnectionLine.{contents_text, roles_text, opening_text, connection_line};
+ghost use Rattle.audit_report.specs.ConnectionLine.{contents_text, roles_text, heading_text, connection_line};
 ghost use Rattle.audit_report.specs.Contents.{contents_of, tail_of};
 ghost use Rattle.audit_report.specs.FlowLine.{extent_of, gap_text, flow_line};
-ghost use Rattle.audit_report.specs.Entry.{connection_text};
+ghost use Rattle.audit_report.specs.Section.{connection_text, extents_of};
 
 use crate::endpoints::push_endpoint;
 use crate::words::{push_field, push_number, push_word};
@@ -25,7 +25,7 @@ pub fn connection_lines(
     cut: &Cut,
 ) -> Result<Vec<u8>, AllocError>
     ensures { IfOk result (λ text. text.items ≡ connection_text k connection.now.client connection.now.server
-        connection.now.rec (extent_of client.now) (extent_of server.now) (contents_of cut.now)) }
+        connection.now.rec (extents_of client.now server.now) (contents_of cut.now)) }
 {
     let mut out = String::new(alloc);
     push_connection_text(&mut out, k as u64, connection, client, server, cut)?;
@@ -43,7 +43,7 @@ pub fn push_connection_text(
     cut: &Cut,
 ) -> Result<(), AllocError>
     ensures { OnOk result (string_bytes out.new ≡ string_bytes out.old ++ connection_text k connection.now.client
-        connection.now.server connection.now.rec (extent_of client.now) (extent_of server.now) (contents_of cut.now)) }
+        connection.now.server connection.now.rec (extents_of client.now server.now) (contents_of cut.now)) }
 {
     push_connection_line(out, k, connection, cut)?;
     push_flow_line(out, Side::Client, client, tail(cut, Side::Client))?;
@@ -60,16 +60,16 @@ fn push_connection_line(
     ensures { OnOk result (string_bytes out.new ≡ string_bytes out.old ++ connection_line k connection.now.client
         connection.now.server connection.now.rec (contents_of cut.now)) }
 {
-    push_opening(out, k, connection)?;
+    push_heading(out, k, connection)?;
     push_word(out, " ")?;
     push_contents(out, cut)?;
     push_word(out, "\n")
 }
 
 #[tactic(auto, using(crate::proofs::Joins::joins))]
-fn push_opening(out: &mut String, k: u64, connection: &Connection) -> Result<(), AllocError>
+fn push_heading(out: &mut String, k: u64, connection: &Connection) -> Result<(), AllocError>
     ensures { OnOk result (string_bytes out.new ≡ string_bytes out.old
-        ++ opening_text k connection.now.client connection.now.server connection.now.rec) }
+        ++ heading_text k connection.now.client connection.now.server connection.now.rec) }
 {
     push_field(out, "connection ", k)?;
     push_roles(out, connection.client, connection.server)?;
@@ -128,6 +128,3 @@ fn tail(cut: &Cut, side: Side) -> u32
         _ => 0,
     }
 }
-
-#[cfg(test)]
-mod tests;

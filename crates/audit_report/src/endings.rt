@@ -1,7 +1,7 @@
 ghost use Rattle.std.specs.Prelude.{◌≡◌, ◌++◌, OnOk};
 ghost use Rattle.std.specs.String.{string_bytes};
-ghost use Rattle.audit_report.specs.StallLine.{ending_text, stall_line, stall_lines};
-ghost use Rattle.audit_report.specs.EndLine.{stop_line, ending_line, end_line};
+ghost use Rattle.audit_report.specs.StallLine.{stall_end_text, stall_line, stall_lines};
+ghost use Rattle.audit_report.specs.EndLine.{stop_line, end_line_after, end_line};
 
 use crate::words::{push_field, push_signed, push_word};
 use audit_terms::Finding;
@@ -26,13 +26,13 @@ fn push_stall_line(out: &mut String, stall: &Stall) -> Result<(), AllocError>
     push_word(out, stall.side.name())?;
     push_field(out, " stream ", stall.stream as u64)?;
     push_field(out, " from ", stall.from as u64)?;
-    push_ending(out, stall.to, stall.nanos)?;
+    push_stall_end(out, stall.to, stall.nanos)?;
     push_word(out, "\n")
 }
 
 #[tactic(auto, using(crate::proofs::Joins::joins))]
-fn push_ending(out: &mut String, to: Option<u32>, nanos: i64) -> Result<(), AllocError>
-    ensures { OnOk result (string_bytes out.new ≡ string_bytes out.old ++ ending_text to nanos) }
+fn push_stall_end(out: &mut String, to: Option<u32>, nanos: i64) -> Result<(), AllocError>
+    ensures { OnOk result (string_bytes out.new ≡ string_bytes out.old ++ stall_end_text to nanos) }
 {
     let Some(number) = to else {
         return push_word(out, " open");
@@ -46,12 +46,12 @@ fn push_ending(out: &mut String, to: Option<u32>, nanos: i64) -> Result<(), Allo
 pub fn push_end_line(out: &mut String, findings: &[Finding]) -> Result<(), AllocError>
     ensures { OnOk result (string_bytes out.new ≡ string_bytes out.old ++ end_line findings.now) }
 {
-    push_line_after(out, findings.last().copied())
+    push_end_line_after(out, findings.last().copied())
 }
 
 // The same, by the last finding.
-fn push_line_after(out: &mut String, last: Option<Finding>) -> Result<(), AllocError>
-    ensures { OnOk result (string_bytes out.new ≡ string_bytes out.old ++ ending_line last) }
+fn push_end_line_after(out: &mut String, last: Option<Finding>) -> Result<(), AllocError>
+    ensures { OnOk result (string_bytes out.new ≡ string_bytes out.old ++ end_line_after last) }
 {
     if let Some(finding) = last {
         if finding.stops() {

@@ -98,6 +98,3 @@ fn tells_credit(kind: Kind) -> bool
 {
     matches!(kind, Kind::ConnectionCredit | Kind::StreamCredit)
 }
-
-#[cfg(test)]
-mod tests;

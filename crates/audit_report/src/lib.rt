@@ -1,7 +1,7 @@
 //! The text of an audit's report, byte for byte: what a capture holds, its connections, and what was found in them.
 #![tactic(auto)]
 
-pub mod audited;
+mod audited;
 mod capture;
 mod connections;
 mod endings;

@@ -3,7 +3,7 @@ ghost use Rattle.std.specs.String.{string_bytes};
 ghost use Rattle.audit_terms.specs.Frame.{IsOrderly};
 ghost use Rattle.h2_frames.specs.Cut.{HasOrderlyFrames};
 ghost use Rattle.audit_report.specs.Contents.{contents_of};
-ghost use Rattle.audit_report.specs.Entry.{audit_text, findings_text, entry_text, entry_of, entries_of, entries_text};
+ghost use Rattle.audit_report.specs.Section.{audit_text, findings_text, section_text, section_of, sections_of, sections_text};
 ghost use Rattle.audit_report.specs.ReportText.{report_text};
 ghost use Rattle.audit_report.specs.declared.audited.Audited.{Audited};
 
@@ -33,15 +33,15 @@ pub fn report(
     requires each { length audited.now ≡ length connections.now.opened.items }
     requires orderly { All (λ (a : Audited). HasOrderlyFrames a.cut) audited.now }
     ensures { IfOk result (λ text. text.items ≡ report_text records.now packets.now connections.now.strays.items
-        (entries_of connections.now.opened.items audited.now) frames_shown) }
+        (sections_of connections.now.opened.items audited.now) frames_shown) }
 {
     let mut out = String::new(alloc);
     push_capture_text(&mut out, records, packets, &connections.strays)?;
-    push_entries(alloc, &mut out, &connections.opened, audited, frames_shown)?;
+    push_sections(alloc, &mut out, &connections.opened, audited, frames_shown)?;
     Ok(out.into_bytes())
 }
 
-fn push_entries(
+fn push_sections(
     alloc: Global,
     out: &mut String,
     connections: &[Connection],
@@ -51,10 +51,10 @@ fn push_entries(
     requires each { length audited.now ≡ length connections.now }
     requires orderly { All (λ (a : Audited). HasOrderlyFrames a.cut) audited.now }
     ensures { OnOk result (string_bytes out.new ≡ string_bytes out.old
-        ++ entries_text frames_shown 1 (entries_of connections.now audited.now)) }
+        ++ sections_text frames_shown 1 (sections_of connections.now audited.now)) }
 {
     for (i, connection) in connections.iter().enumerate() {
-        push_entry(
+        push_section(
             alloc,
             out,
             i as u64 + 1,
@@ -67,7 +67,7 @@ fn push_entries(
 }
 
 #[tactic(auto, using(crate::proofs::Joins::joins))]
-fn push_entry(
+fn push_section(
     alloc: Global,
     out: &mut String,
     k: u64,
@@ -77,10 +77,17 @@ fn push_entry(
 ) -> Result<(), AllocError>
     requires { HasOrderlyFrames audited.now.cut }
     ensures { OnOk result (string_bytes out.new ≡ string_bytes out.old
-        ++ entry_text frames_shown k (entry_of connection.now audited.now)) }
+        ++ section_text frames_shown k (section_of connection.now audited.now)) }
 {
-    let [client, server] = &audited.flows;
-    push_connection_text(out, k, connection, client, server, &audited.cut)?;
+    let flows = &audited.flows;
+    push_connection_text(
+        out,
+        k,
+        connection,
+        &flows.client,
+        &flows.server,
+        &audited.cut,
+    )?;
     push_findings(alloc, out, &audited.cut, &audited.findings, frames_shown)
 }
 
@@ -117,6 +124,3 @@ fn push_audit(
     push_stall_lines(out, &stalls)?;
     push_end_line(out, findings)
 }
-
-#[cfg(test)]
-mod tests;

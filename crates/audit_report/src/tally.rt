@@ -15,7 +15,7 @@ pub struct Tally {
 }
 
 impl Tally {
-    ghost use Rattle.audit_report.specs.Tally.{IsTallyOf};
+    ghost use Rattle.audit_report.specs.code.Tally.{IsTallyOf};
 
     const NONE: Tally = Tally {
         segments: 0,

@@ -5,7 +5,7 @@ use Rattle.audit_terms.specs.declared.sides.Side.{Side}
 use Rattle.audit_terms.specs.declared.findings.Finding.{Finding}
 use Rattle.audit_terms.specs.declared.frames.Frame.{Frame}
 use Rattle.audit_terms.specs.Place.{place_stream}
-use Rattle.split_merge.specs.Ends.{end_in, begun_by}
+use Rattle.split_merge.specs.code.Ends.{end_in, begun_by}
 use Rattle.split_merge.specs.Stalls.{is_stall_begin, is_end_of, first_end, stall_of, stalls}
 use Rattle.split_merge.specs.declared.ends.Ends.{Ends}
 use Rattle.split_merge.specs.declared.stalls.Stall.{Stall}

@@ -1,3 +1,4 @@
-pub mod Ends
 pub mod FrameLookup
 pub mod Stalls
+pub mod StallExamples
+pub mod code

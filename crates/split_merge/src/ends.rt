@@ -3,26 +3,27 @@ ghost use Rattle.audit_terms.specs.declared.sides.Side.{Side};
 ghost use Rattle.audit_terms.specs.Side.{is_side};
 ghost use Rattle.audit_terms.specs.Place.{place_stream};
 
-use audit_terms::{Finding, Side};
+use audit_terms::{Finding, Side, Sides};
 use std::alloc::{AllocError, Global};
 use std::collections::HashMap;
 
 /// An end of a stall for each window, by the side that sends through it and the stream, 0 being the connection.
 #[derive(Drop)]
 pub struct Ends {
-    pub client: HashMap<u32, Finding>,
-    pub server: HashMap<u32, Finding>,
+    pub by_side: Sides<HashMap<u32, Finding>>,
 }
 
 impl Ends {
-    ghost use Rattle.split_merge.specs.Ends.{end_in};
+    ghost use Rattle.split_merge.specs.code.Ends.{end_in};
 
     pub fn new(alloc: Global) -> Ends
         ensures { (side : Side) (stream : ℕ) → end_in result side stream ≡ None }
     {
         Ends {
-            client: HashMap::new(alloc),
-            server: HashMap::new(alloc),
+            by_side: Sides {
+                client: HashMap::new(alloc),
+                server: HashMap::new(alloc),
+            },
         }
     }
 
@@ -31,12 +32,12 @@ impl Ends {
         ensures { result ≡ end_in self.now side stream }
     {
         match side {
-            Side::Client => self.client.get(&stream).copied(),
-            Side::Server => self.server.get(&stream).copied(),
+            Side::Client => self.by_side.client.get(&stream).copied(),
+            Side::Server => self.by_side.server.get(&stream).copied(),
         }
     }
 
-    /// Puts this end in the place of what stood for its window.
+    /// Keeps this end for its window, instead of the one that was kept.
     pub fn put(&mut self, end: Finding) -> Result<(), AllocError>
         ensures { OnOk result ((side : Side) (stream : ℕ) → end_in self.new side stream
             ≡ (if is_side side end.side && (place_stream end.place == stream)
@@ -45,8 +46,8 @@ impl Ends {
     {
         let stream = end.place.stream();
         match end.side {
-            Side::Client => self.client.insert(stream, end)?,
-            Side::Server => self.server.insert(stream, end)?,
+            Side::Client => self.by_side.client.insert(stream, end)?,
+            Side::Server => self.by_side.server.insert(stream, end)?,
         };
         Ok(())
     }

@@ -3,8 +3,9 @@
 #![tactic(auto)]
 
 mod ends;
-pub mod lookup;
-pub mod stalls;
+mod lookup;
+mod stalls;
+pub mod worked_examples;
 
 pub use lookup::frame_at;
 pub use stalls::{Stall, stall_pairs};

@@ -15,6 +15,3 @@ pub fn frame_at(frames: &[Frame], number: u32) -> Option<Frame>
         Err(_) => None,
     }
 }
-
-#[cfg(test)]
-mod tests;

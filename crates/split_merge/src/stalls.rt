@@ -3,7 +3,7 @@ ghost use Rattle.audit_terms.specs.Frame.{IsOrderly};
 ghost use Rattle.audit_terms.specs.Place.{place_stream};
 ghost use Rattle.split_merge.specs.FrameLookup.{nanos_at};
 ghost use Rattle.split_merge.specs.Stalls.{is_stall_begin, is_stall_end, is_end_of, stall_of, stalls};
-ghost use Rattle.split_merge.specs.Ends.{end_in, begun_by};
+ghost use Rattle.split_merge.specs.code.Ends.{end_in, begun_by};
 ghost use Rattle.audit_terms.specs.declared.sides.Side.{Side};
 
 use crate::ends::Ends;
@@ -110,6 +110,3 @@ fn time_of(frames: &[Frame], number: u32) -> i64
 {
     frame_at(frames, number).map_or(0, |frame| frame.nanos as i64)
 }
-
-#[cfg(test)]
-mod tests;

@@ -2,7 +2,7 @@ use Rattle.std.specs.Prelude.{codes}
 use Rattle.audit_report.specs.ConnectionLine.{roles_text}
 use Rattle.audit_report.specs.Line.{field}
 use Rattle.audit_report.proofs.Joins.{three}
-use Rattle.audit_report.proofs.connections.push_opening.Goals as goal
+use Rattle.audit_report.proofs.connections.push_heading.Goals as goal
 
 pub returns : goal.returns
 returns c = three c.push_field-2.result _ _ _ _

@@ -1,4 +1,4 @@
--- What a table of stall ends says.
+-- What the table of stall ends says that the walk over the findings keeps.
 use Rattle.std.specs.Prelude.{ℕ, nat_eq, List, [], ◌∷◌, if◌then◌else◌, Option}
 use Rattle.std.specs.HashMap.{get}
 use Rattle.audit_terms.specs.declared.sides.Side.{Side}
@@ -12,8 +12,8 @@ use Rattle.split_merge.specs.declared.stalls.Stall.{Stall}
 
 -- the end that the table has for the window of this side and stream
 abbrev pub end_in : Ends → Side → ℕ → Option Finding
-end_in ends Client stream = get nat_eq ends.client stream
-end_in ends Server stream = get nat_eq ends.server stream
+end_in ends Client stream = get nat_eq ends.by_side.client stream
+end_in ends Server stream = get nat_eq ends.by_side.server stream
 
 -- the stall that the finding begins, if it begins one, by the table of the ends after it
 abbrev pub begun_by : List Frame → Ends → Finding → List Stall

@@ -1,5 +1,0 @@
-mod captures;
-mod endings;
-mod fakes;
-mod runs;
-mod words;
