@@ -60,7 +60,8 @@ placed same before step steps change =
     else if before then change_step change ∷ step ∷ steps else step ∷ with_change steps change
 
 module _ (change : Change) where
-  above-with : (n : ℕ) (steps : List Step) → Above n (step_numbers steps) → n < change.number → Above n (step_numbers (with_change steps change))
+  above-with : (n : ℕ) (steps : List Step) → Above n (step_numbers steps) → n < change.number
+      → Above n (step_numbers (with_change steps change))
   above-with n [] h p = (p, tt)
   above-with n (step ∷ steps) h p = by_tests _ _ (above-with n steps h.1 p) where
     by_tests : (same before : Bool) → Above n (step_numbers (with_change steps change))
@@ -69,11 +70,13 @@ module _ (change : Change) where
     by_tests false true ih = (p, h)
     by_tests false false ih = (h.0, ih)
 
-  rising-with : (steps : List Step) → AreRising (step_numbers steps) → AreRising (step_numbers (with_change steps change))
+  rising-with : (steps : List Step) → AreRising (step_numbers steps)
+      → AreRising (step_numbers (with_change steps change))
   rising-with [] h = (tt, tt)
   rising-with (step ∷ steps) h = by_tests _ _ refl refl (rising-with steps h.1) where
     by_tests : (same before : Bool) → (step.number == change.number) ≡ same → nat_lt change.number step.number ≡ before
-        → AreRising (step_numbers (with_change steps change)) → AreRising (step_numbers (placed same before step steps change))
+        → AreRising (step_numbers (with_change steps change))
+        → AreRising (step_numbers (placed same before step steps change))
     by_tests true before e f ih = h
     by_tests false true e f ih =
         let p : change.number < step.number = before-test change.number step.number f in
@@ -83,7 +86,8 @@ module _ (change : Change) where
   filled-with : (steps : List Step) → AllByRecursion IsFilled steps → AllByRecursion IsFilled (with_change steps change)
   filled-with [] h = (record { has_one = refl; frame = tt; change = refl }, tt)
   filled-with (step ∷ steps) h = by_tests _ _ refl (filled-with steps h.1) where
-    by_tests : (same before : Bool) → (step.number == change.number) ≡ same → AllByRecursion IsFilled (with_change steps change)
+    by_tests : (same before : Bool) → (step.number == change.number) ≡ same
+        → AllByRecursion IsFilled (with_change steps change)
         → AllByRecursion IsFilled (placed same before step steps change)
     by_tests true before e ih =
         (record { has_one = or-true (is_some step.frame); frame = h.0.frame; change = sym (eqb-true step.number change.number e) }, h.1)
@@ -99,7 +103,8 @@ module _ (change : Change) where
     by_tests false true ih = refl
     by_tests false false ih = ap (λ l. option_to_list step.frame ++ l) ih
 
-  changes-with : (steps : List Step) → ChangedAbove change.number steps → changes_in (with_change steps change) ≡ change ∷ changes_in steps
+  changes-with : (steps : List Step) → ChangedAbove change.number steps
+      → changes_in (with_change steps change) ≡ change ∷ changes_in steps
   changes-with [] h = refl
   changes-with (step ∷ steps) h = by_tests _ _ refl refl (changes-with steps h.1) where
     -- the step has no change yet, unless it stands after this one
@@ -115,7 +120,8 @@ module _ (change : Change) where
     by_tests false true e f ih = refl
     by_tests false false e f ih = rw (free (λ b. cc)) ih
 
-changed-with : (n : ℕ) (change : Change) (steps : List Step) → ChangedAbove n steps → n < change.number → ChangedAbove n (with_change steps change)
+changed-with : (n : ℕ) (change : Change) (steps : List Step) → ChangedAbove n steps → n < change.number
+    → ChangedAbove n (with_change steps change)
 changed-with n change [] h p = (λ e. p, tt)
 changed-with n change (step ∷ steps) h p = by_tests _ _ refl (changed-with n change steps h.1 p) where
   by_tests : (same before : Bool) → (step.number == change.number) ≡ same → ChangedAbove n (with_change steps change)
@@ -148,9 +154,11 @@ frame_steps-changes (frame ∷ frames) = frame_steps-changes frames
 
 -- ---- all changes
 
-changed-above : (n : ℕ) (frames : List Frame) (changes : List Change) → Above n (change_numbers changes) → ChangedAbove n (steps_of frames changes)
+changed-above : (n : ℕ) (frames : List Frame) (changes : List Change) → Above n (change_numbers changes)
+    → ChangedAbove n (steps_of frames changes)
 changed-above n frames [] h = unchanged n frames
-changed-above n frames (change ∷ changes) h = changed-with n change (steps_of frames changes) (changed-above n frames changes h.1) h.0
+changed-above n frames (change ∷ changes) h =
+    changed-with n change (steps_of frames changes) (changed-above n frames changes h.1) h.0
 
 pub steps_join_lem : StepsJoinFramesAndChanges
 steps_join_lem frames [] rising changing = record {
@@ -172,23 +180,28 @@ steps_join_lem frames (change ∷ changes) rising changing =
 
 -- ---- the frames of a stream and the changes of a connection
 
-frames-above : (n low stream : ℕ) (frames : List Frame) → n < low → IsOrderlyFrom low frames → Above n (frame_numbers (frames_of stream frames))
+frames-above : (n low stream : ℕ) (frames : List Frame) → n < low → IsOrderlyFrom low frames
+    → Above n (frame_numbers (frames_of stream frames))
 frames-above n low stream [] p h = tt
-frames-above n low stream (frame ∷ frames) p h = by_test (meets stream frame) (frames-above n (frame.number + 1) stream frames (omega (arith, h.0)) h.2) where
-  by_test : (met : Bool) → Above n (frame_numbers (frames_of stream frames))
-      → Above n (frame_numbers (if met then frame ∷ frames_of stream frames else frames_of stream frames))
-  by_test true rest = (omega (arith, h.0), rest)
-  by_test false rest = rest
+frames-above n low stream (frame ∷ frames) p h =
+    by_test (meets stream frame) (frames-above n (frame.number + 1) stream frames (omega (arith, h.0)) h.2) where
+      by_test : (met : Bool) → Above n (frame_numbers (frames_of stream frames))
+          → Above n (frame_numbers (if met then frame ∷ frames_of stream frames else frames_of stream frames))
+      by_test true rest = (omega (arith, h.0), rest)
+      by_test false rest = rest
 
-frames-rising : (low stream : ℕ) (frames : List Frame) → IsOrderlyFrom low frames → AreRising (frame_numbers (frames_of stream frames))
+frames-rising : (low stream : ℕ) (frames : List Frame) → IsOrderlyFrom low frames
+    → AreRising (frame_numbers (frames_of stream frames))
 frames-rising low stream [] h = tt
-frames-rising low stream (frame ∷ frames) h = by_test (meets stream frame) (frames-rising (frame.number + 1) stream frames h.2) where
-  by_test : (met : Bool) → AreRising (frame_numbers (frames_of stream frames))
-      → AreRising (frame_numbers (if met then frame ∷ frames_of stream frames else frames_of stream frames))
-  by_test true rest = (frames-above frame.number (frame.number + 1) stream frames (omega arith) h.2, rest)
-  by_test false rest = rest
+frames-rising low stream (frame ∷ frames) h =
+    by_test (meets stream frame) (frames-rising (frame.number + 1) stream frames h.2) where
+      by_test : (met : Bool) → AreRising (frame_numbers (frames_of stream frames))
+          → AreRising (frame_numbers (if met then frame ∷ frames_of stream frames else frames_of stream frames))
+      by_test true rest = (frames-above frame.number (frame.number + 1) stream frames (omega arith) h.2, rest)
+      by_test false rest = rest
 
-changes-above : (n low : ℕ) (now : InForce) (frames : List Frame) → n < low → IsOrderlyFrom low frames → Above n (change_numbers (changes_from now frames))
+changes-above : (n low : ℕ) (now : InForce) (frames : List Frame) → n < low → IsOrderlyFrom low frames
+    → Above n (change_numbers (changes_from now frames))
 changes-above n low now [] p h = tt
 changes-above n low now (frame ∷ frames) p h =
     by_taken (taken now frame) (changes-above n (frame.number + 1) (in_force_after now frame) frames (omega (arith, h.0)) h.2) where
@@ -197,7 +210,8 @@ changes-above n low now (frame ∷ frames) p h =
       by_taken None rest = rest
       by_taken (Some settings) rest = (omega (arith, h.0), rest)
 
-changes-rising : (low : ℕ) (now : InForce) (frames : List Frame) → IsOrderlyFrom low frames → AreRising (change_numbers (changes_from now frames))
+changes-rising : (low : ℕ) (now : InForce) (frames : List Frame) → IsOrderlyFrom low frames
+    → AreRising (change_numbers (changes_from now frames))
 changes-rising low now [] h = tt
 changes-rising low now (frame ∷ frames) h =
     by_taken (taken now frame) (changes-rising (frame.number + 1) (in_force_after now frame) frames h.2) where

@@ -23,8 +23,8 @@ on_some : {A : Type 0} (o : Option A) (P : Type 0) → P → OnSome o P
 on_some None P p = tt
 on_some (Some x) P p = p
 
--- what is known of the endpoint of a window: it ends only an opened stream, and while its window is live it has not ended
--- it, nor is it the client of a promised stream
+-- what is known of the endpoint of a window: it ends only an opened stream, and while its window is live it has not
+-- ended it, nor is it the client of a promised stream
 pub record IsSending (d : Side) (stream : ℕ) (ended opened : Bool) (window : Option ℤ) : Type 0 where
   pub idle : opened ≡ false → ended ≡ false
   pub live : OnSome window (opened ≡ true)
@@ -43,7 +43,8 @@ goes-on false false side true named even elsewhere e o = rw (o, and-false side, 
 goes-on false false side false named even elsewhere e o = rw (and-false side) refl
 
 -- an endpoint that goes on sending on a stream that opens is not the client of a promised stream
-sends-on : (client odd headers promises last even : Bool) → ((odd && headers) || promises) ≡ true → (last || (client && promises)) ≡ false
+sends-on : (client odd headers promises last even : Bool) → ((odd && headers) || promises) ≡ true
+    → (last || (client && promises)) ≡ false
     → (odd ≡ true → even ≡ false) → (client && even) ≡ false
 sends-on false odd headers promises last even o e f = refl
 sends-on true true headers promises last even o e f = f refl
@@ -71,7 +72,8 @@ module _ (d : Side) (stream : ℕ) (initial : Sides ℕ) (number : ℕ) (change 
   }
 
   -- a frame that opens the stream
-  sending-opening : (frame : Frame) (ended : Bool) → ended ≡ false → ((stream % 2 == 1) && is_client_headers frame || promises stream frame) ≡ true
+  sending-opening : (frame : Frame) (ended : Bool) → ended ≡ false
+      → ((stream % 2 == 1) && is_client_headers frame || promises stream frame) ≡ true
       → IsSending d stream (ended || is_last_of d stream frame) true (window_at_opening d stream initial (at-frame (Some frame)))
   sending-opening frame ended idle opening = by_last (is_last_of d stream frame) refl where
     by_last : (b : Bool) → is_last_of d stream frame ≡ b
@@ -81,13 +83,15 @@ module _ (d : Side) (stream : ℕ) (initial : Sides ℕ) (number : ℕ) (change 
       idle = λ f. cc;
       live = refl;
       unended = rw idle refl;
-      sends = sends-on (is_side Client d) (stream % 2 == 1) (is_client_headers frame) (promises stream frame) _ (stream % 2 == 0) opening e (odd-even stream);
+      sends =
+          sends-on (is_side Client d) (stream % 2 == 1) (is_client_headers frame) (promises stream frame) _ (stream % 2 == 0) opening e (odd-even stream);
     }
 
   -- a frame at a stream that it does not open
   sending-frame : (frame : Frame) (ended opened : Bool) (window : Option ℤ) → IsSending d stream ended opened window
       → IsSending d stream (ended || (opened && is_last_of d stream frame)) opened (window_after d stream initial (at-frame (Some frame)) window)
-  sending-frame frame ended opened None h = record { idle = λ f. rw (h.idle f, f) refl; live = tt; unended = tt; sends = tt }
+  sending-frame frame ended opened None h =
+      record { idle = λ f. rw (h.idle f, f) refl; live = tt; unended = tt; sends = tt }
   sending-frame frame ended opened (Some before) h =
       by_end (ends_window d frame) (is_overflowing_grant d stream initial (at-frame (Some frame)) before) refl where
         by_end : (ends overflow : Bool) → ends_window d frame ≡ ends
@@ -106,7 +110,8 @@ module _ (d : Side) (stream : ℕ) (initial : Sides ℕ) (number : ℕ) (change 
         }
 
 abbrev Sending : Side → (stream : ℕ) → Stream → Type 0
-Sending d stream entry = IsSending d stream (side_of d entry.life.ended) (is_some entry.life.opened) (side_of d entry.window)
+Sending d stream entry =
+    IsSending d stream (side_of d entry.life.ended) (is_some entry.life.opened) (side_of d entry.window)
 
 module _ (stream : ℕ) (initial : Sides ℕ) (number : ℕ) (change : Option Change) (entry : Stream) where
   sending-met : (d : Side) (frame : Frame) → Sending d stream entry
@@ -128,12 +133,15 @@ module _ (stream : ℕ) (initial : Sides ℕ) (number : ℕ) (change : Option Ch
 
   sending-after : (d : Side) (frame : Option Frame) → Sending d stream entry
       → Sending d stream (stream_after stream initial entry (record { number = number; frame = frame; change = change }))
-  sending-after Client None h = sending-quiet Client stream initial number change entry.life.ended.client (is_some entry.life.opened) entry.window.client h
-  sending-after Server None h = sending-quiet Server stream initial number change entry.life.ended.server (is_some entry.life.opened) entry.window.server h
+  sending-after Client None h =
+      sending-quiet Client stream initial number change entry.life.ended.client (is_some entry.life.opened) entry.window.client h
+  sending-after Server None h =
+      sending-quiet Server stream initial number change entry.life.ended.server (is_some entry.life.opened) entry.window.server h
   sending-after Client (Some frame) h = sending-met Client frame h
   sending-after Server (Some frame) h = sending-met Server frame h
 
-sending-from : (d : Side) (stream : ℕ) (state : PassState) (frames : List Frame) → Sending d stream (state.streams stream)
+sending-from : (d : Side) (stream : ℕ) (state : PassState) (frames : List Frame)
+    → Sending d stream (state.streams stream)
     → Sending d stream ((state_from state frames).streams stream)
 sending-from d stream state [] h = h
 sending-from d stream state (frame ∷ frames) h =
@@ -149,4 +157,5 @@ pub live_windows_are_opened_lem : LiveWindowsAreOpened
 live_windows_are_opened_lem d stream frames = (sending-from d stream pass_start frames (sending-start d stream)).live
 
 pub live_windows_are_unended_lem : LiveWindowsAreUnended
-live_windows_are_unended_lem d stream frames = (sending-from d stream pass_start frames (sending-start d stream)).unended
+live_windows_are_unended_lem d stream frames =
+    (sending-from d stream pass_start frames (sending-start d stream)).unended
