@@ -37,8 +37,7 @@ leaves_by_front all front shown old new (Err (fault.Pcap e)) is left =
     (sym (ap refusal is ∙ front_decides_lem all) ∙ left.0, left.1)
 leaves_by_front all front shown old new (Err fault.Read) is left = left
 leaves_by_front all front shown old new (Err fault.OutOfMemory) is left = left
-leaves_by_front all front shown old new (Err fault.Worker) is left =
-    (sym (ap refusal is ∙ front_decides_lem all) ∙ left.0, left.1)
+leaves_by_front all front shown old new (Err fault.Worker) is left = left
 
 pub judged_by_front : (all front : List ℕ) (seen : Seen) (answer : Result Verdict AuditFault) → front ≡ take 2147483648 all → IsJudged front seen answer → IsJudged all seen answer
 judged_by_front all front seen (Ok verdict) is judged = judged

@@ -23,7 +23,7 @@ use Rattle.clap.specs.declared.parser.matches.ArgMatches.{ArgMatches}
 use Rattle.clap.specs.declared.parser.matches.Found.{Found}
 use Rattle.clap.specs.declared.parser.matches.MatchedArg.{MatchedArg}
 use Rattle.clap.proofs.CallerLemmas.{default_present, entry_by_id, same_rules_by_id}
-use Rattle.h2audit.specs.Numbers.{HasNumber, HasNumbers}
+use Rattle.h2audit.specs.code.Numbers.{HasNumber, HasNumbers}
 use Rattle.h2audit.specs.Words.{app, number_rule}
 
 -- ---- tests and lists

@@ -7,11 +7,12 @@ use Rattle.audit_terms.specs.declared.frames.Frame.{Frame}
 use Rattle.audit_report.specs.declared.audited.Audited.{Audited}
 use Rattle.audit_report.specs.CaptureLine.{capture_line}
 use Rattle.audit_report.specs.RecordLines.{record_lines}
-use Rattle.audit_report.specs.CutLine.{cut_line}
+use Rattle.audit_report.specs.CutRecordLine.{cut_record_line}
 use Rattle.audit_report.specs.UnopenedLines.{unopened_lines}
 use Rattle.audit_report.specs.Contents.{Contents, Http2 as HoldsFrames, contents_of}
-use Rattle.audit_report.specs.Entry.{Entry, entry_of, entries_of, entries_text, extent_at}
+use Rattle.audit_report.specs.Section.{Section, extents_of, section_of, sections_of, sections_text}
 use Rattle.audit_report.specs.FlowLine.{Extent, extent_of}
+use Rattle.audit_terms.specs.declared.sides.Sides.{Sides}
 use Rattle.audit_terms.specs.Finding.{upto_stop}
 use Rattle.audit_terms.specs.Pass.{full}
 use Rattle.audit_terms.specs.Shown.{is_shown_so_far}
@@ -85,58 +86,59 @@ one_cut NoPreface NoPreface h = record { contents = refl; findings = refl }
 one_cut NoHandshake NoHandshake h = record { contents = refl; findings = refl }
 one_cut _ _ h = absurd h
 
--- ---- the entry of a connection
+-- ---- the section of a connection
 
 abbrev extent : ℕ → Option ℕ → Extent
 extent size gap = record { size = size; gap = gap }
 
+abbrev sides : Extent → Extent → Sides Extent
+sides client server = record { client = client; server = server }
+
 one_extent : (f g : Flow) → IsOneFlow f g → extent_of f ≡ extent_of g
 one_extent f g h = ap₂ extent (ap length h.same.bytes) h.gap
 
-abbrev entry : Membership → Extent → Extent → Contents → List Finding → Entry
-entry m client_flow server_flow contents findings = record {
+abbrev section : Membership → Sides Extent → Contents → List Finding → Section
+section m flows contents findings = record {
   client = m.client;
   server = m.server;
   rec = m.rec;
-  client_flow = client_flow;
-  server_flow = server_flow;
+  flows = flows;
   contents = contents;
   findings = findings;
 }
 
-record IsOneEntry (c d : Connection) (a b : Audited) : Type 0 where
-  pub entry_is : entry_of c a ≡ entry_of d b
+record IsOneSection (c d : Connection) (a b : Audited) : Type 0 where
+  pub section_is : section_of c a ≡ section_of d b
   pub findings : a.findings.items ≡ b.findings.items
 
-one_entry : (capture : List ℕ) (packets : List Packet) (c d : Connection) (a b : Audited) → membership c ≡ membership d → IsAudited capture packets c a → IsAudited capture packets d b → IsOneEntry c d a b
-one_entry capture packets c d a b m h k =
-    let client = one_flow (Some c.client_isn) capture (clients packets (membership c)) h.client k.client h.client_is
-    (subst (λ (n : Membership). IsClientFlow capture packets n k.client) (sym m) k.client_is) in
-    let server = one_flow c.server_isn capture (servers packets (membership c)) h.server k.server h.server_is
-    (subst (λ (n : Membership). IsServerFlow capture packets n k.server) (sym m) k.server_is) in
-    let cut = one_cut a.cut b.cut (cut-unique h.client h.server k.client k.server a.cut b.cut client.same server.same h.cut k.cut) in
+one_section : (capture : List ℕ) (packets : List Packet) (c d : Connection) (a b : Audited) → membership c ≡ membership d → IsAudited capture packets c a → IsAudited capture packets d b → IsOneSection c d a b
+one_section capture packets c d a b m h k =
+    let client = one_flow (Some c.client_isn) capture (clients packets (membership c)) a.flows.client b.flows.client h.client
+    (subst (λ (n : Membership). IsClientFlow capture packets n b.flows.client) (sym m) k.client) in
+    let server = one_flow c.server_isn capture (servers packets (membership c)) a.flows.server b.flows.server h.server
+    (subst (λ (n : Membership). IsServerFlow capture packets n b.flows.server) (sym m) k.server) in
+    let cut = one_cut a.cut b.cut (cut-unique a.flows.client a.flows.server b.flows.client b.flows.server a.cut b.cut
+    client.same server.same h.cut k.cut) in
     let found : a.findings.items ≡ b.findings.items = h.findings ∙ cut.findings ∙ sym k.findings in
-    let of_client : extent_at a.flows 0 ≡ extent_at b.flows 0 =
-    ap (λ (fs : List Flow). extent_at fs 0) h.flows ∙ one_extent h.client k.client client ∙ sym (ap (λ (fs : List Flow). extent_at fs 0) k.flows) in
-    let of_server : extent_at a.flows 1 ≡ extent_at b.flows 1 =
-    ap (λ (fs : List Flow). extent_at fs 1) h.flows ∙ one_extent h.server k.server server ∙ sym (ap (λ (fs : List Flow). extent_at fs 1) k.flows) in
+    let flows = ap₂ sides (one_extent a.flows.client b.flows.client client) (one_extent a.flows.server b.flows.server server) in
+    let extents = extents_of a.flows.client a.flows.server in
+    let others = extents_of b.flows.client b.flows.server in
     record {
-      entry_is = ap (λ (n : Membership). entry n (extent_at a.flows 0) (extent_at a.flows 1) (contents_of a.cut) a.findings.items) m
-          ∙ ap (λ (e : Extent). entry (membership d) e (extent_at a.flows 1) (contents_of a.cut) a.findings.items) of_client
-          ∙ ap (λ (e : Extent). entry (membership d) (extent_at b.flows 0) e (contents_of a.cut) a.findings.items) of_server
-          ∙ ap (λ (k : Contents). entry (membership d) (extent_at b.flows 0) (extent_at b.flows 1) k a.findings.items) cut.contents
-          ∙ ap (λ (fs : List Finding). entry (membership d) (extent_at b.flows 0) (extent_at b.flows 1) (contents_of b.cut) fs) found;
+      section_is = ap (λ (n : Membership). section n extents (contents_of a.cut) a.findings.items) m
+          ∙ ap (λ (e : Sides Extent). section (membership d) e (contents_of a.cut) a.findings.items) flows
+          ∙ ap (λ (k : Contents). section (membership d) others k a.findings.items) cut.contents
+          ∙ ap (λ (fs : List Finding). section (membership d) others (contents_of b.cut) fs) found;
       findings = found;
     }
 
 -- ---- all connections
 
 record AreOneAudit (cs ds : List Connection) (xs ys : List Audited) : Type 0 where
-  pub entries : entries_of cs xs ≡ entries_of ds ys
+  pub sections : sections_of cs xs ≡ sections_of ds ys
   pub faults : list_any has_fault xs ≡ list_any has_fault ys
 
 one_audit : (capture : List ℕ) (packets : List Packet) (cs ds : List Connection) (xs ys : List Audited) → map membership cs ≡ map membership ds → AreAudited capture packets cs xs → AreAudited capture packets ds ys → AreOneAudit cs ds xs ys
-one_audit capture packets [] [] [] [] m h k = record { entries = refl; faults = refl }
+one_audit capture packets [] [] [] [] m h k = record { sections = refl; faults = refl }
 one_audit capture packets [] [] [] (b ∷ ys) m h k = absurd k
 one_audit capture packets [] [] (a ∷ xs) ys m h k = absurd h
 one_audit capture packets [] (d ∷ ds) xs ys m h k = absurd cc
@@ -146,19 +148,19 @@ one_audit capture packets (c ∷ cs) (d ∷ ds) (a ∷ xs) [] m h k = absurd k
 one_audit capture packets (c ∷ cs) (d ∷ ds) (a ∷ xs) (b ∷ ys) m h k =
     let here : membership c ≡ membership d = cc in
     let later : map membership cs ≡ map membership ds = cc in
-    let first = one_entry capture packets c d a b here h.0 k.0 in
+    let first = one_section capture packets c d a b here h.0 k.0 in
     let rest = one_audit capture packets cs ds xs ys later h.1 k.1 in
     record {
-      entries = ap₂ (λ (e : Entry) (es : List Entry). e ∷ es) first.entry_is rest.entries;
+      sections = ap₂ (λ (e : Section) (es : List Section). e ∷ es) first.section_is rest.sections;
       faults = ap₂ (λ (p q : Bool). p || q) (ap (λ (fs : List Finding). list_any is_fault fs) first.findings) rest.faults;
     }
 
 -- ---- the report
 
-abbrev text_by : Bool → List Record → Option ℕ → List Packet → List Entry → List ℕ
-text_by shown rows cut packets entries =
-    (capture_line rows packets ++ record_lines packets ++ cut_line cut ++ unopened_lines (strays_of (past_of packets)))
-    ++ entries_text shown 1 entries
+abbrev text_by : Bool → List Record → Option ℕ → List Packet → List Section → List ℕ
+text_by shown rows cut packets sections =
+    (capture_line rows packets ++ record_lines packets ++ cut_record_line cut ++ unopened_lines (strays_of (past_of packets)))
+    ++ sections_text shown 1 sections
 
 abbrev verdict_by : Bool → Verdict
 verdict_by faults = if faults then Faults else Clean
@@ -171,12 +173,12 @@ one_report_lem bytes shown text other verdict judged x y =
     let opened = x.report.connections ∙ ap (λ (p : List Packet). connections_of (past_of p)) packets ∙ sym y.report.connections in
     let audits = subst (λ (p : List Packet). AreAudited bytes p y.report.opened y.report.audited) (sym packets) y.report.audits in
     let same = one_audit bytes (decide x.found.rows.items) x.report.opened y.report.opened x.report.audited y.report.audited opened x.report.audits audits in
-    let entries = entries_of x.report.opened x.report.audited in (
+    let sections = sections_of x.report.opened x.report.audited in (
       x.report.spelled
-          ∙ ap (λ (rows : List Record). text_by shown rows x.found.cut (decide x.found.rows.items) entries) reading.1
-          ∙ ap (λ (cut : Option ℕ). text_by shown y.found.rows.items cut (decide x.found.rows.items) entries) reading.2
-          ∙ ap (λ (p : List Packet). text_by shown y.found.rows.items y.found.cut p entries) packets
-          ∙ ap (λ (es : List Entry). text_by shown y.found.rows.items y.found.cut (decide y.found.rows.items) es) same.entries
+          ∙ ap (λ (rows : List Record). text_by shown rows x.found.cut (decide x.found.rows.items) sections) reading.1
+          ∙ ap (λ (cut : Option ℕ). text_by shown y.found.rows.items cut (decide x.found.rows.items) sections) reading.2
+          ∙ ap (λ (p : List Packet). text_by shown y.found.rows.items y.found.cut p sections) packets
+          ∙ ap (λ (es : List Section). text_by shown y.found.rows.items y.found.cut (decide y.found.rows.items) es) same.sections
           ∙ sym y.report.spelled,
       x.report.judged ∙ ap verdict_by same.faults ∙ sym y.report.judged,
     )

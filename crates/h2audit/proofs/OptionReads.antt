@@ -11,7 +11,7 @@ use Rattle.clap.proofs.WalkLemmas.{one_text-rows}
 use Rattle.h2audit.specs.declared.options.Options.{Options}
 use Rattle.h2audit.specs.Asked.{IsNumberOf}
 use Rattle.h2audit.specs.Choices.{Choices, choices}
-use Rattle.h2audit.specs.Numbers.{HasNumber}
+use Rattle.h2audit.specs.code.Numbers.{HasNumber}
 
 -- what `u32` reads in a text
 abbrev ReadsU32 : List ℕ → Result ℕ ParseIntError → Type 0

@@ -41,12 +41,9 @@ findings_of _ = []
 
 -- the audit of a connection: its two flows, what they hold, and what is found in the frames
 pub record IsAudited (capture : List ℕ) (packets : List Packet) (connection : Connection) (audited : Audited) : Type 0 where
-  pub client : Flow
-  pub server : Flow
-  pub flows : audited.flows ≡ client ∷ server ∷ []
-  pub client_is : IsFlowOf capture packets connection Client client
-  pub server_is : IsFlowOf capture packets connection Server server
-  pub cut : IsCut client server audited.cut
+  pub client : IsFlowOf capture packets connection Client audited.flows.client
+  pub server : IsFlowOf capture packets connection Server audited.flows.server
+  pub cut : IsCut audited.flows.client audited.flows.server audited.cut
   pub findings : audited.findings.items ≡ findings_of audited.cut
 
 -- each connection's audit, in order

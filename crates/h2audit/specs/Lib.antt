@@ -8,5 +8,5 @@ pub mod Run
 pub mod Words
 pub mod Asked
 pub mod KnownWords
-pub mod Numbers
 pub mod Laws
+pub mod code

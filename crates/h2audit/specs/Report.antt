@@ -9,7 +9,7 @@ use Rattle.tcp_streams.specs.declared.members.Connection.{Connection}
 use Rattle.tcp_streams.specs.Membership.{connections_of, membership, strays_of}
 use Rattle.tcp_streams.specs.Packets.{past_of}
 use Rattle.audit_report.specs.declared.audited.Audited.{Audited}
-use Rattle.audit_report.specs.Entry.{entries_of}
+use Rattle.audit_report.specs.Section.{sections_of}
 use Rattle.audit_report.specs.ReportText.{report_text}
 use Rattle.h2audit.specs.Audited.{AreAudited, verdict_of}
 use Rattle.h2audit.specs.declared.verdict.Verdict.{Verdict}
@@ -25,7 +25,7 @@ pub record IsReportOn (bytes : List ℕ) (found : Records) (shown : Bool) (text 
   pub connections : map membership opened ≡ connections_of (past_of (packets_of bytes found))
   pub audits : AreAudited bytes (packets_of bytes found) opened audited
   pub spelled : text ≡ report_text found (packets_of bytes found) (strays_of (past_of (packets_of bytes found)))
-      (entries_of opened audited) shown
+      (sections_of opened audited) shown
   pub judged : verdict ≡ verdict_of audited
 
 -- this text is the report of the capture with these bytes, and this is its verdict

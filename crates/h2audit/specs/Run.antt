@@ -8,13 +8,13 @@ use Rattle.h2audit.specs.declared.fault.AuditFault.TheVariants as fault
 use Rattle.h2audit.specs.declared.seen.Seen.{Seen}
 use Rattle.h2audit.specs.declared.verdict.Verdict.{Verdict}
 
--- why these bytes have no report: they are refused, by this name; or they are not, and memory or a thread was wanting
+-- why these bytes have no report: they are refused, by this name; or they are not, and memory was wanting
 abbrev pub IsNoReport : List ℕ → AuditFault → Type 0
 IsNoReport bytes (fault.Pcap e) = refusal bytes ≡ Some e
 IsNoReport bytes fault.Read = ⊥
 IsNoReport bytes fault.Write = ⊥
 IsNoReport bytes fault.OutOfMemory = refusal bytes ≡ None
-IsNoReport bytes fault.Worker = refusal bytes ≡ None
+IsNoReport bytes fault.Worker = ⊥
 
 -- what the writer holds after a run on a reader of these bytes, where it held `old`: the whole report, a prefix
 -- of it where writing failed, and nothing more than before after any other fault
@@ -23,7 +23,7 @@ Leaves bytes shown old new (Ok verdict) = (text : List ℕ) × IsReport bytes sh
 Leaves bytes shown old new (Err fault.Write) =
     (text : List ℕ) × (verdict : Verdict) × (n : ℕ) × IsReport bytes shown text verdict × Appends old new (take n text)
 Leaves bytes shown old new (Err (fault.Pcap e)) = (refusal bytes ≡ Some e) × Keeps old new
-Leaves bytes shown old new (Err fault.Worker) = (refusal bytes ≡ None) × Keeps old new
+Leaves bytes shown old new (Err fault.Worker) = ⊥
 Leaves bytes shown old new (Err _) = Keeps old new
 
 -- a capture for whose bytes there was room is judged: want of memory is answered only where it is not refused

@@ -15,18 +15,13 @@ nothing_seen = record {
   flushed = false;
 }
 
--- the faults of reading a capture, as the account then shows them: a read that failed, or want of memory for its bytes
-abbrev pub IsReadingFault : AuditFault → Seen → Seen → Type 0
-IsReadingFault fault.Read old new = new ≡ record old { read_failed = true }
-IsReadingFault fault.OutOfMemory old new = new ≡ record old { room_refused = true }
-IsReadingFault _ _ _ = ⊥
-
 -- the account at the end of a run: after a verdict nothing failed, and a flush that went well came last; after a failed
 -- read or write nothing else failed, and no flush went well; after any other fault no call failed. Only before a verdict
--- or a failed write was a byte written
+-- or a failed write was a byte written. No run starts a worker
 abbrev pub Tells : Seen → Result Verdict AuditFault → Type 0
 Tells seen (Ok _) = seen ≡ record nothing_seen { wrote = seen.wrote; flushed = true }
 Tells seen (Err fault.Read) = seen ≡ record nothing_seen { read_failed = true }
 Tells seen (Err fault.Write) = seen ≡ record nothing_seen { wrote = seen.wrote; write_failed = true }
 Tells seen (Err fault.OutOfMemory) = seen ≡ record nothing_seen { room_refused = seen.room_refused }
-Tells seen (Err _) = seen ≡ nothing_seen
+Tells seen (Err (fault.Pcap _)) = seen ≡ nothing_seen
+Tells seen (Err fault.Worker) = ⊥

@@ -5,13 +5,14 @@ use Rattle.clap.specs.Simple.{on_top}
 use Rattle.clap.specs.declared.builder.action.ArgAction.TheVariants.{Set, SetTrue}
 use Rattle.clap.specs.declared.builder.value_parser.ValueParser.TheVariants as value
 
--- `--NAME N`, a number from 1 to `most`, with a default
+-- `--NAME N`
+abbrev pub option_rule : (name : Text) → Rule
+option_rule name = record (new_rule name) { long = Some name; action = Some Set; value_names = 1 }
+
+-- the same, a number from 1 to `most`, with a default
 abbrev pub number_rule : (name : Text) (most : ℕ) (default : Text) → Rule
-number_rule name most default = record (new_rule name) {
-  long = Some name;
-  action = Some Set;
+number_rule name most default = record (option_rule name) {
   parser = Some (value.Signed (pos 1) (pos most));
-  value_names = 1;
   defaults = default ∷ [];
 }
 

@@ -31,7 +31,7 @@ pub fn audit(
     ensures refused { IfErr result (λ e. IsNoReport capture.now e) }
 {
     match records(alloc, capture) {
-        Ok(found) => match report_on(rt, alloc, &found, capture, options.frames_shown()) {
+        Ok(found) => match audit_records(rt, alloc, &found, capture, options.frames_shown()) {
             Ok(answer) => Ok(answer),
             Err(_) => Err(AuditFault::OutOfMemory),
         },
@@ -41,7 +41,7 @@ pub fn audit(
 }
 
 /// The report of a capture whose records are these, and its verdict.
-fn report_on(
+fn audit_records(
     rt: &(impl Threads + Sync),
     alloc: Global,
     found: &Records,

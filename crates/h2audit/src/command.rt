@@ -1,7 +1,8 @@
-ghost use Rattle.std.specs.Prelude.{◌≡◌, ◌<◌, ◌^◌, IfOk, false, map};
+ghost use Rattle.std.specs.Prelude.{◌≡◌, IfOk, Some, false, map, pos};
 ghost use Rattle.clap.specs.Words.{app_of, fault_of, found_of, matches_of, new_app, rows_of, rule_of, with_rule, FailsBy};
-ghost use Rattle.h2audit.specs.Numbers.{HasNumbers};
-ghost use Rattle.h2audit.specs.Words.{app, command_start, file_rule, frames_rule, number_rule};
+ghost use Rattle.h2audit.specs.code.Numbers.{HasNumbers};
+ghost use Rattle.clap.specs.declared.builder.value_parser.ValueParser.{ValueParser};
+ghost use Rattle.h2audit.specs.Words.{app, command_start, file_rule, frames_rule, number_rule, option_rule};
 
 use crate::options::Options;
 use clap::{Arg, ArgAction, ArgMatches, Command, Error, value_parser};
@@ -80,13 +81,26 @@ fn numbered<'a>(alloc: Global, name: &'a str, most: u32, default: &'a str, help:
     ensures rule { rule_of result ≡ number_rule name.entry.now most default.entry.now }
     ensures local { result.global ≡ false }
 {
+    let arg = in_range(option(alloc, name), most);
+    arg.default_value(default).help(help)
+}
+
+/// `--NAME N`.
+fn option<'a>(alloc: Global, name: &'a str) -> Arg<'a>
+    ensures rule { rule_of result ≡ option_rule name.entry.now }
+    ensures local { result.global ≡ false }
+{
     Arg::new(alloc, name)
         .long(name)
         .action(ArgAction::Set)
         .value_name("N")
-        .value_parser(value_parser!(u32).range(1..=i64::from(most)))
-        .default_value(default)
-        .help(help)
+}
+
+/// The argument, whose value is a number from 1 to `most`.
+fn in_range<'a>(arg: Arg<'a>, most: u32) -> Arg<'a>
+    ensures { result ≡ record arg.entry { value_parser = Some (ValueParser.Signed (pos 1) (pos most)) } }
+{
+    arg.value_parser(value_parser!(u32).range(1..=i64::from(most)))
 }
 
 fn frames_flag<'a>(alloc: Global) -> Arg<'a>

@@ -10,8 +10,8 @@ ghost use Rattle.std.specs.List.{list_any};
 
 use crate::verdict::Verdict;
 use audit_core::one_pass;
-use audit_terms::{Finding, Side};
 use audit_report::Audited;
+use audit_terms::{Finding, Side, Sides};
 use h2_frames::{Cut, cut};
 use packet_heads::Packet;
 use std::alloc::{AllocError, Global};
@@ -60,7 +60,7 @@ fn audit_connection(
     let cut = cut(alloc, &client, &server)?;
     let findings = findings_in(alloc, &cut)?;
     Ok(Audited {
-        flows: [client, server],
+        flows: Sides { client, server },
         cut,
         findings,
     })

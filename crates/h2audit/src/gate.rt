@@ -1,4 +1,4 @@
-/// What a worker passes before it starts a job: a place for a test to hold workers back.
+/// What a worker passes before it starts a job, so that a test can hold workers back.
 ///
 /// A gate has no say in the report.
 pub trait Gate: Sync {

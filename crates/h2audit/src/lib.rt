@@ -25,6 +25,3 @@ pub use seen::Seen;
 pub use status::ending;
 pub use verdict::Verdict;
 pub use words::{Parsed, parse};
-
-#[cfg(test)]
-mod tests;

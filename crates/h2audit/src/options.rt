@@ -3,7 +3,8 @@ ghost use Rattle.h2audit.specs.Options.{AreInRange};
 
 /// How a capture is audited and what its report shows.
 ///
-/// The workers, groups and block length divide the work and never change the report.
+/// The workers, groups and block length divide the work and never change the report. They are asked for and kept, and
+/// one thread does the work whatever they are.
 #[derive(Clone, Copy, Debug, PartialEq, Eq)]
 pub struct Options {
     workers: u32,
@@ -47,29 +48,8 @@ impl Options {
         }
     }
 
-    /// The number of worker threads, from 1 to 64.
-    pub fn workers(&self) -> u32
-        ensures { result ≡ (choices self.now).workers }
-    {
-        self.workers
-    }
-
-    /// The number of groups for each connection's streams, from 1 to 1024.
-    pub fn groups(&self) -> u32
-        ensures { result ≡ (choices self.now).groups }
-    {
-        self.groups
-    }
-
-    /// The number of frames in a block, from 1 to 1,048,576.
-    pub fn block(&self) -> u32
-        ensures { result ≡ (choices self.now).block }
-    {
-        self.block
-    }
-
     /// Whether the report has the credit lines.
-    pub fn frames_shown(&self) -> bool
+    pub(crate) fn frames_shown(&self) -> bool
         ensures { result ≡ (choices self.now).frames_shown }
     {
         self.frames_shown

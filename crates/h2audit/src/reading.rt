@@ -1,6 +1,6 @@
 ghost use Rattle.std.specs.Prelude.{◌≡◌, ℕ, ◌+◌, ◌-◌, ◌^◌, ◌<◌, ◌≤◌, length, take, drop, true, false, IfOk, IfErr, IfSome, OnOk, OnErr, vec_len};
 ghost use Rattle.std.specs.Io.KnownBytes.{Consumes, IsAtEnd, Keeps};
-ghost use Rattle.h2audit.specs.Seen.{IsReadingFault};
+ghost use Rattle.h2audit.specs.code.Account.{IsReadingFault};
 
 use crate::fault::AuditFault;
 use crate::seen::{Seen, read_once};

@@ -58,13 +58,13 @@ pub fn run_seen<R: Read, W: Write>(
     ensures judged { IfSome (R.remaining reader.old) (λ bytes. IsJudged bytes seen.new result) }
 {
     match read_capture(alloc, reader, seen) {
-        Ok(capture) => report_on(rt, alloc, options, capture.as_slice(), writer, gate, seen),
+        Ok(capture) => audit_and_write(rt, alloc, options, capture.as_slice(), writer, gate, seen),
         Err(fault) => Err(fault),
     }
 }
 
 /// Audits a capture that was read, writes its report and flushes once.
-fn report_on<W: Write>(
+fn audit_and_write<W: Write>(
     rt: &(impl Threads + Sync),
     alloc: Global,
     options: &Options,

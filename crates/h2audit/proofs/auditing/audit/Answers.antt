@@ -2,12 +2,12 @@ use Rattle.std.proofs.Common.{Bool, subst}
 use Rattle.h2audit.specs.Report.{IsReportOn}
 use Rattle.h2audit.proofs.auditing.audit.Goals as goal
 
-pub returns-in-Ok-report_on-clause-report : goal.returns-in-Ok-report_on-clause-report
-returns-in-Ok-report_on-clause-report g c =
-    let answer = c.in-Ok-report_on.answer in
+pub returns-in-Ok-audit_records-clause-report : goal.returns-in-Ok-audit_records-clause-report
+returns-in-Ok-audit_records-clause-report g c =
+    let answer = c.in-Ok-audit_records.answer in
     record {
       found = c.in-Ok.found;
       taken = c.in-Ok.ensures.ok.0;
       reading = c.in-Ok.ensures.ok.1;
-      report = subst (λ (shown : Bool). IsReportOn c.args.capture.now c.in-Ok.found shown answer.0.items answer.1) c.frames_shown.ensures c.in-Ok-report_on.ensures;
+      report = subst (λ (shown : Bool). IsReportOn c.args.capture.now c.in-Ok.found shown answer.0.items answer.1) c.frames_shown.ensures c.in-Ok-audit_records.ensures;
     }

@@ -1,6 +1,6 @@
 use Rattle.std.proofs.Common.{◌≡◌, ◌∙◌, List, length, subst, ap}
 use Rattle.audit_report.specs.declared.audited.Audited.{Audited}
-use Rattle.audit_report.specs.Entry.{entries_of}
+use Rattle.audit_report.specs.Section.{sections_of}
 use Rattle.audit_report.specs.ReportText.{report_text}
 use Rattle.packet_heads.specs.declared.packets.Packet.{Packet}
 use Rattle.tcp_streams.specs.declared.members.Connection.{Connection}
@@ -10,7 +10,7 @@ use Rattle.tcp_streams.specs.Packets.{past_of}
 use Rattle.h2audit.specs.Audited.{AreAudited, verdict_of}
 use Rattle.h2audit.specs.Report.{packets_of}
 use Rattle.h2audit.proofs.Audits.{AreAudited-length}
-use Rattle.h2audit.proofs.auditing.report_on.Goals as goal
+use Rattle.h2audit.proofs.auditing.audit_records.Goals as goal
 
 pub report-requires-clause-each : goal.report-requires-clause-each
 report-requires-clause-each g c =
@@ -34,8 +34,8 @@ returns g c =
       connections = c.in_ok-connections.ensures.opened ∙ ap (λ (p : List Packet). connections_of (past_of p)) given;
       audits = subst (λ (cs : List Connection). AreAudited capture packets cs audited) c.as_slice-3.ensures.value by_packets;
       spelled = c.in_ok-text.ensures
-          ∙ ap (λ (p : List Packet). report_text c.args.found.now p c.in_ok-connections.connections.strays.items (entries_of opened c.as_slice-5.result.now) c.args.frames_shown) shown
-          ∙ ap (λ (s : List Stray). report_text c.args.found.now packets s (entries_of opened c.as_slice-5.result.now) c.args.frames_shown) strays
-          ∙ ap (λ (a : List Audited). report_text c.args.found.now packets (strays_of (past_of packets)) (entries_of opened a) c.args.frames_shown) c.as_slice-5.ensures.value;
+          ∙ ap (λ (p : List Packet). report_text c.args.found.now p c.in_ok-connections.connections.strays.items (sections_of opened c.as_slice-5.result.now) c.args.frames_shown) shown
+          ∙ ap (λ (s : List Stray). report_text c.args.found.now packets s (sections_of opened c.as_slice-5.result.now) c.args.frames_shown) strays
+          ∙ ap (λ (a : List Audited). report_text c.args.found.now packets (strays_of (past_of packets)) (sections_of opened a) c.args.frames_shown) c.as_slice-5.ensures.value;
       judged = c.verdict_on-verdict.ensures ∙ ap verdict_of c.as_slice-6.ensures.value;
     }

@@ -1,4 +1,4 @@
-use Rattle.std.proofs.Common.{length, refl, arith}
+use Rattle.std.proofs.Common.{length, arith}
 use Rattle.tcp_streams.proofs.FlowLemmas.{sides-fit}
 use Rattle.h2audit.proofs.connection.audit_connection.Goals as goal
 
@@ -9,11 +9,8 @@ cut-requires-clause-together c =
 
 pub returns-clause-audit : goal.returns-clause-audit
 returns-clause-audit c = record {
-  client = c.in_ok-client.client;
-  server = c.in_ok-server.server;
-  flows = refl;
-  client_is = c.in_ok-client.ensures.flow;
-  server_is = c.in_ok-server.ensures.flow;
+  client = c.in_ok-client.ensures.flow;
+  server = c.in_ok-server.ensures.flow;
   cut = c.in_ok-cut.ensures.is;
   findings = c.in_ok-findings.ensures;
 }
