@@ -10,6 +10,7 @@ SOURCES := crates.txt $(shell find crates -name out -prune -o -name '*.rt' -prin
 # Shows two reports at once, from a build without proof: of a connection with stalls and a window below zero, and of one with an
 # overrun, whose status of 1 is the program's answer.
 run:
+	@echo 'A build without proof: about a minute on four idle cores.'
 	@captures=$$(mktemp -d) && trap 'rm -r "$$captures"' EXIT && cp $(FIRST) "$$captures" && \
 		cd crates/h2audit_cli && rt try --cases "$$captures" -- {}
 	@echo 'Nothing of this build was proved. "make build" proves the program and builds it (some 8 minutes on four idle cores),'
