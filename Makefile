@@ -20,7 +20,7 @@ run:
 build: $(PROGRAM)
 
 $(PROGRAM): $(SOURCES)
-	+@$(MAKE) --no-print-directory --jobs=$(RT_JOBS) proved-h2audit_cli
+	@$(MAKE) --no-print-directory --jobs=$(RT_JOBS) proved-h2audit_cli
 	@touch $@
 	@echo 'built: $@'
 
