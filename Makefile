@@ -1,24 +1,57 @@
 PREFIX ?= /usr/local
+# How much the toolchain does at once: a check takes up to some 3 GB.
+RT_JOBS ?= $(shell nproc)
 PROGRAM = crates/h2audit_cli/out/h2audit_cli
+FIRST = examples/negative_window_tomcat.pcap examples/stream_overrun_go.pcap
+SOURCES := crates.txt $(shell find crates -name out -prune -o -name '*.rt' -print -o -name '*.antt' -print)
 
-.PHONY: run test install bench
+.PHONY: run build install test bench believed
 
-# Builds the program, proofs included, and audits a connection with stalls and a window below zero, and one with an overrun
-# (whose exit status is 1).
+# Shows two reports at once, from a build without proof: of a connection with stalls and a window below zero, and of one with an
+# overrun, whose status of 1 is the program's answer.
 run:
-	cd crates/h2audit_cli && rt run -- ../../examples/negative_window_tomcat.pcap
-	$(PROGRAM) examples/stream_overrun_go.pcap || [ $$? -eq 1 ]
+	@echo 'A build without proof: about a minute on four idle cores.'
+	@captures=$$(mktemp -d) && trap 'rm -r "$$captures"' EXIT && cp $(FIRST) "$$captures" && \
+		cd crates/h2audit_cli && rt try --cases "$$captures" -- {}
+	@echo 'Nothing of this build was proved. "make build" proves the program and builds it (some 8 minutes on four idle cores),'
+	@echo 'and "make install" puts it in place as h2audit.'
+
+# Proves all that the program stands on, builds it, and leaves it as PROGRAM.
+build: $(PROGRAM)
+
+$(PROGRAM): $(SOURCES)
+	@$(MAKE) --no-print-directory --jobs=$(RT_JOBS) proved-h2audit_cli
+	@touch $@
+	@echo 'built: $@'
+
+# A crate is proved after those that its line in crates.txt names.
+$(foreach rule,$(shell sed 's/#.*//' crates.txt | awk -F: '{ split($$1, name, " "); uses = split($$2, used, " "); \
+	for (i = 1; i <= uses; i++) print "proved-" name[1] ":proved-" used[i] }'),$(eval $(rule)))
+
+# What the toolchain says is shown where it fails.
+quietly = said=$$($(1) 2>&1) && echo '$(@:proved-%=%): proved' || { echo "$$said"; exit 1; }
+
+$(patsubst crates/%/src/lib.rt,proved-%,$(wildcard crates/*/src/lib.rt)):
+	@cd crates/$(@:proved-%=%) && $(call quietly,rt lib)
+
+proved-h2audit_cli:
+	@cd crates/h2audit_cli && $(call quietly,rt run -- --help)
+
+# The toolchain's own libraries come proved.
+proved-%: ;
+
+# Puts the program in place as h2audit.
+install: $(PROGRAM)
+	install -D -m 755 $(PROGRAM) $(DESTDIR)$(PREFIX)/bin/h2audit
 
 # The gate: proves every crate from nothing, tries the must-fail edits, runs the tests and the programs.
 test:
-	rt ci
-
-# Builds the program as `make run` does, and puts it in place as h2audit.
-install:
-	cd crates/h2audit_cli && rt run -- --help > /dev/null
-	install -D -m 755 $(PROGRAM) $(DESTDIR)$(PREFIX)/bin/h2audit
+	RT_JOBS=$(RT_JOBS) rt ci
 
 # Measures time and memory on generated captures, beside cat.
-bench:
-	cd crates/h2audit_cli && rt run -- --help > /dev/null
+bench: $(PROGRAM)
 	python3 bench/measure.py $(PROGRAM)
+
+# Lists the definitions that a reader has to believe, with their lines.
+believed:
+	@python3 tools/believed.py
