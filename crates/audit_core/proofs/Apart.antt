@@ -1,5 +1,5 @@
--- No two findings of a connection share place and side: at one frame they stand in different rows of the table or are of
--- different streams, and different frames have different places.
+-- No two findings of a connection share place and side: at one frame they stand in different rows of the table or are
+-- of different streams, and different frames have different places.
 use Rattle.std.proofs.Common.{◌≡◌, ◌≢◌, ℕ, ◌+◌, ◌*◌, ◌^◌, ◌<◌, Bool, true, false, not, ◌==◌, List, [], ◌∷◌, refl, sym, ◌∙◌, arith, filter, true≢false, if◌then◌else◌}
 use Rattle.std.specs.List.{AllByRecursion}
 use borrow.Author.Tests.{eq-eqb}
@@ -14,10 +14,12 @@ use Rattle.audit_core.proofs.Pairs.{Across, pairs-append, pairs-ordered}
 use Rattle.audit_core.proofs.PassOrder.{AreWithin, AreFrom, AreStreams, at-said, from-full_from, rows_of, streams-streams_of}
 use Rattle.audit_core.proofs.FrameRows.{rows-apart-at}
 
-not_among-filter : (test : ℕ → Bool) (stream : ℕ) (streams : List ℕ) → NotAmong stream streams → NotAmong stream (filter test streams)
+not_among-filter : (test : ℕ → Bool) (stream : ℕ) (streams : List ℕ) → NotAmong stream streams →
+    NotAmong stream (filter test streams)
 not_among-filter test stream [] h = tt
 not_among-filter test stream (other ∷ others) h = step _ refl (not_among-filter test stream others h.1) where
-  step : (b : Bool) → test other ≡ b → NotAmong stream (filter test others) → NotAmong stream (filter test (other ∷ others))
+  step : (b : Bool) → test other ≡ b → NotAmong stream (filter test others) →
+      NotAmong stream (filter test (other ∷ others))
   step true e ih = rw e (h.0, ih)
   step false e ih = rw e ih
 
@@ -50,12 +52,14 @@ distinct-streams_of (frame ∷ frames) =
 
 -- findings of different frames differ in place, whatever else is asked of two at one place
 module _ (R : Finding → Finding → Type 0) (elsewhere : (x y : Finding) → x.place ≢ y.place → R x y) where
-  later : (number : ℕ) (x : Finding) (ys : List Finding) → x.place < number * 2 ^ 36 + 2 ^ 36 → AreFrom (number + 1) ys → AllByRecursion (R x) ys
+  later : (number : ℕ) (x : Finding) (ys : List Finding) → x.place < number * 2 ^ 36 + 2 ^ 36 →
+      AreFrom (number + 1) ys → AllByRecursion (R x) ys
   later number x [] p h = tt
   later number x (y ∷ ys) p h =
       let a = h.0 in (elsewhere x y (λ e. absurd (omega arith)), later number x ys p h.1)
 
-  across-frames : (number : ℕ) (xs ys : List Finding) → AreWithin (number * 2 ^ 36) (number * 2 ^ 36 + 2 ^ 36) xs → AreFrom (number + 1) ys →
+  across-frames : (number : ℕ) (xs ys : List Finding) → AreWithin (number * 2 ^ 36) (number * 2 ^ 36 + 2 ^ 36) xs →
+      AreFrom (number + 1) ys →
       Across R xs ys
   across-frames number [] ys p h = tt
   across-frames number (x ∷ xs) ys p h = (later number x ys p.1 h, across-frames number xs ys p.2 h)
@@ -75,7 +79,8 @@ module _ (R : Finding → Finding → Type 0) (elsewhere : (x y : Finding) → x
 apart-turned : (x y : Finding) → AreApart x y → AreApart y x
 apart-turned x y h p s = h (sym p) (sym s)
 
-pub apart-said : (streams : List ℕ) (state : PassState) (frame : Frame) → AreStreams streams → AreDistinct streams → IsInRange frame →
+pub apart-said : (streams : List ℕ) (state : PassState) (frame : Frame) → AreStreams streams → AreDistinct streams →
+    IsInRange frame →
     StandApart (said streams state frame)
 apart-said streams state frame small distinct h =
     pairs-ordered AreApart comes_after apart-turned (rows_of streams state frame) (rows-apart-at streams state frame small distinct h)

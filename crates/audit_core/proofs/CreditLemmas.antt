@@ -54,12 +54,14 @@ window-next Client stream state frame = refl
 window-next Server stream state frame = refl
 
 initial-next : (d : Side) (state : PassState) (frame : Frame)
-    → side_of d (next state frame).in_force.initial ≡ new_initial (change_of state.in_force frame) d (side_of d state.in_force.initial)
+    → side_of d (next state frame).in_force.initial
+    ≡ new_initial (change_of state.in_force frame) d (side_of d state.in_force.initial)
 initial-next Client state frame = refl
 initial-next Server state frame = refl
 
 -- an opened stream is not opened again
-opened-once : (stream opening : ℕ) (entry : Stream) (step : Step) → entry.life.opened ≡ Some opening → opens stream entry step ≡ false
+opened-once : (stream opening : ℕ) (entry : Stream) (step : Step) → entry.life.opened ≡ Some opening
+    → opens stream entry step ≡ false
 opened-once stream opening entry step e = by_frame step.frame where
   by_frame : (o : Option Frame) → option_map_or (is_opening stream entry.life) o false ≡ false
   by_frame None = refl
@@ -79,7 +81,8 @@ opening-change state frame h = rw h.ack refl
 -- ---- a stream that is opened
 
 -- it stays so
-opened-stays : (stream opening : ℕ) (state : PassState) (frames : List Frame) → (state.streams stream).life.opened ≡ Some opening
+opened-stays : (stream opening : ℕ) (state : PassState) (frames : List Frame)
+    → (state.streams stream).life.opened ≡ Some opening
     → ((state_from state frames).streams stream).life.opened ≡ Some opening
 opened-stays stream opening state [] e = e
 opened-stays stream opening state (frame ∷ frames) e =
@@ -87,8 +90,10 @@ opened-stays stream opening state (frame ∷ frames) e =
     (opened-next stream state frame ∙ rw (opened-once stream opening (state.streams stream) (step_of state.in_force frame stream) e) e)
 
 -- a window that is not live stays so
-window-gone : (d : Side) (stream opening : ℕ) (state : PassState) (frames : List Frame) → (state.streams stream).life.opened ≡ Some opening
-    → side_of d (state.streams stream).window ≡ None → side_of d ((state_from state frames).streams stream).window ≡ None
+window-gone : (d : Side) (stream opening : ℕ) (state : PassState) (frames : List Frame)
+    → (state.streams stream).life.opened ≡ Some opening
+    → side_of d (state.streams stream).window ≡ None
+    → side_of d ((state_from state frames).streams stream).window ≡ None
 window-gone d stream opening state [] e w = w
 window-gone d stream opening state (frame ∷ frames) e w =
     let once = opened-once stream opening (state.streams stream) (step_of state.in_force frame stream) e in
@@ -103,7 +108,8 @@ CountsOn d stream state frames before credit =
 
 window-counts : (d : Side) (stream opening : ℕ) (state : PassState) (frames : List Frame) (before credit : ℤ)
     → (state.streams stream).life.opened ≡ Some opening → side_of d (state.streams stream).window ≡ Some before
-    → side_of d ((state_from state frames).streams stream).window ≡ Some credit → CountsOn d stream state frames before credit
+    → side_of d ((state_from state frames).streams stream).window ≡ Some credit
+    → CountsOn d stream state frames before credit
 window-counts d stream opening state [] before credit e w last =
     let same : before ≡ credit = same_Some before credit (sym w ∙ last) in
     omega (arith, ints, same)
@@ -125,8 +131,10 @@ window-counts d stream opening state (frame ∷ frames) before credit e w last =
       by_end : (ends : Bool)
           → side_of d ((next state frame).streams stream).window
           ≡ (if ends then None else Some (counted d stream state.in_force.initial (step_of state.in_force frame stream) before))
-          → (side_of d ((next state frame).streams stream).window ≡ None → side_of d ((state_from (next state frame) frames).streams stream).window ≡ None)
-          → ((count : ℤ) → side_of d ((next state frame).streams stream).window ≡ Some count → CountsOn d stream (next state frame) frames count credit)
+          → (side_of d ((next state frame).streams stream).window ≡ None
+          → side_of d ((state_from (next state frame) frames).streams stream).window ≡ None)
+          → ((count : ℤ) → side_of d ((next state frame).streams stream).window ≡ Some count
+          → CountsOn d stream (next state frame) frames count credit)
           → CountsOn d stream state (frame ∷ frames) before credit
       by_end true at gone counts = absurd (none-some credit (sym (gone at) ∙ last))
       by_end false at gone counts =
@@ -144,7 +152,8 @@ window-counts d stream opening state (frame ∷ frames) before credit e w last =
 
 -- ---- from the opening on
 
-either : {A : Type 0} (b : Bool) (x : A) → ((if b then None else Some x) ≡ None) ⊎ ((if b then None else Some x) ≡ Some x)
+either : {A : Type 0} (b : Bool) (x : A)
+    → ((if b then None else Some x) ≡ None) ⊎ ((if b then None else Some x) ≡ Some x)
 either true x = inl refl
 either false x = inr refl
 
@@ -154,16 +163,19 @@ le_test m n h = grind (arith, nat_tests)
 not_le_test : (m n : ℕ) → n < m → nat_le m n ≡ false
 not_le_test m n h = grind (arith, nat_tests)
 
-since-all : (opening low : ℕ) (frames : List Frame) → opening ≤ low → IsOrderlyFrom low frames → since opening frames ≡ frames
+since-all : (opening low : ℕ) (frames : List Frame) → opening ≤ low → IsOrderlyFrom low frames
+    → since opening frames ≡ frames
 since-all opening low [] below h = refl
 since-all opening low (frame ∷ frames) below h =
     rw (le_test opening frame.number (omega (arith, h.0))) (ap (λ rest. frame ∷ rest) (since-all opening (frame.number + 1) frames (omega (arith, h.0)) h.2))
 
-since-later : (opening : ℕ) (frame : Frame) (frames : List Frame) → frame.number < opening → since opening (frame ∷ frames) ≡ since opening frames
+since-later : (opening : ℕ) (frame : Frame) (frames : List Frame) → frame.number < opening
+    → since opening (frame ∷ frames) ≡ since opening frames
 since-later opening frame frames h = rw (not_le_test opening frame.number h) refl
 
 -- a stream that is opened among some frames is opened by one of them
-opening-within : (stream opening low : ℕ) (state : PassState) (frames : List Frame) → IsOrderlyFrom low frames → (state.streams stream).life.opened ≡ None
+opening-within : (stream opening low : ℕ) (state : PassState) (frames : List Frame) → IsOrderlyFrom low frames
+    → (state.streams stream).life.opened ≡ None
     → ((state_from state frames).streams stream).life.opened ≡ Some opening → low ≤ opening
 opening-within stream opening low state [] h none last = absurd (none-some opening (sym none ∙ last))
 opening-within stream opening low state (frame ∷ frames) h none last =
@@ -171,11 +183,14 @@ opening-within stream opening low state (frame ∷ frames) h none last =
     (λ (at : ((next state frame).streams stream).life.opened ≡ Some frame.number). opened-stays stream frame.number (next state frame) frames at)
     (λ (at : ((next state frame).streams stream).life.opened ≡ None). opening-within stream opening (frame.number + 1) (next state frame) frames h.2 at last) where
       by_test : (here : Bool)
-          → ((next state frame).streams stream).life.opened ≡ (if here then Some frame.number else (state.streams stream).life.opened)
-          → (((next state frame).streams stream).life.opened ≡ Some frame.number → ((state_from (next state frame) frames).streams stream).life.opened ≡ Some frame.number)
+          → ((next state frame).streams stream).life.opened
+          ≡ (if here then Some frame.number else (state.streams stream).life.opened)
+          → (((next state frame).streams stream).life.opened ≡ Some frame.number
+          → ((state_from (next state frame) frames).streams stream).life.opened ≡ Some frame.number)
           → (((next state frame).streams stream).life.opened ≡ None → frame.number + 1 ≤ opening)
           → low ≤ opening
-      by_test true at stays later = let same : frame.number ≡ opening = same_Some frame.number opening (sym (stays at) ∙ last) in omega (arith, h.0)
+      by_test true at stays later =
+          let same : frame.number ≡ opening = same_Some frame.number opening (sym (stays at) ∙ last) in omega (arith, h.0)
       by_test false at stays later = omega (arith, h.0, later (at ∙ none))
 
 -- what a live window's credit is, where the stream was not opened before the frames
@@ -183,9 +198,11 @@ abbrev IsSumSince : Side → (stream opening : ℕ) → PassState → List Frame
 IsSumSince d stream opening state frames credit =
     credit ≡ stream_credit_sum (side_of d (state_from state frames).in_force.initial) d stream opening frames
 
-window-is_sum : (d : Side) (stream opening low : ℕ) (state : PassState) (frames : List Frame) (credit : ℤ) → IsOrderlyFrom low frames
+window-is_sum : (d : Side) (stream opening low : ℕ) (state : PassState) (frames : List Frame) (credit : ℤ)
+    → IsOrderlyFrom low frames
     → (state.streams stream).life.opened ≡ None → ((state_from state frames).streams stream).life.opened ≡ Some opening
-    → side_of d ((state_from state frames).streams stream).window ≡ Some credit → IsSumSince d stream opening state frames credit
+    → side_of d ((state_from state frames).streams stream).window ≡ Some credit
+    → IsSumSince d stream opening state frames credit
 window-is_sum d stream opening low state [] credit h none opened last = absurd (none-some opening (sym none ∙ opened))
 window-is_sum d stream opening low state (frame ∷ frames) credit h none opened last =
     by_test (opens stream (state.streams stream) (step_of state.in_force frame stream)) refl (opened-next stream state frame) (window-next d stream state frame)
@@ -202,7 +219,8 @@ window-is_sum d stream opening low state (frame ∷ frames) credit h none opened
           let counts_nothing = step-opening stream state.in_force frame (state.streams stream) here in
           let counts = window-counts d stream frame.number (next state frame) frames _ credit at (now ∙ live) last in
           let unchanged : side_of d (next state frame).in_force.initial ≡ side_of d state.in_force.initial =
-          initial-next d state frame ∙ ap (λ change. new_initial change d (side_of d state.in_force.initial)) (opening-change state frame counts_nothing) in
+          initial-next d state frame
+          ∙ ap (λ change. new_initial change d (side_of d state.in_force.initial)) (opening-change state frame counts_nothing) in
           let all : since opening (frame ∷ frames) ≡ frame ∷ frames =
           since-all opening frame.number (frame ∷ frames) (omega (arith, same)) (omega arith, h.1, h.2) in
           rw all (omega (
@@ -217,11 +235,13 @@ window-is_sum d stream opening low state (frame ∷ frames) credit h none opened
           ))
 
       by_test : (here : Bool) → opens stream (state.streams stream) (step_of state.in_force frame stream) ≡ here
-          → ((next state frame).streams stream).life.opened ≡ (if here then Some frame.number else (state.streams stream).life.opened)
+          → ((next state frame).streams stream).life.opened
+          ≡ (if here then Some frame.number else (state.streams stream).life.opened)
           → side_of d ((next state frame).streams stream).window
           ≡ (if here then window_at_opening d stream state.in_force.initial (step_of state.in_force frame stream)
           else window_after d stream state.in_force.initial (step_of state.in_force frame stream) (side_of d (state.streams stream).window))
-          → (((next state frame).streams stream).life.opened ≡ None → IsSumSince d stream opening (next state frame) frames credit)
+          → (((next state frame).streams stream).life.opened ≡ None
+          → IsSumSince d stream opening (next state frame) frames credit)
           → IsSumSince d stream opening state (frame ∷ frames) credit
       by_test true here at now later =
           begun here at (same_Some frame.number opening (sym (opened-stays stream frame.number (next state frame) frames at) ∙ opened)) _ now

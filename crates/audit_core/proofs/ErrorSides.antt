@@ -84,20 +84,24 @@ module _ (sender : Side) where
   }
 
   -- what is said of the sender
-  of-sender : (kind : Kind) (number stream : ℕ) (value : ℤ) (holds : Bool) → stream < 2 ^ 31 → error_side sender (rank_of kind) ≡ sender →
+  of-sender : (kind : Kind) (number stream : ℕ) (value : ℤ) (holds : Bool) → stream < 2 ^ 31 →
+      error_side sender (rank_of kind) ≡ sender →
       AreOf sender (say holds (finding_at kind number stream sender value))
   of-sender kind number stream value holds h e = of-say kind number stream sender value holds h (λ _ _. sym e)
 
   -- what is no error of the connection
-  of-quiet : (kind : Kind) (number stream : ℕ) (side : Side) (value : ℤ) (holds : Bool) → stream < 2 ^ 31 → nat_le (rank_of kind) 12 ≡ false →
+  of-quiet : (kind : Kind) (number stream : ℕ) (side : Side) (value : ℤ) (holds : Bool) → stream < 2 ^ 31 →
+      nat_le (rank_of kind) 12 ≡ false →
       AreOf sender (say holds (finding_at kind number stream side value))
   of-quiet kind number stream side value holds h e = of-say kind number stream side value holds h (λ p _. cc)
 
-  of-say_of : {A : Type 0} (f : A → List Finding) (o : Option A) → ((a : A) → AreOf sender (f a)) → AreOf sender (say_of f o)
+  of-say_of : {A : Type 0} (f : A → List Finding) (o : Option A) → ((a : A) → AreOf sender (f a)) →
+      AreOf sender (say_of f o)
   of-say_of f None h = of-nil
   of-say_of f (Some a) h = h a
 
-  of-choice : (b : Bool) (xs ys : List Finding) → AreOf sender xs → AreOf sender ys → AreOf sender (if b then xs else ys)
+  of-choice : (b : Bool) (xs ys : List Finding) → AreOf sender xs → AreOf sender ys →
+      AreOf sender (if b then xs else ys)
   of-choice true xs ys p q = p
   of-choice false xs ys p q = q
 
@@ -115,7 +119,8 @@ module _ (frame : Frame) (h : frame.stream < 2 ^ 31) where
   of-reading_fault : (kind : Kind) (value : ℕ) → AreOf frame.side (reading_fault kind frame value)
   of-reading_fault WrongSize value = of-sender frame.side WrongSize frame.number frame.stream (pos value) true h refl
   of-reading_fault BadPadding value = of-sender frame.side BadPadding frame.number frame.stream (pos value) true h refl
-  of-reading_fault BadPriority value = of-sender frame.side BadPriority frame.number frame.stream (pos value) true h refl
+  of-reading_fault BadPriority value =
+      of-sender frame.side BadPriority frame.number frame.stream (pos value) true h refl
   of-reading_fault _ value = of-nil frame.side
 
   of-body : (body : Body) → AreOf frame.side (body_said frame body)
@@ -139,13 +144,15 @@ module _ (frame : Frame) (h : frame.stream < 2 ^ 31) where
     step false = of-sender frame.side LongFrame frame.number frame.stream _ _ h refl
 
   -- 0 is granted by the sender
-  of-zero_grant : (d : Side) → AreOf frame.side (say (grants_nothing d 0 frame) (finding_at ZeroConnectionGrant frame.number 0 (other d) (pos 0)))
+  of-zero_grant : (d : Side) →
+      AreOf frame.side (say (grants_nothing d 0 frame) (finding_at ZeroConnectionGrant frame.number 0 (other d) (pos 0)))
   of-zero_grant d =
       of-say frame.side ZeroConnectionGrant frame.number 0 (other d) (pos 0) (grants_nothing d 0 frame) zero-small
       (λ _ e. same_side (other d) frame.side (and_parts _ _ (and_parts _ _ e).0).0)
 
   -- a connection window rises only by a grant of the sender to the other endpoint
-  granted-side : (d : Side) (before : ℤ) (b : Bool) → is_side (other d) frame.side ≡ b → overflows before (credit_after d before frame) ≡ true →
+  granted-side : (d : Side) (before : ℤ) (b : Bool) → is_side (other d) frame.side ≡ b →
+      overflows before (credit_after d before frame) ≡ true →
       d ≡ other frame.side
   granted-side d before true e o = other_side d frame.side e
   granted-side d before false e o =
@@ -164,7 +171,8 @@ module _ (frame : Frame) (h : frame.stream < 2 ^ 31) where
   of-connection_windows credit =
       of-append frame.side _ _ (of-connection_window Client credit.client) (of-connection_window Server credit.server)
 
-of-connection : (now : ConnectionState) (item : Item) → IsInRange item.frame → AreOf item.frame.side (connection_said now item)
+of-connection : (now : ConnectionState) (item : Item) → IsInRange item.frame →
+    AreOf item.frame.side (connection_said now item)
 of-connection now item h =
     let own = h.stream in
     let promised = h.promised in
@@ -192,11 +200,13 @@ module _ (now : InForce) (initial : Sides ℕ) (entry : Stream) (frame : Frame) 
   change-ack true e c = e
   change-ack false e c = let k : is_some (change_of now frame) ≡ false = rw e refl in cc
 
-  no_amount : (amount : Frame → ℕ) (b : Bool) → amount frame ≡ 0 → option_map_or amount (if b then Some frame else None) 0 ≡ 0
+  no_amount : (amount : Frame → ℕ) (b : Bool) → amount frame ≡ 0 →
+      option_map_or amount (if b then Some frame else None) 0 ≡ 0
   no_amount amount true e = e
   no_amount amount false e = refl
 
-  same_initial : (d : Side) (o : Option Settings) (before : ℕ) → is_side d frame.side ≡ false → new_initial (change_taking frame o) d before ≡ before
+  same_initial : (d : Side) (o : Option Settings) (before : ℕ) → is_side d frame.side ≡ false →
+      new_initial (change_taking frame o) d before ≡ before
   same_initial d None before e = refl
   same_initial d (Some settings) before e = rw e refl
 
@@ -218,7 +228,8 @@ module _ (now : InForce) (initial : Sides ℕ) (entry : Stream) (frame : Frame) 
       let above : int_lt before (counted d stream initial (step_of now frame stream) before) ≡ true = (and_parts _ _ (and_parts _ _ o).1).0 in
       absurd (not_below before (ap (int_lt before) (sym same) ∙ above))
 
-  of-live_window : (d : Side) (before : ℤ) → AreOf frame.side (live_window_said d stream (step_of now frame stream) (window_step d stream initial (step_of now frame stream) before))
+  of-live_window : (d : Side) (before : ℤ) →
+      AreOf frame.side (live_window_said d stream (step_of now frame stream) (window_step d stream initial (step_of now frame stream) before))
   of-live_window d before =
       of-append frame.side _ _
       (of-append frame.side _ _
@@ -232,18 +243,21 @@ module _ (now : InForce) (initial : Sides ℕ) (entry : Stream) (frame : Frame) 
       (of-quiet frame.side StreamStallBegin frame.number stream d _ _ h refl))
       (of-quiet frame.side StreamCredit frame.number stream d _ _ h refl)
 
-  of-opened_window : (d : Side) (credit : ℤ) → AreOf frame.side (opened_window_said d stream (step_of now frame stream) credit)
+  of-opened_window : (d : Side) (credit : ℤ) →
+      AreOf frame.side (opened_window_said d stream (step_of now frame stream) credit)
   of-opened_window d credit =
       of-append frame.side _ _ (of-quiet frame.side StreamStallBegin frame.number stream d credit _ h refl)
       (of-quiet frame.side StreamCredit frame.number stream d credit true h refl)
 
-  of-stream_window : (d : Side) → AreOf frame.side (stream_window_said d stream initial entry (step_of now frame stream))
+  of-stream_window : (d : Side) →
+      AreOf frame.side (stream_window_said d stream initial entry (step_of now frame stream))
   of-stream_window d =
       of-choice frame.side (opens stream entry (step_of now frame stream)) _ _
       (of-say_of frame.side _ (window_at_opening d stream initial (step_of now frame stream)) (of-opened_window d))
       (of-say_of frame.side _ (side_of d entry.window) (of-live_window d))
 
-  of-frame : (b : Bool) → AreOf frame.side (say_of (frame_said stream entry (step_of now frame stream)) (if b then Some frame else None))
+  of-frame : (b : Bool) →
+      AreOf frame.side (say_of (frame_said stream entry (step_of now frame stream)) (if b then Some frame else None))
   of-frame true = search (of-append, of-sender, h) depth 12
   of-frame false = of-nil frame.side
 
@@ -251,7 +265,8 @@ module _ (now : InForce) (initial : Sides ℕ) (entry : Stream) (frame : Frame) 
   of-stream =
       of-append frame.side _ _ (of-append frame.side _ _ (of-frame (meets stream frame)) (of-stream_window Client)) (of-stream_window Server)
 
-of-streams : (streams : List ℕ) (state : PassState) (frame : Frame) → AreStreams streams → AreOf frame.side (streams_said streams state frame)
+of-streams : (streams : List ℕ) (state : PassState) (frame : Frame) → AreStreams streams →
+    AreOf frame.side (streams_said streams state frame)
 of-streams [] state frame h = of-nil frame.side
 of-streams (stream ∷ streams) state frame h =
     of-append frame.side _ _
@@ -260,14 +275,15 @@ of-streams (stream ∷ streams) state frame h =
 
 of-said : (streams : List ℕ) (state : PassState) (frame : Frame) → AreStreams streams → IsInRange frame →
     AllByRecursion (IsOf frame.side) (said streams state frame)
-of-said streams state frame small h = all-ordered (IsOf frame.side) comes_after (rows_of streams state frame) rows.all where
-  rows : AreOf frame.side (rows_of streams state frame)
-  rows =
-      of-append frame.side _ _
-      (of-append frame.side _ _
-      (of-append frame.side _ _ (of-local frame h.stream (side_of frame.side state.previous)) (of-settings frame h.stream state.in_force))
-      (of-connection state.connection (item_of state frame) h))
-      (of-streams streams state frame small)
+of-said streams state frame small h =
+    all-ordered (IsOf frame.side) comes_after (rows_of streams state frame) rows.all where
+      rows : AreOf frame.side (rows_of streams state frame)
+      rows =
+          of-append frame.side _ _
+          (of-append frame.side _ _
+          (of-append frame.side _ _ (of-local frame h.stream (side_of frame.side state.previous)) (of-settings frame h.stream state.in_force))
+          (of-connection state.connection (item_of state frame) h))
+          (of-streams streams state frame small)
 
 -- two errors at one place would be of one endpoint
 errors-apart : (sender : Side) (x y : Finding) → IsOf sender x → IsOf sender y → AreApart x y → AreApartAsErrors x y

@@ -42,7 +42,8 @@ any on low high xs h = rows-wider on Any low high low high (λ s p. tt) (omega a
 -- what is said of a frame by itself
 module _ (frame : Frame) (h : frame.stream < 2 ^ 31) where
   -- a row that is said of the frame's sender
-  said : (kind : Kind) (value : ℤ) (holds : Bool) (row : ℕ) → row_at Client (rank_of kind) ≡ row → row_at Server (rank_of kind) ≡ row →
+  said : (kind : Kind) (value : ℤ) (holds : Bool) (row : ℕ) → row_at Client (rank_of kind) ≡ row →
+      row_at Server (rank_of kind) ≡ row →
       AreRows (Only frame.stream) row (row + 1) (say holds (finding_at kind frame.number frame.stream frame.side value))
   said kind value holds row p q =
       rows-say kind frame.number frame.stream frame.side value holds row h (row-either (rank_of kind) row p q frame.side)
@@ -61,9 +62,11 @@ module _ (frame : Frame) (h : frame.stream < 2 ^ 31) where
   rows-body _ = rows-nil _ 3 4
 
   -- a push of the client, and one of the server
-  rows-client_push : (code : Bool) → AreRows (Only frame.stream) 4 5 (say (code && is_side Client frame.side) (fault Push frame 0))
+  rows-client_push : (code : Bool) →
+      AreRows (Only frame.stream) 4 5 (say (code && is_side Client frame.side) (fault Push frame 0))
   rows-client_push code = by_side frame.side where
-    by_side : (side : Side) → AreRows (Only frame.stream) 4 5 (say (code && is_side Client side) (finding_at Push frame.number frame.stream side (pos 0)))
+    by_side : (side : Side) →
+        AreRows (Only frame.stream) 4 5 (say (code && is_side Client side) (finding_at Push frame.number frame.stream side (pos 0)))
     by_side Client = rows-say Push frame.number frame.stream Client (pos 0) _ 4 h refl
     by_side Server = rw and-false (rows-nil _ 4 5)
 
@@ -152,13 +155,16 @@ module _ (item : Item) (h : IsInRange item.frame) where
   no-opening : (opened : ℕ) → is_headers item.frame.body ≡ false → opening_order_said opened item ≡ []
   no-opening opened e = rw (e, and-false) refl
 
-  rows-order : (opened promised : ℕ) → AreRows Any 8 9 (opening_order_said opened item ++ promise_order_said promised item.frame)
+  rows-order : (opened promised : ℕ) →
+      AreRows Any 8 9 (opening_order_said opened item ++ promise_order_said promised item.frame)
   rows-order opened promised = by_headers _ refl where
-    by_headers : (b : Bool) → is_headers item.frame.body ≡ b → AreRows Any 8 9 (opening_order_said opened item ++ promise_order_said promised item.frame)
+    by_headers : (b : Bool) → is_headers item.frame.body ≡ b →
+        AreRows Any 8 9 (opening_order_said opened item ++ promise_order_said promised item.frame)
     by_headers true e = subst (λ l. AreRows Any 8 9 (opening_order_said opened item ++ l))
         (sym (no-promise promised (headers-promise item.frame.body e)))
         (subst (AreRows Any 8 9) (sym (append-nil (opening_order_said opened item))) (rows-opening opened))
-    by_headers false e = subst (λ l. AreRows Any 8 9 (l ++ promise_order_said promised item.frame)) (sym (no-opening opened e)) (rows-promise promised)
+    by_headers false e =
+        subst (λ l. AreRows Any 8 9 (l ++ promise_order_said promised item.frame)) (sym (no-opening opened e)) (rows-promise promised)
 
   rows-connection : (now : ConnectionState) → AreRows Any 6 21 (connection_said now item)
   rows-connection now =
@@ -178,7 +184,8 @@ module _ (stream : ℕ) (initial : Sides ℕ) (entry : Stream) (step : Step) (h 
       AreRows (Only stream) row (row + 1) (say holds (finding_at kind step.number stream d value))
   of_side d kind value holds row e = rows-say kind step.number stream d value holds row h e
 
-  of_sender : (d : Side) (kind : Kind) (value : ℤ) (holds : Bool) (row : ℕ) → row_at Client (rank_of kind) ≡ row → row_at Server (rank_of kind) ≡ row →
+  of_sender : (d : Side) (kind : Kind) (value : ℤ) (holds : Bool) (row : ℕ) → row_at Client (rank_of kind) ≡ row →
+      row_at Server (rank_of kind) ≡ row →
       AreRows (Only stream) row (row + 1) (say holds (finding_at kind step.number stream d value))
   of_sender d kind value holds row p q = of_side d kind value holds row (row-either (rank_of kind) row p q d)
 
@@ -239,7 +246,8 @@ streams-apart stream low high x y p q e s = q.stream (sym p.stream ∙ ap place_
 
 -- what is said of streams that are all different, each of this sort
 module _ (state : PassState) (frame : Frame) where
-  rows-streams : (on : ℕ → Type 0) (streams : List ℕ) → AreStreams streams → AreDistinct streams → AllByRecursion on streams →
+  rows-streams : (on : ℕ → Type 0) (streams : List ℕ) → AreStreams streams → AreDistinct streams →
+      AllByRecursion on streams →
       AreRows on 21 36 (streams_said streams state frame)
   rows-streams on [] h d all = rows-nil on 21 36
   rows-streams on (stream ∷ streams) h d all =
@@ -259,7 +267,8 @@ all-any [] = tt
 all-any (stream ∷ streams) = (tt, all-any streams)
 
 -- no two findings at a frame share place and side
-pub rows-apart-at : (streams : List ℕ) (state : PassState) (frame : Frame) → AreStreams streams → AreDistinct streams → IsInRange frame →
+pub rows-apart-at : (streams : List ℕ) (state : PassState) (frame : Frame) → AreStreams streams → AreDistinct streams →
+    IsInRange frame →
     StandApart (rows_of streams state frame)
 rows-apart-at streams state frame small distinct h = all.apart where
   all : AreRows Any 0 36 (rows_of streams state frame)

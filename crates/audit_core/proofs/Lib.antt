@@ -5,6 +5,7 @@ pub mod PassRows
 pub mod OrderlyRest
 pub mod Meetings
 pub mod CreditLemmas
+pub mod LiveWindows
 pub mod StreamSteps
 pub mod StreamAlone
 pub mod PartsLemmas
@@ -20,4 +21,5 @@ pub mod Pairs
 pub mod TableRows
 pub mod FrameRows
 pub mod Apart
+pub mod JoinedSteps
 pub mod ErrorSides

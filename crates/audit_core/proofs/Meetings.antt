@@ -1,4 +1,5 @@
--- How a stream meets a frame: it is on the stream, or promises it, or does neither; and what the frame that opens a stream is.
+-- How a stream meets a frame: it is on the stream, or promises it, or does neither; and what the frame that opens a
+-- stream is.
 use Rattle.std.proofs.Common.{◌≡◌, ℕ, Bool, true, false, ◌&&◌, ◌||◌, ◌==◌, if◌then◌else◌, ◌%◌, Some, None, is_none, refl, sym}
 use Rattle.std.specs.Option.{option_map_or}
 use Rattle.audit_terms.specs.declared.sides.Side.{Side}
@@ -79,7 +80,8 @@ opening-by true true promised e n = cc
 opening-by true false promised e n = e
 opening-by false headers promised e n = e
 
-pub opening-counts : (stream : ℕ) (life : StreamLife) (frame : Frame) → is_opening stream life frame ≡ true → CountsNothing frame.body
+pub opening-counts : (stream : ℕ) (life : StreamLife) (frame : Frame) → is_opening stream life frame ≡ true
+    → CountsNothing frame.body
 opening-counts stream life frame e = by_headers (is_client_headers frame) refl where
   by_headers : (b : Bool) → is_client_headers frame ≡ b → CountsNothing frame.body
   by_headers true h = headers-count frame.body (and-right (is_side Client frame.side) _ h)
@@ -101,7 +103,8 @@ module _ (stream : ℕ) (now : InForce) (frame : Frame) where
   pub step-content : (d : Side) → step_amount (content_by d) (step_of now frame stream) ≡ content_on d stream frame
   step-content d = by_tests (frame.stream == stream) (promises stream frame) refl where
     by_tests : (on promised : Bool) → promises stream frame ≡ promised
-        → option_map_or (content_by d) (if on || promised then Some frame else None) 0 ≡ (if on then content_by d frame else 0)
+        → option_map_or (content_by d) (if on || promised then Some frame else None) 0
+        ≡ (if on then content_by d frame else 0)
     by_tests true promised e = refl
     by_tests false true e = rw ((promised-counts stream frame e).content, and-false) refl
     by_tests false false e = refl
@@ -109,7 +112,9 @@ module _ (stream : ℕ) (now : InForce) (frame : Frame) where
   -- a step that opens the stream counts nothing
   pub step-opening : (entry : Stream) → opens stream entry (step_of now frame stream) ≡ true → CountsNothing frame.body
   step-opening entry = by_test (meets stream frame) where
-    by_test : (met : Bool) → option_map_or (is_opening stream entry.life) (if met then Some frame else None) false ≡ true → CountsNothing frame.body
+    by_test : (met : Bool)
+        → option_map_or (is_opening stream entry.life) (if met then Some frame else None) false ≡ true
+        → CountsNothing frame.body
     by_test true e = opening-counts stream entry.life frame e
     by_test false e = cc
 
@@ -117,7 +122,8 @@ module _ (stream : ℕ) (now : InForce) (frame : Frame) where
   pub step-opened : (entry : Stream) → (life_at stream entry (step_of now frame stream)).opened
       ≡ (if opens stream entry (step_of now frame stream) then Some frame.number else entry.life.opened)
   step-opened entry = by_test (meets stream frame) where
-    by_test : (met : Bool) → (option_map_or (life_after stream entry.life) (if met then Some frame else None) entry.life).opened
+    by_test : (met : Bool)
+        → (option_map_or (life_after stream entry.life) (if met then Some frame else None) entry.life).opened
         ≡ (if option_map_or (is_opening stream entry.life) (if met then Some frame else None) false then Some frame.number else entry.life.opened)
     by_test true = refl
     by_test false = refl

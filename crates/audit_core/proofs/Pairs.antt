@@ -9,10 +9,12 @@ module _ {X : Type 0} (P : X → Type 0) where
   all-append [] ys p q = q
   all-append (x ∷ xs) ys p q = (p.0, all-append xs ys p.1 q)
 
-  pub all-put : (after : X → X → Bool) (x : X) (ys : List X) → P x → AllByRecursion P ys → AllByRecursion P (put_by after x ys)
+  pub all-put : (after : X → X → Bool) (x : X) (ys : List X) → P x → AllByRecursion P ys →
+      AllByRecursion P (put_by after x ys)
   all-put after x [] p q = (p, tt)
   all-put after x (y ∷ ys) p q = step _ refl (all-put after x ys p q.1) where
-    step : (b : Bool) → after x y ≡ b → AllByRecursion P (put_by after x ys) → AllByRecursion P (put_by after x (y ∷ ys))
+    step : (b : Bool) → after x y ≡ b → AllByRecursion P (put_by after x ys) →
+        AllByRecursion P (put_by after x (y ∷ ys))
     step true e ih = rw e (q.0, ih)
     step false e ih = rw e (p, q)
 
@@ -20,7 +22,8 @@ module _ {X : Type 0} (P : X → Type 0) where
   all-ordered after [] p = tt
   all-ordered after (x ∷ xs) p = all-put after x (ordered_by after xs) p.0 (all-ordered after xs p.1)
 
-pub all-map : {X : Type 0} (P Q : X → Type 0) → ((x : X) → P x → Q x) → (xs : List X) → AllByRecursion P xs → AllByRecursion Q xs
+pub all-map : {X : Type 0} (P Q : X → Type 0) → ((x : X) → P x → Q x) → (xs : List X) → AllByRecursion P xs →
+    AllByRecursion Q xs
 all-map P Q f [] h = tt
 all-map P Q f (x ∷ xs) h = (f x h.0, all-map P Q f xs h.1)
 
@@ -32,7 +35,8 @@ module _ {X : Type 0} (R : X → X → Type 0) where
   -- where the one is of one sort and the other of another
   pub across-by : (P Q : X → Type 0) → ((x y : X) → P x → Q y → R x y) → (xs ys : List X) →
       AllByRecursion P xs → AllByRecursion Q ys → Across xs ys
-  across-by P Q f xs ys p q = all-map P (λ x. AllByRecursion (R x) ys) (λ x px. all-map Q (R x) (λ y qy. f x y px qy) ys q) xs p
+  across-by P Q f xs ys p q =
+      all-map P (λ x. AllByRecursion (R x) ys) (λ x px. all-map Q (R x) (λ y qy. f x y px qy) ys q) xs p
 
   pub pairs-append : (xs ys : List X) → EachPair R xs → EachPair R ys → Across xs ys → EachPair R (xs ++ ys)
   pairs-append [] ys p q r = q

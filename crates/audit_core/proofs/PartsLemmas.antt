@@ -34,13 +34,15 @@ same_right us xs ys h = in_order-alike us us xs ys refl h
 crosswise : (a b c d : List Finding) → Same ((a ++ b) ++ (c ++ d)) ((a ++ c) ++ (b ++ d))
 crosswise a b c d =
     let inner : Same (b ++ (c ++ d)) (c ++ (b ++ d)) =
-    ap in_order (sym (append_assoc b c d)) ∙ same_left (b ++ c) (c ++ b) d (in_order-append_comm b c) ∙ ap in_order (append_assoc c b d) in
+    ap in_order (sym (append_assoc b c d)) ∙ same_left (b ++ c) (c ++ b) d (in_order-append_comm b c)
+    ∙ ap in_order (append_assoc c b d) in
     ap in_order (append_assoc a b (c ++ d)) ∙ same_right a _ _ inner ∙ ap in_order (sym (append_assoc a c (b ++ d)))
 
 -- the last two of three lists change places
 last_two : (a b c : List Finding) → Same ((a ++ b) ++ c) ((a ++ c) ++ b)
 last_two a b c =
-    ap in_order (append_assoc a b c) ∙ same_right a (b ++ c) (c ++ b) (in_order-append_comm b c) ∙ ap in_order (sym (append_assoc a c b))
+    ap in_order (append_assoc a b c) ∙ same_right a (b ++ c) (c ++ b) (in_order-append_comm b c)
+    ∙ ap in_order (sym (append_assoc a c b))
 
 -- what some streams show together, and each after the other
 streams-apart : (f g : ℕ → List Finding) (streams : List ℕ)
@@ -76,7 +78,8 @@ nothing_of : (streams : List ℕ) → flat_map no_findings streams ≡ []
 nothing_of [] = refl
 nothing_of (s ∷ streams) = nothing_of streams
 
-full-sorts : (streams : List ℕ) (state : PassState) (frames : List Frame) → Same (full_from streams state frames) (sorts_from streams state frames)
+full-sorts : (streams : List ℕ) (state : PassState) (frames : List Frame)
+    → Same (full_from streams state frames) (sorts_from streams state frames)
 full-sorts streams state [] = ap in_order (sym (append-nil _ ∙ nothing_of streams))
 full-sorts streams state (frame ∷ frames) =
     let l = local_said (side_of frame.side state.previous) frame in
@@ -101,19 +104,23 @@ full-sorts streams state (frame ∷ frames) =
     (same_left c (in_order c) cr (sym (in_order-in_order c)))
 
 -- blocks, one after the other, are one block
-block_run-append : (now : ConnectionState) (xs ys : List Item) → block_run now (xs ++ ys) ≡ block_run now xs ++ block_run (connection_after_all now xs) ys
+block_run-append : (now : ConnectionState) (xs ys : List Item)
+    → block_run now (xs ++ ys) ≡ block_run now xs ++ block_run (connection_after_all now xs) ys
 block_run-append now [] ys = refl
 block_run-append now (x ∷ xs) ys =
-    ap (λ l. in_order (connection_said now x) ++ l) (block_run-append (connection_after now x) xs ys) ∙ sym (append_assoc (in_order (connection_said now x)) _ _)
+    ap (λ l. in_order (connection_said now x) ++ l) (block_run-append (connection_after now x) xs ys)
+    ∙ sym (append_assoc (in_order (connection_said now x)) _ _)
 
-block_runs-joined : (now : ConnectionState) (blocks : List (List Item)) → block_runs now blocks ≡ block_run now (joined blocks)
+block_runs-joined : (now : ConnectionState) (blocks : List (List Item))
+    → block_runs now blocks ≡ block_run now (joined blocks)
 block_runs-joined now [] = refl
 block_runs-joined now (block ∷ blocks) =
     ap (λ l. block_run now block ++ l) (block_runs-joined (connection_after_all now block) blocks)
     ∙ sym (block_run-append now block (joined blocks))
 
 -- groups, one after the other, are one group
-groups-joined : (frames : List Frame) (groups : List (List ℕ)) → flat_map (group_run frames) groups ≡ group_run frames (joined groups)
+groups-joined : (frames : List Frame) (groups : List (List ℕ))
+    → flat_map (group_run frames) groups ≡ group_run frames (joined groups)
 groups-joined frames [] = refl
 groups-joined frames (group ∷ groups) =
     ap (λ l. group_run frames group ++ l) (groups-joined frames groups)

@@ -37,7 +37,8 @@ AreWithin low high (x ∷ xs) = (low ≤ x.place) × (x.place < high) × AreWith
 pub record AreAt (number : ℕ) (xs : List Finding) : Type 0 where
   pub within : AreWithin (number * 2 ^ 36) (number * 2 ^ 36 + 2 ^ 36) xs
 
-within-append : (low high : ℕ) (xs ys : List Finding) → AreWithin low high xs → AreWithin low high ys → AreWithin low high (xs ++ ys)
+within-append : (low high : ℕ) (xs ys : List Finding) → AreWithin low high xs → AreWithin low high ys →
+    AreWithin low high (xs ++ ys)
 within-append low high [] ys p q = q
 within-append low high (x ∷ xs) ys p q = (p.0, p.1, within-append low high xs ys p.2 q)
 
@@ -48,7 +49,8 @@ within-put : (low high : ℕ) (x : Finding) (xs : List Finding) → low ≤ x.pl
     AreWithin low high (put_by comes_after x xs)
 within-put low high x [] p q h = (p, q, tt)
 within-put low high x (y ∷ ys) p q h = step _ refl (within-put low high x ys p q h.2) where
-  step : (b : Bool) → comes_after x y ≡ b → AreWithin low high (put_by comes_after x ys) → AreWithin low high (put_by comes_after x (y ∷ ys))
+  step : (b : Bool) → comes_after x y ≡ b → AreWithin low high (put_by comes_after x ys) →
+      AreWithin low high (put_by comes_after x (y ∷ ys))
   step true e ih = rw e (h.0, h.1, ih)
   step false e ih = rw e (p, q, h)
 
@@ -62,7 +64,8 @@ at-in_order n xs h = record { within = within-in_order _ _ xs h.within }
 pub at-nil : (n : ℕ) → AreAt n []
 at-nil n = record { within = tt }
 
-at-cons : (n : ℕ) (x : Finding) (xs : List Finding) → n * 2 ^ 36 ≤ x.place → x.place < n * 2 ^ 36 + 2 ^ 36 → AreAt n xs → AreAt n (x ∷ xs)
+at-cons : (n : ℕ) (x : Finding) (xs : List Finding) → n * 2 ^ 36 ≤ x.place → x.place < n * 2 ^ 36 + 2 ^ 36 →
+    AreAt n xs → AreAt n (x ∷ xs)
 at-cons n x xs p q h = record { within = (p, q, h.within) }
 
 pub rank-small : (kind : Kind) → rank_of kind ≤ 26
@@ -94,7 +97,8 @@ rank-small StreamStallBegin = lit≤ tt
 rank-small ConnectionCredit = lit≤ tt
 rank-small StreamCredit = lit≤ tt
 
-pub at-finding : (kind : Kind) (n stream : ℕ) (side : Side) (value : ℤ) (xs : List Finding) → stream < 2 ^ 31 → AreAt n xs →
+pub at-finding : (kind : Kind) (n stream : ℕ) (side : Side) (value : ℤ) (xs : List Finding) → stream < 2 ^ 31 →
+    AreAt n xs →
     AreAt n (finding_at kind n stream side value ∷ xs)
 at-finding kind n stream side value xs h rest =
     let r = rank-small kind in at-cons n (finding_at kind n stream side value) xs (omega arith) (omega arith) rest
@@ -105,7 +109,8 @@ pub at-say : (kind : Kind) (n stream : ℕ) (side : Side) (value : ℤ) (holds :
 at-say kind n stream side value true h = at-finding kind n stream side value [] h (at-nil n)
 at-say kind n stream side value false h = at-nil n
 
-pub at-say_of : {A : Type 0} (n : ℕ) (f : A → List Finding) (o : Option A) → ((a : A) → AreAt n (f a)) → AreAt n (say_of f o)
+pub at-say_of : {A : Type 0} (n : ℕ) (f : A → List Finding) (o : Option A) → ((a : A) → AreAt n (f a)) →
+    AreAt n (say_of f o)
 at-say_of n f None h = at-nil n
 at-say_of n f (Some a) h = h a
 
@@ -119,9 +124,12 @@ zero-small = omega arith
 -- what is said of a frame by itself
 module _ (frame : Frame) (h : frame.stream < 2 ^ 31) where
   at-reading_fault : (kind : Kind) (value : ℕ) → AreAt frame.number (reading_fault kind frame value)
-  at-reading_fault WrongSize value = at-finding WrongSize frame.number frame.stream frame.side (pos value) [] h (at-nil _)
-  at-reading_fault BadPadding value = at-finding BadPadding frame.number frame.stream frame.side (pos value) [] h (at-nil _)
-  at-reading_fault BadPriority value = at-finding BadPriority frame.number frame.stream frame.side (pos value) [] h (at-nil _)
+  at-reading_fault WrongSize value =
+      at-finding WrongSize frame.number frame.stream frame.side (pos value) [] h (at-nil _)
+  at-reading_fault BadPadding value =
+      at-finding BadPadding frame.number frame.stream frame.side (pos value) [] h (at-nil _)
+  at-reading_fault BadPriority value =
+      at-finding BadPriority frame.number frame.stream frame.side (pos value) [] h (at-nil _)
   at-reading_fault _ value = at-nil _
 
   at-body : (body : Body) → AreAt frame.number (body_said frame body)
@@ -141,9 +149,11 @@ module _ (frame : Frame) (h : frame.stream < 2 ^ 31) where
   at-connection_window d before = search (at-append, at-say, zero-small) depth 12
 
   pub at-connection_windows : (credit : Sides ℤ) → AreAt frame.number (connection_windows_said credit frame)
-  at-connection_windows credit = at-append frame.number _ _ (at-connection_window Client credit.client) (at-connection_window Server credit.server)
+  at-connection_windows credit =
+      at-append frame.number _ _ (at-connection_window Client credit.client) (at-connection_window Server credit.server)
 
-pub at-connection : (now : ConnectionState) (item : Item) → IsInRange item.frame → AreAt item.frame.number (connection_said now item)
+pub at-connection : (now : ConnectionState) (item : Item) → IsInRange item.frame →
+    AreAt item.frame.number (connection_said now item)
 at-connection now item h =
     let own = h.stream in
     let promised = h.promised in
@@ -171,7 +181,8 @@ abbrev pub AreStreams : List ℕ → Type 0
 AreStreams [] = Unit {0}
 AreStreams (stream ∷ streams) = (stream < 2 ^ 31) × AreStreams streams
 
-pub at-streams : (streams : List ℕ) (state : PassState) (frame : Frame) → AreStreams streams → AreAt frame.number (streams_said streams state frame)
+pub at-streams : (streams : List ℕ) (state : PassState) (frame : Frame) → AreStreams streams →
+    AreAt frame.number (streams_said streams state frame)
 at-streams [] state frame h = at-nil _
 at-streams (stream ∷ streams) state frame h =
     at-append frame.number _ _
@@ -202,7 +213,8 @@ abbrev pub AreFrom : (number : ℕ) → List Finding → Type 0
 AreFrom number [] = Unit {0}
 AreFrom number (x ∷ xs) = (number * 2 ^ 36 ≤ x.place) × AreFrom number xs
 
-pub from-at : (low n : ℕ) (xs : List Finding) → low ≤ n → AreWithin (n * 2 ^ 36) (n * 2 ^ 36 + 2 ^ 36) xs → AreFrom low xs
+pub from-at : (low n : ℕ) (xs : List Finding) → low ≤ n → AreWithin (n * 2 ^ 36) (n * 2 ^ 36 + 2 ^ 36) xs →
+    AreFrom low xs
 from-at low n [] p h = tt
 from-at low n (x ∷ xs) p h = (omega arith, from-at low n xs p h.2)
 
@@ -224,12 +236,14 @@ none_before-from n x [] p h = tt
 none_before-from n x (y ∷ ys) p h = (comes_after-below x y (omega arith), none_before-from n x ys p h.1)
 
 -- what is at a number stands before all from the next number on
-pub precedes-at : (n : ℕ) (xs ys : List Finding) → AreWithin (n * 2 ^ 36) (n * 2 ^ 36 + 2 ^ 36) xs → AreFrom (n + 1) ys →
+pub precedes-at : (n : ℕ) (xs ys : List Finding) → AreWithin (n * 2 ^ 36) (n * 2 ^ 36 + 2 ^ 36) xs →
+    AreFrom (n + 1) ys →
     Precedes comes_after comes_after_is xs ys
 precedes-at n [] ys p h = tt
 precedes-at n (x ∷ xs) ys p h = (none_before-from n x ys p.1 h, precedes-at n xs ys p.2 h)
 
-pub from-full_from : (streams : List ℕ) (state : PassState) (low : ℕ) (frames : List Frame) → AreStreams streams → IsOrderlyFrom low frames →
+pub from-full_from : (streams : List ℕ) (state : PassState) (low : ℕ) (frames : List Frame) → AreStreams streams →
+    IsOrderlyFrom low frames →
     AreFrom low (full_from streams state frames)
 from-full_from streams state low [] small h = tt
 from-full_from streams state low (frame ∷ frames) small h =
@@ -238,7 +252,8 @@ from-full_from streams state low (frame ∷ frames) small h =
     (from-from low (frame.number + 1) _ (omega arith) (from-full_from streams (next state frame) (frame.number + 1) frames small h.2))
 
 -- the whole pass stands in order
-pub in_order-full_from : (streams : List ℕ) (state : PassState) (low : ℕ) (frames : List Frame) → AreStreams streams → IsOrderlyFrom low frames →
+pub in_order-full_from : (streams : List ℕ) (state : PassState) (low : ℕ) (frames : List Frame) → AreStreams streams →
+    IsOrderlyFrom low frames →
     IsInOrder comes_after comes_after_is (full_from streams state frames)
 in_order-full_from streams state low [] small h = tt
 in_order-full_from streams state low (frame ∷ frames) small h =
@@ -255,7 +270,8 @@ streams-filter test (stream ∷ streams) h = step _ refl (streams-filter test st
   step true e ih = rw e (h.0, ih)
   step false e ih = rw e ih
 
-streams-first_of : (stream : ℕ) (streams : List ℕ) → stream < 2 ^ 31 → AreStreams streams → AreStreams (first_of stream streams)
+streams-first_of : (stream : ℕ) (streams : List ℕ) → stream < 2 ^ 31 → AreStreams streams →
+    AreStreams (first_of stream streams)
 streams-first_of stream streams p h = step (stream == 0) where
   step : (b : Bool) → AreStreams (if b then streams else stream ∷ filter (λ other. not (other == stream)) streams)
   step true = h

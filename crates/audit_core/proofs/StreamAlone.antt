@@ -31,13 +31,17 @@ one_step stream number initial entry None None rest later h =
     ap (λ now. stream_run_from stream initial now rest) (sym (stream_after-quiet stream initial number None entry refl))
     ∙ h
     ∙ ap (λ said. in_order said ++ later) (sym (stream_said-quiet stream initial number None entry refl))
-one_step stream number initial entry (Some frame) None rest later h = ap (λ l. in_order (stream_said stream initial entry (record { number = number; frame = Some frame; change = None })) ++ l) h
-one_step stream number initial entry (Some frame) (Some change) rest later h = ap (λ l. in_order (stream_said stream initial entry (record { number = number; frame = Some frame; change = Some change })) ++ l) h
-one_step stream number initial entry None (Some change) rest later h = ap (λ l. in_order (stream_said stream initial entry (record { number = number; frame = None; change = Some change })) ++ l) h
+one_step stream number initial entry (Some frame) None rest later h =
+    ap (λ l. in_order (stream_said stream initial entry (record { number = number; frame = Some frame; change = None })) ++ l) h
+one_step stream number initial entry (Some frame) (Some change) rest later h =
+    ap (λ l. in_order (stream_said stream initial entry (record { number = number; frame = Some frame; change = Some change })) ++ l) h
+one_step stream number initial entry None (Some change) rest later h =
+    ap (λ l. in_order (stream_said stream initial entry (record { number = number; frame = None; change = Some change })) ++ l) h
 
 -- the run over the steps at which something is there
 run_from-alone : (stream : ℕ) (state : PassState) (frames : List Frame)
-    → stream_run_from stream state.in_force.initial (state.streams stream) (steps_from stream state.in_force frames) ≡ alone stream state frames
+    → stream_run_from stream state.in_force.initial (state.streams stream) (steps_from stream state.in_force frames)
+    ≡ alone stream state frames
 run_from-alone stream state [] = refl
 run_from-alone stream state (frame ∷ frames) =
     one_step stream frame.number state.in_force.initial (state.streams stream) (step_of state.in_force frame stream).frame (change_of state.in_force frame)
@@ -45,7 +49,8 @@ run_from-alone stream state (frame ∷ frames) =
     (run_from-alone stream (next state frame) frames)
 
 -- the run of a stream
-pub run-alone : (stream : ℕ) (frames : List Frame) → IsOrderly frames → stream_run stream (frames_of stream frames) (changes_of frames) ≡ alone stream pass_start frames
+pub run-alone : (stream : ℕ) (frames : List Frame) → IsOrderly frames
+    → stream_run stream (frames_of stream frames) (changes_of frames) ≡ alone stream pass_start frames
 run-alone stream frames h =
     ap (stream_run_from stream initial_in_force.initial idle_stream) (steps_of-steps_from 0 stream initial_in_force frames h)
     ∙ run_from-alone stream pass_start frames

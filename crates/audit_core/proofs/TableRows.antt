@@ -1,5 +1,5 @@
--- The table of findings: each row has a number, and what is said at one frame for one stream and one endpoint is said in
--- rows of different numbers.
+-- The table of findings: each row has a number, and what is said at one frame for one stream and one endpoint is said
+-- in rows of different numbers.
 use Rattle.std.proofs.Common.{◌≡◌, ℕ, ℤ, ◌+◌, ◌^◌, ◌<◌, ◌≤◌, Bool, true, false, List, [], ◌∷◌, ◌++◌, get_or, ap, ◌∙◌, arith, Option, Some, None, if◌then◌else◌}
 use Rattle.std.specs.List.{AllByRecursion}
 use Rattle.audit_terms.specs.declared.sides.Side.{Side}
@@ -13,10 +13,10 @@ use Rattle.audit_core.specs.ApartLaw.{AreApart, StandApart}
 use Rattle.audit_core.proofs.Pairs.{all-append, all-map, across-by, pairs-append}
 use Rattle.audit_core.proofs.PassOrder.{rank-small}
 
--- the row in which a rank is said of an endpoint, by rank: 0 to 4 local faults, 5 settings, 6 length, 7 the server's push,
--- 8 order of openings, 9 to 14 and 15 to 20 the connection windows of client and server, 21 to 23 what a frame shows of
--- its stream, 24 to 29 and 30 to 35 the stream windows of client and server. The server is told that it grants 0 in a
--- row of the client's window.
+-- the row in which a rank is said of an endpoint, by rank: 0 to 4 local faults, 5 settings, 6 length, 7 the server's
+-- push, 8 order of openings, 9 to 14 and 15 to 20 the connection windows of client and server, 21 to 23 what a frame
+-- shows of its stream, 24 to 29 and 30 to 35 the stream windows of client and server. The server is told that it
+-- grants 0 in a row of the client's window.
 abbrev client_rows : List ℕ
 client_rows =
     0 ∷ 1 ∷ 6 ∷ 2 ∷ 3 ∷ 3 ∷ 3 ∷ 4 ∷ 21 ∷ 8 ∷ 15 ∷ 10 ∷ 24 ∷ 6 ∷ 22 ∷ 11 ∷ 25 ∷ 23 ∷ 26 ∷ 5 ∷ 3 ∷ 12 ∷ 13 ∷ 27 ∷ 28 ∷ 14 ∷ 29 ∷ []
@@ -36,7 +36,8 @@ same-row : (x y : Finding) → x.place ≡ y.place → x.side ≡ y.side → row
 unfolding row_of
 same-row x y p s = cc
 
-pub rank-place : (number rank stream : ℕ) → rank ≤ 26 → stream < 2 ^ 31 → place_rank (place_of number rank stream) ≡ rank
+pub rank-place : (number rank stream : ℕ) → rank ≤ 26 → stream < 2 ^ 31 →
+    place_rank (place_of number rank stream) ≡ rank
 rank-place number rank stream r s = omega arith
 
 stream-place : (number rank stream : ℕ) → stream < 2 ^ 31 → place_stream (place_of number rank stream) ≡ stream
@@ -45,7 +46,8 @@ stream-place number rank stream s = omega arith
 row-found : (kind : Kind) (number stream : ℕ) (side : Side) (value : ℤ) → stream < 2 ^ 31 →
     row_of (finding_at kind number stream side value) ≡ row_at side (rank_of kind)
 unfolding row_of
-row-found kind number stream side value h = ap (row_at side) (rank-place number (rank_of kind) stream (rank-small kind) h)
+row-found kind number stream side value h =
+    ap (row_at side) (rank-place number (rank_of kind) stream (rank-small kind) h)
 
 -- a finding in one of the rows from low up to below high, for a stream of this sort
 pub record IsRow (on : ℕ → Type 0) (low high : ℕ) (x : Finding) : Type 0 where
@@ -58,7 +60,8 @@ pub record AreRows (on : ℕ → Type 0) (low high : ℕ) (xs : List Finding) : 
   pub within : AllByRecursion (IsRow on low high) xs
   pub apart : StandApart xs
 
-row-wider : (on other : ℕ → Type 0) (low high bottom top : ℕ) → ((stream : ℕ) → on stream → other stream) → bottom ≤ low → high ≤ top →
+row-wider : (on other : ℕ → Type 0) (low high bottom top : ℕ) → ((stream : ℕ) → on stream → other stream) →
+    bottom ≤ low → high ≤ top →
     (x : Finding) → IsRow on low high x → IsRow other bottom top x
 row-wider on other low high bottom top f p q x h =
     let a = h.from in
@@ -66,14 +69,17 @@ row-wider on other low high bottom top f p q x h =
     record { stream = f _ h.stream; from = omega arith; below = omega arith }
 
 -- more rows, and streams of a wider sort
-pub rows-wider : (on other : ℕ → Type 0) (low high bottom top : ℕ) → ((stream : ℕ) → on stream → other stream) → bottom ≤ low → high ≤ top →
+pub rows-wider : (on other : ℕ → Type 0) (low high bottom top : ℕ) → ((stream : ℕ) → on stream → other stream) →
+    bottom ≤ low → high ≤ top →
     (xs : List Finding) → AreRows on low high xs → AreRows other bottom top xs
 rows-wider on other low high bottom top f p q xs h = record {
-  within = all-map (IsRow on low high) (IsRow other bottom top) (row-wider on other low high bottom top f p q) xs h.within;
+  within =
+      all-map (IsRow on low high) (IsRow other bottom top) (row-wider on other low high bottom top f p q) xs h.within;
   apart = h.apart;
 }
 
-rows-apart : (on : ℕ → Type 0) (low mid high : ℕ) (x y : Finding) → IsRow on low mid x → IsRow on mid high y → AreApart x y
+rows-apart : (on : ℕ → Type 0) (low mid high : ℕ) (x y : Finding) → IsRow on low mid x → IsRow on mid high y →
+    AreApart x y
 rows-apart on low mid high x y p q e s =
     let a = p.below in
     let b = q.from in
@@ -100,7 +106,8 @@ module _ (on : ℕ → Type 0) where
       rows-append low (low + 2) (low + 3) (omega arith) (omega arith) (a ++ b) c
       (rows-append low (low + 1) (low + 2) (omega arith) (omega arith) a b p q) r
 
-  pub rows-six : (low : ℕ) (a b c d e f : List Finding) → AreRows on low (low + 1) a → AreRows on (low + 1) (low + 2) b →
+  pub rows-six : (low : ℕ) (a b c d e f : List Finding) → AreRows on low (low + 1) a →
+      AreRows on (low + 1) (low + 2) b →
       AreRows on (low + 2) (low + 3) c → AreRows on (low + 3) (low + 4) d → AreRows on (low + 4) (low + 5) e →
       AreRows on (low + 5) (low + 6) f → AreRows on low (low + 6) (((((a ++ b) ++ c) ++ d) ++ e) ++ f)
   rows-six low a b c d e f p q r s t u =
@@ -108,7 +115,8 @@ module _ (on : ℕ → Type 0) where
       (rows-append low (low + 4) (low + 5) (omega arith) (omega arith) _ e
       (rows-append low (low + 3) (low + 4) (omega arith) (omega arith) _ d (rows-three low a b c p q r) s) t) u
 
-  pub rows-say_of : {A : Type 0} (low high : ℕ) (f : A → List Finding) (o : Option A) → ((a : A) → AreRows on low high (f a)) →
+  pub rows-say_of : {A : Type 0} (low high : ℕ) (f : A → List Finding) (o : Option A) →
+      ((a : A) → AreRows on low high (f a)) →
       AreRows on low high (say_of f o)
   rows-say_of low high f None h = rows-nil low high
   rows-say_of low high f (Some a) h = h a
@@ -124,7 +132,8 @@ Only stream other = other ≡ stream
 
 -- a row of the table, for the stream that it is said of
 pub rows-say : (kind : Kind) (number stream : ℕ) (side : Side) (value : ℤ) (holds : Bool) (row : ℕ) → stream < 2 ^ 31 →
-    row_at side (rank_of kind) ≡ row → AreRows (Only stream) row (row + 1) (say holds (finding_at kind number stream side value))
+    row_at side (rank_of kind) ≡ row →
+    AreRows (Only stream) row (row + 1) (say holds (finding_at kind number stream side value))
 rows-say kind number stream side value false row h e = rows-nil (Only stream) row (row + 1)
 rows-say kind number stream side value true row h e =
     let k : row_of (finding_at kind number stream side value) ≡ row = row-found kind number stream side value h ∙ e in
@@ -137,6 +146,7 @@ rows-say kind number stream side value true row h e =
     }
 
 -- a row that is the same for both endpoints
-pub row-either : (rank row : ℕ) → row_at Client rank ≡ row → row_at Server rank ≡ row → (side : Side) → row_at side rank ≡ row
+pub row-either : (rank row : ℕ) → row_at Client rank ≡ row → row_at Server rank ≡ row → (side : Side) →
+    row_at side rank ≡ row
 row-either rank row p q Client = p
 row-either rank row p q Server = q

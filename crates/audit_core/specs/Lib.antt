@@ -7,7 +7,9 @@ pub mod WindowUses
 pub mod Promises
 pub mod KindTable
 pub mod CreditLaws
+pub mod LiveLaw
 pub mod PartsLaw
 pub mod StopLaw
 pub mod ApartLaw
+pub mod StepsLaw
 pub mod code

@@ -9,6 +9,24 @@ pub fn credit_is_sum()
     ensures stream { StreamCreditIsSum }
 {}
 
+ghost use Rattle.audit_core.specs.LiveLaw.{LiveWindowsAreOpened, LiveWindowsAreUnended};
+
+/// A live window of a stream is of one that is opened, and that the window's endpoint has not ended: so the law on the
+/// credit of streams speaks of each live window.
+pub fn live_windows_are_opened()
+    ensures opened { LiveWindowsAreOpened }
+    ensures unended { LiveWindowsAreUnended }
+{}
+
+ghost use Rattle.audit_core.specs.StepsLaw.{StepsJoinFramesAndChanges, StreamsHaveSteps};
+
+/// The steps of a stream rise in number, and have all of its frames and all changes of the connection, each at its own
+/// number, and nothing else.
+pub fn steps_join_frames_and_changes()
+    ensures joined { StepsJoinFramesAndChanges }
+    ensures streams { StreamsHaveSteps }
+{}
+
 ghost use Rattle.audit_core.specs.PartsLaw.{PartsMakeFull};
 
 /// All findings of a connection's frames are, put in order, the local faults, the unmatched acknowledgements, the
