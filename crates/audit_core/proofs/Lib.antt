@@ -11,6 +11,7 @@ pub mod StreamAlone
 pub mod PartsLemmas
 pub mod RowSteps
 pub mod QuietSteps
+pub mod Acknowledgements
 pub mod OneRow
 pub mod OwnRow
 pub mod MetRows

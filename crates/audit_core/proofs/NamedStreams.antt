@@ -3,8 +3,7 @@ use Rattle.std.proofs.Common.{◌≡◌, ◌≢◌, ℕ, zero, suc, Bool, true, 
 use Rattle.std.specs.HashMap.{get, IsEmpty}
 use Rattle.audit_core.specs.declared.tables.StreamRow.{StreamRow}
 use borrow.Author.Tests.{eqb-true, eq-eqb}
-use Rattle.audit_terms.specs.declared.frames.Frame.{Frame}
-use Rattle.audit_terms.specs.Pass.{streams_of}
+use Rattle.audit_terms.specs.Pass.{first_of}
 use Rattle.audit_core.specs.code.StreamTable.{NotAmong, AreDistinct, IsIndex, Positions, is_among, with_stream, streams_in}
 
 -- the streams that are not among those seen
@@ -72,26 +71,25 @@ none-from_test : (q : ℕ) (seen : List ℕ) → is_among q seen ≡ false → N
 none-from_test q [] h = tt
 none-from_test q (x ∷ xs) h = (not_here q x _ refl (first_false _ _ h), none-from_test q xs (second_false _ _ h))
 
--- one more frame
-module _ (seen : List ℕ) (frame : Frame) (rest : List Frame) where
-  named-zero : (frame.stream == 0) ≡ true → streams_of (frame ∷ rest) ≡ streams_of rest
-  named-zero e = rw e refl
+-- one more stream, of those still to come
+module _ (stream : ℕ) (seen later : List ℕ) where
+  abbrev others : List ℕ
+  others = filter (λ other. not (other == stream)) later
 
-  seen-test : (x : ℕ) → is_among frame.stream seen ≡ true → (b : Bool) → (x == frame.stream) ≡ b →
-      (not (x == frame.stream) && not (is_among x seen)) ≡ not (is_among x seen)
-  seen-test x h true e = rw (e, eqb-true x frame.stream e, h) refl
+  seen-test : (x : ℕ) → is_among stream seen ≡ true → (b : Bool) → (x == stream) ≡ b →
+      (not (x == stream) && not (is_among x seen)) ≡ not (is_among x seen)
+  seen-test x h true e = rw (e, eqb-true x stream e, h) refl
   seen-test x h false e = rw e refl
 
-  named-seen : (frame.stream == 0) ≡ false → is_among frame.stream seen ≡ true →
-      without seen (streams_of (frame ∷ rest)) ≡ without seen (streams_of rest)
+  named-seen : (stream == 0) ≡ false → is_among stream seen ≡ true →
+      without seen (first_of stream later) ≡ without seen later
   named-seen z h =
-      let e : streams_of (frame ∷ rest) ≡ frame.stream ∷ filter (λ stream. not (stream == frame.stream)) (streams_of rest) = rw z refl in
-      let f : without seen (frame.stream ∷ filter (λ stream. not (stream == frame.stream)) (streams_of rest))
-      ≡ without seen (filter (λ stream. not (stream == frame.stream)) (streams_of rest)) = rw h refl in
+      let e : first_of stream later ≡ stream ∷ others = rw z refl in
+      let f : without seen (stream ∷ others) ≡ without seen others = rw h refl in
       ap (without seen) e ∙ f
-      ∙ filter-filter (λ x. not (is_among x seen)) (λ x. not (x == frame.stream)) (streams_of rest)
-      ∙ filter-alike (λ x. not (x == frame.stream) && not (is_among x seen)) (λ x. not (is_among x seen))
-      (λ x. seen-test x h _ refl) (streams_of rest)
+      ∙ filter-filter (λ x. not (is_among x seen)) (λ x. not (x == stream)) later
+      ∙ filter-alike (λ x. not (x == stream) && not (is_among x seen)) (λ x. not (is_among x seen))
+      (λ x. seen-test x h _ refl) later
 
   new-test : (a b : Bool) → (not b && not a) ≡ not (a || b)
   new-test true true = refl
@@ -99,36 +97,34 @@ module _ (seen : List ℕ) (frame : Frame) (rest : List Frame) where
   new-test false true = refl
   new-test false false = refl
 
-  named-new : (frame.stream == 0) ≡ false → is_among frame.stream seen ≡ false →
-      without seen (streams_of (frame ∷ rest)) ≡ frame.stream ∷ without (seen ++ frame.stream ∷ []) (streams_of rest)
+  named-new : (stream == 0) ≡ false → is_among stream seen ≡ false →
+      without seen (first_of stream later) ≡ stream ∷ without (seen ++ stream ∷ []) later
   named-new z h =
-      let e : streams_of (frame ∷ rest) ≡ frame.stream ∷ filter (λ stream. not (stream == frame.stream)) (streams_of rest) = rw z refl in
-      let f : without seen (frame.stream ∷ filter (λ stream. not (stream == frame.stream)) (streams_of rest))
-      ≡ frame.stream ∷ without seen (filter (λ stream. not (stream == frame.stream)) (streams_of rest)) = rw h refl in
+      let e : first_of stream later ≡ stream ∷ others = rw z refl in
+      let f : without seen (stream ∷ others) ≡ stream ∷ without seen others = rw h refl in
       ap (without seen) e ∙ f
-      ∙ ap (λ l. frame.stream ∷ l)
-      (filter-filter (λ x. not (is_among x seen)) (λ x. not (x == frame.stream)) (streams_of rest)
-      ∙ filter-alike (λ x. not (x == frame.stream) && not (is_among x seen)) (λ x. not (is_among x (seen ++ frame.stream ∷ [])))
-      (λ x. new-test (is_among x seen) (x == frame.stream) ∙ ap not (sym (among-append x frame.stream seen))) (streams_of rest))
+      ∙ ap (λ l. stream ∷ l)
+      (filter-filter (λ x. not (is_among x seen)) (λ x. not (x == stream)) later
+      ∙ filter-alike (λ x. not (x == stream) && not (is_among x seen)) (λ x. not (is_among x (seen ++ stream ∷ [])))
+      (λ x. new-test (is_among x seen) (x == stream) ∙ ap not (sym (among-append x stream seen))) later)
 
-  named-by : (a b : Bool) → (frame.stream == 0) ≡ a → is_among frame.stream seen ≡ b →
-      with_stream frame.stream seen ++ without (with_stream frame.stream seen) (streams_of rest)
-      ≡ seen ++ without seen (streams_of (frame ∷ rest))
+  named-by : (a b : Bool) → (stream == 0) ≡ a → is_among stream seen ≡ b →
+      with_stream stream seen ++ without (with_stream stream seen) later ≡ seen ++ without seen (first_of stream later)
   named-by true b z h =
-      let e : with_stream frame.stream seen ≡ seen = rw z refl in
-      ap (λ l. l ++ without l (streams_of rest)) e ∙ ap (λ l. seen ++ without seen l) (sym (named-zero z))
+      let e : with_stream stream seen ≡ seen = rw z refl in
+      let f : first_of stream later ≡ later = rw z refl in
+      ap (λ l. l ++ without l later) e ∙ ap (λ l. seen ++ without seen l) (sym f)
   named-by false true z h =
-      let e : with_stream frame.stream seen ≡ seen = rw (z, h) refl in
-      ap (λ l. l ++ without l (streams_of rest)) e ∙ ap (λ l. seen ++ l) (sym (named-seen z h))
+      let e : with_stream stream seen ≡ seen = rw (z, h) refl in
+      ap (λ l. l ++ without l later) e ∙ ap (λ l. seen ++ l) (sym (named-seen z h))
   named-by false false z h =
-      let e : with_stream frame.stream seen ≡ seen ++ frame.stream ∷ [] = rw (z, h) refl in
-      ap (λ l. l ++ without l (streams_of rest)) e
-      ∙ append_assoc seen (frame.stream ∷ []) (without (seen ++ frame.stream ∷ []) (streams_of rest))
+      let e : with_stream stream seen ≡ seen ++ stream ∷ [] = rw (z, h) refl in
+      ap (λ l. l ++ without l later) e
+      ∙ append_assoc seen (stream ∷ []) (without (seen ++ stream ∷ []) later)
       ∙ ap (λ l. seen ++ l) (sym (named-new z h))
 
   -- the streams seen and those still to come stay the same
-  pub named-more : with_stream frame.stream seen ++ without (with_stream frame.stream seen) (streams_of rest)
-      ≡ seen ++ without seen (streams_of (frame ∷ rest))
+  pub named-more : with_stream stream seen ++ without (with_stream stream seen) later ≡ seen ++ without seen (first_of stream later)
   named-more = named-by _ _ refl refl
 
 pub with-zero : (stream : ℕ) (seen : List ℕ) → stream ≡ 0 → seen ≡ with_stream stream seen

@@ -16,10 +16,10 @@ use Rattle.audit_terms.specs.declared.findings.Finding.{Finding}
 use Rattle.audit_terms.specs.Sides.{side_of}
 use Rattle.audit_terms.specs.Finding.{finding_at, say, in_order}
 use Rattle.audit_terms.specs.Frame.{IsOrderly}
-use Rattle.audit_terms.specs.LocalFault.{push_kind, local_said, fault, body_said, reading_fault}
+use Rattle.audit_terms.specs.LocalFault.{local_said, fault, body_said, reading_fault}
 use Rattle.audit_terms.specs.InForce.{InForce, settings_said}
-use Rattle.audit_terms.specs.Connection.{opening_order_said, connection_said, length_said, connection_windows_said, connection_window_said}
-use Rattle.audit_terms.specs.Stream.{stream_said, frame_said, stream_window_said, live_window_said, opened_window_said}
+use Rattle.audit_terms.specs.Connection.{push_said, opening_order_said, promise_order_said, connection_said, length_said, connection_windows_said, connection_window_said}
+use Rattle.audit_terms.specs.Stream.{WindowStep, stream_said, frame_said, stream_window_said, live_window_said, opened_window_said}
 use Rattle.audit_terms.specs.Pass.{PassState, pass_start, said, full_from, full, next, streams_of, streams_said, step_of, item_of}
 use Rattle.audit_terms.specs.Change.{new_limit}
 use Rattle.audit_terms.specs.declared.frames.Settings.{Settings}
@@ -76,12 +76,8 @@ drops-body frame (SettingsBody settings) =
     (λ identifier. drops-cons is_shown_so_far _ [] refl (drops-nil _))
 drops-body frame _ = drops-nil _
 
-drops-push : (holds : Bool) (side : Side) (frame : Frame) → Drops is_shown_so_far (say holds (fault (push_kind side) frame 0))
-drops-push holds Client frame = drops-say _ _ _ refl
-drops-push holds Server frame = drops-say _ _ _ refl
-
 drops-local : (previous : Option Frame) (frame : Frame) → Drops is_shown_so_far (local_said previous frame)
-drops-local previous frame = search (drops-append, drops-say, drops-body, drops-push) depth 12
+drops-local previous frame = search (drops-append, drops-say, drops-body) depth 12
 
 keeps-settings : (now : InForce) (frame : Frame) → Keeps is_shown_so_far (settings_said now frame)
 keeps-settings now frame = keeps-say _ _ _ refl
@@ -93,8 +89,14 @@ drops-length limit frame = step _ where
   step true = drops-say _ _ _ refl
   step false = drops-say _ _ _ refl
 
-drops-opening_order : (greatest : ℕ) (item : Item) → Drops is_shown_so_far (opening_order_said greatest item)
-drops-opening_order greatest item = drops-say _ _ _ refl
+drops-push : (push : ℕ) (frame : Frame) → Drops is_shown_so_far (push_said push frame)
+drops-push push frame = drops-say _ _ _ refl
+
+drops-opening_order : (opened : ℕ) (item : Item) → Drops is_shown_so_far (opening_order_said opened item)
+drops-opening_order opened item = drops-say _ _ _ refl
+
+drops-promise_order : (promised : ℕ) (frame : Frame) → Drops is_shown_so_far (promise_order_said promised frame)
+drops-promise_order promised frame = drops-say _ _ _ refl
 
 keeps-connection_window : (d : Side) (before : ℤ) (frame : Frame) → Keeps is_shown_so_far (connection_window_said d before frame)
 keeps-connection_window d before frame = search (keeps-append, keeps-say) depth 12
@@ -106,8 +108,8 @@ keeps-connection_windows credit frame =
 keeps-frame : (stream : ℕ) (entry : Stream) (step : Step) (frame : Frame) → Keeps is_shown_so_far (frame_said stream entry step frame)
 keeps-frame stream entry step frame = search (keeps-append, keeps-say) depth 12
 
-keeps-live_window : (d : Side) (stream : ℕ) (initial : Sides ℕ) (step : Step) (before : ℤ) → Keeps is_shown_so_far (live_window_said d stream initial step before)
-keeps-live_window d stream initial step before = search (keeps-append, keeps-say) depth 12
+keeps-live_window : (d : Side) (stream : ℕ) (step : Step) (window : WindowStep) → Keeps is_shown_so_far (live_window_said d stream step window)
+keeps-live_window d stream step window = search (keeps-append, keeps-say) depth 12
 
 keeps-opened_window : (d : Side) (stream : ℕ) (step : Step) (credit : ℤ) → Keeps is_shown_so_far (opened_window_said d stream step credit)
 keeps-opened_window d stream step credit = search (keeps-append, keeps-say, keeps-cons, keeps-nil) depth 12
@@ -127,15 +129,25 @@ keeps-streams streams state frame =
 shown-connection : (state : ConnectionState) (item : Item) →
     filter is_shown_so_far (connection_said state item) ≡ connection_windows_said state.credit item.frame
 shown-connection state item =
-    filter-append is_shown_so_far (length ++ opening) windows
+    filter-append is_shown_so_far (((length ++ push) ++ opening) ++ promise) windows
     ∙ ap (λ l. l ++ filter is_shown_so_far windows)
-    (drops-append is_shown_so_far length opening (drops-length _ item.frame) (drops-opening_order state.greatest item)).dropped
+    (drops-append is_shown_so_far ((length ++ push) ++ opening) promise
+    (drops-append is_shown_so_far (length ++ push) opening
+    (drops-append is_shown_so_far length push (drops-length _ item.frame) (drops-push state.push item.frame))
+    (drops-opening_order state.opened item))
+    (drops-promise_order state.promised item.frame)).dropped
     ∙ (keeps-connection_windows state.credit item.frame).kept where
       length : List Finding
       length = length_said (new_limit item.change item.frame.side (side_of item.frame.side state.limit)) item.frame
 
+      push : List Finding
+      push = push_said state.push item.frame
+
       opening : List Finding
-      opening = opening_order_said state.greatest item
+      opening = opening_order_said state.opened item
+
+      promise : List Finding
+      promise = promise_order_said state.promised item.frame
 
       windows : List Finding
       windows = connection_windows_said state.credit item.frame
@@ -172,21 +184,21 @@ shown-parts streams state frame =
 
 -- one more frame
 pub rows-more : (all old new : List Finding) (streams : List ℕ) (state : PassState) (frame : Frame) (left rest : List Frame) →
-    left ≡ frame ∷ rest → new ≡ old ++ shown_parts streams state frame →
-    old ++ shown_rows streams state left ≡ all → new ++ shown_rows streams (next state frame) rest ≡ all
+    left ≡ frame ∷ rest → in_order new ≡ in_order (old ++ shown_parts streams state frame) →
+    in_order (old ++ shown_rows streams state left) ≡ all → in_order (new ++ shown_rows streams (next state frame) rest) ≡ all
 rows-more all old new streams state frame left rest l n h =
-    ap (λ k. k ++ after) n
-    ∙ append_assoc old (shown_parts streams state frame) after
-    ∙ ap (λ k. old ++ k) (ap (λ k. k ++ after) (sym (shown-parts streams state frame)) ∙ ap (shown_rows streams state) (sym l))
+    in_order-alike new (old ++ shown_parts streams state frame) after after n refl
+    ∙ ap in_order (append_assoc old (shown_parts streams state frame) after
+    ∙ ap (λ k. old ++ k) (ap (λ k. k ++ after) (sym (shown-parts streams state frame)) ∙ ap (shown_rows streams state) (sym l)))
     ∙ h where
       after : List Finding
       after = shown_rows streams (next state frame) rest
 
 -- no further frame
 pub rows-done : (all found : List Finding) (streams : List ℕ) (state : PassState) (left : List Frame) →
-    left ≡ [] → found ++ shown_rows streams state left ≡ all → found ≡ all
+    left ≡ [] → in_order (found ++ shown_rows streams state left) ≡ all → in_order found ≡ all
 rows-done all found streams state left l h =
-    sym (append-nil found) ∙ ap (λ k. found ++ shown_rows streams state k) (sym l) ∙ h
+    ap in_order (sym (append-nil found) ∙ ap (λ k. found ++ shown_rows streams state k) (sym l)) ∙ h
 
 -- the table of streams in a state of the pass
 abbrev pub rows_at : PassState → List ℕ → List StreamRow
@@ -242,17 +254,17 @@ module _ (state : PassState) (frame : Frame) (names : List ℕ) (initial : Sides
       unmatched ≡ (is_ack frame.body && is_none change) →
       one ≡ old ++ say unmatched (finding_at UnmatchedAck frame.number frame.stream frame.side (pos 0)) →
       two ≡ one ++ connection_windows_said credit frame →
-      three ≡ two ++ flat_map (row_said initial frame change) rows →
-      three ≡ old ++ shown_parts names state frame
+      in_order three ≡ in_order (two ++ flat_map (row_said initial frame change) rows) →
+      in_order three ≡ in_order (old ++ shown_parts names state frame)
   parts-more credit c old one two three unmatched u p q r =
-      three_rows old (settings_said state.in_force frame) (connection_windows_said state.connection.credit frame)
-      (streams_said names state frame) one two three
+      r ∙ ap in_order (three_rows old (settings_said state.in_force frame) (connection_windows_said state.connection.credit frame)
+      (streams_said names state frame) one two (two ++ flat_map (row_said initial frame change) rows)
       (p ∙ ap (λ l. old ++ l)
       (ap (λ b. say b (finding_at UnmatchedAck frame.number frame.stream frame.side (pos 0)))
       (u ∙ ap (λ k. is_ack frame.body && is_none k) same_change)
       ∙ settings_said-change state.in_force frame))
       (q ∙ ap (λ k. one ++ connection_windows_said k frame) c)
-      (r ∙ ap (λ l. two ++ l) same_said)
+      (ap (λ l. two ++ l) same_said))
 
 idle-fits : (bound stream : ℕ) → stream < 2 ^ 31 → RowFits bound (record { stream = stream; entry = idle_stream })
 idle-fits bound stream h = record { stream = h; client = λ x e. absurd (none_is_none x e); server = λ x e. absurd (none_is_none x e) } where

@@ -3,7 +3,7 @@ ghost use Rattle.audit_terms.specs.Finding.{in_order};
 ghost use Rattle.audit_terms.specs.Stream.{initial_after};
 ghost use Rattle.std.specs.HashMap.{get};
 ghost use Rattle.std.specs.List.{flat_map};
-ghost use Rattle.audit_core.specs.code.StreamTable.{step_at, row_said, row_after, row_said_of, row_after_of, streams_in, idle_rows, with_stream, RowFits, RowsFit, RowsFitBy, bound_more, IsIndex};
+ghost use Rattle.audit_core.specs.code.StreamTable.{IsOfAcknowledgement, step_at, row_said, row_after, row_said_of, row_after_of, streams_in, idle_rows, with_stream, RowFits, RowsFit, RowsFitBy, bound_more, IsIndex};
 ghost use Rattle.audit_terms.specs.Pass.{streams_of};
 
 use audit_terms::{Change, Finding, Frame, Sides, Step, Stream, initial_after};
@@ -27,11 +27,12 @@ impl StreamRow {
         change: &Option<Change>,
     ) -> Result<(), AllocError>
         requires numbered { frame.now.number ≤ 2 ^ 28 - 2 }
-        requires fits { RowFits (2 ^ 62) self.old }
+        requires acknowledged { IsOfAcknowledgement change.now frame.now }
+        requires fits { RowFits (2 ^ 60) self.old }
         ensures said { OnOk result (found.new.items
             ≡ found.old.items ++ row_said initial.now frame.now change.now self.old) }
         ensures after { OnOk result (self.new ≡ row_after initial.now frame.now change.now self.old) }
-        ensures fits { OnOk result ((bound : ℕ) → RowFits bound self.old → RowFits (bound + 2 ^ 34) self.new) }
+        ensures fits { OnOk result ((bound : ℕ) → RowFits bound self.old → RowFits (bound + 2 ^ 32) self.new) }
     {
         let step = step_at(frame, change, self.stream);
         self.entry.meet(found, self.stream, initial, &step)
@@ -62,11 +63,12 @@ fn meet_all(
     change: &Option<Change>,
 ) -> Result<(), AllocError>
     requires numbered { frame.now.number ≤ 2 ^ 28 - 2 }
-    requires fits { RowsFit (2 ^ 62) rows.old }
+    requires acknowledged { IsOfAcknowledgement change.now frame.now }
+    requires fits { RowsFit (2 ^ 60) rows.old }
     ensures said { OnOk result (found.new.items
         ≡ found.old.items ++ flat_map (row_said initial.now frame.now change.now) rows.old) }
     ensures after { OnOk result (rows.new ≡ map (row_after initial.now frame.now change.now) rows.old) }
-    ensures fits { OnOk result ((bound : ℕ) → RowsFit bound rows.old → RowsFit (bound + 2 ^ 34) rows.new) }
+    ensures fits { OnOk result ((bound : ℕ) → RowsFit bound rows.old → RowsFit (bound + 2 ^ 32) rows.new) }
 {
     for row in rows.iter_mut() {
         row.meet(found, initial, frame, change)?;
@@ -148,14 +150,15 @@ impl StreamTable {
         change: &Option<Change>,
     ) -> Result<(), AllocError>
         requires numbered { frame.now.number ≤ 2 ^ 28 - 2 }
-        requires fits { RowsFit (2 ^ 62) self.old.rows.items }
+        requires acknowledged { IsOfAcknowledgement change.now frame.now }
+        requires fits { RowsFit (2 ^ 60) self.old.rows.items }
         requires index { IsIndex (streams_in self.old.rows.items) self.old.positions }
         ensures said { OnOk result (found.new.items
             ≡ found.old.items ++ flat_map (row_said_of stream initial.now frame.now change.now) self.old.rows.items) }
         ensures after { OnOk result (self.new.rows.items
             ≡ map (row_after_of stream initial.now frame.now change.now) self.old.rows.items) }
         ensures fits { OnOk result ((bound : ℕ → ℕ) → RowsFitBy bound self.old.rows.items
-            → RowsFitBy (bound_more (2 ^ 34) stream bound) self.new.rows.items) }
+            → RowsFitBy (bound_more (2 ^ 32) stream bound) self.new.rows.items) }
         ensures index { OnOk result (IsIndex (streams_in self.new.rows.items) self.new.positions) }
     {
         if let Some(place) = self.place_of(stream) {
@@ -176,14 +179,15 @@ impl StreamTable {
         change: &Option<Change>,
     ) -> Result<(), AllocError>
         requires numbered { frame.now.number ≤ 2 ^ 28 - 2 }
-        requires fits { RowsFit (2 ^ 61) self.old.rows.items }
+        requires acknowledged { IsOfAcknowledgement change.now frame.now }
+        requires fits { RowsFit (2 ^ 60 - 2 ^ 32) self.old.rows.items }
         requires index { IsIndex (streams_in self.old.rows.items) self.old.positions }
         ensures said { OnOk result (in_order found.new.items ≡ in_order (found.old.items
             ++ flat_map (row_said initial.now frame.now change.now) self.old.rows.items)) }
         ensures after { OnOk result (self.new.rows.items
             ≡ map (row_after initial.now frame.now change.now) self.old.rows.items) }
         ensures fits { OnOk result ((bound : ℕ) → RowsFit bound self.old.rows.items
-            → RowsFit (bound + 2 ^ 34) self.new.rows.items) }
+            → RowsFit (bound + 2 ^ 32) self.new.rows.items) }
         ensures index { OnOk result (IsIndex (streams_in self.new.rows.items) self.new.positions) }
     {
         if moves_initial(change, initial) {

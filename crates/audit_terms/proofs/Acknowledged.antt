@@ -1,17 +1,15 @@
 -- A step moves a window by its frame or by its change, never by both.
-use Rattle.std.proofs.Common.{◌≡◌, ℕ, Bool, true, false, ◌==◌, ◌&&◌, Option, Some, None, if◌then◌else◌, refl, ◌⊎◌, inl, inr}
+use Rattle.std.proofs.Common.{◌≡◌, ℕ, Bool, true, false, ◌&&◌, Option, Some, None, if◌then◌else◌, refl, ◌⊎◌, inl, inr}
 use Rattle.std.specs.Option.{ForSome, option_map_or}
 use Rattle.audit_terms.specs.declared.sides.Side.{Side}
-use Rattle.audit_terms.specs.declared.sides.Sides.{Sides}
 use Rattle.audit_terms.specs.declared.frames.Body.{Body}
 use Rattle.audit_terms.specs.declared.frames.Body.TheVariants.{Content, Headers, Priority, RstStream, Settings, SettingsAck, PushPromise, Ping, GoAway, WindowUpdate, Continuation, Unknown, Unreadable}
 use Rattle.audit_terms.specs.declared.frames.Frame.{Frame}
 use Rattle.audit_terms.specs.declared.items.Change.{Change}
 use Rattle.audit_terms.specs.declared.items.Step.{Step}
-use Rattle.audit_terms.specs.Side.{other, is_side}
 use Rattle.audit_terms.specs.Frame.{is_ack, is_content, increment, content_by, grant_to}
 use Rattle.audit_terms.specs.Change.{new_initial}
-use Rattle.audit_terms.specs.Stream.{IsAcknowledged, step_amount}
+use Rattle.audit_terms.specs.Stream.{IsAcknowledged}
 
 ack-only : (body : Body) → is_ack body ≡ true → (increment body ≡ 0) × (is_content body ≡ false)
 ack-only SettingsAck e = (refl, refl)
@@ -43,8 +41,7 @@ MovesNothing d stream frame =
 
 ack-moves_nothing : (d : Side) (stream : ℕ) (frame : Option Frame) → ForSome frame (λ one. is_ack one.body ≡ true) → MovesNothing d stream frame
 ack-moves_nothing d stream None e = (refl, refl)
-ack-moves_nothing d stream (Some frame) e =
-    (
+ack-moves_nothing d stream (Some frame) e = (
   rw (ack-only frame.body (e frame refl)).0 (no_choice _ 0),
   rw ((ack-only frame.body (e frame refl)).1, and_false) refl,
 )

@@ -2,7 +2,8 @@ ghost use Rattle.std.specs.Prelude.{◌≡◌, ℕ, ℤ, pos, ◌+◌, ◌-◌, 
 
 use crate::counts::Count;
 use crate::findings::{Finding, say_if};
-use crate::frames::Frame;
+use crate::frames::{CONTINUATION, Frame, HEADERS, PUSH_PROMISE, SETTINGS};
+use crate::items::{Change, Item};
 use crate::kinds::Kind;
 use crate::sides::{Side, Sides};
 use crate::windows::FIRST_WINDOW;
@@ -129,4 +130,182 @@ impl ConnectionState {
         self.credit.server = server.after;
         Ok(())
     }
+
+    ghost use Rattle.audit_terms.specs.Change.{new_limit, new_push};
+    ghost use Rattle.audit_terms.specs.Connection.{length_said, push_said, opening_order_said, promise_order_said, connection_said, connection_after, is_opened_by_headers, is_even_promise};
+
+    /// Adds what an item shows of the connection: its length, a promise that is not allowed, the order of openings and
+    /// promises, both connection windows; and brings the connection to its state after the item. Without memory the state
+    /// is as it was, and some findings may have been added.
+    pub fn meet(&mut self, found: &mut Vec<Finding>, item: &Item) -> Result<(), AllocError>
+        requires frame { IsInRange item.now.frame }
+        requires client { HasRoom (2 ^ 60) self.old.credit.client }
+        requires server { HasRoom (2 ^ 60) self.old.credit.server }
+        ensures said { OnOk result (found.new.items ≡ found.old.items ++ connection_said self.old item.now) }
+        ensures after { OnOk result (self.new ≡ connection_after self.old item.now) }
+        ensures err { OnErr result (self.new ≡ self.old) }
+        ensures client { (n : ℕ) → HasRoom n self.old.credit.client → HasRoom (n + 2 ^ 32) self.new.credit.client }
+        ensures server { (n : ℕ) → HasRoom n self.old.credit.server → HasRoom (n + 2 ^ 32) self.new.credit.server }
+    {
+        let frame = &item.frame;
+        let limit = new_limit(&item.change, frame.side, self.limit.of(frame.side));
+        say_length(found, limit, frame)?;
+        say_push(found, self.push, frame)?;
+        say_opening_order(found, self.opened, item)?;
+        say_promise_order(found, self.promised, frame)?;
+        let opened = self.opened_after(item);
+        let promised = self.promised_after(frame);
+        let push = new_push(&item.change, self.push);
+        self.meet_windows(found, frame)?;
+        self.opened = opened;
+        self.promised = promised;
+        self.push = push;
+        self.limit = limit_after(&item.change, &self.limit);
+        Ok(())
+    }
+
+    /// The greatest stream that the client opened so far, after an item.
+    fn opened_after(&self, item: &Item) -> u32
+        ensures { result ≡ (connection_after self.now item.now).opened }
+    {
+        if is_opened_by_headers(item) {
+            self.opened.max(item.frame.stream)
+        } else {
+            self.opened
+        }
+    }
+
+    /// The greatest even stream that the server promised so far, after a frame.
+    fn promised_after(&self, frame: &Frame) -> u32
+        ensures { result ≡ (if is_even_promise frame.now then max self.now.promised (promised_in frame.now.body)
+            else self.now.promised) }
+    {
+        let promised = frame.body.promised();
+        if frame.is_server_promise() && promised % 2 == 0 {
+            self.promised.max(promised)
+        } else {
+            self.promised
+        }
+    }
+}
+
+ghost use Rattle.std.specs.Prelude.{max, if◌then◌else◌};
+ghost use Rattle.audit_terms.specs.Frame.{IsInRange, promised_in};
+ghost use Rattle.audit_terms.specs.Sides.{side_of, each_side};
+ghost use Rattle.audit_terms.specs.Change.{new_limit, new_push};
+ghost use Rattle.audit_terms.specs.Connection.{is_length_fatal, length_said, push_said, opening_order_said, promise_order_said, is_opened_by_headers};
+
+/// Is it a HEADERS that opens its stream?
+fn is_opened_by_headers(item: &Item) -> bool
+    ensures { result ≡ is_opened_by_headers item.now }
+{
+    item.opens && item.frame.body.is_headers()
+}
+
+/// The greatest length in bytes of a frame that a side may send after a change, from the one before it (6.5.2).
+fn new_limit(change: &Option<Change>, side: Side, before: u32) -> u32
+    ensures { result ≡ new_limit change.now side before }
+{
+    match change {
+        Some(change) if change.side == side => change.max_frame.unwrap_or(before),
+        _ => before,
+    }
+}
+
+/// The same of both sides.
+fn limit_after(change: &Option<Change>, limit: &Sides<u32>) -> Sides<u32>
+    ensures { result ≡ each_side (λ d. new_limit change.now d (side_of d limit.now)) }
+{
+    Sides {
+        client: new_limit(change, Side::Client, limit.client),
+        server: new_limit(change, Side::Server, limit.server),
+    }
+}
+
+/// ENABLE_PUSH in force for the server after a change, from the one before it (6.5.2).
+fn new_push(change: &Option<Change>, before: u32) -> u32
+    ensures { result ≡ new_push change.now before }
+{
+    match change {
+        Some(change) if change.side == Side::Server => change.push.unwrap_or(before),
+        _ => before,
+    }
+}
+
+/// Is the excess length of such a frame an error of the connection (4.2)?
+fn is_length_fatal(frame: &Frame) -> bool
+    ensures { result ≡ is_length_fatal frame.now }
+{
+    frame.code == HEADERS
+        || frame.code == SETTINGS
+        || frame.code == PUSH_PROMISE
+        || frame.code == CONTINUATION
+        || frame.stream == 0
+}
+
+/// Adds a frame that is longer than its side's limit (4.2).
+fn say_length(found: &mut Vec<Finding>, limit: u32, frame: &Frame) -> Result<(), AllocError>
+    requires { IsInRange frame.now }
+    ensures { OnOk result (found.new.items ≡ found.old.items ++ length_said limit frame.now) }
+{
+    let kind = if is_length_fatal(frame) {
+        Kind::TooLong
+    } else {
+        Kind::LongFrame
+    };
+    let long = Finding::at(kind, frame.number, frame.stream, frame.side, frame.length);
+    say_if(found, limit < frame.length, long)
+}
+
+/// Adds a promise of the server while the client takes none (8.4).
+fn say_push(found: &mut Vec<Finding>, push: u32, frame: &Frame) -> Result<(), AllocError>
+    requires { IsInRange frame.now }
+    ensures { OnOk result (found.new.items ≡ found.old.items ++ push_said push frame.now) }
+{
+    let push_at_all = Finding::at(Kind::Push, frame.number, frame.stream, frame.side, 0);
+    say_if(found, frame.is_server_promise() && push == 0, push_at_all)
+}
+
+/// Adds a stream that the client opens, where it is not above each one that it opened before (5.1.1).
+fn say_opening_order(found: &mut Vec<Finding>, opened: u32, item: &Item) -> Result<(), AllocError>
+    requires { IsInRange item.now.frame }
+    ensures { OnOk result (found.new.items ≡ found.old.items ++ opening_order_said opened item.now) }
+{
+    let frame = &item.frame;
+    let out_of_order = Finding::at(
+        Kind::IdNotGreater,
+        frame.number,
+        frame.stream,
+        frame.side,
+        opened,
+    );
+    say_if(
+        found,
+        is_opened_by_headers(item) && frame.stream <= opened,
+        out_of_order,
+    )
+}
+
+/// Adds a promise of the server whose stream is odd, 0, or not above each even one that it promised before (5.1.1).
+fn say_promise_order(
+    found: &mut Vec<Finding>,
+    promised: u32,
+    frame: &Frame,
+) -> Result<(), AllocError>
+    requires { IsInRange frame.now }
+    ensures { OnOk result (found.new.items ≡ found.old.items ++ promise_order_said promised frame.now) }
+{
+    let stream = frame.body.promised();
+    let out_of_order = Finding::at(
+        Kind::IdNotGreater,
+        frame.number,
+        stream,
+        frame.side,
+        promised,
+    );
+    say_if(
+        found,
+        frame.is_server_promise() && (stream % 2 == 1 || stream <= promised),
+        out_of_order,
+    )
 }

@@ -3,8 +3,31 @@ ghost use Rattle.std.specs.Prelude.{◌≡◌, ℕ};
 use crate::kinds::Kind;
 use crate::sides::Side;
 
+/// The type bytes that rules of an audit name (RFC 9113, 6).
+pub const DATA: u8 = 0;
+
+pub const HEADERS: u8 = 1;
+
+pub const PRIORITY: u8 = 2;
+
+pub const RST_STREAM: u8 = 3;
+
+pub const SETTINGS: u8 = 4;
+
+pub const PUSH_PROMISE: u8 = 5;
+
+pub const PING: u8 = 6;
+
+pub const GOAWAY: u8 = 7;
+
+pub const CONTINUATION: u8 = 9;
+
 /// END_STREAM, of DATA and HEADERS (RFC 9113, 6.1 and 6.2).
 pub const END_STREAM: u8 = 0x1;
+/// ACK, of SETTINGS (6.5).
+pub const ACK: u8 = 0x1;
+/// END_HEADERS, of HEADERS, PUSH_PROMISE and CONTINUATION (6.2, 6.6, 6.10).
+pub const END_HEADERS: u8 = 0x4;
 
 /// The values of one SETTINGS frame that matter here (RFC 9113, 6.5.2): the last value of each identifier, and the
 /// identifier of the first pair whose value is out of range.

@@ -1,5 +1,6 @@
 -- The table of streams that `one_pass` keeps: a row for each stream that the frames name, and where each row stands.
-use Rattle.std.specs.Prelude.{◌≡◌, ◌≢◌, ℕ, ◌+◌, ◌^◌, ◌<◌, ◌==◌, if◌then◌else◌, ◌||◌, Bool, false, List, [], ◌∷◌, ◌++◌, Option, Some, None, nat_eq, map, slice_get, MatchOption}
+use Rattle.std.specs.Prelude.{◌≡◌, ◌≢◌, ℕ, ◌+◌, ◌^◌, ◌<◌, ◌==◌, if◌then◌else◌, ◌||◌, Bool, true, false, List, [], ◌∷◌, ◌++◌, Option, Some, None, nat_eq, map, slice_get, MatchOption}
+use Rattle.std.specs.Option.{ForSome}
 use Rattle.std.specs.HashMap.{get, HashMap}
 use Rattle.std.specs.declared.hash.FoldHasher.{FoldHasher}
 use Rattle.std.specs.declared.hash.BuildHasherDefault.{BuildHasherDefault}
@@ -9,7 +10,7 @@ use Rattle.audit_terms.specs.declared.items.Change.{Change}
 use Rattle.audit_terms.specs.declared.items.Step.{Step}
 use Rattle.audit_core.specs.declared.tables.StreamRow.{StreamRow}
 use Rattle.audit_terms.specs.declared.findings.Finding.{Finding}
-use Rattle.audit_terms.specs.Frame.{meets}
+use Rattle.audit_terms.specs.Frame.{is_ack, meets}
 use Rattle.audit_terms.specs.Stream.{idle_stream, stream_after, stream_said}
 use Rattle.audit_terms.specs.code.Room.{WindowHasRoom}
 
@@ -20,6 +21,10 @@ step_at frame change stream = record {
   frame = (if meets stream frame then Some frame else None);
   change = change;
 }
+
+-- a change is that of an acknowledgement (6.5.3)
+abbrev pub IsOfAcknowledgement : Option Change → Frame → Type 0
+IsOfAcknowledgement change frame = ForSome change (λ _. is_ack frame.body ≡ true)
 
 -- what a row shows at a frame
 abbrev pub row_said : Sides ℕ → Frame → Option Change → StreamRow → List Finding

@@ -1,4 +1,4 @@
-use Rattle.std.proofs.Common.{◌≡◌, ℤ, pos, ◌+◌, ◌*◌, ◌^◌, ◌++◌, drop, get_or, refl, sym, ap, ◌∙◌, subst, arith}
+use Rattle.std.proofs.Common.{◌≡◌, ℤ, pos, ◌+◌, ◌-◌, ◌*◌, ◌^◌, ◌++◌, drop, get_or, refl, sym, ap, ◌∙◌, subst, arith}
 use Rattle.std.proofs.lemmas.List.{drop_all}
 use Rattle.std.proofs.lemmas.Int.{ints}
 use Rattle.audit_terms.specs.declared.sides.Sides.{Sides}
@@ -6,7 +6,8 @@ use Rattle.audit_terms.specs.Sides.{side_of, each_side}
 use Rattle.audit_terms.specs.code.Room.{HasRoom}
 use Rattle.audit_terms.specs.InForce.{InForce, in_force_after, change_of}
 use Rattle.audit_terms.specs.Connection.{credit_after}
-use Rattle.audit_core.specs.code.StreamTable.{RowsFit}
+use Rattle.audit_core.specs.code.StreamTable.{IsOfAcknowledgement, RowsFit}
+use Rattle.audit_core.proofs.Acknowledgements.{change_of-acknowledged}
 use Rattle.audit_terms.specs.Finding.{say, in_order, upto_stop}
 use Rattle.audit_terms.specs.Pass.{pass_start, next, streams_of}
 use Rattle.audit_core.proofs.OrderlyRest.{in_range-get_or, number-get_or, stream-get_or, length-orderly, drop-next}
@@ -52,12 +53,12 @@ meet_windows-requires-clause-frame c = in_range-get_or 0 c.args.frames.now c.loo
 pub meet_windows-requires-clause-client : goal.meet_windows-requires-clause-client
 meet_windows-requires-clause-client c =
     let few = length-orderly 0 c.args.frames.now (omega arith) c.requires in
-    room-wider (2 ^ 17 + c.loop-frame.frame-index * 2 ^ 34) (2 ^ 62) _ (omega arith) c.loop-frame.invariant.client
+    room-wider (2 ^ 17 + c.loop-frame.frame-index * 2 ^ 32) (2 ^ 60) _ (omega arith) c.loop-frame.invariant.client
 
 pub meet_windows-requires-clause-server : goal.meet_windows-requires-clause-server
 meet_windows-requires-clause-server c =
     let few = length-orderly 0 c.args.frames.now (omega arith) c.requires in
-    room-wider (2 ^ 17 + c.loop-frame.frame-index * 2 ^ 34) (2 ^ 62) _ (omega arith) c.loop-frame.invariant.server
+    room-wider (2 ^ 17 + c.loop-frame.frame-index * 2 ^ 32) (2 ^ 60) _ (omega arith) c.loop-frame.invariant.server
 
 pub meet-requires-in-loop-frame-clause-numbered : goal.meet-requires-in-loop-frame-clause-numbered
 meet-requires-in-loop-frame-clause-numbered c = number-get_or 0 c.args.frames.now c.loop-frame.frame-index _ c.requires c.loop-frame-test.true
@@ -65,7 +66,15 @@ meet-requires-in-loop-frame-clause-numbered c = number-get_or 0 c.args.frames.no
 pub meet-requires-in-loop-frame-clause-fits : goal.meet-requires-in-loop-frame-clause-fits
 meet-requires-in-loop-frame-clause-fits c =
     let few = length-orderly 0 c.args.frames.now (omega arith) c.requires in
-    all_fit-wider (2 ^ 17 + c.loop-frame.frame-index * 2 ^ 34) (2 ^ 62) c.loop-frame.streams.rows.items (omega arith) c.loop-frame.invariant.fits
+    all_fit-wider (2 ^ 17 + c.loop-frame.frame-index * 2 ^ 32) (2 ^ 60 - 2 ^ 32) c.loop-frame.streams.rows.items (omega arith) c.loop-frame.invariant.fits
+
+pub meet-requires-in-loop-frame-clause-acknowledged : goal.meet-requires-in-loop-frame-clause-acknowledged
+meet-requires-in-loop-frame-clause-acknowledged c =
+    let old = c.loop-frame.invariant in
+    let frame = get_or c.args.frames.now c.loop-frame.frame-index _ in
+    subst (λ change. IsOfAcknowledgement change frame)
+    (sym (c.in_ok-change.ensures.change ∙ ap (λ (f : InForce). change_of f frame) old.in_force))
+    (change_of-acknowledged old.state.in_force frame)
 
 pub loop-frame-preserved : goal.loop-frame-preserved
 loop-frame-preserved c =
@@ -81,21 +90,21 @@ loop-frame-preserved c =
       table = table-more old.state frame (streams_of c.args.frames.now) c.initial-initial.result c.in_ok-change.change
           c.loop-frame.streams.rows.items initial change old.table _ c.in_ok-meet.ensures.after;
       index = c.in_ok-meet.ensures.index;
-      rows = rows-more _ c.loop-frame.found.items _ (streams_of c.args.frames.now) old.state frame
+      rows = rows-more _ c.loop-frame.found.items c.meet-in-loop-frame.new.found.items (streams_of c.args.frames.now) old.state frame
           (drop c.loop-frame.frame-index c.args.frames.now) (drop (c.loop-frame.frame-index + 1) c.args.frames.now)
           (drop-next c.args.frames.now c.loop-frame.frame-index _ c.loop-frame-test.true)
           (parts-more old.state frame (streams_of c.args.frames.now) c.initial-initial.result c.in_ok-change.change
           c.loop-frame.streams.rows.items initial change old.table c.loop-frame.connection.credit old.credit
-          c.loop-frame.found.items c.say_if.new.found.items c.meet_windows.new.found.items _ c.takes_nothing.result
+          c.loop-frame.found.items c.say_if.new.found.items c.meet_windows.new.found.items c.meet-in-loop-frame.new.found.items c.takes_nothing.result
           c.takes_nothing.ensures
           (c.in_ok-say_if.ensures.ok ∙ ap (λ x. c.loop-frame.found.items ++ say c.takes_nothing.result x) c.at-ack.ensures)
           c.in_ok-meet_windows.ensures.said c.in_ok-meet.ensures.said)
           old.rows;
       client_paired = c.in_ok-change.ensures.client;
       server_paired = c.in_ok-change.ensures.server;
-      client = room-wider (2 ^ 17 + c.loop-frame.frame-index * 2 ^ 34 + 2 ^ 33) _ _ (omega arith) (c.meet_windows.ensures.client _ old.client);
-      server = room-wider (2 ^ 17 + c.loop-frame.frame-index * 2 ^ 34 + 2 ^ 33) _ _ (omega arith) (c.meet_windows.ensures.server _ old.server);
-      fits = all_fit-wider (2 ^ 17 + c.loop-frame.frame-index * 2 ^ 34 + 2 ^ 34) _ _ (omega arith) (c.in_ok-meet.ensures.fits _ old.fits);
+      client = room-wider (2 ^ 17 + c.loop-frame.frame-index * 2 ^ 32 + 2 ^ 32) _ _ (omega arith) (c.meet_windows.ensures.client _ old.client);
+      server = room-wider (2 ^ 17 + c.loop-frame.frame-index * 2 ^ 32 + 2 ^ 32) _ _ (omega arith) (c.meet_windows.ensures.server _ old.server);
+      fits = all_fit-wider (2 ^ 17 + c.loop-frame.frame-index * 2 ^ 32 + 2 ^ 32) _ _ (omega arith) (c.in_ok-meet.ensures.fits _ old.fits);
     }
 
 pub returns : goal.returns
@@ -103,7 +112,7 @@ returns c =
     let last = c.loop-frame.invariant in
     c.cut_at_stop.ensures
     ∙ ap upto_stop (c.in_ok-put_in_order.ensures.ok
-    ∙ ap in_order (rows-done _ c.loop-frame.found.items (streams_of c.args.frames.now) last.state
+    ∙ rows-done _ c.loop-frame.found.items (streams_of c.args.frames.now) last.state
     (drop c.loop-frame.frame-index c.args.frames.now)
-    (drop_all c.loop-frame.frame-index c.args.frames.now c.loop-frame-test.false) last.rows)
+    (drop_all c.loop-frame.frame-index c.args.frames.now c.loop-frame-test.false) last.rows
     ∙ sym (shown-full c.args.frames.now c.requires))

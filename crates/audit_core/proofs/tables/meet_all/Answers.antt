@@ -19,7 +19,7 @@ loop-row-preserved c =
       room = room-more rows i _ c.meet.new.self within next _ c.loop-row.invariant.room;
       fits = λ bound h.
           let old = c.loop-row.invariant.fits bound h in (
-            front-more rows i _ c.meet.new.self within next bound (bound + 2 ^ 34) (c.in_ok-meet.ensures.fits bound) old.0 old.1,
+            front-more rows i _ c.meet.new.self within next bound (bound + 2 ^ 32) (c.in_ok-meet.ensures.fits bound) old.0 old.1,
             room-more rows i _ c.meet.new.self within next bound old.1,
           );
     }
@@ -27,5 +27,5 @@ loop-row-preserved c =
 pub returns-clause-fits : goal.returns-clause-fits
 returns-clause-fits c = λ bound h.
     let whole : length c.loop-row.rows ≤ c.loop-row.row-index = omega arith in
-    subst (RowsFit (bound + 2 ^ 34)) (take_all c.loop-row.row-index c.loop-row.rows whole)
+    subst (RowsFit (bound + 2 ^ 32)) (take_all c.loop-row.row-index c.loop-row.rows whole)
     (c.loop-row.invariant.fits bound h).0

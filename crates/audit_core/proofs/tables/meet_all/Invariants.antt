@@ -9,7 +9,7 @@ invariant-loop-row l = record {
       ≡ l.fn.found.items ++ flat_map (row_said l.fn.initial l.frame l.change) l.fn.rows;
   after : take l.row-index l.rows ++ map (row_after l.fn.initial l.frame l.change) (drop l.row-index l.rows)
       ≡ map (row_after l.fn.initial l.frame l.change) l.fn.rows;
-  room : RowsFit (2 ^ 62) (drop l.row-index l.rows);
+  room : RowsFit (2 ^ 60) (drop l.row-index l.rows);
   fits : (bound : ℕ) → RowsFit bound l.fn.rows →
-      RowsFit (bound + 2 ^ 34) (take l.row-index l.rows) × RowsFit bound (drop l.row-index l.rows);
+      RowsFit (bound + 2 ^ 32) (take l.row-index l.rows) × RowsFit bound (drop l.row-index l.rows);
 }

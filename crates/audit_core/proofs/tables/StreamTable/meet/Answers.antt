@@ -1,4 +1,4 @@
-use Rattle.std.proofs.Common.{ℕ, ◌≢◌, ◌+◌, ◌^◌, refl, sym, ap, ◌∙◌, arith, subst, map, ◌++◌}
+use Rattle.std.proofs.Common.{ℕ, ◌≢◌, ◌+◌, ◌-◌, ◌^◌, refl, sym, ap, ◌∙◌, arith, subst, map, ◌++◌}
 use Rattle.std.specs.List.{flat_map}
 use Rattle.std.proofs.lemmas.Result.{on_ok_weaker}
 use Rattle.audit_core.specs.code.StreamTable.{row_after, row_said_of, row_after_of, RowsFit, bound_more}
@@ -9,14 +9,14 @@ use Rattle.audit_core.proofs.tables.StreamTable.meet.Goals as goal
 
 pub meet_all-requires-clause-fits : goal.meet_all-requires-clause-fits
 meet_all-requires-clause-fits c =
-    subst (RowsFit (2 ^ 62)) (sym c.deref_mut.ensures.value)
-    (all_fit-wider (2 ^ 61) (2 ^ 62) c.args.self.now.rows.items (omega arith) c.requires.fits)
+    subst (RowsFit (2 ^ 60)) (sym c.deref_mut.ensures.value)
+    (all_fit-wider (2 ^ 60 - 2 ^ 32) (2 ^ 60) c.args.self.now.rows.items (omega arith) c.requires.fits)
 
 pub returns-then-moves_initial-clause-fits : goal.returns-then-moves_initial-clause-fits
 returns-then-moves_initial-clause-fits c =
     let back = whole-back c.args.self.now.rows.len c.meet_all.new.rows c.args.self.now.rows.items (omega arith) (omega arith) in
     on_ok_weaker c.meet_all.result
-    (λ fits bound h. subst (RowsFit (bound + 2 ^ 34)) (sym back)
+    (λ fits bound h. subst (RowsFit (bound + 2 ^ 32)) (sym back)
     (fits bound (subst (RowsFit bound) (sym c.deref_mut.ensures.value) h)))
     c.meet_all.ensures.fits
 
@@ -30,7 +30,7 @@ returns-then-moves_initial-clause-index c =
     c.meet_all.ensures.after
 
 pub meet_stream-requires-clause-fits : goal.meet_stream-requires-clause-fits
-meet_stream-requires-clause-fits c = all_fit-wider (2 ^ 61) (2 ^ 62) c.args.self.now.rows.items (omega arith) c.requires.fits
+meet_stream-requires-clause-fits c = all_fit-wider (2 ^ 60 - 2 ^ 32) (2 ^ 60) c.args.self.now.rows.items (omega arith) c.requires.fits
 
 pub returns-then-promised-frame-clause-said : goal.returns-then-promised-frame-clause-said
 returns-then-promised-frame-clause-said c =
@@ -46,14 +46,14 @@ returns-then-promised-frame-clause-after c =
 
 pub returns-then-promised-frame-clause-fits : goal.returns-then-promised-frame-clause-fits
 returns-then-promised-frame-clause-fits c = λ bound h.
-    fit-single (2 ^ 34) c.args.frame.now.stream bound c.meet_stream.new.self.rows.items
+    fit-single (2 ^ 32) c.args.frame.now.stream bound c.meet_stream.new.self.rows.items
     (c.in_ok-meet_stream.ensures.fits (λ _. bound) h)
 
 pub meet_stream-requires-2-clause-fits : goal.meet_stream-requires-2-clause-fits
 meet_stream-requires-2-clause-fits c =
-    all_fit-wider (2 ^ 61 + 2 ^ 34) (2 ^ 62) c.meet_stream.new.self.rows.items (omega arith)
-    (fit-single (2 ^ 34) c.args.frame.now.stream (2 ^ 61) c.meet_stream.new.self.rows.items
-    (c.in_ok-meet_stream.ensures.fits (λ _. 2 ^ 61) c.requires.fits))
+    all_fit-wider (2 ^ 60) (2 ^ 60) c.meet_stream.new.self.rows.items (omega arith)
+    (fit-single (2 ^ 32) c.args.frame.now.stream (2 ^ 60 - 2 ^ 32) c.meet_stream.new.self.rows.items
+    (c.in_ok-meet_stream.ensures.fits (λ _. 2 ^ 60 - 2 ^ 32) c.requires.fits))
 
 -- the promised stream is another than the frame's own
 abbrev Differ : ℕ → ℕ → Type 0
@@ -84,7 +84,7 @@ returns-clause-after c =
 pub returns-clause-fits : goal.returns-clause-fits
 returns-clause-fits c =
     on_ok_weaker c.meet_stream-2.result
-    (λ fits bound h. fit-pair (2 ^ 34) c.args.frame.now.stream c.promised_by-promised.result bound c.if-promised-frame.false
+    (λ fits bound h. fit-pair (2 ^ 32) c.args.frame.now.stream c.promised_by-promised.result bound c.if-promised-frame.false
     c.meet_stream-2.new.self.rows.items
-    (fits (bound_more (2 ^ 34) c.args.frame.now.stream (λ _. bound)) (c.in_ok-meet_stream.ensures.fits (λ _. bound) h)))
+    (fits (bound_more (2 ^ 32) c.args.frame.now.stream (λ _. bound)) (c.in_ok-meet_stream.ensures.fits (λ _. bound) h)))
     c.meet_stream-2.ensures.fits

@@ -12,8 +12,8 @@ index_mut-row-requires c =
 pub meet-requires-clause-fits : goal.meet-requires-clause-fits
 meet-requires-clause-fits c =
     let at = place-found _ c.args.self.now.positions c.args.stream c.in-Some.place c.requires.index c.in-Some.ensures in
-    subst (RowFits (2 ^ 62)) (sym c.index_mut-row.ensures.value)
-    (fit-get_or (2 ^ 62) c.args.self.now.rows.items c.in-Some.place c.index_mut-row.result.now
+    subst (RowFits (2 ^ 60)) (sym c.index_mut-row.ensures.value)
+    (fit-get_or (2 ^ 60) c.args.self.now.rows.items c.in-Some.place c.index_mut-row.result.now
     (place-within c.args.stream c.args.self.now.rows.items c.in-Some.place at) c.requires.fits)
 
 pub returns-in_ok-meet-clause-said : goal.returns-in_ok-meet-clause-said
@@ -37,7 +37,7 @@ returns-in_ok-meet-clause-after c =
 pub returns-in_ok-meet-clause-fits : goal.returns-in_ok-meet-clause-fits
 returns-in_ok-meet-clause-fits c = λ bound h.
     let at = place-found _ c.args.self.now.positions c.args.stream c.in-Some.place c.requires.index c.in-Some.ensures in
-    fit-set (2 ^ 34) c.args.stream bound c.args.self.now.rows.items c.in-Some.place c.index_mut-row.result.now c.meet.new.self
+    fit-set (2 ^ 32) c.args.stream bound c.args.self.now.rows.items c.in-Some.place c.index_mut-row.result.now c.meet.new.self
     (ap (λ row. row.stream) (c.in_ok-meet.ensures.after
     ∙ ap (row_after c.args.initial.now c.args.frame.now c.args.change.now) c.index_mut-row.ensures.value)
     ∙ stream-at c.args.stream c.args.self.now.rows.items c.in-Some.place c.index_mut-row.result.now at)
@@ -64,4 +64,4 @@ returns-in_default-clause-after c =
     sym (after-no_row c.args.stream c.args.initial.now c.args.frame.now c.args.change.now c.args.self.now.rows.items none)
 
 pub returns-in_default-clause-fits : goal.returns-in_default-clause-fits
-returns-in_default-clause-fits c = λ (bound : ℕ → ℕ) h. all_fit-by bound _ (bound-more (2 ^ 34) c.args.stream bound) c.args.self.now.rows.items h
+returns-in_default-clause-fits c = λ (bound : ℕ → ℕ) h. all_fit-by bound _ (bound-more (2 ^ 32) c.args.stream bound) c.args.self.now.rows.items h

@@ -1,6 +1,7 @@
 use Rattle.std.proofs.Common.{◌+◌, ◌++◌, drop, get_or, refl, sym, ap, ◌∙◌}
-use Rattle.audit_terms.specs.Pass.{streams_of}
-use Rattle.audit_core.specs.code.StreamTable.{streams_in}
+use Rattle.audit_terms.specs.Frame.{promised_by}
+use Rattle.audit_terms.specs.Pass.{first_of, streams_of}
+use Rattle.audit_core.specs.code.StreamTable.{with_stream, streams_in}
 use Rattle.audit_core.proofs.OrderlyRest.{drop-next}
 use Rattle.audit_core.proofs.NamedStreams.{without, named-more, named-first, index-empty}
 use Rattle.audit_core.proofs.tables.StreamTable.of.Goals as goal
@@ -19,11 +20,16 @@ loop-frame-preserved c =
     let seen = streams_in c.loop-frame.table.rows.items in
     let frame = get_or c.args.frames.now c.loop-frame.frame-index _ in
     let rest = drop (c.loop-frame.frame-index + 1) c.args.frames.now in
+    let own = with_stream frame.stream seen in
+    let both = c.in_ok-note-2.ensures.named
+    ∙ ap (λ p. with_stream p (streams_in c.note.new.self.rows.items)) c.promised_by.ensures
+    ∙ ap (with_stream (promised_by frame)) c.in_ok-note.ensures.named in
     record {
-      idle = c.in_ok-note.ensures.idle;
-      index = c.in_ok-note.ensures.index;
-      named = ap (λ l. l ++ without l (streams_of rest)) c.in_ok-note.ensures.named
-          ∙ named-more seen frame rest
+      idle = c.in_ok-note-2.ensures.idle;
+      index = c.in_ok-note-2.ensures.index;
+      named = ap (λ l. l ++ without l (streams_of rest)) both
+          ∙ named-more (promised_by frame) own (streams_of rest)
+          ∙ named-more frame.stream seen (first_of (promised_by frame) (streams_of rest))
           ∙ ap (λ l. seen ++ without seen (streams_of l))
           (sym (drop-next c.args.frames.now c.loop-frame.frame-index _ c.loop-frame-test.true))
           ∙ c.loop-frame.invariant.named;
