@@ -236,7 +236,7 @@ module _ (stream : ℕ) (initial : Sides ℕ) (entry : Stream) (step : Step) (h 
       (rows-append (Only stream) 21 24 30 (omega arith) (omega arith) _ _
       (rows-say_of (Only stream) 21 24 _ step.frame rows-frame) rows-client) rows-server
 
-all-differ : (stream : ℕ) (streams : List ℕ) → NotAmong stream streams → AllByRecursion (λ other. stream ≢ other) streams
+pub all-differ : (stream : ℕ) (streams : List ℕ) → NotAmong stream streams → AllByRecursion (λ other. stream ≢ other) streams
 all-differ stream [] h = tt
 all-differ stream (other ∷ others) h = (h.0, all-differ stream others h.1)
 

@@ -2,10 +2,15 @@ pub mod Script
 pub mod Stalls
 pub mod StreamUses
 pub mod SingleFaults
+pub mod FrameFaults
+pub mod WindowUses
+pub mod Promises
+pub mod KindTable
 pub mod CreditLaws
 pub mod LiveLaw
 pub mod PartsLaw
 pub mod StopLaw
 pub mod ApartLaw
 pub mod StepsLaw
+pub mod StreamsLaw
 pub mod code
