@@ -1,7 +1,7 @@
 //! Captures written out byte by byte, with the values that they hold.
 
-use packet_heads::{Endpoint, Packet, Refusal, Segment, decode_all};
-use pcap_records::{ETHERNET, PcapFault, RAW_IP, Record, Records, records};
+use packet_heads::decode_all;
+use pcap_records::{PcapFault, records};
 use std::process::Abort;
 use std::test::Fail;
 
@@ -23,75 +23,46 @@ const TAGGED: [u8; 60] = [
     7, 7,
 ];
 
-/// The found records are these.
-fn expect(
-    rt: &(impl Abort + AllocGlobal),
-    found: &Records,
-    link: u16,
-    rows: &[Record],
-    cut: Option<u32>,
-) {
-    assert_eq!(rt;
-        (found.link, found.rows.as_slice(), found.cut),
-        (link, rows, cut)
-    );
+/// A value prints as this text, field by field.
+fn expect(rt: &(impl Abort + AllocGlobal), printed: &str, want: &str) {
+    assert_eq!(rt; printed, want);
 }
 
 #[test]
 fn nanoseconds_and_cut_record(rt: HostRuntime) -> Result<(), Fail> {
+    let alloc = rt.alloc();
     let record = [0, 0, 0, 1, 0, 0, 0, 0, 0, 0, 0, 1, 0, 0, 0, 14, 0x60];
-    let mut capture = RAW.to_vec(rt.alloc())?;
+    let mut capture = RAW.to_vec(alloc)?;
     capture.extend_from_slice(&record)?;
     capture.extend_from_slice(&record[..16])?;
-    let found = records(rt.alloc(), capture.as_slice())?;
-    let row = Record {
-        nanos: 1_000_000_000,
-        original: 14,
-        start: 40,
-        length: 1,
-    };
-    expect(&rt, &found, RAW_IP, &[row], Some(2));
+    let found = records(alloc, capture.as_slice())?;
+    let want = "Records { link: 101, \
+        rows: [Record { nanos: 1000000000, original: 14, start: 40, length: 1 }], cut: Some(2) }";
+    expect(&rt, format!(in alloc; "{found:?}")?.as_str(), want);
     Ok(())
 }
 
 #[test]
 fn packets_of_a_capture(rt: HostRuntime) -> Result<(), Fail> {
-    let mut capture = FRAMES.to_vec(rt.alloc())?;
+    let alloc = rt.alloc();
+    let mut capture = FRAMES.to_vec(alloc)?;
     capture.extend_from_slice(&[0, 0, 0, 0, 1, 0, 0, 0, 17, 0, 0, 0, 60, 0, 0, 0])?;
     capture.extend_from_slice(&TAGGED[..17])?;
     capture.extend_from_slice(&[0, 0, 0, 0, 2, 0, 0, 0, 60, 0, 0, 0, 60, 0, 0, 0])?;
     capture.extend_from_slice(&TAGGED)?;
-    let found = records(rt.alloc(), capture.as_slice())?;
-    let packets = decode_all(&rt, rt.alloc(), &found, capture.as_slice())?;
-    let segment = Segment {
-        rec: 2,
-        nanos: 2000,
-        from: Endpoint {
-            address: 0x0a00_0001,
-            port: 40000,
-        },
-        to: Endpoint {
-            address: 0x0a00_0002,
-            port: 80,
-        },
-        seq: 0xffff_fffc,
-        syn: false,
-        ack: true,
-        lo: 131,
-        hi: 133,
-        snapped: false,
-    };
-    let want = [
-        Packet::Refused(Refusal::ShortEthernet),
-        Packet::Segment(segment),
-    ];
-    assert_eq!(rt; packets.as_slice(), want.as_slice());
+    let found = records(alloc, capture.as_slice())?;
+    let packets = decode_all(&rt, alloc, &found, capture.as_slice())?;
+    let want = "[Refused(ShortEthernet), Segment(Segment { rec: 2, nanos: 2000, \
+        from: Endpoint { address: 167772161, port: 40000 }, to: Endpoint { address: 167772162, port: 80 }, \
+        seq: 4294967292, syn: false, ack: true, lo: 131, hi: 133, snapped: false })]";
+    expect(&rt, format!(in alloc; "{packets:?}")?.as_str(), want);
     Ok(())
 }
 
 #[test]
 fn printed_faults(rt: HostRuntime) -> Result<(), Fail> {
-    let mut printed = String::new(rt.alloc());
+    let alloc = rt.alloc();
+    let mut printed = String::new(alloc);
     for fault in [
         PcapFault::ShortHeader,
         PcapFault::BadMagic,
@@ -100,9 +71,9 @@ fn printed_faults(rt: HostRuntime) -> Result<(), Fail> {
         PcapFault::TooLarge,
         PcapFault::OutOfMemory,
     ] {
-        printed.push_str(format!(in rt.alloc(); "{fault}\n")?.as_str())?;
+        printed.push_str(format!(in alloc; "{fault}\n")?.as_str())?;
     }
     let want = "fault 1\nfault 2\nfault 3\nfault 4\nfault 5\nfault 6\n";
-    assert_eq!(rt; printed.as_str(), want);
+    expect(&rt, printed.as_str(), want);
     Ok(())
 }
