@@ -1,5 +1,5 @@
 -- The frames of both sides make an HTTP/2 connection's cut.
-use Rattle.std.proofs.Common.{◌≡◌, ℕ, ◌+◌, ◌*◌, ◌^◌, ◌<◌, List, [], ◌∷◌, length, vec_len, ap, ap₂, ◌∙◌, arith, length-append}
+use Rattle.std.proofs.Common.{◌≡◌, ℕ, ◌+◌, ◌*◌, ◌^◌, ◌<◌, List, length, vec_len, ap, ap₂, ◌∙◌, arith, length-append}
 use Rattle.std.specs.List.{AllByRecursion}
 use Rattle.itertools.specs.List.{merge_by}
 use Rattle.tcp_streams.specs.declared.streams.Arrival.{Arrival}
@@ -15,7 +15,7 @@ use Rattle.h2_frames.specs.Spelling.{Spells}
 use Rattle.h2_frames.specs.CaptureOrder.{captured_from, numbered}
 use Rattle.h2_frames.specs.Preface.{preface, BeginsWithPreface}
 use Rattle.h2_frames.specs.Cut.{IsHttp2}
-use Rattle.h2_frames.specs.Steps.{IsReadable}
+use Rattle.h2_frames.specs.code.Steps.{IsReadable}
 use Rattle.h2_frames.proofs.Merging.{is_first, captured-in_order, merged-capture_order, all-merge, length-merge, numbered-orderly}
 
 -- what was read of a side's bytes

@@ -11,8 +11,8 @@ use Rattle.audit_terms.specs.declared.frames.Frame.{Frame}
 use Rattle.audit_terms.specs.Frame.{promised_in}
 use Rattle.h2_frames.specs.declared.spelling.Spelled.{Spelled}
 use Rattle.h2_frames.specs.Spelling.{Spells, Makes}
-use Rattle.h2_frames.specs.CaptureOrder.{arrival_at, captured, captured_from}
-use Rattle.h2_frames.specs.Steps.{arrivals_from, IsReadable}
+use Rattle.h2_frames.specs.CaptureOrder.{byte_arrival, captured, captured_from}
+use Rattle.h2_frames.specs.code.Steps.{arrivals_from, IsReadable}
 
 below_later : (m n k : ℕ) → nat_lt m k ≡ false → m ≤ n → nat_lt n k ≡ false
 below_later m n k e h = grind (arith, nat_tests)
@@ -31,14 +31,14 @@ arrivals_from-arrivals_from offset o (a ∷ later) h = by (nat_lt offset a.upto)
 
 -- the first of them is where the byte arrives
 pub get_or-arrivals_from : (o : ℕ) (arrivals : List Arrival) (d : Arrival) → 0 < length (arrivals_from o arrivals) →
-    get_or (arrivals_from o arrivals) 0 d ≡ arrival_at arrivals o
+    get_or (arrivals_from o arrivals) 0 d ≡ byte_arrival arrivals o
 get_or-arrivals_from o [] d h = absurd (omega arith)
 get_or-arrivals_from o (a ∷ later) d h = by (nat_lt o a.upto) refl (get_or-arrivals_from o later d) h
   where
     by : (test : Bool) → nat_lt o a.upto ≡ test →
-        (0 < length (arrivals_from o later) → get_or (arrivals_from o later) 0 d ≡ arrival_at later o) →
+        (0 < length (arrivals_from o later) → get_or (arrivals_from o later) 0 d ≡ byte_arrival later o) →
         0 < length (cond test (a ∷ later) (arrivals_from o later)) →
-        get_or (cond test (a ∷ later) (arrivals_from o later)) 0 d ≡ arrival_at (a ∷ later) o
+        get_or (cond test (a ∷ later) (arrivals_from o later)) 0 d ≡ byte_arrival (a ∷ later) o
     by true e rest h = rw e refl
     by false e rest h = rw e (rest h)
 
@@ -126,12 +126,12 @@ partly-captured-turn side bytes offset arrivals rest upto to_come frames partly 
     let from_start : to_come' ≡ arrivals_from (upto' - 1) arrivals = to_come_is ∙ partly.ahead (upto' - 1) (omega arith) in
     let there : 0 < length (arrivals_from (upto' - 1) arrivals) =
     arrivals_from-not_empty 0 0 (offset + length bytes) (upto' - 1) arrivals rises (omega arith) (omega arith) in
-    let first : get_or to_come' 0 d ≡ arrival_at arrivals (upto' - 1) =
+    let first : get_or to_come' 0 d ≡ byte_arrival arrivals (upto' - 1) =
     ap (λ (x : List Arrival). get_or x 0 d) from_start ∙ get_or-arrivals_from (upto' - 1) arrivals d there in
     let at : upto' - 1 ≡ upto + (9 + s.header.length) - 1 = ap (λ (x : ℕ). x - 1) upto_is in
     let frame_is : captured side (length frames + 1) (get_or to_come' 0 d) s
-    ≡ captured side (length frames + 1) (arrival_at arrivals (upto + (9 + s.header.length) - 1)) s =
-    ap (λ (a : Arrival). captured side (length frames + 1) a s) (first ∙ ap (arrival_at arrivals) at) in
+    ≡ captured side (length frames + 1) (byte_arrival arrivals (upto + (9 + s.header.length) - 1)) s =
+    ap (λ (a : Arrival). captured side (length frames + 1) a s) (first ∙ ap (byte_arrival arrivals) at) in
     let on_time : (get_or to_come' 0 d).nanos < 2 ^ 63 =
     rw from_start (arrivals_from-timely (upto' - 1) arrivals d timely there) in
     let count : length frames' ≡ length frames + 1 = ap length frames_is ∙ length_push frames _ in

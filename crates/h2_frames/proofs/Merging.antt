@@ -11,10 +11,10 @@ use Rattle.audit_terms.specs.declared.frames.Frame.{Frame}
 use Rattle.audit_terms.specs.Order.{put_by, ordered_by}
 use Rattle.audit_terms.specs.Side.{side_order}
 use Rattle.audit_terms.specs.Frame.{IsOrderlyFrom}
-use Rattle.h2_frames.specs.Steps.{IsReadable}
+use Rattle.h2_frames.specs.code.Steps.{IsReadable}
 use Rattle.h2_frames.specs.declared.spelling.Spelled.{Spelled}
 use Rattle.h2_frames.specs.Spelling.{Spells}
-use Rattle.h2_frames.specs.CaptureOrder.{arrival_at, captured, captured_from, comes_after, numbered, capture_order}
+use Rattle.h2_frames.specs.CaptureOrder.{byte_arrival, captured, captured_from, comes_after, numbered, capture_order}
 
 -- comes_after, on the three numbers
 is_above : (a b c x y z : ℕ) → Bool
@@ -92,20 +92,20 @@ ordered-merge (x ∷ xs) ys h k =
 
 -- bytes arrive at later and later records
 rec_above : (low rec high o : ℕ) (arrivals : List Arrival) → Rises low rec arrivals high → low ≤ o → o < high →
-    rec ≤ (arrival_at arrivals o).rec
+    rec ≤ (byte_arrival arrivals o).rec
 rec_above low rec high o [] rises h k = absurd (omega arith)
 rec_above low rec high o (a ∷ later) rises h k =
     by (nat_lt o a.upto) refl (λ past. rec_above a.upto a.rec high o later rises.2 past k)
   where
-    by : (test : Bool) → nat_lt o a.upto ≡ test → (a.upto ≤ o → a.rec ≤ (arrival_at later o).rec) → rec ≤ (arrival_at (a ∷ later) o).rec
+    by : (test : Bool) → nat_lt o a.upto ≡ test → (a.upto ≤ o → a.rec ≤ (byte_arrival later o).rec) → rec ≤ (byte_arrival (a ∷ later) o).rec
     by true e rest = let above : rec < a.rec = rises.1 in rw e (omega arith)
     by false e rest =
         let above : rec < a.rec = rises.1 in
-        let past : a.rec ≤ (arrival_at later o).rec = rest (grind (arith, nat_tests)) in
+        let past : a.rec ≤ (byte_arrival later o).rec = rest (grind (arith, nat_tests)) in
         rw e (omega arith)
 
 pub rec_rises : (low rec high o p : ℕ) (arrivals : List Arrival) → Rises low rec arrivals high → low ≤ o → o ≤ p → p < high →
-    (arrival_at arrivals o).rec ≤ (arrival_at arrivals p).rec
+    (byte_arrival arrivals o).rec ≤ (byte_arrival arrivals p).rec
 rec_rises low rec high o p [] rises h k l = absurd (omega arith)
 rec_rises low rec high o p (a ∷ later) rises h k l =
     by (nat_lt o a.upto) (nat_lt p a.upto) refl refl
@@ -113,9 +113,9 @@ rec_rises low rec high o p (a ∷ later) rises h k l =
     (λ past. rec_rises a.upto a.rec high o p later rises.2 past k l)
   where
     by : (first second : Bool) → nat_lt o a.upto ≡ first → nat_lt p a.upto ≡ second →
-        (a.upto ≤ p → a.rec ≤ (arrival_at later p).rec) →
-        (a.upto ≤ o → (arrival_at later o).rec ≤ (arrival_at later p).rec) →
-        (arrival_at (a ∷ later) o).rec ≤ (arrival_at (a ∷ later) p).rec
+        (a.upto ≤ p → a.rec ≤ (byte_arrival later p).rec) →
+        (a.upto ≤ o → (byte_arrival later o).rec ≤ (byte_arrival later p).rec) →
+        (byte_arrival (a ∷ later) o).rec ≤ (byte_arrival (a ∷ later) p).rec
     by true true e f above rest = rw (e, f) (omega arith)
     by true false e f above rest = rw (e, f) (above (grind (arith, nat_tests)))
     by false true e f above rest = absurd (grind (arith, nat_tests))
@@ -127,7 +127,7 @@ later_number x y h k = grind (arith, nat_tests)
 -- a side's frames stand in order
 captured-ascending : (side : Side) (arrivals : List Arrival) (high : ℕ) → Rises 0 0 arrivals high →
     (number offset : ℕ) (spelled : List Spelled) (bytes tail : List ℕ) → Spells bytes spelled tail → offset + length bytes ≤ high →
-    (x : Frame) (last : ℕ) → x.number < number → last ≤ offset → x.rec ≡ (arrival_at arrivals last).rec →
+    (x : Frame) (last : ℕ) → x.number < number → last ≤ offset → x.rec ≡ (byte_arrival arrivals last).rec →
     IsAscendingFrom x (captured_from side arrivals number offset spelled)
 captured-ascending side arrivals high rises number offset [] bytes tail spells within x last h k e = tt
 captured-ascending side arrivals high rises number offset (s ∷ later) bytes tail spells within x last h k e =
@@ -137,11 +137,11 @@ captured-ascending side arrivals high rises number offset (s ∷ later) bytes ta
     let nine : length header ≡ 9 = makes.nine in
     let whole : length payload ≡ s.header.length = makes.whole in
     let upto = offset + (9 + s.header.length) in
-    let rec : (arrival_at arrivals last).rec ≤ (arrival_at arrivals (upto - 1)).rec =
+    let rec : (byte_arrival arrivals last).rec ≤ (byte_arrival arrivals (upto - 1)).rec =
     rec_rises 0 0 high last (upto - 1) arrivals rises (omega arith) (omega arith) (omega arith) in (
-      later_number x (captured side number (arrival_at arrivals (upto - 1)) s) h (omega arith),
+      later_number x (captured side number (byte_arrival arrivals (upto - 1)) s) h (omega arith),
       captured-ascending side arrivals high rises (number + 1) upto later rest tail spells.5 (omega arith)
-          (captured side number (arrival_at arrivals (upto - 1)) s) (upto - 1) (omega arith) (omega arith) refl,
+          (captured side number (byte_arrival arrivals (upto - 1)) s) (upto - 1) (omega arith) (omega arith) refl,
     )
 
 pub captured-in_order : (side : Side) (arrivals : List Arrival) (high : ℕ) → Rises 0 0 arrivals high →
@@ -156,7 +156,7 @@ captured-in_order side arrivals high rises offset (s ∷ later) bytes tail spell
     let whole : length payload ≡ s.header.length = makes.whole in
     let upto = offset + (9 + s.header.length) in
     captured-ascending side arrivals high rises 2 upto later rest tail spells.5 (omega arith)
-    (captured side 1 (arrival_at arrivals (upto - 1)) s) (upto - 1) (omega arith) (omega arith) refl
+    (captured side 1 (byte_arrival arrivals (upto - 1)) s) (upto - 1) (omega arith) (omega arith) refl
 
 -- merged and numbered, they are the frames in capture order
 pub merged-capture_order : (client server : List Frame) → IsAscending client → IsAscending server →

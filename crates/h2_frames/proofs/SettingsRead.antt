@@ -5,7 +5,7 @@ use Rattle.std.specs.Option.{option_or}
 use Rattle.audit_terms.specs.declared.frames.Settings.{Settings}
 use Rattle.h2_frames.specs.declared.settings.Setting.{Setting}
 use Rattle.h2_frames.specs.Settings.{setting_at, settings_in, is_in_range, last_value, first_bad}
-use Rattle.h2_frames.specs.Steps.{with_setting}
+use Rattle.h2_frames.specs.code.Steps.{with_setting}
 
 -- the settings so far, with later ones put over them
 abbrev pub with_later : Settings → List Setting → Settings

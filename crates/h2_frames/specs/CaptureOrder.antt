@@ -1,17 +1,17 @@
 -- The frames of both sides as they were captured. A frame is there when its last byte arrives.
 use Rattle.std.specs.Prelude.{ℕ, ◌+◌, ◌-◌, Bool, ◌==◌, ◌&&◌, ◌||◌, nat_lt, List, [], ◌∷◌, ◌++◌, unwrap_or}
 use Rattle.tcp_streams.specs.declared.streams.Arrival.{Arrival}
-use Rattle.tcp_streams.specs.Flow.{entry_at}
+use Rattle.tcp_streams.specs.Flow.{arrival_at}
 use Rattle.audit_terms.specs.declared.sides.Side.{Side}
 use Rattle.audit_terms.specs.declared.frames.Frame.{Frame}
 use Rattle.audit_terms.specs.Side.{side_order}
 use Rattle.audit_terms.specs.Order.{ordered_by}
 use Rattle.h2_frames.specs.declared.spelling.Spelled.{Spelled}
 
--- the entry at which the byte at this offset arrives; each byte of a flow has one
-abbrev pub arrival_at : List Arrival → (offset : ℕ) → Arrival
-arrival_at arrivals offset =
-    unwrap_or (entry_at arrivals offset) (record { upto = 0; rec = 0; nanos = 0 })
+-- the arrival of the byte at this offset; each byte of a flow has one
+abbrev pub byte_arrival : List Arrival → (offset : ℕ) → Arrival
+byte_arrival arrivals offset =
+    unwrap_or (arrival_at arrivals offset) (record { upto = 0; rec = 0; nanos = 0 })
 
 -- a side's frame of this number, whose last byte arrived so
 abbrev pub captured : Side → (number : ℕ) → Arrival → Spelled → Frame
@@ -32,7 +32,7 @@ abbrev pub captured_from : Side → List Arrival → (number offset : ℕ) → L
 captured_from side arrivals number offset [] = []
 captured_from side arrivals number offset (frame ∷ later) =
     let upto = offset + (9 + frame.header.length) in
-    captured side number (arrival_at arrivals (upto - 1)) frame ∷ captured_from side arrivals (number + 1) upto later
+    captured side number (byte_arrival arrivals (upto - 1)) frame ∷ captured_from side arrivals (number + 1) upto later
 
 -- by the record at which the last byte arrived, then by the number within the side, then Client before Server
 abbrev pub comes_after : Frame → Frame → Bool

@@ -1,5 +1,5 @@
--- What the two flows of a connection hold (RFC 9113, 3.4 and 4.1). Which of the four a connection is, is decided in this
--- order: no handshake, no preface, not HTTP/2, HTTP/2.
+-- What the two flows of a connection hold (RFC 9113, 3.4 and 4.1). Which of the four a connection is, is decided in
+-- this order: no handshake, no preface, not HTTP/2, HTTP/2.
 use Rattle.std.specs.Prelude.{◌≡◌, ℕ, List, length, IsTrue, IsFalse}
 use Rattle.tcp_streams.specs.declared.streams.Flow.{Flow}
 use Rattle.audit_terms.specs.declared.sides.Side.TheVariants.{Client, Server}
@@ -13,7 +13,8 @@ use Rattle.h2_frames.specs.Preface.{preface, IsPrefaceCutShort, BeginsWithPrefac
 use Rattle.h2_frames.specs.Spelling.{Spells}
 use Rattle.h2_frames.specs.CaptureOrder.{captured_from, capture_order}
 
--- the client's bytes are the preface and then frames, the server's are frames; the frames of both stand in capture order
+-- the client's bytes are the preface and then frames, the server's are frames; the frames of both stand in capture
+-- order
 pub record IsHttp2 (client server : Flow) (frames : List Frame) (tails : Sides ℕ) : Type 0 where
   pub after_preface : List ℕ
   pub client_frames : List Spelled
@@ -33,8 +34,8 @@ abbrev pub IsHttp2Cut : (client server : Flow) → Cut → Type 0
 IsHttp2Cut client server (Http2 frames tails) = IsHttp2 client server frames.items tails
 IsHttp2Cut client server _ = ⊥
 
--- the server's flow is not started; else the client's ends within the preface; else it does not begin with it; else both
--- are cut into frames
+-- the server's flow is not started; else the client's ends within the preface; else it does not begin with it; else
+-- both are cut into frames
 abbrev pub IsCut : (client server : Flow) → Cut → Type 0
 IsCut client server NoHandshake = IsFalse server.started
 IsCut client server NoPreface = IsTrue server.started × IsPrefaceCutShort client.bytes.items

@@ -4,7 +4,6 @@ pub mod Body
 pub mod Spelling
 pub mod CaptureOrder
 pub mod Preface
-pub mod Opening
 pub mod Cut
 pub mod Law
-pub mod Steps
+pub mod code

@@ -7,9 +7,6 @@ use crate::headers::number_of_31_bits;
 use crate::settings::{SETTING_LENGTH, settings_of};
 use audit_terms::{Body, Kind};
 
-#[cfg(test)]
-mod tests;
-
 // The types of frames (RFC 9113, 6.1 to 6.10).
 const DATA: u8 = 0;
 

@@ -4,9 +4,9 @@ ghost use Rattle.h2_frames.specs.Cut.{HasOrderlyFrames, IsCut, IsHttp2Cut, IsSam
 ghost use Rattle.h2_frames.specs.declared.connections.Cut.{Cut};
 ghost use Rattle.h2_frames.specs.Preface.{BeginsWithPreface};
 
+use crate::beginning::{Beginning, PREFACE, beginning_of};
 use crate::connections::Cut;
 use crate::one_side::captured_frames;
-use crate::opening::{Opening, PREFACE, opening_of};
 use crate::order::in_capture_order;
 use audit_terms::{Side, Sides};
 use std::alloc::{AllocError, Global};
@@ -37,11 +37,12 @@ fn http2(alloc: Global, rest: &[u8], client: &Flow, server: &Flow) -> Result<Cut
 
 /// What the flows of a connection's client and server hold.
 ///
-/// Each flow is to be as `tcp_streams::assemble` gives it, and the two together shorter than 2^31 bytes: for the two flows of
-/// one connection `tcp_streams::laws::sides_fit`, with `assemble`'s clause `within`, gives this. Where the server's
-/// flow is not started the answer is [`Cut::NoHandshake`]; else the client's bytes decide, by the connection preface (RFC
-/// 9113, 3.4): [`Cut::NoPreface`] where they end within it, [`Cut::NotHttp2`] where they do not begin with it. The frames of
-/// [`Cut::Http2`] are numbered from 1 in capture order. One pass over each flow, its payloads not copied.
+/// Each flow is to be as `tcp_streams::assemble` gives it, and the two together shorter than 2^31 bytes: for the two
+/// flows of one connection `tcp_streams::laws::sides_fit`, with `assemble`'s clause `within`, gives this. Where the
+/// server's flow is not started the answer is [`Cut::NoHandshake`]; else the client's bytes decide, by the connection
+/// preface (RFC 9113, 3.4): [`Cut::NoPreface`] where they end within it, [`Cut::NotHttp2`] where they do not begin with
+/// it. The frames of [`Cut::Http2`] are numbered from 1 in capture order. One pass over each flow, its payloads not
+/// copied.
 pub fn cut(alloc: Global, client: &Flow, server: &Flow) -> Result<Cut, AllocError>
     requires client { IsOrderly client.now }
     requires server { IsOrderly server.now }
@@ -55,14 +56,15 @@ pub fn cut(alloc: Global, client: &Flow, server: &Flow) -> Result<Cut, AllocErro
     ensures orderly { IfOk result HasOrderlyFrames }
 
     // Memory can be wanting only where there are bytes to cut into frames.
-    ensures memory { OnErr result (IsTrue server.now.started × (rest : List ℕ) × BeginsWithPreface client.now.bytes.items rest) }
+    ensures memory { OnErr result (IsTrue server.now.started × (rest : List ℕ)
+        × BeginsWithPreface client.now.bytes.items rest) }
 {
     if !server.started {
         return Ok(Cut::NoHandshake);
     }
-    match opening_of(client.bytes.as_slice()) {
-        Opening::CutShort => Ok(Cut::NoPreface),
-        Opening::Other => Ok(Cut::NotHttp2),
-        Opening::Preface(rest) => http2(alloc, rest, client, server),
+    match beginning_of(client.bytes.as_slice()) {
+        Beginning::CutShort => Ok(Cut::NoPreface),
+        Beginning::Other => Ok(Cut::NotHttp2),
+        Beginning::Preface(rest) => http2(alloc, rest, client, server),
     }
 }

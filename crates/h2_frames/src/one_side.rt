@@ -4,7 +4,7 @@ ghost use Rattle.tcp_streams.specs.Arrivals.{AreTimely, Rises};
 ghost use Rattle.h2_frames.specs.declared.spelling.Spelled.{Spelled};
 ghost use Rattle.h2_frames.specs.Spelling.{Spells};
 ghost use Rattle.h2_frames.specs.CaptureOrder.{captured, captured_from};
-ghost use Rattle.h2_frames.specs.Steps.{IsReadable, arrivals_from};
+ghost use Rattle.h2_frames.specs.code.Steps.{IsReadable, arrivals_from};
 
 use crate::headers::HEADER_LENGTH;
 use crate::spelling::{Spelled, first_frame};
@@ -45,7 +45,8 @@ impl Spelled {
     }
 }
 
-/// The frames that a side's bytes hold from this offset of its flow on, numbered within the side, and the length of the tail.
+/// The frames that a side's bytes hold from this offset of its flow on, numbered within the side, and the length of the
+/// tail.
 pub(crate) fn captured_frames(
     alloc: Global,
     side: Side,

@@ -15,7 +15,7 @@ use Rattle.tcp_streams.specs.Members.{payload_sum, segments_of, side_segments}
 use Rattle.tcp_streams.specs.Membership.{Membership, connection_of, connections_of, is_opening, members, membership, opening_at, openings, opens, with_if}
 use Rattle.tcp_streams.specs.Packets.{past_after, past_of, segment_of}
 use Rattle.tcp_streams.specs.Sequence.{payload_length}
-use Rattle.tcp_streams.specs.Table.{Falls}
+use Rattle.tcp_streams.specs.code.Table.{Falls}
 use Rattle.tcp_streams.proofs.FlowLemmas.{sides-sum}
 use Rattle.tcp_streams.proofs.Numbered.{Falls-past_after, Known, Known-past_of, recs}
 use Rattle.tcp_streams.proofs.Past.{members-to_come, opening_at-opens}

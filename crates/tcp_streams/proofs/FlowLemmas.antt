@@ -11,14 +11,14 @@ use Rattle.packet_heads.specs.declared.packets.Segment.{Segment}
 use Rattle.packet_heads.specs.Order.{PayloadsRise}
 use Rattle.tcp_streams.specs.declared.members.Connection.{Connection}
 use Rattle.tcp_streams.specs.declared.streams.Arrival.{Arrival}
-use Rattle.tcp_streams.specs.Flow.{IsArrivalOf, IsFlow, IsGap, entry_at}
-use Rattle.tcp_streams.specs.Interval.{IsSame}
+use Rattle.tcp_streams.specs.Flow.{IsArrivalOf, IsFlow, IsGap, arrival_at}
+use Rattle.tcp_streams.specs.code.Interval.{IsSame}
 use Rattle.tcp_streams.specs.Members.{AreMembers, is_sent_by, payload_sum, segments_of, side_segments}
 use Rattle.tcp_streams.specs.Packets.{segment_of}
 use Rattle.tcp_streams.specs.Pair.{is_endpoint}
 use Rattle.tcp_streams.specs.Sequence.{Source, arrival, end_of_offsets, later_of, payload_length}
 use Rattle.tcp_streams.proofs.PieceLemmas.{found-at}
-use Rattle.tcp_streams.proofs.Places.{slice_get-drop}
+use Rattle.tcp_streams.proofs.Elements.{slice_get-drop}
 
 arrival-same : (F G : ℕ → Option Source) → IsSame F G → (o : ℕ) → o < end_of_offsets → arrival F o ≡ arrival G o
 arrival-same F G same zero lt = same zero lt
@@ -34,9 +34,9 @@ IsFlow-same capture F G bytes arrivals gap same h = record {
     covered = λ o lt. subst IsSome (same o (omega (arith, lt, h.run.within))) (h.run.covered o lt);
     longest = λ lt. sym (same (length bytes) lt) ∙ h.run.longest lt;
   };
-  bytes_are = λ o lt. subst (λ p. IsSomeAnd p (λ (s : Source). slice_get capture s.place ≡ slice_get bytes o)) (same o (omega (arith, lt, h.run.within))) (h.bytes_are o lt);
+  bytes_are = λ o lt. subst (λ p. IsSomeAnd p (λ (s : Source). slice_get capture s.index ≡ slice_get bytes o)) (same o (omega (arith, lt, h.run.within))) (h.bytes_are o lt);
   rises = h.rises;
-  arrivals_are = λ o lt. subst (λ p. IsSomeAnd (entry_at arrivals o) (λ (a : Arrival). IsArrivalOf a p)) (arrival-same F G same o (omega (arith, lt, h.run.within))) (h.arrivals_are o lt);
+  arrivals_are = λ o lt. subst (λ p. IsSomeAnd (arrival_at arrivals o) (λ (a : Arrival). IsArrivalOf a p)) (arrival-same F G same o (omega (arith, lt, h.run.within))) (h.arrivals_are o lt);
   gap_is = by gap h.gap_is;
 }
   where

@@ -7,7 +7,7 @@ use Rattle.std.proofs.lemmas.List.{take-append-drop}
 use Rattle.std.proofs.lemmas.List.Elements.{All-head}
 use Rattle.std.proofs.lemmas.List.Sums.{sum_by-cons}
 use Rattle.tcp_streams.specs.declared.interval.Interval.{Interval}
-use Rattle.tcp_streams.specs.Interval.{HasPassed, IsInterval, IsSame, Spans, at, clipped, holds, overlay, part_of, size_of, source_in, width}
+use Rattle.tcp_streams.specs.code.Interval.{HasPassed, IsInterval, IsSame, Spans, at, clipped, holds, overlay, part_of, size_of, source_in, width}
 use Rattle.tcp_streams.specs.Sequence.{Source, end_of_offsets}
 
 pub lt_cases : (a b : ℕ) → ((nat_lt a b ≡ true) × (a < b)) ⊎ ((nat_lt a b ≡ false) × (b ≤ a))
@@ -163,7 +163,7 @@ Spans-overlay low (x ∷ kept) later h k =
 
 -- a part brings what its interval brings
 at-part : (y : Interval) (low high o : ℕ) → y.from ≤ low → low ≤ o → Some (source_in (part_of y low high) o) ≡ Some (source_in y o)
-at-part y low high o a b = ap (λ p. Some (record { rec = y.rec; nanos = y.nanos; place = p })) (omega (arith, a, b))
+at-part y low high o a b = ap (λ p. Some (record { rec = y.rec; nanos = y.nanos; index = p })) (omega (arith, a, b))
 
 -- between the two offsets the parts bring what the intervals bring
 pub at-clipped-inside : (low high : ℕ) (ys : List Interval) (o : ℕ) → low ≤ o → o < high → at (clipped low high ys) o ≡ at ys o

@@ -5,7 +5,7 @@ pub mod Lists
 pub mod Numbered
 pub mod Pairs
 pub mod PieceLemmas
-pub mod Places
+pub mod Elements
 pub mod RunLemmas
 pub mod Past
 pub mod Steps

@@ -1,4 +1,4 @@
--- On lists by place.
+-- On lists by index.
 use Rattle.std.proofs.Common.{◌≡◌, ◌≢◌, ℕ, zero, suc, Bool, true, false, ◌||◌, List, [], ◌∷◌, ◌++◌, length, map, set, None, Some, slice_get, ◌⊎◌, inl, inr, refl, sym, ap, ◌∙◌, arith}
 use Rattle.std.specs.List.{list_any}
 use Rattle.std.specs.Prelude.{Result, Ok, Err, OnOk, IfOk}
@@ -49,7 +49,7 @@ module _ {X : Type 0} where
       by true rest = refl
       by false rest = rest
 
--- what stands in a list stands in it at the same place where one may be added
+-- what stands in a list stands in it at the same index where one may be added
 pub slice_get-with_if : (test : Bool) (xs : List Segment) (s : Segment) (k : ℕ) (x : Segment) → slice_get xs k ≡ Some x → slice_get (with_if test xs s) k ≡ Some x
 slice_get-with_if true xs s k x h = slice_get-pushed xs s k x h
 slice_get-with_if false xs s k x h = h

@@ -12,7 +12,7 @@ use Rattle.tcp_streams.specs.declared.members.Connection.{Connection}
 use Rattle.tcp_streams.specs.Members.{AreMembers}
 use Rattle.tcp_streams.specs.Membership.{Membership, connection_of, connections_of, is_opening, members, membership, opening_at, openings, with_if}
 use Rattle.tcp_streams.specs.Packets.{past_after, past_of, segment_in, segment_of, with_packet}
-use Rattle.tcp_streams.specs.Table.{Falls}
+use Rattle.tcp_streams.specs.code.Table.{Falls}
 
 past_after-push : (past : List Segment) (xs : List Packet) (p : Packet) → past_after past (xs ++ p ∷ []) ≡ with_packet (past_after past xs) p
 past_after-push past [] p = refl
@@ -29,7 +29,7 @@ with_packet-other past (Carried s) h = absurd (h s refl)
 with_packet-other past (Skipped k) h = refl
 with_packet-other past (Refused k) h = refl
 
--- a segment bears the number of its place
+-- a segment bears the number of its index
 numbered_at : (n : ℕ) (packets : List Packet) (i : ℕ) (s : Segment) → AreNumberedFrom n packets → slice_get packets i ≡ Some (Carried s) → s.rec ≡ n + i
 numbered_at n [] i s h at = absurd (let e : None ≡ Some (Carried s) = at in cc)
 numbered_at n (Carried t ∷ rest) zero s h at = let same : t ≡ s = let e : Some (Carried t) ≡ Some (Carried s) = at in cc in let r : t.rec ≡ s.rec = ap (λ (x : Segment). x.rec) same in omega (arith, h.0)

@@ -13,7 +13,7 @@ use Rattle.packet_heads.specs.declared.packets.Segment.{Segment}
 use Rattle.packet_heads.specs.Order.{AreNumberedFrom, PayloadsRise, TimesFit}
 use Rattle.tcp_streams.specs.declared.interval.Interval.{Interval}
 use Rattle.tcp_streams.specs.declared.members.Connection.{Connection}
-use Rattle.tcp_streams.specs.Interval.{IsInterval, IsPlaced, IsSame, PayloadsFit, at, member_piece, piece, size_of, stretch}
+use Rattle.tcp_streams.specs.code.Interval.{IsInterval, IsCaptured, IsSame, PayloadsFit, at, member_piece, piece, size_of, stretch}
 use Rattle.tcp_streams.specs.Members.{AreMembers, is_sent_by, payload_sum, segments_of, side_segments}
 use Rattle.tcp_streams.specs.Packets.{segment_in, segment_of}
 use Rattle.tcp_streams.specs.Sequence.{Source, brings, distance, earlier_of, end_of_offsets, modulus, payload_length, source, start_of}
@@ -31,37 +31,37 @@ distance-past st o a b c = omega arith
 distance-before : (st o : ℕ) → st < 2 ^ 32 → o < st → (o + (2 ^ 32 - st)) % 2 ^ 32 ≡ o + (2 ^ 32 - st)
 distance-before st o a b = omega arith
 
-module _ (isn : ℕ) (s : Segment) where
-  brings-some : (o : ℕ) → distance isn s o < payload_length s → brings isn s o ≡ Some (record { rec = s.rec; nanos = s.nanos; place = s.lo + distance isn s o })
-  brings-some o lt = ap (λ t. if t then Some (record { rec = s.rec; nanos = s.nanos; place = s.lo + distance isn s o }) else None) (lt-true (distance isn s o) (payload_length s) lt)
+module _ (initial_number : ℕ) (s : Segment) where
+  brings-some : (o : ℕ) → distance initial_number s o < payload_length s → brings initial_number s o ≡ Some (record { rec = s.rec; nanos = s.nanos; index = s.lo + distance initial_number s o })
+  brings-some o lt = ap (λ t. if t then Some (record { rec = s.rec; nanos = s.nanos; index = s.lo + distance initial_number s o }) else None) (lt-true (distance initial_number s o) (payload_length s) lt)
 
-  brings-none : (o : ℕ) → payload_length s ≤ distance isn s o → brings isn s o ≡ None
-  brings-none o le = ap (λ t. if t then Some (record { rec = s.rec; nanos = s.nanos; place = s.lo + distance isn s o }) else None) (lt-false (distance isn s o) (payload_length s) le)
+  brings-none : (o : ℕ) → payload_length s ≤ distance initial_number s o → brings initial_number s o ≡ None
+  brings-none o le = ap (λ t. if t then Some (record { rec = s.rec; nanos = s.nanos; index = s.lo + distance initial_number s o }) else None) (lt-false (distance initial_number s o) (payload_length s) le)
 
   -- a stretch brings what the segment brings, where it covers the same offsets by the same bytes
   stretch-same : (skipped from upto : ℕ)
-      → ((o : ℕ) → o < end_of_offsets → from ≤ o → o < upto → (distance isn s o < payload_length s) × (distance isn s o ≡ skipped + (o - from)))
-      → ((o : ℕ) → o < end_of_offsets → (o < from) ⊎ (upto ≤ o) → payload_length s ≤ distance isn s o)
-      → IsSame (brings isn s) (at (option_to_list (stretch s skipped from upto)))
+      → ((o : ℕ) → o < end_of_offsets → from ≤ o → o < upto → (distance initial_number s o < payload_length s) × (distance initial_number s o ≡ skipped + (o - from)))
+      → ((o : ℕ) → o < end_of_offsets → (o < from) ⊎ (upto ≤ o) → payload_length s ≤ distance initial_number s o)
+      → IsSame (brings initial_number s) (at (option_to_list (stretch s skipped from upto)))
   stretch-same skipped from upto inside outside = λ o lt.
-      elim (lt_cases from upto) as (λ _. brings isn s o ≡ at (option_to_list (stretch s skipped from upto)) o) [
+      elim (lt_cases from upto) as (λ _. brings initial_number s o ≡ at (option_to_list (stretch s skipped from upto)) o) [
         | inl t ↦
-            let x : Interval = record { from = from; upto = upto; place = s.lo + skipped; rec = s.rec; nanos = s.nanos } in
+            let x : Interval = record { from = from; upto = upto; index = s.lo + skipped; rec = s.rec; nanos = s.nanos } in
             let list : option_to_list (stretch s skipped from upto) ≡ x ∷ [] = ap (λ b. option_to_list (if b then Some x else None)) t.0 in
-            elim (lt_cases o from) as (λ _. brings isn s o ≡ at (option_to_list (stretch s skipped from upto)) o) [
+            elim (lt_cases o from) as (λ _. brings initial_number s o ≡ at (option_to_list (stretch s skipped from upto)) o) [
               | inl k ↦ brings-none o (outside o lt (inl k.1)) ∙ sym (ap (λ l. at l o) list ∙ at-before x [] o k.1)
-              | inr k ↦ elim (lt_cases o upto) as (λ _. brings isn s o ≡ at (option_to_list (stretch s skipped from upto)) o) [
+              | inr k ↦ elim (lt_cases o upto) as (λ _. brings initial_number s o ≡ at (option_to_list (stretch s skipped from upto)) o) [
                 | inl j ↦
                     let cover = inside o lt k.1 j.1 in
-                    let same : s.lo + distance isn s o ≡ s.lo + skipped + (o - from) = omega (arith, cover.1) in
-                    brings-some o cover.0 ∙ ap (λ p. Some (record { rec = s.rec; nanos = s.nanos; place = p })) same ∙ sym (ap (λ l. at l o) list ∙ at-in x [] o k.1 j.1)
+                    let same : s.lo + distance initial_number s o ≡ s.lo + skipped + (o - from) = omega (arith, cover.1) in
+                    brings-some o cover.0 ∙ ap (λ p. Some (record { rec = s.rec; nanos = s.nanos; index = p })) same ∙ sym (ap (λ l. at l o) list ∙ at-in x [] o k.1 j.1)
                 | inr j ↦ brings-none o (outside o lt (inr j.1)) ∙ sym (ap (λ l. at l o) list ∙ at-past x [] o j.1)
               ]
             ]
         | inr t ↦
             let list : option_to_list (stretch s skipped from upto) ≡ [] =
-            ap (λ b. option_to_list (if b then Some (record { from = from; upto = upto; place = s.lo + skipped; rec = s.rec; nanos = s.nanos }) else None)) t.0 in
-            brings-none o (elim (lt_cases o from) as (λ _. payload_length s ≤ distance isn s o) [ inl k ↦ outside o lt (inl k.1) | inr k ↦ outside o lt (inr (omega (arith, t.1, k.1))) ])
+            ap (λ b. option_to_list (if b then Some (record { from = from; upto = upto; index = s.lo + skipped; rec = s.rec; nanos = s.nanos }) else None)) t.0 in
+            brings-none o (elim (lt_cases o from) as (λ _. payload_length s ≤ distance initial_number s o) [ inl k ↦ outside o lt (inl k.1) | inr k ↦ outside o lt (inr (omega (arith, t.1, k.1))) ])
             ∙ sym (ap (λ l. at l o) list)
       ]
 
@@ -69,10 +69,10 @@ module _ (isn : ℕ) (s : Segment) where
   stretch-interval skipped from upto counts room =
       elim (lt_cases from upto) as (λ _. IfSome (stretch s skipped from upto) IsInterval) [
         | inl t ↦
-            let x : Interval = record { from = from; upto = upto; place = s.lo + skipped; rec = s.rec; nanos = s.nanos } in
+            let x : Interval = record { from = from; upto = upto; index = s.lo + skipped; rec = s.rec; nanos = s.nanos } in
             subst (λ (p : Option Interval). IfSome p IsInterval) (sym (ap (λ b. if b then Some x else None) t.0)) (record { some = t.1; counts = counts; room = room })
         | inr t ↦
-            let x : Interval = record { from = from; upto = upto; place = s.lo + skipped; rec = s.rec; nanos = s.nanos } in
+            let x : Interval = record { from = from; upto = upto; index = s.lo + skipped; rec = s.rec; nanos = s.nanos } in
             subst (λ (p : Option Interval). IfSome p IsInterval) (sym (ap (λ b. if b then Some x else None) t.0)) tt
       ]
 
@@ -80,98 +80,98 @@ module _ (isn : ℕ) (s : Segment) where
   stretch-size skipped from upto =
       elim (lt_cases from upto) as (λ _. size_of (option_to_list (stretch s skipped from upto)) ≤ upto - from) [
         | inl t ↦
-            let x : Interval = record { from = from; upto = upto; place = s.lo + skipped; rec = s.rec; nanos = s.nanos } in
+            let x : Interval = record { from = from; upto = upto; index = s.lo + skipped; rec = s.rec; nanos = s.nanos } in
             let list : option_to_list (stretch s skipped from upto) ≡ x ∷ [] = ap (λ b. option_to_list (if b then Some x else None)) t.0 in
             omega (arith, ap size_of list, size-cons x [])
         | inr t ↦
             let list : option_to_list (stretch s skipped from upto) ≡ [] =
-            ap (λ b. option_to_list (if b then Some (record { from = from; upto = upto; place = s.lo + skipped; rec = s.rec; nanos = s.nanos }) else None)) t.0 in
+            ap (λ b. option_to_list (if b then Some (record { from = from; upto = upto; index = s.lo + skipped; rec = s.rec; nanos = s.nanos }) else None)) t.0 in
             omega (arith, ap size_of list)
       ]
 
-  start-within : start_of isn s < 2 ^ 32
+  start-within : start_of initial_number s < 2 ^ 32
   start-within = omega arith
 
   module _ (size : ℕ) (small : size < 2 ^ 31) (stands : StandsIn size s) where
     -- the piece of a segment brings what the segment brings
-    pub piece-same : IsSame (brings isn s) (at (option_to_list (piece isn s)))
+    pub piece-same : IsSame (brings initial_number s) (at (option_to_list (piece initial_number s)))
     piece-same =
-        elim (lt_cases (start_of isn s) end_of_offsets) as (λ _. IsSame (brings isn s) (at (option_to_list (piece isn s)))) [
+        elim (lt_cases (start_of initial_number s) end_of_offsets) as (λ _. IsSame (brings initial_number s) (at (option_to_list (piece initial_number s)))) [
           | inl t ↦
-              subst (λ (p : Option Interval). IsSame (brings isn s) (at (option_to_list p)))
-              (sym (ap (λ b. if b then stretch s 0 (start_of isn s) (min (start_of isn s + payload_length s) end_of_offsets) else stretch s (modulus - start_of isn s) 0 (start_of isn s + payload_length s - modulus)) t.0))
-              (stretch-same 0 (start_of isn s) (min (start_of isn s + payload_length s) end_of_offsets)
+              subst (λ (p : Option Interval). IsSame (brings initial_number s) (at (option_to_list p)))
+              (sym (ap (λ b. if b then stretch s 0 (start_of initial_number s) (min (start_of initial_number s + payload_length s) end_of_offsets) else stretch s (modulus - start_of initial_number s) 0 (start_of initial_number s + payload_length s - modulus)) t.0))
+              (stretch-same 0 (start_of initial_number s) (min (start_of initial_number s + payload_length s) end_of_offsets)
               (λ o lt a b.
-              let d : distance isn s o ≡ o - start_of isn s = distance-past (start_of isn s) o start-within lt a in
+              let d : distance initial_number s o ≡ o - start_of initial_number s = distance-past (start_of initial_number s) o start-within lt a in
               (omega (arith, d, a, b), omega (arith, d)))
-              (λ o lt out. elim out as (λ _. payload_length s ≤ distance isn s o) [
+              (λ o lt out. elim out as (λ _. payload_length s ≤ distance initial_number s o) [
                 | inl k ↦
-                    let d : distance isn s o ≡ o + (2 ^ 32 - start_of isn s) = distance-before (start_of isn s) o start-within k in
+                    let d : distance initial_number s o ≡ o + (2 ^ 32 - start_of initial_number s) = distance-before (start_of initial_number s) o start-within k in
                     omega (arith, d, stands.within, small, t.1)
                 | inr k ↦
-                    elim (lt_cases o (start_of isn s)) as (λ _. payload_length s ≤ distance isn s o) [
+                    elim (lt_cases o (start_of initial_number s)) as (λ _. payload_length s ≤ distance initial_number s o) [
                       | inl j ↦
-                          let d : distance isn s o ≡ o + (2 ^ 32 - start_of isn s) = distance-before (start_of isn s) o start-within j.1 in
+                          let d : distance initial_number s o ≡ o + (2 ^ 32 - start_of initial_number s) = distance-before (start_of initial_number s) o start-within j.1 in
                           omega (arith, d, stands.within, small, t.1)
                       | inr j ↦
-                          let d : distance isn s o ≡ o - start_of isn s = distance-past (start_of isn s) o start-within lt j.1 in
+                          let d : distance initial_number s o ≡ o - start_of initial_number s = distance-past (start_of initial_number s) o start-within lt j.1 in
                           omega (arith, d, k, lt)
                     ]
               ]))
           | inr t ↦
-              subst (λ (p : Option Interval). IsSame (brings isn s) (at (option_to_list p)))
-              (sym (ap (λ b. if b then stretch s 0 (start_of isn s) (min (start_of isn s + payload_length s) end_of_offsets) else stretch s (modulus - start_of isn s) 0 (start_of isn s + payload_length s - modulus)) t.0))
-              (stretch-same (modulus - start_of isn s) 0 (start_of isn s + payload_length s - modulus)
+              subst (λ (p : Option Interval). IsSame (brings initial_number s) (at (option_to_list p)))
+              (sym (ap (λ b. if b then stretch s 0 (start_of initial_number s) (min (start_of initial_number s + payload_length s) end_of_offsets) else stretch s (modulus - start_of initial_number s) 0 (start_of initial_number s + payload_length s - modulus)) t.0))
+              (stretch-same (modulus - start_of initial_number s) 0 (start_of initial_number s + payload_length s - modulus)
               (λ o lt a b.
-              let d : distance isn s o ≡ o + (2 ^ 32 - start_of isn s) = distance-before (start_of isn s) o start-within (omega (arith, lt, t.1)) in
+              let d : distance initial_number s o ≡ o + (2 ^ 32 - start_of initial_number s) = distance-before (start_of initial_number s) o start-within (omega (arith, lt, t.1)) in
               (omega (arith, d, b), omega (arith, d)))
               (λ o lt out.
-              let d : distance isn s o ≡ o + (2 ^ 32 - start_of isn s) = distance-before (start_of isn s) o start-within (omega (arith, lt, t.1)) in
-              elim out as (λ _. payload_length s ≤ distance isn s o) [ inl k ↦ absurd (omega (arith, k)) | inr k ↦ omega (arith, d, k) ]))
+              let d : distance initial_number s o ≡ o + (2 ^ 32 - start_of initial_number s) = distance-before (start_of initial_number s) o start-within (omega (arith, lt, t.1)) in
+              elim out as (λ _. payload_length s ≤ distance initial_number s o) [ inl k ↦ absurd (omega (arith, k)) | inr k ↦ omega (arith, d, k) ]))
         ]
 
-    pub piece-interval : IfSome (piece isn s) IsInterval
+    pub piece-interval : IfSome (piece initial_number s) IsInterval
     piece-interval =
-        elim (lt_cases (start_of isn s) end_of_offsets) as (λ _. IfSome (piece isn s) IsInterval) [
+        elim (lt_cases (start_of initial_number s) end_of_offsets) as (λ _. IfSome (piece initial_number s) IsInterval) [
           | inl t ↦
               subst (λ (p : Option Interval). IfSome p IsInterval)
-              (sym (ap (λ b. if b then stretch s 0 (start_of isn s) (min (start_of isn s + payload_length s) end_of_offsets) else stretch s (modulus - start_of isn s) 0 (start_of isn s + payload_length s - modulus)) t.0))
-              (stretch-interval 0 (start_of isn s) (min (start_of isn s + payload_length s) end_of_offsets) (omega arith) (omega (arith, stands.ordered, stands.within, small)))
+              (sym (ap (λ b. if b then stretch s 0 (start_of initial_number s) (min (start_of initial_number s + payload_length s) end_of_offsets) else stretch s (modulus - start_of initial_number s) 0 (start_of initial_number s + payload_length s - modulus)) t.0))
+              (stretch-interval 0 (start_of initial_number s) (min (start_of initial_number s + payload_length s) end_of_offsets) (omega arith) (omega (arith, stands.ordered, stands.within, small)))
           | inr t ↦
               subst (λ (p : Option Interval). IfSome p IsInterval)
-              (sym (ap (λ b. if b then stretch s 0 (start_of isn s) (min (start_of isn s + payload_length s) end_of_offsets) else stretch s (modulus - start_of isn s) 0 (start_of isn s + payload_length s - modulus)) t.0))
-              (stretch-interval (modulus - start_of isn s) 0 (start_of isn s + payload_length s - modulus)
+              (sym (ap (λ b. if b then stretch s 0 (start_of initial_number s) (min (start_of initial_number s + payload_length s) end_of_offsets) else stretch s (modulus - start_of initial_number s) 0 (start_of initial_number s + payload_length s - modulus)) t.0))
+              (stretch-interval (modulus - start_of initial_number s) 0 (start_of initial_number s + payload_length s - modulus)
               (omega (arith, stands.within, small, start-within)) (omega (arith, stands.ordered, stands.within, small, start-within, t.1)))
         ]
 
-  pub piece-size : size_of (option_to_list (piece isn s)) ≤ payload_length s
+  pub piece-size : size_of (option_to_list (piece initial_number s)) ≤ payload_length s
   piece-size =
-      elim (lt_cases (start_of isn s) end_of_offsets) as (λ _. size_of (option_to_list (piece isn s)) ≤ payload_length s) [
+      elim (lt_cases (start_of initial_number s) end_of_offsets) as (λ _. size_of (option_to_list (piece initial_number s)) ≤ payload_length s) [
         | inl t ↦
-            let e : piece isn s ≡ stretch s 0 (start_of isn s) (min (start_of isn s + payload_length s) end_of_offsets) =
-            ap (λ b. if b then stretch s 0 (start_of isn s) (min (start_of isn s + payload_length s) end_of_offsets) else stretch s (modulus - start_of isn s) 0 (start_of isn s + payload_length s - modulus)) t.0 in
-            omega (arith, ap (λ (p : Option Interval). size_of (option_to_list p)) e, stretch-size 0 (start_of isn s) (min (start_of isn s + payload_length s) end_of_offsets))
+            let e : piece initial_number s ≡ stretch s 0 (start_of initial_number s) (min (start_of initial_number s + payload_length s) end_of_offsets) =
+            ap (λ b. if b then stretch s 0 (start_of initial_number s) (min (start_of initial_number s + payload_length s) end_of_offsets) else stretch s (modulus - start_of initial_number s) 0 (start_of initial_number s + payload_length s - modulus)) t.0 in
+            omega (arith, ap (λ (p : Option Interval). size_of (option_to_list p)) e, stretch-size 0 (start_of initial_number s) (min (start_of initial_number s + payload_length s) end_of_offsets))
         | inr t ↦
-            let e : piece isn s ≡ stretch s (modulus - start_of isn s) 0 (start_of isn s + payload_length s - modulus) =
-            ap (λ b. if b then stretch s 0 (start_of isn s) (min (start_of isn s + payload_length s) end_of_offsets) else stretch s (modulus - start_of isn s) 0 (start_of isn s + payload_length s - modulus)) t.0 in
-            omega (arith, start-within, ap (λ (p : Option Interval). size_of (option_to_list p)) e, stretch-size (modulus - start_of isn s) 0 (start_of isn s + payload_length s - modulus))
+            let e : piece initial_number s ≡ stretch s (modulus - start_of initial_number s) 0 (start_of initial_number s + payload_length s - modulus) =
+            ap (λ b. if b then stretch s 0 (start_of initial_number s) (min (start_of initial_number s + payload_length s) end_of_offsets) else stretch s (modulus - start_of initial_number s) 0 (start_of initial_number s + payload_length s - modulus)) t.0 in
+            omega (arith, start-within, ap (λ (p : Option Interval). size_of (option_to_list p)) e, stretch-size (modulus - start_of initial_number s) 0 (start_of initial_number s + payload_length s - modulus))
       ]
 
-round-trip : (a isn k : ℕ) → k < 2 ^ 32 → ((a + k + (2 ^ 32 - 1 - isn)) % 2 ^ 32 + (2 ^ 32 - (a + (2 ^ 32 - 1 - isn)) % 2 ^ 32)) % 2 ^ 32 ≡ k
-round-trip a isn k lt = omega arith
+round-trip : (a initial_number k : ℕ) → k < 2 ^ 32 → ((a + k + (2 ^ 32 - 1 - initial_number)) % 2 ^ 32 + (2 ^ 32 - (a + (2 ^ 32 - 1 - initial_number)) % 2 ^ 32)) % 2 ^ 32 ≡ k
+round-trip a initial_number k lt = omega arith
 
 -- payload byte k has the offset that is k past the first one's
-pub byte-has-offset : (isn : ℕ) (s : Segment) (k : ℕ) → payload_length s ≤ 2 ^ 32 → k < payload_length s
-    → brings isn s ((s.seq + (if s.syn then 1 else 0) + k + (2 ^ 32 - 1 - isn)) % 2 ^ 32) ≡ Some (record { rec = s.rec; nanos = s.nanos; place = s.lo + k })
-byte-has-offset isn s k le lt =
-    let d : distance isn s ((s.seq + (if s.syn then 1 else 0) + k + (2 ^ 32 - 1 - isn)) % 2 ^ 32) ≡ k = round-trip (s.seq + (if s.syn then 1 else 0)) isn k (omega (arith, le, lt)) in
-    brings-some isn s ((s.seq + (if s.syn then 1 else 0) + k + (2 ^ 32 - 1 - isn)) % 2 ^ 32) (omega (arith, d, lt))
-    ∙ ap (λ n. Some (record { rec = s.rec; nanos = s.nanos; place = s.lo + n })) d
+pub byte-has-offset : (initial_number : ℕ) (s : Segment) (k : ℕ) → payload_length s ≤ 2 ^ 32 → k < payload_length s
+    → brings initial_number s ((s.seq + (if s.syn then 1 else 0) + k + (2 ^ 32 - 1 - initial_number)) % 2 ^ 32) ≡ Some (record { rec = s.rec; nanos = s.nanos; index = s.lo + k })
+byte-has-offset initial_number s k le lt =
+    let d : distance initial_number s ((s.seq + (if s.syn then 1 else 0) + k + (2 ^ 32 - 1 - initial_number)) % 2 ^ 32) ≡ k = round-trip (s.seq + (if s.syn then 1 else 0)) initial_number k (omega (arith, le, lt)) in
+    brings-some initial_number s ((s.seq + (if s.syn then 1 else 0) + k + (2 ^ 32 - 1 - initial_number)) % 2 ^ 32) (omega (arith, d, lt))
+    ∙ ap (λ n. Some (record { rec = s.rec; nanos = s.nanos; index = s.lo + n })) d
 
 -- what the first segment brings that covers the offset
 abbrev pub first_source : ℕ → List Segment → ℕ → Option Source
-first_source isn [] o = None
-first_source isn (s ∷ later) o = option_or (brings isn s o) (first_source isn later o)
+first_source initial_number [] o = None
+first_source initial_number (s ∷ later) o = option_or (brings initial_number s o) (first_source initial_number later o)
 
 -- the segments stand in the capture, their records rise, and their times are a capture's
 abbrev pub AreSound : ℕ → ℕ → List Segment → Type 0
@@ -183,49 +183,49 @@ AreSound-weaker size low low' [] le h = tt
 AreSound-weaker size low low' (s ∷ later) le h = (h.0, omega (arith, le, h.1), h.2, h.3)
 
 -- the pieces bring what the segments bring, the first before the others
-pub pieces-same : (isn size low : ℕ) (segments : List Segment) → size < 2 ^ 31 → AreSound size low segments → IsSame (first_source isn segments) (at (filter_map (piece isn) segments))
-pieces-same isn size low [] small h = λ o lt. refl
-pieces-same isn size low (s ∷ later) small h = λ o lt. by (piece isn s) o (piece-same isn s size small h.0 o lt) (pieces-same isn size s.rec later small h.3 o lt)
+pub pieces-same : (initial_number size low : ℕ) (segments : List Segment) → size < 2 ^ 31 → AreSound size low segments → IsSame (first_source initial_number segments) (at (filter_map (piece initial_number) segments))
+pieces-same initial_number size low [] small h = λ o lt. refl
+pieces-same initial_number size low (s ∷ later) small h = λ o lt. by (piece initial_number s) o (piece-same initial_number s size small h.0 o lt) (pieces-same initial_number size s.rec later small h.3 o lt)
   where
-    by : (p : Option Interval) (o : ℕ) → brings isn s o ≡ at (option_to_list p) o → first_source isn later o ≡ at (filter_map (piece isn) later) o
-        → option_or (brings isn s o) (first_source isn later o) ≡ at (cons_option p (filter_map (piece isn) later)) o
-    by None o e r = ap (λ q. option_or q (first_source isn later o)) e ∙ r
-    by (Some x) o e r = ap (λ q. option_or q (first_source isn later o)) e ∙ ap (option_or (at (x ∷ []) o)) r ∙ sym (at-append (x ∷ []) (filter_map (piece isn) later) o)
+    by : (p : Option Interval) (o : ℕ) → brings initial_number s o ≡ at (option_to_list p) o → first_source initial_number later o ≡ at (filter_map (piece initial_number) later) o
+        → option_or (brings initial_number s o) (first_source initial_number later o) ≡ at (cons_option p (filter_map (piece initial_number) later)) o
+    by None o e r = ap (λ q. option_or q (first_source initial_number later o)) e ∙ r
+    by (Some x) o e r = ap (λ q. option_or q (first_source initial_number later o)) e ∙ ap (option_or (at (x ∷ []) o)) r ∙ sym (at-append (x ∷ []) (filter_map (piece initial_number) later) o)
 
-pub pieces-intervals : (isn size low : ℕ) (segments : List Segment) → size < 2 ^ 31 → AreSound size low segments → All IsInterval (filter_map (piece isn) segments)
-pieces-intervals isn size low [] small h = All-nil IsInterval
-pieces-intervals isn size low (s ∷ later) small h = by (piece isn s) (piece-interval isn s size small h.0) (pieces-intervals isn size s.rec later small h.3)
+pub pieces-intervals : (initial_number size low : ℕ) (segments : List Segment) → size < 2 ^ 31 → AreSound size low segments → All IsInterval (filter_map (piece initial_number) segments)
+pieces-intervals initial_number size low [] small h = All-nil IsInterval
+pieces-intervals initial_number size low (s ∷ later) small h = by (piece initial_number s) (piece-interval initial_number s size small h.0) (pieces-intervals initial_number size s.rec later small h.3)
   where
-    by : (p : Option Interval) → IfSome p IsInterval → All IsInterval (filter_map (piece isn) later) → All IsInterval (cons_option p (filter_map (piece isn) later))
+    by : (p : Option Interval) → IfSome p IsInterval → All IsInterval (filter_map (piece initial_number) later) → All IsInterval (cons_option p (filter_map (piece initial_number) later))
     by None e r = r
-    by (Some x) e r = All-cons IsInterval x (filter_map (piece isn) later) e r
+    by (Some x) e r = All-cons IsInterval x (filter_map (piece initial_number) later) e r
 
-pub pieces-size : (isn : ℕ) (segments : List Segment) → size_of (filter_map (piece isn) segments) ≤ payload_sum segments
-pieces-size isn [] = omega arith
-pieces-size isn (s ∷ later) = by (piece isn s) (piece-size isn s) (pieces-size isn later)
+pub pieces-size : (initial_number : ℕ) (segments : List Segment) → size_of (filter_map (piece initial_number) segments) ≤ payload_sum segments
+pieces-size initial_number [] = omega arith
+pieces-size initial_number (s ∷ later) = by (piece initial_number s) (piece-size initial_number s) (pieces-size initial_number later)
   where
-    by : (p : Option Interval) → size_of (option_to_list p) ≤ payload_length s → size_of (filter_map (piece isn) later) ≤ payload_sum later
-        → size_of (cons_option p (filter_map (piece isn) later)) ≤ payload_sum (s ∷ later)
+    by : (p : Option Interval) → size_of (option_to_list p) ≤ payload_length s → size_of (filter_map (piece initial_number) later) ≤ payload_sum later
+        → size_of (cons_option p (filter_map (piece initial_number) later)) ≤ payload_sum (s ∷ later)
     by None e r = omega (arith, r, sum_by-cons payload_length s later)
-    by (Some x) e r = omega (arith, e, r, sum_by-cons payload_length s later, size-cons x (filter_map (piece isn) later), size-cons x [])
+    by (Some x) e r = omega (arith, e, r, sum_by-cons payload_length s later, size-cons x (filter_map (piece initial_number) later), size-cons x [])
 
 -- a segment's byte is of its record
 abbrev IsAfter : ℕ → Option Source → Type 0
 IsAfter low p = IfSome p (λ (s : Source). low < s.rec)
 
-brings-cases : (isn : ℕ) (s : Segment) (o : ℕ) (P : Option Source → Type 0) → P None
-    → (distance isn s o < payload_length s → P (Some (record { rec = s.rec; nanos = s.nanos; place = s.lo + distance isn s o }))) → P (brings isn s o)
-brings-cases isn s o P none some =
-    elim (lt_cases (distance isn s o) (payload_length s)) as (λ _. P (brings isn s o)) [
-      | inl t ↦ subst P (sym (brings-some isn s o t.1)) (some t.1)
-      | inr t ↦ subst P (sym (brings-none isn s o t.1)) none
+brings-cases : (initial_number : ℕ) (s : Segment) (o : ℕ) (P : Option Source → Type 0) → P None
+    → (distance initial_number s o < payload_length s → P (Some (record { rec = s.rec; nanos = s.nanos; index = s.lo + distance initial_number s o }))) → P (brings initial_number s o)
+brings-cases initial_number s o P none some =
+    elim (lt_cases (distance initial_number s o) (payload_length s)) as (λ _. P (brings initial_number s o)) [
+      | inl t ↦ subst P (sym (brings-some initial_number s o t.1)) (some t.1)
+      | inr t ↦ subst P (sym (brings-none initial_number s o t.1)) none
     ]
 
-source-after : (isn size low : ℕ) (segments : List Segment) (o : ℕ) → AreSound size low segments → IsAfter low (source isn segments o)
-source-after isn size low [] o h = tt
-source-after isn size low (s ∷ later) o h =
-    brings-cases isn s o (λ p. IsAfter low (earlier_of p (source isn later o))) (weaker (source isn later o) (source-after isn size s.rec later o h.3))
-    (λ lt. either (record { rec = s.rec; nanos = s.nanos; place = s.lo + distance isn s o }) (source isn later o) h.1 (weaker (source isn later o) (source-after isn size s.rec later o h.3)))
+source-after : (initial_number size low : ℕ) (segments : List Segment) (o : ℕ) → AreSound size low segments → IsAfter low (source initial_number segments o)
+source-after initial_number size low [] o h = tt
+source-after initial_number size low (s ∷ later) o h =
+    brings-cases initial_number s o (λ p. IsAfter low (earlier_of p (source initial_number later o))) (weaker (source initial_number later o) (source-after initial_number size s.rec later o h.3))
+    (λ lt. either (record { rec = s.rec; nanos = s.nanos; index = s.lo + distance initial_number s o }) (source initial_number later o) h.1 (weaker (source initial_number later o) (source-after initial_number size s.rec later o h.3)))
   where
     weaker : (p : Option Source) → IsAfter s.rec p → IsAfter low p
     weaker None k = tt
@@ -240,29 +240,29 @@ source-after isn size low (s ∷ later) o h =
         choose false = a
 
 -- where records rise, the first that covers an offset is the one of the least record
-pub source-first : (isn size low : ℕ) (segments : List Segment) (o : ℕ) → AreSound size low segments → source isn segments o ≡ first_source isn segments o
-source-first isn size low [] o h = refl
-source-first isn size low (s ∷ later) o h =
-    brings-cases isn s o (λ p. earlier_of p (source isn later o) ≡ option_or p (first_source isn later o)) (source-first isn size s.rec later o h.3)
-    (λ lt. least (record { rec = s.rec; nanos = s.nanos; place = s.lo + distance isn s o }) (source isn later o) refl (source-after isn size s.rec later o h.3))
+pub source-first : (initial_number size low : ℕ) (segments : List Segment) (o : ℕ) → AreSound size low segments → source initial_number segments o ≡ first_source initial_number segments o
+source-first initial_number size low [] o h = refl
+source-first initial_number size low (s ∷ later) o h =
+    brings-cases initial_number s o (λ p. earlier_of p (source initial_number later o) ≡ option_or p (first_source initial_number later o)) (source-first initial_number size s.rec later o h.3)
+    (λ lt. least (record { rec = s.rec; nanos = s.nanos; index = s.lo + distance initial_number s o }) (source initial_number later o) refl (source-after initial_number size s.rec later o h.3))
   where
     least : (x : Source) (p : Option Source) → x.rec ≡ s.rec → IsAfter s.rec p → earlier_of (Some x) p ≡ Some x
     least x None e k = refl
     least x (Some y) e k = ap (λ t. if t then Some y else Some x) (lt-false y.rec x.rec (omega (arith, e, k)))
 
 -- each byte stands in the capture, in a record with a number and a time
-pub source-placed : (isn size low : ℕ) (segments : List Segment) → AreSound size low segments → (o : ℕ) → IfSome (source isn segments o) (IsPlaced size)
-source-placed isn size low [] h o = tt
-source-placed isn size low (s ∷ later) h o =
-    brings-cases isn s o (λ p. IfSome (earlier_of p (source isn later o)) (IsPlaced size)) (source-placed isn size s.rec later h.3 o)
-    (λ lt. either (record { rec = s.rec; nanos = s.nanos; place = s.lo + distance isn s o }) (source isn later o)
-    (omega (arith, lt, h.0.ordered, h.0.within), omega (arith, h.1), h.2) (source-placed isn size s.rec later h.3 o))
+pub source-captured : (initial_number size low : ℕ) (segments : List Segment) → AreSound size low segments → (o : ℕ) → IfSome (source initial_number segments o) (IsCaptured size)
+source-captured initial_number size low [] h o = tt
+source-captured initial_number size low (s ∷ later) h o =
+    brings-cases initial_number s o (λ p. IfSome (earlier_of p (source initial_number later o)) (IsCaptured size)) (source-captured initial_number size s.rec later h.3 o)
+    (λ lt. either (record { rec = s.rec; nanos = s.nanos; index = s.lo + distance initial_number s o }) (source initial_number later o)
+    (omega (arith, lt, h.0.ordered, h.0.within), omega (arith, h.1), h.2) (source-captured initial_number size s.rec later h.3 o))
   where
-    either : (x : Source) (p : Option Source) → IsPlaced size x → IfSome p (IsPlaced size) → IfSome (earlier_of (Some x) p) (IsPlaced size)
+    either : (x : Source) (p : Option Source) → IsCaptured size x → IfSome p (IsCaptured size) → IfSome (earlier_of (Some x) p) (IsCaptured size)
     either x None a b = a
     either x (Some y) a b = choose (nat_lt y.rec x.rec)
       where
-        choose : (t : Bool) → IfSome (if t then Some y else Some x) (IsPlaced size)
+        choose : (t : Bool) → IfSome (if t then Some y else Some x) (IsCaptured size)
         choose true = b
         choose false = a
 
@@ -294,7 +294,7 @@ sound-at size from n (Skipped k ∷ rest) (suc i) s p t h at' =
 sound-at size from n (Refused k ∷ rest) (suc i) s p t h at' =
     let same : n + 1 + i ≡ n + suc i = omega arith in subst (λ m. SoundAt size m s) same (sound-at size from (n + 1) rest i s p t h at')
 
--- a segment found by its record stands at the record's place
+-- a segment found by its record stands at the record's index
 pub found-at : (packets : List Packet) (m : ℕ) (s : Segment) → segment_of packets m ≡ Some s → slice_get packets (m - 1) ≡ Some (Carried s)
 found-at packets m s h = by (slice_get packets (m - 1)) h
   where
@@ -335,23 +335,23 @@ side-sound packets size connection side rise times numbered members =
     filter-sound size 0 (is_sent_by connection side) (segments_of packets connection.members.items) (segments-sound packets size rise times numbered 0 connection.members.items members)
 
 -- the members' pieces are the pieces of the side's segments
-pub member-pieces : (isn : ℕ) (packets : List Packet) (connection : Connection) (side : Side) (members : List ℕ)
-    → filter_map (member_piece isn packets connection side) members ≡ filter_map (piece isn) (filter (is_sent_by connection side) (segments_of packets members))
-member-pieces isn packets connection side [] = refl
-member-pieces isn packets connection side (m ∷ rest) = by (segment_of packets m) (member-pieces isn packets connection side rest)
+pub member-pieces : (initial_number : ℕ) (packets : List Packet) (connection : Connection) (side : Side) (members : List ℕ)
+    → filter_map (member_piece initial_number packets connection side) members ≡ filter_map (piece initial_number) (filter (is_sent_by connection side) (segments_of packets members))
+member-pieces initial_number packets connection side [] = refl
+member-pieces initial_number packets connection side (m ∷ rest) = by (segment_of packets m) (member-pieces initial_number packets connection side rest)
   where
     sent : Segment → Option Segment
     sent s = if is_sent_by connection side s then Some s else None
 
-    by : (p : Option Segment) → filter_map (member_piece isn packets connection side) rest ≡ filter_map (piece isn) (filter (is_sent_by connection side) (segments_of packets rest))
-        → cons_option (option_and_then (piece isn) (option_and_then (λ s. if is_sent_by connection side s then Some s else None) p)) (filter_map (member_piece isn packets connection side) rest)
-        ≡ filter_map (piece isn) (filter (is_sent_by connection side) (option_to_list p ++ segments_of packets rest))
+    by : (p : Option Segment) → filter_map (member_piece initial_number packets connection side) rest ≡ filter_map (piece initial_number) (filter (is_sent_by connection side) (segments_of packets rest))
+        → cons_option (option_and_then (piece initial_number) (option_and_then (λ s. if is_sent_by connection side s then Some s else None) p)) (filter_map (member_piece initial_number packets connection side) rest)
+        ≡ filter_map (piece initial_number) (filter (is_sent_by connection side) (option_to_list p ++ segments_of packets rest))
     by None r = r
     by (Some s) r = choose (is_sent_by connection side s)
       where
-        choose : (b : Bool) → cons_option (option_and_then (piece isn) (if b then Some s else None)) (filter_map (member_piece isn packets connection side) rest)
-            ≡ filter_map (piece isn) (if b then s ∷ filter (is_sent_by connection side) (segments_of packets rest) else filter (is_sent_by connection side) (segments_of packets rest))
-        choose true = ap (cons_option (piece isn s)) r
+        choose : (b : Bool) → cons_option (option_and_then (piece initial_number) (if b then Some s else None)) (filter_map (member_piece initial_number packets connection side) rest)
+            ≡ filter_map (piece initial_number) (if b then s ∷ filter (is_sent_by connection side) (segments_of packets rest) else filter (is_sent_by connection side) (segments_of packets rest))
+        choose true = ap (cons_option (piece initial_number s)) r
         choose false = r
 
 -- payloads in the capture fit
@@ -379,7 +379,7 @@ named-in_range packets m h = by (segment_of packets m) refl h
     by None e some = absurd (let no : false ≡ true = some in cc)
     by (Some s) e some = slice_get_within packets (m - 1) (Carried s) (found-at packets m s e)
 
--- the packet at a member's place
+-- the packet at a member's index
 pub packet-at : (packets : List Packet) (m : ℕ) (d p : Packet) → IsSome (segment_of packets m) → get_or packets (m - 1) d ≡ p → (slice_get packets (m - 1) ≡ Some p) × (segment_of packets m ≡ segment_in p)
 packet-at packets m d p some e =
     let at-m : slice_get packets (m - 1) ≡ Some p = slice_get-get_or packets (m - 1) d (named-in_range packets m some) ∙ ap Some e in

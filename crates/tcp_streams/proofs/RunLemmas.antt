@@ -9,11 +9,11 @@ use Rattle.std.proofs.lemmas.List.Elements.{All-cons, All-head, All-nil, All-tai
 use Rattle.tcp_streams.specs.declared.interval.Interval.{Interval}
 use Rattle.tcp_streams.specs.declared.streams.Arrival.{Arrival}
 use Rattle.tcp_streams.specs.Arrivals.{AreTimely, Rises}
-use Rattle.tcp_streams.specs.Flow.{AreArrivals, IsArrivalOf, IsFlow, IsGap, entry_at}
-use Rattle.tcp_streams.specs.Interval.{ArePlaced, IsInterval, IsPlaced, Spans, arrival_with, arrivals_after, arrivals_in, at, bytes_in, run_length, size_of, source_in, width}
+use Rattle.tcp_streams.specs.Flow.{AreArrivals, IsArrivalOf, IsFlow, IsGap, arrival_at}
+use Rattle.tcp_streams.specs.code.Interval.{AreCaptured, IsInterval, IsCaptured, Spans, arrival_with, arrivals_after, arrivals_in, at, bytes_in, run_length, size_of, source_in, width}
 use Rattle.tcp_streams.specs.Sequence.{Source, arrival, end_of_offsets, later_of}
 use Rattle.tcp_streams.proofs.IntervalLemmas.{Spans-before, at-append, at-in, at-past, lt-false, lt-true, lt_cases, size-append, size-cons}
-use Rattle.tcp_streams.proofs.Places.{length-slice_range, slice_get-left, slice_get-right, slice_get-slice_range}
+use Rattle.tcp_streams.proofs.Elements.{length-slice_range, slice_get-left, slice_get-right, slice_get-slice_range}
 
 -- the intervals follow each other from low on
 abbrev pub Follows : ℕ → List Interval → Type 0
@@ -81,55 +81,55 @@ module _ (low : ℕ) (run rest : List Interval) (is : IsRunOf low run rest) wher
   at-rest : (o : ℕ) → run_end low run ≤ o → at (run ++ rest) o ≡ at rest o
   at-rest o b = at-append run rest o ∙ ap (λ p. option_or p (at rest o)) (run-beyond low run o is.follows b)
 
--- places in the capture
+-- indexes in the capture
 abbrev pub AreInCapture : ℕ → List Interval → Type 0
-AreInCapture size run = All (λ (x : Interval). x.place + (x.upto - x.from) ≤ size) run
+AreInCapture size run = All (λ (x : Interval). x.index + (x.upto - x.from) ≤ size) run
 
-pub bytes_in-push : (capture : List ℕ) (xs : List Interval) (x : Interval) → bytes_in capture (xs ++ x ∷ []) ≡ bytes_in capture xs ++ slice_range capture x.place (x.place + width x)
-bytes_in-push capture [] x = append-nil (slice_range capture x.place (x.place + width x))
+pub bytes_in-push : (capture : List ℕ) (xs : List Interval) (x : Interval) → bytes_in capture (xs ++ x ∷ []) ≡ bytes_in capture xs ++ slice_range capture x.index (x.index + width x)
+bytes_in-push capture [] x = append-nil (slice_range capture x.index (x.index + width x))
   where
     append-nil : (l : List ℕ) → l ++ [] ≡ l
     append-nil [] = refl
     append-nil (y ∷ l) = ap (λ r. y ∷ r) (append-nil l)
 bytes_in-push capture (y ∷ xs) x =
-    ap (λ l. slice_range capture y.place (y.place + width y) ++ l) (bytes_in-push capture xs x)
-    ∙ sym (append_assoc (slice_range capture y.place (y.place + width y)) (bytes_in capture xs) (slice_range capture x.place (x.place + width x)))
+    ap (λ l. slice_range capture y.index (y.index + width y) ++ l) (bytes_in-push capture xs x)
+    ∙ sym (append_assoc (slice_range capture y.index (y.index + width y)) (bytes_in capture xs) (slice_range capture x.index (x.index + width x)))
 
-length-part : (capture : List ℕ) (x : Interval) → x.place + (x.upto - x.from) ≤ length capture → length (slice_range capture x.place (x.place + width x)) ≡ width x
+length-part : (capture : List ℕ) (x : Interval) → x.index + (x.upto - x.from) ≤ length capture → length (slice_range capture x.index (x.index + width x)) ≡ width x
 length-part capture x h =
-    let cut : length (slice_range capture x.place (x.place + width x)) ≡ x.place + width x - x.place = length-slice_range capture x.place (x.place + width x) (omega arith) h in
+    let cut : length (slice_range capture x.index (x.index + width x)) ≡ x.index + width x - x.index = length-slice_range capture x.index (x.index + width x) (omega arith) h in
     omega (arith, cut)
 
 pub length-bytes_in : (capture : List ℕ) (low : ℕ) (run : List Interval) → Follows low run → AreInCapture (length capture) run → low + length (bytes_in capture run) ≡ run_end low run
 length-bytes_in capture low [] f h = omega arith
 length-bytes_in capture low (x ∷ xs) f h =
-    let head : x.place + (x.upto - x.from) ≤ length capture = All-head (λ (x : Interval). x.place + (x.upto - x.from) ≤ length capture) x xs h in
+    let head : x.index + (x.upto - x.from) ≤ length capture = All-head (λ (x : Interval). x.index + (x.upto - x.from) ≤ length capture) x xs h in
     omega (
       arith,
       f.0,
       f.1.some,
-      length-append (slice_range capture x.place (x.place + width x)) (bytes_in capture xs),
+      length-append (slice_range capture x.index (x.index + width x)) (bytes_in capture xs),
       length-part capture x head,
-      length-bytes_in capture x.upto xs f.2 (All-tail (λ (x : Interval). x.place + (x.upto - x.from) ≤ length capture) x xs h),
+      length-bytes_in capture x.upto xs f.2 (All-tail (λ (x : Interval). x.index + (x.upto - x.from) ≤ length capture) x xs h),
     )
 
--- each byte is the capture's at its place
+-- each byte is the capture's at its index
 bytes-at : (capture : List ℕ) (low : ℕ) (run : List Interval) (o : ℕ) → Follows low run → AreInCapture (length capture) run → low ≤ o → o < run_end low run
-    → IsSomeAnd (at run o) (λ (s : Source). slice_get capture s.place ≡ slice_get (bytes_in capture run) (o - low))
+    → IsSomeAnd (at run o) (λ (s : Source). slice_get capture s.index ≡ slice_get (bytes_in capture run) (o - low))
 bytes-at capture low [] o f h a b = absurd (omega (arith, a, b))
 bytes-at capture low (x ∷ xs) o f h a b =
-    let head : x.place + (x.upto - x.from) ≤ length capture = All-head (λ (x : Interval). x.place + (x.upto - x.from) ≤ length capture) x xs h in
-    let size : length (slice_range capture x.place (x.place + width x)) ≡ width x = length-part capture x head in
-    elim (lt_cases o x.upto) as (λ _. IsSomeAnd (at (x ∷ xs) o) (λ (s : Source). slice_get capture s.place ≡ slice_get (bytes_in capture (x ∷ xs)) (o - low))) [
+    let head : x.index + (x.upto - x.from) ≤ length capture = All-head (λ (x : Interval). x.index + (x.upto - x.from) ≤ length capture) x xs h in
+    let size : length (slice_range capture x.index (x.index + width x)) ≡ width x = length-part capture x head in
+    elim (lt_cases o x.upto) as (λ _. IsSomeAnd (at (x ∷ xs) o) (λ (s : Source). slice_get capture s.index ≡ slice_get (bytes_in capture (x ∷ xs)) (o - low))) [
       | inl k ↦
-          subst (λ p. IsSomeAnd p (λ (s : Source). slice_get capture s.place ≡ slice_get (bytes_in capture (x ∷ xs)) (o - low))) (sym (at-in x xs o (omega (arith, f.0, a)) k.1))
-          (sym (slice_get-left (slice_range capture x.place (x.place + width x)) (bytes_in capture xs) (o - low) (omega (arith, f.0, k.1, a, size))
-          ∙ slice_get-slice_range capture x.place (x.place + width x) (o - low) (x.place + (o - x.from)) (omega (arith, f.0)) (omega (arith, f.0, k.1, a))))
+          subst (λ p. IsSomeAnd p (λ (s : Source). slice_get capture s.index ≡ slice_get (bytes_in capture (x ∷ xs)) (o - low))) (sym (at-in x xs o (omega (arith, f.0, a)) k.1))
+          (sym (slice_get-left (slice_range capture x.index (x.index + width x)) (bytes_in capture xs) (o - low) (omega (arith, f.0, k.1, a, size))
+          ∙ slice_get-slice_range capture x.index (x.index + width x) (o - low) (x.index + (o - x.from)) (omega (arith, f.0)) (omega (arith, f.0, k.1, a))))
       | inr k ↦
-          subst (λ p. IsSomeAnd p (λ (s : Source). slice_get capture s.place ≡ slice_get (bytes_in capture (x ∷ xs)) (o - low))) (sym (at-past x xs o k.1))
-          (subst (λ q. IsSomeAnd (at xs o) (λ (s : Source). slice_get capture s.place ≡ q))
-          (sym (slice_get-right (slice_range capture x.place (x.place + width x)) (bytes_in capture xs) (o - low) (o - x.upto) (omega (arith, f.0, f.1.some, k.1, size))))
-          (bytes-at capture x.upto xs o f.2 (All-tail (λ (x : Interval). x.place + (x.upto - x.from) ≤ length capture) x xs h) k.1 b))
+          subst (λ p. IsSomeAnd p (λ (s : Source). slice_get capture s.index ≡ slice_get (bytes_in capture (x ∷ xs)) (o - low))) (sym (at-past x xs o k.1))
+          (subst (λ q. IsSomeAnd (at xs o) (λ (s : Source). slice_get capture s.index ≡ q))
+          (sym (slice_get-right (slice_range capture x.index (x.index + width x)) (bytes_in capture xs) (o - low) (o - x.upto) (omega (arith, f.0, f.1.some, k.1, size))))
+          (bytes-at capture x.upto xs o f.2 (All-tail (λ (x : Interval). x.index + (x.upto - x.from) ≤ length capture) x xs h) k.1 b))
     ]
 
 -- the entry of an interval after another: the later record counts
@@ -205,13 +205,13 @@ arrival-first x sources pos brings (suc o) lt =
     (arrival-step (arrival_with x) x sources o (arrival-first x sources pos brings o (omega (arith, lt))) (brings (suc o) lt))
 
 -- the list begins with the entry's record and time, and reaches at least as far
-entry-first : (a : Arrival) (xs : List Interval) (o : ℕ) → Follows a.upto xs → o < a.upto → IsSomeAnd (entry_at (arrivals_after a xs) o) (λ (e : Arrival). Bears e a.rec a.nanos)
+entry-first : (a : Arrival) (xs : List Interval) (o : ℕ) → Follows a.upto xs → o < a.upto → IsSomeAnd (arrival_at (arrivals_after a xs) o) (λ (e : Arrival). Bears e a.rec a.nanos)
 entry-first a [] o f lt = subst (λ q. IsSomeAnd q (λ (e : Arrival). Bears e a.rec a.nanos)) (sym (ap (λ b. if b then Some a else None) (lt-true o a.upto lt))) (refl, refl)
 entry-first a (x ∷ xs) o f lt = by (nat_lt a.rec x.rec) (entry-first (record { upto = x.upto; rec = a.rec; nanos = a.nanos }) xs o f.2 (omega (arith, lt, f.0, f.1.some)))
   where
-    by : (b : Bool) → IsSomeAnd (entry_at (arrivals_after (record { upto = x.upto; rec = a.rec; nanos = a.nanos }) xs) o) (λ (e : Arrival). Bears e a.rec a.nanos)
-        → IsSomeAnd (entry_at (if b then a ∷ arrivals_after (arrival_with x) xs else arrivals_after (record { upto = x.upto; rec = a.rec; nanos = a.nanos }) xs) o) (λ (e : Arrival). Bears e a.rec a.nanos)
-    by true h = subst (λ q. IsSomeAnd q (λ (e : Arrival). Bears e a.rec a.nanos)) (sym (ap (λ b. if b then Some a else entry_at (arrivals_after (arrival_with x) xs) o) (lt-true o a.upto lt))) (refl, refl)
+    by : (b : Bool) → IsSomeAnd (arrival_at (arrivals_after (record { upto = x.upto; rec = a.rec; nanos = a.nanos }) xs) o) (λ (e : Arrival). Bears e a.rec a.nanos)
+        → IsSomeAnd (arrival_at (if b then a ∷ arrivals_after (arrival_with x) xs else arrivals_after (record { upto = x.upto; rec = a.rec; nanos = a.nanos }) xs) o) (λ (e : Arrival). Bears e a.rec a.nanos)
+    by true h = subst (λ q. IsSomeAnd q (λ (e : Arrival). Bears e a.rec a.nanos)) (sym (ap (λ b. if b then Some a else arrival_at (arrivals_after (arrival_with x) xs) o) (lt-true o a.upto lt))) (refl, refl)
     by false h = h
 
 -- what bears the record and the time of an arrival is of the same source
@@ -223,7 +223,7 @@ bears-arrival (Some e) a (Some s) h k = (h.0 ∙ k.0, h.1 ∙ k.1)
 -- past the entry, each byte arrives at its own
 arrivals-past : (a : Arrival) (xs : List Interval) (sources : ℕ → Option Source) → 0 < a.upto → Follows a.upto xs → IsArrivalOf a (arrival sources (a.upto - 1))
     → ((o : ℕ) → a.upto ≤ o → o < run_end a.upto xs → sources o ≡ at xs o) → (o : ℕ) → a.upto ≤ o → o < run_end a.upto xs
-    → IsSomeAnd (entry_at (arrivals_after a xs) o) (λ (e : Arrival). IsArrivalOf e (arrival sources o))
+    → IsSomeAnd (arrival_at (arrivals_after a xs) o) (λ (e : Arrival). IsArrivalOf e (arrival sources o))
 arrivals-past a [] sources pos f h same o le lt = absurd (omega (arith, le, lt))
 arrivals-past a (x ∷ xs) sources pos f h same o le lt =
     let long : x.upto ≤ run_end x.upto xs = run_end-after x.upto xs f.2 in
@@ -233,16 +233,16 @@ arrivals-past a (x ∷ xs) sources pos f h same o le lt =
     λ p q r. same p (omega (arith, f.0, f.1.some, q)) r ∙ at-past x xs p q in
     let inside : (p : ℕ) → a.upto ≤ p → p < x.upto → IsArrivalOf (merged a x) (arrival sources p) = arrival-in a x sources a.upto pos h brings in
     let last : IsArrivalOf (merged a x) (arrival sources (x.upto - 1)) = inside (x.upto - 1) (omega (arith, f.0, f.1.some)) (omega (arith, f.1.some)) in
-    elim (lt_cases a.rec x.rec) as (λ _. IsSomeAnd (entry_at (arrivals_after a (x ∷ xs)) o) (λ (e : Arrival). IsArrivalOf e (arrival sources o))) [
+    elim (lt_cases a.rec x.rec) as (λ _. IsSomeAnd (arrival_at (arrivals_after a (x ∷ xs)) o) (λ (e : Arrival). IsArrivalOf e (arrival sources o))) [
       | inl t ↦
           let here : merged a x ≡ arrival_with x = ap (λ b. if b then arrival_with x else record { upto = x.upto; rec = a.rec; nanos = a.nanos }) t.0 in
           let list : arrivals_after a (x ∷ xs) ≡ a ∷ arrivals_after (arrival_with x) xs =
           ap (λ b. if b then a ∷ arrivals_after (arrival_with x) xs else arrivals_after (record { upto = x.upto; rec = a.rec; nanos = a.nanos }) xs) t.0 in
-          let skip : entry_at (a ∷ arrivals_after (arrival_with x) xs) o ≡ entry_at (arrivals_after (arrival_with x) xs) o =
-          ap (λ b. if b then Some a else entry_at (arrivals_after (arrival_with x) xs) o) (lt-false o a.upto le) in
-          subst (λ q. IsSomeAnd q (λ (e : Arrival). IsArrivalOf e (arrival sources o))) (sym (ap (λ (l : List Arrival). entry_at l o) list ∙ skip))
-          (elim (lt_cases o x.upto) as (λ _. IsSomeAnd (entry_at (arrivals_after (arrival_with x) xs) o) (λ (e : Arrival). IsArrivalOf e (arrival sources o))) [
-            | inl k ↦ bears-arrival (entry_at (arrivals_after (arrival_with x) xs) o) (arrival_with x) (arrival sources o) (entry-first (arrival_with x) xs o f.2 k.1)
+          let skip : arrival_at (a ∷ arrivals_after (arrival_with x) xs) o ≡ arrival_at (arrivals_after (arrival_with x) xs) o =
+          ap (λ b. if b then Some a else arrival_at (arrivals_after (arrival_with x) xs) o) (lt-false o a.upto le) in
+          subst (λ q. IsSomeAnd q (λ (e : Arrival). IsArrivalOf e (arrival sources o))) (sym (ap (λ (l : List Arrival). arrival_at l o) list ∙ skip))
+          (elim (lt_cases o x.upto) as (λ _. IsSomeAnd (arrival_at (arrivals_after (arrival_with x) xs) o) (λ (e : Arrival). IsArrivalOf e (arrival sources o))) [
+            | inl k ↦ bears-arrival (arrival_at (arrivals_after (arrival_with x) xs) o) (arrival_with x) (arrival sources o) (entry-first (arrival_with x) xs o f.2 k.1)
                 (subst (λ (e : Arrival). IsArrivalOf e (arrival sources o)) here (inside o le k.1))
             | inr k ↦ arrivals-past (arrival_with x) xs sources (omega (arith, f.1.some)) f.2 (subst (λ (e : Arrival). IsArrivalOf e (arrival sources (x.upto - 1))) here last) past_it o k.1 lt
           ])
@@ -250,9 +250,9 @@ arrivals-past a (x ∷ xs) sources pos f h same o le lt =
           let here : merged a x ≡ record { upto = x.upto; rec = a.rec; nanos = a.nanos } = ap (λ b. if b then arrival_with x else record { upto = x.upto; rec = a.rec; nanos = a.nanos }) t.0 in
           let list : arrivals_after a (x ∷ xs) ≡ arrivals_after (record { upto = x.upto; rec = a.rec; nanos = a.nanos }) xs =
           ap (λ b. if b then a ∷ arrivals_after (arrival_with x) xs else arrivals_after (record { upto = x.upto; rec = a.rec; nanos = a.nanos }) xs) t.0 in
-          subst (λ q. IsSomeAnd q (λ (e : Arrival). IsArrivalOf e (arrival sources o))) (sym (ap (λ (l : List Arrival). entry_at l o) list))
-          (elim (lt_cases o x.upto) as (λ _. IsSomeAnd (entry_at (arrivals_after (record { upto = x.upto; rec = a.rec; nanos = a.nanos }) xs) o) (λ (e : Arrival). IsArrivalOf e (arrival sources o))) [
-            | inl k ↦ bears-arrival (entry_at (arrivals_after (record { upto = x.upto; rec = a.rec; nanos = a.nanos }) xs) o) (record { upto = x.upto; rec = a.rec; nanos = a.nanos }) (arrival sources o)
+          subst (λ q. IsSomeAnd q (λ (e : Arrival). IsArrivalOf e (arrival sources o))) (sym (ap (λ (l : List Arrival). arrival_at l o) list))
+          (elim (lt_cases o x.upto) as (λ _. IsSomeAnd (arrival_at (arrivals_after (record { upto = x.upto; rec = a.rec; nanos = a.nanos }) xs) o) (λ (e : Arrival). IsArrivalOf e (arrival sources o))) [
+            | inl k ↦ bears-arrival (arrival_at (arrivals_after (record { upto = x.upto; rec = a.rec; nanos = a.nanos }) xs) o) (record { upto = x.upto; rec = a.rec; nanos = a.nanos }) (arrival sources o)
                 (entry-first (record { upto = x.upto; rec = a.rec; nanos = a.nanos }) xs o f.2 k.1)
                 (subst (λ (e : Arrival). IsArrivalOf e (arrival sources o)) here (inside o le k.1))
             | inr k ↦ arrivals-past (record { upto = x.upto; rec = a.rec; nanos = a.nanos }) xs sources (omega (arith, f.1.some)) f.2
@@ -267,8 +267,8 @@ run-arrivals (x ∷ xs) sources f same o lt =
     let long : x.upto ≤ run_end x.upto xs = run_end-after x.upto xs f.2 in
     let brings : (p : ℕ) → p < x.upto → sources p ≡ Some (source_in x p) = λ p r. same p (omega (arith, r, long)) ∙ at-in x xs p (omega (arith, f.0)) r in
     let first : (p : ℕ) → p < x.upto → IsArrivalOf (arrival_with x) (arrival sources p) = arrival-first x sources (omega (arith, f.1.some)) brings in
-    elim (lt_cases o x.upto) as (λ _. IsSomeAnd (entry_at (arrivals_after (arrival_with x) xs) o) (λ (e : Arrival). IsArrivalOf e (arrival sources o))) [
-      | inl k ↦ bears-arrival (entry_at (arrivals_after (arrival_with x) xs) o) (arrival_with x) (arrival sources o) (entry-first (arrival_with x) xs o f.2 k.1) (first o k.1)
+    elim (lt_cases o x.upto) as (λ _. IsSomeAnd (arrival_at (arrivals_after (arrival_with x) xs) o) (λ (e : Arrival). IsArrivalOf e (arrival sources o))) [
+      | inl k ↦ bears-arrival (arrival_at (arrivals_after (arrival_with x) xs) o) (arrival_with x) (arrival sources o) (entry-first (arrival_with x) xs o f.2 k.1) (first o k.1)
       | inr k ↦ arrivals-past (arrival_with x) xs sources (omega (arith, f.1.some)) f.2 (first (x.upto - 1) (omega (arith, f.1.some)))
           (λ p q r. same p r ∙ at-past x xs p q) o k.1 lt
     ]
@@ -309,15 +309,15 @@ pub arrivals-timely : (run : List Interval) → All (λ (x : Interval). x.nanos 
 arrivals-timely [] h = All-nil (λ (e : Arrival). e.nanos < 2 ^ 63)
 arrivals-timely (x ∷ xs) h = timely-after (arrival_with x) xs (All-head (λ (x : Interval). x.nanos < 2 ^ 63) x xs h) (All-tail (λ (x : Interval). x.nanos < 2 ^ 63) x xs h)
 
--- what a placed list says of each interval of its run
-placed-run : (size low : ℕ) (run : List Interval) (P : Interval → Type 0) → Follows low run → ((x : Interval) → IsInterval x → IsPlaced size (source_in x (x.upto - 1)) → P x)
-    → ((o : ℕ) → low ≤ o → o < run_end low run → IfSome (at run o) (IsPlaced size)) → All P run
-placed-run size low [] P f says h = λ k d lt. absurd (omega (arith, lt))
-placed-run size low (x ∷ xs) P f says h =
+-- what a captured list says of each interval of its run
+captured-run : (size low : ℕ) (run : List Interval) (P : Interval → Type 0) → Follows low run → ((x : Interval) → IsInterval x → IsCaptured size (source_in x (x.upto - 1)) → P x)
+    → ((o : ℕ) → low ≤ o → o < run_end low run → IfSome (at run o) (IsCaptured size)) → All P run
+captured-run size low [] P f says h = λ k d lt. absurd (omega (arith, lt))
+captured-run size low (x ∷ xs) P f says h =
     let long : x.upto ≤ run_end x.upto xs = run_end-after x.upto xs f.2 in
     All-cons P x xs
-    (says x f.1 (subst (λ p. IfSome p (IsPlaced size)) (at-in x xs (x.upto - 1) (omega (arith, f.1.some)) (omega (arith, f.1.some))) (h (x.upto - 1) (omega (arith, f.0, f.1.some)) (omega (arith, f.1.some, long)))))
-    (placed-run size x.upto xs P f.2 says (λ o a b. subst (λ p. IfSome p (IsPlaced size)) (at-past x xs o a) (h o (omega (arith, f.0, f.1.some, a)) b)))
+    (says x f.1 (subst (λ p. IfSome p (IsCaptured size)) (at-in x xs (x.upto - 1) (omega (arith, f.1.some)) (omega (arith, f.1.some))) (h (x.upto - 1) (omega (arith, f.0, f.1.some)) (omega (arith, f.1.some, long)))))
+    (captured-run size x.upto xs P f.2 says (λ o a b. subst (λ p. IfSome p (IsCaptured size)) (at-past x xs o a) (h o (omega (arith, f.0, f.1.some, a)) b)))
 
 -- a gap where something comes after
 abbrev pub gap_of : List Interval → ℕ → Option ℕ
@@ -339,21 +339,21 @@ gap_of-some (x ∷ xs) zero n lt = refl
 gap_of-some (x ∷ xs) (suc k) n lt = gap_of-some xs k n (omega (arith, lt))
 
 -- the bytes and the arrivals of a list's longest run are its flow
-module _ (capture : List ℕ) (run rest : List Interval) (is : IsRunOf 0 run rest) (placed : ArePlaced (length capture) (at (run ++ rest))) where
+module _ (capture : List ℕ) (run rest : List Interval) (is : IsRunOf 0 run rest) (captured : AreCaptured (length capture) (at (run ++ rest))) where
   here : (o : ℕ) → o < run_end 0 run → at (run ++ rest) o ≡ at run o
   here o lt = at-run 0 run rest is o (omega arith) lt
 
-  run-placed : (o : ℕ) → 0 ≤ o → o < run_end 0 run → IfSome (at run o) (IsPlaced (length capture))
-  run-placed o le lt = subst (λ p. IfSome p (IsPlaced (length capture))) (here o lt) (placed o (omega (arith, lt, is.within)))
+  run-captured : (o : ℕ) → 0 ≤ o → o < run_end 0 run → IfSome (at run o) (IsCaptured (length capture))
+  run-captured o le lt = subst (λ p. IfSome p (IsCaptured (length capture))) (here o lt) (captured o (omega (arith, lt, is.within)))
 
   pub run-in_capture : AreInCapture (length capture) run
-  run-in_capture = placed-run (length capture) 0 run (λ (x : Interval). x.place + (x.upto - x.from) ≤ length capture) is.follows (λ x v p. omega (arith, v.some, p.0)) run-placed
+  run-in_capture = captured-run (length capture) 0 run (λ (x : Interval). x.index + (x.upto - x.from) ≤ length capture) is.follows (λ x v p. omega (arith, v.some, p.0)) run-captured
 
   pub run-numbered : All (λ (x : Interval). 0 < x.rec) run
-  run-numbered = placed-run (length capture) 0 run (λ (x : Interval). 0 < x.rec) is.follows (λ x v p. p.1) run-placed
+  run-numbered = captured-run (length capture) 0 run (λ (x : Interval). 0 < x.rec) is.follows (λ x v p. p.1) run-captured
 
   pub run-timely : All (λ (x : Interval). x.nanos < 2 ^ 63) run
-  run-timely = placed-run (length capture) 0 run (λ (x : Interval). x.nanos < 2 ^ 63) is.follows (λ x v p. p.2) run-placed
+  run-timely = captured-run (length capture) 0 run (λ (x : Interval). x.nanos < 2 ^ 63) is.follows (λ x v p. p.2) run-captured
 
   run-length : length (bytes_in capture run) ≡ run_end 0 run
   run-length = omega (arith, length-bytes_in capture 0 run is.follows run-in_capture)
@@ -381,9 +381,9 @@ module _ (capture : List ℕ) (run rest : List Interval) (is : IsRunOf 0 run res
       longest = λ lt. at-rest 0 run rest is (length (bytes_in capture run)) (omega (arith, run-length)) ∙ rest-before (run_end 0 run) rest (length (bytes_in capture run)) is.leaves (omega (arith, run-length));
     };
     bytes_are = λ o lt.
-        subst (λ p. IsSomeAnd p (λ (s : Source). slice_get capture s.place ≡ slice_get (bytes_in capture run) o)) (sym (here o (omega (arith, lt, run-length))))
+        subst (λ p. IsSomeAnd p (λ (s : Source). slice_get capture s.index ≡ slice_get (bytes_in capture run) o)) (sym (here o (omega (arith, lt, run-length))))
         (let same : o - 0 ≡ o = omega arith in
-        subst (λ n. IsSomeAnd (at run o) (λ (s : Source). slice_get capture s.place ≡ slice_get (bytes_in capture run) n)) same
+        subst (λ n. IsSomeAnd (at run o) (λ (s : Source). slice_get capture s.index ≡ slice_get (bytes_in capture run) n)) same
         (bytes-at capture 0 run o is.follows run-in_capture (omega arith) (omega (arith, lt, run-length))));
     rises = subst (λ n. Rises 0 0 (arrivals_in run) n) (sym run-length) (run-rises run is.follows run-numbered);
     arrivals_are = subst (λ n. AreArrivals (at (run ++ rest)) (arrivals_in run) n) (sym run-length) (run-arrivals run (at (run ++ rest)) is.follows here);

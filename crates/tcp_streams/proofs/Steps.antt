@@ -19,7 +19,7 @@ use Rattle.tcp_streams.specs.declared.table.Standing.{Standing}
 use Rattle.tcp_streams.specs.declared.table.Standing.TheVariants.{Unopened, Opened}
 use Rattle.tcp_streams.specs.Pair.{is_of, is_pair, pair_of}
 use Rattle.tcp_streams.specs.Membership.{Membership, connection_of, first_strays, is_answer, is_opening, last_opening, members, membership, opening_at, openings, opens, stray_of, strays, with_if}
-use Rattle.tcp_streams.specs.Table.{Falls, IsOpened, IsShown, IsTableOf, IsUnknown, IsUnopened, SetsStanding, SetsStandingIn, Stands, begun, begun_stray, counted, joined}
+use Rattle.tcp_streams.specs.code.Table.{Falls, IsOpened, IsShown, IsTableOf, IsUnknown, IsUnopened, SetsStanding, SetsStandingIn, Stands, opened_by, first_stray, counted, joined}
 use Rattle.tcp_streams.proofs.Lists.{list_any-at, map-agree, map-but, slice_get-last, slice_get-with_if}
 use Rattle.tcp_streams.proofs.Pairs.{is_endpoint-refl, is_pair-refl, is_pair-same, is_pair-sym}
 use Rattle.tcp_streams.proofs.Past.{first_strays-distinct, first_strays-stray, last_opening-kept, last_opening-new, last_opening-other, members-to_come, opening_at-kept, opening_at-opens, openings-below, openings-distinct}
@@ -59,7 +59,7 @@ filter-none p (x ∷ xs) h = by (p x) h (filter-none p xs)
     by true h rest = absurd (true≢false h)
     by false h rest = rest h
 
--- one more that doesn't pass isn't kept
+-- one more that doesn't pass initial_number't kept
 filter-other : (p : Segment → Bool) (xs : List Segment) (s : Segment) → p s ≡ false → length (filter p (xs ++ s ∷ [])) ≡ length (filter p xs)
 filter-other p xs s h = ap length (filter-append p xs (s ∷ [])) ∙ length-append (filter p xs) (filter p (s ∷ [])) ∙ ap (λ b. length (filter p xs) + length (if b then s ∷ [] else [])) h ∙ omega arith
 
@@ -92,8 +92,8 @@ connection_with-push o s ms =
     seq_or (Some x) b = refl
 
 -- an opening is no answer to itself
-begun-connection_with : (s : Segment) → begun s ≡ connection_with s (s ∷ [])
-begun-connection_with s =
+opened_by-connection_with : (s : Segment) → opened_by s ≡ connection_with s (s ∷ [])
+opened_by-connection_with s =
     let none : option_map (λ (t : Segment). t.seq) (find (is_answer s) (s ∷ [])) ≡ None =
     ap (λ b. option_map (λ (t : Segment). t.seq) (if not b && (s.syn && s.ack) then Some s else None)) (is_endpoint-refl s.from) in
     (λ i. record { client = s.from; server = s.to; rec = s.rec; client_isn = s.seq; server_isn = sym none i; members = s.rec ∷ [] })
@@ -126,16 +126,16 @@ module _ (past : List Segment) (s : Segment) where
   module _ (standing : Pair → Option Standing) (opened : List Membership) (found : List Stray) (shown : IsShown past standing opened found) where
     -- the segment opens a connection
     pub shown-opens : (after : Pair → Option Standing) → opens s past ≡ true → Falls s.rec past
-        → SetsStandingIn (pair_of s) (Opened (length opened)) standing after → IsShown (s ∷ past) after (opened ++ begun s ∷ []) found
+        → SetsStandingIn (pair_of s) (Opened (length opened)) standing after → IsShown (s ∷ past) after (opened ++ opened_by s ∷ []) found
     shown-opens after e falls sets = record {
       opened_are =
           let grown : openings (s ∷ past) ≡ openings past ++ s ∷ [] = ap (λ b. with_if b (openings past) s) e in
           let old : opened ≡ map (connection_of (s ∷ past)) (openings past) =
           shown.opened_are ∙ map-agree (connection_of past) (connection_of (s ∷ past)) (openings past)
           (λ k o at. connection-kept o (ap (is_opening o) (opening_at-opens past s e) ∙ not_this o (openings-below s.rec past falls k o at))) in
-          let new : begun s ≡ connection_of (s ∷ past) s =
-          begun-connection_with s ∙ ap (λ (ms : List Segment). connection_with s (ms ++ s ∷ [])) (sym (members-to_come s past falls)) ∙ sym (ap (λ b. connection_with s (with_if b (members s past) s)) (ap (is_opening s) (opening_at-opens past s e) ∙ this)) in
-          ap (λ (l : List Membership). l ++ begun s ∷ []) old ∙ ap (λ (m : Membership). map (connection_of (s ∷ past)) (openings past) ++ m ∷ []) new
+          let new : opened_by s ≡ connection_of (s ∷ past) s =
+          opened_by-connection_with s ∙ ap (λ (ms : List Segment). connection_with s (ms ++ s ∷ [])) (sym (members-to_come s past falls)) ∙ sym (ap (λ b. connection_with s (with_if b (members s past) s)) (ap (is_opening s) (opening_at-opens past s e) ∙ this)) in
+          ap (λ (l : List Membership). l ++ opened_by s ∷ []) old ∙ ap (λ (m : Membership). map (connection_of (s ∷ past)) (openings past) ++ m ∷ []) new
           ∙ sym (map-append (connection_of (s ∷ past)) (openings past) (s ∷ [])) ∙ ap (map (connection_of (s ∷ past))) (sym grown);
       strays_are = strays-kept found none_new shown.strays_are;
       stands = λ p. subst (Stands (s ∷ past) p) (sym (sets p)) (by p (is_pair (pair_of s) p) refl);
@@ -150,18 +150,18 @@ module _ (past : List Segment) (s : Segment) where
         this : nat_eq s.rec s.rec ≡ true
         this = elim (eqb_tells s.rec s.rec) as (λ _. nat_eq s.rec s.rec ≡ true) [ inl q ↦ q.0 | inr q ↦ absurd (q.1 refl) ]
 
-        place : length opened ≡ length (openings past)
-        place = ap length shown.opened_are ∙ length-map (openings past) (connection_of past)
+        index : length opened ≡ length (openings past)
+        index = ap length shown.opened_are ∙ length-map (openings past) (connection_of past)
 
         by : (p : Pair) (b : Bool) → is_pair (pair_of s) p ≡ b → Stands (s ∷ past) p (if b then Some (Opened (length opened)) else standing p)
         by p true q = record {
           last = s;
           opened = last_opening-new past s e p (is_pair-sym p (pair_of s) ∙ q);
-          at = ap (λ b. slice_get (with_if b (openings past) s) (length opened)) e ∙ ap (slice_get (openings past ++ s ∷ [])) place ∙ slice_get-last (openings past) s;
+          at = ap (λ b. slice_get (with_if b (openings past) s) (length opened)) e ∙ ap (slice_get (openings past ++ s ∷ [])) index ∙ slice_get-last (openings past) s;
         }
         by p false q = Stands-grown past s p (standing p) (last_opening-other past s p (is_pair-sym p (pair_of s) ∙ q)) (any-kept none_new p) (shown.stands p)
 
-    -- the segment joins the connection at a place
+    -- the segment joins the connection at a index
     pub shown-joins : (k : ℕ) (after : List Membership) (c : Membership) → opens s past ≡ false → Falls s.rec past → IsOpened past (pair_of s) k
         → slice_get opened k ≡ Some c → after ≡ set opened k (joined c s) → IsShown (s ∷ past) standing after found
     shown-joins k after c e falls o at a = record {
@@ -242,11 +242,11 @@ module _ (past : List Segment) (s : Segment) where
 
     -- the segment is the first stray of its pair
     pub shown-begins : (after : Pair → Option Standing) → opens s past ≡ false → IsUnknown past (pair_of s)
-        → SetsStandingIn (pair_of s) (Unopened (length found)) standing after → IsShown (s ∷ past) after opened (found ++ begun_stray s ∷ [])
+        → SetsStandingIn (pair_of s) (Unopened (length found)) standing after → IsShown (s ∷ past) after opened (found ++ first_stray s ∷ [])
     shown-begins after e u sets = record {
       opened_are = opened-kept looks_back e;
       strays_are =
-          ap (λ (l : List Stray). l ++ begun_stray s ∷ []) (shown.strays_are ∙ map-agree (stray_of (strays past)) (stray_of (strays past ++ s ∷ [])) (first_strays past)
+          ap (λ (l : List Stray). l ++ first_stray s ∷ []) (shown.strays_are ∙ map-agree (stray_of (strays past)) (stray_of (strays past ++ s ∷ [])) (first_strays past)
           (λ k f at. stray-other f (another k f at (is_of (pair_of f) s) refl)))
           ∙ ap (λ (x : Stray). map (stray_of (strays past ++ s ∷ [])) (first_strays past) ++ x ∷ []) (sym alone)
           ∙ sym (map-append (stray_of (strays past ++ s ∷ [])) (first_strays past) (s ∷ []))
@@ -264,7 +264,7 @@ module _ (past : List Segment) (s : Segment) where
         firsts_grow = ap (λ (o : Option Segment). with_if (is_none o && not (list_any (is_of (pair_of s)) (strays past))) (first_strays past) s) looks_back
             ∙ ap (λ b. with_if (not b) (first_strays past) s) u.no_stray
 
-        alone : stray_of (strays past ++ s ∷ []) s ≡ begun_stray s
+        alone : stray_of (strays past ++ s ∷ []) s ≡ first_stray s
         alone = ap (λ n. record { from = s.from; to = s.to; segments = n })
             (filter-one_more (is_of (pair_of s)) (strays past) s (is_pair-refl (pair_of s)) ∙ ap (λ (l : List Segment). length l + 1) (filter-none (is_of (pair_of s)) (strays past) u.no_stray))
 
@@ -272,8 +272,8 @@ module _ (past : List Segment) (s : Segment) where
         another k f at true q = absurd (true≢false (sym (subst (λ p. list_any (is_of p) (strays past) ≡ true) (is_pair-same (pair_of f) (pair_of s) q) (first_strays-stray past k f at)) ∙ u.no_stray))
         another k f at false q = q
 
-        place : length found ≡ length (first_strays past)
-        place = ap length shown.strays_are ∙ length-map (first_strays past) (stray_of (strays past))
+        index : length found ≡ length (first_strays past)
+        index = ap length shown.strays_are ∙ length-map (first_strays past) (stray_of (strays past))
 
         by : (p : Pair) (b : Bool) → is_pair (pair_of s) p ≡ b → Stands (s ∷ past) p (if b then Some (Unopened (length found)) else standing p)
         by p true q =
@@ -283,7 +283,7 @@ module _ (past : List Segment) (s : Segment) where
               unopened = last_opening-kept past s e p ∙ subst (λ r. last_opening r past ≡ None) same u.unopened;
               some_stray = ap (list_any (is_of p)) strays_grow ∙ list_any-at (is_of p) (strays past ++ s ∷ []) (length (strays past)) s (slice_get-last (strays past) s) of_p;
               first = s;
-              at = ap (λ (l : List Segment). slice_get l (length found)) firsts_grow ∙ ap (slice_get (first_strays past ++ s ∷ [])) place ∙ slice_get-last (first_strays past) s;
+              at = ap (λ (l : List Segment). slice_get l (length found)) firsts_grow ∙ ap (slice_get (first_strays past ++ s ∷ [])) index ∙ slice_get-last (first_strays past) s;
               of_pair = of_p;
             }
         by p false q =
@@ -292,16 +292,16 @@ module _ (past : List Segment) (s : Segment) where
 
 -- the same of the table as it stands in memory
 module _ (past : List Segment) (s : Segment) (old new : Table) (shown : IsTableOf past old) where
-  pub table-opens : map membership new.opened.items ≡ map membership old.opened.items ++ begun s ∷ [] → new.strays.items ≡ old.strays.items
+  pub table-opens : map membership new.opened.items ≡ map membership old.opened.items ++ opened_by s ∷ [] → new.strays.items ≡ old.strays.items
       → SetsStanding (pair_of s) (Opened (length old.opened.items)) old new → opens s past ≡ true → Falls s.rec past → IsTableOf (s ∷ past) new
   table-opens opened found sets e falls =
       let sets' : SetsStandingIn (pair_of s) (Opened (length (map membership old.opened.items))) (get is_pair old.pairs) (get is_pair new.pairs) =
       subst (λ n. SetsStandingIn (pair_of s) (Opened n) (get is_pair old.pairs) (get is_pair new.pairs)) (sym (length-map old.opened.items membership)) sets in
       subst (λ (l : List Membership). IsShown (s ∷ past) (get is_pair new.pairs) l new.strays.items) (sym opened)
-      (subst (λ (l : List Stray). IsShown (s ∷ past) (get is_pair new.pairs) (map membership old.opened.items ++ begun s ∷ []) l) (sym found)
+      (subst (λ (l : List Stray). IsShown (s ∷ past) (get is_pair new.pairs) (map membership old.opened.items ++ opened_by s ∷ []) l) (sym found)
       (shown-opens past s (get is_pair old.pairs) (map membership old.opened.items) old.strays.items shown (get is_pair new.pairs) e falls sets'))
 
-  pub table-begins : new.opened.items ≡ old.opened.items → new.strays.items ≡ old.strays.items ++ begun_stray s ∷ []
+  pub table-begins : new.opened.items ≡ old.opened.items → new.strays.items ≡ old.strays.items ++ first_stray s ∷ []
       → SetsStanding (pair_of s) (Unopened (length old.strays.items)) old new → (opens s past ≡ false) × IsUnknown past (pair_of s) → IsTableOf (s ∷ past) new
   table-begins opened found sets turn =
       subst (λ (l : List Connection). IsShown (s ∷ past) (get is_pair new.pairs) (map membership l) new.strays.items) (sym opened)

@@ -11,7 +11,7 @@ use Rattle.tcp_streams.specs.declared.table.Standing.TheVariants.{Unopened, Open
 use Rattle.tcp_streams.specs.declared.table.Turn.TheVariants.{Opens, Joins, Counts, Begins}
 use Rattle.tcp_streams.specs.Pair.{is_of, pair_of}
 use Rattle.tcp_streams.specs.Membership.{Membership, connection_of, first_strays, is_again, is_request, last_opening, opening_at, openings, opens, repeats, stray_of, strays, with_if}
-use Rattle.tcp_streams.specs.Table.{IsOpened, IsShown, IsTurn, IsUnopened, Stands}
+use Rattle.tcp_streams.specs.code.Table.{IsOpened, IsShown, IsTurn, IsUnopened, Stands}
 
 -- no request opens nothing
 opens-no_request : (past : List Segment) (s : Segment) → is_request s ≡ false → opens s past ≡ false
@@ -37,7 +37,7 @@ module _ (past : List Segment) (standing : Pair → Option Standing) (opened : L
   pub opens_unopened : (k : ℕ) → standing (pair_of s) ≡ Some (Unopened k) → is_request s ≡ true → IsTurn past s Opens
   opens_unopened k e r = opens-request past s None r (stands_so (Some (Unopened k)) e).unopened
 
-  -- what stands at the place of a last opening is its connection
+  -- what stands at the index of a last opening is its connection
   at_opened : (k : ℕ) (o : IsOpened past (pair_of s) k) → slice_get opened k ≡ Some (connection_of past o.last)
   at_opened k o =
       ap (λ l. slice_get l k) shown.opened_are ∙ slice_get-map (connection_of past) (openings past) k ∙ ap (option_map (connection_of past)) o.at
@@ -65,7 +65,7 @@ module _ (past : List Segment) (standing : Pair → Option Standing) (opened : L
   pub joins : (k : ℕ) → standing (pair_of s) ≡ Some (Opened k) → is_request s ≡ false → IsTurn past s (Joins k)
   joins k e r = (opens-no_request past s r, stands_so (Some (Opened k)) e)
 
--- an element that was read stands at its place, and so does what a function makes of it
+-- an element that was read stands at its index, and so does what a function makes of it
 pub mapped_at : {X Y : Type 0} (f : X → Y) (xs : List X) (n k : ℕ) (x : X) → n ≡ length xs → k < n → x ≡ get_or xs k x → slice_get (map f xs) k ≡ Some (f x)
 mapped_at f xs n k x e lt r = slice_get-map f xs k ∙ ap (option_map f) (slice_get_read xs n k x e lt r)
 

@@ -11,30 +11,34 @@ pub record IsLongestRun (sources : ℕ → Option Source) (n : ℕ) : Type 0 whe
   pub covered : (o : ℕ) → o < n → IsSome (sources o)
   pub longest : n < end_of_offsets → sources n ≡ None
 
--- each byte is the capture's at its source's place
+-- each byte is the capture's at its source's index
 abbrev pub AreBytes : List ℕ → (ℕ → Option Source) → List ℕ → Type 0
 AreBytes capture sources bytes =
-    (o : ℕ) → o < length bytes → IsSomeAnd (sources o) (λ (s : Source). slice_get capture s.place ≡ slice_get bytes o)
+    (o : ℕ) → o < length bytes
+    → IsSomeAnd (sources o) (λ (s : Source). slice_get capture s.index ≡ slice_get bytes o)
 
--- the entry at which byte o arrives
-abbrev pub entry_at : List Arrival → ℕ → Option Arrival
-entry_at arrivals o = find (λ (a : Arrival). nat_lt o a.upto) arrivals
+-- the arrival of byte o
+abbrev pub arrival_at : List Arrival → ℕ → Option Arrival
+arrival_at arrivals o = find (λ (a : Arrival). nat_lt o a.upto) arrivals
 
--- the entry bears the record and the time of the source
+-- the arrival bears the record and the time of the source
 abbrev pub IsArrivalOf : Arrival → Option Source → Type 0
 IsArrivalOf a s = IsSomeAnd s (λ (x : Source). (a.rec ≡ x.rec) × (a.nanos ≡ x.nanos))
 
 -- each byte arrives with the last of the bytes up to it
 abbrev pub AreArrivals : (ℕ → Option Source) → List Arrival → ℕ → Type 0
 AreArrivals sources arrivals n =
-    (o : ℕ) → o < n → IsSomeAnd (entry_at arrivals o) (λ (a : Arrival). IsArrivalOf a (arrival sources o))
+    (o : ℕ) → o < n → IsSomeAnd (arrival_at arrivals o) (λ (a : Arrival). IsArrivalOf a (arrival sources o))
 
 -- there is a gap, at the flow's length, exactly where some offset past it has a source
 abbrev pub IsGap : (ℕ → Option Source) → ℕ → Option ℕ → Type 0
 IsGap sources n None = (o : ℕ) → n < o → o < end_of_offsets → sources o ≡ None
 IsGap sources n (Some g) = (g ≡ n) × ((o : ℕ) × (n < o) × (o < end_of_offsets) × IsSome (sources o))
 
-pub record IsFlow (capture : List ℕ) (sources : ℕ → Option Source) (bytes : List ℕ) (arrivals : List Arrival) (gap : Option ℕ) : Type 0 where
+-- the bytes, their arrivals and the gap are those of the flow that these sources make
+pub record IsFlow
+    (capture : List ℕ) (sources : ℕ → Option Source) (bytes : List ℕ) (arrivals : List Arrival) (gap : Option ℕ)
+    : Type 0 where
   pub run : IsLongestRun sources (length bytes)
   pub bytes_are : AreBytes capture sources bytes
   pub rises : Rises 0 0 arrivals (length bytes)

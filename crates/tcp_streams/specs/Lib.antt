@@ -1,10 +1,9 @@
 pub mod Arrivals
 pub mod Flow
-pub mod Interval
 pub mod Laws
 pub mod Members
 pub mod Membership
 pub mod Packets
 pub mod Pair
 pub mod Sequence
-pub mod Table
+pub mod code

@@ -27,7 +27,8 @@ is_sent_by connection Server s = not (is_endpoint s.from connection.client)
 
 -- the side's segments, in order of record
 abbrev pub side_segments : List Packet → Connection → Side → List Segment
-side_segments packets connection side = filter (is_sent_by connection side) (segments_of packets connection.members.items)
+side_segments packets connection side =
+    filter (is_sent_by connection side) (segments_of packets connection.members.items)
 
 -- the side's initial sequence number, where the capture shows it
 abbrev pub initial_of : Connection → Side → Option ℕ

@@ -69,7 +69,9 @@ strays (s ∷ earlier) = with_if (is_none (opening_at s earlier)) (strays earlie
 abbrev pub first_strays : List Segment → List Segment
 first_strays [] = []
 first_strays (s ∷ earlier) =
-    with_if (is_none (opening_at s earlier) && not (list_any (is_of (pair_of s)) (strays earlier))) (first_strays earlier) s
+    with_if
+    (is_none (opening_at s earlier) && not (list_any (is_of (pair_of s)) (strays earlier)))
+    (first_strays earlier) s
 
 -- a server's SYN with ACK, in the connection of the opening (RFC 9293, 3.5)
 abbrev pub is_answer : Segment → Segment → Bool

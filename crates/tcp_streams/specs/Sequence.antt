@@ -13,30 +13,30 @@ modulus = 2 ^ 32
 abbrev pub end_of_offsets : ℕ
 end_of_offsets = 2 ^ 31
 
--- where the byte at an offset comes from: the record, its time, and the place of the byte in the capture
+-- where the byte at an offset comes from: the record, its time, and the index of the byte in the capture
 pub record Source : Type 0 where
   pub rec : ℕ
   pub nanos : ℕ
-  pub place : ℕ
+  pub index : ℕ
 
 -- how many payload bytes the segment has
 abbrev pub payload_length : Segment → ℕ
 payload_length s = s.hi - s.lo
 
--- the offset of the segment's first payload byte, which is seq - isn - 1, and one more where the segment
+-- the offset of the segment's first payload byte, which is seq - initial_number - 1, and one more where the segment
 -- is a SYN, modulo 2 ^ 32
 abbrev pub start_of : ℕ → Segment → ℕ
-start_of isn s = (s.seq + (if s.syn then 1 else 0) + (modulus - 1 - isn)) % modulus
+start_of initial_number s = (s.seq + (if s.syn then 1 else 0) + (modulus - 1 - initial_number)) % modulus
 
 -- which payload byte has the offset, if the segment is long enough: the offset less the first byte's
 abbrev pub distance : ℕ → Segment → ℕ → ℕ
-distance isn s o = (o + (modulus - start_of isn s)) % modulus
+distance initial_number s o = (o + (modulus - start_of initial_number s)) % modulus
 
 -- what the segment brings to the offset
 abbrev pub brings : ℕ → Segment → ℕ → Option Source
-brings isn s o =
-    if nat_lt (distance isn s o) (payload_length s)
-    then Some (record { rec = s.rec; nanos = s.nanos; place = s.lo + distance isn s o })
+brings initial_number s o =
+    if nat_lt (distance initial_number s o) (payload_length s)
+    then Some (record { rec = s.rec; nanos = s.nanos; index = s.lo + distance initial_number s o })
     else None
 
 -- the one of the lesser record
@@ -53,8 +53,8 @@ later_of (Some a) (Some b) = if nat_lt a.rec b.rec then Some b else Some a
 
 -- the source of the byte at an offset: of the side's segments that cover it, the one of the least record
 abbrev pub source : ℕ → List Segment → ℕ → Option Source
-source isn [] o = None
-source isn (s ∷ others) o = earlier_of (brings isn s o) (source isn others o)
+source initial_number [] o = None
+source initial_number (s ∷ others) o = earlier_of (brings initial_number s o) (source initial_number others o)
 
 -- when the stream is there up to an offset, the offset's byte included: the greatest record among the
 -- sources of the offsets from 0

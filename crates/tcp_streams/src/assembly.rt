@@ -39,9 +39,10 @@ pub fn assemble(
     requires members { AreMembers 0 packets.now connection.now.members.items }
 
     // A side whose initial number is known.
-    ensures started { IfSome (initial_of connection.now side) (λ isn. IfOk result (λ f. IsTrue f.started)) }
-    ensures flow { IfSome (initial_of connection.now side) (λ isn. IfOk result (λ f.
-        IsFlow capture.now (source isn (side_segments packets.now connection.now side)) f.bytes.items f.arrivals.items f.gap)) }
+    ensures started { IfSome (initial_of connection.now side) (λ _. IfOk result (λ f. IsTrue f.started)) }
+    ensures flow { IfSome (initial_of connection.now side) (λ initial_number. IfOk result (λ f.
+        IsFlow capture.now (source initial_number (side_segments packets.now connection.now side))
+        f.bytes.items f.arrivals.items f.gap)) }
 
     // Any other.
     ensures unknown { initial_of connection.now side ≡ None → IfOk result (λ f.
@@ -53,8 +54,8 @@ pub fn assemble(
     ensures orderly { IfOk result IsOrderly }
 {
     match connection.initial_of(side) {
-        Some(isn) => {
-            let pieces = pieces_of(alloc, isn, packets, connection, side)?;
+        Some(initial_number) => {
+            let pieces = pieces_of(alloc, initial_number, packets, connection, side)?;
             let intervals = settle(alloc, &pieces)?;
             lay_out(alloc, capture, &intervals)
         }

@@ -3,19 +3,19 @@ ghost use Rattle.std.specs.Prelude.{◌≡◌, ◌+◌, ◌-◌, ◌<◌, ◌≤
 /// The first offset that doesn't count: a flow is shorter than this.
 pub const END_OF_OFFSETS: u64 = 0x8000_0000;
 
-/// Offsets of a stream that follow each other and come from one segment, with the place of the first
+/// Offsets of a stream that follow each other and come from one segment, with the index of the first
 /// one's byte in the capture.
 #[derive(Clone, Copy, Debug, PartialEq, Eq)]
 pub struct Interval {
     pub from: u64,
     pub upto: u64,
-    pub place: usize,
+    pub index: usize,
     pub rec: u32,
     pub nanos: u64,
 }
 
 impl Interval {
-    ghost use Rattle.tcp_streams.specs.Interval.{IsInterval, part_of};
+    ghost use Rattle.tcp_streams.specs.code.Interval.{IsInterval, part_of};
 
     /// The part between two offsets of the interval.
     pub fn part(&self, low: u64, high: u64) -> Interval
@@ -30,7 +30,7 @@ impl Interval {
         Interval {
             from: low,
             upto: high,
-            place: self.place + skipped,
+            index: self.index + skipped,
             rec: self.rec,
             nanos: self.nanos,
         }

@@ -1,7 +1,7 @@
 ghost use Rattle.std.specs.Prelude.{◌≡◌, ◌+◌, ◌-◌, ◌<◌, ◌≤◌, ◌^◌, true, length, All, IfOk};
 ghost use Rattle.tcp_streams.specs.Arrivals.{AreTimely};
 ghost use Rattle.tcp_streams.specs.Flow.{IsFlow};
-ghost use Rattle.tcp_streams.specs.Interval.{ArePlaced, IsInterval, Spans, arrival_with, arrivals_in, at, bytes_in, run_length, size_of};
+ghost use Rattle.tcp_streams.specs.code.Interval.{AreCaptured, IsInterval, Spans, arrival_with, arrivals_in, at, bytes_in, run_length, size_of};
 ghost use Rattle.tcp_streams.specs.declared.interval.Interval.{Interval as Held};
 
 use crate::interval::Interval;
@@ -11,7 +11,7 @@ use std::alloc::{AllocError, Global};
 /// Lays out the bytes of intervals in order of offset, as far as they follow each other from 0.
 pub fn lay_out(alloc: Global, capture: &[u8], intervals: &[Interval]) -> Result<Flow, AllocError>
     requires spans { Spans 0 intervals.now (2 ^ 31) }
-    requires placed { ArePlaced (length capture.now) (at intervals.now) }
+    requires captured { AreCaptured (length capture.now) (at intervals.now) }
     ensures flow { IfOk result (λ f. IsFlow capture.now (at intervals.now) f.bytes.items f.arrivals.items f.gap) }
     ensures started { IfOk result (λ f. f.started ≡ true) }
     ensures size { IfOk result (λ f. length f.bytes.items ≤ size_of intervals.now) }
@@ -51,7 +51,7 @@ fn run_length(intervals: &[Interval]) -> usize
 /// The bytes of the intervals, one after the other. In a run from offset 0 the last one's end is how many there are.
 fn bytes_in(alloc: Global, capture: &[u8], run: &[Interval]) -> Result<Vec<u8>, AllocError>
     requires intervals { All IsInterval run.now }
-    requires placed { All (λ (x : Held). x.place + (x.upto - x.from) ≤ length capture.now) run.now }
+    requires captured { All (λ (x : Held). x.index + (x.upto - x.from) ≤ length capture.now) run.now }
     ensures { IfOk result (λ v. v.items ≡ bytes_in capture.now run.now) }
 {
     let size = match run.last() {
@@ -61,12 +61,12 @@ fn bytes_in(alloc: Global, capture: &[u8], run: &[Interval]) -> Result<Vec<u8>, 
     let mut bytes = Vec::with_capacity(alloc, size)?;
     for x in run {
         let width = (x.upto - x.from) as usize;
-        bytes.extend_from_slice(&capture[x.place..x.place + width])?;
+        bytes.extend_from_slice(&capture[x.index..x.index + width])?;
     }
     Ok(bytes)
 }
 
-/// When the bytes of the intervals arrived: an entry for each record that is later than all before it.
+/// When the bytes of the intervals arrived: one arrival for each record that is later than all before it.
 fn arrivals_in(alloc: Global, run: &[Interval]) -> Result<Vec<Arrival>, AllocError>
     ensures { IfOk result (λ v. v.items ≡ arrivals_in run.now) }
 {

@@ -11,20 +11,15 @@ mod assembly;
 mod interval;
 pub mod laws;
 mod layout;
-pub mod members;
+mod members;
 mod membership;
 mod overlay;
 mod pair;
 mod pieces;
-pub mod streams;
+mod streams;
 mod table;
 
 pub use assembly::assemble;
 pub use members::{Connection, Connections, Stray};
 pub use membership::connections;
 pub use streams::{Arrival, Flow};
-
-#[cfg(test)]
-mod plain;
-#[cfg(test)]
-mod tests;

@@ -23,11 +23,11 @@ pub struct Connection {
 impl Connection {
     ghost use Rattle.tcp_streams.specs.Members.{initial_of};
     ghost use Rattle.tcp_streams.specs.Membership.{membership, is_again};
-    ghost use Rattle.tcp_streams.specs.Table.{begun, joined};
+    ghost use Rattle.tcp_streams.specs.code.Table.{opened_by, joined};
 
     /// The connection that a SYN opens.
     pub(crate) fn opened_by(alloc: Global, segment: &Segment) -> Result<Connection, AllocError>
-        ensures { IfOk result (λ c. membership c ≡ begun segment.now) }
+        ensures { IfOk result (λ c. membership c ≡ opened_by segment.now) }
     {
         let mut members = Vec::new(alloc);
         members.push(segment.rec)?;

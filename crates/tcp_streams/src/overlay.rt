@@ -1,5 +1,5 @@
 ghost use Rattle.std.specs.Prelude.{◌≡◌, ◌+◌, ◌-◌, ◌<◌, ◌≤◌, ◌^◌, [], ◌∷◌, ◌++◌, All, length, drop, IfOk, OnOk};
-ghost use Rattle.tcp_streams.specs.Interval.{HasPassed, IsInterval, IsSame, Spans, at, clipped, overlay, size_of};
+ghost use Rattle.tcp_streams.specs.code.Interval.{HasPassed, IsInterval, IsSame, Spans, at, clipped, overlay, size_of};
 
 use crate::interval::{END_OF_OFFSETS, Interval};
 use std::alloc::{AllocError, Global};

@@ -1,6 +1,6 @@
 ghost use Rattle.std.specs.Prelude.{◌≡◌, ◌+◌, ◌-◌, ◌%◌, ◌<◌, ◌≤◌, ◌^◌, if◌then◌else◌, length, Option, IsSome, IfOk};
 ghost use Rattle.std.specs.List.{filter_map};
-ghost use Rattle.tcp_streams.specs.Interval.{PayloadsFit, member_piece, piece, stretch};
+ghost use Rattle.tcp_streams.specs.code.Interval.{PayloadsFit, member_piece, piece, stretch};
 ghost use Rattle.tcp_streams.specs.Members.{AreMembers, is_sent_by};
 ghost use Rattle.tcp_streams.specs.Packets.{segment_of};
 
@@ -16,18 +16,19 @@ const MODULUS: u64 = 0x1_0000_0000;
 /// The offsets that a side's segments cover, a piece for each that covers any, in order of record.
 pub fn pieces_of(
     alloc: Global,
-    isn: u32,
+    initial_number: u32,
     packets: &[Packet],
     connection: &Connection,
     side: Side,
 ) -> Result<Vec<Interval>, AllocError>
     requires payloads { PayloadsFit packets.now }
     requires members { AreMembers 0 packets.now connection.now.members.items }
-    ensures { IfOk result (λ v. v.items ≡ filter_map (member_piece isn packets.now connection.now side) connection.now.members.items) }
+    ensures { IfOk result (λ v. v.items
+        ≡ filter_map (member_piece initial_number packets.now connection.now side) connection.now.members.items) }
 {
     let mut pieces = Vec::new(alloc);
     for member in &connection.members {
-        if let Some(piece) = piece_of_member(isn, packets, connection, side, *member) {
+        if let Some(piece) = piece_of_member(initial_number, packets, connection, side, *member) {
             pieces.push(piece)?;
         }
     }
@@ -36,7 +37,7 @@ pub fn pieces_of(
 
 /// The piece of a member, if it is the side's.
 fn piece_of_member(
-    isn: u32,
+    initial_number: u32,
     packets: &[Packet],
     connection: &Connection,
     side: Side,
@@ -45,13 +46,13 @@ fn piece_of_member(
     requires payloads { PayloadsFit packets.now }
     requires counted { 0 < member }
     requires named { IsSome (segment_of packets.now member) }
-    ensures { result ≡ member_piece isn packets.now connection.now side member }
+    ensures { result ≡ member_piece initial_number packets.now connection.now side member }
 {
     let packet = packets[(member - 1) as usize];
     match packet {
         Packet::Segment(segment) => {
             if is_sent_by(connection, side, &segment) {
-                piece_of(isn, &segment)
+                piece_of(initial_number, &segment)
             } else {
                 None
             }
@@ -73,12 +74,12 @@ fn is_sent_by(connection: &Connection, side: Side, segment: &Segment) -> bool
 }
 
 /// The offsets that a segment's payload covers, of those that count.
-fn piece_of(isn: u32, segment: &Segment) -> Option<Interval>
+fn piece_of(initial_number: u32, segment: &Segment) -> Option<Interval>
     requires payload { segment.now.lo ≤ segment.now.hi }
     requires short { segment.now.hi < 2 ^ 31 }
-    ensures { result ≡ piece isn segment.now }
+    ensures { result ≡ piece initial_number segment.now }
 {
-    let start = start_of(isn, segment.seq, segment.syn);
+    let start = start_of(initial_number, segment.seq, segment.syn);
     let upto = start + (segment.hi - segment.lo) as u64;
     if start < END_OF_OFFSETS {
         stretch(segment, 0, start, upto.min(END_OF_OFFSETS))
@@ -88,23 +89,23 @@ fn piece_of(isn: u32, segment: &Segment) -> Option<Interval>
 }
 
 /// The offset of the first payload byte.
-fn start_of(isn: u32, seq: u32, syn: bool) -> u64
-    ensures start { result ≡ (seq + (if syn then 1 else 0) + (2 ^ 32 - 1 - isn)) % 2 ^ 32 }
+fn start_of(initial_number: u32, seq: u32, syn: bool) -> u64
+    ensures start { result ≡ (seq + (if syn then 1 else 0) + (2 ^ 32 - 1 - initial_number)) % 2 ^ 32 }
     ensures within { result < 2 ^ 32 }
 {
-    (seq as u64 + u64::from(syn) + (MODULUS - 1 - isn as u64)) % MODULUS
+    (seq as u64 + u64::from(syn) + (MODULUS - 1 - initial_number as u64)) % MODULUS
 }
 
 /// The offsets from one up to another, from the payload byte `skipped` on, if there are any.
 fn stretch(segment: &Segment, skipped: u64, from: u64, upto: u64) -> Option<Interval>
-    requires place { segment.now.lo + skipped < 2 ^ 33 }
+    requires index { segment.now.lo + skipped < 2 ^ 33 }
     ensures { result ≡ stretch segment.now skipped from upto }
 {
     if from < upto {
         Some(Interval {
             from,
             upto,
-            place: segment.lo + skipped as usize,
+            index: segment.lo + skipped as usize,
             rec: segment.rec,
             nanos: segment.nanos,
         })

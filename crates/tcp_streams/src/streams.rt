@@ -1,9 +1,10 @@
 use std::alloc::Global;
 
-/// When the bytes of a flow were there: each byte arrives at the first entry whose `upto` is above its offset.
+/// When bytes of a flow were there: each byte arrives with the first of its flow's arrivals whose `upto` is above its
+/// offset.
 #[derive(Clone, Copy, Debug, PartialEq, Eq)]
 pub struct Arrival {
-    /// The offset past the last byte of this entry.
+    /// The offset past the last byte of this arrival.
     pub upto: u64,
     /// The record that brought it.
     pub rec: u32,

@@ -7,7 +7,7 @@ use indexmap::IndexMap;
 use packet_heads::Segment;
 use std::alloc::{AllocError, Global};
 
-/// What was seen of a pair of endpoints, with its place in the table's lists.
+/// What was seen of a pair of endpoints, with its index in the table's lists.
 #[derive(Clone, Copy, Debug, PartialEq, Eq)]
 pub enum Standing {
     Unopened(usize),
@@ -19,9 +19,9 @@ pub enum Standing {
 pub enum Turn {
     /// It opens a connection.
     Opens,
-    /// It belongs to the connection at this place.
+    /// It belongs to the connection at this index.
     Joins(usize),
-    /// It is one more stray of the pair at this place.
+    /// It is one more stray of the pair at this index.
     Counts(usize),
     /// It is the first stray of its pair.
     Begins,
@@ -48,7 +48,7 @@ impl Table {
     ghost use Rattle.std.specs.Prelude.{◌∷◌, ◌++◌, map, length};
     ghost use Rattle.tcp_streams.specs.Membership.{membership};
     ghost use Rattle.tcp_streams.specs.Pair.{pair_of};
-    ghost use Rattle.tcp_streams.specs.Table.{HasPast, IsTableOf, IsTurn, Falls, SetsStanding, begun, begun_stray};
+    ghost use Rattle.tcp_streams.specs.code.Table.{HasPast, IsTableOf, IsTurn, Falls, SetsStanding, opened_by, first_stray};
     ghost use Rattle.tcp_streams.specs.declared.table.Standing.TheVariants.{Opened, Unopened};
 
     pub fn new(alloc: Global) -> Table
@@ -65,7 +65,8 @@ impl Table {
     /// Takes in the next segment.
     pub fn add(&mut self, segment: &Segment) -> Result<(), AllocError>
         requires { HasPast self.old }
-        ensures { OnOk result ((past : List Shown) → IsTableOf past self.old → Falls segment.now.rec past → IsTableOf (segment.now ∷ past) self.new) }
+        ensures { OnOk result ((past : List Shown) → IsTableOf past self.old → Falls segment.now.rec past
+            → IsTableOf (segment.now ∷ past) self.new) }
     {
         match self.turn(segment) {
             Turn::Opens => self.open(segment),
@@ -110,32 +111,35 @@ impl Table {
 
     /// Takes in a segment that opens a connection.
     fn open(&mut self, segment: &Segment) -> Result<(), AllocError>
-        ensures opened { OnOk result (map membership self.new.opened.items ≡ map membership self.old.opened.items ++ begun segment.now ∷ []) }
+        ensures opened { OnOk result (map membership self.new.opened.items
+            ≡ map membership self.old.opened.items ++ opened_by segment.now ∷ []) }
         ensures strays { OnOk result (self.new.strays.items ≡ self.old.strays.items) }
-        ensures pairs { OnOk result (SetsStanding (pair_of segment.now) (Opened (length self.old.opened.items)) self.old self.new) }
+        ensures pairs { OnOk result
+            (SetsStanding (pair_of segment.now) (Opened (length self.old.opened.items)) self.old self.new) }
     {
         let connection = Connection::opened_by(self.alloc, segment)?;
-        let place = self.connection_count();
+        let index = self.connection_count();
         self.opened.push(connection)?;
         self.pairs
-            .insert(Pair::of(segment), Standing::Opened(place))?;
+            .insert(Pair::of(segment), Standing::Opened(index))?;
         Ok(())
     }
 
     /// Takes in the first stray of its pair.
     fn begin(&mut self, segment: &Segment) -> Result<(), AllocError>
         ensures opened { OnOk result (self.new.opened.items ≡ self.old.opened.items) }
-        ensures strays { OnOk result (self.new.strays.items ≡ self.old.strays.items ++ begun_stray segment.now ∷ []) }
-        ensures pairs { OnOk result (SetsStanding (pair_of segment.now) (Unopened (length self.old.strays.items)) self.old self.new) }
+        ensures strays { OnOk result (self.new.strays.items ≡ self.old.strays.items ++ first_stray segment.now ∷ []) }
+        ensures pairs { OnOk result
+            (SetsStanding (pair_of segment.now) (Unopened (length self.old.strays.items)) self.old self.new) }
     {
-        let place = self.stray_count();
+        let index = self.stray_count();
         self.strays.push(Stray {
             from: segment.from,
             to: segment.to,
             segments: 1,
         })?;
         self.pairs
-            .insert(Pair::of(segment), Standing::Unopened(place))?;
+            .insert(Pair::of(segment), Standing::Unopened(index))?;
         Ok(())
     }
 

@@ -9,40 +9,40 @@ use Rattle.tcp_streams.specs.declared.members.Connection.{Connection}
 use Rattle.tcp_streams.specs.declared.streams.Flow.{Flow}
 use Rattle.tcp_streams.specs.Arrivals.{AreTimely, IsOrderly, Rises}
 use Rattle.tcp_streams.specs.Flow.{IsFlow}
-use Rattle.tcp_streams.specs.Interval.{ArePlaced, IsInterval, IsPlaced, IsSame, at, member_piece, piece, size_of}
+use Rattle.tcp_streams.specs.code.Interval.{AreCaptured, IsInterval, IsCaptured, IsSame, at, member_piece, piece, size_of}
 use Rattle.tcp_streams.specs.Members.{AreMembers, payload_sum, side_segments}
 use Rattle.tcp_streams.specs.Sequence.{source}
 use Rattle.tcp_streams.proofs.FlowLemmas.{IsFlow-same, side-fits}
 use Rattle.tcp_streams.proofs.Lists.{if_ok, if_ok_3}
-use Rattle.tcp_streams.proofs.PieceLemmas.{PayloadsFit-from, member-pieces, pieces-intervals, pieces-same, pieces-size, side-sound, source-first, source-placed}
+use Rattle.tcp_streams.proofs.PieceLemmas.{PayloadsFit-from, member-pieces, pieces-intervals, pieces-same, pieces-size, side-sound, source-first, source-captured}
 use Rattle.tcp_streams.proofs.assembly.assemble.Goals as goal
 
 pub pieces_of-requires-clause-payloads : goal.pieces_of-requires-clause-payloads
 pieces_of-requires-clause-payloads c = PayloadsFit-from 0 (length c.args.capture.now) c.args.packets.now c.requires.size c.requires.payloads
 
 -- what the pieces of a side are, and what intervals that bring the same are
-module _ (isn : ℕ) (capture : List ℕ) (packets : List Packet) (connection : Connection) (side : Side) (small : length capture < 2 ^ 31) (numbered : AreNumberedFrom 1 packets)
+module _ (initial_number : ℕ) (capture : List ℕ) (packets : List Packet) (connection : Connection) (side : Side) (small : length capture < 2 ^ 31) (numbered : AreNumberedFrom 1 packets)
     (rise : PayloadsRise 0 (length capture) packets) (times : TimesFit packets) (members : AreMembers 0 packets connection.members.items)
-    (pieces : List Interval) (are : pieces ≡ filter_map (member_piece isn packets connection side) connection.members.items) where
-  side-pieces : pieces ≡ filter_map (piece isn) (side_segments packets connection side)
-  side-pieces = are ∙ member-pieces isn packets connection side connection.members.items
+    (pieces : List Interval) (are : pieces ≡ filter_map (member_piece initial_number packets connection side) connection.members.items) where
+  side-pieces : pieces ≡ filter_map (piece initial_number) (side_segments packets connection side)
+  side-pieces = are ∙ member-pieces initial_number packets connection side connection.members.items
 
   pieces-valid : All IsInterval pieces
   pieces-valid = subst (λ (l : List Interval). All IsInterval l) (sym side-pieces)
-      (pieces-intervals isn (length capture) 0 (side_segments packets connection side) small (side-sound packets (length capture) connection side rise times numbered members))
+      (pieces-intervals initial_number (length capture) 0 (side_segments packets connection side) small (side-sound packets (length capture) connection side rise times numbered members))
 
   module _ (intervals : List Interval) (same : IsSame (at intervals) (at pieces)) (size : size_of intervals ≤ size_of pieces) where
-    sources-same : IsSame (at intervals) (source isn (side_segments packets connection side))
+    sources-same : IsSame (at intervals) (source initial_number (side_segments packets connection side))
     sources-same = λ o lt. same o lt ∙ ap (λ (l : List Interval). at l o) side-pieces
-        ∙ sym (pieces-same isn (length capture) 0 (side_segments packets connection side) small (side-sound packets (length capture) connection side rise times numbered members) o lt)
-        ∙ sym (source-first isn (length capture) 0 (side_segments packets connection side) o (side-sound packets (length capture) connection side rise times numbered members))
+        ∙ sym (pieces-same initial_number (length capture) 0 (side_segments packets connection side) small (side-sound packets (length capture) connection side rise times numbered members) o lt)
+        ∙ sym (source-first initial_number (length capture) 0 (side_segments packets connection side) o (side-sound packets (length capture) connection side rise times numbered members))
 
-    intervals-placed : ArePlaced (length capture) (at intervals)
-    intervals-placed = λ o lt. subst (λ p. IfSome p (IsPlaced (length capture))) (sym (sources-same o lt))
-        (source-placed isn (length capture) 0 (side_segments packets connection side) (side-sound packets (length capture) connection side rise times numbered members) o)
+    intervals-captured : AreCaptured (length capture) (at intervals)
+    intervals-captured = λ o lt. subst (λ p. IfSome p (IsCaptured (length capture))) (sym (sources-same o lt))
+        (source-captured initial_number (length capture) 0 (side_segments packets connection side) (side-sound packets (length capture) connection side rise times numbered members) o)
 
     intervals-within : size_of intervals ≤ payload_sum (side_segments packets connection side)
-    intervals-within = omega (arith, size, ap size_of side-pieces, pieces-size isn (side_segments packets connection side))
+    intervals-within = omega (arith, size, ap size_of side-pieces, pieces-size initial_number (side_segments packets connection side))
 
     flow-orderly : (f : Flow) → length f.bytes.items ≤ size_of intervals → IsFlow capture (at intervals) f.bytes.items f.arrivals.items f.gap → AreTimely f.arrivals.items → IsOrderly f
     flow-orderly f within flow timely =
@@ -55,22 +55,22 @@ module _ (isn : ℕ) (capture : List ℕ) (packets : List Packet) (connection : 
 
 pub settle-requires : goal.settle-requires
 settle-requires c =
-    pieces-valid c.in-Some.isn c.args.capture.now c.args.packets.now c.args.connection.now c.args.side c.requires.size c.requires.numbered c.requires.payloads c.requires.times c.requires.members
+    pieces-valid c.in-Some.initial_number c.args.capture.now c.args.packets.now c.args.connection.now c.args.side c.requires.size c.requires.numbered c.requires.payloads c.requires.times c.requires.members
     c.deref.result.now (c.deref.ensures.value ∙ c.in_ok-pieces-in-Some.ensures)
 
-pub lay_out-requires-clause-placed : goal.lay_out-requires-clause-placed
-lay_out-requires-clause-placed c =
-    subst (λ (l : List Interval). ArePlaced (length c.args.capture.now) (at l)) (sym c.deref-in-Some.ensures.value)
-    (intervals-placed c.in-Some.isn c.args.capture.now c.args.packets.now c.args.connection.now c.args.side c.requires.size c.requires.numbered c.requires.payloads c.requires.times c.requires.members
+pub lay_out-requires-clause-captured : goal.lay_out-requires-clause-captured
+lay_out-requires-clause-captured c =
+    subst (λ (l : List Interval). AreCaptured (length c.args.capture.now) (at l)) (sym c.deref-in-Some.ensures.value)
+    (intervals-captured c.in-Some.initial_number c.args.capture.now c.args.packets.now c.args.connection.now c.args.side c.requires.size c.requires.numbered c.requires.payloads c.requires.times c.requires.members
     c.deref.result.now (c.deref.ensures.value ∙ c.in_ok-pieces-in-Some.ensures) c.in_ok-intervals-in-Some.intervals.items c.in_ok-intervals-in-Some.ensures.same c.in_ok-intervals-in-Some.ensures.size)
 
 pub returns-in_ok-intervals-in-Some-clause-flow : goal.returns-in_ok-intervals-in-Some-clause-flow
 returns-in_ok-intervals-in-Some-clause-flow c =
-    subst (λ (p : Option ℕ). IfSome p (λ isn. IfOk c.lay_out.result (λ f.
-    IsFlow c.args.capture.now (source isn (side_segments c.args.packets.now c.args.connection.now c.args.side)) f.bytes.items f.arrivals.items f.gap))) c.in-Some.ensures
+    subst (λ (p : Option ℕ). IfSome p (λ initial_number. IfOk c.lay_out.result (λ f.
+    IsFlow c.args.capture.now (source initial_number (side_segments c.args.packets.now c.args.connection.now c.args.side)) f.bytes.items f.arrivals.items f.gap))) c.in-Some.ensures
     (if_ok c.lay_out.result _ _
     (λ f flow. IsFlow-same c.args.capture.now _ _ f.bytes.items f.arrivals.items f.gap
-    (sources-same c.in-Some.isn c.args.capture.now c.args.packets.now c.args.connection.now c.args.side c.requires.size c.requires.numbered c.requires.payloads c.requires.times c.requires.members
+    (sources-same c.in-Some.initial_number c.args.capture.now c.args.packets.now c.args.connection.now c.args.side c.requires.size c.requires.numbered c.requires.payloads c.requires.times c.requires.members
     c.deref.result.now (c.deref.ensures.value ∙ c.in_ok-pieces-in-Some.ensures) c.in_ok-intervals-in-Some.intervals.items c.in_ok-intervals-in-Some.ensures.same c.in_ok-intervals-in-Some.ensures.size)
     (subst (λ (l : List Interval). IsFlow c.args.capture.now (at l) f.bytes.items f.arrivals.items f.gap) c.deref-in-Some.ensures.value flow))
     c.lay_out.ensures.flow)
@@ -81,7 +81,7 @@ returns-in_ok-intervals-in-Some-clause-within c =
     (λ f size.
     let size' : length f.bytes.items ≤ size_of c.in_ok-intervals-in-Some.intervals.items = subst (λ (l : List Interval). length f.bytes.items ≤ size_of l) c.deref-in-Some.ensures.value size in
     let within : size_of c.in_ok-intervals-in-Some.intervals.items ≤ payload_sum (side_segments c.args.packets.now c.args.connection.now c.args.side) =
-    intervals-within c.in-Some.isn c.args.capture.now c.args.packets.now c.args.connection.now c.args.side c.requires.size c.requires.numbered c.requires.payloads c.requires.times c.requires.members
+    intervals-within c.in-Some.initial_number c.args.capture.now c.args.packets.now c.args.connection.now c.args.side c.requires.size c.requires.numbered c.requires.payloads c.requires.times c.requires.members
     c.deref.result.now (c.deref.ensures.value ∙ c.in_ok-pieces-in-Some.ensures) c.in_ok-intervals-in-Some.intervals.items c.in_ok-intervals-in-Some.ensures.same c.in_ok-intervals-in-Some.ensures.size in
     omega (arith, size', within, f.bytes.ok.0))
     c.lay_out.ensures.size
@@ -90,7 +90,7 @@ pub returns-in_ok-intervals-in-Some-clause-orderly : goal.returns-in_ok-interval
 returns-in_ok-intervals-in-Some-clause-orderly c =
     if_ok_3 c.lay_out.result _ _ _ _
     (λ f size flow timely.
-    flow-orderly c.in-Some.isn c.args.capture.now c.args.packets.now c.args.connection.now c.args.side c.requires.size c.requires.numbered c.requires.payloads c.requires.times c.requires.members
+    flow-orderly c.in-Some.initial_number c.args.capture.now c.args.packets.now c.args.connection.now c.args.side c.requires.size c.requires.numbered c.requires.payloads c.requires.times c.requires.members
     c.deref.result.now (c.deref.ensures.value ∙ c.in_ok-pieces-in-Some.ensures) c.in_ok-intervals-in-Some.intervals.items c.in_ok-intervals-in-Some.ensures.same c.in_ok-intervals-in-Some.ensures.size f
     (subst (λ (l : List Interval). length f.bytes.items ≤ size_of l) c.deref-in-Some.ensures.value size)
     (subst (λ (l : List Interval). IsFlow c.args.capture.now (at l) f.bytes.items f.arrivals.items f.gap) c.deref-in-Some.ensures.value flow) timely)

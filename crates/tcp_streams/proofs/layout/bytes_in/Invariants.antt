@@ -1,5 +1,5 @@
 use Rattle.std.proofs.Common.{◌≡◌, take}
-use Rattle.tcp_streams.specs.Interval.{bytes_in}
+use Rattle.tcp_streams.specs.code.Interval.{bytes_in}
 use Rattle.tcp_streams.proofs.layout.bytes_in.Given as goal
 
 abbrev pub invariant-loop-x : goal.invariant-loop-x

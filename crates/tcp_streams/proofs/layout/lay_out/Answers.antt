@@ -6,25 +6,25 @@ use Rattle.tcp_streams.specs.declared.interval.Interval.{Interval}
 use Rattle.tcp_streams.specs.declared.streams.Arrival.{Arrival}
 use Rattle.tcp_streams.specs.Arrivals.{AreTimely}
 use Rattle.tcp_streams.specs.Flow.{IsFlow}
-use Rattle.tcp_streams.specs.Interval.{ArePlaced, IsInterval, Spans, arrivals_in, at, bytes_in, run_length, size_of}
+use Rattle.tcp_streams.specs.code.Interval.{AreCaptured, IsInterval, Spans, arrivals_in, at, bytes_in, run_length, size_of}
 use Rattle.tcp_streams.proofs.RunLemmas.{Follows, IsRunOf, arrivals-timely, gap_of, gap_of-none, gap_of-some, run-flow, run-in_capture, run-is, run-size, run-timely}
 use Rattle.tcp_streams.proofs.layout.lay_out.Goals as goal
 use Rattle.tcp_streams.proofs.layout.lay_out.Goals.{then-count-intervals, else-count-intervals}
 
 -- the facts on the run, at the count that was computed
-module _ (capture : List ℕ) (intervals : List Interval) (n : ℕ) (is : n ≡ run_length 0 intervals) (spans : Spans 0 intervals (2 ^ 31)) (placed : ArePlaced (length capture) (at intervals)) where
+module _ (capture : List ℕ) (intervals : List Interval) (n : ℕ) (is : n ≡ run_length 0 intervals) (spans : Spans 0 intervals (2 ^ 31)) (captured : AreCaptured (length capture) (at intervals)) where
   run-of : IsRunOf 0 (take n intervals) (drop n intervals)
   run-of = subst (λ k. IsRunOf 0 (take k intervals) (drop k intervals)) (sym is) (run-is 0 intervals spans)
 
   whole : take n intervals ++ drop n intervals ≡ intervals
   whole = take-append-drop n intervals
 
-  placed-parts : ArePlaced (length capture) (at (take n intervals ++ drop n intervals))
-  placed-parts = subst (λ (l : List Interval). ArePlaced (length capture) (at l)) (sym whole) placed
+  captured-parts : AreCaptured (length capture) (at (take n intervals ++ drop n intervals))
+  captured-parts = subst (λ (l : List Interval). AreCaptured (length capture) (at l)) (sym whole) captured
 
   flow-of : IsFlow capture (at intervals) (bytes_in capture (take n intervals)) (arrivals_in (take n intervals)) (gap_of (drop n intervals) (length (bytes_in capture (take n intervals))))
   flow-of = subst (λ (l : List Interval). IsFlow capture (at l) (bytes_in capture (take n intervals)) (arrivals_in (take n intervals)) (gap_of (drop n intervals) (length (bytes_in capture (take n intervals)))))
-      whole (run-flow capture (take n intervals) (drop n intervals) run-of placed-parts)
+      whole (run-flow capture (take n intervals) (drop n intervals) run-of captured-parts)
 
 all-follow : (low : ℕ) (run : List Interval) → Follows low run → All IsInterval run
 all-follow low [] f = All-nil IsInterval
@@ -33,13 +33,13 @@ all-follow low (x ∷ xs) f = All-cons IsInterval x xs f.1 (all-follow x.upto xs
 pub bytes_in-requires-clause-intervals : goal.bytes_in-requires-clause-intervals
 bytes_in-requires-clause-intervals c =
     all-follow 0 (take c.run_length-count.result c.args.intervals.now)
-    (run-of c.args.capture.now c.args.intervals.now c.run_length-count.result c.run_length-count.ensures.run c.requires.spans c.requires.placed).follows
+    (run-of c.args.capture.now c.args.intervals.now c.run_length-count.result c.run_length-count.ensures.run c.requires.spans c.requires.captured).follows
 
-pub bytes_in-requires-clause-placed : goal.bytes_in-requires-clause-placed
-bytes_in-requires-clause-placed c =
+pub bytes_in-requires-clause-captured : goal.bytes_in-requires-clause-captured
+bytes_in-requires-clause-captured c =
     run-in_capture c.args.capture.now (take c.run_length-count.result c.args.intervals.now) (drop c.run_length-count.result c.args.intervals.now)
-    (run-of c.args.capture.now c.args.intervals.now c.run_length-count.result c.run_length-count.ensures.run c.requires.spans c.requires.placed)
-    (placed-parts c.args.capture.now c.args.intervals.now c.run_length-count.result c.run_length-count.ensures.run c.requires.spans c.requires.placed)
+    (run-of c.args.capture.now c.args.intervals.now c.run_length-count.result c.run_length-count.ensures.run c.requires.spans c.requires.captured)
+    (captured-parts c.args.capture.now c.args.intervals.now c.run_length-count.result c.run_length-count.ensures.run c.requires.spans c.requires.captured)
 
 pub returns-clause-flow : goal.returns-clause-flow
 returns-clause-flow c =
@@ -54,19 +54,19 @@ returns-clause-flow c =
     (subst (λ (l : List Arrival). IsFlow c.args.capture.now (at c.args.intervals.now) c.in_ok-bytes.bytes.items l (gap_of (drop c.run_length-count.result c.args.intervals.now) (length (bytes_in c.args.capture.now (take c.run_length-count.result c.args.intervals.now)))))
     (sym c.in_ok-arrivals.ensures)
     (subst (λ (l : List ℕ). IsFlow c.args.capture.now (at c.args.intervals.now) l (arrivals_in (take c.run_length-count.result c.args.intervals.now)) (gap_of (drop c.run_length-count.result c.args.intervals.now) (length (bytes_in c.args.capture.now (take c.run_length-count.result c.args.intervals.now)))))
-    bytes (flow-of c.args.capture.now c.args.intervals.now c.run_length-count.result c.run_length-count.ensures.run c.requires.spans c.requires.placed)))
+    bytes (flow-of c.args.capture.now c.args.intervals.now c.run_length-count.result c.run_length-count.ensures.run c.requires.spans c.requires.captured)))
 
 pub returns-clause-size : goal.returns-clause-size
 returns-clause-size c =
     let size = run-size c.args.capture.now (take c.run_length-count.result c.args.intervals.now) (drop c.run_length-count.result c.args.intervals.now)
-    (run-of c.args.capture.now c.args.intervals.now c.run_length-count.result c.run_length-count.ensures.run c.requires.spans c.requires.placed)
-    (placed-parts c.args.capture.now c.args.intervals.now c.run_length-count.result c.run_length-count.ensures.run c.requires.spans c.requires.placed) in
-    omega (arith, size, ap length c.in_ok-bytes.ensures, ap size_of (whole c.args.capture.now c.args.intervals.now c.run_length-count.result c.run_length-count.ensures.run c.requires.spans c.requires.placed))
+    (run-of c.args.capture.now c.args.intervals.now c.run_length-count.result c.run_length-count.ensures.run c.requires.spans c.requires.captured)
+    (captured-parts c.args.capture.now c.args.intervals.now c.run_length-count.result c.run_length-count.ensures.run c.requires.spans c.requires.captured) in
+    omega (arith, size, ap length c.in_ok-bytes.ensures, ap size_of (whole c.args.capture.now c.args.intervals.now c.run_length-count.result c.run_length-count.ensures.run c.requires.spans c.requires.captured))
 
 pub returns-clause-timely : goal.returns-clause-timely
 returns-clause-timely c =
     subst (λ (l : List Arrival). AreTimely l) (sym c.in_ok-arrivals.ensures)
     (arrivals-timely (take c.run_length-count.result c.args.intervals.now)
     (run-timely c.args.capture.now (take c.run_length-count.result c.args.intervals.now) (drop c.run_length-count.result c.args.intervals.now)
-    (run-of c.args.capture.now c.args.intervals.now c.run_length-count.result c.run_length-count.ensures.run c.requires.spans c.requires.placed)
-    (placed-parts c.args.capture.now c.args.intervals.now c.run_length-count.result c.run_length-count.ensures.run c.requires.spans c.requires.placed)))
+    (run-of c.args.capture.now c.args.intervals.now c.run_length-count.result c.run_length-count.ensures.run c.requires.spans c.requires.captured)
+    (captured-parts c.args.capture.now c.args.intervals.now c.run_length-count.result c.run_length-count.ensures.run c.requires.spans c.requires.captured)))

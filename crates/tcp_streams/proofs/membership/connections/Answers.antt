@@ -5,7 +5,7 @@ use Rattle.packet_heads.specs.declared.packets.Segment.{Segment}
 use Rattle.tcp_streams.specs.declared.table.Table.{Table}
 use Rattle.tcp_streams.specs.Membership.{connections_of, membership}
 use Rattle.tcp_streams.specs.Packets.{past_of}
-use Rattle.tcp_streams.specs.Table.{IsTableOf}
+use Rattle.tcp_streams.specs.code.Table.{IsTableOf}
 use Rattle.tcp_streams.proofs.Numbered.{Falls-next, connections-members, past_of-few, past_of-more, with_packet-other}
 use Rattle.tcp_streams.proofs.membership.connections.Goals as goal
 use Rattle.tcp_streams.proofs.membership.connections.Goals.{in-Segment+in_ok-add, in_default}

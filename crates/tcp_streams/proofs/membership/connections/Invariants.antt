@@ -1,6 +1,6 @@
 use Rattle.std.proofs.Common.{take}
 use Rattle.tcp_streams.specs.Packets.{past_of}
-use Rattle.tcp_streams.specs.Table.{IsTableOf}
+use Rattle.tcp_streams.specs.code.Table.{IsTableOf}
 use Rattle.tcp_streams.proofs.membership.connections.Given as goal
 
 -- the table shows the segments of the packets so far

@@ -1,7 +1,7 @@
 use Rattle.std.proofs.Common.{◌≡◌, ℕ, List, ◌-◌, ◌/◌, ◌≤◌, ◌^◌, drop, take, length, sym, ap, subst, ◌∙◌, arith}
 use Rattle.std.proofs.lemmas.List.{length-drop, take_all}
 use Rattle.tcp_streams.specs.declared.interval.Interval.{Interval}
-use Rattle.tcp_streams.specs.Interval.{IsSame, Spans, at, overlay, size_of}
+use Rattle.tcp_streams.specs.code.Interval.{IsSame, Spans, at, overlay, size_of}
 use Rattle.tcp_streams.proofs.IntervalLemmas.{Spans-few, Spans-overlay, halves-same, halves-size}
 use Rattle.tcp_streams.proofs.Lists.{if_ok}
 use Rattle.tcp_streams.proofs.overlay.+settle.Goals as goal

@@ -3,7 +3,7 @@ use Rattle.std.specs.List.{filter_map}
 use Rattle.std.specs.Option.{option_to_list}
 use Rattle.std.proofs.lemmas.List.{take_more}
 use Rattle.tcp_streams.specs.declared.interval.Interval.{Interval}
-use Rattle.tcp_streams.specs.Interval.{member_piece}
+use Rattle.tcp_streams.specs.code.Interval.{member_piece}
 use Rattle.tcp_streams.specs.Packets.{segment_of}
 use Rattle.tcp_streams.proofs.PieceLemmas.{filter_map-push, member-at, none_of}
 use Rattle.tcp_streams.proofs.pieces.pieces_of.Goals as goal
@@ -38,10 +38,10 @@ loop-member-preserved c =
     elim c.match-piece_of_member.branch [
       | in-Some+in_ok-push w ↦
           ap (λ v. v.items) w.pieces-is ∙ w.in_ok-push.ensures.items
-          ∙ step (member_piece c.args.isn c.args.packets.now c.args.connection.now c.args.side) c.loop-member.pieces.items c.args.connection.now.members.items c.deref-member-items.result.now
+          ∙ step (member_piece c.args.initial_number c.args.packets.now c.args.connection.now c.args.side) c.loop-member.pieces.items c.args.connection.now.members.items c.deref-member-items.result.now
           c.loop-member.member-index (Some w.in-Some.piece) c.deref-member-items.ensures.value lt w.in-Some.ensures c.loop-member.invariant
       | in_default w ↦
           ap (λ v. v.items) w.pieces-is ∙ sym (append-none c.loop-member.pieces.items)
-          ∙ step (member_piece c.args.isn c.args.packets.now c.args.connection.now c.args.side) c.loop-member.pieces.items c.args.connection.now.members.items c.deref-member-items.result.now
+          ∙ step (member_piece c.args.initial_number c.args.packets.now c.args.connection.now c.args.side) c.loop-member.pieces.items c.args.connection.now.members.items c.deref-member-items.result.now
           c.loop-member.member-index None c.deref-member-items.ensures.value lt (sym (none_of c.piece_of_member.result w.in_default.not-Some) ∙ c.piece_of_member.ensures) c.loop-member.invariant
     ]

@@ -1,0 +1,132 @@
+-- The intervals that `assemble` works with: runs of offsets, each from one segment. No public clause cites these.
+use Rattle.std.specs.Prelude.{◌≡◌, ℕ, suc, ◌+◌, ◌-◌, ◌<◌, ◌≤◌, ◌^◌, ◌==◌, Bool, ◌&&◌, nat_lt, nat_le, min, max, if◌then◌else◌, List, [], ◌∷◌, ◌++◌, Option, None, Some, IfSome, option_and_then, sum_by}
+use Rattle.std.specs.List.{slice_range}
+use Rattle.audit_terms.specs.declared.sides.Side.{Side}
+use Rattle.packet_heads.specs.declared.packets.Packet.{Packet}
+use Rattle.packet_heads.specs.declared.packets.Packet.TheVariants.{Segment as Carried, Skipped, Refused}
+use Rattle.packet_heads.specs.declared.packets.Segment.{Segment}
+use Rattle.tcp_streams.specs.declared.interval.Interval.{Interval}
+use Rattle.tcp_streams.specs.declared.members.Connection.{Connection}
+use Rattle.tcp_streams.specs.declared.streams.Arrival.{Arrival}
+use Rattle.tcp_streams.specs.Members.{is_sent_by}
+use Rattle.tcp_streams.specs.Packets.{segment_of}
+use Rattle.tcp_streams.specs.Sequence.{Source, end_of_offsets, modulus, payload_length, start_of}
+
+-- not empty, of offsets that count, and with room for its indexes
+pub record IsInterval (x : Interval) : Type 0 where
+  pub some : x.from < x.upto
+  pub counts : x.upto ≤ end_of_offsets
+  pub room : x.index + (x.upto - x.from) ≤ 2 ^ 62
+
+abbrev pub holds : Interval → ℕ → Bool
+holds x o = nat_le x.from o && nat_lt o x.upto
+
+-- what the interval brings to an offset that it holds
+abbrev pub source_in : Interval → ℕ → Source
+source_in x o = record { rec = x.rec; nanos = x.nanos; index = x.index + (o - x.from) }
+
+-- what the first interval that holds the offset brings to it
+abbrev pub at : List Interval → ℕ → Option Source
+at [] o = None
+at (x ∷ xs) o = if holds x o then Some (source_in x o) else at xs o
+
+-- the two bring the same to each offset that counts
+abbrev pub IsSame : (ℕ → Option Source) → (ℕ → Option Source) → Type 0
+IsSame F G = (o : ℕ) → o < end_of_offsets → F o ≡ G o
+
+-- apart, in order of offset, from low to high
+abbrev pub Spans : ℕ → List Interval → ℕ → Type 0
+Spans low [] high = low ≤ high
+Spans low (x ∷ xs) high = (low ≤ x.from) × IsInterval x × Spans x.upto xs high
+
+-- how many offsets the intervals hold, each counted as often as it is held
+abbrev pub width : Interval → ℕ
+width x = x.upto - x.from
+
+abbrev pub size_of : List Interval → ℕ
+size_of xs = sum_by width xs
+
+-- the part of an interval between two offsets in it
+abbrev pub part_of : Interval → ℕ → ℕ → Interval
+part_of x low high = record { from = low; upto = high; index = x.index + (low - x.from); rec = x.rec; nanos = x.nanos }
+
+-- the parts between two offsets
+abbrev pub clipped : ℕ → ℕ → List Interval → List Interval
+clipped low high [] = []
+clipped low high (y ∷ ys) =
+    if nat_lt (max y.from low) (min y.upto high)
+    then part_of y (max y.from low) (min y.upto high) ∷ clipped low high ys
+    else clipped low high ys
+
+-- from low on, what is kept, and between it the parts of the later ones that it leaves free
+abbrev pub overlay : List Interval → List Interval → ℕ → List Interval
+overlay [] later low = clipped low end_of_offsets later
+overlay (x ∷ kept) later low = clipped low x.from later ++ x ∷ overlay kept later x.upto
+
+-- what was passed over ends at or before low
+pub record HasPassed (low : ℕ) (all rest : List Interval) : Type 0 where
+  pub clips : (a b : ℕ) → low ≤ a → clipped a b rest ≡ clipped a b all
+
+-- the offsets from one up to another, from the payload byte `skipped` of the segment on, if there are any
+abbrev pub stretch : Segment → ℕ → ℕ → ℕ → Option Interval
+stretch s skipped from upto =
+    if nat_lt from upto
+    then Some (record { from = from; upto = upto; index = s.lo + skipped; rec = s.rec; nanos = s.nanos })
+    else None
+
+-- the offsets that count which the segment covers: its payload begins at one of them, or comes round to 0
+abbrev pub piece : ℕ → Segment → Option Interval
+piece initial_number s =
+    if nat_lt (start_of initial_number s) end_of_offsets
+    then stretch s 0 (start_of initial_number s) (min (start_of initial_number s + payload_length s) end_of_offsets)
+    else stretch s (modulus - start_of initial_number s) 0 (start_of initial_number s + payload_length s - modulus)
+
+-- the segment of a member, if it is the side's
+abbrev pub side_segment : List Packet → Connection → Side → ℕ → Option Segment
+side_segment packets connection side m =
+    option_and_then (λ s. if is_sent_by connection side s then Some s else None) (segment_of packets m)
+
+-- the piece of a member, if it is the side's
+abbrev pub member_piece : ℕ → List Packet → Connection → Side → ℕ → Option Interval
+member_piece initial_number packets connection side m =
+    option_and_then (piece initial_number) (side_segment packets connection side m)
+
+-- each segment's payload stands below 2 ^ 31
+abbrev pub PayloadsFit : List Packet → Type 0
+PayloadsFit [] = Unit {0}
+PayloadsFit (Carried s ∷ rest) = (s.lo ≤ s.hi) × (s.hi < 2 ^ 31) × PayloadsFit rest
+PayloadsFit (Skipped _ ∷ rest) = PayloadsFit rest
+PayloadsFit (Refused _ ∷ rest) = PayloadsFit rest
+
+-- how many of the intervals follow each other with no hole from low on
+abbrev pub run_length : ℕ → List Interval → ℕ
+run_length low [] = 0
+run_length low (x ∷ xs) = if x.from == low then suc (run_length x.upto xs) else 0
+
+-- the bytes of the intervals, one after the other
+abbrev pub bytes_in : List ℕ → List Interval → List ℕ
+bytes_in capture [] = []
+bytes_in capture (x ∷ xs) = slice_range capture x.index (x.index + width x) ++ bytes_in capture xs
+
+-- the interval's bytes arrive with its record
+abbrev pub arrival_with : Interval → Arrival
+arrival_with x = record { upto = x.upto; rec = x.rec; nanos = x.nanos }
+
+-- the arrivals from one on: an interval of a later record begins a new one, any other is there in time
+abbrev pub arrivals_after : Arrival → List Interval → List Arrival
+arrivals_after a [] = a ∷ []
+arrivals_after a (x ∷ xs) =
+    if nat_lt a.rec x.rec
+    then a ∷ arrivals_after (arrival_with x) xs
+    else arrivals_after (record { upto = x.upto; rec = a.rec; nanos = a.nanos }) xs
+
+abbrev pub arrivals_in : List Interval → List Arrival
+arrivals_in [] = []
+arrivals_in (x ∷ xs) = arrivals_after (arrival_with x) xs
+
+-- the byte stands in the capture, and its record has a number and a time
+abbrev pub IsCaptured : ℕ → Source → Type 0
+IsCaptured size s = (s.index < size) × (0 < s.rec) × (s.nanos < 2 ^ 63)
+
+abbrev pub AreCaptured : ℕ → (ℕ → Option Source) → Type 0
+AreCaptured size sources = (o : ℕ) → o < end_of_offsets → IfSome (sources o) (IsCaptured size)
