@@ -20,10 +20,16 @@ module _ (test : Finding → Bool) where
     step false e ih = rw e ih
 
   pub keeps-append : (xs ys : List Finding) → Keeps xs → Keeps ys → Keeps (xs ++ ys)
-  keeps-append xs ys p q = record { kept = filter-append xs ys ∙ ap (λ l. l ++ filter test ys) p.kept ∙ ap (λ l. xs ++ l) q.kept }
+  keeps-append xs ys p q = record {
+    kept = filter-append xs ys ∙ ap (λ l. l ++ filter test ys) p.kept
+        ∙ ap (λ l. xs ++ l) q.kept;
+  }
 
   pub drops-append : (xs ys : List Finding) → Drops xs → Drops ys → Drops (xs ++ ys)
-  drops-append xs ys p q = record { dropped = filter-append xs ys ∙ ap (λ l. l ++ filter test ys) p.dropped ∙ q.dropped }
+  drops-append xs ys p q = record {
+    dropped = filter-append xs ys ∙ ap (λ l. l ++ filter test ys) p.dropped
+        ∙ q.dropped;
+  }
 
   pub keeps-nil : Keeps []
   keeps-nil = record { kept = refl }
@@ -61,10 +67,12 @@ module _ (test : Finding → Bool) where
   drops-choice true xs ys p q = p
   drops-choice false xs ys p q = q
 
-  pub keeps-flat_map : {A : Type 0} (f : A → List Finding) (all : List A) → ((a : A) → Keeps (f a)) → Keeps (flat_map f all)
+  pub keeps-flat_map : {A : Type 0} (f : A → List Finding) (all : List A) → ((a : A) → Keeps (f a)) →
+      Keeps (flat_map f all)
   keeps-flat_map f [] h = keeps-nil
   keeps-flat_map f (a ∷ rest) h = keeps-append (f a) (flat_map f rest) (h a) (keeps-flat_map f rest h)
 
-  pub drops-flat_map : {A : Type 0} (f : A → List Finding) (all : List A) → ((a : A) → Drops (f a)) → Drops (flat_map f all)
+  pub drops-flat_map : {A : Type 0} (f : A → List Finding) (all : List A) → ((a : A) → Drops (f a)) →
+      Drops (flat_map f all)
   drops-flat_map f [] h = drops-nil
   drops-flat_map f (a ∷ rest) h = drops-append (f a) (flat_map f rest) (h a) (drops-flat_map f rest h)

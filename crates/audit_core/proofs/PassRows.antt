@@ -51,8 +51,10 @@ in_order-shown streams state [] = refl
 in_order-shown streams state (frame ∷ frames) =
     ap in_order (filter-append is_shown_so_far (said streams state frame) (full_from streams (next state frame) frames))
     ∙ in_order-alike (filter is_shown_so_far (said streams state frame)) (shown_at streams state frame)
-    (filter is_shown_so_far (full_from streams (next state frame) frames)) (shown_rows streams (next state frame) frames)
-    (ap in_order (filter-in_order is_shown_so_far (rows_of streams state frame)) ∙ in_order-in_order (shown_at streams state frame))
+    (filter is_shown_so_far (full_from streams (next state frame) frames))
+    (shown_rows streams (next state frame) frames)
+    (ap in_order (filter-in_order is_shown_so_far (rows_of streams state frame))
+    ∙ in_order-in_order (shown_at streams state frame))
     (in_order-shown streams (next state frame) frames)
 
 -- all that is shown, in order
@@ -98,29 +100,39 @@ drops-opening_order opened item = drops-say _ _ _ refl
 drops-promise_order : (promised : ℕ) (frame : Frame) → Drops is_shown_so_far (promise_order_said promised frame)
 drops-promise_order promised frame = drops-say _ _ _ refl
 
-keeps-connection_window : (d : Side) (before : ℤ) (frame : Frame) → Keeps is_shown_so_far (connection_window_said d before frame)
+keeps-connection_window : (d : Side) (before : ℤ) (frame : Frame) →
+    Keeps is_shown_so_far (connection_window_said d before frame)
 keeps-connection_window d before frame = search (keeps-append, keeps-say) depth 12
 
-keeps-connection_windows : (credit : Sides ℤ) (frame : Frame) → Keeps is_shown_so_far (connection_windows_said credit frame)
+keeps-connection_windows : (credit : Sides ℤ) (frame : Frame) →
+    Keeps is_shown_so_far (connection_windows_said credit frame)
 keeps-connection_windows credit frame =
-    keeps-append is_shown_so_far _ _ (keeps-connection_window Client credit.client frame) (keeps-connection_window Server credit.server frame)
+    keeps-append is_shown_so_far _ _ (keeps-connection_window Client credit.client frame)
+    (keeps-connection_window Server credit.server frame)
 
-keeps-frame : (stream : ℕ) (entry : Stream) (step : Step) (frame : Frame) → Keeps is_shown_so_far (frame_said stream entry step frame)
+keeps-frame : (stream : ℕ) (entry : Stream) (step : Step) (frame : Frame) →
+    Keeps is_shown_so_far (frame_said stream entry step frame)
 keeps-frame stream entry step frame = search (keeps-append, keeps-say) depth 12
 
-keeps-live_window : (d : Side) (stream : ℕ) (step : Step) (window : WindowStep) → Keeps is_shown_so_far (live_window_said d stream step window)
+keeps-live_window : (d : Side) (stream : ℕ) (step : Step) (window : WindowStep) →
+    Keeps is_shown_so_far (live_window_said d stream step window)
 keeps-live_window d stream step window = search (keeps-append, keeps-say) depth 12
 
-keeps-opened_window : (d : Side) (stream : ℕ) (step : Step) (credit : ℤ) → Keeps is_shown_so_far (opened_window_said d stream step credit)
+keeps-opened_window : (d : Side) (stream : ℕ) (step : Step) (credit : ℤ) →
+    Keeps is_shown_so_far (opened_window_said d stream step credit)
 keeps-opened_window d stream step credit = search (keeps-append, keeps-say, keeps-cons, keeps-nil) depth 12
 
-keeps-stream_window : (d : Side) (stream : ℕ) (initial : Sides ℕ) (entry : Stream) (step : Step) → Keeps is_shown_so_far (stream_window_said d stream initial entry step)
-keeps-stream_window d stream initial entry step = search (keeps-choice, keeps-say_of, keeps-opened_window, keeps-live_window) depth 12
+keeps-stream_window : (d : Side) (stream : ℕ) (initial : Sides ℕ) (entry : Stream) (step : Step) →
+    Keeps is_shown_so_far (stream_window_said d stream initial entry step)
+keeps-stream_window d stream initial entry step =
+    search (keeps-choice, keeps-say_of, keeps-opened_window, keeps-live_window) depth 12
 
-keeps-stream : (stream : ℕ) (initial : Sides ℕ) (entry : Stream) (step : Step) → Keeps is_shown_so_far (stream_said stream initial entry step)
+keeps-stream : (stream : ℕ) (initial : Sides ℕ) (entry : Stream) (step : Step) →
+    Keeps is_shown_so_far (stream_said stream initial entry step)
 keeps-stream stream initial entry step = search (keeps-append, keeps-say_of, keeps-frame, keeps-stream_window) depth 12
 
-keeps-streams : (streams : List ℕ) (state : PassState) (frame : Frame) → Keeps is_shown_so_far (streams_said streams state frame)
+keeps-streams : (streams : List ℕ) (state : PassState) (frame : Frame) →
+    Keeps is_shown_so_far (streams_said streams state frame)
 keeps-streams streams state frame =
     keeps-flat_map is_shown_so_far _ streams
     (λ stream. keeps-stream stream state.in_force.initial (state.streams stream) (step_of state.in_force frame stream))
@@ -159,7 +171,8 @@ shown_parts streams state frame =
     ++ connection_windows_said state.connection.credit frame
     ++ streams_said streams state frame
 
-pub shown-parts : (streams : List ℕ) (state : PassState) (frame : Frame) → shown_at streams state frame ≡ shown_parts streams state frame
+pub shown-parts : (streams : List ℕ) (state : PassState) (frame : Frame) → shown_at streams state frame
+    ≡ shown_parts streams state frame
 shown-parts streams state frame =
     filter-append is_shown_so_far (local ++ settings ++ connection) on_streams
     ∙ ap (λ l. l ++ filter is_shown_so_far on_streams)
@@ -169,7 +182,8 @@ shown-parts streams state frame =
     ∙ ap (λ l. l ++ filter is_shown_so_far settings) (drops-local (side_of frame.side state.previous) frame).dropped
     ∙ (keeps-settings state.in_force frame).kept)
     ∙ ap (λ l. settings ++ l) (shown-connection state.connection (item_of state frame)))
-    ∙ ap (λ l. (settings ++ connection_windows_said state.connection.credit frame) ++ l) (keeps-streams streams state frame).kept where
+    ∙ ap (λ l. (settings ++ connection_windows_said state.connection.credit frame) ++ l)
+    (keeps-streams streams state frame).kept where
       local : List Finding
       local = local_said (side_of frame.side state.previous) frame
 
@@ -183,13 +197,16 @@ shown-parts streams state frame =
       on_streams = streams_said streams state frame
 
 -- one more frame
-pub rows-more : (all old new : List Finding) (streams : List ℕ) (state : PassState) (frame : Frame) (left rest : List Frame) →
+pub rows-more : (all old new : List Finding) (streams : List ℕ) (state : PassState) (frame : Frame)
+    (left rest : List Frame) →
     left ≡ frame ∷ rest → in_order new ≡ in_order (old ++ shown_parts streams state frame) →
-    in_order (old ++ shown_rows streams state left) ≡ all → in_order (new ++ shown_rows streams (next state frame) rest) ≡ all
+    in_order (old ++ shown_rows streams state left) ≡ all →
+    in_order (new ++ shown_rows streams (next state frame) rest) ≡ all
 rows-more all old new streams state frame left rest l n h =
     in_order-alike new (old ++ shown_parts streams state frame) after after n refl
     ∙ ap in_order (append_assoc old (shown_parts streams state frame) after
-    ∙ ap (λ k. old ++ k) (ap (λ k. k ++ after) (sym (shown-parts streams state frame)) ∙ ap (shown_rows streams state) (sym l)))
+    ∙ ap (λ k. old ++ k) (ap (λ k. k ++ after) (sym (shown-parts streams state frame))
+    ∙ ap (shown_rows streams state) (sym l)))
     ∙ h where
       after : List Finding
       after = shown_rows streams (next state frame) rest
@@ -205,17 +222,21 @@ abbrev pub rows_at : PassState → List ℕ → List StreamRow
 rows_at state streams = map (λ stream. record { stream = stream; entry = state.streams stream }) streams
 
 pub said-rows_at : (state : PassState) (frame : Frame) (streams : List ℕ) →
-    flat_map (row_said state.in_force.initial frame (change_of state.in_force frame)) (rows_at state streams) ≡ streams_said streams state frame
+    flat_map (row_said state.in_force.initial frame (change_of state.in_force frame)) (rows_at state streams)
+    ≡ streams_said streams state frame
 said-rows_at state frame [] = refl
 said-rows_at state frame (stream ∷ streams) =
-    ap (λ l. stream_said stream state.in_force.initial (state.streams stream) (step_of state.in_force frame stream) ++ l)
+    ap (λ l. stream_said stream state.in_force.initial (state.streams stream)
+    (step_of state.in_force frame stream) ++ l)
     (said-rows_at state frame streams)
 
 pub after-rows_at : (state : PassState) (frame : Frame) (streams : List ℕ) →
-    map (row_after state.in_force.initial frame (change_of state.in_force frame)) (rows_at state streams) ≡ rows_at (next state frame) streams
+    map (row_after state.in_force.initial frame (change_of state.in_force frame)) (rows_at state streams)
+    ≡ rows_at (next state frame) streams
 after-rows_at state frame [] = refl
 after-rows_at state frame (stream ∷ streams) =
-    ap (λ l. record { stream = stream; entry = (next state frame).streams stream } ∷ l) (after-rows_at state frame streams)
+    ap (λ l. record { stream = stream; entry = (next state frame).streams stream } ∷ l)
+    (after-rows_at state frame streams)
 
 pub idle-rows_at : (streams : List ℕ) → idle_rows streams ≡ rows_at pass_start streams
 idle-rows_at streams = refl
@@ -226,17 +247,20 @@ none-taking frame (Some settings) = refl
 
 -- an acknowledgement that brings no change has taken nothing
 pub settings_said-change : (now : InForce) (frame : Frame) →
-    say (is_ack frame.body && is_none (change_of now frame)) (finding_at UnmatchedAck frame.number frame.stream frame.side (pos 0))
+    say (is_ack frame.body && is_none (change_of now frame))
+    (finding_at UnmatchedAck frame.number frame.stream frame.side (pos 0))
     ≡ settings_said now frame
 settings_said-change now frame =
     ap (λ b. say (is_ack frame.body && b) (finding_at UnmatchedAck frame.number frame.stream frame.side (pos 0)))
     (none-taking frame (taken now frame))
 
 -- the parts of a frame, as the code adds them
-module _ (state : PassState) (frame : Frame) (names : List ℕ) (initial : Sides ℕ) (change : Option Change) (rows : List StreamRow)
+module _ (state : PassState) (frame : Frame) (names : List ℕ) (initial : Sides ℕ) (change : Option Change)
+    (rows : List StreamRow)
     (same_initial : initial ≡ state.in_force.initial) (same_change : change ≡ change_of state.in_force frame)
     (same_rows : rows ≡ rows_at state names) where
-  pub table-more : (new : List StreamRow) → new ≡ map (row_after initial frame change) rows → new ≡ rows_at (next state frame) names
+  pub table-more : (new : List StreamRow) → new ≡ map (row_after initial frame change) rows → new
+      ≡ rows_at (next state frame) names
   table-more new e =
       e ∙ ap (λ k. map (row_after k frame change) rows) same_initial
       ∙ ap (λ k. map (row_after state.in_force.initial frame k) rows) same_change
@@ -250,14 +274,16 @@ module _ (state : PassState) (frame : Frame) (names : List ℕ) (initial : Sides
       ∙ ap (flat_map (row_said state.in_force.initial frame (change_of state.in_force frame))) same_rows
       ∙ said-rows_at state frame names
 
-  pub parts-more : (credit : Sides ℤ) → credit ≡ state.connection.credit → (old one two three : List Finding) (unmatched : Bool) →
+  pub parts-more : (credit : Sides ℤ) → credit ≡ state.connection.credit →
+      (old one two three : List Finding) (unmatched : Bool) →
       unmatched ≡ (is_ack frame.body && is_none change) →
       one ≡ old ++ say unmatched (finding_at UnmatchedAck frame.number frame.stream frame.side (pos 0)) →
       two ≡ one ++ connection_windows_said credit frame →
       in_order three ≡ in_order (two ++ flat_map (row_said initial frame change) rows) →
       in_order three ≡ in_order (old ++ shown_parts names state frame)
   parts-more credit c old one two three unmatched u p q r =
-      r ∙ ap in_order (three_rows old (settings_said state.in_force frame) (connection_windows_said state.connection.credit frame)
+      r ∙ ap in_order (three_rows old (settings_said state.in_force frame)
+      (connection_windows_said state.connection.credit frame)
       (streams_said names state frame) one two (two ++ flat_map (row_said initial frame change) rows)
       (p ∙ ap (λ l. old ++ l)
       (ap (λ b. say b (finding_at UnmatchedAck frame.number frame.stream frame.side (pos 0)))
@@ -267,7 +293,12 @@ module _ (state : PassState) (frame : Frame) (names : List ℕ) (initial : Sides
       (ap (λ l. two ++ l) same_said))
 
 idle-fits : (bound stream : ℕ) → stream < 2 ^ 31 → RowFits bound (record { stream = stream; entry = idle_stream })
-idle-fits bound stream h = record { stream = h; client = λ x e. absurd (none_is_none x e); server = λ x e. absurd (none_is_none x e) } where
+idle-fits bound stream h = record {
+  stream = h;
+  client = λ x e. absurd (none_is_none x e);
+  server =
+      λ x e. absurd (none_is_none x e);
+} where
   none_is_none : (x : ℤ) → None ≡ Some x → ⊥
   none_is_none x e = cc
 

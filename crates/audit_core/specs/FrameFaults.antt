@@ -11,7 +11,8 @@ use Rattle.audit_core.specs.Script.{scripted, data_frame, headers_frame, open_he
 -- a first frame that acknowledges is no SETTINGS of its side's preface; one of wrong size is SETTINGS all the same
 abbrev pub FirstFrameAcknowledges : Type 0
 FirstFrameAcknowledges =
-    without_credits (pass (settings_frame 1 Client ∷ ack_frame 2 Server ∷ [])) ≡ finding_at BadPreface 2 0 Server (pos 4) ∷ []
+    without_credits (pass (settings_frame 1 Client ∷ ack_frame 2 Server ∷ []))
+    ≡ finding_at BadPreface 2 0 Server (pos 4) ∷ []
 
 abbrev pub FirstFrameUnreadable : Type 0
 FirstFrameUnreadable =
@@ -28,7 +29,8 @@ BlockGoesOn =
 -- CONTINUATION with no open block, and on another stream than the block's
 abbrev pub NoBlockOpen : Type 0
 NoBlockOpen =
-    audit_of (headers_frame 5 Client 1 ∷ continuation_frame 6 Client 1 0 ∷ []) ≡ finding_at BrokenBlock 6 1 Client (pos 9) ∷ []
+    audit_of (headers_frame 5 Client 1 ∷ continuation_frame 6 Client 1 0 ∷ [])
+    ≡ finding_at BrokenBlock 6 1 Client (pos 9) ∷ []
 
 abbrev pub BlockOfOtherStream : Type 0
 BlockOfOtherStream =
@@ -38,7 +40,8 @@ BlockOfOtherStream =
 -- a block of the other side is none of the sender's own; a broken block does not go on
 abbrev pub BlockOfOtherSide : Type 0
 BlockOfOtherSide =
-    audit_of (open_headers_frame 5 Client 1 0 ∷ continuation_frame 6 Server 1 0 ∷ []) ≡ finding_at BrokenBlock 6 1 Server (pos 9) ∷ []
+    audit_of (open_headers_frame 5 Client 1 0 ∷ continuation_frame 6 Server 1 0 ∷ [])
+    ≡ finding_at BrokenBlock 6 1 Server (pos 9) ∷ []
 
 abbrev pub BrokenBlockEnds : Type 0
 BrokenBlockEnds =
@@ -51,7 +54,8 @@ WrongStreams =
     all_of (
     data_frame 5 Client 0 0 ∷ headers_frame 6 Client 0 ∷ priority_frame 7 Client 0 ∷ reset_frame 8 Client 0
     ∷ promise_frame 9 Server 0 2 ∷ continuation_frame 10 Client 0 0
-    ∷ scripted 11 Server settings_type 0 1 0 (SettingsBody no_settings) ∷ scripted 12 Client settings_type ack_flag 1 0 SettingsAck
+    ∷ scripted 11 Server settings_type 0 1 0 (SettingsBody no_settings)
+    ∷ scripted 12 Client settings_type ack_flag 1 0 SettingsAck
     ∷ scripted 13 Client ping_type 0 1 8 Ping ∷ goaway_frame 14 Server 1 8
     ∷ update_frame 15 Server 0 1 ∷ unknown_frame 16 Client 0 1 ∷ unknown_frame 17 Client 1 1 ∷ [])
     ≡ finding_at WrongStream 5 0 Client (pos 0) ∷ finding_at WrongStream 6 0 Client (pos 1)
@@ -103,7 +107,8 @@ abbrev pub UnreadableFrames : Type 0
 UnreadableFrames =
     all_with_credits_of (
     headers_frame 5 Client 1 ∷ unreadable_frame 6 Client data_type (padded_flag + end_stream_flag) 1 5 BadPadding 5
-    ∷ data_frame 7 Client 1 5 ∷ unreadable_frame 8 Client headers_type (padded_flag + end_headers_flag) 3 0 WrongSize 0 ∷ [])
+    ∷ data_frame 7 Client 1 5 ∷ unreadable_frame 8 Client headers_type
+    (padded_flag + end_headers_flag) 3 0 WrongSize 0 ∷ [])
     ≡ finding_at StreamCredit 5 1 Client (pos 65535) ∷ finding_at StreamCredit 5 1 Server (pos 65535)
     ∷ finding_at BadPadding 6 1 Client (pos 5)
     ∷ finding_at ConnectionCredit 7 0 Client (pos 65530) ∷ finding_at StreamCredit 7 1 Client (pos 65530)

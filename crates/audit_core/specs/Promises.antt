@@ -19,7 +19,8 @@ abbrev pub Promised : Type 0
 Promised = audit_of promise_script ≡ []
 
 abbrev pub PromisedCredits : Type 0
-PromisedCredits = audit_with_credits_of promise_script ≡ opening_credits ++ finding_at StreamCredit 6 2 Server (pos 65535) ∷ []
+PromisedCredits = audit_with_credits_of promise_script ≡ opening_credits
+    ++ finding_at StreamCredit 6 2 Server (pos 65535) ∷ []
 
 -- the client takes no push, from the server's acknowledgement on
 abbrev no_push_script : List Frame
@@ -48,7 +49,8 @@ PushAllowedAgain =
 
 abbrev pub PushOfServer : Type 0
 PushOfServer =
-    audit_of (enable_push_frame 5 Server 0 ∷ ack_frame 6 Client ∷ headers_frame 7 Client 1 ∷ promise_frame 8 Server 1 2 ∷ []) ≡ []
+    audit_of (enable_push_frame 5 Server 0 ∷ ack_frame 6 Client ∷ headers_frame 7 Client 1 ∷ promise_frame 8 Server 1 2
+    ∷ []) ≡ []
 
 -- promises in falling order, and of an odd stream
 abbrev pub PromisesFall : Type 0
@@ -64,7 +66,8 @@ OddPromise =
 abbrev pub OddPromiseCredits : Type 0
 OddPromiseCredits =
     audit_with_credits_of (headers_frame 5 Client 1 ∷ promise_frame 6 Server 1 4 ∷ promise_frame 7 Server 1 3 ∷ [])
-    ≡ opening_credits ++ finding_at StreamCredit 6 4 Server (pos 65535) ∷ finding_at IdNotGreater 7 3 Server (pos 4) ∷ []
+    ≡ opening_credits ++ finding_at StreamCredit 6 4 Server (pos 65535)
+    ∷ finding_at IdNotGreater 7 3 Server (pos 4) ∷ []
 
 -- a promise of stream 0 stands at stream 0
 abbrev pub PromiseOfZero : Type 0
@@ -115,7 +118,8 @@ PromiseOnPromised =
 abbrev pub ThreeFaults : Type 0
 ThreeFaults =
     all_of (enable_push_frame 5 Client 0 ∷ ack_frame 6 Server ∷ promise_frame 7 Server 1 3 ∷ [])
-    ≡ finding_at Push 7 1 Server (pos 0) ∷ finding_at NotOpened 7 1 Server (pos 5) ∷ finding_at IdNotGreater 7 3 Server (pos 0) ∷ []
+    ≡ finding_at Push 7 1 Server (pos 0) ∷ finding_at NotOpened 7 1 Server (pos 5)
+    ∷ finding_at IdNotGreater 7 3 Server (pos 0) ∷ []
 
 -- after the client's reset the server may promise, after its own it may not
 abbrev pub PromiseAfterReset : Type 0
@@ -130,7 +134,8 @@ PromiseAfterOwnReset =
 -- a second promise of a stream changes nothing of it
 abbrev pub PromisedTwice : Type 0
 PromisedTwice =
-    all_with_credits_of (headers_frame 5 Client 1 ∷ promise_frame 6 Server 1 2 ∷ data_frame 7 Server 2 5 ∷ promise_frame 8 Server 1 2 ∷ [])
+    all_with_credits_of (headers_frame 5 Client 1 ∷ promise_frame 6 Server 1 2 ∷ data_frame 7 Server 2 5
+    ∷ promise_frame 8 Server 1 2 ∷ [])
     ≡ opening_credits
     ++ finding_at StreamCredit 6 2 Server (pos 65535)
     ∷ finding_at ConnectionCredit 7 0 Server (pos 65530) ∷ finding_at StreamCredit 7 2 Server (pos 65530)
@@ -174,7 +179,8 @@ PromisedGrant =
 
 -- a promise of the client opens nothing
 abbrev pub ClientPromise : Type 0
-ClientPromise = audit_of (headers_frame 5 Client 1 ∷ promise_frame 6 Client 1 2 ∷ []) ≡ finding_at Push 6 1 Client (pos 0) ∷ []
+ClientPromise = audit_of (headers_frame 5 Client 1 ∷ promise_frame 6 Client 1 2 ∷ [])
+    ≡ finding_at Push 6 1 Client (pos 0) ∷ []
 
 abbrev pub ClientPromiseOpensNothing : Type 0
 ClientPromiseOpensNothing =

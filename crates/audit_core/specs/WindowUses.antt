@@ -16,7 +16,8 @@ overrun_script =
 abbrev overrun_findings : List Finding
 overrun_findings =
     finding_at ConnectionOverrun 10 0 Client (pos 0 -ℤ pos 1) ∷ finding_at StreamOverrun 10 1 Client (pos 0 -ℤ pos 1)
-    ∷ finding_at ConnectionStallBegin 10 0 Client (pos 0 -ℤ pos 1) ∷ finding_at StreamStallBegin 10 1 Client (pos 0 -ℤ pos 1) ∷ []
+    ∷ finding_at ConnectionStallBegin 10 0 Client (pos 0 -ℤ pos 1)
+    ∷ finding_at StreamStallBegin 10 1 Client (pos 0 -ℤ pos 1) ∷ []
 
 abbrev pub OverrunAboveZero : Type 0
 OverrunAboveZero = audit_of overrun_script ≡ overrun_findings
@@ -72,7 +73,8 @@ OpenedAndEnded =
 -- HEADERS after the sender's own end, and after its reset
 abbrev pub HeadersAfterEnd : Type 0
 HeadersAfterEnd =
-    audit_of (last_headers_frame 5 Client 1 ∷ headers_frame 6 Client 1 ∷ []) ≡ finding_at AfterEnd 6 1 Client (pos 1) ∷ []
+    audit_of (last_headers_frame 5 Client 1 ∷ headers_frame 6 Client 1 ∷ [])
+    ≡ finding_at AfterEnd 6 1 Client (pos 1) ∷ []
 
 abbrev pub HeadersAfterReset : Type 0
 HeadersAfterReset =
@@ -82,7 +84,8 @@ HeadersAfterReset =
 -- the other side's end is none of the sender's own
 abbrev pub HeadersAfterPeerEnd : Type 0
 HeadersAfterPeerEnd =
-    audit_of (last_headers_frame 5 Client 1 ∷ headers_frame 6 Server 1 ∷ last_data_frame 7 Server 1 1 ∷ data_frame 8 Server 1 1 ∷ [])
+    audit_of (last_headers_frame 5 Client 1 ∷ headers_frame 6 Server 1 ∷ last_data_frame 7 Server 1 1
+    ∷ data_frame 8 Server 1 1 ∷ [])
     ≡ finding_at AfterEnd 8 1 Server (pos 0) ∷ []
 
 -- RST_STREAM on a stream that is not opened

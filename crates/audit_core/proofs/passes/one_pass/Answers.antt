@@ -8,7 +8,7 @@ use Rattle.audit_terms.specs.InForce.{InForce, in_force_after, change_of}
 use Rattle.audit_terms.specs.Connection.{credit_after}
 use Rattle.audit_core.specs.code.StreamTable.{IsOfAcknowledgement, RowsFit}
 use Rattle.audit_core.proofs.Acknowledgements.{change_of-acknowledged}
-use Rattle.audit_terms.specs.Finding.{say, in_order, upto_stop}
+use Rattle.audit_terms.specs.Finding.{say, upto_stop}
 use Rattle.audit_terms.specs.Pass.{pass_start, next, streams_of}
 use Rattle.audit_core.proofs.OrderlyRest.{in_range-get_or, number-get_or, stream-get_or, length-orderly, drop-next}
 use Rattle.audit_terms.proofs.Bounds.{room-wider}
@@ -42,13 +42,16 @@ loop-frame-init c =
     }
 
 pub at-ack-requires-clause-numbered : goal.at-ack-requires-clause-numbered
-at-ack-requires-clause-numbered c = number-get_or 0 c.args.frames.now c.loop-frame.frame-index _ c.requires c.loop-frame-test.true
+at-ack-requires-clause-numbered c = number-get_or 0 c.args.frames.now c.loop-frame.frame-index _ c.requires
+    c.loop-frame-test.true
 
 pub at-ack-requires-clause-streamed : goal.at-ack-requires-clause-streamed
-at-ack-requires-clause-streamed c = stream-get_or 0 c.args.frames.now c.loop-frame.frame-index _ c.requires c.loop-frame-test.true
+at-ack-requires-clause-streamed c = stream-get_or 0 c.args.frames.now c.loop-frame.frame-index _ c.requires
+    c.loop-frame-test.true
 
 pub meet_windows-requires-clause-frame : goal.meet_windows-requires-clause-frame
-meet_windows-requires-clause-frame c = in_range-get_or 0 c.args.frames.now c.loop-frame.frame-index _ c.requires c.loop-frame-test.true
+meet_windows-requires-clause-frame c = in_range-get_or 0 c.args.frames.now c.loop-frame.frame-index _ c.requires
+    c.loop-frame-test.true
 
 pub meet_windows-requires-clause-client : goal.meet_windows-requires-clause-client
 meet_windows-requires-clause-client c =
@@ -61,12 +64,14 @@ meet_windows-requires-clause-server c =
     room-wider (2 ^ 17 + c.loop-frame.frame-index * 2 ^ 32) (2 ^ 60) _ (omega arith) c.loop-frame.invariant.server
 
 pub meet-requires-in-loop-frame-clause-numbered : goal.meet-requires-in-loop-frame-clause-numbered
-meet-requires-in-loop-frame-clause-numbered c = number-get_or 0 c.args.frames.now c.loop-frame.frame-index _ c.requires c.loop-frame-test.true
+meet-requires-in-loop-frame-clause-numbered c = number-get_or 0 c.args.frames.now c.loop-frame.frame-index _ c.requires
+    c.loop-frame-test.true
 
 pub meet-requires-in-loop-frame-clause-fits : goal.meet-requires-in-loop-frame-clause-fits
 meet-requires-in-loop-frame-clause-fits c =
     let few = length-orderly 0 c.args.frames.now (omega arith) c.requires in
-    all_fit-wider (2 ^ 17 + c.loop-frame.frame-index * 2 ^ 32) (2 ^ 60 - 2 ^ 32) c.loop-frame.streams.rows.items (omega arith) c.loop-frame.invariant.fits
+    all_fit-wider (2 ^ 17 + c.loop-frame.frame-index * 2 ^ 32) (2 ^ 60 - 2 ^ 32) c.loop-frame.streams.rows.items
+    (omega arith) c.loop-frame.invariant.fits
 
 pub meet-requires-in-loop-frame-clause-acknowledged : goal.meet-requires-in-loop-frame-clause-acknowledged
 meet-requires-in-loop-frame-clause-acknowledged c =
@@ -90,21 +95,27 @@ loop-frame-preserved c =
       table = table-more old.state frame (streams_of c.args.frames.now) c.initial-initial.result c.in_ok-change.change
           c.loop-frame.streams.rows.items initial change old.table _ c.in_ok-meet.ensures.after;
       index = c.in_ok-meet.ensures.index;
-      rows = rows-more _ c.loop-frame.found.items c.meet-in-loop-frame.new.found.items (streams_of c.args.frames.now) old.state frame
+      rows = rows-more _ c.loop-frame.found.items c.meet-in-loop-frame.new.found.items
+          (streams_of c.args.frames.now) old.state frame
           (drop c.loop-frame.frame-index c.args.frames.now) (drop (c.loop-frame.frame-index + 1) c.args.frames.now)
           (drop-next c.args.frames.now c.loop-frame.frame-index _ c.loop-frame-test.true)
           (parts-more old.state frame (streams_of c.args.frames.now) c.initial-initial.result c.in_ok-change.change
           c.loop-frame.streams.rows.items initial change old.table c.loop-frame.connection.credit old.credit
-          c.loop-frame.found.items c.say_if.new.found.items c.meet_windows.new.found.items c.meet-in-loop-frame.new.found.items c.takes_nothing.result
+          c.loop-frame.found.items c.say_if.new.found.items c.meet_windows.new.found.items
+          c.meet-in-loop-frame.new.found.items c.takes_nothing.result
           c.takes_nothing.ensures
-          (c.in_ok-say_if.ensures.ok ∙ ap (λ x. c.loop-frame.found.items ++ say c.takes_nothing.result x) c.at-ack.ensures)
+          (c.in_ok-say_if.ensures.ok ∙ ap (λ x. c.loop-frame.found.items
+          ++ say c.takes_nothing.result x) c.at-ack.ensures)
           c.in_ok-meet_windows.ensures.said c.in_ok-meet.ensures.said)
           old.rows;
       client_paired = c.in_ok-change.ensures.client;
       server_paired = c.in_ok-change.ensures.server;
-      client = room-wider (2 ^ 17 + c.loop-frame.frame-index * 2 ^ 32 + 2 ^ 32) _ _ (omega arith) (c.meet_windows.ensures.client _ old.client);
-      server = room-wider (2 ^ 17 + c.loop-frame.frame-index * 2 ^ 32 + 2 ^ 32) _ _ (omega arith) (c.meet_windows.ensures.server _ old.server);
-      fits = all_fit-wider (2 ^ 17 + c.loop-frame.frame-index * 2 ^ 32 + 2 ^ 32) _ _ (omega arith) (c.in_ok-meet.ensures.fits _ old.fits);
+      client = room-wider (2 ^ 17 + c.loop-frame.frame-index * 2 ^ 32 + 2 ^ 32) _ _ (omega arith)
+          (c.meet_windows.ensures.client _ old.client);
+      server = room-wider (2 ^ 17 + c.loop-frame.frame-index * 2 ^ 32 + 2 ^ 32) _ _ (omega arith)
+          (c.meet_windows.ensures.server _ old.server);
+      fits = all_fit-wider (2 ^ 17 + c.loop-frame.frame-index * 2 ^ 32 + 2 ^ 32) _ _ (omega arith)
+          (c.in_ok-meet.ensures.fits _ old.fits);
     }
 
 pub returns : goal.returns
