@@ -94,10 +94,13 @@ module _ (on : ℕ → Type 0) where
       AreRows on low mid xs → AreRows on mid high ys → AreRows on low high (xs ++ ys)
   rows-append low mid high p q xs ys a b = record {
     within = all-append (IsRow on low high) xs ys
-        (all-map (IsRow on low mid) (IsRow on low high) (row-wider on on low mid low high (λ s h. h) (omega arith) q) xs a.within)
-        (all-map (IsRow on mid high) (IsRow on low high) (row-wider on on mid high low high (λ s h. h) p (omega arith)) ys b.within);
+        (all-map (IsRow on low mid) (IsRow on low high)
+        (row-wider on on low mid low high (λ s h. h) (omega arith) q) xs a.within)
+        (all-map (IsRow on mid high) (IsRow on low high)
+        (row-wider on on mid high low high (λ s h. h) p (omega arith)) ys b.within);
     apart = pairs-append AreApart xs ys a.apart b.apart
-        (across-by AreApart (IsRow on low mid) (IsRow on mid high) (rows-apart on low mid high) xs ys a.within b.within);
+        (across-by AreApart (IsRow on low mid) (IsRow on mid high)
+        (rows-apart on low mid high) xs ys a.within b.within);
   }
 
   pub rows-three : (low : ℕ) (a b c : List Finding) → AreRows on low (low + 1) a → AreRows on (low + 1) (low + 2) b →
