@@ -19,11 +19,13 @@ use Rattle.audit_core.proofs.PassOrder.{rank-small}
 -- grants 0 in a row of the client's window.
 abbrev client_rows : List ℕ
 client_rows =
-    0 ∷ 1 ∷ 6 ∷ 2 ∷ 3 ∷ 3 ∷ 3 ∷ 4 ∷ 21 ∷ 8 ∷ 15 ∷ 10 ∷ 24 ∷ 6 ∷ 22 ∷ 11 ∷ 25 ∷ 23 ∷ 26 ∷ 5 ∷ 3 ∷ 12 ∷ 13 ∷ 27 ∷ 28 ∷ 14 ∷ 29 ∷ []
+    0 ∷ 1 ∷ 6 ∷ 2 ∷ 3 ∷ 3 ∷ 3 ∷ 4 ∷ 21 ∷ 8 ∷ 15 ∷ 10 ∷ 24 ∷ 6 ∷ 22 ∷ 11 ∷ 25 ∷ 23 ∷ 26
+    ∷ 5 ∷ 3 ∷ 12 ∷ 13 ∷ 27 ∷ 28 ∷ 14 ∷ 29 ∷ []
 
 abbrev server_rows : List ℕ
 server_rows =
-    0 ∷ 1 ∷ 6 ∷ 2 ∷ 3 ∷ 3 ∷ 3 ∷ 7 ∷ 21 ∷ 8 ∷ 9 ∷ 16 ∷ 30 ∷ 6 ∷ 22 ∷ 17 ∷ 31 ∷ 23 ∷ 32 ∷ 5 ∷ 3 ∷ 18 ∷ 19 ∷ 33 ∷ 34 ∷ 20 ∷ 35 ∷ []
+    0 ∷ 1 ∷ 6 ∷ 2 ∷ 3 ∷ 3 ∷ 3 ∷ 7 ∷ 21 ∷ 8 ∷ 9 ∷ 16 ∷ 30 ∷ 6 ∷ 22 ∷ 17 ∷ 31 ∷ 23 ∷ 32
+    ∷ 5 ∷ 3 ∷ 18 ∷ 19 ∷ 33 ∷ 34 ∷ 20 ∷ 35 ∷ []
 
 abbrev pub row_at : Side → (rank : ℕ) → ℕ
 row_at Client rank = get_or client_rows rank 0
