@@ -35,7 +35,8 @@ named-first_of : (stream first : ℕ) (streams : List ℕ) → list_any (λ othe
     ≡ ((not (first == 0) && (first == stream)) || list_any (λ other. other == stream) streams)
 named-first_of stream first streams = by_tests (first == 0) _ refl where
   by_tests : (zero same : Bool) → (first == stream) ≡ same
-      → list_any (λ other. other == stream) (if zero then streams else first ∷ filter (λ other. not (other == first)) streams)
+      → list_any (λ other. other == stream) (if zero then streams
+      else first ∷ filter (λ other. not (other == first)) streams)
       ≡ ((not zero && (first == stream)) || list_any (λ other. other == stream) streams)
   by_tests true same e = refl
   by_tests false true e = rw e refl
@@ -76,7 +77,8 @@ module _ (stream : ℕ) (above : (stream == 0) ≡ false) where
     by_tests false false e f = chosen false f ∙ rw (e, and-false) refl
 
   named-frame : (frame : Frame) (named met : Bool) → named ≡ met
-      → ((not (frame.stream == 0) && (frame.stream == stream)) || ((not (promised_by frame == 0) && (promised_by frame == stream)) || named))
+      → ((not (frame.stream == 0) && (frame.stream == stream))
+      || ((not (promised_by frame == 0) && (promised_by frame == stream)) || named))
       ≡ (meets stream frame || met)
   named-frame frame named met e =
       ap (λ b. b || ((not (promised_by frame == 0) && (promised_by frame == stream)) || named)) (named-own frame.stream)
@@ -84,18 +86,21 @@ module _ (stream : ℕ) (above : (stream == 0) ≡ false) where
       ∙ ap (λ b. (frame.stream == stream) || (promises stream frame || b)) e
       ∙ sym (or_assoc (frame.stream == stream) (promises stream frame) met)
 
-  named-met : (frames : List Frame) → list_any (λ other. other == stream) (streams_of frames) ≡ list_any (meets stream) frames
+  named-met : (frames : List Frame) → list_any (λ other. other == stream) (streams_of frames)
+      ≡ list_any (meets stream) frames
   named-met [] = refl
   named-met (frame ∷ frames) =
       named-first_of stream frame.stream _
-      ∙ ap (λ b. (not (frame.stream == 0) && (frame.stream == stream)) || b) (named-first_of stream (promised_by frame) _)
+      ∙ ap (λ b. (not (frame.stream == 0) && (frame.stream == stream)) || b)
+      (named-first_of stream (promised_by frame) _)
       ∙ named-frame frame _ _ (named-met frames)
 
 named-zero : (frames : List Frame) → list_any (λ other. other == 0) (streams_of frames) ≡ false
 named-zero [] = refl
 named-zero (frame ∷ frames) =
     named-first_of 0 frame.stream _
-    ∙ rw (no-zero frame.stream) (named-first_of 0 (promised_by frame) _ ∙ rw (no-zero (promised_by frame)) (named-zero frames)) where
+    ∙ rw (no-zero frame.stream)
+    (named-first_of 0 (promised_by frame) _ ∙ rw (no-zero (promised_by frame)) (named-zero frames)) where
       neither : (b : Bool) → (not b && b) ≡ false
       neither true = refl
       neither false = refl
