@@ -1,8 +1,8 @@
 -- Every kind of finding with its rank and the word that a report prints.
-use Rattle.std.specs.Prelude.{◌≡◌, ℕ, List, [], ◌∷◌, map, codes}
+use Rattle.std.specs.Prelude.{◌≡◌, ℕ, Bool, List, [], ◌∷◌, map, filter, codes}
 use Rattle.audit_terms.specs.declared.kinds.Kind.{Kind}
 use Rattle.audit_terms.specs.declared.kinds.Kind.TheVariants.{BadPreface, BrokenBlock, TooLong, WrongStream, WrongSize, BadPadding, BadSetting, Push, NotOpened, IdNotGreater, ZeroConnectionGrant, ConnectionOverflow, SettingOverflow, LongFrame, AfterEnd, ConnectionOverrun, StreamOverrun, ZeroStreamGrant, StreamOverflow, UnmatchedAck, BadPriority, ConnectionStallEnd, ConnectionStallBegin, StreamStallEnd, StreamStallBegin, ConnectionCredit, StreamCredit}
-use Rattle.audit_terms.specs.Kind.{rank_of, kind_name}
+use Rattle.audit_terms.specs.Kind.{rank_of, is_connection_error, is_fault, begins_stall, ends_stall, is_credit, kind_name}
 
 -- a row of the table
 pub record KindRow : Type 0 where
@@ -48,3 +48,25 @@ kind_table =
 abbrev pub KindsAreTabled : Type 0
 KindsAreTabled =
     map (λ (one : KindRow). row one.kind (rank_of one.kind) (kind_name one.kind)) kind_table ≡ kind_table
+
+-- the ranks of the kinds of the table that pass a test
+abbrev pub ranks_where : (Kind → Bool) → List ℕ
+ranks_where test = map (λ (one : KindRow). one.rank) (filter (λ (one : KindRow). test one.kind) kind_table)
+
+-- which kinds are errors of the connection and which are faults; which tell of stalls and of credit
+abbrev pub ErrorKinds : Type 0
+ErrorKinds = ranks_where is_connection_error ≡ 0 ∷ 1 ∷ 2 ∷ 3 ∷ 4 ∷ 5 ∷ 6 ∷ 7 ∷ 8 ∷ 9 ∷ 10 ∷ 11 ∷ 12 ∷ []
+
+abbrev pub FaultKinds : Type 0
+FaultKinds =
+    ranks_where is_fault
+    ≡ 0 ∷ 1 ∷ 2 ∷ 3 ∷ 4 ∷ 5 ∷ 6 ∷ 7 ∷ 8 ∷ 9 ∷ 10 ∷ 11 ∷ 12 ∷ 13 ∷ 14 ∷ 15 ∷ 16 ∷ 17 ∷ 18 ∷ 19 ∷ 20 ∷ []
+
+abbrev pub StallEndKinds : Type 0
+StallEndKinds = ranks_where ends_stall ≡ 21 ∷ 23 ∷ []
+
+abbrev pub StallBeginKinds : Type 0
+StallBeginKinds = ranks_where begins_stall ≡ 22 ∷ 24 ∷ []
+
+abbrev pub CreditKinds : Type 0
+CreditKinds = ranks_where is_credit ≡ 25 ∷ 26 ∷ []

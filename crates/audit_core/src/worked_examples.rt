@@ -8,7 +8,7 @@ ghost use Rattle.audit_core.specs.SingleFaults.{BadPrefaceFound, BrokenBlockFoun
 ghost use Rattle.audit_core.specs.FrameFaults.{FirstFrameAcknowledges, FirstFrameUnreadable, BlockGoesOn, NoBlockOpen, BlockOfOtherStream, BlockOfOtherSide, BrokenBlockEnds, WrongStreams, TooLongFrames, LongFrames, FrameLimits, UnreadableFrames};
 ghost use Rattle.audit_core.specs.WindowUses.{OverrunAboveZero, LastCredit, StallBelowZero, StallOfBothSides, OneInitialWindow, EndUsesUpWindow, OpenedAndEnded, HeadersAfterEnd, HeadersAfterReset, HeadersAfterPeerEnd, ResetOnIdle, ServerHeaders, EvenHeaders, ZeroGrantAfterEnd};
 ghost use Rattle.audit_core.specs.Promises.{Promised, PromisedCredits, PushForbidden, PushForbiddenCredits, PushUntilAcknowledged, PushAllowedAgain, PushOfServer, PromisesFall, OddPromise, OddPromiseCredits, PromiseOfZero, HeadersBelowPromise, HeadersBelowHeaders, PromiseOnIdle, PromiseOnIdleOpens, PromiseOnZero, PromiseOfItself, PromiseOnPromised, ThreeFaults, PromiseAfterReset, PromiseAfterOwnReset, PromisedTwice, PushedStall, PushedStallCredits, PromisedGrant, ClientPromise, ClientPromiseOpensNothing};
-ghost use Rattle.audit_core.specs.KindTable.{KindsAreTabled};
+ghost use Rattle.audit_core.specs.KindTable.{KindsAreTabled, ErrorKinds, FaultKinds, StallEndKinds, StallBeginKinds, CreditKinds};
 
 /// All credit of the connection and of a stream is sent, padding included (6.9.1).
 pub fn padded_stall()
@@ -249,7 +249,12 @@ pub fn pushed_stall()
     ensures promised_grant { PromisedGrant }
 {}
 
-/// Ranks and names of all kinds.
+/// Ranks and names of all kinds, and which are errors, faults, stalls and credits.
 pub fn kind_table()
-    ensures { KindsAreTabled }
+    ensures tabled { KindsAreTabled }
+    ensures errors { ErrorKinds }
+    ensures faults { FaultKinds }
+    ensures stall_ends { StallEndKinds }
+    ensures stall_begins { StallBeginKinds }
+    ensures credits { CreditKinds }
 {}
