@@ -49,8 +49,8 @@ fn segment_of(number: u32, row: &Record, cut: bool, at: usize, datagram: &[u8]) 
 
 /// What a record holds: the first line of the table that applies to its captured bytes.
 ///
-/// `link` is the link type of the capture, 1 (Ethernet) or 101 (raw IP); `number` is the record's. The captured bytes of
-/// `row` are to lie in `capture`, as those of `pcap_records::records` do.
+/// `link` is the link type of the capture, 1 (Ethernet) or 101 (raw IP); `number` is the record's. The captured
+/// bytes of `row` are to lie in `capture`, as those of `pcap_records::records` do.
 pub fn decode(link: u16, number: u32, row: &Record, capture: &[u8]) -> Packet
     requires linked { IsTrue (is_read link) }
     requires inside { row.now.start + row.now.length ≤ length capture.now }
