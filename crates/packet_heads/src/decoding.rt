@@ -94,7 +94,8 @@ fn decode_rows(
 
 /// What each record of a capture holds, in order.
 ///
-/// `records` are to be those that `pcap_records::records` reads in `capture`.
+/// `records` are to be those that `pcap_records::records` reads in `capture`. One thread does the work: `_rt` is
+/// there for several.
 pub fn decode_all(
     _rt: &(impl Threads + Sync),
     alloc: Global,
