@@ -10,8 +10,8 @@ use Rattle.packet_heads.specs.Ipv4 as ipv4
 use Rattle.packet_heads.specs.Tcp as tcp
 
 -- were fewer bytes of the packet captured than it had?
-abbrev pub is_cut : Record → Bool
-is_cut row = nat_lt row.length row.original
+abbrev pub is_partial : Record → Bool
+is_partial row = nat_lt row.length row.original
 
 -- line 12: the segment in a datagram of this record, which begins at this offset of the capture
 abbrev pub segment_of : ℕ → Record → ℕ → List ℕ → Segment
@@ -27,7 +27,7 @@ segment_of number row at datagram =
       ack = tcp.ack segment;
       lo = at + ipv4.header_length datagram + tcp.header_length segment;
       hi = at + ipv4.datagram_end datagram;
-      snapped = ipv4.is_snapped (is_cut row) datagram;
+      snapped = ipv4.is_snapped (is_partial row) datagram;
     }
 
 -- the decision on a record's captured bytes: the first of the table's twelve lines that applies
@@ -36,7 +36,7 @@ decision_on link number row packet =
     let start = datagram_start link packet in
     let datagram = drop start packet in
     let segment = ipv4.segment_bytes datagram in
-    let lines = (link_lines link packet ++ ipv4.ipv4_lines (is_cut row) datagram) ++ tcp.tcp_lines segment in
+    let lines = (link_lines link packet ++ ipv4.ipv4_lines (is_partial row) datagram) ++ tcp.tcp_lines segment in
     unwrap_or (first_answer lines) (packets.Segment (segment_of number row (row.start + start) datagram))
 
 -- the packet of a record of a capture of this link type; records are numbered from 1

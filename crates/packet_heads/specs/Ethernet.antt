@@ -1,6 +1,6 @@
--- An Ethernet frame as far as it was captured (RFC 894): two addresses of 6 bytes, a type of 2, and the data.
--- A VLAN tag (IEEE 802.1Q) puts 4 bytes before that type: 0x8100, and 2 bytes of priority and VLAN
--- identifier, which have no effect. All numbers are big-endian.
+-- An Ethernet frame as far as it was captured (RFC 894): two addresses of 6 bytes, a type of 2, and the data. A
+-- VLAN tag (IEEE 802.1Q) puts 4 bytes before that type: 0x8100, and 2 of priority and VLAN identifier, which have
+-- no effect. A second tag is data of another type than IPv4. All numbers are big-endian.
 use Rattle.std.specs.Prelude.{ℕ, ◌-◌, ◌==◌, Bool, not, nat_lt, List, [], ◌∷◌, length, drop, if◌then◌else◌}
 use Rattle.byteorder.specs.Endian.{big_number}
 use Rattle.packet_heads.specs.declared.packets.Packet.{Packet}

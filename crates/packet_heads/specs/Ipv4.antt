@@ -62,19 +62,19 @@ abbrev pub HasHeader : List ℕ → Type 0
 HasHeader datagram =
     (20 ≤ length datagram) × (header_length datagram ≤ datagram_end datagram) × (datagram_end datagram ≤ length datagram)
 
--- was less captured than the datagram holds? cut: fewer bytes of the packet were captured than it had
+-- was less captured than the datagram holds? partial: fewer bytes of the packet were captured than it had
 abbrev pub is_snapped : Bool → List ℕ → Bool
-is_snapped cut datagram =
-    nat_lt (length datagram) (total_length datagram) || (total_length datagram == 0 && cut)
+is_snapped partial datagram =
+    nat_lt (length datagram) (total_length datagram) || (total_length datagram == 0 && partial)
 
 -- lines 3 to 9 of the packet decision
 abbrev pub ipv4_lines : Bool → List ℕ → List (Bool × Packet)
-ipv4_lines cut datagram =
+ipv4_lines partial datagram =
     (nat_lt (length datagram) 20, Refused ShortIpv4)
     ∷ (not (version datagram == 4), Refused BadVersion)
     ∷ (nat_lt (header_words datagram) 5 || nat_lt (length datagram) (header_length datagram), Refused BadHeaderLength)
     ∷ (not (total_length datagram == 0) && nat_lt (total_length datagram) (header_length datagram), Refused BadTotalLength)
-    ∷ (nat_lt (length datagram) (total_length datagram) && not cut, Refused PastEnd)
+    ∷ (nat_lt (length datagram) (total_length datagram) && not partial, Refused PastEnd)
     ∷ (is_fragment datagram, Skipped Fragment)
     ∷ (not (protocol datagram == 6), Skipped NotTcp)
     ∷ []

@@ -1,5 +1,5 @@
--- What stands before the IPv4 datagram of a record, by the link type of the capture: the header of an Ethernet frame, or
--- nothing.
+-- What stands before the IPv4 datagram of a record, by the link type of the capture: the header of an Ethernet
+-- frame, or nothing.
 use Rattle.std.specs.Prelude.{ℕ, ◌+◌, ◌==◌, Bool, List, [], ◌∷◌, length, slice_range, if◌then◌else◌}
 use Rattle.pcap_records.specs.LinkType.{raw_ip}
 use Rattle.pcap_records.specs.declared.capture.Record.{Record}

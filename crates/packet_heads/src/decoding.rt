@@ -3,7 +3,7 @@
 ghost use Rattle.std.specs.Prelude.{◌≡◌, ◌+◌, ◌^◌, ◌<◌, ◌≤◌, length, IfOk, IsTrue};
 ghost use Rattle.pcap_records.specs.LinkType.{is_read};
 ghost use Rattle.pcap_records.specs.Place.{AreWithin, AreTimely};
-ghost use Rattle.packet_heads.specs.Decision.{packet_decision, packet_decisions, segment_of, is_cut};
+ghost use Rattle.packet_heads.specs.Decision.{packet_decision, packet_decisions, segment_of, is_partial};
 ghost use Rattle.packet_heads.specs.Ipv4 as ipv4_words;
 ghost use Rattle.packet_heads.specs.Order.{AreNumberedFrom, PayloadsRise, TimesFit};
 ghost use Rattle.packet_heads.specs.Tcp as tcp_words;
@@ -16,8 +16,8 @@ use std::alloc::{AllocError, Global};
 use std::thread::Threads;
 
 /// The segment in a datagram whose headers are whole, and which begins at this offset of the capture.
-fn segment_of(number: u32, row: &Record, cut: bool, at: usize, datagram: &[u8]) -> Segment
-    requires cut_is { cut ≡ is_cut row.now }
+fn segment_of(number: u32, row: &Record, partial: bool, at: usize, datagram: &[u8]) -> Segment
+    requires partial_is { partial ≡ is_partial row.now }
     requires place { at + length datagram.now < 2 ^ 64 }
     requires datagram { ipv4_words.HasHeader datagram.now }
     requires segment { tcp_words.HasHeader (ipv4_words.segment_bytes datagram.now) }
@@ -43,14 +43,14 @@ fn segment_of(number: u32, row: &Record, cut: bool, at: usize, datagram: &[u8]) 
         ack: tcp::ack(segment),
         lo: at + ipv4::header_length(datagram) + tcp::header_length(segment),
         hi: at + ipv4::end(datagram),
-        snapped: ipv4::is_snapped(cut, datagram),
+        snapped: ipv4::is_snapped(partial, datagram),
     }
 }
 
 /// What a record holds: the first line of the table that applies to its captured bytes.
 ///
-/// `link` is the link type of the capture, 1 (Ethernet) or 101 (raw IP); `number` is the record's. The captured bytes of
-/// `row` are to lie in `capture`, as those of `pcap_records::records` do.
+/// `link` is the link type of the capture, 1 (Ethernet) or 101 (raw IP); `number` is the record's. The captured
+/// bytes of `row` are to lie in `capture`, as those of `pcap_records::records` do.
 pub fn decode(link: u16, number: u32, row: &Record, capture: &[u8]) -> Packet
     requires linked { IsTrue (is_read link) }
     requires inside { row.now.start + row.now.length ≤ length capture.now }
@@ -63,14 +63,14 @@ pub fn decode(link: u16, number: u32, row: &Record, capture: &[u8]) -> Packet
     }
     let start = link::datagram_start(link, packet);
     let datagram = link::datagram(packet, start);
-    let cut = row.length < row.original as usize;
-    if let Some(answer) = ipv4::answer(cut, datagram) {
+    let partial = row.length < row.original as usize;
+    if let Some(answer) = ipv4::answer(partial, datagram) {
         return answer;
     }
     if let Some(answer) = tcp::answer(ipv4::segment(datagram)) {
         return answer;
     }
-    Packet::Segment(segment_of(number, row, cut, row.start + start, datagram))
+    Packet::Segment(segment_of(number, row, partial, row.start + start, datagram))
 }
 
 /// What each of these rows holds, in order; the first has the number 1.
@@ -94,7 +94,8 @@ fn decode_rows(
 
 /// What each record of a capture holds, in order.
 ///
-/// `records` are to be those that `pcap_records::records` reads in `capture`.
+/// `records` are to be those that `pcap_records::records` reads in `capture`. One thread does the work: `_rt` is
+/// there for several.
 pub fn decode_all(
     _rt: &(impl Threads + Sync),
     alloc: Global,

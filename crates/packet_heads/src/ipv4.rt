@@ -1,6 +1,6 @@
 //! IPv4 datagrams (RFC 791, 3.1).
 
-ghost use Rattle.std.specs.Prelude.{◌≡◌, ℕ, ◌*◌, ◌<◌, ◌≤◌, length, IfNone, IfSome};
+ghost use Rattle.std.specs.Prelude.{◌≡◌, ◌*◌, ◌<◌, ◌≤◌, length, IfNone, IfSome};
 ghost use Rattle.packet_heads.specs.Ipv4.{version, header_words, header_length, total_length, is_fragment, protocol, source_address, destination_address, datagram_end, segment_bytes, is_snapped, ipv4_lines, HasHeader};
 ghost use Rattle.packet_heads.specs.Lines.{first_answer};
 ghost use Rattle.packet_heads.specs.code.Standing.{IsPassedOver};
@@ -106,18 +106,18 @@ pub fn segment(datagram: &[u8]) -> &[u8]
     &datagram[header_length(datagram)..end(datagram)]
 }
 
-/// Was less captured than the datagram holds? `cut` says so of the whole packet.
-pub fn is_snapped(cut: bool, datagram: &[u8]) -> bool
+/// Was less captured than the datagram holds? `partial` says so of the whole packet.
+pub fn is_snapped(partial: bool, datagram: &[u8]) -> bool
     requires { 20 ≤ length datagram.now }
-    ensures { result ≡ is_snapped cut datagram.now }
+    ensures { result ≡ is_snapped partial datagram.now }
 {
     let total = total_length(datagram);
-    total > datagram.len() || total == 0 && cut
+    total > datagram.len() || total == 0 && partial
 }
 
 /// What the header says of a datagram that carries no TCP segment as a whole.
-pub fn answer(cut: bool, datagram: &[u8]) -> Option<Packet>
-    ensures answer { result ≡ first_answer (ipv4_lines cut datagram.now) }
+pub fn answer(partial: bool, datagram: &[u8]) -> Option<Packet>
+    ensures answer { result ≡ first_answer (ipv4_lines partial datagram.now) }
     ensures passed_over { IfSome result IsPassedOver }
     ensures whole { IfNone result (HasHeader datagram.now) }
 {
@@ -135,7 +135,7 @@ pub fn answer(cut: bool, datagram: &[u8]) -> Option<Packet>
     if total != 0 && total < header {
         return Some(Packet::Refused(Refusal::BadTotalLength));
     }
-    if total > datagram.len() && !cut {
+    if total > datagram.len() && !partial {
         return Some(Packet::Refused(Refusal::PastEnd));
     }
     if is_fragment(datagram) {

@@ -1,5 +1,5 @@
-//! What the records of a capture hold: IPv4 and TCP headers (RFC 791, RFC 9293), in Ethernet frames with one VLAN tag or
-//! none (RFC 894, IEEE 802.1Q) or in raw IP, as the link type of the capture says.
+//! What the records of a capture hold: IPv4 and TCP headers (RFC 791, RFC 9293), in Ethernet frames with one
+//! VLAN tag or none (RFC 894, IEEE 802.1Q) or in raw IP, as the link type of the capture says.
 //!
 //! [`decode`] answers for one record, [`decode_all`] for each record of a capture in order. A record
 //! holds a TCP segment, or something that is passed over and named ([`Skip`]), or a packet that

@@ -2,7 +2,7 @@
 use Rattle.std.proofs.Common.{◌≡◌, ◌≤◌, ◌-◌, ◌^◌, ℕ, List, Bool, true, Option, Some, None, length, take, not, nat_lt, if◌then◌else◌, refl, sym, ap, ◌∙◌, arith, inl, inr}
 use Rattle.std.proofs.lemmas.Bool.{cases_lt, cond-false, le-ltb, lt-ltb}
 use Rattle.std.proofs.lemmas.List.{length-take-le, take-take, take_all}
-use Rattle.pcap_records.specs.FileHeader.{Order, number_of, header_of, format_of, is_version, link_of}
+use Rattle.pcap_records.specs.FileHeader.{ByteOrder, number_of, header_of, format_of, is_version, link_of}
 use Rattle.pcap_records.specs.Laws.{FrontDecides, AllowedIsShort, LargestIsTaken}
 use Rattle.pcap_records.specs.LinkType.{is_read}
 use Rattle.pcap_records.specs.Refusal.{refusal, refusal_in, refusal_by}
@@ -11,7 +11,7 @@ use Rattle.pcap_records.specs.declared.faults.PcapFault.TheVariants.{BadVersion,
 use Rattle.pcap_records.specs.declared.format.Format.{Format}
 
 -- any two sizes above the limit are refused alike
-refusal_in-large : (number : Order) (header : List ℕ) (a b : ℕ) → 2 ^ 31 ≤ a → 2 ^ 31 ≤ b → refusal_in number header a ≡ refusal_in number header b
+refusal_in-large : (number : ByteOrder) (header : List ℕ) (a b : ℕ) → 2 ^ 31 ≤ a → 2 ^ 31 ≤ b → refusal_in number header a ≡ refusal_in number header b
 refusal_in-large number header a b large_a large_b =
     let By : Bool → Option PcapFault = λ large.
     if not (is_version number header) then Some BadVersion else
@@ -44,7 +44,7 @@ front_decides_lem capture = elim (cases_lt (length capture) (2 ^ 31)) [
 ]
 
 -- a size above the limit is refused, by this or by an earlier refusal
-refusal_in-some : (number : Order) (header : List ℕ) (size : ℕ) → 2 ^ 31 ≤ size → refusal_in number header size ≡ None → ⊥
+refusal_in-some : (number : ByteOrder) (header : List ℕ) (size : ℕ) → 2 ^ 31 ≤ size → refusal_in number header size ≡ None → ⊥
 refusal_in-some number header size large none =
     let limit : nat_lt (2 ^ 31 - 1) size ≡ true = lt-ltb (2 ^ 31 - 1) size (omega arith) in
     grind (arith, limit)
@@ -63,7 +63,7 @@ allowed_is_short_lem capture allowed = elim (cases_lt (length capture) (2 ^ 31))
 ]
 
 -- the largest size is refused for no size
-refusal_in-largest : (number : Order) (header : List ℕ) → refusal_in number header 2147483647 ≡ Some TooLarge → ⊥
+refusal_in-largest : (number : ByteOrder) (header : List ℕ) → refusal_in number header 2147483647 ≡ Some TooLarge → ⊥
 refusal_in-largest number header large = grind arith
 
 -- the same whatever the magic told

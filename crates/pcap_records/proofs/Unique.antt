@@ -1,6 +1,6 @@
 -- A capture has one reading.
 use Rattle.std.proofs.Common.{◌≡◌, ◌+◌, ℕ, List, drop, [], ◌∷◌, Some, refl, sym, ap, subst, ◌∙◌}
-use Rattle.pcap_records.specs.FileHeader.{Order, number_of}
+use Rattle.pcap_records.specs.FileHeader.{ByteOrder, number_of}
 use Rattle.pcap_records.specs.Laws.{OneReading}
 use Rattle.pcap_records.specs.Reading.{IsReadingBy, cut_after}
 use Rattle.pcap_records.specs.Record.{AreRecords, captured_length}
@@ -9,7 +9,7 @@ use Rattle.pcap_records.specs.declared.capture.Records.{Records}
 use Rattle.pcap_records.specs.declared.format.Format.{Format}
 
 -- the same bytes are the same records and the same rest
-AreRecords-unique : (number : Order) (unit at : ℕ) (bytes : List ℕ) (xs ys : List Record) (r s : List ℕ)
+AreRecords-unique : (number : ByteOrder) (unit at : ℕ) (bytes : List ℕ) (xs ys : List Record) (r s : List ℕ)
     → AreRecords number unit at bytes xs r → AreRecords number unit at bytes ys s → (xs ≡ ys) × (r ≡ s)
 AreRecords-unique number unit at bytes [] [] r s a b = (refl, a.0 ∙ sym b.0)
 AreRecords-unique number unit at bytes [] (y ∷ ys) r s a b = absurd (a.1 b.0)
@@ -20,7 +20,7 @@ AreRecords-unique number unit at bytes (x ∷ xs) (y ∷ ys) r s a b =
     (cc, end)
 
 -- with one order of bytes and one unit there is one reading
-reading_by-unique : (number : Order) (unit : ℕ) (capture : List ℕ) (a b : Records) → IsReadingBy number unit capture a → IsReadingBy number unit capture b
+reading_by-unique : (number : ByteOrder) (unit : ℕ) (capture : List ℕ) (a b : Records) → IsReadingBy number unit capture a → IsReadingBy number unit capture b
     → (a.link ≡ b.link) × (a.rows.items ≡ b.rows.items) × (a.cut ≡ b.cut)
 reading_by-unique number unit capture a b x y =
     let both : (a.rows.items ≡ b.rows.items) × (x.rest ≡ y.rest) = AreRecords-unique number unit _ _ a.rows.items b.rows.items x.rest y.rest x.rows y.rows in

@@ -1,20 +1,20 @@
 -- What the loop over the records keeps.
 use Rattle.std.proofs.Common.{◌≡◌, ◌≤◌, ◌<◌, ◌+◌, ◌-◌, ◌*◌, ◌^◌, ℕ, List, [], ◌∷◌, ◌++◌, length, drop, refl, sym, ap, subst, ◌∙◌, arith, length-append, length-drop, append_assoc, append-nil}
 use Rattle.std.proofs.Math.Seq.{drop-drop}
-use Rattle.pcap_records.specs.FileHeader.{Order}
+use Rattle.pcap_records.specs.FileHeader.{ByteOrder}
 use Rattle.pcap_records.specs.Place.{AreTimely, RiseFrom}
 use Rattle.pcap_records.specs.Record.{AreRecords, BeginsWithRecord, captured_length, record_at}
 use Rattle.pcap_records.specs.declared.capture.Record.{Record}
 
 -- what completes the records from `at` on completes all of them
-abbrev pub Completes : Order → ℕ → List ℕ → List Record → ℕ → Type 0
+abbrev pub Completes : ByteOrder → ℕ → List ℕ → List Record → ℕ → Type 0
 Completes number unit capture rows at =
     (rs : List Record) (rest : List ℕ)
     → AreRecords number unit at (drop at capture) rs rest
     → AreRecords number unit 24 (drop 24 capture) (rows ++ rs) rest
 
 -- these rows were read from the front of the capture, and the next record begins at `at`
-pub record AreRead (number : Order) (unit : ℕ) (capture : List ℕ) (rows : List Record) (at : ℕ) : Type 0 where
+pub record AreRead (number : ByteOrder) (unit : ℕ) (capture : List ℕ) (rows : List Record) (at : ℕ) : Type 0 where
   pub completes : Completes number unit capture rows at
   pub high : at ≤ length capture
   pub few : 16 * length rows + 24 ≤ at
@@ -37,11 +37,11 @@ AreTimely-push [] r timely soon = (soon, tt)
 AreTimely-push (x ∷ rows) r timely soon = (timely.0, AreTimely-push rows r timely.1 soon)
 
 -- where the next record begins, whichever way it is counted
-after_record : (number : Order) (unit at : ℕ) (bytes : List ℕ) (r : Record) → r ≡ record_at number unit at bytes → r.start + r.length ≡ at + 16 + captured_length number bytes
+after_record : (number : ByteOrder) (unit at : ℕ) (bytes : List ℕ) (r : Record) → r ≡ record_at number unit at bytes → r.start + r.length ≡ at + 16 + captured_length number bytes
 after_record number unit at bytes r is = ap (λ (x : Record). x.start + x.length) is
 
 -- a record that begins where the rows end is one more row
-pub AreRead-push : (number : Order) (unit : ℕ) (capture : List ℕ) (rows : List Record) (at : ℕ) (r : Record)
+pub AreRead-push : (number : ByteOrder) (unit : ℕ) (capture : List ℕ) (rows : List Record) (at : ℕ) (r : Record)
     → AreRead number unit capture rows at
     → BeginsWithRecord number (drop at capture)
     → r ≡ record_at number unit at (drop at capture)
@@ -72,7 +72,7 @@ AreRead-push number unit capture rows at r read begins is soon =
     }
 
 -- where no record begins, the rows are all
-pub AreRead-end : (number : Order) (unit : ℕ) (capture : List ℕ) (rows : List Record) (at : ℕ)
+pub AreRead-end : (number : ByteOrder) (unit : ℕ) (capture : List ℕ) (rows : List Record) (at : ℕ)
     → AreRead number unit capture rows at
     → ¬ BeginsWithRecord number (drop at capture)
     → AreRecords number unit 24 (drop 24 capture) rows (drop at capture)

@@ -7,11 +7,11 @@ use Rattle.pcap_records.specs.declared.format.Endian.TheVariants.{Big, Little}
 use Rattle.pcap_records.specs.declared.format.Format.{Format}
 
 -- how a number of n bytes is read from the front of a list of bytes
-abbrev pub Order : Type 0
-Order = ℕ → List ℕ → ℕ
+abbrev pub ByteOrder : Type 0
+ByteOrder = ℕ → List ℕ → ℕ
 
 -- the order of the bytes in a file's numbers
-abbrev pub number_of : Endian → Order
+abbrev pub number_of : Endian → ByteOrder
 number_of Big n bytes = big_number n bytes
 number_of Little n bytes = little_number n bytes
 
@@ -34,9 +34,9 @@ abbrev pub format_of : List ℕ → Option Format
 format_of header = format_by (big_number 4 header)
 
 -- the version is 2.4
-abbrev pub is_version : Order → List ℕ → Bool
+abbrev pub is_version : ByteOrder → List ℕ → Bool
 is_version number header = number 2 (drop 4 header) == 2 && number 2 (drop 6 header) == 4
 
 -- the link type: the low 16 bits of the network; the upper 16 are ignored
-abbrev pub link_of : Order → List ℕ → ℕ
+abbrev pub link_of : ByteOrder → List ℕ → ℕ
 link_of number header = number 4 (drop 20 header) % 2 ^ 16

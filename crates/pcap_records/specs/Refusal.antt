@@ -1,13 +1,13 @@
 -- When a capture is refused, and why.
 use Rattle.std.specs.Prelude.{ℕ, ◌-◌, ◌^◌, if◌then◌else◌, not, nat_lt, Option, Some, None, List, length}
-use Rattle.pcap_records.specs.FileHeader.{Order, number_of, header_of, format_of, is_version, link_of}
+use Rattle.pcap_records.specs.FileHeader.{ByteOrder, number_of, header_of, format_of, is_version, link_of}
 use Rattle.pcap_records.specs.LinkType.{is_read}
 use Rattle.pcap_records.specs.declared.format.Format.{Format}
 use Rattle.pcap_records.specs.declared.faults.PcapFault.{PcapFault}
 use Rattle.pcap_records.specs.declared.faults.PcapFault.TheVariants.{ShortHeader, BadMagic, BadVersion, LinkType, TooLarge}
 
 -- what refuses a capture of this size that has this header, once the order of bytes is known
-abbrev pub refusal_in : Order → List ℕ → ℕ → Option PcapFault
+abbrev pub refusal_in : ByteOrder → List ℕ → ℕ → Option PcapFault
 refusal_in number header size =
     if not (is_version number header) then Some BadVersion else
     if not (is_read (link_of number header)) then Some LinkType else

@@ -40,8 +40,10 @@ pub fn first_refusal()
     ensures short_before_magic { refusal pcapng ≡ Some ShortHeader }
     ensures magic_before_version { refusal (file_header pcapng (3 ∷ 0 ∷ 4 ∷ 0 ∷ []) ethernet) ≡ Some BadMagic }
     ensures version_before_link { refusal (little_header (3 ∷ 0 ∷ 4 ∷ 0 ∷ []) cooked) ≡ Some BadVersion }
-    ensures link_before_size { refusal_in (number_of Little) (little_header version_2_4 cooked) 2147483648 ≡ Some LinkType }
-    ensures one_byte_too_large { refusal_in (number_of Little) (little_header version_2_4 ethernet) 2147483648 ≡ Some TooLarge }
+    ensures link_before_size { refusal_in (number_of Little) (little_header version_2_4 cooked) 2147483648
+        ≡ Some LinkType }
+    ensures one_byte_too_large { refusal_in (number_of Little) (little_header version_2_4 ethernet) 2147483648
+        ≡ Some TooLarge }
     ensures largest { refusal_in (number_of Little) (little_header version_2_4 ethernet) 2147483647 ≡ None }
 {}
 

@@ -1,6 +1,6 @@
 use Rattle.std.proofs.Common.{drop, ap, ◌∙◌, arith}
 use Rattle.std.proofs.lemmas.Grind.{common_steps}
-use Rattle.packet_heads.specs.Decision.{packet_decision, is_cut}
+use Rattle.packet_heads.specs.Decision.{packet_decision, is_partial}
 use Rattle.packet_heads.specs.declared.packets.Packet.TheVariants.{Segment}
 use Rattle.packet_heads.specs.Link.{packet_of, link_lines, datagram_start}
 use Rattle.packet_heads.specs.Ipv4.{ipv4_lines, segment_bytes}
@@ -14,7 +14,7 @@ unfolding packet_decision
 returns-in-Some-clause-decided c =
     let packet = packet_of c.args.row.now c.args.capture.now in
     let datagram = drop (datagram_start c.args.link packet) packet in
-    decided_by_first (link_lines c.args.link packet) (ipv4_lines (is_cut c.args.row.now) datagram) (tcp_lines (segment_bytes datagram)) _ _
+    decided_by_first (link_lines c.args.link packet) (ipv4_lines (is_partial c.args.row.now) datagram) (tcp_lines (segment_bytes datagram)) _ _
     c.in-Some.ensures.answer
 
 pub returns-in-Some-answer-clause-decided : goal.returns-in-Some-answer-clause-decided
@@ -22,7 +22,7 @@ unfolding packet_decision
 returns-in-Some-answer-clause-decided c =
     let packet = packet_of c.args.row.now c.args.capture.now in
     let datagram = drop (datagram_start c.args.link packet) packet in
-    decided_by_second (link_lines c.args.link packet) (ipv4_lines (is_cut c.args.row.now) datagram) (tcp_lines (segment_bytes datagram)) _ _
+    decided_by_second (link_lines c.args.link packet) (ipv4_lines (is_partial c.args.row.now) datagram) (tcp_lines (segment_bytes datagram)) _ _
     c.in_default.ensures.answer
     (rw (c.datagram-datagram.ensures.datagram, c.datagram_start-start.ensures) at c.in-Some-answer.ensures.answer)
 
@@ -31,7 +31,7 @@ unfolding packet_decision
 returns-in-Some-answer-2-clause-decided c =
     let packet = packet_of c.args.row.now c.args.capture.now in
     let datagram = drop (datagram_start c.args.link packet) packet in
-    decided_by_third (link_lines c.args.link packet) (ipv4_lines (is_cut c.args.row.now) datagram) (tcp_lines (segment_bytes datagram)) _ _
+    decided_by_third (link_lines c.args.link packet) (ipv4_lines (is_partial c.args.row.now) datagram) (tcp_lines (segment_bytes datagram)) _ _
     c.in_default.ensures.answer
     (rw (c.datagram-datagram.ensures.datagram, c.datagram_start-start.ensures) at c.in_default-answer.ensures.answer)
     (rw (c.segment.ensures, c.datagram-datagram.ensures.datagram, c.datagram_start-start.ensures) at c.in-Some-answer-2.ensures.answer)
@@ -42,7 +42,7 @@ returns-clause-decided c =
     let packet = packet_of c.args.row.now c.args.capture.now in
     let datagram = drop (datagram_start c.args.link packet) packet in
     ap Segment (rw (c.datagram-datagram.ensures.datagram, c.datagram_start-start.ensures) at c.segment_of.ensures.segment)
-    ∙ decided_by_last (link_lines c.args.link packet) (ipv4_lines (is_cut c.args.row.now) datagram) (tcp_lines (segment_bytes datagram)) _
+    ∙ decided_by_last (link_lines c.args.link packet) (ipv4_lines (is_partial c.args.row.now) datagram) (tcp_lines (segment_bytes datagram)) _
     c.in_default.ensures.answer
     (rw (c.datagram-datagram.ensures.datagram, c.datagram_start-start.ensures) at c.in_default-answer.ensures.answer)
     (rw (c.segment.ensures, c.datagram-datagram.ensures.datagram, c.datagram_start-start.ensures) at c.in_default-answer-2.ensures.answer)
