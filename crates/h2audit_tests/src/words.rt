@@ -1,0 +1,94 @@
+//! The words of the command line: an audit once, and the texts of help and of refusals.
+
+use h2audit::{Options, Parsed, parse};
+use std::test::Fail;
+
+#[test]
+fn each_word_has_its_effect(rt: HostRuntime) -> Result<(), Fail> {
+    let words = [
+        "--workers",
+        "64",
+        "--groups=1",
+        "capture.pcap",
+        "--frames",
+        "--block",
+        "1048576",
+    ];
+    match parse(rt.alloc(), words.as_slice())? {
+        Parsed::Run(options, Some(path)) => {
+            let wanted = Options::of(64, 1, 1_048_576, true);
+            assert_eq!(rt; (Some(options), path.as_str()), (wanted, "capture.pcap"));
+        }
+        _ => panic!(rt; "these words are an audit of a file"),
+    }
+    Ok(())
+}
+
+const HELP: &str = "Audits the HTTP/2 flow control of a classic pcap capture (Ethernet, IPv4)
+
+Usage: h2audit [OPTIONS] [FILE]
+
+Arguments:
+  [FILE]  The capture; standard input is read without it
+
+Options:
+      --workers <N>  Threads that share the work, from 1 to 64 [default: 4]
+      --groups <N>   Groups that each connection's streams are dealt to, from 1 to 1024 [default: 16]
+      --block <N>    Frames in a block of the work, from 1 to 1048576 [default: 4096]
+      --frames       Show each change of a window's credit
+  -h, --help         Print help
+";
+
+const ZERO_WORKERS: &str = "error: invalid value '0' for '--workers <N>': 0 is not in 1..=64
+
+For more information, try '--help'.
+";
+
+const SECOND_PATH: &str = "error: unexpected argument 'two.pcap' found
+
+Usage: h2audit [OPTIONS] [FILE]
+
+For more information, try '--help'.
+";
+
+/// The text that the words are answered with.
+fn text_of(rt: &HostRuntime, words: &[&str]) -> Result<String, Fail> {
+    match parse(rt.alloc(), words)? {
+        Parsed::Help(text) => Ok(text),
+        Parsed::Refused(text) => Ok(text),
+        Parsed::Run(_options, _path) => Err("these words are an audit")?,
+    }
+}
+
+#[test]
+fn texts_of_help_and_refusals(rt: HostRuntime) -> Result<(), Fail> {
+    let table: [(&[&str], &str); 4] = [
+        (&["--help"], HELP),
+        (&["-h"], HELP),
+        (&["--workers", "0"], ZERO_WORKERS),
+        (&["one.pcap", "two.pcap"], SECOND_PATH),
+    ];
+    for (words, wanted) in table {
+        let text = text_of(&rt, words)?;
+        assert_eq!(rt; text.as_str(), wanted);
+    }
+    Ok(())
+}
+
+#[test]
+fn words_that_do_not_parse(rt: HostRuntime) -> Result<(), Fail> {
+    let lines: [&[&str]; 7] = [
+        &["--workers", "65"],
+        &["--groups", "1025"],
+        &["--block", "1048577"],
+        &["--block", "many"],
+        &["--unknown"],
+        &["--workers"],
+        &["--frames", "--frames"],
+    ];
+    for words in lines {
+        let text = text_of(&rt, words)?;
+        assert!(rt; text.as_str().starts_with("error: "));
+    }
+    Ok(())
+}
