@@ -1,6 +1,5 @@
 pub mod PassOrder
 pub mod Rows
-pub mod Kept
 pub mod PassRows
 pub mod OrderlyRest
 pub mod Meetings
@@ -14,6 +13,8 @@ pub mod QuietSteps
 pub mod Acknowledgements
 pub mod OneRow
 pub mod OwnRow
+pub mod OpenedRow
+pub mod PassOpenings
 pub mod MetRows
 pub mod NamedStreams
 pub mod StopLemmas

@@ -1,7 +1,7 @@
 //! The plain pass of an HTTP/2 flow-control audit over a connection's frames (RFC 9113, sections 4 to 6), and the laws
 //! of the definitions that it follows, which stand in `audit_terms`.
 //!
-//! - [`one_pass`] gives the findings of the pass, of the kinds that are shown so far.
+//! - [`one_pass`] gives the findings of the pass.
 //! - [`laws`] and [`worked_examples`] are promises about the definitions alone.
 #![tactic(auto)]
 

@@ -1,27 +1,31 @@
-ghost use Rattle.std.specs.Prelude.{◌≡◌, IfOk, filter};
+ghost use Rattle.std.specs.Prelude.{◌≡◌, IfOk};
 ghost use Rattle.audit_terms.specs.Frame.{IsOrderly};
-ghost use Rattle.audit_terms.specs.Finding.{upto_stop};
-ghost use Rattle.audit_terms.specs.Pass.{full};
-ghost use Rattle.audit_terms.specs.Shown.{is_shown_so_far};
+ghost use Rattle.audit_terms.specs.Pass.{pass};
 
 use crate::settings::SettingsSoFar;
 use crate::tables::StreamTable;
 use audit_terms::{
-    Change, ConnectionState, Finding, Frame, Kind, cut_at_stop, put_in_order, say_if,
+    Change, ConnectionState, Finding, Frame, Item, Kind, Sides, cut_at_stop, previous_after,
+    put_in_order, say_if, say_local,
 };
 use std::alloc::{AllocError, Global};
 
-/// The plain pass over a connection's frames in capture order: its findings of the kinds that are shown so far, in
-/// order, up to and including the first connection error among them (RFC 9113, 5.4.1).
+/// The plain pass over a connection's frames in capture order: all its findings, in order, up to and including the first
+/// connection error (RFC 9113, 5.4.1).
 pub fn one_pass(alloc: Global, frames: &[Frame]) -> Result<Vec<Finding>, AllocError>
     requires { IsOrderly frames.now }
-    ensures { IfOk result (λ found. found.items ≡ upto_stop (filter is_shown_so_far (full frames.now))) }
+    ensures { IfOk result (λ found. found.items ≡ pass frames.now) }
 {
     let mut found = Vec::new(alloc);
+    let mut previous = Sides {
+        client: None,
+        server: None,
+    };
     let mut settings = SettingsSoFar::start(alloc);
     let mut connection = ConnectionState::start();
     let mut streams = StreamTable::of(alloc, frames)?;
     for frame in frames {
+        say_local(&mut found, &previous.of(frame.side), frame)?;
         let initial = settings.initial();
         let change = settings.meet(frame)?;
         let ack = Finding::at(
@@ -32,8 +36,15 @@ pub fn one_pass(alloc: Global, frames: &[Frame]) -> Result<Vec<Finding>, AllocEr
             0,
         );
         say_if(&mut found, takes_nothing(frame, &change), ack)?;
-        connection.meet_windows(&mut found, frame)?;
+        let opens = streams.opens(frame);
+        let item = Item {
+            frame: *frame,
+            opens,
+            change,
+        };
+        connection.meet(&mut found, &item)?;
         streams.meet(&mut found, &initial, frame, &change)?;
+        previous = previous_after(&previous, frame);
     }
     put_in_order(&mut found)?;
     cut_at_stop(&mut found);

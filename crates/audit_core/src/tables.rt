@@ -2,8 +2,8 @@ ghost use Rattle.std.specs.Prelude.{◌≡◌, ℕ, ◌+◌, ◌-◌, ◌^◌, �
 ghost use Rattle.audit_terms.specs.Finding.{in_order};
 ghost use Rattle.audit_terms.specs.Stream.{initial_after};
 ghost use Rattle.std.specs.HashMap.{get};
-ghost use Rattle.std.specs.List.{flat_map};
-ghost use Rattle.audit_core.specs.code.StreamTable.{IsOfAcknowledgement, step_at, row_said, row_after, row_said_of, row_after_of, streams_in, idle_rows, with_stream, RowFits, RowsFit, RowsFitBy, bound_more, IsIndex};
+ghost use Rattle.std.specs.List.{flat_map, list_any};
+ghost use Rattle.audit_core.specs.code.StreamTable.{IsOfAcknowledgement, step_at, row_opens, row_said, row_after, row_said_of, row_after_of, streams_in, idle_rows, with_stream, RowFits, RowsFit, RowsFitBy, bound_more, IsIndex};
 ghost use Rattle.audit_terms.specs.Pass.{streams_of};
 
 use audit_terms::{Change, Finding, Frame, Sides, Step, Stream, initial_after};
@@ -138,6 +138,17 @@ impl StreamTable {
         ensures { result ≡ get nat_eq self.now.positions stream }
     {
         self.positions.get(&stream).copied()
+    }
+
+    /// Does a frame open its stream (RFC 9113, 5.1.1)?
+    pub fn opens(&self, frame: &Frame) -> bool
+        requires { IsIndex (streams_in self.now.rows.items) self.now.positions }
+        ensures { result ≡ list_any (row_opens frame.now) self.now.rows.items }
+    {
+        match self.place_of(frame.stream) {
+            Some(place) => self.rows[place].entry.life.is_opening(frame.stream, frame),
+            None => false,
+        }
     }
 
     /// Adds what one stream shows at a frame, where it has a row, and brings that row to its state after the frame.

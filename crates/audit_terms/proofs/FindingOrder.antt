@@ -1,5 +1,5 @@
 -- The order of findings tells all findings apart, so the lemmas on lists in order hold of findings.
-use Rattle.std.proofs.Common.{◌≡◌, ℕ, suc, ℤ, ◌+◌, Bool, true, false, List, [], ◌∷◌, ◌++◌, refl, sym, ap, ◌∙◌, arith, slice_get, Some, filter}
+use Rattle.std.proofs.Common.{◌≡◌, ℕ, suc, ℤ, ◌+◌, Bool, true, false, List, [], ◌∷◌, ◌++◌, refl, sym, ap, ◌∙◌, arith, slice_get, Some}
 use Rattle.std.specs.declared.cmp.Ordering.{Ordering}
 use Rattle.std.specs.declared.cmp.Ordering.TheVariants.{Less, Equal, Greater}
 use Rattle.std.specs.Ordering.{nat_cmp, int_cmp, ordering_then, ordering_reverse, is_gt, is_lt}
@@ -14,7 +14,7 @@ use Rattle.audit_terms.specs.declared.findings.Finding.{Finding}
 use Rattle.audit_terms.specs.Side.{side_order}
 use Rattle.audit_terms.specs.Kind.{rank_of}
 use Rattle.audit_terms.specs.Finding.{finding_cmp, comes_after, in_order}
-use Rattle.audit_terms.proofs.OrderedLists.{IsAfter, IsRising, ordered-left, ordered-right, ordered-both, ordered-append_comm, ordered-alike, ordered-ordered, ordered-permutation, ordered-in_order, in_order-rising, filter-ordered}
+use Rattle.audit_terms.proofs.OrderedLists.{IsAfter, IsRising, ordered-left, ordered-right, ordered-both, ordered-append_comm, ordered-alike, ordered-ordered, ordered-permutation, ordered-in_order, in_order-rising}
 
 pub finding_total : IsTotalOrder finding_cmp
 finding_total =
@@ -167,9 +167,6 @@ in_order-in_order = ordered-ordered comes_after comes_after_is
 
 pub in_order-permutation : (xs ys : List Finding) → IsPermutation xs ys → in_order ys ≡ in_order xs
 in_order-permutation = ordered-permutation comes_after comes_after_is
-
-pub filter-in_order : (test : Finding → Bool) (xs : List Finding) → filter test (in_order xs) ≡ in_order (filter test xs)
-filter-in_order = filter-ordered comes_after comes_after_is
 
 -- what a sort by the order of findings leaves
 not_less : (a b : Ordering) → a ≡ ordering_reverse b → is_lt b ≡ false → is_gt a ≡ false

@@ -1,6 +1,6 @@
 -- Lists put in order by a total order that tells all elements apart: what putting in order keeps, and where it is the
 -- same for two lists.
-use Rattle.std.proofs.Common.{◌≡◌, ℕ, ◌<◌, zero, suc, Bool, true, false, List, [], ◌∷◌, ◌++◌, length, get_or, set, refl, sym, ap, ◌∙◌, arith, filter, true≢false}
+use Rattle.std.proofs.Common.{◌≡◌, ℕ, ◌<◌, zero, suc, Bool, true, false, List, [], ◌∷◌, ◌++◌, length, get_or, set, refl, sym, ap, ◌∙◌, arith, true≢false}
 use Rattle.std.specs.List.{swap}
 use Rattle.std.specs.List.Sorted.{IsPermutation}
 use Rattle.std.proofs.lemmas.List.{get_or-set_same, get_or-set_other, length-set}
@@ -246,41 +246,3 @@ module _ {X : Type 0} (after : X → X → Bool) (o : IsAfter after) where
   pub in_order-append : (xs ys : List X) → IsInOrder xs → IsInOrder ys → Precedes xs ys → IsInOrder (xs ++ ys)
   in_order-append [] ys p q r = q
   in_order-append (x ∷ xs) ys p q r = (none_before-append x xs ys p.0 r.0, in_order-append xs ys p.1 q r.1)
-
-  none_before-filter : (test : X → Bool) (x : X) (ys : List X) → NoneBefore x ys → NoneBefore x (filter test ys)
-  none_before-filter test x [] h = tt
-  none_before-filter test x (y ∷ ys) h = step _ refl (none_before-filter test x ys h.1) where
-    step : (b : Bool) → test y ≡ b → NoneBefore x (filter test ys) → NoneBefore x (filter test (y ∷ ys))
-    step true e ih = rw e (h.0, ih)
-    step false e ih = rw e ih
-
-  filter-put-yes : (test : X → Bool) (x : X) (ys : List X) → test x ≡ true → IsInOrder ys →
-      filter test (put_by after x ys) ≡ put_by after x (filter test ys)
-  filter-put-yes test x [] e h = rw e refl
-  filter-put-yes test x (y ∷ ys) e h = step _ _ refl refl (filter-put-yes test x ys e h.1) where
-    step : (a b : Bool) → after x y ≡ a → test y ≡ b → filter test (put_by after x ys) ≡ put_by after x (filter test ys) →
-        filter test (put_by after x (y ∷ ys)) ≡ put_by after x (filter test (y ∷ ys))
-    step true true p q ih = simp (p, q) (ap (λ l. y ∷ l) ih)
-    step true false p q ih = simp (p, q) ih
-    step false true p q ih = simp (p, q, e)
-    step false false p q ih =
-        simp (p, q, e) (sym (put-front x (filter test ys) (none_before-filter test x ys (none_before-below x y ys p h.0))))
-
-  filter-put-no : (test : X → Bool) (x : X) (ys : List X) → test x ≡ false → filter test (put_by after x ys) ≡ filter test ys
-  filter-put-no test x [] e = rw e refl
-  filter-put-no test x (y ∷ ys) e = step _ _ refl refl (filter-put-no test x ys e) where
-    step : (a b : Bool) → after x y ≡ a → test y ≡ b → filter test (put_by after x ys) ≡ filter test ys →
-        filter test (put_by after x (y ∷ ys)) ≡ filter test (y ∷ ys)
-    step true true p q ih = simp (p, q) (ap (λ l. y ∷ l) ih)
-    step true false p q ih = simp (p, q) ih
-    step false b p q ih = simp (p, e)
-
-  -- the elements that pass a test may be picked before or after putting in order
-  pub filter-ordered : (test : X → Bool) (xs : List X) → filter test (ordered_by after xs) ≡ ordered_by after (filter test xs)
-  filter-ordered test [] = refl
-  filter-ordered test (x ∷ xs) = step _ refl (filter-ordered test xs) where
-    step : (b : Bool) → test x ≡ b → filter test (ordered_by after xs) ≡ ordered_by after (filter test xs) →
-        filter test (ordered_by after (x ∷ xs)) ≡ ordered_by after (filter test (x ∷ xs))
-    step true e ih =
-        filter-put-yes test x (ordered_by after xs) e (in_order-ordered xs) ∙ ap (put_by after x) ih ∙ (rw e refl)
-    step false e ih = filter-put-no test x (ordered_by after xs) e ∙ ih ∙ (rw e refl)

@@ -16,5 +16,4 @@ pub mod Stream
 pub mod Pass
 pub mod Credit
 pub mod Run
-pub mod Shown
 pub mod code

@@ -32,7 +32,7 @@ pub use frames::{Body, END_STREAM, Frame, Settings};
 pub use items::{Change, Item, Step};
 pub use kinds::Kind;
 pub use lives::StreamLife;
-pub use local_faults::say_local;
+pub use local_faults::{previous_after, say_local};
 pub use places::Place;
 pub use sides::{Side, Sides};
 pub use streams::Stream;

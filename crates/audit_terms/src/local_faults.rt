@@ -1,6 +1,6 @@
 ghost use Rattle.std.specs.Prelude.{◌≡◌, ℕ, ◌^◌, ◌<◌, ◌++◌, OnOk};
 ghost use Rattle.audit_terms.specs.Frame.{IsInRange};
-ghost use Rattle.audit_terms.specs.LocalFault.{is_settings, leaves_block_open, breaks_block, needs_stream, needs_connection, is_on_wrong_stream, reading_fault, body_said, local_said};
+ghost use Rattle.audit_terms.specs.LocalFault.{is_settings, leaves_block_open, breaks_block, needs_stream, needs_connection, is_on_wrong_stream, reading_fault, body_said, local_said, previous_after};
 
 use crate::findings::{Finding, say_if};
 use crate::frames::{
@@ -8,7 +8,7 @@ use crate::frames::{
     PUSH_PROMISE, RST_STREAM, SETTINGS,
 };
 use crate::kinds::Kind;
-use crate::sides::Side;
+use crate::sides::{Side, Sides};
 use std::alloc::AllocError;
 
 /// Adds what a frame shows by itself and beside the frame of its side just before it (RFC 9113, 3.4, 4.3, 6): a side that
@@ -32,6 +32,22 @@ pub fn say_local(
     say_body(found, frame)?;
     let client_push = frame.code == PUSH_PROMISE && Side::Client == frame.side;
     say_if(found, client_push, fault(Kind::Push, frame, 0))
+}
+
+/// The last frame of each side after a frame.
+pub fn previous_after(previous: &Sides<Option<Frame>>, frame: &Frame) -> Sides<Option<Frame>>
+    ensures { result ≡ previous_after previous.now frame.now }
+{
+    match frame.side {
+        Side::Client => Sides {
+            client: Some(*frame),
+            server: previous.server,
+        },
+        Side::Server => Sides {
+            client: previous.client,
+            server: Some(*frame),
+        },
+    }
 }
 
 ghost use Rattle.std.specs.Prelude.{pos};

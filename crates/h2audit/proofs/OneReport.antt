@@ -3,7 +3,6 @@ use Rattle.std.proofs.Common.{◌≡◌, ◌∙◌, ℕ, Bool, ◌||◌, List, [
 use Rattle.std.specs.Prelude.{not, if◌then◌else◌}
 use Rattle.std.specs.List.{list_any}
 use Rattle.audit_terms.specs.declared.findings.Finding.{Finding}
-use Rattle.audit_terms.specs.declared.frames.Frame.{Frame}
 use Rattle.audit_report.specs.declared.audited.Audited.{Audited}
 use Rattle.audit_report.specs.CaptureLine.{capture_line}
 use Rattle.audit_report.specs.RecordLines.{record_lines}
@@ -13,9 +12,7 @@ use Rattle.audit_report.specs.Contents.{Contents, Http2 as HoldsFrames, contents
 use Rattle.audit_report.specs.Section.{Section, extents_of, section_of, sections_of, sections_text}
 use Rattle.audit_report.specs.FlowLine.{Extent, extent_of}
 use Rattle.audit_terms.specs.declared.sides.Sides.{Sides}
-use Rattle.audit_terms.specs.Finding.{upto_stop}
-use Rattle.audit_terms.specs.Pass.{full}
-use Rattle.audit_terms.specs.Shown.{is_shown_so_far}
+use Rattle.audit_terms.specs.Pass.{pass}
 use Rattle.h2_frames.specs.declared.connections.Cut.{Cut}
 use Rattle.h2_frames.specs.declared.connections.Cut.TheVariants.{Http2, NotHttp2, NoPreface, NoHandshake}
 use Rattle.h2_frames.specs.Cut.{IsSameCut}
@@ -79,7 +76,7 @@ record IsOneCut (x y : Cut) : Type 0 where
 one_cut : (x y : Cut) → IsSameCut x y → IsOneCut x y
 one_cut (Http2 frames tails) (Http2 others rests) h = record {
   contents = ap₂ HoldsFrames h.0 h.1;
-  findings = ap (λ (fs : List Frame). upto_stop (filter is_shown_so_far (full fs))) h.0;
+  findings = ap pass h.0;
 }
 one_cut NotHttp2 NotHttp2 h = record { contents = refl; findings = refl }
 one_cut NoPreface NoPreface h = record { contents = refl; findings = refl }

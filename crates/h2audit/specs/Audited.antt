@@ -1,13 +1,11 @@
 -- The audit of one connection.
-use Rattle.std.specs.Prelude.{◌≡◌, ℕ, Bool, false, nat_le, if◌then◌else◌, List, [], ◌∷◌, filter, Option, None, Some, IsTrue}
+use Rattle.std.specs.Prelude.{◌≡◌, ℕ, Bool, false, nat_le, if◌then◌else◌, List, [], ◌∷◌, Option, None, Some, IsTrue}
 use Rattle.std.specs.List.{list_any}
 use Rattle.audit_terms.specs.declared.sides.Side.{Side}
 use Rattle.audit_terms.specs.declared.sides.Side.TheVariants.{Client, Server}
 use Rattle.audit_terms.specs.declared.findings.Finding.{Finding}
-use Rattle.audit_terms.specs.Finding.{upto_stop}
 use Rattle.audit_terms.specs.Kind.{rank_of}
-use Rattle.audit_terms.specs.Pass.{full}
-use Rattle.audit_terms.specs.Shown.{is_shown_so_far}
+use Rattle.audit_terms.specs.Pass.{pass}
 use Rattle.packet_heads.specs.declared.packets.Packet.{Packet}
 use Rattle.packet_heads.specs.declared.packets.Segment.{Segment}
 use Rattle.tcp_streams.specs.declared.members.Connection.{Connection}
@@ -36,7 +34,7 @@ IsFlowOf capture packets connection side flow =
 
 -- what is found in the frames of an HTTP/2 connection: what one pass over them says, up to the first connection error
 abbrev pub findings_of : Cut → List Finding
-findings_of (Http2 frames tails) = upto_stop (filter is_shown_so_far (full frames.items))
+findings_of (Http2 frames tails) = pass frames.items
 findings_of _ = []
 
 -- the audit of a connection: its two flows, what they hold, and what is found in the frames

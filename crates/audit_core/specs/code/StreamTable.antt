@@ -1,5 +1,5 @@
 -- The table of streams that `one_pass` keeps: a row for each stream that the frames name, and where each row stands.
-use Rattle.std.specs.Prelude.{◌≡◌, ◌≢◌, ℕ, ◌+◌, ◌^◌, ◌<◌, ◌==◌, if◌then◌else◌, ◌||◌, Bool, true, false, List, [], ◌∷◌, ◌++◌, Option, Some, None, nat_eq, map, slice_get, MatchOption}
+use Rattle.std.specs.Prelude.{◌≡◌, ◌≢◌, ℕ, ◌+◌, ◌^◌, ◌<◌, ◌==◌, if◌then◌else◌, ◌&&◌, ◌||◌, Bool, true, false, List, [], ◌∷◌, ◌++◌, Option, Some, None, nat_eq, map, slice_get, MatchOption}
 use Rattle.std.specs.Option.{ForSome}
 use Rattle.std.specs.HashMap.{get, HashMap}
 use Rattle.std.specs.declared.hash.FoldHasher.{FoldHasher}
@@ -11,6 +11,7 @@ use Rattle.audit_terms.specs.declared.items.Step.{Step}
 use Rattle.audit_core.specs.declared.tables.StreamRow.{StreamRow}
 use Rattle.audit_terms.specs.declared.findings.Finding.{Finding}
 use Rattle.audit_terms.specs.Frame.{is_ack, meets}
+use Rattle.audit_terms.specs.Life.{is_opening}
 use Rattle.audit_terms.specs.Stream.{idle_stream, stream_after, stream_said}
 use Rattle.audit_terms.specs.code.Room.{WindowHasRoom}
 
@@ -25,6 +26,10 @@ step_at frame change stream = record {
 -- a change is that of an acknowledgement (6.5.3)
 abbrev pub IsOfAcknowledgement : Option Change → Frame → Type 0
 IsOfAcknowledgement change frame = ForSome change (λ _. is_ack frame.body ≡ true)
+
+-- is it the row of the frame's stream, and does the frame open that stream?
+abbrev pub row_opens : Frame → StreamRow → Bool
+row_opens frame row = (frame.stream == row.stream) && is_opening row.stream row.entry.life frame
 
 -- what a row shows at a frame
 abbrev pub row_said : Sides ℕ → Frame → Option Change → StreamRow → List Finding

@@ -1,20 +1,27 @@
-use Rattle.std.proofs.Common.{◌≡◌, ℤ, pos, ◌+◌, ◌-◌, ◌*◌, ◌^◌, ◌++◌, drop, get_or, refl, sym, ap, ◌∙◌, subst, arith}
+use Rattle.std.proofs.Common.{◌≡◌, pos, ◌+◌, ◌-◌, ◌*◌, ◌^◌, ◌++◌, drop, get_or, refl, sym, ap, ◌∙◌, subst, arith, Option}
+use Rattle.std.specs.List.{list_any}
 use Rattle.std.proofs.lemmas.List.{drop_all}
 use Rattle.std.proofs.lemmas.Int.{ints}
 use Rattle.audit_terms.specs.declared.sides.Sides.{Sides}
-use Rattle.audit_terms.specs.Sides.{side_of, each_side}
+use Rattle.audit_terms.specs.declared.kinds.Kind.TheVariants.{UnmatchedAck}
+use Rattle.audit_terms.specs.declared.frames.Frame.{Frame}
+use Rattle.audit_terms.specs.declared.items.Item.{Item}
+use Rattle.audit_terms.specs.declared.connections.ConnectionState.{ConnectionState}
+use Rattle.audit_terms.specs.Sides.{side_of}
 use Rattle.audit_terms.specs.code.Room.{HasRoom}
+use Rattle.audit_terms.specs.LocalFault.{previous_after}
 use Rattle.audit_terms.specs.InForce.{InForce, in_force_after, change_of}
-use Rattle.audit_terms.specs.Connection.{credit_after}
-use Rattle.audit_core.specs.code.StreamTable.{IsOfAcknowledgement, RowsFit}
+use Rattle.audit_terms.specs.Connection.{connection_after}
+use Rattle.audit_core.specs.code.StreamTable.{IsOfAcknowledgement, RowsFit, row_opens}
 use Rattle.audit_core.proofs.Acknowledgements.{change_of-acknowledged}
-use Rattle.audit_terms.specs.Finding.{say, upto_stop}
-use Rattle.audit_terms.specs.Pass.{pass_start, next, streams_of}
+use Rattle.audit_terms.specs.Finding.{finding_at, say, upto_stop}
+use Rattle.audit_terms.specs.Pass.{pass_start, next, streams_of, item_of}
 use Rattle.audit_core.proofs.OrderlyRest.{in_range-get_or, number-get_or, stream-get_or, length-orderly, drop-next}
 use Rattle.audit_terms.proofs.Bounds.{room-wider}
 use Rattle.audit_core.proofs.OneRow.{all_fit-wider}
 use Rattle.audit_core.proofs.PassOrder.{streams-streams_of}
-use Rattle.audit_core.proofs.PassRows.{rows-more, rows-done, shown-full, table-more, parts-more, idle_rows-fit}
+use Rattle.audit_core.proofs.PassRows.{rows-more, rows-done, full-rows, table-more, same_item, parts-more, idle_rows-fit}
+use Rattle.audit_core.proofs.PassOpenings.{opens-frame}
 use Rattle.audit_core.proofs.passes.one_pass.Goals as goal
 
 start-room : HasRoom (2 ^ 17) (pos 65535)
@@ -28,8 +35,9 @@ loop-frame-init c =
     let server : c.start-settings.result.paired.server ≡ 0 = ap (λ (f : InForce). f.paired.server) settings in
     record {
       state = pass_start;
+      previous = refl;
       in_force = settings;
-      credit = ap (λ s. s.credit) start;
+      connection = start;
       table = c.in_ok-streams.ensures.rows;
       index = c.in_ok-streams.ensures.index;
       rows = rw c.new-found.ensures.items refl;
@@ -41,40 +49,38 @@ loop-frame-init c =
           (idle_rows-fit (2 ^ 17) (streams_of c.args.frames.now) (streams-streams_of 0 c.args.frames.now c.requires));
     }
 
+pub say_local-requires : goal.say_local-requires
+say_local-requires c = in_range-get_or 0 c.args.frames.now c.loop-frame.frame-index _ c.requires c.loop-frame-test.true
+
 pub at-ack-requires-clause-numbered : goal.at-ack-requires-clause-numbered
-at-ack-requires-clause-numbered c = number-get_or 0 c.args.frames.now c.loop-frame.frame-index _ c.requires
-    c.loop-frame-test.true
+at-ack-requires-clause-numbered c = number-get_or 0 c.args.frames.now c.loop-frame.frame-index _ c.requires c.loop-frame-test.true
 
 pub at-ack-requires-clause-streamed : goal.at-ack-requires-clause-streamed
-at-ack-requires-clause-streamed c = stream-get_or 0 c.args.frames.now c.loop-frame.frame-index _ c.requires
-    c.loop-frame-test.true
+at-ack-requires-clause-streamed c = stream-get_or 0 c.args.frames.now c.loop-frame.frame-index _ c.requires c.loop-frame-test.true
 
-pub meet_windows-requires-clause-frame : goal.meet_windows-requires-clause-frame
-meet_windows-requires-clause-frame c = in_range-get_or 0 c.args.frames.now c.loop-frame.frame-index _ c.requires
-    c.loop-frame-test.true
+pub meet-requires-in-loop-frame-clause-frame : goal.meet-requires-in-loop-frame-clause-frame
+meet-requires-in-loop-frame-clause-frame c = in_range-get_or 0 c.args.frames.now c.loop-frame.frame-index _ c.requires c.loop-frame-test.true
 
-pub meet_windows-requires-clause-client : goal.meet_windows-requires-clause-client
-meet_windows-requires-clause-client c =
+pub meet-requires-in-loop-frame-clause-client : goal.meet-requires-in-loop-frame-clause-client
+meet-requires-in-loop-frame-clause-client c =
     let few = length-orderly 0 c.args.frames.now (omega arith) c.requires in
     room-wider (2 ^ 17 + c.loop-frame.frame-index * 2 ^ 32) (2 ^ 60) _ (omega arith) c.loop-frame.invariant.client
 
-pub meet_windows-requires-clause-server : goal.meet_windows-requires-clause-server
-meet_windows-requires-clause-server c =
+pub meet-requires-in-loop-frame-clause-server : goal.meet-requires-in-loop-frame-clause-server
+meet-requires-in-loop-frame-clause-server c =
     let few = length-orderly 0 c.args.frames.now (omega arith) c.requires in
     room-wider (2 ^ 17 + c.loop-frame.frame-index * 2 ^ 32) (2 ^ 60) _ (omega arith) c.loop-frame.invariant.server
 
-pub meet-requires-in-loop-frame-clause-numbered : goal.meet-requires-in-loop-frame-clause-numbered
-meet-requires-in-loop-frame-clause-numbered c = number-get_or 0 c.args.frames.now c.loop-frame.frame-index _ c.requires
-    c.loop-frame-test.true
+pub meet-requires-in-loop-frame-2-clause-numbered : goal.meet-requires-in-loop-frame-2-clause-numbered
+meet-requires-in-loop-frame-2-clause-numbered c = number-get_or 0 c.args.frames.now c.loop-frame.frame-index _ c.requires c.loop-frame-test.true
 
-pub meet-requires-in-loop-frame-clause-fits : goal.meet-requires-in-loop-frame-clause-fits
-meet-requires-in-loop-frame-clause-fits c =
+pub meet-requires-in-loop-frame-2-clause-fits : goal.meet-requires-in-loop-frame-2-clause-fits
+meet-requires-in-loop-frame-2-clause-fits c =
     let few = length-orderly 0 c.args.frames.now (omega arith) c.requires in
-    all_fit-wider (2 ^ 17 + c.loop-frame.frame-index * 2 ^ 32) (2 ^ 60 - 2 ^ 32) c.loop-frame.streams.rows.items
-    (omega arith) c.loop-frame.invariant.fits
+    all_fit-wider (2 ^ 17 + c.loop-frame.frame-index * 2 ^ 32) (2 ^ 60 - 2 ^ 32) c.loop-frame.streams.rows.items (omega arith) c.loop-frame.invariant.fits
 
-pub meet-requires-in-loop-frame-clause-acknowledged : goal.meet-requires-in-loop-frame-clause-acknowledged
-meet-requires-in-loop-frame-clause-acknowledged c =
+pub meet-requires-in-loop-frame-2-clause-acknowledged : goal.meet-requires-in-loop-frame-2-clause-acknowledged
+meet-requires-in-loop-frame-2-clause-acknowledged c =
     let old = c.loop-frame.invariant in
     let frame = get_or c.args.frames.now c.loop-frame.frame-index _ in
     subst (λ change. IsOfAcknowledgement change frame)
@@ -85,37 +91,46 @@ pub loop-frame-preserved : goal.loop-frame-preserved
 loop-frame-preserved c =
     let old = c.loop-frame.invariant in
     let frame = get_or c.args.frames.now c.loop-frame.frame-index _ in
+    let names = streams_of c.args.frames.now in
+    let rows = c.loop-frame.streams.rows.items in
     let initial = c.initial-initial.ensures ∙ ap (λ (f : InForce). f.initial) old.in_force in
     let change = c.in_ok-change.ensures.change ∙ ap (λ (f : InForce). change_of f frame) old.in_force in
+    let opens = c.opens-opens.ensures ∙ ap (list_any (row_opens frame)) old.table
+        ∙ opens-frame old.state c.args.frames.now c.loop-frame.frame-index _ c.loop-frame-test.true in
+    let met : Item = record { frame = frame; opens = c.opens-opens.result; change = c.in_ok-change.change } in
+    let item : met ≡ item_of old.state frame = same_item old.state frame names c.initial-initial.result c.in_ok-change.change rows initial change old.table
+        c.opens-opens.result opens in
     record {
       state = next old.state frame;
+      previous = c.previous_after-previous.ensures
+          ∙ ap (λ (p : Sides (Option Frame)). previous_after p frame) old.previous;
       in_force = c.in_ok-change.ensures.after ∙ ap (λ (f : InForce). in_force_after f frame) old.in_force;
-      credit = ap (λ s. s.credit) c.in_ok-meet_windows.ensures.counted
-          ∙ ap (λ (k : Sides ℤ). each_side (λ d. credit_after d (side_of d k) frame)) old.credit;
-      table = table-more old.state frame (streams_of c.args.frames.now) c.initial-initial.result c.in_ok-change.change
-          c.loop-frame.streams.rows.items initial change old.table _ c.in_ok-meet.ensures.after;
-      index = c.in_ok-meet.ensures.index;
-      rows = rows-more _ c.loop-frame.found.items c.meet-in-loop-frame.new.found.items
-          (streams_of c.args.frames.now) old.state frame
+      connection = c.in_ok-meet.ensures.after
+          ∙ ap (λ (k : ConnectionState). connection_after k met) old.connection
+          ∙ ap (connection_after old.state.connection) item;
+      table = table-more old.state frame names c.initial-initial.result c.in_ok-change.change
+          rows initial change old.table _ c.in_ok-meet-2.ensures.after;
+      index = c.in_ok-meet-2.ensures.index;
+      rows = rows-more _ c.loop-frame.found.items c.meet-in-loop-frame-2.new.found.items names old.state frame
           (drop c.loop-frame.frame-index c.args.frames.now) (drop (c.loop-frame.frame-index + 1) c.args.frames.now)
           (drop-next c.args.frames.now c.loop-frame.frame-index _ c.loop-frame-test.true)
-          (parts-more old.state frame (streams_of c.args.frames.now) c.initial-initial.result c.in_ok-change.change
-          c.loop-frame.streams.rows.items initial change old.table c.loop-frame.connection.credit old.credit
-          c.loop-frame.found.items c.say_if.new.found.items c.meet_windows.new.found.items
-          c.meet-in-loop-frame.new.found.items c.takes_nothing.result
-          c.takes_nothing.ensures
-          (c.in_ok-say_if.ensures.ok ∙ ap (λ x. c.loop-frame.found.items
-          ++ say c.takes_nothing.result x) c.at-ack.ensures)
-          c.in_ok-meet_windows.ensures.said c.in_ok-meet.ensures.said)
+          (parts-more old.state frame names c.initial-initial.result c.in_ok-change.change rows initial change old.table
+          c.of-in-loop-frame.result c.loop-frame.connection met
+          (c.of-in-loop-frame.ensures ∙ ap (λ (p : Sides (Option Frame)). side_of frame.side p) old.previous) old.connection item
+          c.loop-frame.found.items c.say_local.new.found.items c.say_if.new.found.items c.meet-in-loop-frame.new.found.items
+          c.meet-in-loop-frame-2.new.found.items
+          c.in_ok-say_local.ensures
+          (c.in_ok-say_if.ensures.ok
+          ∙ ap (λ x. c.say_local.new.found.items ++ say c.takes_nothing.result x) c.at-ack.ensures
+          ∙ ap (λ b. c.say_local.new.found.items ++ say b (finding_at UnmatchedAck frame.number frame.stream frame.side (pos 0)))
+          c.takes_nothing.ensures)
+          c.in_ok-meet.ensures.said c.in_ok-meet-2.ensures.said)
           old.rows;
       client_paired = c.in_ok-change.ensures.client;
       server_paired = c.in_ok-change.ensures.server;
-      client = room-wider (2 ^ 17 + c.loop-frame.frame-index * 2 ^ 32 + 2 ^ 32) _ _ (omega arith)
-          (c.meet_windows.ensures.client _ old.client);
-      server = room-wider (2 ^ 17 + c.loop-frame.frame-index * 2 ^ 32 + 2 ^ 32) _ _ (omega arith)
-          (c.meet_windows.ensures.server _ old.server);
-      fits = all_fit-wider (2 ^ 17 + c.loop-frame.frame-index * 2 ^ 32 + 2 ^ 32) _ _ (omega arith)
-          (c.in_ok-meet.ensures.fits _ old.fits);
+      client = room-wider (2 ^ 17 + c.loop-frame.frame-index * 2 ^ 32 + 2 ^ 32) _ _ (omega arith) (c.meet-in-loop-frame.ensures.client _ old.client);
+      server = room-wider (2 ^ 17 + c.loop-frame.frame-index * 2 ^ 32 + 2 ^ 32) _ _ (omega arith) (c.meet-in-loop-frame.ensures.server _ old.server);
+      fits = all_fit-wider (2 ^ 17 + c.loop-frame.frame-index * 2 ^ 32 + 2 ^ 32) _ _ (omega arith) (c.in_ok-meet-2.ensures.fits _ old.fits);
     }
 
 pub returns : goal.returns
@@ -126,4 +141,4 @@ returns c =
     ∙ rows-done _ c.loop-frame.found.items (streams_of c.args.frames.now) last.state
     (drop c.loop-frame.frame-index c.args.frames.now)
     (drop_all c.loop-frame.frame-index c.args.frames.now c.loop-frame-test.false) last.rows
-    ∙ sym (shown-full c.args.frames.now c.requires))
+    ∙ sym (full-rows c.args.frames.now c.requires))
