@@ -36,9 +36,13 @@ payload = 1 ∷ 2 ∷ []
 abbrev pub options : List ℕ
 options = 3 ∷ 4 ∷ 5 ∷ 6 ∷ []
 
--- headers, payload, and any total length: 42 is that of all bytes
+-- headers without options, any total length, and these bytes
+abbrev pub datagram_with : ℕ → List ℕ → List ℕ
+datagram_with total bytes = ipv4_header 0x45 total 0 6 ++ tcp_header 0x50 0x10 ++ bytes
+
+-- the same with the two bytes: 42 is the total length of all
 abbrev pub datagram : ℕ → List ℕ
-datagram total = ipv4_header 0x45 total 0 6 ++ tcp_header 0x50 0x10 ++ payload
+datagram total = datagram_with total payload
 
 -- a frame of this type, without a tag, with one and with two
 abbrev pub framed : ℕ → List ℕ → List ℕ

@@ -1,8 +1,8 @@
 //! Worked examples of the packet decision, computed by proof. The functions do nothing; each clause is an example.
 #![tactic(auto, unfolding(crate::specs::Ethernet::is_tagged, crate::specs::Ethernet::header_length, crate::specs::Ethernet::ether_type, crate::specs::Ipv4::version, crate::specs::Ipv4::header_words, crate::specs::Ipv4::total_length, crate::specs::Ipv4::more_fragments, crate::specs::Ipv4::fragment_offset, crate::specs::Ipv4::is_fragment, crate::specs::Ipv4::protocol, crate::specs::Ipv4::source_address, crate::specs::Ipv4::destination_address, crate::specs::Tcp::source_port, crate::specs::Tcp::destination_port, crate::specs::Tcp::sequence_number, crate::specs::Tcp::data_offset, crate::specs::Tcp::syn, crate::specs::Tcp::ack))]
 
-ghost use Rattle.std.specs.Prelude.{◌≡◌, [], ◌∷◌, ◌++◌, true, false, codes, take};
-ghost use Rattle.packet_heads.specs.Example.{ipv4_header, tcp_header, payload, options, datagram, framed, tagged, double_tagged, whole, of_length, segment, segment_with};
+ghost use Rattle.std.specs.Prelude.{◌≡◌, [], ◌∷◌, ◌++◌, true, false, codes, replicate, take};
+ghost use Rattle.packet_heads.specs.Example.{ipv4_header, tcp_header, payload, options, datagram, datagram_with, framed, tagged, double_tagged, whole, of_length, segment, segment_with};
 ghost use Rattle.packet_heads.specs.Refusal.{refusal_name};
 ghost use Rattle.packet_heads.specs.declared.packets.Packet.TheVariants.{Skipped, Refused};
 ghost use Rattle.packet_heads.specs.declared.packets.Skip.TheVariants.{NotIpv4, Fragment, NotTcp};
@@ -112,6 +112,11 @@ pub fn packet_lengths()
     ensures total_43_original_43 { of_length 43 101 (datagram 43) ≡ segment_with false true true 80 82 }
     ensures total_42_original_43 { of_length 43 101 (datagram 42) ≡ segment 80 82 }
     ensures total_0_original_43 { of_length 43 101 (datagram 0) ≡ segment_with false true true 80 82 }
+    ensures total_40_of_60 { whole 1 (framed 0x0800 (datagram_with 40 (replicate 6 0))) ≡ segment 94 94 }
+    ensures total_0_of_100 { whole 1 (framed 0x0800 (datagram_with 0 (replicate 46 0))) ≡ segment 94 140 }
+    ensures total_87_of_100 { whole 1 (framed 0x0800 (datagram_with 87 (replicate 46 0))) ≡ Refused PastEnd }
+    ensures total_87_of_101 { of_length 101 1 (framed 0x0800 (datagram_with 87 (replicate 46 0)))
+        ≡ segment_with false true true 94 140 }
     ensures total_42_in_39 { of_length 42 101 (take 39 (datagram 42)) ≡ Refused ShortTcp }
     ensures total_42_in_40 { of_length 42 101 (take 40 (datagram 42)) ≡ segment_with false true true 80 80 }
 {}
