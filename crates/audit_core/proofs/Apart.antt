@@ -83,7 +83,8 @@ pub apart-said : (streams : List ℕ) (state : PassState) (frame : Frame) → Ar
     IsInRange frame →
     StandApart (said streams state frame)
 apart-said streams state frame small distinct h =
-    pairs-ordered AreApart comes_after apart-turned (rows_of streams state frame) (rows-apart-at streams state frame small distinct h)
+    pairs-ordered AreApart comes_after apart-turned (rows_of streams state frame)
+    (rows-apart-at streams state frame small distinct h)
 
 pub findings_stand_apart : (frames : List Frame) → IsOrderly frames → StandApart (full frames)
 findings_stand_apart frames h =

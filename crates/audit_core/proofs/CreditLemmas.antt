@@ -36,20 +36,29 @@ connection-credit : (d : Side) (state : PassState) (frames : List Frame)
 connection-credit d state [] = omega (arith, ints)
 connection-credit d state (frame ∷ frames) =
     let rest = connection-credit d (next state frame) frames in
-    omega (arith, ints, rest, credit-next d state frame, sum_by-cons (grant_to d 0) frame frames, sum_by-cons (content_by d) frame frames)
+    omega (
+      arith,
+      ints,
+      rest,
+      credit-next d state frame,
+      sum_by-cons (grant_to d 0) frame frames,
+      sum_by-cons (content_by d) frame frames,
+    )
 
 -- ---- one frame at a stream
 
 opened-next : (stream : ℕ) (state : PassState) (frame : Frame)
     → ((next state frame).streams stream).life.opened
-    ≡ (if opens stream (state.streams stream) (step_of state.in_force frame stream) then Some frame.number else (state.streams stream).life.opened)
+    ≡ (if opens stream (state.streams stream) (step_of state.in_force frame stream) then Some frame.number
+    else (state.streams stream).life.opened)
 opened-next stream state frame = step-opened stream state.in_force frame (state.streams stream)
 
 window-next : (d : Side) (stream : ℕ) (state : PassState) (frame : Frame)
     → side_of d ((next state frame).streams stream).window
     ≡ (if opens stream (state.streams stream) (step_of state.in_force frame stream)
     then window_at_opening d stream state.in_force.initial (step_of state.in_force frame stream)
-    else window_after d stream state.in_force.initial (step_of state.in_force frame stream) (side_of d (state.streams stream).window))
+    else window_after d stream state.in_force.initial (step_of state.in_force frame stream)
+    (side_of d (state.streams stream).window))
 window-next Client stream state frame = refl
 window-next Server stream state frame = refl
 
@@ -87,7 +96,8 @@ opened-stays : (stream opening : ℕ) (state : PassState) (frames : List Frame)
 opened-stays stream opening state [] e = e
 opened-stays stream opening state (frame ∷ frames) e =
     opened-stays stream opening (next state frame) frames
-    (opened-next stream state frame ∙ rw (opened-once stream opening (state.streams stream) (step_of state.in_force frame stream) e) e)
+    (opened-next stream state frame
+    ∙ rw (opened-once stream opening (state.streams stream) (step_of state.in_force frame stream) e) e)
 
 -- a window that is not live stays so
 window-gone : (d : Side) (stream opening : ℕ) (state : PassState) (frames : List Frame)
@@ -115,8 +125,10 @@ window-counts d stream opening state [] before credit e w last =
     omega (arith, ints, same)
 window-counts d stream opening state (frame ∷ frames) before credit e w last =
     by_end (window_ends d stream state.in_force.initial (step_of state.in_force frame stream) before) here
-    (λ (gone : side_of d ((next state frame).streams stream).window ≡ None). window-gone d stream opening (next state frame) frames opened gone)
-    (λ (count : ℤ) (at : side_of d ((next state frame).streams stream).window ≡ Some count). window-counts d stream opening (next state frame) frames count credit opened at last) where
+    (λ (gone : side_of d ((next state frame).streams stream).window ≡ None).
+    window-gone d stream opening (next state frame) frames opened gone)
+    (λ (count : ℤ) (at : side_of d ((next state frame).streams stream).window ≡ Some count).
+    window-counts d stream opening (next state frame) frames count credit opened at last) where
       once : opens stream (state.streams stream) (step_of state.in_force frame stream) ≡ false
       once = opened-once stream opening (state.streams stream) (step_of state.in_force frame stream) e
 
@@ -130,7 +142,8 @@ window-counts d stream opening state (frame ∷ frames) before credit e w last =
 
       by_end : (ends : Bool)
           → side_of d ((next state frame).streams stream).window
-          ≡ (if ends then None else Some (counted d stream state.in_force.initial (step_of state.in_force frame stream) before))
+          ≡ (if ends then None
+          else Some (counted d stream state.in_force.initial (step_of state.in_force frame stream) before))
           → (side_of d ((next state frame).streams stream).window ≡ None
           → side_of d ((state_from (next state frame) frames).streams stream).window ≡ None)
           → ((count : ℤ) → side_of d ((next state frame).streams stream).window ≡ Some count
@@ -167,7 +180,8 @@ since-all : (opening low : ℕ) (frames : List Frame) → opening ≤ low → Is
     → since opening frames ≡ frames
 since-all opening low [] below h = refl
 since-all opening low (frame ∷ frames) below h =
-    rw (le_test opening frame.number (omega (arith, h.0))) (ap (λ rest. frame ∷ rest) (since-all opening (frame.number + 1) frames (omega (arith, h.0)) h.2))
+    rw (le_test opening frame.number (omega (arith, h.0)))
+    (ap (λ rest. frame ∷ rest) (since-all opening (frame.number + 1) frames (omega (arith, h.0)) h.2))
 
 since-later : (opening : ℕ) (frame : Frame) (frames : List Frame) → frame.number < opening
     → since opening (frame ∷ frames) ≡ since opening frames
@@ -180,8 +194,10 @@ opening-within : (stream opening low : ℕ) (state : PassState) (frames : List F
 opening-within stream opening low state [] h none last = absurd (none-some opening (sym none ∙ last))
 opening-within stream opening low state (frame ∷ frames) h none last =
     by_test (opens stream (state.streams stream) (step_of state.in_force frame stream)) (opened-next stream state frame)
-    (λ (at : ((next state frame).streams stream).life.opened ≡ Some frame.number). opened-stays stream frame.number (next state frame) frames at)
-    (λ (at : ((next state frame).streams stream).life.opened ≡ None). opening-within stream opening (frame.number + 1) (next state frame) frames h.2 at last) where
+    (λ (at : ((next state frame).streams stream).life.opened ≡ Some frame.number).
+    opened-stays stream frame.number (next state frame) frames at)
+    (λ (at : ((next state frame).streams stream).life.opened ≡ None).
+    opening-within stream opening (frame.number + 1) (next state frame) frames h.2 at last) where
       by_test : (here : Bool)
           → ((next state frame).streams stream).life.opened
           ≡ (if here then Some frame.number else (state.streams stream).life.opened)
@@ -190,7 +206,8 @@ opening-within stream opening low state (frame ∷ frames) h none last =
           → (((next state frame).streams stream).life.opened ≡ None → frame.number + 1 ≤ opening)
           → low ≤ opening
       by_test true at stays later =
-          let same : frame.number ≡ opening = same_Some frame.number opening (sym (stays at) ∙ last) in omega (arith, h.0)
+          let same : frame.number ≡ opening =
+          same_Some frame.number opening (sym (stays at) ∙ last) in omega (arith, h.0)
       by_test false at stays later = omega (arith, h.0, later (at ∙ none))
 
 -- what a live window's credit is, where the stream was not opened before the frames
@@ -205,8 +222,10 @@ window-is_sum : (d : Side) (stream opening low : ℕ) (state : PassState) (frame
     → IsSumSince d stream opening state frames credit
 window-is_sum d stream opening low state [] credit h none opened last = absurd (none-some opening (sym none ∙ opened))
 window-is_sum d stream opening low state (frame ∷ frames) credit h none opened last =
-    by_test (opens stream (state.streams stream) (step_of state.in_force frame stream)) refl (opened-next stream state frame) (window-next d stream state frame)
-    (λ (at : ((next state frame).streams stream).life.opened ≡ None). window-is_sum d stream opening (frame.number + 1) (next state frame) frames credit h.2 at opened last) where
+    by_test (opens stream (state.streams stream) (step_of state.in_force frame stream)) refl
+    (opened-next stream state frame) (window-next d stream state frame)
+    (λ (at : ((next state frame).streams stream).life.opened ≡ None).
+    window-is_sum d stream opening (frame.number + 1) (next state frame) frames credit h.2 at opened last) where
       -- at the opening
       begun : opens stream (state.streams stream) (step_of state.in_force frame stream) ≡ true
           → ((next state frame).streams stream).life.opened ≡ Some frame.number → frame.number ≡ opening
@@ -214,13 +233,15 @@ window-is_sum d stream opening low state (frame ∷ frames) credit h none opened
           → (window ≡ None) ⊎ (window ≡ Some (pos (side_of d state.in_force.initial)))
           → IsSumSince d stream opening state (frame ∷ frames) credit
       begun here at same window now (inl gone) =
-          absurd (none-some credit (sym (window-gone d stream frame.number (next state frame) frames at (now ∙ gone)) ∙ last))
+          absurd (none-some credit
+          (sym (window-gone d stream frame.number (next state frame) frames at (now ∙ gone)) ∙ last))
       begun here at same window now (inr live) =
           let counts_nothing = step-opening stream state.in_force frame (state.streams stream) here in
           let counts = window-counts d stream frame.number (next state frame) frames _ credit at (now ∙ live) last in
           let unchanged : side_of d (next state frame).in_force.initial ≡ side_of d state.in_force.initial =
           initial-next d state frame
-          ∙ ap (λ change. new_initial change d (side_of d state.in_force.initial)) (opening-change state frame counts_nothing) in
+          ∙ ap (λ change. new_initial change d (side_of d state.in_force.initial))
+          (opening-change state frame counts_nothing) in
           let all : since opening (frame ∷ frames) ≡ frame ∷ frames =
           since-all opening frame.number (frame ∷ frames) (omega (arith, same)) (omega arith, h.1, h.2) in
           rw all (omega (
@@ -239,15 +260,19 @@ window-is_sum d stream opening low state (frame ∷ frames) credit h none opened
           ≡ (if here then Some frame.number else (state.streams stream).life.opened)
           → side_of d ((next state frame).streams stream).window
           ≡ (if here then window_at_opening d stream state.in_force.initial (step_of state.in_force frame stream)
-          else window_after d stream state.in_force.initial (step_of state.in_force frame stream) (side_of d (state.streams stream).window))
+          else window_after d stream state.in_force.initial (step_of state.in_force frame stream)
+          (side_of d (state.streams stream).window))
           → (((next state frame).streams stream).life.opened ≡ None
           → IsSumSince d stream opening (next state frame) frames credit)
           → IsSumSince d stream opening state (frame ∷ frames) credit
       by_test true here at now later =
-          begun here at (same_Some frame.number opening (sym (opened-stays stream frame.number (next state frame) frames at) ∙ opened)) _ now
-          (either (step_test (is_last_of d stream) (step_of state.in_force frame stream)) (pos (side_of d state.in_force.initial)))
+          begun here at (same_Some frame.number opening
+          (sym (opened-stays stream frame.number (next state frame) frames at) ∙ opened)) _ now
+          (either (step_test (is_last_of d stream) (step_of state.in_force frame stream))
+          (pos (side_of d state.in_force.initial)))
       by_test false here at now later =
-          let above = opening-within stream opening (frame.number + 1) (next state frame) frames h.2 (at ∙ none) opened in
+          let above =
+          opening-within stream opening (frame.number + 1) (next state frame) frames h.2 (at ∙ none) opened in
           rw (since-later opening frame frames (omega (arith, above))) (later (at ∙ none))
 
 -- ---- the laws

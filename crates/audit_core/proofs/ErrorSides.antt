@@ -78,7 +78,10 @@ module _ (sender : Side) where
   of-say kind number stream side value false h f = of-nil
   of-say kind number stream side value true h f = record {
     all = (
-      record { error = λ e. f e refl ∙ ap (error_side sender) (sym (rank-place number (rank_of kind) stream (rank-small kind) h)) },
+      record {
+        error = λ e. f e refl
+            ∙ ap (error_side sender) (sym (rank-place number (rank_of kind) stream (rank-small kind) h));
+      },
       tt,
     );
   }
@@ -145,7 +148,8 @@ module _ (frame : Frame) (h : frame.stream < 2 ^ 31) where
 
   -- 0 is granted by the sender
   of-zero_grant : (d : Side) →
-      AreOf frame.side (say (grants_nothing d 0 frame) (finding_at ZeroConnectionGrant frame.number 0 (other d) (pos 0)))
+      AreOf frame.side (say (grants_nothing d 0 frame)
+      (finding_at ZeroConnectionGrant frame.number 0 (other d) (pos 0)))
   of-zero_grant d =
       of-say frame.side ZeroConnectionGrant frame.number 0 (other d) (pos 0) (grants_nothing d 0 frame) zero-small
       (λ _ e. same_side (other d) frame.side (and_parts _ _ (and_parts _ _ e).0).0)
@@ -159,9 +163,11 @@ module _ (frame : Frame) (h : frame.stream < 2 ^ 31) where
       absurd (no-rise before (grant_to d 0 frame) (content_by d frame) (rw e refl) (and_parts _ _ o).0)
 
   of-overflow : (d : Side) (before : ℤ) → AreOf frame.side
-      (say (overflows before (credit_after d before frame)) (finding_at ConnectionOverflow frame.number 0 d (credit_after d before frame)))
+      (say (overflows before (credit_after d before frame))
+      (finding_at ConnectionOverflow frame.number 0 d (credit_after d before frame)))
   of-overflow d before =
-      of-say frame.side ConnectionOverflow frame.number 0 d (credit_after d before frame) (overflows before (credit_after d before frame)) zero-small
+      of-say frame.side ConnectionOverflow frame.number 0 d (credit_after d before frame)
+      (overflows before (credit_after d before frame)) zero-small
       (λ _ e. granted-side d before _ refl e)
 
   of-connection_window : (d : Side) (before : ℤ) → AreOf frame.side (connection_window_said d before frame)
@@ -221,15 +227,19 @@ module _ (now : InForce) (initial : Sides ℕ) (entry : Stream) (frame : Frame) 
       omega (arith, ints)
 
   moved-side : (d : Side) (before : ℤ) (b : Bool) → is_side d frame.side ≡ b →
-      (is_some (change_of now frame) && overflows before (counted d stream initial (step_of now frame stream) before)) ≡ true → d ≡ frame.side
+      (is_some (change_of now frame) && overflows before
+      (counted d stream initial (step_of now frame stream) before)) ≡ true → d ≡ frame.side
   moved-side d before true e o = same_side d frame.side e
   moved-side d before false e o =
-      let same : counted d stream initial (step_of now frame stream) before ≡ before = counted-still d before (and_parts _ _ o).0 e in
-      let above : int_lt before (counted d stream initial (step_of now frame stream) before) ≡ true = (and_parts _ _ (and_parts _ _ o).1).0 in
+      let same : counted d stream initial (step_of now frame stream) before ≡ before =
+      counted-still d before (and_parts _ _ o).0 e in
+      let above : int_lt before (counted d stream initial (step_of now frame stream) before) ≡ true =
+      (and_parts _ _ (and_parts _ _ o).1).0 in
       absurd (not_below before (ap (int_lt before) (sym same) ∙ above))
 
   of-live_window : (d : Side) (before : ℤ) →
-      AreOf frame.side (live_window_said d stream (step_of now frame stream) (window_step d stream initial (step_of now frame stream) before))
+      AreOf frame.side (live_window_said d stream (step_of now frame stream)
+      (window_step d stream initial (step_of now frame stream) before))
   of-live_window d before =
       of-append frame.side _ _
       (of-append frame.side _ _
@@ -263,7 +273,8 @@ module _ (now : InForce) (initial : Sides ℕ) (entry : Stream) (frame : Frame) 
 
   of-stream : AreOf frame.side (stream_said stream initial entry (step_of now frame stream))
   of-stream =
-      of-append frame.side _ _ (of-append frame.side _ _ (of-frame (meets stream frame)) (of-stream_window Client)) (of-stream_window Server)
+      of-append frame.side _ _ (of-append frame.side _ _ (of-frame (meets stream frame)) (of-stream_window Client))
+      (of-stream_window Server)
 
 of-streams : (streams : List ℕ) (state : PassState) (frame : Frame) → AreStreams streams →
     AreOf frame.side (streams_said streams state frame)
@@ -281,7 +292,8 @@ of-said streams state frame small h =
       rows =
           of-append frame.side _ _
           (of-append frame.side _ _
-          (of-append frame.side _ _ (of-local frame h.stream (side_of frame.side state.previous)) (of-settings frame h.stream state.in_force))
+          (of-append frame.side _ _ (of-local frame h.stream (side_of frame.side state.previous))
+          (of-settings frame h.stream state.in_force))
           (of-connection state.connection (item_of state frame) h))
           (of-streams streams state frame small)
 
@@ -293,7 +305,8 @@ errors-apart sender x y p q apart s t e =
 pub errors_stand_alone : (frames : List Frame) → IsOrderly frames → EachPair AreApartAsErrors (full frames)
 errors_stand_alone frames h =
     pairs-full_from AreApartAsErrors (λ x y n s t. n) (streams_of frames) small
-    (λ state frame k. pairs-refine AreApart AreApartAsErrors (IsOf frame.side) (errors-apart frame.side) (said (streams_of frames) state frame)
+    (λ state frame k. pairs-refine AreApart AreApartAsErrors (IsOf frame.side) (errors-apart frame.side)
+    (said (streams_of frames) state frame)
     (of-said (streams_of frames) state frame small k)
     (apart-said (streams_of frames) state frame small (distinct-streams_of frames) k))
     pass_start 0 frames h where

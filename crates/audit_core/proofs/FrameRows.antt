@@ -46,7 +46,8 @@ module _ (frame : Frame) (h : frame.stream < 2 ^ 31) where
       row_at Server (rank_of kind) ≡ row →
       AreRows (Only frame.stream) row (row + 1) (say holds (finding_at kind frame.number frame.stream frame.side value))
   said kind value holds row p q =
-      rows-say kind frame.number frame.stream frame.side value holds row h (row-either (rank_of kind) row p q frame.side)
+      rows-say kind frame.number frame.stream frame.side value holds row h
+      (row-either (rank_of kind) row p q frame.side)
 
   rows-reading_fault : (kind : Kind) (value : ℕ) → AreRows (Only frame.stream) 3 4 (reading_fault kind frame value)
   rows-reading_fault WrongSize value = said WrongSize (pos value) true 3 refl refl
@@ -66,14 +67,16 @@ module _ (frame : Frame) (h : frame.stream < 2 ^ 31) where
       AreRows (Only frame.stream) 4 5 (say (code && is_side Client frame.side) (fault Push frame 0))
   rows-client_push code = by_side frame.side where
     by_side : (side : Side) →
-        AreRows (Only frame.stream) 4 5 (say (code && is_side Client side) (finding_at Push frame.number frame.stream side (pos 0)))
+        AreRows (Only frame.stream) 4 5
+        (say (code && is_side Client side) (finding_at Push frame.number frame.stream side (pos 0)))
     by_side Client = rows-say Push frame.number frame.stream Client (pos 0) _ 4 h refl
     by_side Server = rw and-false (rows-nil _ 4 5)
 
   rows-server_push : (push : ℕ) → AreRows (Only frame.stream) 7 8 (push_said push frame)
   rows-server_push push = by_side frame.side where
     by_side : (side : Side) → AreRows (Only frame.stream) 7 8
-        (say ((is_side Server side && is_promise frame.body) && (push == 0)) (finding_at Push frame.number frame.stream side (pos 0)))
+        (say ((is_side Server side && is_promise frame.body) && (push == 0))
+        (finding_at Push frame.number frame.stream side (pos 0)))
     by_side Client = rows-nil _ 7 8
     by_side Server = rows-say Push frame.number frame.stream Server (pos 0) _ 7 h refl
 
@@ -121,7 +124,8 @@ module _ (frame : Frame) (h : frame.stream < 2 ^ 31) where
 
   rows-connection_windows : (credit : Sides ℤ) → AreRows (Only 0) 9 21 (connection_windows_said credit frame)
   rows-connection_windows credit =
-      rows-append (Only 0) 9 15 21 (omega arith) (omega arith) _ _ (rows-client_window credit.client) (rows-server_window credit.server)
+      rows-append (Only 0) 9 15 21 (omega arith) (omega arith) _ _ (rows-client_window credit.client)
+      (rows-server_window credit.server)
 
 -- ---- the order of opened streams: HEADERS open their own stream, and a promise opens another
 
@@ -147,7 +151,8 @@ module _ (item : Item) (h : IsInRange item.frame) where
   rows-promise : (promised : ℕ) → AreRows Any 8 9 (promise_order_said promised item.frame)
   rows-promise promised =
       any (Only (promised_in item.frame.body)) 8 9 _
-      (rows-say IdNotGreater item.frame.number (promised_in item.frame.body) item.frame.side _ _ 8 h.promised (row-either 9 8 refl refl item.frame.side))
+      (rows-say IdNotGreater item.frame.number (promised_in item.frame.body) item.frame.side _ _ 8 h.promised
+      (row-either 9 8 refl refl item.frame.side))
 
   no-promise : (promised : ℕ) → is_promise item.frame.body ≡ false → promise_order_said promised item.frame ≡ []
   no-promise promised e = rw (e, and-false) refl
@@ -164,12 +169,14 @@ module _ (item : Item) (h : IsInRange item.frame) where
         (sym (no-promise promised (headers-promise item.frame.body e)))
         (subst (AreRows Any 8 9) (sym (append-nil (opening_order_said opened item))) (rows-opening opened))
     by_headers false e =
-        subst (λ l. AreRows Any 8 9 (l ++ promise_order_said promised item.frame)) (sym (no-opening opened e)) (rows-promise promised)
+        subst (λ l. AreRows Any 8 9 (l ++ promise_order_said promised item.frame)) (sym (no-opening opened e))
+        (rows-promise promised)
 
   rows-connection : (now : ConnectionState) → AreRows Any 6 21 (connection_said now item)
   rows-connection now =
       rows-append Any 6 9 21 (omega arith) (omega arith) _ _
-      (subst (AreRows Any 6 9) (sym (append_assoc _ (opening_order_said now.opened item) (promise_order_said now.promised item.frame)))
+      (subst (AreRows Any 6 9)
+      (sym (append_assoc _ (opening_order_said now.opened item) (promise_order_said now.promised item.frame)))
       (rows-append Any 6 8 9 (omega arith) (omega arith) _ _
       (any (Only item.frame.stream) 6 8 _
       (rows-append (Only item.frame.stream) 6 7 8 (omega arith) (omega arith) _ _ (rows-length item.frame h.stream _)
@@ -197,8 +204,10 @@ module _ (stream : ℕ) (initial : Sides ℕ) (entry : Stream) (step : Step) (h 
   rows-live_client : (window : WindowStep) → AreRows (Only stream) 24 30 (live_window_said Client stream step window)
   rows-live_client window =
       rows-six (Only stream) 24 _ _ _ _ _ _
-      (of_side Client SettingOverflow _ _ 24 refl) (of_side Client StreamOverrun _ _ 25 refl) (of_side Client StreamOverflow _ _ 26 refl)
-      (of_side Client StreamStallEnd _ _ 27 refl) (of_side Client StreamStallBegin _ _ 28 refl) (of_side Client StreamCredit _ _ 29 refl)
+      (of_side Client SettingOverflow _ _ 24 refl) (of_side Client StreamOverrun _ _ 25 refl)
+      (of_side Client StreamOverflow _ _ 26 refl)
+      (of_side Client StreamStallEnd _ _ 27 refl) (of_side Client StreamStallBegin _ _ 28 refl)
+      (of_side Client StreamCredit _ _ 29 refl)
 
   rows-opened_client : (credit : ℤ) → AreRows (Only stream) 24 30 (opened_window_said Client stream step credit)
   rows-opened_client credit =
@@ -209,8 +218,10 @@ module _ (stream : ℕ) (initial : Sides ℕ) (entry : Stream) (step : Step) (h 
   rows-live_server : (window : WindowStep) → AreRows (Only stream) 30 36 (live_window_said Server stream step window)
   rows-live_server window =
       rows-six (Only stream) 30 _ _ _ _ _ _
-      (of_side Server SettingOverflow _ _ 30 refl) (of_side Server StreamOverrun _ _ 31 refl) (of_side Server StreamOverflow _ _ 32 refl)
-      (of_side Server StreamStallEnd _ _ 33 refl) (of_side Server StreamStallBegin _ _ 34 refl) (of_side Server StreamCredit _ _ 35 refl)
+      (of_side Server SettingOverflow _ _ 30 refl) (of_side Server StreamOverrun _ _ 31 refl)
+      (of_side Server StreamOverflow _ _ 32 refl)
+      (of_side Server StreamStallEnd _ _ 33 refl) (of_side Server StreamStallBegin _ _ 34 refl)
+      (of_side Server StreamCredit _ _ 35 refl)
 
   rows-opened_server : (credit : ℤ) → AreRows (Only stream) 30 36 (opened_window_said Server stream step credit)
   rows-opened_server credit =
@@ -222,13 +233,15 @@ module _ (stream : ℕ) (initial : Sides ℕ) (entry : Stream) (step : Step) (h 
   rows-client =
       rows-choice (Only stream) 24 30 (opens stream entry step) _ _
       (rows-say_of (Only stream) 24 30 _ (window_at_opening Client stream initial step) rows-opened_client)
-      (rows-say_of (Only stream) 24 30 _ entry.window.client (λ before. rows-live_client (window_step Client stream initial step before)))
+      (rows-say_of (Only stream) 24 30 _ entry.window.client
+      (λ before. rows-live_client (window_step Client stream initial step before)))
 
   rows-server : AreRows (Only stream) 30 36 (stream_window_said Server stream initial entry step)
   rows-server =
       rows-choice (Only stream) 30 36 (opens stream entry step) _ _
       (rows-say_of (Only stream) 30 36 _ (window_at_opening Server stream initial step) rows-opened_server)
-      (rows-say_of (Only stream) 30 36 _ entry.window.server (λ before. rows-live_server (window_step Server stream initial step before)))
+      (rows-say_of (Only stream) 30 36 _ entry.window.server
+      (λ before. rows-live_server (window_step Server stream initial step before)))
 
   rows-stream : AreRows (Only stream) 21 36 (stream_said stream initial entry step)
   rows-stream =
@@ -236,12 +249,14 @@ module _ (stream : ℕ) (initial : Sides ℕ) (entry : Stream) (step : Step) (h 
       (rows-append (Only stream) 21 24 30 (omega arith) (omega arith) _ _
       (rows-say_of (Only stream) 21 24 _ step.frame rows-frame) rows-client) rows-server
 
-all-differ : (stream : ℕ) (streams : List ℕ) → NotAmong stream streams → AllByRecursion (λ other. stream ≢ other) streams
+pub all-differ : (stream : ℕ) (streams : List ℕ) → NotAmong stream streams
+    → AllByRecursion (λ other. stream ≢ other) streams
 all-differ stream [] h = tt
 all-differ stream (other ∷ others) h = (h.0, all-differ stream others h.1)
 
 -- two streams differ in place
-streams-apart : (stream low high : ℕ) (x y : Finding) → IsRow (Only stream) low high x → IsRow (λ other. stream ≢ other) low high y → AreApart x y
+streams-apart : (stream low high : ℕ) (x y : Finding) → IsRow (Only stream) low high x
+    → IsRow (λ other. stream ≢ other) low high y → AreApart x y
 streams-apart stream low high x y p q e s = q.stream (sym p.stream ∙ ap place_stream e)
 
 -- what is said of streams that are all different, each of this sort
@@ -251,14 +266,17 @@ module _ (state : PassState) (frame : Frame) where
       AreRows on 21 36 (streams_said streams state frame)
   rows-streams on [] h d all = rows-nil on 21 36
   rows-streams on (stream ∷ streams) h d all =
-      let one = rows-stream stream state.in_force.initial (state.streams stream) (step_of state.in_force frame stream) h.0 in
+      let one =
+      rows-stream stream state.in_force.initial (state.streams stream) (step_of state.in_force frame stream) h.0 in
       let others = rows-streams on streams h.1 d.1 all.1 in
       let differ = rows-streams (λ other. stream ≢ other) streams h.1 d.1 (all-differ stream streams d.0) in
-      let first = rows-wider (Only stream) on 21 36 21 36 (λ s e. subst on (sym e) all.0) (omega arith) (omega arith) _ one in
+      let first =
+      rows-wider (Only stream) on 21 36 21 36 (λ s e. subst on (sym e) all.0) (omega arith) (omega arith) _ one in
       record {
         within = all-append (IsRow on 21 36) _ _ first.within others.within;
         apart = pairs-append AreApart _ _ one.apart others.apart
-            (across-by AreApart (IsRow (Only stream) 21 36) (IsRow (λ other. stream ≢ other) 21 36) (streams-apart stream 21 36) _ _
+            (across-by AreApart (IsRow (Only stream) 21 36) (IsRow (λ other. stream ≢ other) 21 36)
+            (streams-apart stream 21 36) _ _
             one.within differ.within);
       }
 
@@ -276,7 +294,8 @@ rows-apart-at streams state frame small distinct h = all.apart where
       rows-append Any 0 21 36 (omega arith) (omega arith) _ _
       (rows-append Any 0 6 21 (omega arith) (omega arith) _ _
       (any (Only frame.stream) 0 6 _
-      (rows-append (Only frame.stream) 0 5 6 (omega arith) (omega arith) _ _ (rows-local frame h.stream (side_of frame.side state.previous))
+      (rows-append (Only frame.stream) 0 5 6 (omega arith) (omega arith) _ _
+      (rows-local frame h.stream (side_of frame.side state.previous))
       (rows-settings frame h.stream state.in_force)))
       (rows-connection (item_of state frame) h state.connection))
       (rows-streams state frame Any streams small distinct (all-any streams))

@@ -89,8 +89,14 @@ module _ (change : Change) where
     by_tests : (same before : Bool) → (step.number == change.number) ≡ same
         → AllByRecursion IsFilled (with_change steps change)
         → AllByRecursion IsFilled (placed same before step steps change)
-    by_tests true before e ih =
-        (record { has_one = or-true (is_some step.frame); frame = h.0.frame; change = sym (eqb-true step.number change.number e) }, h.1)
+    by_tests true before e ih = (
+      record {
+        has_one = or-true (is_some step.frame);
+        frame = h.0.frame;
+        change = sym (eqb-true step.number change.number e);
+      },
+      h.1,
+    )
     by_tests false true e ih = (record { has_one = refl; frame = tt; change = refl }, h)
     by_tests false false e ih = (h.0, ih)
 
@@ -116,7 +122,8 @@ module _ (change : Change) where
         → changes_in (placed same before step steps change) ≡ change ∷ changes_in (step ∷ steps)
     by_tests true before e f ih =
         let same : step.number ≡ change.number = eqb-true step.number change.number e in
-        ap (λ l. change ∷ l ++ changes_in steps) (sym (free (λ b. absurd (omega (arith, before-test change.number step.number b)))))
+        ap (λ l. change ∷ l ++ changes_in steps)
+        (sym (free (λ b. absurd (omega (arith, before-test change.number step.number b)))))
     by_tests false true e f ih = refl
     by_tests false false e f ih = rw (free (λ b. cc)) ih
 
@@ -204,9 +211,11 @@ changes-above : (n low : ℕ) (now : InForce) (frames : List Frame) → n < low 
     → Above n (change_numbers (changes_from now frames))
 changes-above n low now [] p h = tt
 changes-above n low now (frame ∷ frames) p h =
-    by_taken (taken now frame) (changes-above n (frame.number + 1) (in_force_after now frame) frames (omega (arith, h.0)) h.2) where
+    by_taken (taken now frame)
+    (changes-above n (frame.number + 1) (in_force_after now frame) frames (omega (arith, h.0)) h.2) where
       by_taken : (o : Option Settings) → Above n (change_numbers (changes_from (in_force_after now frame) frames))
-          → Above n (change_numbers (option_to_list (change_taking frame o) ++ changes_from (in_force_after now frame) frames))
+          → Above n (change_numbers
+          (option_to_list (change_taking frame o) ++ changes_from (in_force_after now frame) frames))
       by_taken None rest = rest
       by_taken (Some settings) rest = (omega (arith, h.0), rest)
 
@@ -216,11 +225,13 @@ changes-rising low now [] h = tt
 changes-rising low now (frame ∷ frames) h =
     by_taken (taken now frame) (changes-rising (frame.number + 1) (in_force_after now frame) frames h.2) where
       by_taken : (o : Option Settings) → AreRising (change_numbers (changes_from (in_force_after now frame) frames))
-          → AreRising (change_numbers (option_to_list (change_taking frame o) ++ changes_from (in_force_after now frame) frames))
+          → AreRising (change_numbers
+          (option_to_list (change_taking frame o) ++ changes_from (in_force_after now frame) frames))
       by_taken None rest = rest
       by_taken (Some settings) rest =
           (changes-above frame.number (frame.number + 1) (in_force_after now frame) frames (omega arith) h.2, rest)
 
 pub streams_have_steps_lem : StreamsHaveSteps
 streams_have_steps_lem stream frames h =
-    steps_join_lem (frames_of stream frames) (changes_of frames) (frames-rising 0 stream frames h) (changes-rising 0 initial_in_force frames h)
+    steps_join_lem (frames_of stream frames) (changes_of frames) (frames-rising 0 stream frames h)
+    (changes-rising 0 initial_in_force frames h)

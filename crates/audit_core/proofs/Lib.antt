@@ -22,4 +22,5 @@ pub mod TableRows
 pub mod FrameRows
 pub mod Apart
 pub mod JoinedSteps
+pub mod StreamsMet
 pub mod ErrorSides

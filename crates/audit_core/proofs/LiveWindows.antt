@@ -74,7 +74,8 @@ module _ (d : Side) (stream : ℕ) (initial : Sides ℕ) (number : ℕ) (change 
   -- a frame that opens the stream
   sending-opening : (frame : Frame) (ended : Bool) → ended ≡ false
       → ((stream % 2 == 1) && is_client_headers frame || promises stream frame) ≡ true
-      → IsSending d stream (ended || is_last_of d stream frame) true (window_at_opening d stream initial (at-frame (Some frame)))
+      → IsSending d stream (ended || is_last_of d stream frame) true
+      (window_at_opening d stream initial (at-frame (Some frame)))
   sending-opening frame ended idle opening = by_last (is_last_of d stream frame) refl where
     by_last : (b : Bool) → is_last_of d stream frame ≡ b
         → IsSending d stream (ended || b) true (if b then None else Some (pos (side_of d initial)))
@@ -84,12 +85,14 @@ module _ (d : Side) (stream : ℕ) (initial : Sides ℕ) (number : ℕ) (change 
       live = refl;
       unended = rw idle refl;
       sends =
-          sends-on (is_side Client d) (stream % 2 == 1) (is_client_headers frame) (promises stream frame) _ (stream % 2 == 0) opening e (odd-even stream);
+          sends-on (is_side Client d) (stream % 2 == 1) (is_client_headers frame) (promises stream frame) _
+          (stream % 2 == 0) opening e (odd-even stream);
     }
 
   -- a frame at a stream that it does not open
   sending-frame : (frame : Frame) (ended opened : Bool) (window : Option ℤ) → IsSending d stream ended opened window
-      → IsSending d stream (ended || (opened && is_last_of d stream frame)) opened (window_after d stream initial (at-frame (Some frame)) window)
+      → IsSending d stream (ended || (opened && is_last_of d stream frame)) opened
+      (window_after d stream initial (at-frame (Some frame)) window)
   sending-frame frame ended opened None h =
       record { idle = λ f. rw (h.idle f, f) refl; live = tt; unended = tt; sends = tt }
   sending-frame frame ended opened (Some before) h =
@@ -104,7 +107,8 @@ module _ (d : Side) (stream : ℕ) (initial : Sides ℕ) (number : ℕ) (change 
           live = h.live;
           unended =
               let last : is_last_of d stream frame ≡ false =
-              goes-on (sends_end d frame) (is_reset frame.body) (is_side d frame.side) (is_side Client d) _ (stream % 2 == 0) _ e h.sends in
+              goes-on (sends_end d frame) (is_reset frame.body) (is_side d frame.side) (is_side Client d) _
+              (stream % 2 == 0) _ e h.sends in
               rw (h.unended, last, and-false) refl;
           sends = h.sends;
         }
@@ -115,28 +119,39 @@ Sending d stream entry =
 
 module _ (stream : ℕ) (initial : Sides ℕ) (number : ℕ) (change : Option Change) (entry : Stream) where
   sending-met : (d : Side) (frame : Frame) → Sending d stream entry
-      → IsSending d stream (side_of d entry.life.ended || ((is_opening stream entry.life frame || is_some entry.life.opened) && is_last_of d stream frame))
+      → IsSending d stream
+      (side_of d entry.life.ended
+      || ((is_opening stream entry.life frame || is_some entry.life.opened) && is_last_of d stream frame))
       (is_some (if is_opening stream entry.life frame then Some frame.number else entry.life.opened))
-      (if is_opening stream entry.life frame then window_at_opening d stream initial (at-frame d stream initial number change (Some frame))
-      else window_after d stream initial (at-frame d stream initial number change (Some frame)) (side_of d entry.window))
+      (if is_opening stream entry.life frame
+      then window_at_opening d stream initial (at-frame d stream initial number change (Some frame))
+      else window_after d stream initial (at-frame d stream initial number change (Some frame))
+      (side_of d entry.window))
   sending-met d frame h = by_opening (is_opening stream entry.life frame) refl where
     by_opening : (b : Bool) → is_opening stream entry.life frame ≡ b
-        → IsSending d stream (side_of d entry.life.ended || ((b || is_some entry.life.opened) && is_last_of d stream frame))
+        → IsSending d stream
+        (side_of d entry.life.ended || ((b || is_some entry.life.opened) && is_last_of d stream frame))
         (is_some (if b then Some frame.number else entry.life.opened))
         (if b then window_at_opening d stream initial (at-frame d stream initial number change (Some frame))
-        else window_after d stream initial (at-frame d stream initial number change (Some frame)) (side_of d entry.window))
+        else window_after d stream initial (at-frame d stream initial number change (Some frame))
+        (side_of d entry.window))
     by_opening true e =
-        sending-opening d stream initial number change frame (side_of d entry.life.ended) (h.idle (not-opened entry.life.opened _ e))
+        sending-opening d stream initial number change frame (side_of d entry.life.ended)
+        (h.idle (not-opened entry.life.opened _ e))
         (and-right (is_none entry.life.opened) _ e)
     by_opening false e =
-        sending-frame d stream initial number change frame (side_of d entry.life.ended) (is_some entry.life.opened) (side_of d entry.window) h
+        sending-frame d stream initial number change frame (side_of d entry.life.ended) (is_some entry.life.opened)
+        (side_of d entry.window) h
 
   sending-after : (d : Side) (frame : Option Frame) → Sending d stream entry
-      → Sending d stream (stream_after stream initial entry (record { number = number; frame = frame; change = change }))
+      → Sending d stream (stream_after stream initial entry
+      (record { number = number; frame = frame; change = change }))
   sending-after Client None h =
-      sending-quiet Client stream initial number change entry.life.ended.client (is_some entry.life.opened) entry.window.client h
+      sending-quiet Client stream initial number change entry.life.ended.client
+      (is_some entry.life.opened) entry.window.client h
   sending-after Server None h =
-      sending-quiet Server stream initial number change entry.life.ended.server (is_some entry.life.opened) entry.window.server h
+      sending-quiet Server stream initial number change entry.life.ended.server
+      (is_some entry.life.opened) entry.window.server h
   sending-after Client (Some frame) h = sending-met Client frame h
   sending-after Server (Some frame) h = sending-met Server frame h
 

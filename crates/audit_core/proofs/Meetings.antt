@@ -72,7 +72,8 @@ promise-count (Unreadable kind value) e = cc
 -- a frame that promises a stream
 pub promised-counts : (stream : ℕ) (frame : Frame) → promises stream frame ≡ true → CountsNothing frame.body
 promised-counts stream frame e =
-    promise-count frame.body (and-right (is_side Server frame.side) _ (and-left (is_server_promise frame) _ (and-left _ _ (and-left _ _ e))))
+    promise-count frame.body
+    (and-right (is_side Server frame.side) _ (and-left (is_server_promise frame) _ (and-left _ _ (and-left _ _ e))))
 
 -- a frame that opens a stream
 opening-by : (odd headers promised : Bool) → ((odd && headers) || promised) ≡ true → (headers ≡ false → promised ≡ true)
@@ -86,7 +87,9 @@ opening-counts stream life frame e = by_headers (is_client_headers frame) refl w
   by_headers : (b : Bool) → is_client_headers frame ≡ b → CountsNothing frame.body
   by_headers true h = headers-count frame.body (and-right (is_side Client frame.side) _ h)
   by_headers false h =
-      promised-counts stream frame (opening-by (stream % 2 == 1) (is_client_headers frame) (promises stream frame) (and-right (is_none life.opened) _ e) h)
+      promised-counts stream frame
+      (opening-by (stream % 2 == 1) (is_client_headers frame) (promises stream frame)
+      (and-right (is_none life.opened) _ e) h)
 
 -- ---- the step of a stream at a frame
 
@@ -124,6 +127,7 @@ module _ (stream : ℕ) (now : InForce) (frame : Frame) where
   step-opened entry = by_test (meets stream frame) where
     by_test : (met : Bool)
         → (option_map_or (life_after stream entry.life) (if met then Some frame else None) entry.life).opened
-        ≡ (if option_map_or (is_opening stream entry.life) (if met then Some frame else None) false then Some frame.number else entry.life.opened)
+        ≡ (if option_map_or (is_opening stream entry.life) (if met then Some frame else None) false
+        then Some frame.number else entry.life.opened)
     by_test true = refl
     by_test false = refl

@@ -91,12 +91,15 @@ full-sorts streams state (frame ∷ frames) =
     let sr = settings_run_from rest.in_force frames in
     let tr = flat_map (λ stream. alone stream rest frames) streams in
     let cr = block_run rest.connection (items_from rest frames) in
-    in_order-alike (in_order (((l ++ s) ++ c) ++ t)) (((l ++ s) ++ c) ++ t) (full_from streams rest frames) (((lr ++ sr) ++ tr) ++ cr)
+    in_order-alike (in_order (((l ++ s) ++ c) ++ t)) (((l ++ s) ++ c) ++ t) (full_from streams rest frames)
+    (((lr ++ sr) ++ tr) ++ cr)
     (in_order-in_order (((l ++ s) ++ c) ++ t)) (full-sorts streams rest frames)
     ∙ four_sorts l s t c lr sr tr cr
-    ∙ in_order-alike (((l ++ lr) ++ (s ++ sr)) ++ (t ++ tr)) (((in_order l ++ lr) ++ (s ++ sr)) ++ flat_map (λ stream. alone stream state (frame ∷ frames)) streams)
+    ∙ in_order-alike (((l ++ lr) ++ (s ++ sr)) ++ (t ++ tr))
+    (((in_order l ++ lr) ++ (s ++ sr)) ++ flat_map (λ stream. alone stream state (frame ∷ frames)) streams)
     (c ++ cr) (in_order c ++ cr)
-    (in_order-alike ((l ++ lr) ++ (s ++ sr)) ((in_order l ++ lr) ++ (s ++ sr)) (t ++ tr) (flat_map (λ stream. alone stream state (frame ∷ frames)) streams)
+    (in_order-alike ((l ++ lr) ++ (s ++ sr)) ((in_order l ++ lr) ++ (s ++ sr)) (t ++ tr)
+    (flat_map (λ stream. alone stream state (frame ∷ frames)) streams)
     (same_left (l ++ lr) (in_order l ++ lr) (s ++ sr) (same_left l (in_order l) lr (sym (in_order-in_order l))))
     (streams-apart
     (λ stream. stream_said stream state.in_force.initial (state.streams stream) (step_of state.in_force frame stream))
@@ -124,9 +127,11 @@ groups-joined : (frames : List Frame) (groups : List (List ℕ))
 groups-joined frames [] = refl
 groups-joined frames (group ∷ groups) =
     ap (λ l. group_run frames group ++ l) (groups-joined frames groups)
-    ∙ sym (flat_map-append (λ stream. stream_run stream (frames_of stream frames) (changes_of frames)) group (joined groups))
+    ∙ sym (flat_map-append (λ stream. stream_run stream (frames_of stream frames) (changes_of frames)) group
+    (joined groups))
 
-group-alone : (frames : List Frame) (streams : List ℕ) → IsOrderly frames → group_run frames streams ≡ flat_map (λ stream. alone stream pass_start frames) streams
+group-alone : (frames : List Frame) (streams : List ℕ) → IsOrderly frames → group_run frames streams
+    ≡ flat_map (λ stream. alone stream pass_start frames) streams
 group-alone frames [] h = refl
 group-alone frames (stream ∷ streams) h =
     ap (λ l. l ++ group_run frames streams) (run-alone stream frames h)
@@ -134,13 +139,15 @@ group-alone frames (stream ∷ streams) h =
 
 pub parts_make_full_lem : PartsMakeFull
 parts_make_full_lem frames groups blocks h grouped cut =
-    let by_stream : flat_map (group_run frames) groups ≡ flat_map (λ stream. alone stream pass_start frames) (streams_of frames) =
+    let by_stream : flat_map (group_run frames) groups ≡ flat_map (λ stream. alone stream pass_start frames)
+    (streams_of frames) =
     groups-joined frames groups ∙ ap (group_run frames) grouped ∙ group-alone frames (streams_of frames) h in
     let by_block : block_runs connection_start blocks ≡ block_run connection_start (items_from pass_start frames) =
     block_runs-joined connection_start blocks ∙ ap (block_run connection_start) cut in
     sym (full-in_order frames h)
     ∙ full-sorts (streams_of frames) pass_start frames
     ∙ sym (ap in_order
-    (ap (λ l. ((local_run_from pass_start.previous frames ++ settings_run_from pass_start.in_force frames) ++ l) ++ block_runs connection_start blocks) by_stream
+    (ap (λ l. ((local_run_from pass_start.previous frames ++ settings_run_from pass_start.in_force frames)
+    ++ l) ++ block_runs connection_start blocks) by_stream
     ∙ ap (λ l. ((local_run_from pass_start.previous frames ++ settings_run_from pass_start.in_force frames)
     ++ flat_map (λ stream. alone stream pass_start frames) (streams_of frames)) ++ l) by_block))

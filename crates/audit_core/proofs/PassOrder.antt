@@ -204,7 +204,8 @@ at-said streams state frame small h =
     at-in_order frame.number _
     (at-append frame.number _ _
     (at-append frame.number _ _
-    (at-append frame.number _ _ (at-local frame h.stream (side_of frame.side state.previous)) (at-settings frame h.stream state.in_force))
+    (at-append frame.number _ _ (at-local frame h.stream (side_of frame.side state.previous))
+    (at-settings frame h.stream state.in_force))
     (at-connection state.connection (item_of state frame) h))
     (at-streams streams state frame small))
 
@@ -249,7 +250,8 @@ from-full_from streams state low [] small h = tt
 from-full_from streams state low (frame ∷ frames) small h =
     from-append low (said streams state frame) (full_from streams (next state frame) frames)
     (from-at low frame.number _ h.0 (at-said streams state frame small h.1).within)
-    (from-from low (frame.number + 1) _ (omega arith) (from-full_from streams (next state frame) (frame.number + 1) frames small h.2))
+    (from-from low (frame.number + 1) _ (omega arith)
+    (from-full_from streams (next state frame) (frame.number + 1) frames small h.2))
 
 -- the whole pass stands in order
 pub in_order-full_from : (streams : List ℕ) (state : PassState) (low : ℕ) (frames : List Frame) → AreStreams streams →
@@ -288,7 +290,8 @@ pub streams-streams_of : (low : ℕ) (frames : List Frame) → IsOrderlyFrom low
 streams-streams_of low [] h = tt
 streams-streams_of low (frame ∷ frames) h =
     streams-first_of frame.stream _ h.1.stream
-    (streams-first_of (promised_by frame) _ (promised_by-small frame h.1.promised) (streams-streams_of (frame.number + 1) frames h.2))
+    (streams-first_of (promised_by frame) _ (promised_by-small frame h.1.promised)
+    (streams-streams_of (frame.number + 1) frames h.2))
 
 pub full-in_order : (frames : List Frame) → IsOrderly frames → in_order (full frames) ≡ full frames
 full-in_order frames h =

@@ -23,8 +23,10 @@ alone stream state (frame ∷ frames) =
     ++ alone stream (next state frame) frames
 
 -- one step of the run, whether it counts as a step or not
-one_step : (stream number : ℕ) (initial : Sides ℕ) (entry : Stream) (o : Option Frame) (c : Option Change) (rest : List Step) (later : List Finding)
-    → stream_run_from stream (initial_after c initial) (stream_after stream initial entry (record { number = number; frame = o; change = c })) rest ≡ later
+one_step : (stream number : ℕ) (initial : Sides ℕ) (entry : Stream) (o : Option Frame) (c : Option Change)
+    (rest : List Step) (later : List Finding)
+    → stream_run_from stream (initial_after c initial)
+    (stream_after stream initial entry (record { number = number; frame = o; change = c })) rest ≡ later
     → stream_run_from stream initial entry (step_if_any (record { number = number; frame = o; change = c }) ++ rest)
     ≡ in_order (stream_said stream initial entry (record { number = number; frame = o; change = c })) ++ later
 one_step stream number initial entry None None rest later h =
@@ -32,11 +34,14 @@ one_step stream number initial entry None None rest later h =
     ∙ h
     ∙ ap (λ said. in_order said ++ later) (sym (stream_said-quiet stream initial number None entry refl))
 one_step stream number initial entry (Some frame) None rest later h =
-    ap (λ l. in_order (stream_said stream initial entry (record { number = number; frame = Some frame; change = None })) ++ l) h
+    ap (λ l. in_order (stream_said stream initial entry
+    (record { number = number; frame = Some frame; change = None })) ++ l) h
 one_step stream number initial entry (Some frame) (Some change) rest later h =
-    ap (λ l. in_order (stream_said stream initial entry (record { number = number; frame = Some frame; change = Some change })) ++ l) h
+    ap (λ l. in_order (stream_said stream initial entry
+    (record { number = number; frame = Some frame; change = Some change })) ++ l) h
 one_step stream number initial entry None (Some change) rest later h =
-    ap (λ l. in_order (stream_said stream initial entry (record { number = number; frame = None; change = Some change })) ++ l) h
+    ap (λ l. in_order (stream_said stream initial entry
+    (record { number = number; frame = None; change = Some change })) ++ l) h
 
 -- the run over the steps at which something is there
 run_from-alone : (stream : ℕ) (state : PassState) (frames : List Frame)
@@ -44,7 +49,8 @@ run_from-alone : (stream : ℕ) (state : PassState) (frames : List Frame)
     ≡ alone stream state frames
 run_from-alone stream state [] = refl
 run_from-alone stream state (frame ∷ frames) =
-    one_step stream frame.number state.in_force.initial (state.streams stream) (step_of state.in_force frame stream).frame (change_of state.in_force frame)
+    one_step stream frame.number state.in_force.initial (state.streams stream)
+    (step_of state.in_force frame stream).frame (change_of state.in_force frame)
     (steps_from stream (in_force_after state.in_force frame) frames) (alone stream (next state frame) frames)
     (run_from-alone stream (next state frame) frames)
 
@@ -52,5 +58,6 @@ run_from-alone stream state (frame ∷ frames) =
 pub run-alone : (stream : ℕ) (frames : List Frame) → IsOrderly frames
     → stream_run stream (frames_of stream frames) (changes_of frames) ≡ alone stream pass_start frames
 run-alone stream frames h =
-    ap (stream_run_from stream initial_in_force.initial idle_stream) (steps_of-steps_from 0 stream initial_in_force frames h)
+    ap (stream_run_from stream initial_in_force.initial idle_stream)
+    (steps_of-steps_from 0 stream initial_in_force frames h)
     ∙ run_from-alone stream pass_start frames

@@ -44,9 +44,11 @@ with_change-from : (low : ℕ) (steps : List Step) (change : Change) → StepsFr
     → StepsFrom low (with_change steps change)
 with_change-from low [] change h p = (p, tt)
 with_change-from low (step ∷ steps) change h p =
-    by_tests (step.number == change.number) (nat_lt change.number step.number) (with_change-from low steps change h.1 p) where
+    by_tests (step.number == change.number) (nat_lt change.number step.number)
+    (with_change-from low steps change h.1 p) where
       by_tests : (same before : Bool) → StepsFrom low (with_change steps change)
-          → StepsFrom low (if same then record step { change = Some change } ∷ steps else (if before then change_step change ∷ step ∷ steps else step ∷ with_change steps change))
+          → StepsFrom low (if same then record step { change = Some change } ∷ steps
+          else (if before then change_step change ∷ step ∷ steps else step ∷ with_change steps change))
       by_tests true before rest = h
       by_tests false true rest = (p, h)
       by_tests false false rest = (h.0, rest)
@@ -66,7 +68,10 @@ with_change-first : (steps : List Step) (change : Change) → StepsFrom (change.
     → with_change steps change ≡ change_step change ∷ steps
 with_change-first [] change h = refl
 with_change-first (step ∷ steps) change h =
-    rw (differ_test_back change.number step.number (omega (arith, h.0)), less_test change.number step.number (omega (arith, h.0))) refl
+    rw (
+      differ_test_back change.number step.number (omega (arith, h.0)),
+      less_test change.number step.number (omega (arith, h.0)),
+    ) refl
 
 -- a frame before all changes comes first
 steps_of-first : (frame : Frame) (frames : List Frame) (changes : List Change) → ChangesFrom (frame.number + 1) changes
@@ -74,7 +79,10 @@ steps_of-first : (frame : Frame) (frames : List Frame) (changes : List Change) �
 steps_of-first frame frames [] h = refl
 steps_of-first frame frames (change ∷ changes) h =
     ap (λ steps. with_change steps change) (steps_of-first frame frames changes h.1)
-    ∙ rw (differ_test frame.number change.number (omega (arith, h.0)), not_less_test frame.number change.number (omega (arith, h.0))) refl
+    ∙ rw (
+      differ_test frame.number change.number (omega (arith, h.0)),
+      not_less_test frame.number change.number (omega (arith, h.0)),
+    ) refl
 
 -- the steps at which something is there
 abbrev pub step_if_any : Step → List Step
@@ -107,7 +115,8 @@ changes-later : (low high : ℕ) (now : InForce) (frames : List Frame) → low �
     → ChangesFrom low (changes_from now frames)
 changes-later low high now [] p h = tt
 changes-later low high now (frame ∷ frames) p h =
-    by_taken (taken now frame) (changes-later low (frame.number + 1) (in_force_after now frame) frames (omega (arith, h.0)) h.2) where
+    by_taken (taken now frame)
+    (changes-later low (frame.number + 1) (in_force_after now frame) frames (omega (arith, h.0)) h.2) where
       by_taken : (o : Option Settings) → ChangesFrom low (changes_from (in_force_after now frame) frames)
           → ChangesFrom low (option_to_list (change_taking frame o) ++ changes_from (in_force_after now frame) frames)
       by_taken None rest = rest
@@ -124,22 +133,37 @@ steps_of-steps_from low stream now (frame ∷ frames) h =
       later-from =
           changes-later (frame.number + 1) (frame.number + 1) (in_force_after now frame) frames (omega arith) h.2
 
-      steps-from : StepsFrom (frame.number + 1) (steps_of (frames_of stream frames) (changes_from (in_force_after now frame) frames))
+      steps-from : StepsFrom (frame.number + 1)
+          (steps_of (frames_of stream frames) (changes_from (in_force_after now frame) frames))
       steps-from =
           steps_of-from (frame.number + 1) (frames_of stream frames) (changes_from (in_force_after now frame) frames)
-          (frames_of-from (frame.number + 1) stream frames (frames-later (frame.number + 1) (frame.number + 1) frames (omega arith) h.2)) later-from
+          (frames_of-from (frame.number + 1) stream frames
+          (frames-later (frame.number + 1) (frame.number + 1) frames (omega arith) h.2)) later-from
 
       by_cases : (met : Bool) (o : Option Settings)
           → steps_of (frames_of stream frames) (changes_from (in_force_after now frame) frames)
           ≡ steps_from stream (in_force_after now frame) frames
-          → steps_of (if met then frame ∷ frames_of stream frames else frames_of stream frames) (option_to_list (change_taking frame o) ++ changes_from (in_force_after now frame) frames)
-          ≡ step_if_any (record { number = frame.number; frame = (if met then Some frame else None); change = change_taking frame o }) ++ steps_from stream (in_force_after now frame) frames
+          → steps_of (if met then frame ∷ frames_of stream frames else frames_of stream frames)
+          (option_to_list (change_taking frame o) ++ changes_from (in_force_after now frame) frames)
+          ≡ step_if_any (record {
+            number = frame.number;
+            frame = (if met then Some frame else None);
+            change = change_taking frame o;
+          }) ++ steps_from stream (in_force_after now frame) frames
       by_cases true None ih =
-          steps_of-first frame (frames_of stream frames) (changes_from (in_force_after now frame) frames) later-from ∙ ap (λ steps. frame_step frame ∷ steps) ih
+          steps_of-first frame (frames_of stream frames) (changes_from (in_force_after now frame) frames) later-from
+          ∙ ap (λ steps. frame_step frame ∷ steps) ih
       by_cases true (Some settings) ih =
-          ap (λ steps. with_change steps (change_by frame settings)) (steps_of-first frame (frames_of stream frames) (changes_from (in_force_after now frame) frames) later-from)
-          ∙ rw (same_test frame.number) (ap (λ steps. record { number = frame.number; frame = Some frame; change = Some (change_by frame settings) } ∷ steps) ih)
+          ap (λ steps. with_change steps (change_by frame settings))
+          (steps_of-first frame (frames_of stream frames) (changes_from (in_force_after now frame) frames) later-from)
+          ∙ rw (same_test frame.number)
+          (ap (λ steps. record {
+            number = frame.number;
+            frame = Some frame;
+            change = Some (change_by frame settings);
+          } ∷ steps) ih)
       by_cases false None ih = ih
       by_cases false (Some settings) ih =
-          with_change-first (steps_of (frames_of stream frames) (changes_from (in_force_after now frame) frames)) (change_by frame settings) steps-from
+          with_change-first (steps_of (frames_of stream frames) (changes_from (in_force_after now frame) frames))
+          (change_by frame settings) steps-from
           ∙ ap (λ steps. change_step (change_by frame settings) ∷ steps) ih

@@ -19,11 +19,13 @@ use Rattle.audit_core.proofs.PassOrder.{rank-small}
 -- grants 0 in a row of the client's window.
 abbrev client_rows : List ℕ
 client_rows =
-    0 ∷ 1 ∷ 6 ∷ 2 ∷ 3 ∷ 3 ∷ 3 ∷ 4 ∷ 21 ∷ 8 ∷ 15 ∷ 10 ∷ 24 ∷ 6 ∷ 22 ∷ 11 ∷ 25 ∷ 23 ∷ 26 ∷ 5 ∷ 3 ∷ 12 ∷ 13 ∷ 27 ∷ 28 ∷ 14 ∷ 29 ∷ []
+    0 ∷ 1 ∷ 6 ∷ 2 ∷ 3 ∷ 3 ∷ 3 ∷ 4 ∷ 21 ∷ 8 ∷ 15 ∷ 10 ∷ 24 ∷ 6 ∷ 22 ∷ 11 ∷ 25 ∷ 23 ∷ 26
+    ∷ 5 ∷ 3 ∷ 12 ∷ 13 ∷ 27 ∷ 28 ∷ 14 ∷ 29 ∷ []
 
 abbrev server_rows : List ℕ
 server_rows =
-    0 ∷ 1 ∷ 6 ∷ 2 ∷ 3 ∷ 3 ∷ 3 ∷ 7 ∷ 21 ∷ 8 ∷ 9 ∷ 16 ∷ 30 ∷ 6 ∷ 22 ∷ 17 ∷ 31 ∷ 23 ∷ 32 ∷ 5 ∷ 3 ∷ 18 ∷ 19 ∷ 33 ∷ 34 ∷ 20 ∷ 35 ∷ []
+    0 ∷ 1 ∷ 6 ∷ 2 ∷ 3 ∷ 3 ∷ 3 ∷ 7 ∷ 21 ∷ 8 ∷ 9 ∷ 16 ∷ 30 ∷ 6 ∷ 22 ∷ 17 ∷ 31 ∷ 23 ∷ 32
+    ∷ 5 ∷ 3 ∷ 18 ∷ 19 ∷ 33 ∷ 34 ∷ 20 ∷ 35 ∷ []
 
 abbrev pub row_at : Side → (rank : ℕ) → ℕ
 row_at Client rank = get_or client_rows rank 0
@@ -94,10 +96,13 @@ module _ (on : ℕ → Type 0) where
       AreRows on low mid xs → AreRows on mid high ys → AreRows on low high (xs ++ ys)
   rows-append low mid high p q xs ys a b = record {
     within = all-append (IsRow on low high) xs ys
-        (all-map (IsRow on low mid) (IsRow on low high) (row-wider on on low mid low high (λ s h. h) (omega arith) q) xs a.within)
-        (all-map (IsRow on mid high) (IsRow on low high) (row-wider on on mid high low high (λ s h. h) p (omega arith)) ys b.within);
+        (all-map (IsRow on low mid) (IsRow on low high)
+        (row-wider on on low mid low high (λ s h. h) (omega arith) q) xs a.within)
+        (all-map (IsRow on mid high) (IsRow on low high)
+        (row-wider on on mid high low high (λ s h. h) p (omega arith)) ys b.within);
     apart = pairs-append AreApart xs ys a.apart b.apart
-        (across-by AreApart (IsRow on low mid) (IsRow on mid high) (rows-apart on low mid high) xs ys a.within b.within);
+        (across-by AreApart (IsRow on low mid) (IsRow on mid high)
+        (rows-apart on low mid high) xs ys a.within b.within);
   }
 
   pub rows-three : (low : ℕ) (a b c : List Finding) → AreRows on low (low + 1) a → AreRows on (low + 1) (low + 2) b →

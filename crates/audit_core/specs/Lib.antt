@@ -12,4 +12,5 @@ pub mod PartsLaw
 pub mod StopLaw
 pub mod ApartLaw
 pub mod StepsLaw
+pub mod StreamsLaw
 pub mod code

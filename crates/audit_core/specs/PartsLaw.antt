@@ -19,7 +19,8 @@ joined parts = flat_map (λ part. part) parts
 -- the local faults, the unmatched acknowledgements, the findings of all groups of streams and those of all blocks
 abbrev pub parts_of : List Frame → (groups : List (List ℕ)) → (blocks : List (List Item)) → List Finding
 parts_of frames groups blocks =
-    ((local_run frames ++ settings_run frames) ++ flat_map (group_run frames) groups) ++ block_runs connection_start blocks
+    ((local_run frames ++ settings_run frames) ++ flat_map (group_run frames) groups)
+    ++ block_runs connection_start blocks
 
 -- all findings of a connection are those of its parts, put in order
 abbrev pub PartsMakeFull : Type 0

@@ -30,7 +30,8 @@ pub record AreJoined (frames : List Frame) (changes : List Change) (steps : List
 -- frames and changes with rising numbers are joined
 abbrev pub StepsJoinFramesAndChanges : Type 0
 StepsJoinFramesAndChanges = (frames : List Frame) (changes : List Change) →
-    AreRising (map (λ (frame : Frame). frame.number) frames) → AreRising (map (λ (change : Change). change.number) changes) →
+    AreRising (map (λ (frame : Frame). frame.number) frames) →
+    AreRising (map (λ (change : Change). change.number) changes) →
     AreJoined frames changes (steps_of frames changes)
 
 -- such are the frames of each stream and the changes of a connection

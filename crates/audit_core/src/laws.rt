@@ -27,6 +27,14 @@ pub fn steps_join_frames_and_changes()
     ensures streams { StreamsHaveSteps }
 {}
 
+ghost use Rattle.audit_core.specs.StreamsLaw.{StreamsAreThoseMet, StreamsAreNamedOnce};
+
+/// The streams that the pass looks at are those other than 0 that its frames meet, each once.
+pub fn streams_are_those_met()
+    ensures met { StreamsAreThoseMet }
+    ensures once { StreamsAreNamedOnce }
+{}
+
 ghost use Rattle.audit_core.specs.PartsLaw.{PartsMakeFull};
 
 /// All findings of a connection's frames are, put in order, the local faults, the unmatched acknowledgements, the
