@@ -79,7 +79,7 @@ fn negative_windows(rt: HostRuntime) -> Result<(), Fail> {
     )
 }
 
-/// The server promises a stream, below the row of a later one, and uses it; the client resets it.
+/// The server promises two streams and uses one; the client grants on the other and resets the first.
 #[test]
 fn promised_streams(rt: HostRuntime) -> Result<(), Fail> {
     let script = [
