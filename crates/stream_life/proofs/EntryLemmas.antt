@@ -1,7 +1,7 @@
 -- The life of a stream goes along with the pass's entry of it, step by step.
-use Rattle.std.proofs.Common.{◌≡◌, ℕ, ℤ, pos, ◌%◌, Bool, true, false, ◌==◌, ◌&&◌, ◌||◌, not, if◌then◌else◌, nat_lt, List, [], ◌∷◌, ◌++◌, Option, Some, None, is_some, is_none, refl, sym, ap, ◌∙◌, subst}
-use Rattle.std.specs.Option.{option_map_or, option_to_list, ForSome}
-use Rattle.std.proofs.lemmas.Option.{none-some, same_Some}
+use Rattle.std.proofs.Common.{◌≡◌, ℕ, ℤ, pos, Bool, true, false, ◌==◌, ◌&&◌, ◌||◌, not, if◌then◌else◌, nat_lt, List, [], ◌∷◌, ◌++◌, Option, Some, None, is_some, is_none, refl, sym, ap, ◌∙◌, subst}
+use Rattle.std.specs.Option.{option_map_or, option_to_list}
+use Rattle.std.proofs.lemmas.Option.{none-some}
 use Rattle.audit_terms.specs.declared.sides.Side.{Side}
 use Rattle.audit_terms.specs.declared.sides.Side.TheVariants.{Client, Server}
 use Rattle.audit_terms.specs.declared.sides.Sides.{Sides}
@@ -9,18 +9,13 @@ use Rattle.audit_terms.specs.declared.frames.Frame.{Frame}
 use Rattle.audit_terms.specs.declared.items.Change.{Change}
 use Rattle.audit_terms.specs.declared.items.Step.{Step}
 use Rattle.audit_terms.specs.declared.streams.Stream.{Stream}
-use Rattle.audit_terms.specs.Side.{is_side}
 use Rattle.audit_terms.specs.Sides.{side_of, each_side}
-use Rattle.audit_terms.specs.Frame.{is_reset, is_headers, sends_end}
+use Rattle.audit_terms.specs.Life.{is_opening, is_last_of, ends_window}
 use Rattle.audit_terms.specs.InForce.{initial_in_force}
-use Rattle.audit_terms.specs.Stream.{idle_stream, opens, is_overflowing_grant, counted, window_at_opening, window_after, initial_after, stream_after, stream_after_all}
+use Rattle.audit_terms.specs.Stream.{idle_stream, is_overflowing_grant, counted, window_at_opening, window_after, initial_after, stream_after, stream_after_all}
 use Rattle.audit_terms.specs.Run.{change_step, with_change, steps_of, stream_at_end}
-use Rattle.stream_life.specs.Life.{StreamLife, idle_life, is_opening, is_live_after, life_after_all}
+use Rattle.stream_life.specs.Life.{StreamByFrames, unmet, is_live_after, after_all}
 use Rattle.stream_life.specs.Entry.{overflows_over, has_overflowed, IsSameLife, LifeIsTheEntry}
-
-and-false : (b : Bool) → (b && false) ≡ false
-and-false true = refl
-and-false false = refl
 
 or-false : (b : Bool) → (b || false) ≡ b
 or-false true = refl
@@ -30,46 +25,50 @@ or_assoc : (a b c : Bool) → ((a || b) || c) ≡ (a || (b || c))
 or_assoc true b c = refl
 or_assoc false b c = refl
 
-and-right : (a b : Bool) → (a && b) ≡ true → b ≡ true
-and-right true b e = e
-and-right false b e = cc
+and-false : (b : Bool) → (b && false) ≡ false
+and-false true = refl
+and-false false = refl
 
 and-left : (a b : Bool) → (a && b) ≡ true → a ≡ true
 and-left true b e = refl
 and-left false b e = e
 
--- the life with an entry's opening and ends
-abbrev life_with : ℕ → Stream → Sides Bool → StreamLife
-life_with stream entry live = record { stream = stream; opened = entry.opened; ended = entry.ended; live = live }
+none-opened : (o : Option ℕ) → is_none o ≡ true → o ≡ None
+none-opened None e = refl
+none-opened (Some n) e = cc
 
--- a side's window is live where it is live in the life and has not overflowed; before the opening it is neither
+-- the stream with an entry's life
+abbrev known_by : ℕ → Stream → Sides Bool → StreamByFrames
+known_by stream entry live = record { stream = stream; life = entry.life; live = live }
+
+-- a side's window is live where it is live by the frames and has not overflowed; before the opening it is neither
 record IsAlike (entry : Stream) (live overflowed : Side → Bool) : Type 0 where
   alive : (d : Side) → is_some (side_of d entry.window) ≡ (live d && not (overflowed d))
-  dead : (d : Side) → entry.opened ≡ None → (live d ≡ false) × (overflowed d ≡ false)
+  dead : (d : Side) → entry.life.opened ≡ None → (live d ≡ false) × (overflowed d ≡ false)
 
 -- ---- one window at a step with a frame
 
-window-alike : (opening client_ends ends resets : Bool) (live overflowed : Bool) (overflow : ℤ → Bool) (count : ℤ → ℤ) (begin : ℤ) (window : Option ℤ)
+window-alike : (opening last ends : Bool) (live overflowed : Bool) (overflow : ℤ → Bool) (count : ℤ → ℤ) (begin : ℤ) (window : Option ℤ)
     (after : Option ℤ → Option ℤ)
-    → after None ≡ None → ((before : ℤ) → after (Some before) ≡ (if (ends || resets) || overflow before then None else Some (count before)))
-    → is_some window ≡ (live && not overflowed) → (opening ≡ true → (live ≡ false) × (overflowed ≡ false)) → (opening ≡ true → client_ends ≡ ends)
-    → is_some (if opening then (if client_ends then None else Some begin) else after window)
-    ≡ ((if opening then not ends else (live && not (ends || resets))) && not (overflowed || option_map_or overflow window false))
-window-alike true client_ends ends resets live overflowed overflow count begin None after an ab same dead at =
-    rw (at refl, (dead refl).1) (at_opening ends) where
+    → after None ≡ None → ((before : ℤ) → after (Some before) ≡ (if ends || overflow before then None else Some (count before)))
+    → is_some window ≡ (live && not overflowed) → (opening ≡ true → (live ≡ false) × (overflowed ≡ false))
+    → is_some (if opening then (if last then None else Some begin) else after window)
+    ≡ ((if opening then not last else (live && not ends)) && not (overflowed || option_map_or overflow window false))
+window-alike true last ends live overflowed overflow count begin None after an ab same dead =
+    rw (dead refl).1 (at_opening last) where
       at_opening : (e : Bool) → is_some (if e then None else Some begin) ≡ (not e && not (false || false))
       at_opening true = refl
       at_opening false = refl
-window-alike true client_ends ends resets live overflowed overflow count begin (Some before) after an ab same dead at =
+window-alike true last ends live overflowed overflow count begin (Some before) after an ab same dead =
     let f : true ≡ false = same ∙ rw ((dead refl).0) refl in cc
-window-alike false client_ends ends resets live overflowed overflow count begin None after an ab same dead at =
-    rw an (gone live overflowed (ends || resets) same) where
+window-alike false last ends live overflowed overflow count begin None after an ab same dead =
+    rw an (gone live overflowed ends same) where
       gone : (l o e : Bool) → false ≡ (l && not o) → false ≡ ((l && not e) && not (o || false))
       gone false o e h = refl
       gone true true e h = sym (and-false (not e))
       gone true false e h = cc
-window-alike false client_ends ends resets live overflowed overflow count begin (Some before) after an ab same dead at =
-    rw (ab before) (lives live overflowed (ends || resets) (overflow before) same) where
+window-alike false last ends live overflowed overflow count begin (Some before) after an ab same dead =
+    rw (ab before) (lives live overflowed ends (overflow before) same) where
       lives : (l o e v : Bool) → true ≡ (l && not o) → is_some (if e || v then None else Some (count before)) ≡ ((l && not e) && not (o || v))
       lives false o e v h = cc
       lives true true e v h = cc
@@ -80,93 +79,57 @@ window-alike false client_ends ends resets live overflowed overflow count begin 
 -- ---- a step with a frame
 
 -- the same step, spelled out
-abbrev frame_at : Frame → Option Change → Step
-frame_at frame change = record { number = frame.number; frame = Some frame; change = change }
+abbrev frame_at : ℕ → Frame → Option Change → Step
+frame_at number frame change = record { number = number; frame = Some frame; change = change }
 
 -- did a grant of the step overflow side d's window?
 abbrev overflowed_by : Side → ℕ → Sides ℕ → Stream → Step → Bool
 overflowed_by d stream initial entry step = option_map_or (is_overflowing_grant d stream initial step) (side_of d entry.window) false
-
--- an opening frame is the client's
-opening-client : (stream : ℕ) (entry : Stream) (live : Sides Bool) (frame : Frame) → is_opening (life_with stream entry live) frame ≡ true
-    → (is_none entry.opened ≡ true) × (is_side Client frame.side ≡ true)
-opening-client stream entry live frame e = (
-  and-left _ _ (and-left (is_none entry.opened && (stream % 2 == 1)) _ e),
-  and-left (is_side Client frame.side) (is_headers frame.body) (and-right (is_none entry.opened && (stream % 2 == 1)) _ e),
-)
-
-none-opened : (o : Option ℕ) → is_none o ≡ true → o ≡ None
-none-opened None e = refl
-none-opened (Some n) e = cc
-
-client-only : (s : Side) → is_side Client s ≡ true → is_side Server s ≡ false
-client-only Client e = refl
-client-only Server e = cc
-
--- only the client can end its side with the opening frame
-client-ends : (d : Side) (frame : Frame) → is_side Client frame.side ≡ true → (is_side d Client && sends_end Client frame) ≡ sends_end d frame
-client-ends Client frame e = refl
-client-ends Server frame e = sym (rw (client-only frame.side e) refl)
 
 no_window : (overflow : ℤ → Bool) (window : Option ℤ) → is_some window ≡ false → option_map_or overflow window false ≡ false
 no_window overflow None e = refl
 no_window overflow (Some before) e = cc
 
 -- a stream that the frame does not open stays as it was before any opening
-still_dead : (stream : ℕ) (initial : Sides ℕ) (entry : Stream) (live : Sides Bool) (overflowed : Side → Bool) (frame : Frame) (change : Option Change)
-    → IsAlike entry (λ d. side_of d live) overflowed → (d : Side) (here : Bool) → is_opening (life_with stream entry live) frame ≡ here
-    → (if here then Some frame.number else entry.opened) ≡ None
-    → (is_live_after d (life_with stream entry live) frame ≡ false) × ((overflowed d || overflowed_by d stream initial entry (frame_at frame change)) ≡ false)
-still_dead stream initial entry live overflowed frame change alike d true at e = absurd (none-some frame.number (sym e))
-still_dead stream initial entry live overflowed frame change alike d false at e =
+still_dead : (stream number : ℕ) (initial : Sides ℕ) (entry : Stream) (live : Sides Bool) (overflowed : Side → Bool) (frame : Frame) (change : Option Change)
+    → IsAlike entry (λ d. side_of d live) overflowed → (d : Side) (here : Bool) → is_opening stream entry.life frame ≡ here
+    → (if here then Some frame.number else entry.life.opened) ≡ None
+    → (is_live_after d (known_by stream entry live) frame ≡ false) × ((overflowed d || overflowed_by d stream initial entry (frame_at number frame change)) ≡ false)
+still_dead stream number initial entry live overflowed frame change alike d true at e = absurd (none-some frame.number (sym e))
+still_dead stream number initial entry live overflowed frame change alike d false at e =
     let dead = alike.dead d e in
     let gone : is_some (side_of d entry.window) ≡ false = alike.alive d ∙ rw dead.0 refl in
-    (rw (at, dead.0) refl, rw (dead.1, no_window (is_overflowing_grant d stream initial (frame_at frame change)) (side_of d entry.window) gone) refl)
+    (rw (at, dead.0) refl, rw (dead.1, no_window (is_overflowing_grant d stream initial (frame_at number frame change)) (side_of d entry.window) gone) refl)
 
-alike-frame : (stream : ℕ) (initial : Sides ℕ) (entry : Stream) (live : Sides Bool) (overflowed : Side → Bool) (frame : Frame) (change : Option Change)
+alike-frame : (stream number : ℕ) (initial : Sides ℕ) (entry : Stream) (live : Sides Bool) (overflowed : Side → Bool) (frame : Frame) (change : Option Change)
     → IsAlike entry (λ d. side_of d live) overflowed
-    → IsAlike (stream_after stream initial entry (frame_at frame change))
-    (λ d. is_live_after d (life_with stream entry live) frame)
-    (λ d. overflowed d || overflowed_by d stream initial entry (frame_at frame change))
-alike-frame stream initial entry live overflowed frame change alike = record { alive = by_side; dead = before } where
-  opening : Bool
-  opening = is_opening (life_with stream entry live) frame
+    → IsAlike (stream_after stream initial entry (frame_at number frame change))
+    (λ d. is_live_after d (known_by stream entry live) frame)
+    (λ d. overflowed d || overflowed_by d stream initial entry (frame_at number frame change))
+alike-frame stream number initial entry live overflowed frame change alike = record { alive = by_side; dead = before } where
+  one : (d : Side) → is_some (if is_opening stream entry.life frame
+      then window_at_opening d stream initial (frame_at number frame change)
+      else window_after d stream initial (frame_at number frame change) (side_of d entry.window))
+      ≡ (is_live_after d (known_by stream entry live) frame && not (overflowed d || overflowed_by d stream initial entry (frame_at number frame change)))
+  one d = window-alike (is_opening stream entry.life frame) (is_last_of d stream frame) (ends_window d frame)
+      (side_of d live) (overflowed d) (is_overflowing_grant d stream initial (frame_at number frame change)) (counted d stream initial (frame_at number frame change))
+      (pos (side_of d initial)) (side_of d entry.window) (window_after d stream initial (frame_at number frame change)) refl (λ before. refl) (alike.alive d)
+      (λ e. alike.dead d (none-opened entry.life.opened (and-left (is_none entry.life.opened) _ e)))
 
-  one : (d : Side) → is_some (if is_opening (life_with stream entry live) frame
-      then window_at_opening d initial (frame_at frame change)
-      else window_after d stream initial (frame_at frame change) (side_of d entry.window))
-      ≡ (is_live_after d (life_with stream entry live) frame && not (overflowed d || overflowed_by d stream initial entry (frame_at frame change)))
-  one d = window-alike (is_opening (life_with stream entry live) frame) (is_side d Client && sends_end Client frame) (sends_end d frame) (is_reset frame.body)
-      (side_of d live) (overflowed d) (is_overflowing_grant d stream initial (frame_at frame change)) (counted d stream initial (frame_at frame change))
-      (pos (side_of d initial)) (side_of d entry.window) (window_after d stream initial (frame_at frame change)) refl (λ before. refl) (alike.alive d)
-      (λ e. alike.dead d (none-opened entry.opened (opening-client stream entry live frame e).0))
-      (λ e. client-ends d frame (opening-client stream entry live frame e).1)
-
-  by_side : (d : Side) → is_some (side_of d (stream_after stream initial entry (frame_at frame change)).window)
-      ≡ (is_live_after d (life_with stream entry live) frame && not (overflowed d || overflowed_by d stream initial entry (frame_at frame change)))
+  by_side : (d : Side) → is_some (side_of d (stream_after stream initial entry (frame_at number frame change)).window)
+      ≡ (is_live_after d (known_by stream entry live) frame && not (overflowed d || overflowed_by d stream initial entry (frame_at number frame change)))
   by_side Client = one Client
   by_side Server = one Server
 
-  before : (d : Side) → (stream_after stream initial entry (frame_at frame change)).opened ≡ None
-      → (is_live_after d (life_with stream entry live) frame ≡ false) × ((overflowed d || overflowed_by d stream initial entry (frame_at frame change)) ≡ false)
-  before d e = still_dead stream initial entry live overflowed frame change alike d opening refl e
+  before : (d : Side) → (stream_after stream initial entry (frame_at number frame change)).life.opened ≡ None
+      → (is_live_after d (known_by stream entry live) frame ≡ false) × ((overflowed d || overflowed_by d stream initial entry (frame_at number frame change)) ≡ false)
+  before d e = still_dead stream number initial entry live overflowed frame change alike d (is_opening stream entry.life frame) refl e
 
 -- ---- a step with a change alone
 
 -- the same step, spelled out
 abbrev change_at : ℕ → Option Change → Step
 change_at number change = record { number = number; frame = None; change = change }
-
-never_opens : (stream number : ℕ) (entry : Stream) (change : Option Change) → opens stream entry (change_at number change) ≡ false
-never_opens stream number entry change = and-false _
-
-same_opened : (stream number : ℕ) (initial : Sides ℕ) (entry : Stream) (change : Option Change)
-    → (stream_after stream initial entry (change_at number change)).opened ≡ entry.opened
-same_opened stream number initial entry change = rw (never_opens stream number entry change) refl
-
-same_ended : (stream number : ℕ) (initial : Sides ℕ) (entry : Stream) (change : Option Change)
-    → (stream_after stream initial entry (change_at number change)).ended ≡ entry.ended
-same_ended stream number initial entry change = simp (and-false, or-false)
 
 same_windows : (d : Side) (stream number : ℕ) (initial : Sides ℕ) (entry : Stream) (change : Option Change)
     → is_some (side_of d (stream_after stream initial entry (change_at number change)).window) ≡ is_some (side_of d entry.window)
@@ -176,8 +139,8 @@ same_windows d stream number initial entry change = by_side d where
   still e (Some before) = refl
 
   by_side : (e : Side) → is_some (side_of e (stream_after stream initial entry (change_at number change)).window) ≡ is_some (side_of e entry.window)
-  by_side Client = rw (never_opens stream number entry change) (still Client entry.window.client)
-  by_side Server = rw (never_opens stream number entry change) (still Server entry.window.server)
+  by_side Client = still Client entry.window.client
+  by_side Server = still Server entry.window.server
 
 no_overflow : (d : Side) (stream number : ℕ) (initial : Sides ℕ) (entry : Stream) (change : Option Change)
     → overflowed_by d stream initial entry (change_at number change) ≡ false
@@ -193,7 +156,7 @@ alike-change : (stream number : ℕ) (initial : Sides ℕ) (entry : Stream) (liv
 alike-change stream number initial entry live overflowed change alike = record {
   alive = λ d. same_windows d stream number initial entry change ∙ alike.alive d
       ∙ rw (no_overflow d stream number initial entry change, or-false) refl;
-  dead = λ d e. let dead = alike.dead d (sym (same_opened stream number initial entry change) ∙ e) in
+  dead = λ d e. let dead = alike.dead d e in
       (dead.0, rw (no_overflow d stream number initial entry change, or-false) dead.1);
 }
 
@@ -203,11 +166,6 @@ frames_in : List Step → List Frame
 frames_in [] = []
 frames_in (step ∷ steps) = option_to_list step.frame ++ frames_in steps
 
--- each step has its frame's number
-abbrev AreNumbered : List Step → Type 0
-AreNumbered [] = Unit {0}
-AreNumbered (step ∷ steps) = ForSome step.frame (λ frame. frame.number ≡ step.number) × AreNumbered steps
-
 alike-sides : (entry : Stream) (live overflowed : Side → Bool) → IsAlike entry live overflowed
     → IsAlike entry (λ d. side_of d (each_side live)) overflowed
 alike-sides entry live overflowed alike = record { alive = alive; dead = dead } where
@@ -215,61 +173,50 @@ alike-sides entry live overflowed alike = record { alive = alive; dead = dead } 
   alive Client = alike.alive Client
   alive Server = alike.alive Server
 
-  dead : (d : Side) → entry.opened ≡ None → (side_of d (each_side live) ≡ false) × (overflowed d ≡ false)
+  dead : (d : Side) → entry.life.opened ≡ None → (side_of d (each_side live) ≡ false) × (overflowed d ≡ false)
   dead Client = alike.dead Client
   dead Server = alike.dead Server
 
-regrouped : (life : StreamLife) (entry : Stream) (a b c : Side → Bool) → IsSameLife life entry (λ d. (a d || b d) || c d)
-    → IsSameLife life entry (λ d. a d || (b d || c d))
-regrouped life entry a b c same = record {
-  opened = same.opened;
-  ended = same.ended;
+regrouped : (known : StreamByFrames) (entry : Stream) (a b c : Side → Bool) → IsSameLife known entry (λ d. (a d || b d) || c d)
+    → IsSameLife known entry (λ d. a d || (b d || c d))
+regrouped known entry a b c same = record {
+  life = same.life;
   live = λ d. same.live d ∙ rw (or_assoc (a d) (b d) (c d)) refl;
 }
 
 run_step : (stream : ℕ) (initial : Sides ℕ) (entry : Stream) (live : Sides Bool) (overflowed : Side → Bool)
     (number : ℕ) (met : Option Frame) (change : Option Change) (steps : List Step) (frames : List Frame)
-    → ForSome met (λ frame. frame.number ≡ number) → IsAlike entry (λ d. side_of d live) overflowed
+    → IsAlike entry (λ d. side_of d live) overflowed
     → ((e : Stream) (l : Sides Bool) (o : Side → Bool) → IsAlike e (λ d. side_of d l) o
-    → IsSameLife (life_after_all (life_with stream e l) frames) (stream_after_all stream (initial_after change initial) e steps)
+    → IsSameLife (after_all (known_by stream e l) frames) (stream_after_all stream (initial_after change initial) e steps)
     (λ d. o d || overflows_over d stream (initial_after change initial) e steps))
-    → IsSameLife (life_after_all (life_with stream entry live) (option_to_list met ++ frames))
+    → IsSameLife (after_all (known_by stream entry live) (option_to_list met ++ frames))
     (stream_after_all stream initial entry (record { number = number; frame = met; change = change } ∷ steps))
     (λ d. overflowed d || overflows_over d stream initial entry (record { number = number; frame = met; change = change } ∷ steps))
-run_step stream initial entry live overflowed number None change steps frames at alike rest =
+run_step stream initial entry live overflowed number None change steps frames alike rest =
     let after : Stream = stream_after stream initial entry (change_at number change) in
-    let life : life_with stream after live ≡ life_with stream entry live =
-    rw (same_opened stream number initial entry change, same_ended stream number initial entry change) refl in
-    let here = rest after live (λ d. overflowed d || overflowed_by d stream initial entry (change_at number change))
-    (alike-change stream number initial entry live overflowed change alike) in
     regrouped _ _ overflowed (λ d. overflowed_by d stream initial entry (change_at number change))
     (λ d. overflows_over d stream (initial_after change initial) after steps)
-    (subst (λ l. IsSameLife (life_after_all l frames) (stream_after_all stream (initial_after change initial) after steps)
-    (λ d. (overflowed d || overflowed_by d stream initial entry (change_at number change)) || overflows_over d stream (initial_after change initial) after steps))
-    life here)
-run_step stream initial entry live overflowed number (Some frame) change steps frames at alike rest =
-    subst (λ n. IsSameLife (life_after_all (life_with stream entry live) (frame ∷ frames))
-    (stream_after_all stream initial entry (record { number = n; frame = Some frame; change = change } ∷ steps))
-    (λ d. overflowed d || overflows_over d stream initial entry (record { number = n; frame = Some frame; change = change } ∷ steps)))
-    (at frame refl)
-    (regrouped _ _ overflowed (λ d. overflowed_by d stream initial entry (frame_at frame change))
-    (λ d. overflows_over d stream (initial_after change initial) (stream_after stream initial entry (frame_at frame change)) steps)
-    (rest (stream_after stream initial entry (frame_at frame change)) (each_side (λ d. is_live_after d (life_with stream entry live) frame)) _
-    (alike-sides _ _ _ (alike-frame stream initial entry live overflowed frame change alike))))
+    (rest after live (λ d. overflowed d || overflowed_by d stream initial entry (change_at number change))
+    (alike-change stream number initial entry live overflowed change alike))
+run_step stream initial entry live overflowed number (Some frame) change steps frames alike rest =
+    regrouped _ _ overflowed (λ d. overflowed_by d stream initial entry (frame_at number frame change))
+    (λ d. overflows_over d stream (initial_after change initial) (stream_after stream initial entry (frame_at number frame change)) steps)
+    (rest (stream_after stream initial entry (frame_at number frame change)) (each_side (λ d. is_live_after d (known_by stream entry live) frame)) _
+    (alike-sides _ _ _ (alike-frame stream number initial entry live overflowed frame change alike)))
 
 run : (stream : ℕ) (initial : Sides ℕ) (entry : Stream) (live : Sides Bool) (overflowed : Side → Bool) (steps : List Step)
-    → AreNumbered steps → IsAlike entry (λ d. side_of d live) overflowed
-    → IsSameLife (life_after_all (life_with stream entry live) (frames_in steps)) (stream_after_all stream initial entry steps)
+    → IsAlike entry (λ d. side_of d live) overflowed
+    → IsSameLife (after_all (known_by stream entry live) (frames_in steps)) (stream_after_all stream initial entry steps)
     (λ d. overflowed d || overflows_over d stream initial entry steps)
 unfolding frames_in
-run stream initial entry live overflowed [] numbered alike = record {
-  opened = refl;
-  ended = refl;
+run stream initial entry live overflowed [] alike = record {
+  life = refl;
   live = λ d. alike.alive d ∙ rw (or-false (overflowed d)) refl;
 }
-run stream initial entry live overflowed (step ∷ steps) numbered alike =
-    run_step stream initial entry live overflowed step.number step.frame step.change steps (frames_in steps) numbered.0 alike
-    (λ e l o k. run stream (initial_after step.change initial) e l o steps numbered.1 k)
+run stream initial entry live overflowed (step ∷ steps) alike =
+    run_step stream initial entry live overflowed step.number step.frame step.change steps (frames_in steps) alike
+    (λ e l o k. run stream (initial_after step.change initial) e l o steps k)
 
 -- ---- the steps of frames and changes have these frames
 
@@ -291,22 +238,6 @@ frames_in-steps_of [] [] = refl
 frames_in-steps_of (frame ∷ frames) [] = ap (λ rest. frame ∷ rest) (frames_in-steps_of frames [])
 frames_in-steps_of frames (change ∷ changes) = frames_in-with_change (steps_of frames changes) change ∙ frames_in-steps_of frames changes
 
-numbered-with_change : (steps : List Step) (change : Change) → AreNumbered steps → AreNumbered (with_change steps change)
-numbered-with_change [] change h = (λ f e. cc, tt)
-numbered-with_change (step ∷ steps) change h =
-    by_test (step.number == change.number) (nat_lt change.number step.number) (numbered-with_change steps change h.1) where
-      by_test : (same below : Bool) → AreNumbered (with_change steps change)
-          → AreNumbered (if same then record step { change = Some change } ∷ steps
-          else if below then change_step change ∷ step ∷ steps else step ∷ with_change steps change)
-      by_test true below k = h
-      by_test false true k = (λ f e. cc, h)
-      by_test false false k = (h.0, k)
-
-numbered-steps_of : (frames : List Frame) (changes : List Change) → AreNumbered (steps_of frames changes)
-numbered-steps_of [] [] = tt
-numbered-steps_of (frame ∷ frames) [] = (λ f e. ap (λ x. x.number) (sym (same_Some frame f e)), numbered-steps_of frames [])
-numbered-steps_of frames (change ∷ changes) = numbered-with_change (steps_of frames changes) change (numbered-steps_of frames changes)
-
 -- ---- the law
 
 alike-idle : IsAlike idle_stream (λ d. side_of d (each_side (λ _. false))) (λ _. false)
@@ -315,12 +246,12 @@ alike-idle = record { alive = alive; dead = dead } where
   alive Client = refl
   alive Server = refl
 
-  dead : (d : Side) → idle_stream.opened ≡ None → (side_of d (each_side (λ _. false)) ≡ false) × (false ≡ false)
+  dead : (d : Side) → idle_stream.life.opened ≡ None → (side_of d (each_side (λ _. false)) ≡ false) × (false ≡ false)
   dead Client e = (refl, refl)
   dead Server e = (refl, refl)
 
 pub life-is_the_entry : LifeIsTheEntry
 life-is_the_entry stream frames changes =
-    subst (λ met. IsSameLife (life_after_all (idle_life stream) met) (stream_at_end stream frames changes) (λ d. has_overflowed d stream frames changes))
+    subst (λ met. IsSameLife (after_all (unmet stream) met) (stream_at_end stream frames changes) (λ d. has_overflowed d stream frames changes))
     (frames_in-steps_of frames changes)
-    (run stream initial_in_force.initial idle_stream (each_side (λ _. false)) (λ _. false) (steps_of frames changes) (numbered-steps_of frames changes) alike-idle)
+    (run stream initial_in_force.initial idle_stream (each_side (λ _. false)) (λ _. false) (steps_of frames changes) alike-idle)

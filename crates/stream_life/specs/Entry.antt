@@ -1,4 +1,4 @@
--- The life of a stream beside the entry that the pass keeps of it (RFC 9113, 5.1, 6.9.1).
+-- A stream by its frames alone beside the entry that the pass keeps of it (RFC 9113, 5.1, 6.9.1).
 use Rattle.std.specs.Prelude.{◌≡◌, ℕ, Bool, false, ◌&&◌, ◌||◌, not, List, [], ◌∷◌, is_some}
 use Rattle.std.specs.Option.{option_map_or}
 use Rattle.audit_terms.specs.declared.sides.Side.{Side}
@@ -11,7 +11,7 @@ use Rattle.audit_terms.specs.Sides.{side_of}
 use Rattle.audit_terms.specs.InForce.{initial_in_force}
 use Rattle.audit_terms.specs.Stream.{idle_stream, is_overflowing_grant, initial_after, stream_after}
 use Rattle.audit_terms.specs.Run.{steps_of, stream_at_end}
-use Rattle.stream_life.specs.Life.{StreamLife, idle_life, life_after_all}
+use Rattle.stream_life.specs.Life.{StreamByFrames, unmet, after_all}
 
 -- does some step grant the live window of side d more than the largest window holds?
 abbrev pub overflows_over : Side → (stream : ℕ) → Sides ℕ → Stream → List Step → Bool
@@ -25,14 +25,13 @@ abbrev pub has_overflowed : Side → (stream : ℕ) → List Frame → List Chan
 has_overflowed d stream frames changes =
     overflows_over d stream initial_in_force.initial idle_stream (steps_of frames changes)
 
--- the same opening and the same ends; a window of the entry is live where it is live in the life, unless it overflowed
-pub record IsSameLife (life : StreamLife) (entry : Stream) (overflowed : Side → Bool) : Type 0 where
-  pub opened : entry.opened ≡ life.opened
-  pub ended : entry.ended ≡ life.ended
-  pub live : (d : Side) → is_some (side_of d entry.window) ≡ (side_of d life.live && not (overflowed d))
+-- the same life; a window of the entry is live where it is live by the frames, unless it overflowed
+pub record IsSameLife (known : StreamByFrames) (entry : Stream) (overflowed : Side → Bool) : Type 0 where
+  pub life : entry.life ≡ known.life
+  pub live : (d : Side) → is_some (side_of d entry.window) ≡ (side_of d known.live && not (overflowed d))
 
 -- over any frames of a stream and any changes
 abbrev pub LifeIsTheEntry : Type 0
 LifeIsTheEntry = (stream : ℕ) (frames : List Frame) (changes : List Change) →
-    IsSameLife (life_after_all (idle_life stream) frames) (stream_at_end stream frames changes)
+    IsSameLife (after_all (unmet stream) frames) (stream_at_end stream frames changes)
     (λ d. has_overflowed d stream frames changes)

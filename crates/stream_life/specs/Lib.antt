@@ -1,2 +1,4 @@
 pub mod Life
 pub mod Entry
+pub mod Script
+pub mod Outcomes

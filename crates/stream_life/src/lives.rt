@@ -1,12 +1,12 @@
-ghost use Rattle.std.specs.Prelude.{◌≡◌, ℕ, ◌^◌, ◌<◌, Option};
+ghost use Rattle.std.specs.Prelude.{◌≡◌, true, ℕ, ◌^◌, ◌<◌, Option};
 ghost use Rattle.audit_terms.specs.Sides.{side_of};
-ghost use Rattle.audit_terms.specs.Stream.{needs_opening};
-ghost use Rattle.stream_life.specs.Life.{StreamLife, idle_life, is_opening, ends_side, is_live_after, is_after_end, ends_window, life_after, outcome_of};
+ghost use Rattle.audit_terms.specs.Frame.{meets};
+ghost use Rattle.stream_life.specs.Life.{StreamByFrames, unmet, is_live_after, ends_live_window, after, outcome_of};
 
-use audit_terms::{Frame, Side, Sides};
+use audit_terms::{Frame, Side, Sides, StreamLife};
 use std::marker::Model;
 
-/// What a frame is to the life of its stream.
+/// What a frame is to the life of a stream.
 #[derive(Clone, Copy, Debug, PartialEq, Eq)]
 pub enum LifeOutcome {
     /// It opens the stream.
@@ -15,26 +15,26 @@ pub enum LifeOutcome {
     Moved,
     /// It is DATA or HEADERS of a side that has ended the stream.
     AfterEnd,
-    /// It needs an opened stream, and this one is not.
+    /// It needs an opened stream, and this one is not; or it is a promise on a stream on which the server can promise
+    /// nothing.
     NotOpened,
     Nothing,
 }
 
-/// The life of one stream.
+/// One stream, as far as its frames alone tell: its life, and which windows are live where no grant overflowed them.
 #[derive(Clone, Copy, Debug)]
 pub struct Life {
     stream: u32,
-    opened: Option<u32>,
-    ended: Sides<bool>,
+    life: StreamLife,
     live: Sides<bool>,
 }
 
 impl Model for Life {
-    ghost Value = { StreamLife };
+    ghost Value = { StreamByFrames };
 
-    ghost view = { λ l. record { stream = l.stream; opened = l.opened; ended = l.ended; live = l.live } };
+    ghost view = { λ l. record { stream = l.stream; life = l.life; live = l.live } };
 
-    ghost inverse = { λ l. record { stream = l.stream; opened = l.opened; ended = l.ended; live = l.live } };
+    ghost inverse = { λ l. record { stream = l.stream; life = l.life; live = l.live } };
 }
 
 impl Life {
@@ -42,117 +42,68 @@ impl Life {
     pub fn idle(id: u32) -> Self
         requires not_connection { 0 < id }
         requires in_range { id < 2 ^ 31 }
-        ensures { result ≡ idle_life id }
+        ensures { result ≡ unmet id }
     {
-        let none = Sides {
-            client: false,
-            server: false,
-        };
         Life {
             stream: id,
-            opened: None,
-            ended: none,
-            live: none,
+            life: StreamLife::idle(),
+            live: Sides {
+                client: false,
+                server: false,
+            },
         }
     }
 
-    /// Meets the next frame of the stream, and says what it is to the stream.
+    /// Meets the next frame on the stream, or the next promise of it, and says what it is to the stream.
     pub fn step(&mut self, frame: &Frame) -> LifeOutcome
-        requires { frame.now.stream ≡ self.old.stream }
+        requires { meets self.old.stream frame.now ≡ true }
         ensures outcome { result ≡ outcome_of self.old frame.now }
-        ensures life { self.new ≡ life_after self.old frame.now }
+        ensures after { self.new ≡ after self.old frame.now }
     {
         let outcome = self.outcome(frame);
-        let after = Life {
-            stream: self.stream,
-            opened: self.opened_after(frame),
-            ended: Sides {
-                client: self.is_ended_after(Side::Client, frame),
-                server: self.is_ended_after(Side::Server, frame),
-            },
-            live: Sides {
-                client: self.is_live_after(Side::Client, frame),
-                server: self.is_live_after(Side::Server, frame),
-            },
+        let live = Sides {
+            client: self.is_live_after(Side::Client, frame),
+            server: self.is_live_after(Side::Server, frame),
         };
-        *self = after;
+        self.life = self.life.after(self.stream, frame);
+        self.live = live;
         outcome
     }
 
     fn outcome(&self, frame: &Frame) -> LifeOutcome
         ensures { result ≡ outcome_of self.now frame.now }
     {
-        if self.is_opening(frame) {
+        if self.life.is_opening(self.stream, frame) {
             LifeOutcome::Opened
-        } else if needs_opening(frame) && self.opened.is_none() {
+        } else if self.life.is_not_opened(self.stream, frame) {
             LifeOutcome::NotOpened
-        } else if self.is_after_end(frame) {
+        } else if self.life.is_after_end(frame) {
             LifeOutcome::AfterEnd
-        } else if self.ends_window(Side::Client, frame) || self.ends_window(Side::Server, frame) {
+        } else if self.ends_live_window(Side::Client, frame)
+            || self.ends_live_window(Side::Server, frame)
+        {
             LifeOutcome::Moved
         } else {
             LifeOutcome::Nothing
         }
     }
 
-    /// The first HEADERS of the client on an odd identifier opens the stream (RFC 9113, 5.1.1).
-    fn is_opening(&self, frame: &Frame) -> bool
-        ensures { result ≡ is_opening self.now frame.now }
-    {
-        self.opened.is_none()
-            && self.stream % 2 == 1
-            && frame.side == Side::Client
-            && frame.body.is_headers()
-    }
-
-    fn opened_after(&self, frame: &Frame) -> Option<u32>
-        ensures { result ≡ (life_after self.now frame.now).opened }
-    {
-        if self.is_opening(frame) {
-            Some(frame.number)
-        } else {
-            self.opened
-        }
-    }
-
-    fn is_ended_after(&self, side: Side, frame: &Frame) -> bool
-        ensures { result ≡ side_of side (life_after self.now frame.now).ended }
-    {
-        self.ended.of(side) || self.ends_side(side, frame)
-    }
-
-    /// Does a side end the opened stream, by END_STREAM or RST_STREAM?
-    fn ends_side(&self, side: Side, frame: &Frame) -> bool
-        ensures { result ≡ ends_side side self.now frame.now }
-    {
-        (self.is_opening(frame) || self.opened.is_some())
-            && (frame.sends_end(side) || frame.sends_reset(side))
-    }
-
     /// Is a side's window live after the frame?
     fn is_live_after(&self, side: Side, frame: &Frame) -> bool
         ensures { result ≡ is_live_after side self.now frame.now }
     {
-        if self.is_opening(frame) {
-            !frame.sends_end(side)
+        if self.life.is_opening(self.stream, frame) {
+            !frame.is_last_of(side, self.stream)
         } else {
-            self.live(side) && !(frame.sends_end(side) || frame.body.is_reset())
+            self.live(side) && !frame.ends_window(side)
         }
     }
 
-    /// Is it DATA or HEADERS of a side that has ended the stream?
-    fn is_after_end(&self, frame: &Frame) -> bool
-        ensures { result ≡ is_after_end self.now frame.now }
+    /// Does the frame end a side's live window?
+    fn ends_live_window(&self, side: Side, frame: &Frame) -> bool
+        ensures { result ≡ ends_live_window side self.now frame.now }
     {
-        (frame.body.is_content() || frame.body.is_headers())
-            && self.opened.is_some()
-            && self.ended.of(frame.side)
-    }
-
-    fn ends_window(&self, side: Side, frame: &Frame) -> bool
-        ensures { result ≡ ends_window side self.now frame.now }
-    {
-        self.live(side) && !self.is_live_after(side, frame)
+        self.live(side) && frame.ends_window(side)
     }
 
     /// Is the window of a side live, where no grant overflowed it?
@@ -164,16 +115,8 @@ impl Life {
 
     /// The number of the frame that opened the stream.
     pub fn opened_at(&self) -> Option<u32>
-        ensures { result ≡ self.now.opened }
+        ensures { result ≡ self.now.life.opened }
     {
-        self.opened
+        self.life.opened
     }
-}
-
-/// Is it a frame that only an opened stream carries (RFC 9113, 5.1)?
-fn needs_opening(frame: &Frame) -> bool
-    ensures { result ≡ needs_opening frame.now }
-{
-    let body = &frame.body;
-    body.is_content() || body.is_headers() || body.is_reset() || body.is_update()
 }
