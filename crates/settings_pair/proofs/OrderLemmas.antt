@@ -1,13 +1,15 @@
--- The changes of orderly frames are orderly.
-use Rattle.std.proofs.Common.{◌≡◌, ℕ, ◌+◌, ◌≤◌, List, [], ◌∷◌, ◌++◌, Option, Some, None, length, drop, sym, ap, ◌∙◌, subst, arith}
+-- The changes of orderly frames are orderly, and each is that of an acknowledgement.
+use Rattle.std.proofs.Common.{◌≡◌, ℕ, ◌+◌, ◌≤◌, Bool, true, false, if◌then◌else◌, List, [], ◌∷◌, ◌++◌, All, Option, Some, None, length, drop, refl, sym, ap, ◌∙◌, subst, arith}
 use Rattle.std.specs.Option.{option_to_list}
+use Rattle.std.specs.List.{AllByRecursion}
 use Rattle.std.proofs.lemmas.List.{append-nil, drop_all}
+use Rattle.std.proofs.lemmas.List.Elements.{All-from_recursion}
 use Rattle.audit_terms.specs.declared.frames.Settings.{Settings}
 use Rattle.audit_terms.specs.declared.frames.Frame.{Frame}
 use Rattle.audit_terms.specs.declared.items.Change.{Change}
-use Rattle.audit_terms.specs.Frame.{IsInRange, IsOrderlyFrom, IsOrderly}
+use Rattle.audit_terms.specs.Frame.{is_ack, IsInRange, IsOrderlyFrom, IsOrderly}
 use Rattle.audit_terms.specs.InForce.{InForce, initial_in_force, changes_of, taken, change_taking, in_force_after, changes_from}
-use Rattle.settings_pair.specs.Changes.{AreOrderlyFrom, AreOrderly}
+use Rattle.settings_pair.specs.Changes.{AreOrderlyFrom, AreOrderly, AreAcknowledged}
 
 orderly-lower : (low lower : ℕ) (changes : List Change) → lower ≤ low → AreOrderlyFrom low changes → AreOrderlyFrom lower changes
 orderly-lower low lower [] below h = h
@@ -31,3 +33,62 @@ pub found-orderly : (now : InForce) (found : List Change) (frames : List Frame) 
 found-orderly now found frames i h past e =
     let all : found ≡ changes_of frames = sym (append-nil found) ∙ ap (λ rest. found ++ changes_from now rest) (sym (drop_all i frames past)) ∙ e in
     subst AreOrderly (sym all) (changes_from-orderly 0 initial_in_force frames h)
+
+-- ---- the frame of a change is an acknowledgement
+
+-- the change's frame, if it is this one, is an acknowledgement
+abbrev AcknowledgesAt : Frame → Change → Type 0
+AcknowledgesAt frame change = frame.number ≡ change.number → is_ack frame.body ≡ true
+
+-- the same of each frame and each change
+abbrev Acknowledge : List Frame → List Change → Type 0
+Acknowledge frames changes = AllByRecursion (λ frame. AllByRecursion (AcknowledgesAt frame) changes) frames
+
+-- a frame below all changes is the frame of none
+below-all : (frame : Frame) (low : ℕ) (changes : List Change) → frame.number + 1 ≤ low → AreOrderlyFrom low changes
+    → AllByRecursion (AcknowledgesAt frame) changes
+below-all frame low [] below h = tt
+below-all frame low (change ∷ changes) below h =
+    (λ e. absurd (omega (arith, h.0, e)), below-all frame (change.number + 1) changes (omega (arith, h.0)) h.2)
+
+-- a frame that takes settings is an acknowledgement
+own-change : (frame : Frame) (acks : Bool) (t : Option Settings) (changes : List Change) → is_ack frame.body ≡ acks
+    → AllByRecursion (AcknowledgesAt frame) changes
+    → AllByRecursion (AcknowledgesAt frame) (option_to_list (change_taking frame (if acks then t else None)) ++ changes)
+own-change frame true None changes e h = h
+own-change frame true (Some settings) changes e h = (λ _. e, h)
+own-change frame false t changes e h = h
+
+-- frames above the one that takes settings
+later-frames : (frame : Frame) (t : Option Settings) (low : ℕ) (frames : List Frame) (changes : List Change) → frame.number + 1 ≤ low
+    → IsOrderlyFrom low frames → Acknowledge frames changes → Acknowledge frames (option_to_list (change_taking frame t) ++ changes)
+later-frames frame None low frames changes above orderly h = h
+later-frames frame (Some settings) low [] changes above orderly h = tt
+later-frames frame (Some settings) low (next ∷ frames) changes above orderly h = (
+  (λ e. absurd (omega (arith, orderly.0, e)), h.0),
+  later-frames frame (Some settings) (next.number + 1) frames changes (omega (arith, orderly.0)) orderly.2 h.1,
+)
+
+changes_from-acknowledge : (low : ℕ) (now : InForce) (frames : List Frame) → IsOrderlyFrom low frames
+    → Acknowledge frames (changes_from now frames)
+changes_from-acknowledge low now [] h = tt
+changes_from-acknowledge low now (frame ∷ frames) h = (
+  own-change frame (is_ack frame.body) _ (changes_from (in_force_after now frame) frames) refl
+      (below-all frame (frame.number + 1) _ (omega arith) (changes_from-orderly (frame.number + 1) (in_force_after now frame) frames h.2)),
+  later-frames frame (taken now frame) (frame.number + 1) frames (changes_from (in_force_after now frame) frames) (omega arith) h.2
+      (changes_from-acknowledge (frame.number + 1) (in_force_after now frame) frames h.2),
+)
+
+all-acknowledged : (frames : List Frame) (changes : List Change) → Acknowledge frames changes → AreAcknowledged frames changes
+all-acknowledged frames changes h =
+    All-from_recursion (λ (frame : Frame). All (AcknowledgesAt frame) changes) frames (by_frame frames h) where
+      by_frame : (fs : List Frame) → Acknowledge fs changes → AllByRecursion (λ frame. All (AcknowledgesAt frame) changes) fs
+      by_frame [] k = tt
+      by_frame (f ∷ fs) k = (All-from_recursion (AcknowledgesAt f) changes k.0, by_frame fs k.1)
+
+-- what a loop over all of the frames found
+pub found-acknowledged : (now : InForce) (found : List Change) (frames : List Frame) (i : ℕ) → IsOrderly frames → length frames ≤ i
+    → found ++ changes_from now (drop i frames) ≡ changes_of frames → AreAcknowledged frames found
+found-acknowledged now found frames i h past e =
+    let all : found ≡ changes_of frames = sym (append-nil found) ∙ ap (λ rest. found ++ changes_from now rest) (sym (drop_all i frames past)) ∙ e in
+    subst (AreAcknowledged frames) (sym all) (all-acknowledged frames (changes_of frames) (changes_from-acknowledge 0 initial_in_force frames h))

@@ -14,7 +14,7 @@ use Rattle.audit_terms.specs.declared.kinds.Kind.TheVariants.{UnmatchedAck}
 use Rattle.audit_terms.specs.Finding.{finding_at, say}
 use Rattle.audit_terms.specs.InForce.{InForce, initial_in_force, taken, change_taking, change_of, in_force_after, settings_said}
 use Rattle.settings_pair.specs.declared.waiting.Waiting.{Waiting}
-use Rattle.settings_pair.specs.Waiting.{waiting_of, IsWaiting}
+use Rattle.settings_pair.specs.code.Waiting.{waiting_of, IsWaiting}
 
 pub other-other : (d : Side) → other (other d) ≡ d
 other-other Client = refl

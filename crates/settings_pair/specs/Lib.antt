@@ -1,2 +1,3 @@
 pub mod Changes
-pub mod Waiting
+pub mod PairExamples
+pub mod code

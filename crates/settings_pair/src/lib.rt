@@ -3,13 +3,13 @@
 //! The acknowledgements of one endpoint answer the SETTINGS frames of the other in the order in which these were sent.
 //! Values count from the acknowledgement, for the frames of the side that acknowledges. [`pair`] gives one [`Change`]
 //! for each acknowledgement that has something to answer, and a finding of kind `UnmatchedAck` for each that has not.
+//! [`worked_examples`] are short runs of the definitions.
 //!
 //! [`Change`]: audit_terms::Change
 #![tactic(auto)]
 
 mod pairing;
-#[cfg(test)]
-mod tests;
 mod waiting;
+pub mod worked_examples;
 
 pub use pairing::{Pairs, pair};

@@ -4,11 +4,11 @@ ghost use Rattle.audit_terms.specs.Frame.{IsInRange, IsOrderly};
 ghost use Rattle.audit_terms.specs.Change.{change_by};
 ghost use Rattle.audit_terms.specs.InForce.{InForce, in_force_after, change_of, changes_of, settings_said, settings_run};
 ghost use Rattle.audit_terms.specs.Finding.{finding_at};
-ghost use Rattle.settings_pair.specs.Changes.{AreOrderly};
-ghost use Rattle.settings_pair.specs.Waiting.{IsWaiting};
+ghost use Rattle.settings_pair.specs.Changes.{AreOrderly, AreAcknowledged};
+ghost use Rattle.settings_pair.specs.code.Waiting.{IsWaiting};
 
 use crate::waiting::Waiting;
-use audit_terms::{Body, Change, Finding, Frame, Kind, Place, Settings};
+use audit_terms::{Body, Change, Finding, Frame, Kind, Settings};
 use std::alloc::{AllocError, Global};
 
 /// What the acknowledgements of a connection's frames bring into force, and which of them answer nothing.
@@ -26,6 +26,7 @@ pub fn pair(alloc: Global, frames: &[Frame]) -> Result<Pairs, AllocError>
     ensures changes { IfOk result (λ pairs. pairs.changes.items ≡ changes_of frames.now) }
     ensures findings { IfOk result (λ pairs. pairs.findings.items ≡ settings_run frames.now) }
     ensures orderly { IfOk result (λ pairs. AreOrderly pairs.changes.items) }
+    ensures acknowledged { IfOk result (λ pairs. AreAcknowledged frames.now pairs.changes.items) }
 {
     let mut waiting = Waiting::new(alloc);
     let mut pairs = Pairs {
@@ -77,10 +78,11 @@ fn unmatched(frame: &Frame) -> Finding
     requires { IsInRange frame.now }
     ensures { result ≡ finding_at Kind.UnmatchedAck frame.now.number frame.now.stream frame.now.side (pos 0) }
 {
-    Finding {
-        place: Place::of(frame.number, Kind::UnmatchedAck.rank(), frame.stream),
-        side: frame.side,
-        kind: Kind::UnmatchedAck,
-        value: 0,
-    }
+    Finding::at(
+        Kind::UnmatchedAck,
+        frame.number,
+        frame.stream,
+        frame.side,
+        0,
+    )
 }

@@ -14,7 +14,7 @@ pub(crate) struct Waiting {
 impl Waiting {
     ghost use Rattle.audit_terms.specs.declared.sides.Side.{Side};
     ghost use Rattle.audit_terms.specs.Side.{is_side};
-    ghost use Rattle.settings_pair.specs.Waiting.{waiting_of};
+    ghost use Rattle.settings_pair.specs.code.Waiting.{waiting_of};
 
     pub(crate) fn new(alloc: Global) -> Self
         ensures { (d : Side) → waiting_of d result ≡ [] }

@@ -1,4 +1,5 @@
 pub mod Life
+pub mod Outcome
 pub mod Entry
 pub mod Script
-pub mod Outcomes
+pub mod LifeExamples

@@ -1,7 +1,7 @@
 use Rattle.std.proofs.Common.{refl, arith}
 use Rattle.audit_terms.specs.InForce.{initial_in_force}
 use Rattle.settings_pair.proofs.WaitingLemmas.{waiting-at_start}
-use Rattle.settings_pair.proofs.OrderLemmas.{found-orderly}
+use Rattle.settings_pair.proofs.OrderLemmas.{found-orderly, found-acknowledged}
 use Rattle.settings_pair.proofs.pairing.pair.Goals as goal
 
 pub loop-frame-init : goal.loop-frame-init
@@ -18,3 +18,8 @@ pub returns-clause-orderly : goal.returns-clause-orderly
 returns-clause-orderly c =
     let i = c.loop-frame.invariant in
     found-orderly i.now c.loop-frame.pairs.changes.items c.args.frames.now c.loop-frame.frame-index c.requires (omega arith) i.changes
+
+pub returns-clause-acknowledged : goal.returns-clause-acknowledged
+returns-clause-acknowledged c =
+    let i = c.loop-frame.invariant in
+    found-acknowledged i.now c.loop-frame.pairs.changes.items c.args.frames.now c.loop-frame.frame-index c.requires (omega arith) i.changes

@@ -1,7 +1,7 @@
 use Rattle.std.proofs.Common.{◌≡◌, ◌++◌, ℕ, drop}
 use Rattle.audit_terms.specs.Frame.{IsOrderlyFrom}
 use Rattle.audit_terms.specs.InForce.{InForce, changes_from, changes_of, settings_run_from, settings_run}
-use Rattle.settings_pair.specs.Waiting.{IsWaiting}
+use Rattle.settings_pair.specs.code.Waiting.{IsWaiting}
 use Rattle.settings_pair.proofs.pairing.pair.Given as goal
 
 -- what was found so far, and what the rest shows from the settings in force there, is the whole answer

@@ -3,6 +3,7 @@ use Rattle.std.specs.Prelude.{◌≡◌, true, false, List, [], ◌∷◌, Some,
 use Rattle.audit_terms.specs.declared.sides.Side.TheVariants.{Client, Server}
 use Rattle.audit_terms.specs.declared.frames.Body.TheVariants.{Ping, WindowUpdate}
 use Rattle.audit_terms.specs.declared.frames.Frame.{Frame}
+use Rattle.audit_terms.specs.FrameType.{ping_type, window_update_type}
 use Rattle.stream_life.specs.declared.lives.LifeOutcome.TheVariants.{Opened, Moved, AfterEnd, NotOpened, Nothing}
 use Rattle.stream_life.specs.Script.{scripted, data_frame, last_data_frame, headers_frame, last_headers_frame, reset_frame, promise_frame, outcomes, after_script}
 
@@ -33,8 +34,8 @@ OpensAndEnds =
 abbrev pub NothingOpens : Type 0
 NothingOpens =
     (outcomes 1 (
-    headers_frame 5 Server 1 ∷ reset_frame 6 Client 1 ∷ scripted 7 Server 0 1 (WindowUpdate 1)
-    ∷ scripted 8 Client 0 1 Ping ∷ [])
+    headers_frame 5 Server 1 ∷ reset_frame 6 Client 1 ∷ scripted 7 Server window_update_type 0 1 (WindowUpdate 1)
+    ∷ scripted 8 Client ping_type 0 1 Ping ∷ [])
     ≡ NotOpened ∷ NotOpened ∷ NotOpened ∷ Nothing ∷ [])
     × (outcomes 2 (headers_frame 5 Client 2 ∷ []) ≡ NotOpened ∷ [])
     × ((after_script 2 (headers_frame 5 Client 2 ∷ [])).life.opened ≡ None)
@@ -58,8 +59,8 @@ PromiseOpensOnce =
     (outcomes 2 (promise_frame 6 Server 1 2 ∷ promise_frame 7 Server 3 2 ∷ []) ≡ Opened ∷ Nothing ∷ [])
     × (outcomes 2 (promise_frame 6 Client 1 2 ∷ data_frame 7 Server 2 ∷ []) ≡ NotOpened ∷ [])
 
--- a promise on a stream that is not opened, on one of the server's own, or on one that the server has ended: it opens the
--- promised stream all the same, unless that is the stream that carries it; after the client's RST_STREAM it stands
+-- a promise on a stream that is not opened, on one of the server's own, or on one that the server has ended: it opens
+-- the promised stream all the same, unless that is the stream that carries it; after the client's RST_STREAM it stands
 abbrev pub MisplacedPromise : Type 0
 MisplacedPromise =
     (outcomes 1 (promise_frame 5 Server 1 2 ∷ []) ≡ NotOpened ∷ [])

@@ -1,4 +1,4 @@
--- The SETTINGS that wait for an acknowledgement, and how they stand to the positions that the settings in force count by.
+-- The SETTINGS that wait for an acknowledgement, and how they stand to the positions by which these take them.
 use Rattle.std.specs.Prelude.{◌≡◌, ◌≤◌, List, length, drop}
 use Rattle.audit_terms.specs.declared.sides.Side.{Side}
 use Rattle.audit_terms.specs.declared.sides.Side.TheVariants.{Client, Server}
