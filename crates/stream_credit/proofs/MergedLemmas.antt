@@ -1,16 +1,18 @@
 -- The forward walk gives the steps of the definition, numbered and ranged as the frames and the changes are.
-use Rattle.std.proofs.Common.{◌≡◌, ℕ, ◌+◌, ◌<◌, ◌≤◌, Bool, true, false, nat_lt, nat_eq, ◌==◌, if◌then◌else◌, List, [], ◌∷◌, map, Option, Some, None, refl, sym, ap, ◌∙◌, subst, ◌⊎◌, inl, inr, arith}
+use Rattle.std.proofs.Common.{◌≡◌, ℕ, ◌+◌, ◌-◌, ◌^◌, ◌<◌, ◌≤◌, All, Bool, true, false, nat_lt, nat_eq, ◌==◌, if◌then◌else◌, List, [], ◌∷◌, map, Option, Some, None, refl, sym, ap, ◌∙◌, subst, ◌⊎◌, inl, inr, arith}
 use Rattle.std.specs.List.{AllByRecursion}
+use Rattle.std.specs.Option.{ForSome}
+use Rattle.std.proofs.lemmas.List.Elements.{recursion_from_All}
 use Rattle.std.proofs.lemmas.Bool.{cases_order}
 use Rattle.std.proofs.lemmas.Option.{same_Some}
 use Rattle.std.proofs.lemmas.Bool.Decides.{nat_tests}
 use Rattle.audit_terms.specs.declared.frames.Frame.{Frame}
 use Rattle.audit_terms.specs.declared.items.Change.{Change}
 use Rattle.audit_terms.specs.declared.items.Step.{Step}
-use Rattle.audit_terms.specs.Frame.{IsInRange, IsOrderlyFrom}
+use Rattle.audit_terms.specs.Frame.{is_ack, meets, IsOrderlyFrom}
 use Rattle.audit_terms.specs.Run.{frame_step, change_step, with_change, steps_of}
-use Rattle.settings_pair.specs.Changes.{AreOrderlyFrom}
-use Rattle.stream_credit.specs.Merged.{joined_step, merged_at, merged, IsStepOn, AreStepsFrom}
+use Rattle.settings_pair.specs.Changes.{AreOrderlyFrom, AreAcknowledged}
+use Rattle.stream_credit.specs.code.Merged.{joined_step, merged_at, merged, IsStepOn, AreStepsFrom}
 
 -- ---- the tests on two numbers, by their order
 
@@ -92,7 +94,7 @@ steps_of-merged low frames [] h = sym (merged-no_changes frames)
 steps_of-merged low frames (change ∷ changes) h =
     ap (λ steps. with_change steps change) (steps_of-merged (change.number + 1) frames changes h.2) ∙ with_change-merged frames change changes h.2
 
--- ---- its steps are in range, and their numbers rise
+-- ---- its steps are the stream's, acknowledged, and their numbers rise
 
 equal_from_test : (m n : ℕ) → nat_eq m n ≡ true → m ≡ n
 equal_from_test m n e = grind (arith, nat_tests)
@@ -106,51 +108,84 @@ below_from_test m n e = grind (arith, nat_tests)
 not_below_from_test : (m n : ℕ) → nat_lt m n ≡ false → n ≤ m
 not_below_from_test m n e = grind (arith, nat_tests)
 
--- the frame of a step is the stream's
-frame_is_on : (stream : ℕ) (frame f : Frame) → Some frame ≡ Some f → frame.stream ≡ stream → IsInRange frame
-    → (f.number ≡ frame.number) × (f.stream ≡ stream) × IsInRange f
-frame_is_on stream frame f e own fits =
-    subst (λ (x : Frame). (x.number ≡ frame.number) × (x.stream ≡ stream) × IsInRange x) (same_Some frame f e) (refl, own, fits)
+-- the change's frame, if it is this one, is an acknowledgement
+abbrev AcknowledgesAt : Frame → Change → Type 0
+AcknowledgesAt frame change = frame.number ≡ change.number → is_ack frame.body ≡ true
+
+-- the same of each frame and each change
+abbrev Acknowledge : List Frame → List Change → Type 0
+Acknowledge frames changes = AllByRecursion (λ frame. AllByRecursion (AcknowledgesAt frame) changes) frames
+
+acknowledge-tail : (frames : List Frame) (change : Change) (changes : List Change) → Acknowledge frames (change ∷ changes) → Acknowledge frames changes
+acknowledge-tail [] change changes h = tt
+acknowledge-tail (frame ∷ frames) change changes h = (h.0.1, acknowledge-tail frames change changes h.1)
+
+pub acknowledge-all : (frames : List Frame) (changes : List Change) → AreAcknowledged frames changes → Acknowledge frames changes
+acknowledge-all frames changes h = by_frame frames (recursion_from_All (λ (frame : Frame). All (AcknowledgesAt frame) changes) frames h) where
+  by_frame : (fs : List Frame) → AllByRecursion (λ frame. All (AcknowledgesAt frame) changes) fs → Acknowledge fs changes
+  by_frame [] k = tt
+  by_frame (f ∷ fs) k = (recursion_from_All (AcknowledgesAt f) changes k.0, by_frame fs k.1)
+
+-- a step of a frame that the stream meets
+frame_is_on : (stream : ℕ) (frame : Frame) (change : Option Change) → frame.number < 2 ^ 28 - 1 → meets stream frame ≡ true
+    → ForSome change (λ _. is_ack frame.body ≡ true)
+    → IsStepOn stream (record { number = frame.number; frame = Some frame; change = change })
+frame_is_on stream frame change low met acked = record {
+  number = low;
+  met = λ f e. subst (λ (x : Frame). meets stream x ≡ true) (same_Some frame f e) met;
+  acknowledged = λ c k f e. subst (λ (x : Frame). is_ack x.body ≡ true) (same_Some frame f e) (acked c k);
+}
+
+-- a step of a change alone
+change_is_on : (stream : ℕ) (change : Change) → change.number < 2 ^ 28 - 1 → IsStepOn stream (change_step change)
+change_is_on stream change low = record { number = low; met = λ f e. cc; acknowledged = λ c k f e. cc }
 
 change_steps : (stream low : ℕ) (changes : List Change) → AreOrderlyFrom low changes → AreStepsFrom stream low (map change_step changes)
 change_steps stream low [] h = tt
 change_steps stream low (change ∷ changes) h =
-    (h.0, record { number = h.1; frame = λ f e. cc }, change_steps stream (change.number + 1) changes h.2)
+    (h.0, change_is_on stream change h.1, change_steps stream (change.number + 1) changes h.2)
 
 orderly_lower : (low lower : ℕ) (changes : List Change) → lower ≤ low → AreOrderlyFrom low changes → AreOrderlyFrom lower changes
 orderly_lower low lower [] below h = tt
 orderly_lower low lower (change ∷ changes) below h = (omega (arith, h.0), h.1, h.2)
 
-merged_at-steps : (stream low : ℕ) (frame : Frame) (after : List Change → List Step) (changes : List Change)
-    → low ≤ frame.number → IsInRange frame → frame.stream ≡ stream
-    → ((cs : List Change) → AreOrderlyFrom (frame.number + 1) cs → AreStepsFrom stream (frame.number + 1) (after cs))
+-- of a frame, those after it and some changes; `Rest` is what the steps after the frame ask of the changes
+merged_at-steps : (stream low : ℕ) (frame : Frame) (after : List Change → List Step) (Rest : List Change → Type 0) (changes : List Change)
+    → low ≤ frame.number → frame.number < 2 ^ 28 - 1 → meets stream frame ≡ true
+    → ((c : Change) (cs : List Change) → Rest (c ∷ cs) → Rest cs)
+    → ((cs : List Change) → Rest cs → AreOrderlyFrom (frame.number + 1) cs → AreStepsFrom stream (frame.number + 1) (after cs))
+    → AllByRecursion (AcknowledgesAt frame) changes → Rest changes
     → AreOrderlyFrom low changes → AreStepsFrom stream low (merged_at frame after changes)
-merged_at-steps stream low frame after [] above fits own rest h =
-    (above, record { number = fits.number; frame = λ f e. frame_is_on stream frame f e own fits }, rest [] tt)
-merged_at-steps stream low frame after (change ∷ changes) above fits own rest h =
+merged_at-steps stream low frame after Rest [] above fits met drop rest acked r h =
+    (above, frame_is_on stream frame None fits met (λ c k. cc), rest [] r tt)
+merged_at-steps stream low frame after Rest (change ∷ changes) above fits met drop rest acked r h =
     by_test (frame.number == change.number) (nat_lt change.number frame.number) refl refl
-    (λ (more : change.number + 1 ≤ frame.number). merged_at-steps stream (change.number + 1) frame after changes more fits own rest h.2) where
-      step : (b : Option Change) → IsStepOn stream (record { number = frame.number; frame = Some frame; change = b })
-      step b = record { number = fits.number; frame = λ f e. frame_is_on stream frame f e own fits }
-
+    (λ (more : change.number + 1 ≤ frame.number).
+    merged_at-steps stream (change.number + 1) frame after Rest changes more fits met drop rest acked.1 (drop change changes r) h.2) where
       by_test : (same below : Bool) → nat_eq frame.number change.number ≡ same → nat_lt change.number frame.number ≡ below
           → (change.number + 1 ≤ frame.number → AreStepsFrom stream (change.number + 1) (merged_at frame after changes))
           → AreStepsFrom stream low (if same then joined_step frame change ∷ after changes
           else if below then change_step change ∷ merged_at frame after changes else frame_step frame ∷ after (change ∷ changes))
       by_test true below e g others =
-          (above, step (Some change), rest changes (orderly_lower (change.number + 1) (frame.number + 1) changes (omega (arith, equal_from_test frame.number change.number e)) h.2))
+          let same = equal_from_test frame.number change.number e in (
+            above,
+            frame_is_on stream frame (Some change) fits met (λ c k. acked.0 same),
+            rest changes (drop change changes r) (orderly_lower (change.number + 1) (frame.number + 1) changes (omega (arith, same)) h.2),
+          )
       by_test false true e g others =
-          (h.0, record { number = h.1; frame = λ f k. cc }, others (omega (arith, below_from_test change.number frame.number g)))
+          (h.0, change_is_on stream change h.1, others (omega (arith, below_from_test change.number frame.number g)))
       by_test false false e g others = (
         above,
-        step None,
-        rest (change ∷ changes)
+        frame_is_on stream frame None fits met (λ c k. cc),
+        rest (change ∷ changes) r
             (omega (arith, not_below_from_test change.number frame.number g, unequal_from_test frame.number change.number e), h.1, h.2),
       )
 
 pub merged-steps : (stream low : ℕ) (frames : List Frame) (changes : List Change) → IsOrderlyFrom low frames
-    → AllByRecursion (λ (frame : Frame). frame.stream ≡ stream) frames → AreOrderlyFrom low changes → AreStepsFrom stream low (merged frames changes)
-merged-steps stream low [] changes orderly own h = change_steps stream low changes h
-merged-steps stream low (frame ∷ frames) changes orderly own h =
-    merged_at-steps stream low frame (merged frames) changes orderly.0 orderly.1 own.0
-    (λ cs k. merged-steps stream (frame.number + 1) frames cs orderly.2 own.1 k) h
+    → AllByRecursion (λ (frame : Frame). meets stream frame ≡ true) frames → Acknowledge frames changes
+    → AreOrderlyFrom low changes → AreStepsFrom stream low (merged frames changes)
+merged-steps stream low [] changes orderly own acked h = change_steps stream low changes h
+merged-steps stream low (frame ∷ frames) changes orderly own acked h =
+    merged_at-steps stream low frame (merged frames) (Acknowledge frames) changes orderly.0 orderly.1.number own.0
+    (acknowledge-tail frames)
+    (λ cs a k. merged-steps stream (frame.number + 1) frames cs orderly.2 own.1 a k) acked.0 acked.1 h

@@ -11,7 +11,7 @@ use Rattle.audit_terms.specs.InForce.{initial_in_force}
 use Rattle.audit_terms.specs.Stream.{idle_stream, stream_run_from, stream_after_all}
 use Rattle.audit_terms.specs.Run.{stream_run, stream_at_end}
 use Rattle.settings_pair.specs.Changes.{AreOrderly}
-use Rattle.stream_credit.specs.Merged.{merged}
+use Rattle.stream_credit.specs.code.Merged.{merged}
 use Rattle.stream_credit.proofs.MergedLemmas.{steps_of-merged}
 
 -- with no step left, what was found is the run

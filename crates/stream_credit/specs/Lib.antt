@@ -1,4 +1,3 @@
-pub mod Merged
-pub mod Account
-pub mod Outcome
 pub mod Part
+pub mod RunExamples
+pub mod code

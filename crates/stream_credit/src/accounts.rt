@@ -3,13 +3,13 @@ ghost use Rattle.audit_terms.specs.Frame.{is_zero_grant};
 ghost use Rattle.audit_terms.specs.Finding.{say_of};
 ghost use Rattle.audit_terms.specs.InForce.{initial_in_force};
 ghost use Rattle.audit_terms.specs.Stream.{idle_stream, opens, frame_said, initial_after, stream_after, stream_said};
-ghost use Rattle.stream_credit.specs.Account.{entry_of, IsSound, KeepsLife};
-ghost use Rattle.stream_credit.specs.Merged.{IsStepOn};
-ghost use Rattle.stream_credit.specs.Outcome.{is_opened, is_not_opened, is_after_end};
+ghost use Rattle.stream_life.specs.Outcome.{tells_opening, tells_not_opened, tells_after_end};
+ghost use Rattle.stream_credit.specs.code.Account.{entry_of, IsSound, KeepsLife};
+ghost use Rattle.stream_credit.specs.code.Merged.{IsStepOn};
 
-use audit_terms::say_if;
-use audit_terms::{initial_after, say_window};
-use audit_terms::{Finding, Frame, Kind, Side, Sides, Step};
+use audit_terms::{
+    FIRST_WINDOW, Finding, Frame, Kind, Side, Sides, Step, initial_after, say_if, say_window,
+};
 use std::alloc::AllocError;
 use stream_life::{Life, LifeOutcome};
 
@@ -17,7 +17,8 @@ use stream_life::{Life, LifeOutcome};
 #[derive(Clone, Copy)]
 pub(crate) struct Account {
     stream: u32,
-    life: Life,
+    /// The stream as far as its frames alone tell.
+    known: Life,
     /// The initial windows in force.
     initial: Sides<u32>,
     /// The credit in bytes of each side's window, while that window is live.
@@ -36,10 +37,10 @@ impl Account {
     {
         Account {
             stream,
-            life: Life::idle(stream),
+            known: Life::idle(stream),
             initial: Sides {
-                client: 65535,
-                server: 65535,
+                client: FIRST_WINDOW,
+                server: FIRST_WINDOW,
             },
             window: Sides {
                 client: None,
@@ -50,9 +51,9 @@ impl Account {
 
     /// The number of the frame that opened the stream.
     pub(crate) fn opened_at(&self) -> Option<u32>
-        ensures { result ≡ (entry_of self.now).opened }
+        ensures { result ≡ (entry_of self.now).life.opened }
     {
-        self.life.opened_at()
+        self.known.opened_at()
     }
 
     /// Says what a step shows of the stream, and brings the account to its state after the step.
@@ -105,12 +106,12 @@ impl Account {
             return Ok(false);
         };
         let grants_nothing = self.grants_nothing(&frame);
-        let outcome = self.life.step(&frame);
+        let outcome = self.known.step(&frame);
         let code = u32::from(frame.code);
         let not_opened = Finding::at(Kind::NotOpened, step.number, self.stream, frame.side, code);
-        say_if(said, needed_opening(outcome), not_opened)?;
+        say_if(said, is_not_opened(outcome), not_opened)?;
         let after_end = Finding::at(Kind::AfterEnd, step.number, self.stream, frame.side, code);
-        say_if(said, came_after_end(outcome), after_end)?;
+        say_if(said, is_after_end(outcome), after_end)?;
         let zero = Finding::at(
             Kind::ZeroStreamGrant,
             step.number,
@@ -119,31 +120,34 @@ impl Account {
             0,
         );
         say_if(said, grants_nothing, zero)?;
-        Ok(opened(outcome))
+        Ok(is_opening(outcome))
     }
 
     /// Is it a grant of 0 on the opened stream?
     fn grants_nothing(&self, frame: &Frame) -> bool
-        ensures { result ≡ (is_zero_grant frame.now.body && is_some (entry_of self.now).opened) }
+        ensures { result ≡ (is_zero_grant frame.now.body && is_some (entry_of self.now).life.opened) }
     {
-        frame.body.is_zero_grant() && self.life.opened_at().is_some()
+        frame.body.is_zero_grant() && self.known.opened_at().is_some()
     }
 }
 
-fn opened(outcome: LifeOutcome) -> bool
-    ensures { result ≡ is_opened outcome }
+/// Is it the outcome of the frame that opens the stream?
+fn is_opening(outcome: LifeOutcome) -> bool
+    ensures { result ≡ tells_opening outcome }
 {
     matches!(outcome, LifeOutcome::Opened)
 }
 
-fn needed_opening(outcome: LifeOutcome) -> bool
-    ensures { result ≡ is_not_opened outcome }
+/// Is it the outcome of a frame that finds no opened stream, or of a misplaced promise?
+fn is_not_opened(outcome: LifeOutcome) -> bool
+    ensures { result ≡ tells_not_opened outcome }
 {
     matches!(outcome, LifeOutcome::NotOpened)
 }
 
-fn came_after_end(outcome: LifeOutcome) -> bool
-    ensures { result ≡ is_after_end outcome }
+/// Is it the outcome of a frame that comes after its side's end?
+fn is_after_end(outcome: LifeOutcome) -> bool
+    ensures { result ≡ tells_after_end outcome }
 {
     matches!(outcome, LifeOutcome::AfterEnd)
 }

@@ -1,11 +1,11 @@
 use audit_terms::{Finding, Frame};
 
-/// The frames of one stream, in order.
+/// The frames that one stream meets, in order.
 #[derive(Drop)]
 pub struct StreamPart {
     /// The stream identifier, from 1 to 2^31 - 1.
     pub stream: u32,
-    /// All frames on the stream.
+    /// All frames on the stream, and all that promise it (RFC 9113, 6.6).
     pub frames: Vec<Frame>,
 }
 

@@ -1,6 +1,6 @@
 ghost use Rattle.std.specs.Prelude.{◌≡◌, IfOk};
 ghost use Rattle.audit_terms.specs.Run.{stream_run, stream_at_end};
-ghost use Rattle.settings_pair.specs.Changes.{AreOrderly};
+ghost use Rattle.settings_pair.specs.Changes.{AreOrderly, AreAcknowledged};
 ghost use Rattle.stream_credit.specs.Part.{IsPart};
 
 use crate::accounts::Account;
@@ -12,7 +12,8 @@ use std::alloc::{AllocError, Global};
 /// The findings of one stream, from its frames and all changes of its connection, and its opening.
 ///
 /// The kinds are `NotOpened`, `SettingOverflow`, `AfterEnd`, `StreamOverrun`, `ZeroStreamGrant`, `StreamOverflow`, the
-/// stalls of the stream's windows and `StreamCredit`. Nothing stops the run: what follows a connection error is there too.
+/// stalls of the stream's windows and `StreamCredit`. Nothing stops the run: what follows a connection error is there
+/// too. Credits, in bytes, stay below 2^60 in size.
 pub fn stream_run(
     alloc: Global,
     part: &StreamPart,
@@ -20,10 +21,11 @@ pub fn stream_run(
 ) -> Result<StreamRun, AllocError>
     requires part { IsPart part.now }
     requires changes { AreOrderly changes.now }
+    requires acknowledged { AreAcknowledged part.now.frames.items changes.now }
     ensures findings { IfOk result (λ run. run.findings.items
         ≡ stream_run part.now.stream part.now.frames.items changes.now) }
     ensures opened { IfOk result (λ run. run.opened_at
-        ≡ (stream_at_end part.now.stream part.now.frames.items changes.now).opened) }
+        ≡ (stream_at_end part.now.stream part.now.frames.items changes.now).life.opened) }
 {
     let mut account = Account::idle(part.stream);
     let mut findings = Vec::new(alloc);

@@ -1,7 +1,7 @@
 ghost use Rattle.std.specs.Prelude.{◌≡◌};
 ghost use Rattle.std.specs.Iterator.{YieldsFirst, item_count};
 ghost use Rattle.audit_terms.specs.Run.{frame_step, change_step};
-ghost use Rattle.stream_credit.specs.Merged.{joined_step, merged};
+ghost use Rattle.stream_credit.specs.code.Merged.{joined_step, merged};
 
 use audit_terms::{Change, Frame, Step};
 use std::cmp::Ordering;

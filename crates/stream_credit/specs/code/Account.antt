@@ -4,25 +4,24 @@ use Rattle.audit_terms.specs.declared.sides.Side.{Side}
 use Rattle.audit_terms.specs.declared.items.Step.{Step}
 use Rattle.audit_terms.specs.declared.streams.Stream.{Stream}
 use Rattle.audit_terms.specs.Sides.{side_of}
-use Rattle.audit_terms.specs.Stream.{stream_after}
+use Rattle.audit_terms.specs.Stream.{life_at}
 use Rattle.audit_terms.specs.code.Room.{WindowHasRoom}
 use Rattle.stream_credit.specs.declared.accounts.Account.{Account}
 
--- the opening and the ends by the stream's life, and the windows
+-- the life, and the windows
 abbrev pub entry_of : Account → Stream
-entry_of account = record { opened = account.life.opened; ended = account.life.ended; window = account.window }
+entry_of account = record { life = account.known.life; window = account.window }
 
--- what holds before each step numbered `number` or above: each step moves a credit by less than 2^34
+-- what holds before each step numbered `number` or above: each step moves a credit by less than 2^32
 pub record IsSound (number : ℕ) (account : Account) : Type 0 where
-  pub stream : account.life.stream ≡ account.stream
+  pub stream : account.known.stream ≡ account.stream
   pub in_range : account.stream < 2 ^ 31
-  pub room : (d : Side) → WindowHasRoom (number * 2 ^ 34) (side_of d account.window)
+  pub room : (d : Side) → WindowHasRoom (number * 2 ^ 32) (side_of d account.window)
 
--- the opening and the ends are those after the step, and nothing else has changed
+-- the life is that after the step, and nothing else has changed
 pub record KeepsLife (step : Step) (old new : Account) : Type 0 where
-  pub opened : new.life.opened ≡ (stream_after old.stream old.initial (entry_of old) step).opened
-  pub ended : new.life.ended ≡ (stream_after old.stream old.initial (entry_of old) step).ended
-  pub life_stream : new.life.stream ≡ old.life.stream
+  pub life : new.known.life ≡ life_at old.stream (entry_of old) step
+  pub known_stream : new.known.stream ≡ old.known.stream
   pub stream : new.stream ≡ old.stream
   pub initial : new.initial ≡ old.initial
   pub window : new.window ≡ old.window

@@ -1,11 +1,12 @@
-use Rattle.std.proofs.Common.{◌≡◌, List, refl, ap, ◌∙◌, subst}
+use Rattle.std.proofs.Common.{◌≡◌, true, List, refl, ap, ◌∙◌, subst}
 use Rattle.std.proofs.lemmas.List.Elements.{recursion_from_All}
 use Rattle.audit_terms.specs.declared.frames.Frame.{Frame}
 use Rattle.audit_terms.specs.declared.items.Step.{Step}
-use Rattle.stream_credit.specs.Account.{entry_of}
-use Rattle.stream_credit.specs.Merged.{merged, AreStepsFrom}
+use Rattle.audit_terms.specs.Frame.{meets}
+use Rattle.stream_credit.specs.code.Account.{entry_of}
+use Rattle.stream_credit.specs.code.Merged.{merged, AreStepsFrom}
 use Rattle.stream_credit.proofs.AccountLemmas.{IsSound-later}
-use Rattle.stream_credit.proofs.MergedLemmas.{merged-steps}
+use Rattle.stream_credit.proofs.MergedLemmas.{acknowledge-all, merged-steps}
 use Rattle.stream_credit.proofs.RunLemmas.{found-all, entry-at_end}
 use Rattle.stream_credit.proofs.runs.stream_run.Goals as goal
 
@@ -20,7 +21,8 @@ loop-step-init c =
       sound = account.sound 0;
       same_stream = account.stream;
       steps = rw all (merged-steps part.stream 0 part.frames.items c.args.changes.now c.requires.part.orderly
-          (recursion_from_All (λ (frame : Frame). frame.stream ≡ part.stream) part.frames.items c.requires.part.own) c.requires.changes);
+          (recursion_from_All (λ (frame : Frame). meets part.stream frame ≡ true) part.frames.items c.requires.part.own)
+          (acknowledge-all part.frames.items c.args.changes.now c.requires.acknowledged) c.requires.changes);
       findings = rw (all, c.new-findings.ensures.items, account.initial, account.entry) refl;
       ends = rw (all, account.initial, account.entry) refl;
     }
@@ -42,5 +44,5 @@ pub returns-clause-opened : goal.returns-clause-opened
 returns-clause-opened c =
     let part = c.args.part.now in
     let i = c.loop-step.invariant in
-    c.opened_at.ensures ∙ ap (λ entry. entry.opened) (entry-at_end part.stream c.loop-step.account.initial (entry_of c.loop-step.account) _ part.frames.items c.args.changes.now
+    c.opened_at.ensures ∙ ap (λ entry. entry.life.opened) (entry-at_end part.stream c.loop-step.account.initial (entry_of c.loop-step.account) _ part.frames.items c.args.changes.now
     c.requires.changes c.in-None.ensures.steps.0 i.ends)

@@ -1,8 +1,8 @@
 use Rattle.std.proofs.Common.{◌≡◌, ◌++◌, ℕ}
 use Rattle.audit_terms.specs.InForce.{initial_in_force}
 use Rattle.audit_terms.specs.Stream.{idle_stream, stream_run_from, stream_after_all}
-use Rattle.stream_credit.specs.Account.{entry_of, IsSound}
-use Rattle.stream_credit.specs.Merged.{merged, AreStepsFrom}
+use Rattle.stream_credit.specs.code.Account.{entry_of, IsSound}
+use Rattle.stream_credit.specs.code.Merged.{merged, AreStepsFrom}
 use Rattle.stream_credit.proofs.runs.stream_run.Given as goal
 
 -- what was found so far, and what the steps that are left show from here, is the whole run

@@ -13,6 +13,6 @@ say_window-requires-2-clause-room c =
 pub returns-clause-sound : goal.returns-clause-sound
 returns-clause-sound c =
     let kept = c.in_ok-opens.ensures.entry in
-    IsSound-after c.args.step.now.number c.args.self.now _ kept.life_stream kept.stream c.requires.sound
+    IsSound-after c.args.step.now.number c.args.self.now _ kept.known_stream kept.stream c.requires.sound
     (c.in_ok-say_window.ensures.room _ (rw kept.window (c.requires.sound.room Client)))
     (c.in_ok-say_window-2.ensures.room _ (rw kept.window (c.requires.sound.room Server)))

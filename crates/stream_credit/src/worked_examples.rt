@@ -1,0 +1,34 @@
+//! Worked examples: what short scripts show of one stream, computed from the definitions by proof. The functions do
+//! nothing; each contract is the example.
+ghost use Rattle.stream_credit.specs.RunExamples.{NegativeWindow, SettingsReachEachStream, OpensAtZero, OverrunsAboveZero, OverflowingGrant, SettingOverflows, PromisedStall};
+
+/// A lower initial window makes a credit negative (RFC 9113, 6.9.2).
+pub fn negative_window()
+    ensures { NegativeWindow }
+{}
+
+/// A change counts for streams that are open and for streams that open later (6.9.2).
+pub fn settings_reach_each_stream()
+    ensures { SettingsReachEachStream }
+{}
+
+/// A window that opens at 0 (6.9.2).
+pub fn opens_at_zero()
+    ensures { OpensAtZero }
+{}
+
+/// More content than credit (6.9).
+pub fn overruns_above_zero()
+    ensures { OverrunsAboveZero }
+{}
+
+/// A grant above the largest window, and a change above it (6.9.1, 6.9.2).
+pub fn above_the_largest()
+    ensures overflowing_grant { OverflowingGrant }
+    ensures setting_overflows { SettingOverflows }
+{}
+
+/// A promised stream, its stall and its reset (5.1, 6.6).
+pub fn promised_stall()
+    ensures { PromisedStall }
+{}
