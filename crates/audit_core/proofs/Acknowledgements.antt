@@ -26,7 +26,8 @@ step_at-acknowledged frame change stream h = λ taken e. by_test (meets stream f
 pub change_of-acknowledged : (now : InForce) (frame : Frame) → IsOfAcknowledgement (change_of now frame) frame
 change_of-acknowledged now frame =
     by_test (is_ack frame.body) (slice_get (side_of (other frame.side) now.sent) (side_of frame.side now.paired)) where
-      by_test : (ack : Bool) (o : Option Settings) → ForSome (change_taking frame (if ack then o else None)) (λ _. ack ≡ true)
+      by_test : (ack : Bool) (o : Option Settings) →
+          ForSome (change_taking frame (if ack then o else None)) (λ _. ack ≡ true)
       by_test true o = λ change e. refl
       by_test false o = λ change e. absurd (nothing change e) where
         nothing : (change : Change) → None ≡ Some change → ⊥

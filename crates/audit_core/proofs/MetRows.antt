@@ -24,8 +24,9 @@ second false b c d e = cc
 -- a promised stream is the one that the frame promises
 promises-promised : (stream : ℕ) (frame : Frame) → promises stream frame ≡ true → promised_by frame ≡ stream
 promises-promised stream frame h =
-    let e : promised_in frame.body ≡ stream = eqb-true _ _ (second (is_server_promise frame) (promised_in frame.body == stream)
-    (stream % 2 == 0) (not (frame.stream == stream)) h) in
+    let e : promised_in frame.body ≡ stream =
+    eqb-true _ _ (second (is_server_promise frame) (promised_in frame.body == stream) (stream % 2 == 0)
+    (not (frame.stream == stream)) h) in
     let k : promises (promised_in frame.body) frame ≡ true = subst (λ s. promises s frame ≡ true) (sym e) h in
     rw k e
 
@@ -47,7 +48,8 @@ not_met stream frame own promised =
 abbrev remade : ℕ → Stream → StreamRow
 remade stream entry = record { stream = stream; entry = entry }
 
-module _ (initial : Sides ℕ) (frame : Frame) (change : Option Change) (still : initial_after change initial ≡ initial) where
+module _ (initial : Sides ℕ) (frame : Frame) (change : Option Change)
+    (still : initial_after change initial ≡ initial) where
   -- a row that is neither of the two is quiet
   module _ (row : StreamRow) (own : frame.stream ≢ row.stream) (promised : promised_by frame ≢ row.stream) where
     bare : step_at frame change row.stream ≡ bare_step frame.number change
@@ -122,7 +124,8 @@ module _ (initial : Sides ℕ) (frame : Frame) (change : Option Change) (still :
           rw (e, f) (sym (row_after-quiet row (λ p. unequal _ _ e (sym p)) (λ p. unequal _ _ f (sym p))))
 
 -- functions that agree
-flat_map-alike : {X Y : Type 0} (f g : X → List Y) → ((x : X) → f x ≡ g x) → (xs : List X) → flat_map f xs ≡ flat_map g xs
+flat_map-alike : {X Y : Type 0} (f g : X → List Y) → ((x : X) → f x ≡ g x) → (xs : List X) →
+    flat_map f xs ≡ flat_map g xs
 flat_map-alike f g h [] = refl
 flat_map-alike f g h (x ∷ xs) = ap (λ l. l ++ flat_map f xs) (h x) ∙ ap (λ l. g x ++ l) (flat_map-alike f g h xs)
 
@@ -134,7 +137,8 @@ map-map : {X Y Z : Type 0} (f : Y → Z) (g : X → Y) (xs : List X) → map f (
 map-map f g [] = refl
 map-map f g (x ∷ xs) = ap (λ l. f (g x) ∷ l) (map-map f g xs)
 
-flat_map-map : {X Y Z : Type 0} (f : Y → List Z) (g : X → Y) (xs : List X) → flat_map f (map g xs) ≡ flat_map (λ x. f (g x)) xs
+flat_map-map : {X Y Z : Type 0} (f : Y → List Z) (g : X → Y) (xs : List X) →
+    flat_map f (map g xs) ≡ flat_map (λ x. f (g x)) xs
 flat_map-map f g [] = refl
 flat_map-map f g (x ∷ xs) = ap (λ l. f (g x) ++ l) (flat_map-map f g xs)
 
@@ -157,7 +161,8 @@ in_order-pair f g h e (x ∷ xs) =
     ∙ in_order-alike (f x ++ g x) (h x) (flat_map f xs ++ flat_map g xs) (flat_map h xs)
     (ap in_order (e x)) (in_order-pair f g h e xs)
 
-module _ (initial : Sides ℕ) (frame : Frame) (change : Option Change) (still : initial_after change initial ≡ initial) (rows : List StreamRow) where
+module _ (initial : Sides ℕ) (frame : Frame) (change : Option Change) (still : initial_after change initial ≡ initial)
+    (rows : List StreamRow) where
   pub said-one_stream : promised_by frame ≡ frame.stream → (old new : List Finding) →
       new ≡ old ++ flat_map (row_said_of frame.stream initial frame change) rows →
       in_order new ≡ in_order (old ++ flat_map (row_said initial frame change) rows)
@@ -179,30 +184,37 @@ module _ (initial : Sides ℕ) (frame : Frame) (change : Option Change) (still :
         let last = row_said_of (promised_by frame) initial frame change in
         ap in_order (f ∙ ap (λ l. l ++ flat_map last middle) e
         ∙ ap (λ l. (old ++ flat_map first rows) ++ flat_map last l) own
-        ∙ ap (λ l. (old ++ flat_map first rows) ++ l) (flat_map-map last (row_after_of frame.stream initial frame change) rows)
+        ∙ ap (λ l. (old ++ flat_map first rows) ++ l)
+        (flat_map-map last (row_after_of frame.stream initial frame change) rows)
         ∙ append_assoc old (flat_map first rows) _)
         ∙ in_order-alike old old _ (flat_map (row_said initial frame change) rows) refl
-        (in_order-pair first (λ row. last (row_after_of frame.stream initial frame change row)) (row_said initial frame change)
+        (in_order-pair first (λ row. last (row_after_of frame.stream initial frame change row))
+        (row_said initial frame change)
         (said-pair initial frame change still two) rows)
 
-    pub after-two_streams : (new : List StreamRow) → new ≡ map (row_after_of (promised_by frame) initial frame change) middle →
+    pub after-two_streams : (new : List StreamRow) →
+        new ≡ map (row_after_of (promised_by frame) initial frame change) middle →
         new ≡ map (row_after initial frame change) rows
     after-two_streams new e =
         e ∙ ap (map (row_after_of (promised_by frame) initial frame change)) own
-        ∙ map-map (row_after_of (promised_by frame) initial frame change) (row_after_of frame.stream initial frame change) rows
+        ∙ map-map (row_after_of (promised_by frame) initial frame change)
+        (row_after_of frame.stream initial frame change) rows
         ∙ map-alike _ _ (after-pair initial frame change still two) rows
 
 -- a row has more room by one frame, whether it is met or not
-pub fit-single : (more stream bound : ℕ) (rows : List StreamRow) → RowsFitBy (bound_more more stream (λ _. bound)) rows → RowsFit (bound + more) rows
-fit-single more stream bound = all_fit-by (bound_more more stream (λ _. bound)) (λ _. bound + more) (λ other. by_test (other == stream)) where
-  by_test : (b : Bool) → (if b then bound + more else bound) ≤ bound + more
-  by_test true = omega arith
-  by_test false = omega arith
+pub fit-single : (more stream bound : ℕ) (rows : List StreamRow) →
+    RowsFitBy (bound_more more stream (λ _. bound)) rows → RowsFit (bound + more) rows
+fit-single more stream bound = all_fit-by (bound_more more stream (λ _. bound)) (λ _. bound + more)
+    (λ other. by_test (other == stream)) where
+      by_test : (b : Bool) → (if b then bound + more else bound) ≤ bound + more
+      by_test true = omega arith
+      by_test false = omega arith
 
 pub fit-pair : (more stream promised bound : ℕ) → promised ≢ stream → (rows : List StreamRow) →
     RowsFitBy (bound_more more promised (bound_more more stream (λ _. bound))) rows → RowsFit (bound + more) rows
 fit-pair more stream promised bound two =
-    all_fit-by (bound_more more promised (bound_more more stream (λ _. bound))) (λ _. bound + more) (λ other. by_tests other _ _ refl refl) where
+    all_fit-by (bound_more more promised (bound_more more stream (λ _. bound))) (λ _. bound + more)
+    (λ other. by_tests other _ _ refl refl) where
       by_tests : (other : ℕ) (a b : Bool) → (other == stream) ≡ a → (other == promised) ≡ b →
           bound_more more promised (bound_more more stream (λ _. bound)) other ≤ bound + more
       by_tests other true true e f = absurd (two (sym (eqb-true _ _ f) ∙ eqb-true _ _ e))

@@ -48,7 +48,8 @@ filter-filter p q (x ∷ xs) = step _ _ refl refl (filter-filter p q xs) where
 
 among-append : (q s : ℕ) (seen : List ℕ) → is_among q (seen ++ s ∷ []) ≡ (is_among q seen || (q == s))
 among-append q s [] = or_false (q == s)
-among-append q s (x ∷ seen) = ap (λ b. (q == x) || b) (among-append q s seen) ∙ sym (or_assoc (q == x) (is_among q seen) (q == s))
+among-append q s (x ∷ seen) = ap (λ b. (q == x) || b) (among-append q s seen)
+    ∙ sym (or_assoc (q == x) (is_among q seen) (q == s))
 
 none_among : (q : ℕ) (seen : List ℕ) → NotAmong q seen → is_among q seen ≡ false
 none_among q [] h = refl
@@ -124,7 +125,8 @@ module _ (stream : ℕ) (seen later : List ℕ) where
       ∙ ap (λ l. seen ++ l) (sym (named-new z h))
 
   -- the streams seen and those still to come stay the same
-  pub named-more : with_stream stream seen ++ without (with_stream stream seen) later ≡ seen ++ without seen (first_of stream later)
+  pub named-more : with_stream stream seen ++ without (with_stream stream seen) later ≡ seen
+      ++ without seen (first_of stream later)
   named-more = named-by _ _ refl refl
 
 pub with-zero : (stream : ℕ) (seen : List ℕ) → stream ≡ 0 → seen ≡ with_stream stream seen
@@ -132,9 +134,11 @@ with-zero stream seen e = rw (eq-eqb stream 0 e) refl
 
 pub with-seen : (stream : ℕ) (seen : List ℕ) → is_among stream seen ≡ true → seen ≡ with_stream stream seen
 with-seen stream seen h =
-    let t : ((stream == 0) || is_among stream seen) ≡ true = ap (λ b. (stream == 0) || b) h ∙ or_true (stream == 0) in rw t refl
+    let t : ((stream == 0) || is_among stream seen) ≡ true = ap (λ b. (stream == 0) || b) h ∙ or_true (stream == 0) in
+    rw t refl
 
-pub with-new : (stream : ℕ) (seen : List ℕ) → stream ≢ 0 → NotAmong stream seen → seen ++ stream ∷ [] ≡ with_stream stream seen
+pub with-new : (stream : ℕ) (seen : List ℕ) → stream ≢ 0 → NotAmong stream seen → seen ++ stream ∷ []
+    ≡ with_stream stream seen
 with-new stream seen z h = step _ refl where
   step : (b : Bool) → (stream == 0) ≡ b → seen ++ stream ∷ [] ≡ with_stream stream seen
   step true e = absurd (z (eqb-true stream 0 e))
@@ -142,8 +146,10 @@ with-new stream seen z h = step _ refl where
 
 -- what the map answers
 module _ (seen : List ℕ) (positions : Positions) (index : IsIndex seen positions) (stream : ℕ) where
-  placed-as : (o : Option ℕ) → get nat_eq positions stream ≡ o → MatchOption o (NotAmong stream seen) (λ p. slice_get seen p ≡ Some stream)
-  placed-as o e = subst (λ o. MatchOption o (NotAmong stream seen) (λ p. slice_get seen p ≡ Some stream)) e (index.placed stream)
+  placed-as : (o : Option ℕ) → get nat_eq positions stream ≡ o →
+      MatchOption o (NotAmong stream seen) (λ p. slice_get seen p ≡ Some stream)
+  placed-as o e = subst (λ o. MatchOption o (NotAmong stream seen) (λ p. slice_get seen p ≡ Some stream)) e
+      (index.placed stream)
 
   pub among-from_map : (o : Option ℕ) → get nat_eq positions stream ≡ o → is_some o ≡ true → is_among stream seen ≡ true
   among-from_map None e h = cc
@@ -170,7 +176,8 @@ distinct-append : (s : ℕ) (xs : List ℕ) → NotAmong s xs → AreDistinct xs
 distinct-append s [] n h = (tt, tt)
 distinct-append s (x ∷ xs) n h = (not_among-append x s xs h.0 (λ e. n.0 (sym e)), distinct-append s xs n.1 h.1)
 
-match-append : (q s : ℕ) (seen : List ℕ) (o : Option ℕ) → q ≢ s → MatchOption o (NotAmong q seen) (λ p. slice_get seen p ≡ Some q) →
+match-append : (q s : ℕ) (seen : List ℕ) (o : Option ℕ) → q ≢ s →
+    MatchOption o (NotAmong q seen) (λ p. slice_get seen p ≡ Some q) →
     MatchOption o (NotAmong q (seen ++ s ∷ [])) (λ p. slice_get (seen ++ s ∷ []) p ≡ Some q)
 match-append q s seen None n h = not_among-append q s seen h n
 match-append q s seen (Some p) n h = slice_get-append seen (s ∷ []) p q h
@@ -184,16 +191,20 @@ index-more seen before after stream index new updates = record {
   placed = λ q. step q _ refl;
 } where
   step : (q : ℕ) (b : Bool) → nat_eq stream q ≡ b →
-      MatchOption (get nat_eq after q) (NotAmong q (seen ++ stream ∷ [])) (λ p. slice_get (seen ++ stream ∷ []) p ≡ Some q)
+      MatchOption (get nat_eq after q) (NotAmong q (seen ++ stream ∷ []))
+      (λ p. slice_get (seen ++ stream ∷ []) p ≡ Some q)
   step q true e =
       let u : get nat_eq after q ≡ Some (length seen) = updates q ∙ (rw e refl) in
-      let k : slice_get (seen ++ stream ∷ []) (length seen) ≡ Some q = slice_get-last seen stream ∙ ap Some (eqb-true stream q e) in
+      let k : slice_get (seen ++ stream ∷ []) (length seen) ≡ Some q = slice_get-last seen stream
+      ∙ ap Some (eqb-true stream q e) in
       rw u k
   step q false e =
       let u : get nat_eq after q ≡ get nat_eq before q = updates q ∙ (rw e refl) in
-      rw u (match-append q stream seen (get nat_eq before q) (λ p. true≢false (sym (eq-eqb stream q (sym p)) ∙ e)) (index.placed q))
+      rw u (match-append q stream seen (get nat_eq before q) (λ p. true≢false (sym (eq-eqb stream q (sym p)) ∙ e))
+      (index.placed q))
 
-pub streams_in-push : (rows : List StreamRow) (row : StreamRow) → streams_in (rows ++ row ∷ []) ≡ streams_in rows ++ row.stream ∷ []
+pub streams_in-push : (rows : List StreamRow) (row : StreamRow) → streams_in (rows ++ row ∷ []) ≡ streams_in rows
+    ++ row.stream ∷ []
 streams_in-push [] row = refl
 streams_in-push (x ∷ rows) row = ap (λ l. x.stream ∷ l) (streams_in-push rows row)
 

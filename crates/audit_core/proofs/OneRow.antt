@@ -27,7 +27,8 @@ module _ (stream : ℕ) (said : StreamRow → List Finding) (after : StreamRow �
     some_same e = cc
   not_this q (x ∷ xs) (suc i) h e = not_this q xs i h.1 e
 
-  this_none : (row : StreamRow) (rows : List StreamRow) → NotAmong row.stream (streams_in rows) → Some row.stream ≡ Some stream →
+  this_none : (row : StreamRow) (rows : List StreamRow) → NotAmong row.stream (streams_in rows) → Some row.stream
+      ≡ Some stream →
       NotAmong stream (streams_in rows)
   this_none row rows h e =
       let p : row.stream ≡ stream = cc in subst (λ q. NotAmong q (streams_in rows)) p h
@@ -50,17 +51,20 @@ module _ (stream : ℕ) (said : StreamRow → List Finding) (after : StreamRow �
       ∙ ap (λ l. row ∷ l) (after-one rows i d h.1 e)
 
 -- a place of a stream is a place of a row
-pub place-within : (stream : ℕ) (rows : List StreamRow) (i : ℕ) → slice_get (streams_in rows) i ≡ Some stream → i < length rows
+pub place-within : (stream : ℕ) (rows : List StreamRow) (i : ℕ) → slice_get (streams_in rows) i ≡ Some stream →
+    i < length rows
 place-within stream [] i e = cc
 place-within stream (row ∷ rows) zero e = omega arith
 place-within stream (row ∷ rows) (suc i) e = let k = place-within stream rows i e in omega arith
 
-pub fit-get_or : (bound : ℕ) (rows : List StreamRow) (i : ℕ) (d : StreamRow) → i < length rows → RowsFit bound rows → RowFits bound (get_or rows i d)
+pub fit-get_or : (bound : ℕ) (rows : List StreamRow) (i : ℕ) (d : StreamRow) → i < length rows → RowsFit bound rows →
+    RowFits bound (get_or rows i d)
 fit-get_or bound [] i d l h = absurd (omega arith)
 fit-get_or bound (row ∷ rows) zero d l h = h.0
 fit-get_or bound (row ∷ rows) (suc i) d l h = fit-get_or bound rows i d (omega arith) h.1
 
-window-wider : (bound more : ℕ) (window : Option ℤ) → bound ≤ more → WindowHasRoom bound window → WindowHasRoom more window
+window-wider : (bound more : ℕ) (window : Option ℤ) → bound ≤ more → WindowHasRoom bound window →
+    WindowHasRoom more window
 window-wider bound more window l h = λ credit e. room-wider bound more credit l (h credit e)
 
 pub fit-wider : (bound more : ℕ) (row : StreamRow) → bound ≤ more → RowFits bound row → RowFits more row
@@ -101,4 +105,5 @@ whole-back n new old e k =
 pub streams_in-map : (after : StreamRow → StreamRow) → ((row : StreamRow) → (after row).stream ≡ row.stream) →
     (rows : List StreamRow) → streams_in (map after rows) ≡ streams_in rows
 streams_in-map after h [] = refl
-streams_in-map after h (row ∷ rows) = ap (λ q. q ∷ streams_in (map after rows)) (h row) ∙ ap (λ l. row.stream ∷ l) (streams_in-map after h rows)
+streams_in-map after h (row ∷ rows) = ap (λ q. q ∷ streams_in (map after rows)) (h row)
+    ∙ ap (λ l. row.stream ∷ l) (streams_in-map after h rows)

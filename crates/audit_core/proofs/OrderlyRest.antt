@@ -4,14 +4,16 @@ use Rattle.audit_terms.specs.declared.frames.Frame.{Frame}
 use Rattle.audit_terms.specs.Frame.{IsInRange, IsOrderlyFrom}
 
 -- each frame of an orderly list is in range
-pub in_range-get_or : (low : ℕ) (frames : List Frame) (i : ℕ) (d : Frame) → IsOrderlyFrom low frames → i < length frames →
+pub in_range-get_or : (low : ℕ) (frames : List Frame) (i : ℕ) (d : Frame) → IsOrderlyFrom low frames →
+    i < length frames →
     IsInRange (get_or frames i d)
 in_range-get_or low [] i d h l = absurd (omega arith)
 in_range-get_or low (frame ∷ frames) zero d h l = h.1
 in_range-get_or low (frame ∷ frames) (suc i) d h l = in_range-get_or (frame.number + 1) frames i d h.2 (omega arith)
 
 -- there are not more frames than numbers
-pub length-orderly : (low : ℕ) (frames : List Frame) → low < 2 ^ 28 → IsOrderlyFrom low frames → low + length frames < 2 ^ 28
+pub length-orderly : (low : ℕ) (frames : List Frame) → low < 2 ^ 28 → IsOrderlyFrom low frames →
+    low + length frames < 2 ^ 28
 length-orderly low [] p h = omega arith
 length-orderly low (frame ∷ frames) p h =
     let r = h.1.number in

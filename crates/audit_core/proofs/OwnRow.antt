@@ -11,7 +11,8 @@ use Rattle.audit_core.specs.code.StreamTable.{row_said, row_after, row_said_of, 
 use Rattle.audit_core.proofs.OneRow.{said-one, after-one, said-none, after-none, streams_in-map, fit-wider, all_fit-by}
 
 -- the row at a place of a stream is a row of that stream
-pub stream-at : (stream : ℕ) (rows : List StreamRow) (place : ℕ) (d : StreamRow) → slice_get (streams_in rows) place ≡ Some stream →
+pub stream-at : (stream : ℕ) (rows : List StreamRow) (place : ℕ) (d : StreamRow) → slice_get (streams_in rows) place
+    ≡ Some stream →
     (get_or rows place d).stream ≡ stream
 stream-at stream [] place d e = cc
 stream-at stream (row ∷ rows) zero d e = cc
@@ -30,48 +31,60 @@ module _ (stream : ℕ) (initial : Sides ℕ) (frame : Frame) (change : Option C
     by_test true e = absurd (other (sym (eqb-true row.stream stream e)))
     by_test false e = rw e refl
 
-  said-this : (row : StreamRow) → row.stream ≡ stream → row_said_of stream initial frame change row ≡ row_said initial frame change row
+  said-this : (row : StreamRow) → row.stream ≡ stream → row_said_of stream initial frame change row
+      ≡ row_said initial frame change row
   said-this row e = let t = eq-eqb row.stream stream e in rw t refl
 
-  after-this : (row : StreamRow) → row.stream ≡ stream → row_after_of stream initial frame change row ≡ row_after initial frame change row
+  after-this : (row : StreamRow) → row.stream ≡ stream → row_after_of stream initial frame change row
+      ≡ row_after initial frame change row
   after-this row e = let t = eq-eqb row.stream stream e in rw t refl
 
   pub stream-after_of : (row : StreamRow) → (row_after_of stream initial frame change row).stream ≡ row.stream
   stream-after_of row = by_test _ refl where
-    by_test : (b : Bool) → (row.stream == stream) ≡ b → (row_after_of stream initial frame change row).stream ≡ row.stream
+    by_test : (b : Bool) → (row.stream == stream) ≡ b → (row_after_of stream initial frame change row).stream
+        ≡ row.stream
     by_test true e = rw e refl
     by_test false e = rw e refl
 
   module _ (rows : List StreamRow) where
-    pub said-own : (place : ℕ) (d : StreamRow) → AreDistinct (streams_in rows) → slice_get (streams_in rows) place ≡ Some stream →
+    pub said-own : (place : ℕ) (d : StreamRow) → AreDistinct (streams_in rows) → slice_get (streams_in rows) place
+        ≡ Some stream →
         flat_map (row_said_of stream initial frame change) rows ≡ row_said initial frame change (get_or rows place d)
     said-own place d distinct at =
-        said-one stream (row_said_of stream initial frame change) (row_after_of stream initial frame change) silent same rows place d distinct at
+        said-one stream (row_said_of stream initial frame change)
+        (row_after_of stream initial frame change) silent same rows place d distinct at
         ∙ said-this (get_or rows place d) (stream-at stream rows place d at)
 
-    pub after-own : (place : ℕ) (d : StreamRow) → AreDistinct (streams_in rows) → slice_get (streams_in rows) place ≡ Some stream →
-        map (row_after_of stream initial frame change) rows ≡ set rows place (row_after initial frame change (get_or rows place d))
+    pub after-own : (place : ℕ) (d : StreamRow) → AreDistinct (streams_in rows) → slice_get (streams_in rows) place
+        ≡ Some stream →
+        map (row_after_of stream initial frame change) rows
+        ≡ set rows place (row_after initial frame change (get_or rows place d))
     after-own place d distinct at =
-        after-one stream (row_said_of stream initial frame change) (row_after_of stream initial frame change) silent same rows place d distinct at
+        after-one stream (row_said_of stream initial frame change)
+        (row_after_of stream initial frame change) silent same rows place d distinct at
         ∙ ap (set rows place) (after-this (get_or rows place d) (stream-at stream rows place d at))
 
     pub said-no_row : NotAmong stream (streams_in rows) → flat_map (row_said_of stream initial frame change) rows ≡ []
-    said-no_row = said-none stream (row_said_of stream initial frame change) (row_after_of stream initial frame change) silent same rows
+    said-no_row = said-none stream (row_said_of stream initial frame change)
+        (row_after_of stream initial frame change) silent same rows
 
     pub after-no_row : NotAmong stream (streams_in rows) → map (row_after_of stream initial frame change) rows ≡ rows
-    after-no_row = after-none stream (row_said_of stream initial frame change) (row_after_of stream initial frame change) silent same rows
+    after-no_row = after-none stream (row_said_of stream initial frame change)
+        (row_after_of stream initial frame change) silent same rows
 
 -- where the map says that a stream's row stands, it stands
 pub place-found : (streams : List ℕ) (positions : Positions) (stream place : ℕ) → IsIndex streams positions →
     Some place ≡ get nat_eq positions stream → slice_get streams place ≡ Some stream
 place-found streams positions stream place index e =
-    subst (λ o. MatchOption o (NotAmong stream streams) (λ p. slice_get streams p ≡ Some stream)) (sym e) (index.placed stream)
+    subst (λ o. MatchOption o (NotAmong stream streams) (λ p. slice_get streams p ≡ Some stream)) (sym e)
+    (index.placed stream)
 
 -- where it has no place, there is no row
 pub place-none : (streams : List ℕ) (positions : Positions) (stream : ℕ) → IsIndex streams positions →
     None ≡ get nat_eq positions stream → NotAmong stream streams
 place-none streams positions stream index e =
-    subst (λ o. MatchOption o (NotAmong stream streams) (λ p. slice_get streams p ≡ Some stream)) (sym e) (index.placed stream)
+    subst (λ o. MatchOption o (NotAmong stream streams) (λ p. slice_get streams p ≡ Some stream)) (sym e)
+    (index.placed stream)
 
 pub index-kept : (after : StreamRow → StreamRow) (rows new : List StreamRow) (positions : Positions) →
     ((row : StreamRow) → (after row).stream ≡ row.stream) →
@@ -86,7 +99,8 @@ bound-more more stream bound other = by_test (other == stream) where
   by_test true = omega arith
   by_test false = omega arith
 
-pub bound-own : (more stream : ℕ) (bound : ℕ → ℕ) (other : ℕ) → other ≡ stream → bound_more more stream bound other ≡ bound other + more
+pub bound-own : (more stream : ℕ) (bound : ℕ → ℕ) (other : ℕ) → other ≡ stream → bound_more more stream bound other
+    ≡ bound other + more
 bound-own more stream bound other e = let t = eq-eqb other stream e in rw t refl
 
 -- one row with more room
@@ -103,6 +117,7 @@ fit-set more stream bound (row ∷ rows) zero d y s e f h = (
   first : Some row.stream ≡ Some stream → row.stream ≡ stream
   first e = cc
 fit-set more stream bound (row ∷ rows) (suc i) d y s e f h = (
-  fit-wider (bound row.stream) (bound_more more stream bound row.stream) row (bound-more more stream bound row.stream) h.0,
+  fit-wider (bound row.stream) (bound_more more stream bound row.stream) row
+      (bound-more more stream bound row.stream) h.0,
   fit-set more stream bound rows i d y s e f h.1,
 )

@@ -45,9 +45,11 @@ pub full-rows : (frames : List Frame) → IsOrderly frames →
 full-rows frames h = sym (full-in_order frames h) ∙ in_order-said (streams_of frames) pass_start frames
 
 -- one more frame
-pub rows-more : (all old new : List Finding) (streams : List ℕ) (state : PassState) (frame : Frame) (left rest : List Frame) →
+pub rows-more : (all old new : List Finding) (streams : List ℕ) (state : PassState) (frame : Frame)
+    (left rest : List Frame) →
     left ≡ frame ∷ rest → in_order new ≡ in_order (old ++ rows_of streams state frame) →
-    in_order (old ++ said_rows streams state left) ≡ all → in_order (new ++ said_rows streams (next state frame) rest) ≡ all
+    in_order (old ++ said_rows streams state left) ≡ all →
+    in_order (new ++ said_rows streams (next state frame) rest) ≡ all
 rows-more all old new streams state frame left rest l n h =
     in_order-alike new (old ++ rows_of streams state frame) after after n refl
     ∙ ap in_order (append_assoc old (rows_of streams state frame) after
@@ -67,17 +69,21 @@ abbrev pub rows_at : PassState → List ℕ → List StreamRow
 rows_at state streams = map (λ stream. record { stream = stream; entry = state.streams stream }) streams
 
 pub said-rows_at : (state : PassState) (frame : Frame) (streams : List ℕ) →
-    flat_map (row_said state.in_force.initial frame (change_of state.in_force frame)) (rows_at state streams) ≡ streams_said streams state frame
+    flat_map (row_said state.in_force.initial frame (change_of state.in_force frame)) (rows_at state streams)
+    ≡ streams_said streams state frame
 said-rows_at state frame [] = refl
 said-rows_at state frame (stream ∷ streams) =
-    ap (λ l. stream_said stream state.in_force.initial (state.streams stream) (step_of state.in_force frame stream) ++ l)
+    ap (λ l. stream_said stream state.in_force.initial (state.streams stream) (step_of state.in_force frame stream)
+    ++ l)
     (said-rows_at state frame streams)
 
 pub after-rows_at : (state : PassState) (frame : Frame) (streams : List ℕ) →
-    map (row_after state.in_force.initial frame (change_of state.in_force frame)) (rows_at state streams) ≡ rows_at (next state frame) streams
+    map (row_after state.in_force.initial frame (change_of state.in_force frame)) (rows_at state streams)
+    ≡ rows_at (next state frame) streams
 after-rows_at state frame [] = refl
 after-rows_at state frame (stream ∷ streams) =
-    ap (λ l. record { stream = stream; entry = (next state frame).streams stream } ∷ l) (after-rows_at state frame streams)
+    ap (λ l. record { stream = stream; entry = (next state frame).streams stream } ∷ l)
+    (after-rows_at state frame streams)
 
 pub idle-rows_at : (streams : List ℕ) → idle_rows streams ≡ rows_at pass_start streams
 idle-rows_at streams = refl
@@ -88,17 +94,20 @@ none-taking frame (Some settings) = refl
 
 -- an acknowledgement that brings no change has taken nothing
 pub settings_said-change : (now : InForce) (frame : Frame) →
-    say (is_ack frame.body && is_none (change_of now frame)) (finding_at UnmatchedAck frame.number frame.stream frame.side (pos 0))
+    say (is_ack frame.body && is_none (change_of now frame))
+    (finding_at UnmatchedAck frame.number frame.stream frame.side (pos 0))
     ≡ settings_said now frame
 settings_said-change now frame =
     ap (λ b. say (is_ack frame.body && b) (finding_at UnmatchedAck frame.number frame.stream frame.side (pos 0)))
     (none-taking frame (taken now frame))
 
 -- the parts of a frame, as the code adds them
-module _ (state : PassState) (frame : Frame) (names : List ℕ) (initial : Sides ℕ) (change : Option Change) (rows : List StreamRow)
+module _ (state : PassState) (frame : Frame) (names : List ℕ)
+    (initial : Sides ℕ) (change : Option Change) (rows : List StreamRow)
     (same_initial : initial ≡ state.in_force.initial) (same_change : change ≡ change_of state.in_force frame)
     (same_rows : rows ≡ rows_at state names) where
-  pub table-more : (new : List StreamRow) → new ≡ map (row_after initial frame change) rows → new ≡ rows_at (next state frame) names
+  pub table-more : (new : List StreamRow) → new ≡ map (row_after initial frame change) rows →
+      new ≡ rows_at (next state frame) names
   table-more new e =
       e ∙ ap (λ k. map (row_after k frame change) rows) same_initial
       ∙ ap (λ k. map (row_after state.in_force.initial frame k) rows) same_change
@@ -122,12 +131,14 @@ module _ (state : PassState) (frame : Frame) (names : List ℕ) (initial : Sides
       previous ≡ side_of frame.side state.previous → connection ≡ state.connection → item ≡ item_of state frame →
       (old one two three four : List Finding) →
       one ≡ old ++ local_said previous frame →
-      two ≡ one ++ say (is_ack frame.body && is_none change) (finding_at UnmatchedAck frame.number frame.stream frame.side (pos 0)) →
+      two ≡ one ++ say (is_ack frame.body && is_none change)
+      (finding_at UnmatchedAck frame.number frame.stream frame.side (pos 0)) →
       three ≡ two ++ connection_said connection item →
       in_order four ≡ in_order (three ++ flat_map (row_said initial frame change) rows) →
       in_order four ≡ in_order (old ++ rows_of names state frame)
   parts-more previous connection item e_previous e_connection e_item old one two three four p q r s =
-      s ∙ ap in_order (four_rows old (local_said (side_of frame.side state.previous) frame) (settings_said state.in_force frame)
+      s ∙ ap in_order (four_rows old (local_said (side_of frame.side state.previous) frame)
+      (settings_said state.in_force frame)
       (connection_said state.connection (item_of state frame)) (streams_said names state frame)
       one two three (three ++ flat_map (row_said initial frame change) rows)
       (p ∙ ap (λ k. old ++ local_said k frame) e_previous)
@@ -139,7 +150,11 @@ module _ (state : PassState) (frame : Frame) (names : List ℕ) (initial : Sides
       (ap (λ l. three ++ l) same_said))
 
 idle-fits : (bound stream : ℕ) → stream < 2 ^ 31 → RowFits bound (record { stream = stream; entry = idle_stream })
-idle-fits bound stream h = record { stream = h; client = λ x e. absurd (none_is_none x e); server = λ x e. absurd (none_is_none x e) } where
+idle-fits bound stream h = record {
+  stream = h;
+  client = λ x e. absurd (none_is_none x e);
+  server = λ x e. absurd (none_is_none x e);
+} where
   none_is_none : (x : ℤ) → None ≡ Some x → ⊥
   none_is_none x e = cc
 

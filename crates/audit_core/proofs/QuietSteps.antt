@@ -47,7 +47,8 @@ module _ (stream : ℕ) (initial : Sides ℕ) (number : ℕ) (change : Option Ch
     counted-quiet before = omega (arith, ints)
 
     live_said-quiet : (before : ℤ) →
-        live_window_said d stream (bare_step number change) (window_step d stream initial (bare_step number change) before) ≡ []
+        live_window_said d stream (bare_step number change)
+        (window_step d stream initial (bare_step number change) before) ≡ []
     live_said-quiet before =
         let e = counted-quiet before in
         let setting = and_false (is_some change) in
@@ -68,7 +69,8 @@ module _ (stream : ℕ) (initial : Sides ℕ) (number : ℕ) (change : Option Ch
   abbrev with_windows : StreamLife → Option ℤ → Option ℤ → Stream
   with_windows life client server = record { life = life; window = record { client = client; server = server } }
 
-  same_windows : (life : StreamLife) (v w x y : Option ℤ) → v ≡ x → w ≡ y → with_windows life v w ≡ with_windows life x y
+  same_windows : (life : StreamLife) (v w x y : Option ℤ) → v ≡ x → w ≡ y → with_windows life v w
+      ≡ with_windows life x y
   same_windows life v w x y p q = ap (λ a. with_windows life a w) p ∙ ap (with_windows life x) q
 
   -- the stream, whose initial windows stay

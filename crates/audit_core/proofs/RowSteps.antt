@@ -5,7 +5,8 @@ use Rattle.std.proofs.lemmas.List.{drop-set-lt, take_more_set}
 use Rattle.audit_core.specs.declared.tables.StreamRow.{StreamRow}
 use Rattle.audit_core.specs.code.StreamTable.{RowFits, RowsFit}
 
-module _ {X : Type 0} (xs : List X) (i : ℕ) (x y : X) (within : i < length xs) (next : drop i xs ≡ x ∷ drop (i + 1) xs) where
+module _ {X : Type 0} (xs : List X) (i : ℕ) (x y : X) (within : i < length xs)
+    (next : drop i xs ≡ x ∷ drop (i + 1) xs) where
   pub left-set : drop (i + 1) (set xs i y) ≡ drop (i + 1) xs
   left-set = drop-set-lt (i + 1) xs i y (omega arith)
 
@@ -30,13 +31,15 @@ pub fit-append : (bound : ℕ) (xs ys : List StreamRow) → RowsFit bound xs →
 fit-append bound [] ys p q = q
 fit-append bound (x ∷ xs) ys p q = (p.0, fit-append bound xs ys p.1 q)
 
-module _ (xs : List StreamRow) (i : ℕ) (x y : StreamRow) (within : i < length xs) (next : drop i xs ≡ x ∷ drop (i + 1) xs) where
+module _ (xs : List StreamRow) (i : ℕ) (x y : StreamRow) (within : i < length xs)
+    (next : drop i xs ≡ x ∷ drop (i + 1) xs) where
   pub room-more : (bound : ℕ) → RowsFit bound (drop i xs) → RowsFit bound (drop (i + 1) (set xs i y))
   room-more bound h =
       let k : RowsFit bound (x ∷ drop (i + 1) xs) = subst (RowsFit bound) next h in
       subst (RowsFit bound) (sym (left-set xs i x y within next)) k.1
 
-  pub front-more : (bound more : ℕ) → (RowFits bound x → RowFits more y) → RowsFit more (take i xs) → RowsFit bound (drop i xs) →
+  pub front-more : (bound more : ℕ) → (RowFits bound x → RowFits more y) → RowsFit more (take i xs) →
+      RowsFit bound (drop i xs) →
       RowsFit more (take (i + 1) (set xs i y))
   front-more bound more f p h =
       let k : RowsFit bound (x ∷ drop (i + 1) xs) = subst (RowsFit bound) next h in

@@ -2,6 +2,10 @@ pub mod Script
 pub mod Stalls
 pub mod StreamUses
 pub mod SingleFaults
+pub mod FrameFaults
+pub mod WindowUses
+pub mod Promises
+pub mod KindTable
 pub mod CreditLaws
 pub mod LiveLaw
 pub mod PartsLaw

@@ -4,13 +4,13 @@ use Rattle.audit_terms.specs.declared.sides.Side.{Side}
 use Rattle.audit_terms.specs.declared.sides.Side.TheVariants.{Client, Server}
 use Rattle.audit_terms.specs.declared.frames.Settings.{Settings}
 use Rattle.audit_terms.specs.declared.frames.Body.{Body}
-use Rattle.audit_terms.specs.declared.frames.Body.TheVariants.{Content, Headers, RstStream, Settings as SettingsBody, SettingsAck, PushPromise, Ping, WindowUpdate, Unreadable}
+use Rattle.audit_terms.specs.declared.frames.Body.TheVariants.{Content, Headers, Priority, RstStream, Settings as SettingsBody, SettingsAck, PushPromise, Ping, GoAway, WindowUpdate, Continuation, Unknown, Unreadable}
 use Rattle.audit_terms.specs.declared.frames.Frame.{Frame}
 use Rattle.audit_terms.specs.declared.kinds.Kind.{Kind}
 use Rattle.audit_terms.specs.declared.findings.Finding.{Finding}
 use Rattle.audit_terms.specs.Kind.{rank_of}
-use Rattle.audit_terms.specs.FrameType.{data_type, headers_type, rst_stream_type, settings_type, push_promise_type, ping_type, window_update_type, end_stream_flag, ack_flag, end_headers_flag, padded_flag}
-use Rattle.audit_terms.specs.Pass.{pass}
+use Rattle.audit_terms.specs.FrameType.{data_type, headers_type, priority_type, rst_stream_type, settings_type, push_promise_type, ping_type, goaway_type, window_update_type, continuation_type, end_stream_flag, ack_flag, end_headers_flag, padded_flag}
+use Rattle.audit_terms.specs.Pass.{full, pass}
 
 -- a frame, captured in the record two after its number, at a thousand nanoseconds a record
 abbrev pub scripted : ℕ → Side → (code flags stream length : ℕ) → Body → Frame
@@ -42,6 +42,32 @@ last_data_frame number side stream length = scripted number side data_type end_s
 abbrev pub headers_frame : ℕ → Side → (stream : ℕ) → Frame
 headers_frame number side stream = scripted number side headers_type end_headers_flag stream 0 Headers
 
+-- HEADERS without payload, with END_HEADERS and END_STREAM
+abbrev pub last_headers_frame : ℕ → Side → (stream : ℕ) → Frame
+last_headers_frame number side stream =
+    scripted number side headers_type (end_headers_flag + end_stream_flag) stream 0 Headers
+
+-- HEADERS without END_HEADERS, which leaves its field block open
+abbrev pub open_headers_frame : ℕ → Side → (stream length : ℕ) → Frame
+open_headers_frame number side stream length = scripted number side headers_type 0 stream length Headers
+
+-- CONTINUATION with END_HEADERS
+abbrev pub continuation_frame : ℕ → Side → (stream length : ℕ) → Frame
+continuation_frame number side stream length =
+    scripted number side continuation_type end_headers_flag stream length Continuation
+
+-- PRIORITY
+abbrev pub priority_frame : ℕ → Side → (stream : ℕ) → Frame
+priority_frame number side stream = scripted number side priority_type 0 stream 5 Priority
+
+-- GOAWAY
+abbrev pub goaway_frame : ℕ → Side → (stream length : ℕ) → Frame
+goaway_frame number side stream length = scripted number side goaway_type 0 stream length GoAway
+
+-- a frame of a type that RFC 9113 does not define
+abbrev pub unknown_frame : ℕ → Side → (stream length : ℕ) → Frame
+unknown_frame number side stream length = scripted number side 10 0 stream length Unknown
+
 -- RST_STREAM
 abbrev pub reset_frame : ℕ → Side → (stream : ℕ) → Frame
 reset_frame number side stream = scripted number side rst_stream_type 0 stream 4 RstStream
@@ -67,10 +93,21 @@ no_settings = record { push = None; initial = None; max_frame = None; bad = None
 abbrev pub settings_frame : ℕ → Side → Frame
 settings_frame number side = scripted number side settings_type 0 0 0 (SettingsBody no_settings)
 
--- SETTINGS of one pair, an initial window
+-- SETTINGS of one pair
+abbrev pub setting_frame : ℕ → Side → Settings → Frame
+setting_frame number side settings = scripted number side settings_type 0 0 6 (SettingsBody settings)
+
+-- the pair is an initial window
 abbrev pub initial_window_frame : ℕ → Side → (initial : ℕ) → Frame
-initial_window_frame number side initial =
-    scripted number side settings_type 0 0 6 (SettingsBody (record no_settings { initial = Some initial }))
+initial_window_frame number side initial = setting_frame number side (record no_settings { initial = Some initial })
+
+-- the pair is the greatest length of a frame
+abbrev pub max_frame_size_frame : ℕ → Side → (size : ℕ) → Frame
+max_frame_size_frame number side size = setting_frame number side (record no_settings { max_frame = Some size })
+
+-- the pair says whether the server may promise streams
+abbrev pub enable_push_frame : ℕ → Side → (enabled : ℕ) → Frame
+enable_push_frame number side enabled = setting_frame number side (record no_settings { push = Some enabled })
 
 -- an acknowledgement of SETTINGS
 abbrev pub ack_frame : ℕ → Side → Frame
@@ -97,3 +134,11 @@ audit_of script = without_credits (pass (opening_frames ++ script))
 -- the same with credit lines
 abbrev pub audit_with_credits_of : List Frame → List Finding
 audit_with_credits_of script = pass (opening_frames ++ script)
+
+-- all that the opening and then this script show, past each stop, without credit lines
+abbrev pub all_of : List Frame → List Finding
+all_of script = without_credits (full (opening_frames ++ script))
+
+-- the same with credit lines
+abbrev pub all_with_credits_of : List Frame → List Finding
+all_with_credits_of script = full (opening_frames ++ script)

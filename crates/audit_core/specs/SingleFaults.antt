@@ -1,9 +1,9 @@
 -- Worked examples of one fault each, and of what is none.
 use Rattle.std.specs.Prelude.{◌≡◌, pos, [], ◌∷◌, ◌++◌, Some}
 use Rattle.audit_terms.specs.declared.sides.Side.TheVariants.{Client, Server}
-use Rattle.audit_terms.specs.declared.kinds.Kind.TheVariants.{BadPreface, BrokenBlock, BadPadding, BadSetting, LongFrame, TooLong, StreamOverflow, StreamCredit, WrongStream, Push, PushNotAudited, BadPriority}
+use Rattle.audit_terms.specs.declared.kinds.Kind.TheVariants.{BadPreface, BrokenBlock, BadPadding, BadSetting, LongFrame, TooLong, StreamOverflow, StreamCredit, WrongStream, BadPriority}
 use Rattle.audit_terms.specs.Finding.{finding_at}
-use Rattle.audit_core.specs.Script.{scripted, headers_frame, data_frame, padded_data_frame, reset_frame, update_frame, promise_frame, ping_frame, settings_frame, unreadable_frame, no_settings, without_credits, audit_of, audit_with_credits_of}
+use Rattle.audit_core.specs.Script.{scripted, headers_frame, data_frame, padded_data_frame, reset_frame, update_frame, ping_frame, settings_frame, unreadable_frame, no_settings, without_credits, audit_of, audit_with_credits_of}
 use Rattle.audit_terms.specs.FrameType.{data_type, headers_type, priority_type, settings_type, end_headers_flag, padded_flag}
 use Rattle.audit_terms.specs.declared.frames.Body.TheVariants.{Headers, Settings as SettingsBody}
 use Rattle.audit_terms.specs.Pass.{pass}
@@ -58,15 +58,6 @@ StreamOverflowFound =
 -- DATA on stream 0
 abbrev pub WrongStreamFound : Type 0
 WrongStreamFound = audit_of (data_frame 5 Client 0 0 ∷ []) ≡ finding_at WrongStream 5 0 Client (pos 0) ∷ []
-
--- a promise of the server, and one of the client
-abbrev pub PushNotAuditedFound : Type 0
-PushNotAuditedFound =
-    audit_of (headers_frame 5 Client 1 ∷ promise_frame 6 Server 1 2 ∷ []) ≡ finding_at PushNotAudited 6 1 Server (pos 0) ∷ []
-
-abbrev pub ClientPushFound : Type 0
-ClientPushFound =
-    audit_of (headers_frame 5 Client 1 ∷ promise_frame 6 Client 1 2 ∷ []) ≡ finding_at Push 6 1 Client (pos 0) ∷ []
 
 -- a PRIORITY that is too short
 abbrev pub BadPriorityFound : Type 0

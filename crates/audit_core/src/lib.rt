@@ -15,6 +15,3 @@ pub use audit_terms::{
     Body, Change, Finding, Frame, Item, Kind, Place, Settings, Side, Sides, Step, Stream,
 };
 pub use passes::one_pass;
-
-#[cfg(test)]
-mod tests;

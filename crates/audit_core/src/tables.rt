@@ -84,7 +84,7 @@ fn moves_initial(change: &Option<Change>, initial: &Sides<u32>) -> bool
     after.client != initial.client || after.server != initial.server
 }
 
-/// The streams that the frames of a connection name, each with what it is between two frames.
+/// The streams other than 0 that meet the frames of a connection, each with what it is between two frames.
 #[derive(Drop)]
 pub struct StreamTable {
     rows: Vec<StreamRow>,
@@ -93,7 +93,7 @@ pub struct StreamTable {
 }
 
 impl StreamTable {
-    /// The streams other than 0 that some frames name, in order of their first frames, none of them opened.
+    /// The streams other than 0 that meet some frames, in order of their first frames, none of them opened.
     pub fn of(alloc: Global, frames: &[Frame]) -> Result<Self, AllocError>
         ensures rows { IfOk result (λ table. table.rows.items ≡ idle_rows (streams_of frames.now)) }
         ensures index { IfOk result (λ table. IsIndex (streams_in table.rows.items) table.positions) }

@@ -4,7 +4,11 @@
 //! The scripts and the expected findings stand in `specs/`, in the modules named with each group.
 ghost use Rattle.audit_core.specs.Stalls.{PaddedStall, PaddedStallCredits, PaddingCounts, StallEndsThenOverrun, ConnectionAtLargest, ConnectionOverflows, NegativeWindow, NegativeWindowChanges, SettingOverflows, ZeroGrants, ShortGrant};
 ghost use Rattle.audit_core.specs.StreamUses.{WithdrawnFindings, FindingsPastTheStop, FirstErrorBelowOverflow, AfterEndAndReset, IdentifierOrder, UnmatchedAcknowledgement, TwoOpenings};
-ghost use Rattle.audit_core.specs.SingleFaults.{BadPrefaceFound, BrokenBlockFound, BadPaddingFound, GoodPadding, BadSettingFound, LongFrameFound, TooLongFound, StreamOverflowFound, WrongStreamFound, PushNotAuditedFound, ClientPushFound, BadPriorityFound, DataAfterPeerReset, EmptyDataAtZero};
+ghost use Rattle.audit_core.specs.SingleFaults.{BadPrefaceFound, BrokenBlockFound, BadPaddingFound, GoodPadding, BadSettingFound, LongFrameFound, TooLongFound, StreamOverflowFound, WrongStreamFound, BadPriorityFound, DataAfterPeerReset, EmptyDataAtZero};
+ghost use Rattle.audit_core.specs.FrameFaults.{FirstFrameAcknowledges, FirstFrameUnreadable, BlockGoesOn, NoBlockOpen, BlockOfOtherStream, BlockOfOtherSide, BrokenBlockEnds, WrongStreams, TooLongFrames, LongFrames, FrameLimits, UnreadableFrames};
+ghost use Rattle.audit_core.specs.WindowUses.{OverrunAboveZero, LastCredit, StallBelowZero, StallOfBothSides, OneInitialWindow, EndUsesUpWindow, OpenedAndEnded, HeadersAfterEnd, HeadersAfterReset, HeadersAfterPeerEnd, ResetOnIdle, ServerHeaders, EvenHeaders, ZeroGrantAfterEnd};
+ghost use Rattle.audit_core.specs.Promises.{Promised, PromisedCredits, PushForbidden, PushForbiddenCredits, PushUntilAcknowledged, PushAllowedAgain, PushOfServer, PromisesFall, OddPromise, OddPromiseCredits, PromiseOfZero, HeadersBelowPromise, HeadersBelowHeaders, PromiseOnIdle, PromiseOnIdleOpens, PromiseOnZero, PromiseOfItself, PromiseOnPromised, ThreeFaults, PromiseAfterReset, PromiseAfterOwnReset, PromisedTwice, PushedStall, PushedStallCredits, PromisedGrant, ClientPromise, ClientPromiseOpensNothing};
+ghost use Rattle.audit_core.specs.KindTable.{KindsAreTabled, ErrorKinds, FaultKinds, StallEndKinds, StallBeginKinds, CreditKinds};
 
 /// All credit of the connection and of a stream is sent, padding included (6.9.1).
 pub fn padded_stall()
@@ -113,14 +117,10 @@ pub fn wrong_stream()
     ensures { WrongStreamFound }
 {}
 
-/// A promise of the server.
-pub fn push_not_audited()
-    ensures { PushNotAuditedFound }
-{}
-
-/// A promise of the client (8.4).
+/// A promise of the client opens nothing (8.4).
 pub fn client_push()
-    ensures { ClientPushFound }
+    ensures client_promise { ClientPromise }
+    ensures opens_nothing { ClientPromiseOpensNothing }
 {}
 
 /// A PRIORITY of wrong length (6.3).
@@ -136,4 +136,125 @@ pub fn data_after_peer_reset()
 /// Empty DATA where no credit is left (6.9.1).
 pub fn empty_data_at_zero()
     ensures { EmptyDataAtZero }
+{}
+
+/// A first frame that acknowledges, and one that cannot be read (3.4).
+pub fn first_frames()
+    ensures acknowledges { FirstFrameAcknowledges }
+    ensures unreadable { FirstFrameUnreadable }
+{}
+
+/// Field blocks that go on, and CONTINUATION frames that go on with none (4.3, 6.10).
+pub fn continuations()
+    ensures goes_on { BlockGoesOn }
+    ensures none_open { NoBlockOpen }
+    ensures other_stream { BlockOfOtherStream }
+    ensures other_side { BlockOfOtherSide }
+    ensures broken_ends { BrokenBlockEnds }
+{}
+
+/// Each type on the stream where it cannot stand (6).
+pub fn wrong_streams()
+    ensures { WrongStreams }
+{}
+
+/// Frames above the limit, by type and stream, and limits from their acknowledgement on (4.2, 6.5.3).
+pub fn frame_lengths()
+    ensures too_long { TooLongFrames }
+    ensures long { LongFrames }
+    ensures limits { FrameLimits }
+{}
+
+/// Frames that cannot be read count nowhere (4.2, 6.1, 6.2).
+pub fn unreadable_frames()
+    ensures { UnreadableFrames }
+{}
+
+/// More is sent than is left, and the last credit is sent (6.9).
+pub fn overrun_above_zero()
+    ensures overrun_above_zero { OverrunAboveZero }
+    ensures last_credit { LastCredit }
+{}
+
+/// Stalls that begin and end from below 0, and stalls of both sides on one stream (6.9).
+pub fn stalls()
+    ensures below_zero { StallBelowZero }
+    ensures both_sides { StallOfBothSides }
+    ensures one_initial_window { OneInitialWindow }
+{}
+
+/// Windows that end with the frame that uses them up or opens their stream (5.1, 6.9).
+pub fn ends_of_windows()
+    ensures uses_up { EndUsesUpWindow }
+    ensures opened_and_ended { OpenedAndEnded }
+    ensures zero_grant { ZeroGrantAfterEnd }
+{}
+
+/// HEADERS after the ends of either side (5.1).
+pub fn headers_after_end()
+    ensures own_end { HeadersAfterEnd }
+    ensures own_reset { HeadersAfterReset }
+    ensures peer_end { HeadersAfterPeerEnd }
+{}
+
+/// Frames that open no stream (5.1, 5.1.1).
+pub fn not_opened()
+    ensures reset { ResetOnIdle }
+    ensures server_headers { ServerHeaders }
+    ensures even_headers { EvenHeaders }
+{}
+
+/// The server promises a stream (6.6, 8.4).
+pub fn promised_stream()
+    ensures promised { Promised }
+    ensures promised_credits { PromisedCredits }
+    ensures promised_twice { PromisedTwice }
+{}
+
+/// ENABLE_PUSH of the client governs the server from its acknowledgement on (6.5.2, 6.5.3).
+pub fn push_in_force()
+    ensures forbidden { PushForbidden }
+    ensures forbidden_credits { PushForbiddenCredits }
+    ensures until_acknowledged { PushUntilAcknowledged }
+    ensures allowed_again { PushAllowedAgain }
+    ensures of_server { PushOfServer }
+{}
+
+/// Promised streams rise among the even identifiers, opened ones among the odd (5.1.1).
+pub fn promise_order()
+    ensures fall { PromisesFall }
+    ensures odd { OddPromise }
+    ensures odd_credits { OddPromiseCredits }
+    ensures zero { PromiseOfZero }
+    ensures headers_below_promise { HeadersBelowPromise }
+    ensures headers_below_headers { HeadersBelowHeaders }
+{}
+
+/// Promises on streams that carry none (5.1, 6.6).
+pub fn misplaced_promises()
+    ensures on_idle { PromiseOnIdle }
+    ensures on_idle_opens { PromiseOnIdleOpens }
+    ensures on_zero { PromiseOnZero }
+    ensures of_itself { PromiseOfItself }
+    ensures on_promised { PromiseOnPromised }
+    ensures three_faults { ThreeFaults }
+    ensures after_reset { PromiseAfterReset }
+    ensures after_own_reset { PromiseAfterOwnReset }
+{}
+
+/// A promised stream is used up by the server, and reset by the client (5.1, 6.9).
+pub fn pushed_stall()
+    ensures pushed_stall { PushedStall }
+    ensures pushed_stall_credits { PushedStallCredits }
+    ensures promised_grant { PromisedGrant }
+{}
+
+/// Ranks and names of all kinds, and which are errors, faults, stalls and credits.
+pub fn kind_table()
+    ensures tabled { KindsAreTabled }
+    ensures errors { ErrorKinds }
+    ensures faults { FaultKinds }
+    ensures stall_ends { StallEndKinds }
+    ensures stall_begins { StallBeginKinds }
+    ensures credits { CreditKinds }
 {}

@@ -50,16 +50,20 @@ loop-frame-init c =
     }
 
 pub say_local-requires : goal.say_local-requires
-say_local-requires c = in_range-get_or 0 c.args.frames.now c.loop-frame.frame-index _ c.requires c.loop-frame-test.true
+say_local-requires c =
+    in_range-get_or 0 c.args.frames.now c.loop-frame.frame-index _ c.requires c.loop-frame-test.true
 
 pub at-ack-requires-clause-numbered : goal.at-ack-requires-clause-numbered
-at-ack-requires-clause-numbered c = number-get_or 0 c.args.frames.now c.loop-frame.frame-index _ c.requires c.loop-frame-test.true
+at-ack-requires-clause-numbered c =
+    number-get_or 0 c.args.frames.now c.loop-frame.frame-index _ c.requires c.loop-frame-test.true
 
 pub at-ack-requires-clause-streamed : goal.at-ack-requires-clause-streamed
-at-ack-requires-clause-streamed c = stream-get_or 0 c.args.frames.now c.loop-frame.frame-index _ c.requires c.loop-frame-test.true
+at-ack-requires-clause-streamed c =
+    stream-get_or 0 c.args.frames.now c.loop-frame.frame-index _ c.requires c.loop-frame-test.true
 
 pub meet-requires-in-loop-frame-clause-frame : goal.meet-requires-in-loop-frame-clause-frame
-meet-requires-in-loop-frame-clause-frame c = in_range-get_or 0 c.args.frames.now c.loop-frame.frame-index _ c.requires c.loop-frame-test.true
+meet-requires-in-loop-frame-clause-frame c =
+    in_range-get_or 0 c.args.frames.now c.loop-frame.frame-index _ c.requires c.loop-frame-test.true
 
 pub meet-requires-in-loop-frame-clause-client : goal.meet-requires-in-loop-frame-clause-client
 meet-requires-in-loop-frame-clause-client c =
@@ -72,12 +76,14 @@ meet-requires-in-loop-frame-clause-server c =
     room-wider (2 ^ 17 + c.loop-frame.frame-index * 2 ^ 32) (2 ^ 60) _ (omega arith) c.loop-frame.invariant.server
 
 pub meet-requires-in-loop-frame-2-clause-numbered : goal.meet-requires-in-loop-frame-2-clause-numbered
-meet-requires-in-loop-frame-2-clause-numbered c = number-get_or 0 c.args.frames.now c.loop-frame.frame-index _ c.requires c.loop-frame-test.true
+meet-requires-in-loop-frame-2-clause-numbered c =
+    number-get_or 0 c.args.frames.now c.loop-frame.frame-index _ c.requires c.loop-frame-test.true
 
 pub meet-requires-in-loop-frame-2-clause-fits : goal.meet-requires-in-loop-frame-2-clause-fits
 meet-requires-in-loop-frame-2-clause-fits c =
     let few = length-orderly 0 c.args.frames.now (omega arith) c.requires in
-    all_fit-wider (2 ^ 17 + c.loop-frame.frame-index * 2 ^ 32) (2 ^ 60 - 2 ^ 32) c.loop-frame.streams.rows.items (omega arith) c.loop-frame.invariant.fits
+    all_fit-wider (2 ^ 17 + c.loop-frame.frame-index * 2 ^ 32) (2 ^ 60 - 2 ^ 32) c.loop-frame.streams.rows.items
+    (omega arith) c.loop-frame.invariant.fits
 
 pub meet-requires-in-loop-frame-2-clause-acknowledged : goal.meet-requires-in-loop-frame-2-clause-acknowledged
 meet-requires-in-loop-frame-2-clause-acknowledged c =
@@ -96,10 +102,11 @@ loop-frame-preserved c =
     let initial = c.initial-initial.ensures ∙ ap (λ (f : InForce). f.initial) old.in_force in
     let change = c.in_ok-change.ensures.change ∙ ap (λ (f : InForce). change_of f frame) old.in_force in
     let opens = c.opens-opens.ensures ∙ ap (list_any (row_opens frame)) old.table
-        ∙ opens-frame old.state c.args.frames.now c.loop-frame.frame-index _ c.loop-frame-test.true in
+    ∙ opens-frame old.state c.args.frames.now c.loop-frame.frame-index _ c.loop-frame-test.true in
     let met : Item = record { frame = frame; opens = c.opens-opens.result; change = c.in_ok-change.change } in
-    let item : met ≡ item_of old.state frame = same_item old.state frame names c.initial-initial.result c.in_ok-change.change rows initial change old.table
-        c.opens-opens.result opens in
+    let item : met ≡ item_of old.state frame =
+    same_item old.state frame names c.initial-initial.result c.in_ok-change.change rows initial change old.table
+    c.opens-opens.result opens in
     record {
       state = next old.state frame;
       previous = c.previous_after-previous.ensures
@@ -116,21 +123,26 @@ loop-frame-preserved c =
           (drop-next c.args.frames.now c.loop-frame.frame-index _ c.loop-frame-test.true)
           (parts-more old.state frame names c.initial-initial.result c.in_ok-change.change rows initial change old.table
           c.of-in-loop-frame.result c.loop-frame.connection met
-          (c.of-in-loop-frame.ensures ∙ ap (λ (p : Sides (Option Frame)). side_of frame.side p) old.previous) old.connection item
-          c.loop-frame.found.items c.say_local.new.found.items c.say_if.new.found.items c.meet-in-loop-frame.new.found.items
-          c.meet-in-loop-frame-2.new.found.items
+          (c.of-in-loop-frame.ensures ∙ ap (λ (p : Sides (Option Frame)). side_of frame.side p) old.previous)
+          old.connection item
+          c.loop-frame.found.items c.say_local.new.found.items c.say_if.new.found.items
+          c.meet-in-loop-frame.new.found.items c.meet-in-loop-frame-2.new.found.items
           c.in_ok-say_local.ensures
           (c.in_ok-say_if.ensures.ok
           ∙ ap (λ x. c.say_local.new.found.items ++ say c.takes_nothing.result x) c.at-ack.ensures
-          ∙ ap (λ b. c.say_local.new.found.items ++ say b (finding_at UnmatchedAck frame.number frame.stream frame.side (pos 0)))
+          ∙ ap (λ b. c.say_local.new.found.items
+          ++ say b (finding_at UnmatchedAck frame.number frame.stream frame.side (pos 0)))
           c.takes_nothing.ensures)
           c.in_ok-meet.ensures.said c.in_ok-meet-2.ensures.said)
           old.rows;
       client_paired = c.in_ok-change.ensures.client;
       server_paired = c.in_ok-change.ensures.server;
-      client = room-wider (2 ^ 17 + c.loop-frame.frame-index * 2 ^ 32 + 2 ^ 32) _ _ (omega arith) (c.meet-in-loop-frame.ensures.client _ old.client);
-      server = room-wider (2 ^ 17 + c.loop-frame.frame-index * 2 ^ 32 + 2 ^ 32) _ _ (omega arith) (c.meet-in-loop-frame.ensures.server _ old.server);
-      fits = all_fit-wider (2 ^ 17 + c.loop-frame.frame-index * 2 ^ 32 + 2 ^ 32) _ _ (omega arith) (c.in_ok-meet-2.ensures.fits _ old.fits);
+      client = room-wider (2 ^ 17 + c.loop-frame.frame-index * 2 ^ 32 + 2 ^ 32) _ _ (omega arith)
+          (c.meet-in-loop-frame.ensures.client _ old.client);
+      server = room-wider (2 ^ 17 + c.loop-frame.frame-index * 2 ^ 32 + 2 ^ 32) _ _ (omega arith)
+          (c.meet-in-loop-frame.ensures.server _ old.server);
+      fits = all_fit-wider (2 ^ 17 + c.loop-frame.frame-index * 2 ^ 32 + 2 ^ 32) _ _ (omega arith)
+          (c.in_ok-meet-2.ensures.fits _ old.fits);
     }
 
 pub returns : goal.returns

@@ -12,14 +12,17 @@ loop-row-preserved c =
     let within : c.loop-row.row-index < length c.loop-row.rows = omega arith in
     let next = drop-next c.loop-row.rows c.loop-row.row-index _ within in
     record {
-      said = said-more rows i _ c.meet.new.self within next (row_said c.args.initial.now c.args.frame.now c.args.change.now) _ _ _
+      said = said-more rows i _ c.meet.new.self within next
+          (row_said c.args.initial.now c.args.frame.now c.args.change.now) _ _ _
           c.in_ok-meet.ensures.said c.loop-row.invariant.said;
-      after = after-more rows i _ c.meet.new.self within next (row_after c.args.initial.now c.args.frame.now c.args.change.now) _
+      after = after-more rows i _ c.meet.new.self within next
+          (row_after c.args.initial.now c.args.frame.now c.args.change.now) _
           c.in_ok-meet.ensures.after c.loop-row.invariant.after;
       room = room-more rows i _ c.meet.new.self within next _ c.loop-row.invariant.room;
       fits = λ bound h.
           let old = c.loop-row.invariant.fits bound h in (
-            front-more rows i _ c.meet.new.self within next bound (bound + 2 ^ 32) (c.in_ok-meet.ensures.fits bound) old.0 old.1,
+            front-more rows i _ c.meet.new.self within next bound (bound + 2 ^ 32)
+                (c.in_ok-meet.ensures.fits bound) old.0 old.1,
             room-more rows i _ c.meet.new.self within next bound old.1,
           );
     }

@@ -14,7 +14,8 @@ meet_all-requires-clause-fits c =
 
 pub returns-then-moves_initial-clause-fits : goal.returns-then-moves_initial-clause-fits
 returns-then-moves_initial-clause-fits c =
-    let back = whole-back c.args.self.now.rows.len c.meet_all.new.rows c.args.self.now.rows.items (omega arith) (omega arith) in
+    let back = whole-back c.args.self.now.rows.len c.meet_all.new.rows c.args.self.now.rows.items (omega arith)
+    (omega arith) in
     on_ok_weaker c.meet_all.result
     (λ fits bound h. subst (RowsFit (bound + 2 ^ 32)) (sym back)
     (fits bound (subst (RowsFit bound) (sym c.deref_mut.ensures.value) h)))
@@ -22,25 +23,30 @@ returns-then-moves_initial-clause-fits c =
 
 pub returns-then-moves_initial-clause-index : goal.returns-then-moves_initial-clause-index
 returns-then-moves_initial-clause-index c =
-    let back = whole-back c.args.self.now.rows.len c.meet_all.new.rows c.args.self.now.rows.items (omega arith) (omega arith) in
+    let back = whole-back c.args.self.now.rows.len c.meet_all.new.rows c.args.self.now.rows.items (omega arith)
+    (omega arith) in
     on_ok_weaker c.meet_all.result
     (λ e. index-kept (row_after c.args.initial.now c.args.frame.now c.args.change.now) c.args.self.now.rows.items _
     c.args.self.now.positions (λ row. refl)
-    (back ∙ e ∙ ap (map (row_after c.args.initial.now c.args.frame.now c.args.change.now)) c.deref_mut.ensures.value) c.requires.index)
+    (back ∙ e ∙ ap (map (row_after c.args.initial.now c.args.frame.now c.args.change.now)) c.deref_mut.ensures.value)
+    c.requires.index)
     c.meet_all.ensures.after
 
 pub meet_stream-requires-clause-fits : goal.meet_stream-requires-clause-fits
-meet_stream-requires-clause-fits c = all_fit-wider (2 ^ 60 - 2 ^ 32) (2 ^ 60) c.args.self.now.rows.items (omega arith) c.requires.fits
+meet_stream-requires-clause-fits c = all_fit-wider (2 ^ 60 - 2 ^ 32) (2 ^ 60) c.args.self.now.rows.items
+    (omega arith) c.requires.fits
 
 pub returns-then-promised-frame-clause-said : goal.returns-then-promised-frame-clause-said
 returns-then-promised-frame-clause-said c =
-    said-one_stream c.args.initial.now c.args.frame.now c.args.change.now (c.if-moves_initial.ensures refl) c.args.self.now.rows.items
+    said-one_stream c.args.initial.now c.args.frame.now c.args.change.now
+    (c.if-moves_initial.ensures refl) c.args.self.now.rows.items
     (sym c.promised_by-promised.ensures ∙ c.if-promised-frame.true) c.args.found.now.items c.meet_stream.new.found.items
     c.in_ok-meet_stream.ensures.said
 
 pub returns-then-promised-frame-clause-after : goal.returns-then-promised-frame-clause-after
 returns-then-promised-frame-clause-after c =
-    after-one_stream c.args.initial.now c.args.frame.now c.args.change.now (c.if-moves_initial.ensures refl) c.args.self.now.rows.items
+    after-one_stream c.args.initial.now c.args.frame.now c.args.change.now
+    (c.if-moves_initial.ensures refl) c.args.self.now.rows.items
     (sym c.promised_by-promised.ensures ∙ c.if-promised-frame.true) c.meet_stream.new.self.rows.items
     c.in_ok-meet_stream.ensures.after
 
@@ -63,11 +69,13 @@ pub returns-clause-said : goal.returns-clause-said
 returns-clause-said c =
     let two = subst (λ p. Differ p c.args.frame.now.stream) c.promised_by-promised.ensures c.if-promised-frame.false in
     on_ok_weaker c.meet_stream-2.result
-    (λ e. said-two_streams c.args.initial.now c.args.frame.now c.args.change.now (c.if-moves_initial.ensures refl) c.args.self.now.rows.items
+    (λ e. said-two_streams c.args.initial.now c.args.frame.now c.args.change.now
+    (c.if-moves_initial.ensures refl) c.args.self.now.rows.items
     two c.meet_stream.new.self.rows.items c.in_ok-meet_stream.ensures.after
     c.args.found.now.items c.meet_stream.new.found.items c.meet_stream-2.new.found.items
     c.in_ok-meet_stream.ensures.said
-    (e ∙ ap (λ p. c.meet_stream.new.found.items ++ flat_map (row_said_of p c.args.initial.now c.args.frame.now c.args.change.now)
+    (e ∙ ap (λ p. c.meet_stream.new.found.items ++ flat_map
+    (row_said_of p c.args.initial.now c.args.frame.now c.args.change.now)
     c.meet_stream.new.self.rows.items) c.promised_by-promised.ensures))
     c.meet_stream-2.ensures.said
 
@@ -75,16 +83,19 @@ pub returns-clause-after : goal.returns-clause-after
 returns-clause-after c =
     let two = subst (λ p. Differ p c.args.frame.now.stream) c.promised_by-promised.ensures c.if-promised-frame.false in
     on_ok_weaker c.meet_stream-2.result
-    (λ e. after-two_streams c.args.initial.now c.args.frame.now c.args.change.now (c.if-moves_initial.ensures refl) c.args.self.now.rows.items
+    (λ e. after-two_streams c.args.initial.now c.args.frame.now c.args.change.now
+    (c.if-moves_initial.ensures refl) c.args.self.now.rows.items
     two c.meet_stream.new.self.rows.items c.in_ok-meet_stream.ensures.after c.meet_stream-2.new.self.rows.items
-    (e ∙ ap (λ p. map (row_after_of p c.args.initial.now c.args.frame.now c.args.change.now) c.meet_stream.new.self.rows.items)
+    (e ∙ ap (λ p. map (row_after_of p c.args.initial.now c.args.frame.now c.args.change.now)
+    c.meet_stream.new.self.rows.items)
     c.promised_by-promised.ensures))
     c.meet_stream-2.ensures.after
 
 pub returns-clause-fits : goal.returns-clause-fits
 returns-clause-fits c =
     on_ok_weaker c.meet_stream-2.result
-    (λ fits bound h. fit-pair (2 ^ 32) c.args.frame.now.stream c.promised_by-promised.result bound c.if-promised-frame.false
+    (λ fits bound h. fit-pair (2 ^ 32) c.args.frame.now.stream c.promised_by-promised.result bound
+    c.if-promised-frame.false
     c.meet_stream-2.new.self.rows.items
     (fits (bound_more (2 ^ 32) c.args.frame.now.stream (λ _. bound)) (c.in_ok-meet_stream.ensures.fits (λ _. bound) h)))
     c.meet_stream-2.ensures.fits

@@ -22,8 +22,8 @@ loop-frame-preserved c =
     let rest = drop (c.loop-frame.frame-index + 1) c.args.frames.now in
     let own = with_stream frame.stream seen in
     let both = c.in_ok-note-2.ensures.named
-        ∙ ap (λ p. with_stream p (streams_in c.note.new.self.rows.items)) c.promised_by.ensures
-        ∙ ap (with_stream (promised_by frame)) c.in_ok-note.ensures.named in
+    ∙ ap (λ p. with_stream p (streams_in c.note.new.self.rows.items)) c.promised_by.ensures
+    ∙ ap (with_stream (promised_by frame)) c.in_ok-note.ensures.named in
     record {
       idle = c.in_ok-note-2.ensures.idle;
       index = c.in_ok-note-2.ensures.index;
