@@ -21,7 +21,8 @@ module _ (frame : Frame) where
   differs q x n true e = absurd (n (eqb-true q x e))
   differs q x n false e = refl
 
-  pub opens-no_row : (rows : List StreamRow) → NotAmong frame.stream (streams_in rows) → list_any (row_opens frame) rows ≡ false
+  pub opens-no_row : (rows : List StreamRow) → NotAmong frame.stream (streams_in rows) →
+      list_any (row_opens frame) rows ≡ false
   opens-no_row [] h = refl
   opens-no_row (row ∷ rows) h =
       other_row row rows _ refl (differs frame.stream row.stream h.0 _ refl) ∙ opens-no_row rows h.1

@@ -1,5 +1,5 @@
 -- Whether a frame opens its stream in the pass: the table has a row for each stream that the frames name.
-use Rattle.std.proofs.Common.{◌≡◌, ℕ, zero, suc, ◌<◌, ◌==◌, Bool, true, false, not, ◌&&◌, ◌||◌, List, [], ◌∷◌, length, filter, get_or, refl, sym, ap, ◌∙◌, arith, ◌%◌, is_none, Option, Some, None, if◌then◌else◌, true≢false}
+use Rattle.std.proofs.Common.{◌≡◌, ℕ, zero, suc, ◌<◌, ◌==◌, Bool, true, false, not, ◌&&◌, ◌||◌, List, [], ◌∷◌, length, filter, get_or, refl, sym, ap, ◌∙◌, arith, ◌%◌, is_none, Some, None, if◌then◌else◌, true≢false}
 use Rattle.std.specs.List.{list_any}
 use Rattle.std.specs.Option.{option_map_or}
 use borrow.Author.Tests.{eqb-true, eq-eqb}
@@ -46,10 +46,12 @@ among-first_of q s streams h = step _ _ refl refl where
 among-first : (q : ℕ) (streams : List ℕ) → (q == 0) ≡ false → is_among q (first_of q streams) ≡ true
 among-first q streams n = let same = eq-eqb q q refl in rw (n, same) refl
 
-among-streams_of : (frames : List Frame) (i : ℕ) (d : Frame) → i < length frames → ((get_or frames i d).stream == 0) ≡ false →
+among-streams_of : (frames : List Frame) (i : ℕ) (d : Frame) → i < length frames →
+    ((get_or frames i d).stream == 0) ≡ false →
     is_among (get_or frames i d).stream (streams_of frames) ≡ true
 among-streams_of [] i d l n = absurd (omega arith)
-among-streams_of (frame ∷ frames) zero d l n = among-first frame.stream (first_of (promised_by frame) (streams_of frames)) n
+among-streams_of (frame ∷ frames) zero d l n =
+    among-first frame.stream (first_of (promised_by frame) (streams_of frames)) n
 among-streams_of (frame ∷ frames) (suc i) d l n =
     among-first_of (get_or frames i d).stream frame.stream (first_of (promised_by frame) (streams_of frames))
     (among-first_of (get_or frames i d).stream (promised_by frame) (streams_of frames)
@@ -73,7 +75,8 @@ module _ (state : PassState) (frame : Frame) where
 
     step : (b : Bool) → (frame.stream == stream) ≡ b →
         list_any (row_opens frame) (rows_at state streams) ≡ (is_among frame.stream streams && is_opened) →
-        list_any (row_opens frame) (rows_at state (stream ∷ streams)) ≡ (is_among frame.stream (stream ∷ streams) && is_opened)
+        list_any (row_opens frame) (rows_at state (stream ∷ streams))
+        ≡ (is_among frame.stream (stream ∷ streams) && is_opened)
     step true e ih =
         ap (λ b. (b && opens_it stream) || opens_rest) e
         ∙ ap (λ q. opens_it q || opens_rest) (sym (eqb-true frame.stream stream e))
@@ -112,5 +115,7 @@ module _ (state : PassState) (frame : Frame) where
 
 -- the row of a frame's stream says whether the frame opens it
 pub opens-frame : (state : PassState) (frames : List Frame) (i : ℕ) (d : Frame) → i < length frames →
-    list_any (row_opens (get_or frames i d)) (rows_at state (streams_of frames)) ≡ opens_stream state (get_or frames i d)
-opens-frame state frames i d l = opens-by state (get_or frames i d) (streams_of frames) (among-streams_of frames i d l)
+    list_any (row_opens (get_or frames i d)) (rows_at state (streams_of frames))
+    ≡ opens_stream state (get_or frames i d)
+opens-frame state frames i d l =
+    opens-by state (get_or frames i d) (streams_of frames) (among-streams_of frames i d l)

@@ -10,7 +10,7 @@ use audit_terms::{
 };
 use std::alloc::{AllocError, Global};
 
-/// The plain pass over a connection's frames in capture order: all its findings, in order, up to and including the first
+/// The plain pass over a connection's frames in capture order: all findings, in order, up to and including the first
 /// connection error (RFC 9113, 5.4.1).
 pub fn one_pass(alloc: Global, frames: &[Frame]) -> Result<Vec<Finding>, AllocError>
     requires { IsOrderly frames.now }

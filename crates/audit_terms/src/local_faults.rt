@@ -11,9 +11,9 @@ use crate::kinds::Kind;
 use crate::sides::{Side, Sides};
 use std::alloc::AllocError;
 
-/// Adds what a frame shows by itself and beside the frame of its side just before it (RFC 9113, 3.4, 4.3, 6): a side that
-/// does not begin with SETTINGS, a field block that is broken, a frame on the wrong stream, a payload that cannot be read,
-/// a setting out of range, a promise of the client.
+/// Adds what a frame shows by itself and beside the frame of its side just before it (RFC 9113, 3.4, 4.3, 6): a side
+/// that does not begin with SETTINGS, a field block that is broken, a frame on the wrong stream, a payload that cannot
+/// be read, a setting out of range, a promise of the client.
 pub fn say_local(
     found: &mut Vec<Finding>,
     previous: &Option<Frame>,
