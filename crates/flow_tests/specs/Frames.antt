@@ -1,4 +1,5 @@
--- Worked examples of frame headers (RFC 9113, 4.1) and of the order in which frames were captured.
+-- Worked examples of the preface and of frame headers (RFC 9113, 3.4 and 4.1), and of the order in which frames were
+-- captured.
 use Rattle.std.specs.Prelude.{◌≡◌, ℕ, ◌*◌, List, [], ◌∷◌, map}
 use Rattle.audit_terms.specs.declared.frames.Body.TheVariants.{Ping, Content}
 use Rattle.audit_terms.specs.declared.frames.Frame.{Frame}
@@ -7,7 +8,15 @@ use Rattle.audit_terms.specs.declared.sides.Side.TheVariants.{Client, Server}
 use Rattle.tcp_streams.specs.declared.streams.Arrival.{Arrival}
 use Rattle.h2_frames.specs.declared.spelling.Spelled.{Spelled}
 use Rattle.h2_frames.specs.Header.{header_of}
+use Rattle.h2_frames.specs.Preface.{preface}
 use Rattle.h2_frames.specs.CaptureOrder.{captured, captured_from, capture_order}
+
+-- the octets of a client's connection preface (3.4)
+abbrev pub PrefaceOctets : Type 0
+PrefaceOctets =
+    preface
+    ≡ 80 ∷ 82 ∷ 73 ∷ 32 ∷ 42 ∷ 32 ∷ 72 ∷ 84 ∷ 84 ∷ 80 ∷ 47 ∷ 50 ∷ 46 ∷ 48 ∷ 13 ∷ 10 ∷ 13 ∷ 10
+    ∷ 83 ∷ 77 ∷ 13 ∷ 10 ∷ 13 ∷ 10 ∷ []
 
 -- lengths of 24 bits, streams of 31: the bit before a stream has no meaning
 abbrev pub FrameHeaders : Type 0

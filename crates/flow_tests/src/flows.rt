@@ -2,13 +2,12 @@
 
 use crate::captured::{assert_same, connections_of, flow_of, plain_flow_of};
 use audit_terms::Side;
-use packet_heads::Endpoint;
 use std::alloc::{AllocError, Global};
 use std::process::Abort;
 use std::test::Fail;
 use std::thread::Threads;
-use tcp_streams::{Arrival, Flow, Stray};
-use test_captures::{CLIENT, Capture, PLAIN, SERVER, SYN, SYN_ACK, Segment};
+use tcp_streams::{Arrival, Flow};
+use test_captures::{CLIENT, Capture, PLAIN, SERVER, SYN, Segment};
 
 /// After a SYN with this sequence number and the server's answer, segments of the client from record 3 on.
 fn capture_of(
@@ -130,29 +129,31 @@ fn random_segments(rt: HostRuntime) -> Result<(), Fail> {
     Ok(())
 }
 
-/// Segments (client's port, flags, sequence number, payload) to the server, after one of the server's before any SYN:
-/// connections of two ports, one of which is opened twice, with data of each after all openings.
+/// A segment to the server from this port of the client's address.
+fn from_port(port: u16, flags: u8, seq: u32, payload: &[u8]) -> Segment<'_> {
+    Segment {
+        from: test_captures::Endpoint { port, ..CLIENT },
+        to: SERVER,
+        seq,
+        flags,
+        payload,
+    }
+}
+
+/// A stray of port 40000; connections from ports 40000 and 40001, the first opened twice; data of each after all openings.
 fn two_pairs(alloc: Global) -> Result<Capture, AllocError> {
     let mut capture = Capture::new(alloc)?;
-    capture.server_at(5001, b"old")?;
-    for (port, flags, seq, payload) in [
-        (40000, SYN, 1000, b"".as_slice()),
-        (40001, SYN, 1000, b"".as_slice()),
-        (40000, PLAIN, 1001, b"one".as_slice()),
-        (40001, PLAIN, 1001, b"other".as_slice()),
-        (40000, SYN, 2000, b"".as_slice()),
-        (40001, PLAIN, 1006, b"s".as_slice()),
-        (40000, PLAIN, 2001, b"two".as_slice()),
+    for segment in [
+        from_port(40000, PLAIN, 500, b"old"),
+        from_port(40000, SYN, 1000, b""),
+        from_port(40001, SYN, 1000, b""),
+        from_port(40000, PLAIN, 1001, b"one"),
+        from_port(40000, SYN, 2000, b""),
+        from_port(40001, PLAIN, 1001, b"other"),
+        from_port(40000, PLAIN, 2001, b"two"),
     ] {
-        capture.segment(Segment {
-            from: test_captures::Endpoint { port, ..CLIENT },
-            to: SERVER,
-            seq,
-            flags,
-            payload,
-        })?;
+        capture.segment(segment)?;
     }
-    capture.syn_ack(5000)?;
     Ok(capture)
 }
 
@@ -161,59 +162,19 @@ fn interleaved_connections(rt: HostRuntime) -> Result<(), Fail> {
     let alloc = rt.alloc();
     let capture = two_pairs(alloc)?;
     let found = connections_of(&rt, alloc, capture.as_slice())?;
-    let openings: Vec<(u32, u16, Option<u32>)> = found
-        .opened
-        .iter()
-        .map(|c| (c.rec, c.client.port, c.server_isn))
-        .collect(alloc)?;
-    let want = [(2, 40000, None), (3, 40001, None), (6, 40000, Some(5000))];
-    assert_eq!(rt; openings.as_slice(), want.as_slice());
-    let stray = Stray {
-        from: Endpoint {
-            address: SERVER.address,
-            port: 80,
-        },
-        to: Endpoint {
-            address: CLIENT.address,
-            port: 40000,
-        },
-        segments: 1,
-    };
-    assert_eq!(rt; found.strays.as_slice(), [stray].as_slice());
-    for (index, bytes, upto, rec) in [(0, b"one".as_slice(), 3, 4), (2, b"two".as_slice(), 3, 8)] {
-        let want = flow(alloc, bytes, &[(upto, rec)], None)?;
-        assert_same(
-            &rt,
-            &flow_of(&rt, alloc, capture.as_slice(), index, Side::Client)?,
-            &want,
-        );
+    let openings: Vec<u32> = found.opened.iter().map(|c| c.rec).collect(alloc)?;
+    let counts: Vec<u32> = found.strays.iter().map(|s| s.segments).collect(alloc)?;
+    assert_eq!(rt;
+        (openings.as_slice(), counts.as_slice()),
+        ([2, 3, 5].as_slice(), [1].as_slice())
+    );
+    for (index, bytes, arrived) in [
+        (0, b"one".as_slice(), (3, 4)),
+        (1, b"other".as_slice(), (5, 6)),
+        (2, b"two".as_slice(), (3, 7)),
+    ] {
+        let found = flow_of(&rt, alloc, capture.as_slice(), index, Side::Client)?;
+        assert_same(&rt, &found, &flow(alloc, bytes, &[arrived], None)?);
     }
-    let want = flow(alloc, b"others", &[(5, 5), (6, 7)], None)?;
-    assert_same(
-        &rt,
-        &flow_of(&rt, alloc, capture.as_slice(), 1, Side::Client)?,
-        &want,
-    );
-    Ok(())
-}
-
-#[test]
-fn unknown_side(rt: HostRuntime) -> Result<(), Fail> {
-    let alloc = rt.alloc();
-    let mut capture = Capture::new(alloc)?;
-    capture.syn(1000)?;
-    capture.server_at(5001, b"unheard")?;
-    let mut want = flow(alloc, b"", &[], None)?;
-    assert_same(
-        &rt,
-        &flow_of(&rt, alloc, capture.as_slice(), 0, Side::Client)?,
-        &want,
-    );
-    want.started = false;
-    assert_same(
-        &rt,
-        &flow_of(&rt, alloc, capture.as_slice(), 0, Side::Server)?,
-        &want,
-    );
     Ok(())
 }

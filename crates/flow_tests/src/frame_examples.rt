@@ -2,7 +2,12 @@
 //! functions do nothing; each contract is the example.
 
 ghost use Rattle.flow_tests.specs.Bodies.{Continuations, Data, FirstPairOutOfRange, GoAwayLengths, HeadersPadded, HeadersPlain, HeadersWithBoth, HeadersWithPriority, Increments, InitialWindowRange, LaterPairOutOfRange, MaxFrameSizeRange, OtherSettings, PaddedData, PaddedPushPromises, PingLengths, PriorityLengths, PushPromises, PushRange, RstStreamLengths, SettingsAckLengths, SettingsLengths, UnknownTypes, WindowUpdateLengths};
-ghost use Rattle.flow_tests.specs.Frames.{FrameHeaders, FramesInOrder, LastByteArrives};
+ghost use Rattle.flow_tests.specs.Frames.{FrameHeaders, FramesInOrder, LastByteArrives, PrefaceOctets};
+
+/// The connection preface of a client (RFC 9113, 3.4).
+pub fn connection_preface()
+    ensures { PrefaceOctets }
+{}
 
 /// The header of a frame (RFC 9113, 4.1).
 pub fn frame_headers()

@@ -70,7 +70,12 @@ fn cover(
 }
 
 fn is_covered(covered: &[Covered], offset: u64) -> bool {
-    covered.iter().any(|c| c.offset == offset)
+    for c in covered {
+        if c.offset == offset {
+            return true;
+        }
+    }
+    false
 }
 
 /// Takes the bytes at offset 0, 1 and so on, as far as they are covered.
@@ -88,8 +93,10 @@ fn lay_out(alloc: Global, covered: &[Covered]) -> Result<Flow, AllocError> {
     }
     let length = bytes.len() as u64;
     let mut gap = None;
-    if covered.iter().any(|c| c.offset > length) {
-        gap = Some(length);
+    for c in covered {
+        if c.offset > length {
+            gap = Some(length);
+        }
     }
     Ok(Flow {
         started: true,
