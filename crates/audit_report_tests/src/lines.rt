@@ -1,0 +1,172 @@
+//! The calls that answer some lines of a report.
+
+ghost use Rattle.std.specs.Prelude.{◌≡◌, ◌+◌, ◌*◌, ◌<◌, ◌^◌};
+ghost use Rattle.audit_terms.specs.Frame.{IsInRange};
+
+use audit_report::{capture_lines, connection_lines, finding_line};
+use audit_terms::{Body, Finding, Frame, Kind, Place, Side, Sides};
+use h2_frames::Cut;
+use packet_heads::{Endpoint, Packet, Refusal, Segment, Skip};
+use pcap_records::{Record, Records};
+use std::alloc::{AllocError, Global};
+use std::test::Fail;
+use tcp_streams::{Connection, Flow, Stray};
+
+const CLIENT: Endpoint = Endpoint {
+    address: 0x0a000001,
+    port: 40000,
+};
+
+const SERVER: Endpoint = Endpoint {
+    address: 0x0a000002,
+    port: 80,
+};
+
+// A segment of the server with no payload.
+fn segment(rec: u32, snapped: bool) -> Packet {
+    Packet::Segment(Segment {
+        rec,
+        nanos: 0,
+        from: SERVER,
+        to: CLIENT,
+        seq: 0,
+        syn: false,
+        ack: true,
+        lo: 0,
+        hi: 0,
+        snapped,
+    })
+}
+
+const CAPTURE_LINES: &str =
+    "capture records 13 segments 2 snapped 1 not-ipv4 1 fragments 1 not-tcp 1 refused 8
+record 1 refused short-ethernet
+record 3 refused short-ipv4
+record 4 refused bad-version
+record 5 refused bad-header-length
+record 6 refused bad-total-length
+record 7 refused past-end
+record 8 fragment
+record 10 refused short-tcp
+record 12 refused bad-data-offset
+record 14 cut
+unopened 10.0.0.2:80 10.0.0.1:40000 segments 2
+";
+
+// One packet of each kind, in record order: which are counted where, and which have a line of their own.
+#[test]
+fn each_kind_of_packet(rt: HostRuntime) -> Result<(), Fail> {
+    let packets = [
+        Packet::Refused(Refusal::ShortEthernet),
+        Packet::Skipped(Skip::NotIpv4),
+        Packet::Refused(Refusal::ShortIpv4),
+        Packet::Refused(Refusal::BadVersion),
+        Packet::Refused(Refusal::BadHeaderLength),
+        Packet::Refused(Refusal::BadTotalLength),
+        Packet::Refused(Refusal::PastEnd),
+        Packet::Skipped(Skip::Fragment),
+        Packet::Skipped(Skip::NotTcp),
+        Packet::Refused(Refusal::ShortTcp),
+        segment(11, true),
+        Packet::Refused(Refusal::BadDataOffset),
+        segment(13, false),
+    ];
+    let mut rows = Vec::new(rt.alloc());
+    for _ in 0..13 {
+        rows.push(Record {
+            nanos: 0,
+            original: 14,
+            start: 40,
+            length: 14,
+        })?;
+    }
+    let records = Records {
+        link: 1,
+        rows,
+        cut: Some(14),
+    };
+    let strays = [Stray {
+        from: SERVER,
+        to: CLIENT,
+        segments: 2,
+    }];
+    let text = capture_lines(rt.alloc(), &records, &packets, &strays)?;
+    assert_eq!(rt; text.as_slice(), CAPTURE_LINES.as_bytes());
+    Ok(())
+}
+
+fn flow(alloc: Global, size: usize, gap: Option<u64>) -> Result<Flow, AllocError> {
+    Ok(Flow {
+        started: size > 0,
+        bytes: vec![in alloc; 0; size]?,
+        arrivals: Vec::new(alloc),
+        gap,
+    })
+}
+
+// A WINDOW_UPDATE of the server, two records after its number, at a thousand nanoseconds a record.
+fn frame(number: u32) -> Frame
+    requires { number < 2 ^ 20 }
+    ensures number { result.number ≡ number }
+    ensures ranged { IsInRange result }
+{
+    Frame {
+        number,
+        side: Side::Server,
+        rec: number + 2,
+        nanos: (number as u64 + 2) * 1000,
+        code: 8,
+        flags: 0,
+        stream: 0,
+        length: 4,
+        body: Body::WindowUpdate(2147418113),
+    }
+}
+
+const CONNECTION_LINES: &str =
+    "connection 1 client 10.0.0.1:40000 server 10.0.0.2:80 record 1 http2 frames 2
+flow client bytes 110 gap 110 tail 59
+flow server bytes 18 gap none tail 3
+";
+
+#[test]
+fn snapped_gap(rt: HostRuntime) -> Result<(), Fail> {
+    let alloc = rt.alloc();
+    let cut = Cut::Http2 {
+        frames: vec![in alloc; frame(1), frame(2)]?,
+        tails: Sides {
+            client: 59,
+            server: 3,
+        },
+    };
+    let connection = Connection {
+        client: CLIENT,
+        server: SERVER,
+        rec: 1,
+        client_isn: 1000,
+        server_isn: None,
+        members: Vec::new(alloc),
+    };
+    let client = flow(alloc, 110, Some(110))?;
+    let server = flow(alloc, 18, None)?;
+    let text = connection_lines(alloc, 1, &connection, &client, &server, &cut)?;
+    assert_eq!(rt; text.as_slice(), CONNECTION_LINES.as_bytes());
+    Ok(())
+}
+
+const FINDING_LINE: &str =
+    "frame 8 record 10 time 10000 client stream-stall-begin stream 1 value -100\n";
+
+#[test]
+fn negative_window(rt: HostRuntime) -> Result<(), Fail> {
+    let kind = Kind::StreamStallBegin;
+    let finding = Finding {
+        place: Place::of(8, kind.rank(), 1),
+        side: Side::Client,
+        kind,
+        value: -100,
+    };
+    let text = finding_line(rt.alloc(), &finding, &[frame(7), frame(8), frame(9)])?;
+    assert_eq!(rt; text.as_slice(), FINDING_LINE.as_bytes());
+    Ok(())
+}
