@@ -22,7 +22,8 @@ use Rattle.fault_rules.specs.code.Pieces.{previous_after_all, last_from, before_
 
 -- the local faults of two lists of frames, one after the other
 pub local_run_from-append : (previous : Sides (Option Frame)) (xs ys : List Frame) →
-    local_run_from previous (xs ++ ys) ≡ local_run_from previous xs ++ local_run_from (previous_after_all previous xs) ys
+    local_run_from previous (xs ++ ys)
+    ≡ local_run_from previous xs ++ local_run_from (previous_after_all previous xs) ys
 local_run_from-append previous [] ys = refl
 local_run_from-append previous (frame ∷ xs) ys =
     let said = in_order (local_said (side_of frame.side previous) frame) in
@@ -40,31 +41,37 @@ previous-last previous (frame ∷ frames) = previous-last (previous_after previo
 pub last_from-append : (side : Side) (before : Option Frame) (xs ys : List Frame) →
     last_from side before (xs ++ ys) ≡ last_from side (last_from side before xs) ys
 last_from-append side before [] ys = refl
-last_from-append side before (frame ∷ xs) ys = last_from-append side (if is_side side frame.side then Some frame else before) xs ys
+last_from-append side before (frame ∷ xs) ys =
+    last_from-append side (if is_side side frame.side then Some frame else before) xs ys
 
 -- one more frame seen from behind, of the other side
-pub last_from-other : (side : Side) (before : Option Frame) (frames : List Frame) (back : ℕ) (d : Frame) → back < length frames
+pub last_from-other : (side : Side) (before : Option Frame) (frames : List Frame) (back : ℕ) (d : Frame)
+    → back < length frames
     → is_side side (get_or frames (length frames - 1 - back) d).side ≡ false
-    → last_from side before (take (length frames - back) frames) ≡ last_from side before (take (length frames - (back + 1)) frames)
+    → last_from side before (take (length frames - back) frames)
+    ≡ last_from side before (take (length frames - (back + 1)) frames)
 last_from-other side before frames back d l e =
     let k = length frames - (back + 1) in
     let next : length frames - back ≡ k + 1 = omega arith in
     let place : length frames - 1 - back ≡ k = omega arith in
-    let other : is_side side (get_or frames k d).side ≡ false = ap (λ i. is_side side (get_or frames i d).side) (sym place) ∙ e in
+    let other : is_side side (get_or frames k d).side ≡ false =
+    ap (λ i. is_side side (get_or frames i d).side) (sym place) ∙ e in
     ap (λ i. last_from side before (take i frames)) next
     ∙ ap (last_from side before) (take_more frames k d (omega arith))
     ∙ last_from-append side before (take k frames) (get_or frames k d ∷ [])
     ∙ ap (λ t. if t then Some (get_or frames k d) else last_from side before (take k frames)) other
 
 -- and of the side
-pub last_from-own : (side : Side) (before : Option Frame) (frames : List Frame) (back : ℕ) (d : Frame) → back < length frames
+pub last_from-own : (side : Side) (before : Option Frame) (frames : List Frame) (back : ℕ) (d : Frame)
+    → back < length frames
     → is_side side (get_or frames (length frames - 1 - back) d).side ≡ true
     → last_from side before (take (length frames - back) frames) ≡ Some (get_or frames (length frames - 1 - back) d)
 last_from-own side before frames back d l e =
     let k = length frames - (back + 1) in
     let next : length frames - back ≡ k + 1 = omega arith in
     let place : length frames - 1 - back ≡ k = omega arith in
-    let own : is_side side (get_or frames k d).side ≡ true = ap (λ i. is_side side (get_or frames i d).side) (sym place) ∙ e in
+    let own : is_side side (get_or frames k d).side ≡ true =
+    ap (λ i. is_side side (get_or frames i d).side) (sym place) ∙ e in
     ap (λ i. last_from side before (take i frames)) next
     ∙ ap (last_from side before) (take_more frames k d (omega arith))
     ∙ last_from-append side before (take k frames) (get_or frames k d ∷ [])
@@ -105,17 +112,20 @@ piece_run-rest frames n =
     let rest = drop (n * 4096) frames in
     let behind : drop ((n + 1) * 4096) frames ≡ drop 4096 rest =
     ap (λ k. drop k frames) e ∙ sym (drop-drop 4096 (n * 4096) frames) in
-    ap (λ previous. piece_run frames n ++ local_run_from previous (drop ((n + 1) * 4096) frames)) (before_piece-next frames n)
-    ∙ ap (λ l. piece_run frames n ++ local_run_from (previous_after_all (before_piece frames n) (take 4096 rest)) l) behind
+    let now = piece_run frames n in
+    ap (λ previous. now ++ local_run_from previous (drop ((n + 1) * 4096) frames)) (before_piece-next frames n)
+    ∙ ap (λ l. now ++ local_run_from (previous_after_all (before_piece frames n) (take 4096 rest)) l) behind
     ∙ sym (local_run_from-append (before_piece frames n) (take 4096 rest) (drop 4096 rest))
     ∙ ap (local_run_from (before_piece frames n)) (take-append-drop 4096 rest)
 
 module _ {X : Type 0} (E : Type 0) (items : X → List Finding) (frames : List Frame) where
   -- what the pieces from number n on show
   pub pieces-from : (n count : ℕ) (pieces : List X) → length frames ≤ (n + count) * 4096
-      → AllZip (λ k (r : Result X E). IfOk r (λ piece. items piece ≡ piece_run frames k)) (range_with_len n count) (map Ok pieces)
+      → AllZip (λ k (r : Result X E). IfOk r (λ piece. items piece ≡ piece_run frames k))
+      (range_with_len n count) (map Ok pieces)
       → flat_map items pieces ≡ local_run_from (before_piece frames n) (drop (n * 4096) frames)
-  pieces-from n zero [] l h = ap (local_run_from (before_piece frames n)) (sym (drop_all (n * 4096) frames (omega arith)))
+  pieces-from n zero [] l h =
+      ap (local_run_from (before_piece frames n)) (sym (drop_all (n * 4096) frames (omega arith)))
   pieces-from n zero (piece ∷ pieces) l h = absurd h
   pieces-from n (suc count) [] l h = absurd h
   pieces-from n (suc count) (piece ∷ pieces) l h =
@@ -125,6 +135,7 @@ module _ {X : Type 0} (E : Type 0) (items : X → List Finding) (frames : List F
 
   -- what all pieces show
   pub pieces-all : (count : ℕ) (pieces : List X) → length frames ≤ count * 4096
-      → AllZip (λ k (r : Result X E). IfOk r (λ piece. items piece ≡ piece_run frames k)) (range_with_len 0 count) (map Ok pieces)
+      → AllZip (λ k (r : Result X E). IfOk r (λ piece. items piece ≡ piece_run frames k))
+      (range_with_len 0 count) (map Ok pieces)
       → flat_map items pieces ≡ local_run frames
   pieces-all count pieces l h = pieces-from 0 count pieces (omega arith) h

@@ -37,8 +37,7 @@ fn last_from(side: Side, before: Option<Frame>, frames: &[Frame]) -> Option<Fram
     before
 }
 
-/// The last frame of each side after some frames, from those before them. It looks at each frame at most once for each
-/// side.
+/// The last frame of each side after some frames, from those before them.
 pub(crate) fn previous_after_all(
     previous: &Sides<Option<Frame>>,
     frames: &[Frame],

@@ -29,4 +29,5 @@ piece_run frames n = local_run_from (before_piece frames n) (slice_chunk frames 
 pub record AreBefores (frames : List Frame) (befores : List (Sides (Option Frame))) : Type 0 where
   pub whole : length frames ≤ length befores * 4096
   pub inside : (n : ℕ) → n < length befores → n * 4096 < length frames
-  pub each : (n : ℕ) (d : Sides (Option Frame)) → n < length befores → slice_index_or befores n d ≡ before_piece frames n
+  pub each : (n : ℕ) (d : Sides (Option Frame)) → n < length befores →
+      slice_index_or befores n d ≡ before_piece frames n

@@ -11,7 +11,8 @@ loop-n-preserved c =
     let i = c.loop-n.invariant in
     let before = c.loop-n.previous in
     let old = c.loop-n.befores.items in
-    let grown : c.push.new.self.items ≡ old ++ before ∷ [] = pushed (before ∷ []) refl c.in_ok-push.was c.push.ensures.items in
+    let grown : c.push.new.self.items ≡ old ++ before ∷ [] =
+    pushed (before ∷ []) refl c.in_ok-push.was c.push.ensures.items in
     let longer = length-append old (before ∷ []) in
     record {
       previous = c.previous_after_all-previous.ensures ∙ ap (previous_after_all before) c.piece.ensures

@@ -8,5 +8,6 @@ use Rattle.fault_rules.proofs.pieces.faults_after.Given as goal
 abbrev pub invariant-loop-frame : goal.invariant-loop-frame
 invariant-loop-frame l = record {
   in_range : AllByRecursion IsInRange (drop l.frame-index l.frames);
-  found : l.found.items ++ local_run_from l.previous (drop l.frame-index l.frames) ≡ local_run_from l.fn.previous l.frames;
+  found : l.found.items ++ local_run_from l.previous (drop l.frame-index l.frames)
+      ≡ local_run_from l.fn.previous l.frames;
 }

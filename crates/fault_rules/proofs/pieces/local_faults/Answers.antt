@@ -13,17 +13,20 @@ collect-requires-clause-ready g c κs within =
     let ends = c.into_par_iter.ensures in
     let frames = c.args.frames.now in
     let befores = c.as_slice-befores.result.now in
-    let are : AreBefores frames befores = subst (AreBefores frames) (sym c.as_slice-befores.ensures.value) c.in_ok-befores.ensures in
-    let inside = nat_range-All (λ n. (n < length befores) × All IsInRange frames × AreBefores frames befores) 0 (length befores)
-    (λ n low high. (high, orderly-All 0 frames c.requires, are)) in
-    rw (c.with_min_len.ensures.base, c.map.ensures.base, c.map.ensures.f, ends.0, ends.1) (λ k d lt. (inside k d lt, λ y p. tt))
+    let are : AreBefores frames befores =
+    subst (AreBefores frames) (sym c.as_slice-befores.ensures.value) c.in_ok-befores.ensures in
+    let inside = nat_range-All (λ n. (n < length befores) × All IsInRange frames × AreBefores frames befores)
+    0 (length befores) (λ n low high. (high, orderly-All 0 frames c.requires, are)) in
+    rw (c.with_min_len.ensures.base, c.map.ensures.base, c.map.ensures.f, ends.0, ends.1)
+    (λ k d lt. (inside k d lt, λ y p. tt))
 
 pub returns : goal.returns
 returns g c =
     let ends = c.into_par_iter.ensures in
     let frames = c.args.frames.now in
     let befores = c.as_slice-befores.result.now in
-    let are : AreBefores frames befores = subst (AreBefores frames) (sym c.as_slice-befores.ensures.value) c.in_ok-befores.ensures in
+    let are : AreBefores frames befores =
+    subst (AreBefores frames) (sym c.as_slice-befores.ensures.value) c.in_ok-befores.ensures in
     let n = length befores in
     let whole : n - 0 ≡ n = omega arith in
     let h = c.in_ok-collect.ensures in
