@@ -1,0 +1,141 @@
+-- Frames in pieces.
+use Rattle.std.proofs.Common.{◌≡◌, ℕ, zero, suc, ◌+◌, ◌-◌, ◌*◌, ◌<◌, ◌≤◌, true, false, if◌then◌else◌, List, [], ◌∷◌, ◌++◌, All, Option, Some, length, get_or, take, drop, map, flat_map, refl, sym, ap, ◌∙◌, append_assoc, arith}
+use Rattle.std.specs.Prelude.{Result, Ok, IfOk}
+use Rattle.std.specs.List.{AllZip, AllByRecursion, range_with_len}
+use Rattle.std.specs.Fork.{slice_chunk}
+use Rattle.std.proofs.Math.Seq.{take-add}
+use Rattle.std.proofs.lemmas.List.{take-append-drop, drop-drop, drop_all, take_more}
+use Rattle.std.proofs.lemmas.Grind.{common_steps}
+use Rattle.std.proofs.lemmas.List.Sums.{fold-append}
+use Rattle.std.proofs.lemmas.List.Elements.{All-from_recursion}
+use Rattle.audit_terms.specs.declared.sides.Side.{Side}
+use Rattle.audit_terms.specs.declared.sides.Side.TheVariants.{Client, Server}
+use Rattle.audit_terms.specs.declared.sides.Sides.{Sides}
+use Rattle.audit_terms.specs.declared.frames.Frame.{Frame}
+use Rattle.audit_terms.specs.declared.findings.Finding.{Finding}
+use Rattle.audit_terms.specs.Side.{is_side}
+use Rattle.audit_terms.specs.Sides.{side_of}
+use Rattle.audit_terms.specs.Frame.{IsInRange, IsOrderlyFrom}
+use Rattle.audit_terms.specs.Finding.{in_order}
+use Rattle.audit_terms.specs.LocalFault.{local_said, previous_after, no_previous, local_run_from, local_run}
+use Rattle.fault_rules.specs.code.Pieces.{previous_after_all, last_from, before_piece, piece_run}
+
+-- the local faults of two lists of frames, one after the other
+pub local_run_from-append : (previous : Sides (Option Frame)) (xs ys : List Frame) →
+    local_run_from previous (xs ++ ys)
+    ≡ local_run_from previous xs ++ local_run_from (previous_after_all previous xs) ys
+local_run_from-append previous [] ys = refl
+local_run_from-append previous (frame ∷ xs) ys =
+    let said = in_order (local_said (side_of frame.side previous) frame) in
+    let next = previous_after previous frame in
+    ap (λ rest. said ++ rest) (local_run_from-append next xs ys)
+    ∙ sym (append_assoc said (local_run_from next xs) (local_run_from (previous_after_all next xs) ys))
+
+-- the last frame of each side is the last of the one and of the other
+pub previous-last : (previous : Sides (Option Frame)) (frames : List Frame) → previous_after_all previous frames
+    ≡ record { client = last_from Client previous.client frames; server = last_from Server previous.server frames }
+previous-last previous [] = refl
+previous-last previous (frame ∷ frames) = previous-last (previous_after previous frame) frames
+
+-- the last frame of a side with one more frame behind
+pub last_from-append : (side : Side) (before : Option Frame) (xs ys : List Frame) →
+    last_from side before (xs ++ ys) ≡ last_from side (last_from side before xs) ys
+last_from-append side before [] ys = refl
+last_from-append side before (frame ∷ xs) ys =
+    last_from-append side (if is_side side frame.side then Some frame else before) xs ys
+
+-- one more frame seen from behind, of the other side
+pub last_from-other : (side : Side) (before : Option Frame) (frames : List Frame) (back : ℕ) (d : Frame)
+    → back < length frames
+    → is_side side (get_or frames (length frames - 1 - back) d).side ≡ false
+    → last_from side before (take (length frames - back) frames)
+    ≡ last_from side before (take (length frames - (back + 1)) frames)
+last_from-other side before frames back d l e =
+    let k = length frames - (back + 1) in
+    let next : length frames - back ≡ k + 1 = omega arith in
+    let place : length frames - 1 - back ≡ k = omega arith in
+    let other : is_side side (get_or frames k d).side ≡ false =
+    ap (λ i. is_side side (get_or frames i d).side) (sym place) ∙ e in
+    ap (λ i. last_from side before (take i frames)) next
+    ∙ ap (last_from side before) (take_more frames k d (omega arith))
+    ∙ last_from-append side before (take k frames) (get_or frames k d ∷ [])
+    ∙ ap (λ t. if t then Some (get_or frames k d) else last_from side before (take k frames)) other
+
+-- and of the side
+pub last_from-own : (side : Side) (before : Option Frame) (frames : List Frame) (back : ℕ) (d : Frame)
+    → back < length frames
+    → is_side side (get_or frames (length frames - 1 - back) d).side ≡ true
+    → last_from side before (take (length frames - back) frames) ≡ Some (get_or frames (length frames - 1 - back) d)
+last_from-own side before frames back d l e =
+    let k = length frames - (back + 1) in
+    let next : length frames - back ≡ k + 1 = omega arith in
+    let place : length frames - 1 - back ≡ k = omega arith in
+    let own : is_side side (get_or frames k d).side ≡ true =
+    ap (λ i. is_side side (get_or frames i d).side) (sym place) ∙ e in
+    ap (λ i. last_from side before (take i frames)) next
+    ∙ ap (last_from side before) (take_more frames k d (omega arith))
+    ∙ last_from-append side before (take k frames) (get_or frames k d ∷ [])
+    ∙ ap (λ t. if t then Some (get_or frames k d) else last_from side before (take k frames)) own
+    ∙ ap (λ i. Some (get_or frames i d)) (sym place)
+
+-- one more of those before the pieces
+pub befores-push : (frames : List Frame) (befores : List (Sides (Option Frame))) (next : Sides (Option Frame)) (n : ℕ)
+    → length befores ≡ n → next ≡ before_piece frames n
+    → ((k : ℕ) (d : Sides (Option Frame)) → k < length befores → get_or befores k d ≡ before_piece frames k)
+    → (k : ℕ) (d : Sides (Option Frame)) → k < length (befores ++ next ∷ [])
+    → get_or (befores ++ next ∷ []) k d ≡ before_piece frames k
+befores-push frames befores next n e h each k d l = grind (arith, common_steps, each k d, e, h)
+
+-- each frame of an orderly list is in range
+orderly-in_range : (low : ℕ) (frames : List Frame) → IsOrderlyFrom low frames → AllByRecursion IsInRange frames
+orderly-in_range low [] h = tt
+orderly-in_range low (frame ∷ frames) h = (h.1, orderly-in_range (frame.number + 1) frames h.2)
+
+pub orderly-All : (low : ℕ) (frames : List Frame) → IsOrderlyFrom low frames → All IsInRange frames
+orderly-All low frames h = All-from_recursion IsInRange frames (orderly-in_range low frames h)
+
+-- what comes before the next piece
+pub before_piece-next : (frames : List Frame) (n : ℕ) →
+    before_piece frames (n + 1) ≡ previous_after_all (before_piece frames n) (slice_chunk frames 4096 n)
+before_piece-next frames n =
+    let e : (n + 1) * 4096 ≡ n * 4096 + 4096 = omega arith in
+    ap (λ k. previous_after_all no_previous (take k frames)) e
+    ∙ ap (previous_after_all no_previous) (take-add (n * 4096) 4096 frames)
+    ∙ fold-append previous_after no_previous (take (n * 4096) frames) (take 4096 (drop (n * 4096) frames))
+
+-- a piece and what follows it
+pub piece_run-rest : (frames : List Frame) (n : ℕ) →
+    piece_run frames n ++ local_run_from (before_piece frames (n + 1)) (drop ((n + 1) * 4096) frames)
+    ≡ local_run_from (before_piece frames n) (drop (n * 4096) frames)
+piece_run-rest frames n =
+    let e : (n + 1) * 4096 ≡ n * 4096 + 4096 = omega arith in
+    let rest = drop (n * 4096) frames in
+    let behind : drop ((n + 1) * 4096) frames ≡ drop 4096 rest =
+    ap (λ k. drop k frames) e ∙ sym (drop-drop 4096 (n * 4096) frames) in
+    let now = piece_run frames n in
+    ap (λ previous. now ++ local_run_from previous (drop ((n + 1) * 4096) frames)) (before_piece-next frames n)
+    ∙ ap (λ l. now ++ local_run_from (previous_after_all (before_piece frames n) (take 4096 rest)) l) behind
+    ∙ sym (local_run_from-append (before_piece frames n) (take 4096 rest) (drop 4096 rest))
+    ∙ ap (local_run_from (before_piece frames n)) (take-append-drop 4096 rest)
+
+module _ {X : Type 0} (E : Type 0) (items : X → List Finding) (frames : List Frame) where
+  -- what the pieces from number n on show
+  pub pieces-from : (n count : ℕ) (pieces : List X) → length frames ≤ (n + count) * 4096
+      → AllZip (λ k (r : Result X E). IfOk r (λ piece. items piece ≡ piece_run frames k))
+      (range_with_len n count) (map Ok pieces)
+      → flat_map items pieces ≡ local_run_from (before_piece frames n) (drop (n * 4096) frames)
+  pieces-from n zero [] l h =
+      ap (local_run_from (before_piece frames n)) (sym (drop_all (n * 4096) frames (omega arith)))
+  pieces-from n zero (piece ∷ pieces) l h = absurd h
+  pieces-from n (suc count) [] l h = absurd h
+  pieces-from n (suc count) (piece ∷ pieces) l h =
+      ap (λ said. said ++ flat_map items pieces) h.0
+      ∙ ap (λ rest. piece_run frames n ++ rest) (pieces-from (n + 1) count pieces (omega arith) h.1)
+      ∙ piece_run-rest frames n
+
+  -- what all pieces show
+  pub pieces-all : (count : ℕ) (pieces : List X) → length frames ≤ count * 4096
+      → AllZip (λ k (r : Result X E). IfOk r (λ piece. items piece ≡ piece_run frames k))
+      (range_with_len 0 count) (map Ok pieces)
+      → flat_map items pieces ≡ local_run frames
+  pieces-all count pieces l h = pieces-from 0 count pieces (omega arith) h

@@ -1,0 +1,11 @@
+use Rattle.std.proofs.Common.{◌*◌, All, drop, sym, subst}
+use Rattle.std.proofs.lemmas.List.Elements.{All-take, All-drop}
+use Rattle.audit_terms.specs.Frame.{IsInRange}
+use Rattle.fault_rules.proofs.pieces.faults_of_piece.Goals as goal
+
+pub faults_after-requires : goal.faults_after-requires
+faults_after-requires c =
+    let frames = c.args.frames.now in
+    let start = c.args.n * 4096 in
+    subst (All IsInRange) (sym c.piece.ensures)
+    (All-take IsInRange 4096 (drop start frames) (All-drop IsInRange start frames c.requires.in_range))

@@ -1,0 +1,33 @@
+-- A connection's frames in pieces of 4096, and what a piece has to know of those before it.
+use Rattle.std.specs.Prelude.{◌≡◌, ℕ, ◌*◌, ◌<◌, ◌≤◌, List, [], ◌∷◌, Option, Some, if◌then◌else◌, length, fold, take, slice_index_or}
+use Rattle.std.specs.Fork.{slice_chunk}
+use Rattle.audit_terms.specs.declared.sides.Side.{Side}
+use Rattle.audit_terms.specs.declared.sides.Sides.{Sides}
+use Rattle.audit_terms.specs.declared.frames.Frame.{Frame}
+use Rattle.audit_terms.specs.declared.findings.Finding.{Finding}
+use Rattle.audit_terms.specs.Side.{is_side}
+use Rattle.audit_terms.specs.LocalFault.{previous_after, no_previous, local_run_from}
+
+-- the last frame of each side after some frames, from those before them
+abbrev pub previous_after_all : Sides (Option Frame) → List Frame → Sides (Option Frame)
+previous_after_all previous frames = fold previous_after previous frames
+
+-- the last frame of one side in some frames, or the one before them
+abbrev pub last_from : Side → Option Frame → List Frame → Option Frame
+last_from side before [] = before
+last_from side before (frame ∷ frames) = last_from side (if is_side side frame.side then Some frame else before) frames
+
+-- the last frame of each side before piece n
+abbrev pub before_piece : List Frame → ℕ → Sides (Option Frame)
+before_piece frames n = previous_after_all no_previous (take (n * 4096) frames)
+
+-- the local faults of piece n
+abbrev pub piece_run : List Frame → ℕ → List Finding
+piece_run frames n = local_run_from (before_piece frames n) (slice_chunk frames 4096 n)
+
+-- there is one of befores for each piece, and it holds the last frame of each side before that piece
+pub record AreBefores (frames : List Frame) (befores : List (Sides (Option Frame))) : Type 0 where
+  pub whole : length frames ≤ length befores * 4096
+  pub inside : (n : ℕ) → n < length befores → n * 4096 < length frames
+  pub each : (n : ℕ) (d : Sides (Option Frame)) → n < length befores →
+      slice_index_or befores n d ≡ before_piece frames n
