@@ -165,17 +165,17 @@ verdict_by faults = if faults then Faults else Clean
 pub one_report_lem : OneReport
 one_report_lem bytes shown text other verdict judged x y =
     let reading = one_reading_lem bytes x.found y.found x.reading y.reading in
-    let decide : List Record → List Packet = λ rows. packet_decisions rows bytes in
-    let packets = ap decide reading.1 in
+    let decide : ℕ → List Record → List Packet = λ link rows. packet_decisions link rows bytes in
+    let packets = ap (λ (link : ℕ). decide link x.found.rows.items) reading.0 ∙ ap (decide y.found.link) reading.1 in
     let opened = x.report.connections ∙ ap (λ (p : List Packet). connections_of (past_of p)) packets ∙ sym y.report.connections in
     let audits = subst (λ (p : List Packet). AreAudited bytes p y.report.opened y.report.audited) (sym packets) y.report.audits in
-    let same = one_audit bytes (decide x.found.rows.items) x.report.opened y.report.opened x.report.audited y.report.audited opened x.report.audits audits in
+    let same = one_audit bytes (decide x.found.link x.found.rows.items) x.report.opened y.report.opened x.report.audited y.report.audited opened x.report.audits audits in
     let sections = sections_of x.report.opened x.report.audited in (
       x.report.spelled
-          ∙ ap (λ (rows : List Record). text_by shown rows x.found.cut (decide x.found.rows.items) sections) reading.1
-          ∙ ap (λ (cut : Option ℕ). text_by shown y.found.rows.items cut (decide x.found.rows.items) sections) reading.2
+          ∙ ap (λ (rows : List Record). text_by shown rows x.found.cut (decide x.found.link x.found.rows.items) sections) reading.1
+          ∙ ap (λ (cut : Option ℕ). text_by shown y.found.rows.items cut (decide x.found.link x.found.rows.items) sections) reading.2
           ∙ ap (λ (p : List Packet). text_by shown y.found.rows.items y.found.cut p sections) packets
-          ∙ ap (λ (es : List Section). text_by shown y.found.rows.items y.found.cut (decide y.found.rows.items) es) same.sections
+          ∙ ap (λ (es : List Section). text_by shown y.found.rows.items y.found.cut (decide y.found.link y.found.rows.items) es) same.sections
           ∙ sym y.report.spelled,
       x.report.judged ∙ ap verdict_by same.faults ∙ sym y.report.judged,
     )

@@ -16,7 +16,7 @@ use Rattle.h2audit.specs.declared.verdict.Verdict.{Verdict}
 
 -- the packets of a capture's records
 abbrev pub packets_of : List ℕ → Records → List Packet
-packets_of bytes found = packet_decisions found.rows.items bytes
+packets_of bytes found = packet_decisions found.link found.rows.items bytes
 
 -- this text is the report of a capture whose records are these, and this is its verdict
 pub record IsReportOn (bytes : List ℕ) (found : Records) (shown : Bool) (text : List ℕ) (verdict : Verdict) : Type 0 where

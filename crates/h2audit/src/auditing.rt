@@ -1,4 +1,5 @@
-ghost use Rattle.std.specs.Prelude.{◌≡◌, ◌<◌, ◌^◌, IfOk, IfErr, length};
+ghost use Rattle.std.specs.Prelude.{◌≡◌, ◌<◌, ◌^◌, IfOk, IfErr, IsTrue, length};
+ghost use Rattle.pcap_records.specs.LinkType.{is_read};
 ghost use Rattle.pcap_records.specs.Place.{AreTimely, AreWithin};
 ghost use Rattle.h2audit.specs.Choices.{choices};
 ghost use Rattle.h2audit.specs.Report.{IsReport, IsReportOn};
@@ -49,7 +50,7 @@ fn audit_records(
     frames_shown: bool,
 ) -> Result<(Vec<u8>, Verdict), AllocError>
     requires size { length capture.now < 2 ^ 31 }
-    requires ethernet { found.now.link ≡ 1 }
+    requires linked { IsTrue (is_read found.now.link) }
     requires within { AreWithin (length capture.now) found.now.rows.items }
     requires timely { AreTimely found.now.rows.items }
     ensures { IfOk result (λ r. IsReportOn capture.now found.now frames_shown r.0.items r.1) }
