@@ -18,7 +18,8 @@ roles_text client server = codes " client " ++ endpoint_text client ++ codes " s
 
 -- `connection K client ENDPOINT server ENDPOINT record N`; N is the record of the opening
 abbrev pub heading_text : (k : ℕ) (client server : Endpoint) (rec : ℕ) → List ℕ
-heading_text k client server rec = field (codes "connection ") k ++ roles_text client server ++ field (codes " record ") rec
+heading_text k client server rec =
+    field (codes "connection ") k ++ roles_text client server ++ field (codes " record ") rec
 
 -- the same, and what the connection's flows hold
 abbrev pub connection_line : (k : ℕ) (client server : Endpoint) (rec : ℕ) → Contents → List ℕ

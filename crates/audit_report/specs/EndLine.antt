@@ -16,7 +16,8 @@ stop_line number = line (field (codes "audit stopped at frame ") number)
 -- after a connection error its frame, else all frames
 abbrev pub end_line_after : Option Finding → List ℕ
 end_line_after None = line (codes "audit of all frames")
-end_line_after (Some last) = if stops last then stop_line (place_number last.place) else line (codes "audit of all frames")
+end_line_after (Some last) =
+    if stops last then stop_line (place_number last.place) else line (codes "audit of all frames")
 
 abbrev pub end_line : List Finding → List ℕ
 end_line findings = end_line_after (last_of findings)

@@ -9,7 +9,8 @@ use Rattle.packet_heads.specs.declared.packets.Skip.TheVariants.{Fragment}
 -- `record N fragment` or `record N refused NAME`; nothing for another packet
 abbrev pub record_line : ℕ → Packet → List ℕ
 record_line number (Skipped Fragment) = line (field (codes "record ") number ++ codes " fragment")
-record_line number (Refused refusal) = line (field (codes "record ") number ++ codes " refused " ++ refusal_name refusal)
+record_line number (Refused refusal) =
+    line (field (codes "record ") number ++ codes " refused " ++ refusal_name refusal)
 record_line number _ = []
 
 -- the lines of these packets, the first of which is that of this record

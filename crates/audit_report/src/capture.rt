@@ -36,7 +36,8 @@ pub fn push_capture_text(
     packets: &[Packet],
     strays: &[Stray],
 ) -> Result<(), AllocError>
-    ensures { OnOk result (string_bytes out.new ≡ string_bytes out.old ++ capture_text records.now packets.now strays.now) }
+    ensures { OnOk result (string_bytes out.new ≡ string_bytes out.old
+        ++ capture_text records.now packets.now strays.now) }
 {
     push_capture_line(out, records, packets)?;
     push_record_lines(out, packets)?;
@@ -50,7 +51,8 @@ fn push_capture_line(
     records: &Records,
     packets: &[Packet],
 ) -> Result<(), AllocError>
-    ensures { OnOk result (string_bytes out.new ≡ string_bytes out.old ++ capture_line records.now.rows.items packets.now) }
+    ensures { OnOk result (string_bytes out.new ≡ string_bytes out.old
+        ++ capture_line records.now.rows.items packets.now) }
 {
     push_field(out, "capture records ", records.rows.len() as u64)?;
     push_packet_counts(out, packets)?;

@@ -31,7 +31,8 @@ pub fn push_finding_lines(
     credits_shown: bool,
 ) -> Result<(), AllocError>
     requires { IsOrderly frames.now }
-    ensures { OnOk result (string_bytes out.new ≡ string_bytes out.old ++ finding_lines credits_shown frames.now findings.now) }
+    ensures { OnOk result (string_bytes out.new ≡ string_bytes out.old
+        ++ finding_lines credits_shown frames.now findings.now) }
 {
     for finding in findings {
         push_shown_line(out, finding, frames, credits_shown)?;
@@ -46,7 +47,8 @@ fn push_shown_line(
     credits_shown: bool,
 ) -> Result<(), AllocError>
     requires { IsOrderly frames.now }
-    ensures { OnOk result (string_bytes out.new ≡ string_bytes out.old ++ shown_line credits_shown frames.now finding.now) }
+    ensures { OnOk result (string_bytes out.new ≡ string_bytes out.old
+        ++ shown_line credits_shown frames.now finding.now) }
 {
     if credits_shown || !tells_credit(finding.kind) {
         push_finding_line(out, finding, frames)?;

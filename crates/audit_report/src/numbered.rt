@@ -29,7 +29,8 @@ fn push_record_line(out: &mut String, number: u64, packet: Packet) -> Result<(),
 
 #[tactic(auto, using(crate::proofs::Joins::joins))]
 fn push_fragment_line(out: &mut String, number: u64) -> Result<(), AllocError>
-    ensures { OnOk result (string_bytes out.new ≡ string_bytes out.old ++ record_line number (Packet.Skipped Skip.Fragment)) }
+    ensures { OnOk result (string_bytes out.new ≡ string_bytes out.old
+        ++ record_line number (Packet.Skipped Skip.Fragment)) }
 {
     push_field(out, "record ", number)?;
     push_word(out, " fragment")?;

@@ -117,7 +117,8 @@ fn push_audit(
     frames_shown: bool,
 ) -> Result<(), AllocError>
     requires { IsOrderly frames.now }
-    ensures { OnOk result (string_bytes out.new ≡ string_bytes out.old ++ audit_text frames_shown frames.now findings.now) }
+    ensures { OnOk result (string_bytes out.new ≡ string_bytes out.old
+        ++ audit_text frames_shown frames.now findings.now) }
 {
     push_finding_lines(out, findings, frames, frames_shown)?;
     let stalls = stall_pairs(alloc, findings, frames)?;

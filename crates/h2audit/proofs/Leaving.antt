@@ -24,11 +24,14 @@ front_is_whole all front is taken =
     let fits : length all ≤ 2147483648 = omega (arith, short, size) in
     is ∙ take_all 2147483648 all fits
 
-report_of_front : (all front : List ℕ) (shown : Bool) (text : List ℕ) (verdict : Verdict) → front ≡ take 2147483648 all → IsReport front shown text verdict → IsReport all shown text verdict
+report_of_front : (all front : List ℕ) (shown : Bool) (text : List ℕ) (verdict : Verdict) → front ≡ take 2147483648 all
+    → IsReport front shown text verdict → IsReport all shown text verdict
 report_of_front all front shown text verdict is report =
     subst (λ (bytes : List ℕ). IsReport bytes shown text verdict) (front_is_whole all front is report.taken) report
 
-pub leaves_by_front : (all front : List ℕ) (shown : Bool) (old new : Option (List ℕ)) (answer : Result Verdict AuditFault) → front ≡ take 2147483648 all → Leaves front shown old new answer → Leaves all shown old new answer
+pub leaves_by_front : (all front : List ℕ) (shown : Bool) (old new : Option (List ℕ))
+    (answer : Result Verdict AuditFault)
+    → front ≡ take 2147483648 all → Leaves front shown old new answer → Leaves all shown old new answer
 leaves_by_front all front shown old new (Ok verdict) is left =
     (left.0, report_of_front all front shown left.0 verdict is left.1, left.2)
 leaves_by_front all front shown old new (Err fault.Write) is left =
@@ -39,7 +42,8 @@ leaves_by_front all front shown old new (Err fault.Read) is left = left
 leaves_by_front all front shown old new (Err fault.OutOfMemory) is left = left
 leaves_by_front all front shown old new (Err fault.Worker) is left = left
 
-pub judged_by_front : (all front : List ℕ) (seen : Seen) (answer : Result Verdict AuditFault) → front ≡ take 2147483648 all → IsJudged front seen answer → IsJudged all seen answer
+pub judged_by_front : (all front : List ℕ) (seen : Seen) (answer : Result Verdict AuditFault)
+    → front ≡ take 2147483648 all → IsJudged front seen answer → IsJudged all seen answer
 judged_by_front all front seen (Ok verdict) is judged = judged
 judged_by_front all front seen (Err fault.OutOfMemory) is judged = λ room. sym (ap refusal is ∙ front_decides_lem all) ∙ judged room
 judged_by_front all front seen (Err fault.Write) is judged = judged

@@ -95,7 +95,8 @@ plain_arg a simple free =
     let parts = simple_parts a simple in
     (off _ one.0, nothing_in _ two.0, parts.0, parts.2)
 
-number_arg : (a : Arg) (name default : Text) (most : ℕ) → rule_of a ≡ number_rule name most default → IsNumberArg a name most
+number_arg : (a : Arg) (name default : Text) (most : ℕ) → rule_of a ≡ number_rule name most default
+    → IsNumberArg a name most
 number_arg a name default most e =
     let range : a.num_vals ≡ None = ap (λ (r : Rule). r.range) e in
     let parts = simple_parts a (ap (λ (r : Rule). r.is_simple) e) in
@@ -138,7 +139,8 @@ no_group c e no_groups named pass g = elim (pass.3 g) [
       absurd (omega arith)
 ]
 
-has_values : (c : Command) (e : Entry) (most : ℕ) → AreNumbers c e.0.now most → (e.1.is_group ≡ true → ⊥) → EntryPasses c e
+has_values : (c : Command) (e : Entry) (most : ℕ) → AreNumbers c e.0.now most → (e.1.is_group ≡ true → ⊥)
+    → EntryPasses c e
     → 0 < length e.1.vals.items
 has_values c e most numbers ungrouped pass = elim pass.1 [
   | inl h ↦ absurd (ungrouped h.0)
@@ -181,14 +183,16 @@ fits c e most numbers ungrouped pass = λ k d lt. elim pass.0 [
         let is = (numbers any.0 any.1 any.2 any.3 any.4.0).parser in
         subst (λ (q : ValueParser). Accepts any.1.ignore_case q (slice_index_or e.1.vals.items k d).now) is any.4.1
 
-first_number : (vs : List (Bor Text)) (how : Reading) (most : ℕ) → 0 < length vs → how ≡ reading_of (value.Signed (pos 1) (pos most))
+first_number : (vs : List (Bor Text)) (how : Reading) (most : ℕ) → 0 < length vs
+    → how ≡ reading_of (value.Signed (pos 1) (pos most))
     → All (λ v. IsSignedIn (pos 1) (pos most) v.now) vs
     → (t : Text) × (option_map (λ s. read_as how s.now) (slice_get vs 0) ≡ Some (without_minus t)) × IsSignedIn (pos 1) (pos most) t
 first_number [] how most some is all = absurd (omega arith)
 first_number (v ∷ vs) how most some is all = (v.now, rw is refl, all 0 v (omega arith))
 
 -- what a parse found of a number
-found_number : (c : Command) (f : Found) (name : Text) (most : ℕ) → groups_of c ≡ [] → (name ≡ [] → ⊥) → AreNumbers c name most
+found_number : (c : Command) (f : Found) (name : Text) (most : ℕ) → groups_of c ≡ [] → (name ≡ [] → ⊥)
+    → AreNumbers c name most
     → All (EntryPasses c) f.entries.items → HasId f name → HasNumber f name most
 found_number c f name most no_groups named numbers values has =
     let x = finds f.entries.items name has.0 has.1 has.2 in
@@ -201,7 +205,8 @@ found_number c f name most no_groups named numbers values has =
     let same : got.0.1 ≡ x.0 = got.1 in
     (first.0, text x.0 first.0 (subst (λ (y : MatchedArg). option_map (λ s. read_as y.reading s.now) (slice_get y.vals.items 0) ≡ Some (without_minus first.0)) same first.1) x.1, first.2)
   where
-    text : (y : MatchedArg) (t : Text) → option_map (λ s. read_as y.reading s.now) (slice_get y.vals.items 0) ≡ Some (without_minus t)
+    text : (y : MatchedArg) (t : Text)
+        → option_map (λ s. read_as y.reading s.now) (slice_get y.vals.items 0) ≡ Some (without_minus t)
         → matched_of f name ≡ Some y → one_text f name ≡ Some (without_minus t)
     text y t is at = rw at is
 

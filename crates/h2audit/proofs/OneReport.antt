@@ -42,7 +42,8 @@ record IsOneFlow (f g : Flow) : Type 0 where
   pub same : IsSameFlow f g
   pub gap : f.gap ≡ g.gap
 
-one_flow : (isn : Option ℕ) (capture : List ℕ) (segments : List Segment) (f g : Flow) → IsFlowFrom isn capture segments f → IsFlowFrom isn capture segments g → IsOneFlow f g
+one_flow : (isn : Option ℕ) (capture : List ℕ) (segments : List Segment) (f g : Flow)
+    → IsFlowFrom isn capture segments f → IsFlowFrom isn capture segments g → IsOneFlow f g
 one_flow None capture segments f g h k = record {
   same = record { started = h.0 ∙ sym k.0; bytes = h.1 ∙ sym k.1; arrivals = h.2 ∙ sym k.2 };
   gap = h.3 ∙ sym k.3;
@@ -108,7 +109,8 @@ record IsOneSection (c d : Connection) (a b : Audited) : Type 0 where
   pub section_is : section_of c a ≡ section_of d b
   pub findings : a.findings.items ≡ b.findings.items
 
-one_section : (capture : List ℕ) (packets : List Packet) (c d : Connection) (a b : Audited) → membership c ≡ membership d → IsAudited capture packets c a → IsAudited capture packets d b → IsOneSection c d a b
+one_section : (capture : List ℕ) (packets : List Packet) (c d : Connection) (a b : Audited)
+    → membership c ≡ membership d → IsAudited capture packets c a → IsAudited capture packets d b → IsOneSection c d a b
 one_section capture packets c d a b m h k =
     let client = one_flow (Some c.client_isn) capture (clients packets (membership c)) a.flows.client b.flows.client h.client
     (subst (λ (n : Membership). IsClientFlow capture packets n b.flows.client) (sym m) k.client) in
@@ -134,7 +136,9 @@ record AreOneAudit (cs ds : List Connection) (xs ys : List Audited) : Type 0 whe
   pub sections : sections_of cs xs ≡ sections_of ds ys
   pub faults : list_any has_fault xs ≡ list_any has_fault ys
 
-one_audit : (capture : List ℕ) (packets : List Packet) (cs ds : List Connection) (xs ys : List Audited) → map membership cs ≡ map membership ds → AreAudited capture packets cs xs → AreAudited capture packets ds ys → AreOneAudit cs ds xs ys
+one_audit : (capture : List ℕ) (packets : List Packet) (cs ds : List Connection) (xs ys : List Audited)
+    → map membership cs ≡ map membership ds → AreAudited capture packets cs xs → AreAudited capture packets ds ys
+    → AreOneAudit cs ds xs ys
 one_audit capture packets [] [] [] [] m h k = record { sections = refl; faults = refl }
 one_audit capture packets [] [] [] (b ∷ ys) m h k = absurd k
 one_audit capture packets [] [] (a ∷ xs) ys m h k = absurd h

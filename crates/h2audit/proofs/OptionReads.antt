@@ -21,7 +21,8 @@ ReadsU32 bs r = ParsesUnsigned 32 10 bs r × ExplainsUnsignedError 10 bs r × Ha
 abbrev pub IsReadOf : Found → (name : Text) → Option ℕ → Type 0
 IsReadOf f name r = (t : Text) → one_text f name ≡ Some t → ReadsOne ReadsU32 t r
 
-number_read : (f : Found) (name : Text) (most : ℕ) (r : Option ℕ) → most < 2 ^ 32 → HasNumber f name most → IsReadOf f name r
+number_read : (f : Found) (name : Text) (most : ℕ) (r : Option ℕ) → most < 2 ^ 32 → HasNumber f name most
+    → IsReadOf f name r
     → (n : ℕ) × (r ≡ Some n) × (1 ≤ n) × (n ≤ most) × IsNumberOf name (rows_of f) n
 number_read f name most r fits has reads =
     let read = reads (without_minus has.0) has.1 in
@@ -30,7 +31,8 @@ number_read f name most r fits has reads =
     (got.0, got.1, got.2, got.3, (without_minus has.0, sym (one_text-rows f name) ∙ has.1, (spelled.0.0, spelled.1)))
 
 -- a number that was found is read
-pub number_some : (f : Found) (name : Text) (most : ℕ) (r : Option ℕ) → most < 2 ^ 32 → HasNumber f name most → IsReadOf f name r
+pub number_some : (f : Found) (name : Text) (most : ℕ) (r : Option ℕ) → most < 2 ^ 32 → HasNumber f name most
+    → IsReadOf f name r
     → IsSome r
 number_some f name most r fits has reads = rw (number_read f name most r fits has reads).1 refl
 

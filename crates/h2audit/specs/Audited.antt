@@ -38,7 +38,8 @@ findings_of (Http2 frames tails) = pass frames.items
 findings_of _ = []
 
 -- the audit of a connection: its two flows, what they hold, and what is found in the frames
-pub record IsAudited (capture : List ℕ) (packets : List Packet) (connection : Connection) (audited : Audited) : Type 0 where
+pub record IsAudited (capture : List ℕ) (packets : List Packet) (connection : Connection) (audited : Audited)
+    : Type 0 where
   pub client : IsFlowOf capture packets connection Client audited.flows.client
   pub server : IsFlowOf capture packets connection Server audited.flows.server
   pub cut : IsCut audited.flows.client audited.flows.server audited.cut

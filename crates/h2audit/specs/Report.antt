@@ -19,7 +19,8 @@ abbrev pub packets_of : List ℕ → Records → List Packet
 packets_of bytes found = packet_decisions found.link found.rows.items bytes
 
 -- this text is the report of a capture whose records are these, and this is its verdict
-pub record IsReportOn (bytes : List ℕ) (found : Records) (shown : Bool) (text : List ℕ) (verdict : Verdict) : Type 0 where
+pub record IsReportOn (bytes : List ℕ) (found : Records) (shown : Bool) (text : List ℕ) (verdict : Verdict)
+    : Type 0 where
   pub opened : List Connection
   pub audited : List Audited
   pub connections : map membership opened ≡ connections_of (past_of (packets_of bytes found))

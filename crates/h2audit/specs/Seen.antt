@@ -16,8 +16,8 @@ nothing_seen = record {
 }
 
 -- the account at the end of a run: after a verdict nothing failed, and a flush that went well came last; after a failed
--- read or write nothing else failed, and no flush went well; after any other fault no call failed. Only before a verdict
--- or a failed write was a byte written. No run starts a worker
+-- read or write nothing else failed, and no flush went well; after any other fault no call failed. Only before a
+-- verdict or a failed write was a byte written. No run starts a worker
 abbrev pub Tells : Seen → Result Verdict AuditFault → Type 0
 Tells seen (Ok _) = seen ≡ record nothing_seen { wrote = seen.wrote; flushed = true }
 Tells seen (Err fault.Read) = seen ≡ record nothing_seen { read_failed = true }

@@ -55,7 +55,8 @@ fn read_more<R: Read>(
     ensures front { take filled bytes.new.items ≡ take filled bytes.old.items }
     ensures grown { filled ≤ vec_len bytes.new }
     ensures fits { IfOk result (λ n. (filled + n ≤ vec_len bytes.new) × (filled + n ≤ 2 ^ 31)) }
-    ensures bytes { IfOk result (λ n. Consumes (R.remaining reader.old) (R.remaining reader.new) (take n (drop filled bytes.new.items))) }
+    ensures bytes { IfOk result (λ n.
+        Consumes (R.remaining reader.old) (R.remaining reader.new) (take n (drop filled bytes.new.items))) }
     ensures end { IfOk result (λ n. n ≡ 0 → IsAtEnd (R.remaining reader.new)) }
     ensures ok { OnOk result (seen.new ≡ seen.old) }
     ensures err { IfErr result (λ e. IsReadingFault e seen.old seen.new) }

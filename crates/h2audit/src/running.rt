@@ -30,8 +30,8 @@ pub fn run<R: Read, W: Write>(
     writer: &mut W,
     gate: &impl Gate,
 ) -> Result<Verdict, AuditFault>
-    ensures leaves { IfSome (R.remaining reader.old)
-        (λ bytes. Leaves bytes (choices options.now).frames_shown (W.contents writer.old) (W.contents writer.new) result) }
+    ensures leaves { IfSome (R.remaining reader.old) (λ bytes.
+        Leaves bytes (choices options.now).frames_shown (W.contents writer.old) (W.contents writer.new) result) }
     ensures silent { IfErr result (λ e. e ≢ AuditFault.Write → Keeps (W.contents writer.old) (W.contents writer.new)) }
 {
     let mut seen = Seen::NOTHING;
@@ -51,8 +51,8 @@ pub fn run_seen<R: Read, W: Write>(
     seen: &mut Seen,
 ) -> Result<Verdict, AuditFault>
     requires { seen.old ≡ Seen.NOTHING }
-    ensures leaves { IfSome (R.remaining reader.old)
-        (λ bytes. Leaves bytes (choices options.now).frames_shown (W.contents writer.old) (W.contents writer.new) result) }
+    ensures leaves { IfSome (R.remaining reader.old) (λ bytes.
+        Leaves bytes (choices options.now).frames_shown (W.contents writer.old) (W.contents writer.new) result) }
     ensures silent { IfErr result (λ e. e ≢ AuditFault.Write → Keeps (W.contents writer.old) (W.contents writer.new)) }
     ensures tells { Tells seen.new result }
     ensures judged { IfSome (R.remaining reader.old) (λ bytes. IsJudged bytes seen.new result) }

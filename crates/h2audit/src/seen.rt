@@ -37,7 +37,8 @@ impl Seen {
 #[derive(Clone, Copy, Debug, PartialEq, Eq)]
 pub(crate) struct Failed;
 
-/// Reads once, into the front of `piece`. `Ok(0)` is the end where `piece` has room. No read comes after one that failed.
+/// Reads once, into the front of `piece`. `Ok(0)` is the end where `piece` has room. No read comes after one that
+/// failed.
 pub(crate) fn read_once<R: Read>(
     reader: &mut R,
     piece: &mut [u8],

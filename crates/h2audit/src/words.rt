@@ -24,7 +24,8 @@ pub enum Parsed {
 /// Reads the words of the command line, without the program's name:
 /// `[--workers N] [--groups N] [--block N] [--frames] [FILE]`.
 ///
-/// Without a word for them there are 4 workers, 16 groups and blocks of 4096 frames. A number out of its range is refused.
+/// Without a word for them there are 4 workers, 16 groups and blocks of 4096 frames. A number out of its range is
+/// refused.
 pub fn parse(alloc: Global, words: &[&str]) -> Result<Parsed, AllocError>
     ensures { IfOk result (Asks (map (λ w. w.now) words.now)) }
 {
@@ -59,7 +60,8 @@ fn options_in(found: &ArgMatches<'_>) -> Options
 
 /// The path of the capture, if a word gives one.
 fn file_in(alloc: Global, found: &ArgMatches<'_>) -> Result<Option<String>, AllocError>
-    ensures { IfOk result (λ file. option_map string_bytes file ≡ first_of (codes "FILE") (rows_of (found_of found.now))) }
+    ensures { IfOk result (λ file.
+        option_map string_bytes file ≡ first_of (codes "FILE") (rows_of (found_of found.now))) }
 {
     match found.get_str(FILE) {
         Some(path) => Ok(Some(String::from_str(alloc, path)?)),

@@ -37,7 +37,8 @@ swept_more frames found later ends ends' met swept ended = record {
 }
 
 -- what is left of a list from one place before
-drop_one_less : (findings : List Finding) (left : ℕ) (found : Finding) → 0 < left → left ≤ length findings → found ≡ get_or findings (left - 1) found
+drop_one_less : (findings : List Finding) (left : ℕ) (found : Finding) → 0 < left → left ≤ length findings
+    → found ≡ get_or findings (left - 1) found
     → drop (left - 1) findings ≡ found ∷ drop left findings
 drop_one_less findings left found positive within here =
     let same : left - 1 + 1 ≡ left = omega arith in

@@ -1,5 +1,5 @@
-//! What becomes of the findings of one connection (RFC 9113, 5.2) once they stand in one list: which stalls they tell of,
-//! and which frame each of them is about.
+//! What becomes of the findings of one connection (RFC 9113, 5.2) once they stand in one list: which stalls they tell
+//! of, and which frame each of them is about.
 #![tactic(auto)]
 
 mod ends;

@@ -22,7 +22,8 @@ pub struct Stall {
     pub from: u32,
     /// The number of the frame from which there is credit again.
     pub to: Option<u32>,
-    /// The time between the two frames in nanoseconds, below zero where the capture's clock went back; 0 without an end.
+    /// The time between the two frames in nanoseconds, below zero where the capture's clock went back; 0 without an
+    /// end.
     pub nanos: i64,
 }
 

@@ -1,0 +1,42 @@
+//! The answer of a run, and how it compares with what a row asks for.
+
+use h2audit::{NoGate, Options, ending, run};
+use std::alloc::{AllocError, Global};
+use std::thread::Threads;
+
+/// Workers, groups and block lengths: the least of each, some between, the most that matter here.
+const MIXES: [(u32, u32, u32); 3] = [(1, 1, 1), (2, 3, 2), (64, 1024, 4096)];
+
+/// What a run leaves, line by line: its exit status, what standard error says, and the report.
+fn answer_of(
+    rt: &(impl Sync + Threads),
+    alloc: Global,
+    options: &Options,
+    capture: &[u8],
+) -> Result<String, AllocError> {
+    let mut reader = capture;
+    let mut report = Vec::new(alloc);
+    let answer = run(rt, alloc, options, &mut reader, &mut report, &NoGate);
+    let report = String::from_utf8(report).unwrap_or(String::new(alloc));
+    let (status, line) = ending(&answer);
+    let end = if line.is_empty() { "" } else { "\n" };
+    format!(in alloc; "status {status}\n{line}{end}{report}")
+}
+
+/// Whether a run leaves this answer in each mix.
+pub fn always_answers(
+    rt: &(impl Sync + Threads),
+    alloc: Global,
+    capture: &[u8],
+    frames_shown: bool,
+    wanted: &str,
+) -> Result<bool, AllocError> {
+    for (workers, groups, block) in MIXES {
+        if let Some(options) = Options::of(workers, groups, block, frames_shown) {
+            if answer_of(rt, alloc, &options, capture)?.as_str() != wanted {
+                return Ok(false);
+            }
+        }
+    }
+    Ok(true)
+}
