@@ -130,31 +130,42 @@ fn interrupted_reader(rt: HostRuntime) -> Result<(), Fail> {
     Ok(())
 }
 
+/// A writer that takes this many bytes at a time and fails once gets no call after that.
+fn expect_failure(
+    rt: &(impl Abort + AllocGlobal + Sync + Threads),
+    step: usize,
+    failing: u32,
+    failure: Failure,
+    written: usize,
+) -> Result<(), Fail> {
+    let slow = Slow {
+        fails_at: failing,
+        failure,
+        ..writer(rt.alloc(), step)
+    };
+    let account = Seen {
+        wrote: written > 0,
+        ..WRITE_FAILED
+    };
+    expect(
+        rt,
+        Pieces::of(HEADER.as_slice(), 24),
+        slow,
+        Err(AuditFault::Write),
+        account,
+        counted(2, failing, 0),
+        written,
+    )
+}
+
 // Neither a write that was interrupted nor one that took no byte is tried again, and nothing is flushed.
 #[test]
 fn failing_writer(rt: HostRuntime) -> Result<(), Fail> {
+    expect_failure(&rt, 10, 2, Failure::Interrupted, 10)?;
     for failing in 1..=28u32 {
-        for failure in [Failure::Interrupted, Failure::TakesNone] {
-            let slow = Slow {
-                fails_at: failing,
-                failure,
-                ..writer(rt.alloc(), 3)
-            };
-            let account = Seen {
-                wrote: failing > 1,
-                ..WRITE_FAILED
-            };
-            let written = 3 * (failing as usize - 1);
-            expect(
-                &rt,
-                Pieces::of(HEADER.as_slice(), 24),
-                slow,
-                Err(AuditFault::Write),
-                account,
-                counted(2, failing, 0),
-                written,
-            )?;
-        }
+        let written = 3 * (failing as usize - 1);
+        expect_failure(&rt, 3, failing, Failure::Interrupted, written)?;
+        expect_failure(&rt, 3, failing, Failure::TakesNone, written)?;
     }
     Ok(())
 }
