@@ -10,7 +10,7 @@ use crate::windows::FIRST_WINDOW;
 use std::alloc::AllocError;
 
 /// The greatest length in bytes of a frame at the start (RFC 9113, 4.2 and 6.5.2).
-const FIRST_LIMIT: u32 = 16_384;
+pub const FIRST_LIMIT: u32 = 16_384;
 
 /// A connection between two frames (RFC 9113, 4.2, 5.1.1, 6.9).
 #[derive(Clone, Copy, Debug, PartialEq, Eq)]

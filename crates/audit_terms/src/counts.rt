@@ -6,7 +6,7 @@ use crate::places::Place;
 use crate::sides::Side;
 
 /// The largest credit that a window may have (RFC 9113, 6.9.1).
-const LARGEST_WINDOW: i64 = 0x7fff_ffff;
+pub const LARGEST_WINDOW: u32 = 0x7fff_ffff;
 
 /// What one step does to the credit of one window (RFC 9113, 6.9 and 6.9.1).
 #[derive(Clone, Copy, Debug, PartialEq, Eq)]
@@ -28,7 +28,7 @@ impl Count {
     pub fn overflows(&self) -> bool
         ensures { result ≡ overflows self.now.before self.now.after }
     {
-        self.before < self.after && self.after > LARGEST_WINDOW
+        self.before < self.after && self.after > i64::from(LARGEST_WINDOW)
     }
 
     /// Is more content sent than there was credit? An empty frame is never more.

@@ -26,7 +26,8 @@ mod sides;
 mod streams;
 mod windows;
 
-pub use connections::ConnectionState;
+pub use connections::{ConnectionState, FIRST_LIMIT};
+pub use counts::LARGEST_WINDOW;
 pub use findings::{Finding, cut_at_stop, put_in_order, say_if};
 pub use frames::{Body, END_STREAM, Frame, Settings};
 pub use items::{Change, Item, Step};

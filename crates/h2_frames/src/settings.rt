@@ -2,7 +2,7 @@ ghost use Rattle.std.specs.Prelude.{◌≡◌, ◌≤◌, length};
 ghost use Rattle.h2_frames.specs.Settings.{is_in_range, setting_at, settings_of};
 ghost use Rattle.h2_frames.specs.code.Steps.{with_setting};
 
-use audit_terms::Settings;
+use audit_terms::{FIRST_LIMIT, LARGEST_WINDOW, Settings};
 use byteorder::{BigEndian, ByteOrder};
 
 /// SETTINGS_ENABLE_PUSH (RFC 9113, 6.5.2).
@@ -12,11 +12,7 @@ const INITIAL_WINDOW_SIZE: u16 = 4;
 /// SETTINGS_MAX_FRAME_SIZE.
 const MAX_FRAME_SIZE: u16 = 5;
 
-/// The largest window (RFC 9113, 6.9.1), which is the largest initial one.
-const LARGEST_WINDOW: u32 = 0x7fff_ffff;
-/// The least and the largest limit on the length of frames (RFC 9113, 4.2 and 6.5.2).
-const LEAST_FRAME_LIMIT: u32 = 16_384;
-
+/// The largest limit on the length of frames (RFC 9113, 4.2 and 6.5.2); the least is the one at the start.
 const LARGEST_FRAME_LIMIT: u32 = 16_777_215;
 
 /// How many bytes a setting takes (RFC 9113, 6.5.1).
@@ -37,7 +33,7 @@ impl Setting {
         match self.identifier {
             ENABLE_PUSH => self.value <= 1,
             INITIAL_WINDOW_SIZE => self.value <= LARGEST_WINDOW,
-            MAX_FRAME_SIZE => self.value >= LEAST_FRAME_LIMIT && self.value <= LARGEST_FRAME_LIMIT,
+            MAX_FRAME_SIZE => self.value >= FIRST_LIMIT && self.value <= LARGEST_FRAME_LIMIT,
             _ => true,
         }
     }

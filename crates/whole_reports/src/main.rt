@@ -15,12 +15,15 @@ use rows::print_answers;
 use std::io;
 
 /// The files of `data/`, by what their rows are about.
-const FILES: [&str; 5] = [
+const FILES: [&str; 8] = [
     "captures.rows",
     "connections.rows",
     "credit.rows",
     "streams.rows",
     "hostile.rows",
+    "faults.rows",
+    "push.rows",
+    "links.rows",
 ];
 
 fn main(rt: HostRuntime) -> io::Result<()> {

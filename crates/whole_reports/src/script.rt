@@ -18,8 +18,8 @@
 use std::alloc::{AllocError, Global};
 use std::num::ParseIntError;
 use test_captures::{
-    Capture, END_HEADERS, END_STREAM, Endpoint, Frame, PREFACE, Segment, data, headers,
-    padded_data, ping, push_promise, rst_stream, settings, settings_ack, window_update,
+    Capture, END_HEADERS, END_STREAM, Endpoint, Frame, PREFACE, Segment, data, headers, headers_of,
+    padded_data, ping, priority, push_promise, rst_stream, settings, settings_ack, window_update,
 };
 use thiserror::Error;
 
@@ -229,6 +229,8 @@ fn number_frame(name: &str, stream: u32, number: u32) -> Result<Frame<'static>, 
     match name {
         "DATA" => Ok(data(stream, number)),
         "WINDOW_UPDATE" => Ok(window_update(stream, number)),
+        "HEADERS_OF" => Ok(headers_of(stream, number)),
+        "PRIORITY" => Ok(priority(stream, number)),
         "PUSH_PROMISE" => Ok(push_promise(stream, number)),
         _ => Err(ScriptError::NotUnderstood),
     }
