@@ -1,13 +1,11 @@
 -- The line of a finding.
-use Rattle.std.specs.Prelude.{ℕ, List, [], ◌++◌, codes, Bool, true, false, not, ◌||◌, if◌then◌else◌, option_map, unwrap_or}
+use Rattle.std.specs.Prelude.{ℕ, List, [], ◌++◌, codes, Bool, not, ◌||◌, if◌then◌else◌, option_map, unwrap_or}
 use Rattle.std.specs.Fmt.{signed_decimal}
 use Rattle.std.specs.List.{flat_map}
 use Rattle.audit_report.specs.Line.{line, field}
 use Rattle.audit_terms.specs.declared.findings.Finding.{Finding}
 use Rattle.audit_terms.specs.declared.frames.Frame.{Frame}
-use Rattle.audit_terms.specs.declared.kinds.Kind.{Kind}
-use Rattle.audit_terms.specs.declared.kinds.Kind.TheVariants.{ConnectionCredit, StreamCredit}
-use Rattle.audit_terms.specs.Kind.{kind_name}
+use Rattle.audit_terms.specs.Kind.{kind_name, is_credit}
 use Rattle.audit_terms.specs.Place.{place_number, place_stream}
 use Rattle.audit_terms.specs.Side.{side_name}
 use Rattle.split_merge.specs.FrameLookup.{frame_numbered, nanos_at}
@@ -31,13 +29,7 @@ said_text finding = codes " " ++ side_name finding.side ++ codes " " ++ kind_nam
 abbrev pub finding_line : List Frame → Finding → List ℕ
 finding_line frames finding = line (moment_text frames (place_number finding.place) ++ said_text finding)
 
--- credits are told only where the reader asks for them
-abbrev pub is_credit : Kind → Bool
-is_credit ConnectionCredit = true
-is_credit StreamCredit = true
-is_credit _ = false
-
--- the line of a finding that is shown, nothing for another
+-- the line of a finding that is shown, nothing for another: credits are told only where the reader asks for them
 abbrev pub shown_line : (credits_shown : Bool) → List Frame → Finding → List ℕ
 shown_line credits_shown frames finding =
     if credits_shown || not (is_credit finding.kind) then finding_line frames finding else []

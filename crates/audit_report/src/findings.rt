@@ -1,10 +1,10 @@
 ghost use Rattle.std.specs.Prelude.{◌≡◌, ◌++◌, OnOk, IfOk};
 ghost use Rattle.std.specs.String.{string_bytes};
 ghost use Rattle.audit_terms.specs.Frame.{IsOrderly};
-ghost use Rattle.audit_report.specs.FindingLine.{moment_text, said_text, finding_line, is_credit, shown_line, finding_lines};
+ghost use Rattle.audit_report.specs.FindingLine.{moment_text, said_text, finding_line, shown_line, finding_lines};
 
 use crate::words::{push_field, push_signed, push_word};
-use audit_terms::{Finding, Frame, Kind};
+use audit_terms::{Finding, Frame};
 use split_merge::frame_at;
 use std::alloc::{AllocError, Global};
 
@@ -50,7 +50,7 @@ fn push_shown_line(
     ensures { OnOk result (string_bytes out.new ≡ string_bytes out.old
         ++ shown_line credits_shown frames.now finding.now) }
 {
-    if credits_shown || !tells_credit(finding.kind) {
+    if credits_shown || !finding.kind.is_credit() {
         push_finding_line(out, finding, frames)?;
     }
     Ok(())
@@ -92,11 +92,4 @@ fn push_said(out: &mut String, finding: &Finding) -> Result<(), AllocError>
     push_field(out, " stream ", finding.place.stream() as u64)?;
     push_word(out, " value ")?;
     push_signed(out, finding.value)
-}
-
-// Is it a finding of how much credit a window has?
-fn tells_credit(kind: Kind) -> bool
-    ensures { result ≡ is_credit kind }
-{
-    matches!(kind, Kind::ConnectionCredit | Kind::StreamCredit)
 }

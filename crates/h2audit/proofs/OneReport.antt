@@ -31,7 +31,8 @@ use Rattle.tcp_streams.specs.Packets.{past_of}
 use Rattle.tcp_streams.specs.Pair.{is_endpoint}
 use Rattle.tcp_streams.specs.Sequence.{source}
 use Rattle.tcp_streams.proofs.UniqueFlow.{IsFlow-unique}
-use Rattle.h2audit.specs.Audited.{AreAudited, IsAudited, IsFlowFrom, findings_of, has_fault, is_fault}
+use Rattle.h2audit.specs.Audited.{AreAudited, IsAudited, IsFlowFrom, findings_of, has_fault}
+use Rattle.audit_terms.specs.Kind.{is_fault}
 use Rattle.h2audit.specs.Laws.{OneReport}
 use Rattle.h2audit.specs.declared.verdict.Verdict.{Verdict}
 use Rattle.h2audit.specs.declared.verdict.Verdict.TheVariants.{Clean, Faults}
@@ -153,7 +154,7 @@ one_audit capture packets (c ∷ cs) (d ∷ ds) (a ∷ xs) (b ∷ ys) m h k =
     let rest = one_audit capture packets cs ds xs ys later h.1 k.1 in
     record {
       sections = ap₂ (λ (e : Section) (es : List Section). e ∷ es) first.section_is rest.sections;
-      faults = ap₂ (λ (p q : Bool). p || q) (ap (λ (fs : List Finding). list_any is_fault fs) first.findings) rest.faults;
+      faults = ap₂ (λ (p q : Bool). p || q) (ap (λ (fs : List Finding). list_any (λ (finding : Finding). is_fault finding.kind) fs) first.findings) rest.faults;
     }
 
 -- ---- the report

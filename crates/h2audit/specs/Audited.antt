@@ -4,7 +4,7 @@ use Rattle.std.specs.List.{list_any}
 use Rattle.audit_terms.specs.declared.sides.Side.{Side}
 use Rattle.audit_terms.specs.declared.sides.Side.TheVariants.{Client, Server}
 use Rattle.audit_terms.specs.declared.findings.Finding.{Finding}
-use Rattle.audit_terms.specs.Kind.{rank_of}
+use Rattle.audit_terms.specs.Kind.{is_fault}
 use Rattle.audit_terms.specs.Pass.{pass}
 use Rattle.packet_heads.specs.declared.packets.Packet.{Packet}
 use Rattle.packet_heads.specs.declared.packets.Segment.{Segment}
@@ -52,12 +52,9 @@ AreAudited capture packets (connection ∷ connections) (audited ∷ rest) =
     IsAudited capture packets connection audited × AreAudited capture packets connections rest
 AreAudited capture packets _ _ = ⊥
 
--- connection errors and other breaches of the protocol; the kinds above rank 20 tell of stalls and of credit
-abbrev pub is_fault : Finding → Bool
-is_fault finding = nat_le (rank_of finding.kind) 20
-
+-- some finding is a breach of a rule
 abbrev pub has_fault : Audited → Bool
-has_fault audited = list_any is_fault audited.findings.items
+has_fault audited = list_any (λ (finding : Finding). is_fault finding.kind) audited.findings.items
 
 -- Faults exactly where some connection has a finding that is a fault
 abbrev pub verdict_of : List Audited → Verdict

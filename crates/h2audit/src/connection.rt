@@ -5,7 +5,9 @@ ghost use Rattle.tcp_streams.specs.Members.{AreMembers, payload_sum, side_segmen
 ghost use Rattle.tcp_streams.specs.declared.members.Connection.{Connection};
 ghost use Rattle.h2_frames.specs.Cut.{HasOrderlyFrames};
 ghost use Rattle.audit_report.specs.declared.audited.Audited.{Audited};
-ghost use Rattle.h2audit.specs.Audited.{AreAudited, IsAudited, IsFlowOf, findings_of, has_fault, is_fault, verdict_of};
+ghost use Rattle.h2audit.specs.Audited.{AreAudited, IsAudited, IsFlowOf, findings_of, has_fault, verdict_of};
+ghost use Rattle.audit_terms.specs.declared.findings.Finding.{Finding};
+ghost use Rattle.audit_terms.specs.Kind.{is_fault};
 ghost use Rattle.std.specs.List.{list_any};
 
 use crate::verdict::Verdict;
@@ -97,9 +99,6 @@ fn findings_in(alloc: Global, cut: &Cut) -> Result<Vec<Finding>, AllocError>
     }
 }
 
-/// The greatest rank of a finding that is a fault. Those above tell of stalls and of credit.
-const LAST_FAULT: u8 = 20;
-
 /// Faults where some connection has a finding that is a fault.
 pub(crate) fn verdict_on(audited: &[Audited]) -> Verdict
     ensures { result ≡ verdict_of audited.now }
@@ -120,9 +119,7 @@ fn any_has_fault(audited: &[Audited]) -> bool
 }
 
 fn has_fault_in(findings: &[Finding]) -> bool
-    ensures { result ≡ list_any is_fault findings.now }
+    ensures { result ≡ list_any (λ (finding : Finding). is_fault finding.kind) findings.now }
 {
-    findings
-        .iter()
-        .any(|finding| finding.kind.rank() <= LAST_FAULT)
+    findings.iter().any(|finding| finding.kind.is_fault())
 }

@@ -6,7 +6,8 @@ use Rattle.audit_terms.specs.declared.findings.Finding.{Finding}
 use Rattle.audit_terms.specs.declared.frames.Frame.{Frame}
 use Rattle.audit_terms.specs.Place.{place_stream}
 use Rattle.split_merge.specs.code.Ends.{end_in, begun_by}
-use Rattle.split_merge.specs.Stalls.{is_stall_begin, is_end_of, first_end, stall_of, stalls}
+use Rattle.audit_terms.specs.Kind.{begins_stall}
+use Rattle.split_merge.specs.Stalls.{is_end_of, first_end, stall_of, stalls}
 use Rattle.split_merge.specs.declared.ends.Ends.{Ends}
 use Rattle.split_merge.specs.declared.stalls.Stall.{Stall}
 
@@ -32,8 +33,8 @@ pub swept_more : (frames : List Frame) (found : Finding) (later : List Finding) 
 swept_more frames found later ends ends' met swept ended = record {
   first = record { at = λ side stream. ended side stream ∙ ap (λ (o : Option Finding). if is_end_of side stream found then Some found else o) (swept.first.at side stream) };
   reversed = reverse-append met (begun_by frames ends found)
-      ∙ ap (λ (o : Option Finding). reverse (if is_stall_begin found.kind then stall_of frames found o ∷ [] else []) ++ reverse met) (swept.first.at found.side (place_stream found.place))
-      ∙ put_before (is_stall_begin found.kind) (stall_of frames found (first_end found.side (place_stream found.place) later)) met (stalls frames later) swept.reversed;
+      ∙ ap (λ (o : Option Finding). reverse (if begins_stall found.kind then stall_of frames found o ∷ [] else []) ++ reverse met) (swept.first.at found.side (place_stream found.place))
+      ∙ put_before (begins_stall found.kind) (stall_of frames found (first_end found.side (place_stream found.place) later)) met (stalls frames later) swept.reversed;
 }
 
 -- what is left of a list from one place before

@@ -1,29 +1,18 @@
 -- Stalls (this profile's own notion): a window's credit was used up at one frame, and is above zero again from another.
 use Rattle.std.specs.Prelude.{ℕ, ℤ, pos, ◌-ℤ◌, ◌==◌, ◌&&◌, Bool, true, false, if◌then◌else◌, List, [], ◌∷◌, Option, Some, None, find}
 use Rattle.audit_terms.specs.declared.sides.Side.{Side}
-use Rattle.audit_terms.specs.declared.kinds.Kind.{Kind}
-use Rattle.audit_terms.specs.declared.kinds.Kind.TheVariants.{ConnectionStallEnd, ConnectionStallBegin, StreamStallEnd, StreamStallBegin}
 use Rattle.audit_terms.specs.declared.findings.Finding.{Finding}
 use Rattle.audit_terms.specs.declared.frames.Frame.{Frame}
 use Rattle.audit_terms.specs.Side.{is_side}
+use Rattle.audit_terms.specs.Kind.{begins_stall, ends_stall}
 use Rattle.audit_terms.specs.Place.{place_number, place_stream}
 use Rattle.split_merge.specs.FrameLookup.{nanos_at}
 use Rattle.split_merge.specs.declared.stalls.Stall.{Stall}
 
-abbrev pub is_stall_begin : Kind → Bool
-is_stall_begin ConnectionStallBegin = true
-is_stall_begin StreamStallBegin = true
-is_stall_begin _ = false
-
-abbrev pub is_stall_end : Kind → Bool
-is_stall_end ConnectionStallEnd = true
-is_stall_end StreamStallEnd = true
-is_stall_end _ = false
-
 -- the finding ends a stall of the window through which this side sends on this stream, 0 being the connection
 abbrev pub is_end_of : Side → ℕ → Finding → Bool
 is_end_of side stream found =
-    is_stall_end found.kind && (is_side side found.side && (place_stream found.place == stream))
+    ends_stall found.kind && (is_side side found.side && (place_stream found.place == stream))
 
 -- the first end of that window's stall among these findings
 abbrev pub first_end : Side → ℕ → List Finding → Option Finding
@@ -50,6 +39,6 @@ stall_of frames begin (Some end) = record {
 abbrev pub stalls : List Frame → List Finding → List Stall
 stalls frames [] = []
 stalls frames (found ∷ later) =
-    if is_stall_begin found.kind
+    if begins_stall found.kind
     then stall_of frames found (first_end found.side (place_stream found.place) later) ∷ stalls frames later
     else stalls frames later

@@ -2,13 +2,13 @@ ghost use Rattle.std.specs.Prelude.{◌≡◌, ℕ, ◌++◌, if◌then◌else�
 ghost use Rattle.audit_terms.specs.Frame.{IsOrderly};
 ghost use Rattle.audit_terms.specs.Place.{place_stream};
 ghost use Rattle.split_merge.specs.FrameLookup.{nanos_at};
-ghost use Rattle.split_merge.specs.Stalls.{is_stall_begin, is_stall_end, is_end_of, stall_of, stalls};
+ghost use Rattle.split_merge.specs.Stalls.{is_end_of, stall_of, stalls};
 ghost use Rattle.split_merge.specs.code.Ends.{end_in, begun_by};
 ghost use Rattle.audit_terms.specs.declared.sides.Side.{Side};
 
 use crate::ends::Ends;
 use crate::lookup::frame_at;
-use audit_terms::{Finding, Frame, Kind, Side};
+use audit_terms::{Finding, Frame, Side};
 use std::alloc::{AllocError, Global};
 
 /// A time during which a window had no credit.
@@ -60,10 +60,10 @@ fn take_in(
     ensures ended { OnOk result ((side : Side) (stream : ℕ) → end_in ends.new side stream
         ≡ (if is_end_of side stream found.now then Some found.now else end_in ends.old side stream)) }
 {
-    if is_begin(found.kind) {
+    if found.kind.begins_stall() {
         stalls.push(begun_stall(*found, frames, ends))?;
     }
-    if is_end(found.kind) {
+    if found.kind.ends_stall() {
         ends.put(*found)?;
     }
     Ok(())
@@ -75,18 +75,6 @@ fn begun_stall(found: Finding, frames: &[Frame], ends: &Ends) -> Stall
     ensures { result ≡ stall_of frames.now found (end_in ends.now found.side (place_stream found.place)) }
 {
     stall_between(frames, found, ends.of(found.side, found.place.stream()))
-}
-
-fn is_begin(kind: Kind) -> bool
-    ensures { result ≡ is_stall_begin kind }
-{
-    matches!(kind, Kind::ConnectionStallBegin | Kind::StreamStallBegin)
-}
-
-fn is_end(kind: Kind) -> bool
-    ensures { result ≡ is_stall_end kind }
-{
-    matches!(kind, Kind::ConnectionStallEnd | Kind::StreamStallEnd)
 }
 
 fn stall_between(frames: &[Frame], begin: Finding, end: Option<Finding>) -> Stall

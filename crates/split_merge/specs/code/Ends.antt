@@ -6,7 +6,8 @@ use Rattle.audit_terms.specs.declared.sides.Side.TheVariants.{Client, Server}
 use Rattle.audit_terms.specs.declared.findings.Finding.{Finding}
 use Rattle.audit_terms.specs.declared.frames.Frame.{Frame}
 use Rattle.audit_terms.specs.Place.{place_stream}
-use Rattle.split_merge.specs.Stalls.{is_stall_begin, stall_of}
+use Rattle.audit_terms.specs.Kind.{begins_stall}
+use Rattle.split_merge.specs.Stalls.{stall_of}
 use Rattle.split_merge.specs.declared.ends.Ends.{Ends}
 use Rattle.split_merge.specs.declared.stalls.Stall.{Stall}
 
@@ -18,6 +19,6 @@ end_in ends Server stream = get nat_eq ends.by_side.server stream
 -- the stall that the finding begins, if it begins one, by the table of the ends after it
 abbrev pub begun_by : List Frame → Ends → Finding → List Stall
 begun_by frames ends found =
-    if is_stall_begin found.kind
+    if begins_stall found.kind
     then stall_of frames found (end_in ends found.side (place_stream found.place)) ∷ []
     else []
