@@ -1,0 +1,3 @@
+pub mod List
+pub mod Laws
+pub mod code
