@@ -3,22 +3,14 @@ use Rattle.std.proofs.Common.{◌≡◌, ◌+◌, ◌-◌, ◌<◌, ℕ, suc, Li
 use Rattle.std.specs.Prelude.{slice_get, unwrap_or, Result, Ok, Err, IfOk, MatchResult, Contains}
 use Rattle.std.specs.List.{AllZip, range_with_len}
 use Rattle.std.specs.Option.{option_copied}
+use Rattle.block_scan.specs.code.Shown.{append_nil}
 use Rattle.block_scan.specs.List.{items_of, state_after, states_after, states_before}
 
 module _ {State Item : Type 0} (step : State → Item → State) where
-  pub state_after-append : (s : State) (a b : List Item)
-      → state_after step s (a ++ b) ≡ state_after step (state_after step s a) b
-  state_after-append s [] b = refl
-  state_after-append s (x ∷ a) b = state_after-append (step s x) a b
-
   pub states_after-append : (s : State) (a b : List Item)
       → states_after step s (a ++ b) ≡ states_after step s a ++ states_after step (state_after step s a) b
   states_after-append s [] b = refl
   states_after-append s (x ∷ a) b = ap (λ l. step s x ∷ l) (states_after-append (step s x) a b)
-
-pub append_nil : {X : Type 0} (xs : List X) → xs ++ [] ≡ xs
-append_nil [] = refl
-append_nil (x ∷ xs) = ap (λ l. x ∷ l) (append_nil xs)
 
 pub none_left : {X : Type 0} (xs : List X) → length xs ≡ 0 → xs ≡ []
 none_left [] e = refl

@@ -1,7 +1,8 @@
 use Rattle.std.proofs.Common.{◌+◌, ◌++◌, ◌∷◌, [], drop, ap, sym, subst, ◌∙◌, append_assoc, arith}
 use Rattle.std.proofs.lemmas.List.{drop_all}
 use Rattle.block_scan.specs.code.Carried.{carried}
-use Rattle.block_scan.proofs.Folds.{append_nil, drop_next}
+use Rattle.block_scan.specs.code.Shown.{append_nil}
+use Rattle.block_scan.proofs.Folds.{drop_next}
 use Rattle.block_scan.proofs.Joined.{AreSums, next_sum, carried-before}
 use Rattle.block_scan.proofs.scans.carries.Goals as goal
 

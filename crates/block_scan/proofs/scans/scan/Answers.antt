@@ -1,7 +1,8 @@
 use Rattle.std.proofs.Common.{◌++◌, List, Bor, map, sym, ap, subst, ◌∙◌}
 use Rattle.block_scan.specs.Laws.{summary_of}
 use Rattle.block_scan.specs.List.{items_of, states_after, states_before}
-use Rattle.block_scan.proofs.Folds.{append_nil, none_left, map-now}
+use Rattle.block_scan.specs.code.Shown.{append_nil}
+use Rattle.block_scan.proofs.Folds.{none_left, map-now}
 use Rattle.block_scan.proofs.scans.scan.Goals as goal
 
 pub carries-requires : goal.carries-requires
