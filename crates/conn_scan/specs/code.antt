@@ -1,0 +1,3 @@
+pub mod CreditLaws
+pub mod Through
+pub mod SideCreditLaws
