@@ -1,3 +1,4 @@
 pub mod CreditLaws
 pub mod Through
 pub mod SideCreditLaws
+pub mod RisingLaws

@@ -1,8 +1,13 @@
 //! What a block of frames does to a connection (RFC 9113, 4.2, 5.1.1, 6.9), in a form that can be joined.
 #![tactic(auto)]
 
+mod blocks;
 mod credits;
+mod rising;
 mod side_credits;
 
+pub use audit_terms::ConnectionState as ConnState;
+pub use blocks::{BlockRun, block_findings};
 pub use credits::Credit;
+pub use rising::Rising;
 pub use side_credits::{ClientCredit, ServerCredit};
