@@ -1,5 +1,7 @@
 pub mod Credit
 pub mod SideCredit
 pub mod Rising
+pub mod Ids
 pub mod Block
+pub mod ScanSums
 pub mod code

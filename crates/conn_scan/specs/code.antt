@@ -2,3 +2,4 @@ pub mod CreditLaws
 pub mod Through
 pub mod SideCreditLaws
 pub mod RisingLaws
+pub mod IdsLaws

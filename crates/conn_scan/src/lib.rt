@@ -3,11 +3,14 @@
 
 mod blocks;
 mod credits;
+mod ids;
+pub mod laws;
 mod rising;
 mod side_credits;
 
 pub use audit_terms::ConnectionState as ConnState;
 pub use blocks::{BlockRun, block_findings};
 pub use credits::Credit;
+pub use ids::{Ids, OpenedIds, PromisedIds};
 pub use rising::Rising;
 pub use side_credits::{ClientCredit, ServerCredit};

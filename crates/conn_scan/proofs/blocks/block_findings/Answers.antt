@@ -1,6 +1,5 @@
-use Rattle.std.proofs.Common.{◌+◌, ◌^◌, ◌++◌, length, sym, ap, ◌∙◌, arith}
+use Rattle.std.proofs.Common.{◌^◌, ◌++◌, length, sym, ap, ◌∙◌, arith}
 use Rattle.std.proofs.lemmas.List.{drop_all}
-use Rattle.audit_terms.specs.Finding.{in_order}
 use Rattle.audit_terms.specs.Connection.{block_run}
 use Rattle.block_scan.specs.code.Shown.{append_nil}
 use Rattle.conn_scan.specs.code.CreditLaws.{room-wider}
