@@ -3,3 +3,4 @@ pub mod Through
 pub mod SideCreditLaws
 pub mod RisingLaws
 pub mod IdsLaws
+pub mod LatestLaws

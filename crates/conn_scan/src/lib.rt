@@ -4,6 +4,7 @@
 mod blocks;
 mod credits;
 mod ids;
+mod latest;
 pub mod laws;
 mod rising;
 mod side_credits;
@@ -12,5 +13,6 @@ pub use audit_terms::ConnectionState as ConnState;
 pub use blocks::{BlockRun, block_findings};
 pub use credits::Credit;
 pub use ids::{Ids, OpenedIds, PromisedIds};
+pub use latest::{InForce, Latest};
 pub use rising::Rising;
 pub use side_credits::{ClientCredit, ServerCredit};
