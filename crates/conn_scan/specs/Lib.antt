@@ -3,6 +3,7 @@ pub mod SideCredit
 pub mod Rising
 pub mod Ids
 pub mod Latest
+pub mod ConnSum
 pub mod Block
 pub mod ScanSums
 pub mod code

@@ -4,3 +4,4 @@ pub mod SideCreditLaws
 pub mod RisingLaws
 pub mod IdsLaws
 pub mod LatestLaws
+pub mod ConnSumLaws

@@ -8,6 +8,7 @@ mod latest;
 pub mod laws;
 mod rising;
 mod side_credits;
+mod sums;
 
 pub use audit_terms::ConnectionState as ConnState;
 pub use blocks::{BlockRun, block_findings};
@@ -16,3 +17,4 @@ pub use ids::{Ids, OpenedIds, PromisedIds};
 pub use latest::{InForce, Latest};
 pub use rising::Rising;
 pub use side_credits::{ClientCredit, ServerCredit};
+pub use sums::{ConnSum, block_sum};
