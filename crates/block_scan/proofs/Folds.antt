@@ -21,7 +21,8 @@ pub items_of-push-now : {Item : Type 0} (blocks : List (Bor (List Item))) (block
     → items_of (map (λ b. b.now) (blocks ++ block ∷ [])) ≡ items_of (map (λ b. b.now) blocks) ++ block.now
 items_of-push-now [] block = append_nil block.now
 items_of-push-now (b ∷ blocks) block =
-    ap (λ l. b.now ++ l) (items_of-push-now blocks block) ∙ sym (append_assoc b.now (items_of (map (λ b. b.now) blocks)) block.now)
+    ap (λ l. b.now ++ l) (items_of-push-now blocks block)
+    ∙ sym (append_assoc b.now (items_of (map (λ b. b.now) blocks)) block.now)
 
 module _ {State Item : Type 0} (step : State → Item → State) where
   length-states_after : (s : State) (a : List Item) → length (states_after step s a) ≡ length a
@@ -48,7 +49,8 @@ module _ {State Item : Type 0} (step : State → Item → State) where
   last_or-state_after start a (Some y) e = ap (λ o. unwrap_or o start.now) e ∙ last_of start.now a
 
 -- the rest of a list from a place within it
-pub drop_next : {X : Type 0} (xs : List X) (i : ℕ) (x : X) → i < length xs → x ≡ get_or xs i x → drop i xs ≡ x ∷ drop (i + 1) xs
+pub drop_next : {X : Type 0} (xs : List X) (i : ℕ) (x : X) → i < length xs → x ≡ get_or xs i x
+    → drop i xs ≡ x ∷ drop (i + 1) xs
 drop_next xs i x lt read =
     let next : suc i ≡ i + 1 = omega arith in
     drop-cons xs i x lt ∙ ap (λ y. y ∷ drop (suc i) xs) (sym read) ∙ ap (λ n. x ∷ drop n xs) next
@@ -67,10 +69,12 @@ module _ {State Item : Type 0} (step : State → Item → State) where
   length-states_before s [] = refl
   length-states_before s (b ∷ blocks) = ap suc (length-states_before (state_after step s b.now) blocks)
 
-module _ {State Item Part : Type 0} (Fault : Type 0) (step : State → Item → State) (items : Part → List State) (carries : List State) (all : List (Bor (List Item))) where
+module _ {State Item Part : Type 0} (Fault : Type 0) (step : State → Item → State) (items : Part → List State)
+    (carries : List State) (all : List (Bor (List Item))) where
   -- the states of the block at a place
   abbrev pub IsPart : ℕ → Result Part Fault → Type 0
-  IsPart k part = (s : State) (b : Bor (List Item)) → IfOk part (λ v. items v ≡ states_after step (get_or carries k s) (get_or all k b).now)
+  IsPart k part = (s : State) (b : Bor (List Item))
+      → IfOk part (λ v. items v ≡ states_after step (get_or carries k s) (get_or all k b).now)
 
   pub parts_joined : (k : ℕ) (start : State) (blocks : List (Bor (List Item))) (parts : List Part)
       → drop k carries ≡ states_before step start (map (λ b. b.now) blocks) → drop k all ≡ blocks
@@ -83,16 +87,21 @@ module _ {State Item Part : Type 0} (Fault : Type 0) (step : State → Item → 
       let after = state_after step start b.now in
       let same : k + 0 ≡ k = omega arith in
       let carry : get_or carries k start ≡ start =
-      ap (λ n. get_or carries n start) (sym same) ∙ sym (get_or-drop k carries 0 start) ∙ ap (λ l. get_or l 0 start) c in
-      let block : get_or all k b ≡ b = ap (λ n. get_or all n b) (sym same) ∙ sym (get_or-drop k all 0 b) ∙ ap (λ l. get_or l 0 b) e in
+      ap (λ n. get_or carries n start) (sym same) ∙ sym (get_or-drop k carries 0 start)
+      ∙ ap (λ l. get_or l 0 start) c in
+      let block : get_or all k b ≡ b = ap (λ n. get_or all n b) (sym same) ∙ sym (get_or-drop k all 0 b)
+      ∙ ap (λ l. get_or l 0 b) e in
       let part : items p ≡ states_after step start b.now =
-      h.0 start b ∙ ap (λ s. states_after step s (get_or all k b).now) carry ∙ ap (λ x. states_after step start x.now) block in
-      let rest = parts_joined (k + 1) after blocks parts (sym (drop-drop 1 k carries) ∙ ap (drop 1) c) (sym (drop-drop 1 k all) ∙ ap (drop 1) e) h.1 in
+      h.0 start b ∙ ap (λ s. states_after step s (get_or all k b).now) carry
+      ∙ ap (λ x. states_after step start x.now) block in
+      let rest = parts_joined (k + 1) after blocks parts (sym (drop-drop 1 k carries) ∙ ap (drop 1) c)
+      (sym (drop-drop 1 k all) ∙ ap (drop 1) e) h.1 in
       ap (λ l. l ++ items_of (map items parts)) part ∙ ap (λ l. states_after step start b.now ++ l) rest
       ∙ sym (states_after-append step start b.now (items_of (map (λ b. b.now) blocks)))
 
 -- what a list of results is, where it was collected into a list of values
-pub collected : {Values Value Fault : Type 0} (items : Values → List Value) (r : Result Values Fault) (xs : List (Result Value Fault)) (Is : Values → Type 0)
+pub collected : {Values Value Fault : Type 0} (items : Values → List Value) (r : Result Values Fault)
+    (xs : List (Result Value Fault)) (Is : Values → Type 0)
     → MatchResult r (λ v. (ys : List Value) × (xs ≡ map Ok ys) × (items v ≡ ys)) (λ e. Contains xs (Err e))
     → ((v : Values) → xs ≡ map Ok (items v) → Is v) → IfOk r Is
 collected items (Ok v) xs Is h f = f v (h.1 ∙ ap (map Ok) (sym h.2))

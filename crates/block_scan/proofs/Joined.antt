@@ -5,14 +5,17 @@ use Rattle.block_scan.specs.Laws.{SummaryLaws, summary_of}
 use Rattle.block_scan.specs.List.{items_of, state_after, states_before}
 use Rattle.block_scan.specs.code.Carried.{carried}
 
-module _ {Sum Item State : Type 0} {empty : Sum} {of : Item → Sum} {join : Sum → Sum → Sum} {advance : State → Sum → State} {step : State → Item → State} {fits : State → List Item → Type 0} (laws : SummaryLaws empty of join advance step fits) where
+module _ {Sum Item State : Type 0} {empty : Sum} {of : Item → Sum} {join : Sum → Sum → Sum} {advance : State → Sum
+    → State} {step : State → Item → State} {fits : State → List Item → Type 0}
+    (laws : SummaryLaws empty of join advance step fits) where
   pub first_fits : (s : State) (x : Item) (a : List Item) → fits s (x ∷ a) → fits s (x ∷ [])
   first_fits s x a f = laws.first_fit s (x ∷ []) a f
 
   pub later_fit : (s : State) (x : Item) (a : List Item) → fits s (x ∷ a) → fits (step s x) a
   later_fit s x a f = laws.rest_fits s (x ∷ []) a f
 
-  pub advance-state_after : (s : State) (a : List Item) → fits s a → advance s (summary_of empty of join a) ≡ state_after step s a
+  pub advance-state_after : (s : State) (a : List Item) → fits s a → advance s (summary_of empty of join a)
+      ≡ state_after step s a
   advance-state_after s [] f = laws.advance_by_none s f
   advance-state_after s (x ∷ a) f =
       let sum = summary_of empty of join in
@@ -28,17 +31,21 @@ module _ {Sum Item State : Type 0} {empty : Sum} {of : Item → Sum} {join : Sum
   carried-before s [] f = refl
   carried-before s (b ∷ blocks) f =
       let sum = summary_of empty of join in
-      ap (λ y. s ∷ carried advance y (map sum blocks)) (advance-state_after s b (laws.first_fit s b (items_of blocks) f))
+      ap (λ y. s ∷ carried advance y (map sum blocks))
+      (advance-state_after s b (laws.first_fit s b (items_of blocks) f))
       ∙ ap (λ l. s ∷ l) (carried-before (state_after step s b) blocks (laws.rest_fits s b (items_of blocks) f))
 
   -- of items that fit, those up to a place fit, and so does the one there, alone, after them
   pub taken_fit : (s : State) (items : List Item) (i : ℕ) → fits s items → fits s (take i items)
-  taken_fit s items i f = laws.first_fit s (take i items) (drop i items) (subst (fits s) (sym (take-append-drop i items)) f)
+  taken_fit s items i f = laws.first_fit s (take i items) (drop i items)
+      (subst (fits s) (sym (take-append-drop i items)) f)
 
-  pub next_fits : (s : State) (items : List Item) (i : ℕ) (x : Item) → fits s items → i < length items → x ≡ get_or items i x
+  pub next_fits : (s : State) (items : List Item) (i : ℕ) (x : Item) → fits s items → i < length items
+      → x ≡ get_or items i x
       → fits s (take i items ++ x ∷ [])
   next_fits s items i x f lt read =
-      let more : take (i + 1) items ≡ take i items ++ x ∷ [] = take_more items i x lt ∙ ap (λ y. take i items ++ y ∷ []) (sym read) in
+      let more : take (i + 1) items ≡ take i items ++ x ∷ [] = take_more items i x lt
+      ∙ ap (λ y. take i items ++ y ∷ []) (sym read) in
       subst (fits s) more (taken_fit s items (i + 1) f)
 
   -- each block fits the state before it
@@ -48,11 +55,13 @@ module _ {Sum Item State : Type 0} {empty : Sum} {of : Item → Sum} {join : Sum
   block_fits s [] f k t d lt = absurd (omega arith)
   block_fits s (b ∷ blocks) f zero t d lt = laws.first_fit s b.now (items_of (map (λ b. b.now) blocks)) f
   block_fits s (b ∷ blocks) f (suc k) t d lt =
-      block_fits (state_after step s b.now) blocks (laws.rest_fits s b.now (items_of (map (λ b. b.now) blocks)) f) k t d (omega arith)
+      block_fits (state_after step s b.now) blocks
+      (laws.rest_fits s b.now (items_of (map (λ b. b.now) blocks)) f) k t d (omega arith)
 
   -- summaries of blocks whose items fit
   abbrev pub AreSums : State → List Sum → Type 0
-  AreSums s sums = (blocks : List (List Item)) × fits s (items_of blocks) × (sums ≡ map (summary_of empty of join) blocks)
+  AreSums s sums = (blocks : List (List Item)) × fits s (items_of blocks)
+      × (sums ≡ map (summary_of empty of join) blocks)
 
   pub next_sum : (s : State) (x : Sum) (sums : List Sum) → AreSums s (x ∷ sums)
       → ((a : List Item) × fits s a × (x ≡ summary_of empty of join a)) × AreSums (advance s x) sums
@@ -64,5 +73,13 @@ module _ {Sum Item State : Type 0} {empty : Sum} {of : Item → Sum} {join : Sum
       go (b ∷ blocks) f e =
           let front = laws.first_fit s b (items_of blocks) f in
           let is : x ≡ summary_of empty of join b = ap (λ l. get_or l 0 x) e in
-          let moved : state_after step s b ≡ advance s x = sym (advance-state_after s b front) ∙ ap (advance s) (sym is) in
-          ((b, front, is), (blocks, subst (λ t. fits t (items_of blocks)) moved (laws.rest_fits s b (items_of blocks) f), ap (drop 1) e))
+          let moved : state_after step s b ≡ advance s x = sym (advance-state_after s b front)
+          ∙ ap (advance s) (sym is) in (
+            (b, front, is),
+            (
+              blocks,
+              subst (λ t. fits t (items_of blocks)) moved
+                  (laws.rest_fits s b (items_of blocks) f),
+              ap (drop 1) e,
+            ),
+          )

@@ -15,5 +15,6 @@ abbrev pub step_both : {S T Item : Type 0} → (S → Item → S) → (T → Ite
 step_both step_a step_b state item = pair (step_a state.first item) (step_b state.second item)
 
 -- items fit both, each with its state
-abbrev pub FitBoth : {S T Item : Type 0} → (S → List Item → Type 0) → (T → List Item → Type 0) → Both S T → List Item → Type 0
+abbrev pub FitBoth : {S T Item : Type 0} → (S → List Item → Type 0) → (T → List Item → Type 0) → Both S T
+    → List Item → Type 0
 FitBoth fits_a fits_b state items = fits_a state.first items × fits_b state.second items

@@ -3,12 +3,14 @@ use Rattle.std.specs.Prelude.{◌≡◌, List, [], ◌∷◌, ◌++◌}
 use Rattle.block_scan.specs.List.{state_after}
 
 -- the summary of some items: each item's, joined; `empty` of no items
-abbrev pub summary_of : {Sum Item : Type 0} → (empty : Sum) → (of : Item → Sum) → (join : Sum → Sum → Sum) → List Item → Sum
+abbrev pub summary_of : {Sum Item : Type 0} → (empty : Sum) → (of : Item → Sum) → (join : Sum → Sum → Sum)
+    → List Item → Sum
 summary_of empty of join [] = empty
 summary_of empty of join (item ∷ items) = join (of item) (summary_of empty of join items)
 
 -- The laws, of a state and items that fit.
-pub record SummaryLaws {Sum Item State : Type 0} (empty : Sum) (of : Item → Sum) (join : Sum → Sum → Sum) (advance : State → Sum → State) (step : State → Item → State) (fits : State → List Item → Type 0) : Type 0 where
+pub record SummaryLaws {Sum Item State : Type 0} (empty : Sum) (of : Item → Sum) (join : Sum → Sum → Sum)
+    (advance : State → Sum → State) (step : State → Item → State) (fits : State → List Item → Type 0) : Type 0 where
   -- of items that fit, the first ones fit
   pub first_fit : (s : State) (a b : List Item) → fits s (a ++ b) → fits s a
   -- and the rest fits the state after them

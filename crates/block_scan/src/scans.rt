@@ -109,9 +109,11 @@ where
         .map(
             |k: usize| -> Result<Vec<S::State>, AllocError>
                 requires { (k < length carries.now) × (k < length blocks.now)
-                    × ((s : S.State) (b : _) → S.fits (slice_index_or carries.now k s) (slice_index_or blocks.now k b).now) }
+                    × ((s : S.State) (b : _)
+                    → S.fits (slice_index_or carries.now k s) (slice_index_or blocks.now k b).now) }
                 ensures { (s : S.State) (b : _) → IfOk result (λ v. v.items
-                    ≡ states_after S.step (slice_index_or carries.entry.now k s) (slice_index_or blocks.entry.now k b).now) }
+                    ≡ states_after S.step (slice_index_or carries.entry.now k s)
+                    (slice_index_or blocks.entry.now k b).now) }
             { scan_block::<S>(alloc, &carries[k], blocks[k]) },
         )
         .collect::<Result<Vec<_>, AllocError>>(rt, alloc)?

@@ -9,7 +9,8 @@ use Rattle.audit_terms.specs.Connection.{connection_said, connection_after, bloc
 use Rattle.audit_terms.specs.code.Room.{HasRoom}
 use Rattle.conn_scan.specs.code.CreditLaws.{room-wider}
 
-pub sum_fits : (x y : ℤ) → HasRoom (2 ^ 61) x → HasRoom (2 ^ 60) y → FitsSigned w64 (to_z w64 (of_z w64 x) +ℤ to_z w64 (of_z w64 y))
+pub sum_fits : (x y : ℤ) → HasRoom (2 ^ 61) x → HasRoom (2 ^ 60) y
+    → FitsSigned w64 (to_z w64 (of_z w64 x) +ℤ to_z w64 (of_z w64 y))
 sum_fits x y p q =
     let l = p.0 in let u = p.1 in let low = q.0 in let high = q.1 in
     grind (arith, ints)
@@ -20,7 +21,8 @@ pub room_next : (n i : ℕ) (x : ℤ) → i < n → n ≤ 2 ^ 28 → HasRoom (2 
 room_next n i x lt le h = room-wider _ _ x (omega arith) h
 
 -- the run of a block, one item further
-pub run_next : (before : ConnectionState) (items : List Item) (i : ℕ) (d : Item) (state next : ConnectionState) (old new met sorted : List Finding)
+pub run_next : (before : ConnectionState) (items : List Item) (i : ℕ) (d : Item) (state next : ConnectionState)
+    (old new met sorted : List Finding)
     → i < length items → block_run before items ≡ old ++ block_run state (drop i items)
     → next ≡ connection_after state (get_or items i d)
     → met ≡ connection_said state (get_or items i d) → sorted ≡ in_order met → new ≡ old ++ sorted

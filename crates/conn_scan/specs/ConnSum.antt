@@ -28,19 +28,24 @@ ConnParts = Both (Both ℤ ℤ) (Both (Both ℕ ℕ) InForce)
 -- the summary of some items: what they do to each side's credit, which streams they open, what they bring into force
 abbrev pub conn_sum_of : List Item → ConnSum
 conn_sum_of items =
-    pair (pair (client_credit (credit_of (map (change_of Client) items))) (server_credit (credit_of (map (change_of Server) items))))
-    (pair (pair (opened_ids (rising_of (present (map opened_in items)))) (promised_ids (rising_of (present (map promised_by items))))) (latest_of items))
+    pair (pair (client_credit (credit_of (map (change_of Client) items)))
+    (server_credit (credit_of (map (change_of Server) items))))
+    (pair (pair (opened_ids (rising_of (present (map opened_in items))))
+    (promised_ids (rising_of (present (map promised_by items))))) (latest_of items))
 
 -- the parts of a connection's state that the summaries advance
 abbrev pub parts_of : ConnectionState → ConnParts
-parts_of now = pair (pair now.credit.client now.credit.server) (pair (pair now.opened now.promised) (record { limit = now.limit; push = now.push }))
+parts_of now = pair (pair now.credit.client now.credit.server)
+    (pair (pair now.opened now.promised) (record { limit = now.limit; push = now.push }))
 
 -- the step of all parts by one item
 abbrev pub parts_step : ConnParts → Item → ConnParts
 parts_step =
     step_both (step_both (λ s item. credit_after Client s item.frame) (λ s item. credit_after Server s item.frame))
-    (step_both (step_both (λ s item. greatest_after s (opened_in item)) (λ s item. greatest_after s (promised_by item))) in_force_after)
+    (step_both (step_both (λ s item. greatest_after s (opened_in item))
+    (λ s item. greatest_after s (promised_by item))) in_force_after)
 
 -- the parts step as the connection does
 abbrev pub PartsFollow : Type 0
-PartsFollow = (now : ConnectionState) (item : Item) → parts_step (parts_of now) item ≡ parts_of (connection_after now item)
+PartsFollow = (now : ConnectionState) (item : Item) → parts_step (parts_of now) item
+    ≡ parts_of (connection_after now item)

@@ -64,8 +64,8 @@ abbrev pub AreSmall : List ℤ → Type 0
 AreSmall [] = Unit {0}
 AreSmall (change ∷ changes) = HasRoom (2 ^ 32) change × AreSmall changes
 
--- At most 2^28 changes, each at most 2^32 in size, from a credit that none of them can bring beyond 2^61: so any credit of
--- at most 2^60 in size fits 2^28 changes.
+-- At most 2^28 changes, each at most 2^32 in size, from a credit that none of them can bring beyond 2^61: so any credit
+-- of at most 2^60 in size fits 2^28 changes.
 pub record ChangesFit (credit : ℤ) (changes : List ℤ) : Type 0 where
   pub number : length changes ≤ 2 ^ 28
   pub sizes : AreSmall changes

@@ -2,8 +2,8 @@
 ghost use Rattle.conn_scan.specs.ConnSum.{PartsFollow};
 ghost use Rattle.conn_scan.specs.ScanSums.{StatesFound, FirstSumFound, LastSumFound, CarriesFound};
 
-/// A window of 65,535 bytes is used up, 1 byte is granted, 1 byte is sent: the credit after each change, the summaries of
-/// the first two changes and of the last one, and the credit before each of these blocks.
+/// A window of 65,535 bytes is used up, 1 byte is granted, 1 byte is sent: the credit after each change, the summaries
+/// of the first two changes and of the last one, and the credit before each of these blocks.
 pub fn scan_sums()
     ensures states { StatesFound }
     ensures first { FirstSumFound }

@@ -14,7 +14,9 @@ state_after-append step s [] b = refl
 state_after-append step s (x ∷ a) b = state_after-append step (step s x) a b
 
 -- What the closed form `shown` must keep.
-pub record Shows {Sum Item State : Type 0} (shown : List Item → Sum) (empty : Sum) (of : Item → Sum) (join : Sum → Sum → Sum) (advance : State → Sum → State) (step : State → Item → State) (fits : State → List Item → Type 0) : Type 0 where
+pub record Shows {Sum Item State : Type 0} (shown : List Item → Sum) (empty : Sum) (of : Item → Sum) (join : Sum
+    → Sum → Sum) (advance : State → Sum → State) (step : State → Item → State) (fits : State → List Item
+    → Type 0) : Type 0 where
   pub first_fit : (s : State) (a b : List Item) → fits s (a ++ b) → fits s a
   pub rest_fits : (s : State) (a b : List Item) → fits s (a ++ b) → fits (state_after step s a) b
   pub none : shown [] ≡ empty
@@ -22,15 +24,20 @@ pub record Shows {Sum Item State : Type 0} (shown : List Item → Sum) (empty : 
   pub joined : (a b : List Item) → shown (a ++ b) ≡ join (shown a) (shown b)
   pub moved : (s : State) (a : List Item) → fits s a → advance s (shown a) ≡ state_after step s a
 
-module _ {Sum Item State : Type 0} {shown : List Item → Sum} {empty : Sum} {of : Item → Sum} {join : Sum → Sum → Sum} {advance : State → Sum → State} {step : State → Item → State} {fits : State → List Item → Type 0} (is : Shows shown empty of join advance step fits) where
+module _ {Sum Item State : Type 0} {shown : List Item → Sum} {empty : Sum} {of : Item → Sum} {join : Sum → Sum
+    → Sum} {advance : State → Sum → State} {step : State → Item → State} {fits : State → List Item → Type 0}
+    (is : Shows shown empty of join advance step fits) where
   pub summary-shown : (a : List Item) → summary_of empty of join a ≡ shown a
   summary-shown [] = sym is.none
-  summary-shown (x ∷ a) = ap (join (of x)) (summary-shown a) ∙ ap (λ y. join y (shown a)) (sym (is.one x)) ∙ sym (is.joined (x ∷ []) a)
+  summary-shown (x ∷ a) = ap (join (of x)) (summary-shown a) ∙ ap (λ y. join y (shown a)) (sym (is.one x))
+      ∙ sym (is.joined (x ∷ []) a)
 
   pub append-shown : (a b : List Item) → let sum = summary_of empty of join in sum (a ++ b) ≡ join (sum a) (sum b)
-  append-shown a b = summary-shown (a ++ b) ∙ is.joined a b ∙ ap (join (shown a)) (sym (summary-shown b)) ∙ ap (λ y. join y (summary_of empty of join b)) (sym (summary-shown a))
+  append-shown a b = summary-shown (a ++ b) ∙ is.joined a b ∙ ap (join (shown a)) (sym (summary-shown b))
+      ∙ ap (λ y. join y (summary_of empty of join b)) (sym (summary-shown a))
 
-  pub advance-shown : (s : State) (a : List Item) → fits s a → advance s (summary_of empty of join a) ≡ state_after step s a
+  pub advance-shown : (s : State) (a : List Item) → fits s a → advance s (summary_of empty of join a)
+      ≡ state_after step s a
   advance-shown s a f = ap (advance s) (summary-shown a) ∙ is.moved s a f
 
   pub lawful : SummaryLaws empty of join advance step fits

@@ -34,13 +34,15 @@ high-next x y ys = ap (int_max x) (greatest-moved x y (map (λ s. y +ℤ s) (pre
 pub low-next : (x y : ℤ) (ys : List ℤ) → low (x ∷ y ∷ ys) ≡ int_min x (x +ℤ low (y ∷ ys))
 low-next x y ys = ap (int_min x) (least-moved x y (map (λ s. y +ℤ s) (prefix_sums ys)))
 
-high-append : (x : ℤ) (a : List ℤ) (y : ℤ) (b : List ℤ) → high ((x ∷ a) ++ y ∷ b) ≡ int_max (high (x ∷ a)) (total (x ∷ a) +ℤ high (y ∷ b))
+high-append : (x : ℤ) (a : List ℤ) (y : ℤ) (b : List ℤ) → high ((x ∷ a) ++ y ∷ b) ≡ int_max (high (x ∷ a))
+    (total (x ∷ a) +ℤ high (y ∷ b))
 high-append x [] y b = high-next x y b ∙ omega (arith, ints, clamps)
 high-append x (z ∷ a) y b =
     let e = high-append z a y b in
     high-next x z (a ++ y ∷ b) ∙ ap (λ h. int_max x (x +ℤ h)) e ∙ rw (high-next x z a) (omega (arith, ints, clamps))
 
-low-append : (x : ℤ) (a : List ℤ) (y : ℤ) (b : List ℤ) → low ((x ∷ a) ++ y ∷ b) ≡ int_min (low (x ∷ a)) (total (x ∷ a) +ℤ low (y ∷ b))
+low-append : (x : ℤ) (a : List ℤ) (y : ℤ) (b : List ℤ) → low ((x ∷ a) ++ y ∷ b) ≡ int_min (low (x ∷ a))
+    (total (x ∷ a) +ℤ low (y ∷ b))
 low-append x [] y b = low-next x y b ∙ omega (arith, ints, clamps)
 low-append x (z ∷ a) y b =
     let e = low-append z a y b in
@@ -58,7 +60,8 @@ some_is n e = omega (arith, e)
 
 credit_of-append : (a b : List ℤ) → credit_of (a ++ b) ≡ credit_join (credit_of a) (credit_of b)
 credit_of-append [] b = sym (join_left (credit_of []) (credit_of b) refl)
-credit_of-append (x ∷ a) [] = ap credit_of (append_nil (x ∷ a)) ∙ sym (rw (ne_eqb (suc (length a)) 0 (some_is (length a))) refl)
+credit_of-append (x ∷ a) [] = ap credit_of (append_nil (x ∷ a))
+    ∙ sym (rw (ne_eqb (suc (length a)) 0 (some_is (length a))) refl)
 credit_of-append (x ∷ a) (y ∷ b) =
     sym (rw (ne_eqb (suc (length a)) 0 (some_is (length a)), ne_eqb (suc (length b)) 0 (some_is (length b)))
     (λ i. record {
@@ -70,7 +73,8 @@ credit_of-append (x ∷ a) (y ∷ b) =
 
 moved : (s : ℤ) (a : List ℤ) → s +ℤ total a ≡ state_after ◌+ℤ◌ s a
 moved s [] = omega (arith, ints)
-moved s (x ∷ a) = let turned : s +ℤ (x +ℤ total a) ≡ (s +ℤ x) +ℤ total a = omega (arith, ints) in turned ∙ moved (s +ℤ x) a
+moved s (x ∷ a) = let turned : s +ℤ (x +ℤ total a) ≡ (s +ℤ x) +ℤ total a = omega (arith, ints) in turned
+    ∙ moved (s +ℤ x) a
 
 small-front : (a b : List ℤ) → AreSmall (a ++ b) → AreSmall a
 small-front [] b h = tt
@@ -97,7 +101,13 @@ rest_fits : (s : ℤ) (a b : List ℤ) → ChangesFit s (a ++ b) → ChangesFit 
 rest_fits s a b f =
     let n = f.number in let l = f.room.0 in let u = f.room.1 in let e = length-append a b in
     let r = total-room a (small-front a b f.sizes) in let p = r.0 in let q = r.1 in
-    rw (sym (moved s a)) (record { number = omega arith; sizes = small-back a b f.sizes; room = (omega (arith, ints), omega (arith, ints)) })
+    rw (sym (moved s a))
+    (record {
+      number = omega arith;
+      sizes = small-back a b f.sizes;
+      room =
+          (omega (arith, ints), omega (arith, ints));
+    })
 
 unchanged : (x : ℤ) → x +ℤ pos 0 ≡ x
 unchanged x = omega (arith, ints)
@@ -151,7 +161,8 @@ roomy s a f =
     }
 
 -- a summary of changes that fit
-pub summary_room : (s : ℤ) (a : List ℤ) (x : Credit) → ChangesFit s a → x ≡ summary_of no_change one_change credit_join a → IsRoomy x
+pub summary_room : (s : ℤ) (a : List ℤ) (x : Credit) → ChangesFit s a
+    → x ≡ summary_of no_change one_change credit_join a → IsRoomy x
 summary_room s a x f e = subst IsRoomy (sym (e ∙ summary-shown credit_shows a)) (roomy s a f)
 
 pub summary_count : (a : List ℤ) (x : Credit) → x ≡ summary_of no_change one_change credit_join a → x.count ≡ length a
@@ -165,9 +176,16 @@ back_fits s a b f = rest_fits s a b f
 
 -- two summaries, each of some change
 pub join_some : (a b : Credit) → (a.count ≡ 0 → ⊥) → (b.count ≡ 0 → ⊥)
-    → credit_join a b ≡ record { count = a.count + b.count; sum = a.sum +ℤ b.sum; high = int_max a.high (a.sum +ℤ b.high); low = int_min a.low (a.sum +ℤ b.low) }
+    → credit_join a b ≡ record {
+      count = a.count + b.count;
+      sum = a.sum +ℤ b.sum;
+      high = int_max a.high
+          (a.sum +ℤ b.high);
+      low = int_min a.low (a.sum +ℤ b.low);
+    }
 join_some a b p q = rw (ne_eqb a.count 0 p, ne_eqb b.count 0 q) refl
 
 pub credit_is : (count : ℕ) {s t h i l m : ℤ} → s ≡ t → h ≡ i → l ≡ m
-    → ◌≡◌ {A = Credit} record { count = count; sum = s; high = h; low = l } record { count = count; sum = t; high = i; low = m }
+    → ◌≡◌ {A = Credit} record { count = count; sum = s; high = h; low = l } record
+    { count = count; sum = t; high = i; low = m }
 credit_is count sum high low = λ i. record { count = count; sum = sum i; high = high i; low = low i }

@@ -35,15 +35,18 @@ lesser_turn (Some x) (Some y) (Some z) = ap Some (omega arith)
 
 limit-append : (d : Side) (a b : List Item) → last_limit d (a ++ b) ≡ newer (last_limit d a) (last_limit d b)
 limit-append d [] b = newer_none (last_limit d b)
-limit-append d (x ∷ a) b = ap (newer (limit_in d x.change)) (limit-append d a b) ∙ newer_turn (limit_in d x.change) (last_limit d a) (last_limit d b)
+limit-append d (x ∷ a) b = ap (newer (limit_in d x.change)) (limit-append d a b)
+    ∙ newer_turn (limit_in d x.change) (last_limit d a) (last_limit d b)
 
 least-append : (d : Side) (a b : List Item) → least_limit d (a ++ b) ≡ lesser (least_limit d a) (least_limit d b)
 least-append d [] b = lesser_none (least_limit d b)
-least-append d (x ∷ a) b = ap (lesser (limit_in d x.change)) (least-append d a b) ∙ lesser_turn (limit_in d x.change) (least_limit d a) (least_limit d b)
+least-append d (x ∷ a) b = ap (lesser (limit_in d x.change)) (least-append d a b)
+    ∙ lesser_turn (limit_in d x.change) (least_limit d a) (least_limit d b)
 
 push-append : (a b : List Item) → last_push (a ++ b) ≡ newer (last_push a) (last_push b)
 push-append [] b = newer_none (last_push b)
-push-append (x ∷ a) b = ap (newer (push_in x.change)) (push-append a b) ∙ newer_turn (push_in x.change) (last_push a) (last_push b)
+push-append (x ∷ a) b = ap (newer (push_in x.change)) (push-append a b)
+    ∙ newer_turn (push_in x.change) (last_push a) (last_push b)
 
 max_turn : (x y z : ℕ) → max x (max y z) ≡ max (max x y) z
 max_turn x y z = omega arith
@@ -56,7 +59,8 @@ max_one x = omega arith
 
 longest-append : (d : Side) (a b : List Item) → longest_by d (a ++ b) ≡ max (longest_by d a) (longest_by d b)
 longest-append d [] b = max_none (longest_by d b)
-longest-append d (x ∷ a) b = ap (max (length_by d x)) (longest-append d a b) ∙ max_turn (length_by d x) (longest_by d a) (longest_by d b)
+longest-append d (x ∷ a) b = ap (max (length_by d x)) (longest-append d a b)
+    ∙ max_turn (length_by d x) (longest_by d a) (longest_by d b)
 
 or_turn : (x y z : Bool) → x || (y || z) ≡ (x || y) || z
 or_turn true y z = refl
@@ -68,17 +72,20 @@ or_false false = refl
 
 zero-append : (a b : List Item) → some_zero_grant (a ++ b) ≡ some_zero_grant a || some_zero_grant b
 zero-append [] b = refl
-zero-append (x ∷ a) b = ap (λ t. grants_zero x || t) (zero-append a b) ∙ or_turn (grants_zero x) (some_zero_grant a) (some_zero_grant b)
+zero-append (x ∷ a) b = ap (λ t. grants_zero x || t) (zero-append a b) ∙ or_turn (grants_zero x) (some_zero_grant a)
+    (some_zero_grant b)
 
 unwrap_newer : (x y : Option ℕ) (before : ℕ) → unwrap_or (newer x y) before ≡ unwrap_or y (unwrap_or x before)
 unwrap_newer x None before = refl
 unwrap_newer x (Some y) before = refl
 
-chosen : (b : Bool) (x : Option ℕ) (before : ℕ) → unwrap_or (if b then x else None) before ≡ (if b then unwrap_or x before else before)
+chosen : (b : Bool) (x : Option ℕ) (before : ℕ) → unwrap_or (if b then x else None) before
+    ≡ (if b then unwrap_or x before else before)
 chosen true x before = refl
 chosen false x before = refl
 
-limit_is : (d : Side) (change : Option Change) (before : ℕ) → unwrap_or (limit_in d change) before ≡ new_limit change d before
+limit_is : (d : Side) (change : Option Change) (before : ℕ) → unwrap_or (limit_in d change) before
+    ≡ new_limit change d before
 limit_is d None before = refl
 limit_is d (Some change) before = chosen (is_side d change.side) change.max_frame before
 
@@ -88,10 +95,13 @@ push_is (Some change) before = chosen (is_side Server change.side) change.push b
 
 limit-next : (d : Side) (x : Item) (a : List Item) (before : ℕ)
     → unwrap_or (last_limit d (x ∷ a)) before ≡ unwrap_or (last_limit d a) (new_limit x.change d before)
-limit-next d x a before = unwrap_newer (limit_in d x.change) (last_limit d a) before ∙ ap (unwrap_or (last_limit d a)) (limit_is d x.change before)
+limit-next d x a before = unwrap_newer (limit_in d x.change) (last_limit d a) before
+    ∙ ap (unwrap_or (last_limit d a)) (limit_is d x.change before)
 
-push-next : (x : Item) (a : List Item) (before : ℕ) → unwrap_or (last_push (x ∷ a)) before ≡ unwrap_or (last_push a) (new_push x.change before)
-push-next x a before = unwrap_newer (push_in x.change) (last_push a) before ∙ ap (unwrap_or (last_push a)) (push_is x.change before)
+push-next : (x : Item) (a : List Item) (before : ℕ) → unwrap_or (last_push (x ∷ a)) before ≡ unwrap_or (last_push a)
+    (new_push x.change before)
+push-next x a before = unwrap_newer (push_in x.change) (last_push a) before
+    ∙ ap (unwrap_or (last_push a)) (push_is x.change before)
 
 moved : (s : InForce) (a : List Item) → latest_advance s (latest_of a) ≡ state_after in_force_after s a
 moved s [] = refl

@@ -6,7 +6,8 @@ use Rattle.block_scan.specs.List.{state_after}
 use Rattle.block_scan.specs.code.Shown.{Shows, lawful, append_nil}
 use Rattle.conn_scan.specs.Rising.{least_of, greatest_of, rise, present, rising_of, no_identifier, one_identifier, rising_join, greatest_after, greatest_advance}
 
-least-append : (x : ℕ) (a : List ℕ) (y : ℕ) (b : List ℕ) → least_of ((x ∷ a) ++ y ∷ b) ≡ min (least_of (x ∷ a)) (least_of (y ∷ b))
+least-append : (x : ℕ) (a : List ℕ) (y : ℕ) (b : List ℕ) → least_of ((x ∷ a) ++ y ∷ b) ≡ min (least_of (x ∷ a))
+    (least_of (y ∷ b))
 least-append x [] y b = refl
 least-append x (z ∷ a) y b = let e = least-append z a y b in omega arith
 
@@ -53,9 +54,11 @@ rise-append x (z ∷ a) y b =
     let q = least_of (y ∷ b) in
     ap (λ n. nat_lt x n && rise ((z ∷ a) ++ y ∷ b)) (least-append z a y b)
     ∙ ap (λ r. nat_lt x (min (least_of (z ∷ a)) q) && r) (rise-append z a y b)
-    ∙ ap (λ t. t && (nat_lt (greatest_of (z ∷ a)) q && (rise (z ∷ a) && rise (y ∷ b)))) (below_both x (least_of (z ∷ a)) q)
+    ∙ ap (λ t. t && (nat_lt (greatest_of (z ∷ a)) q && (rise (z ∷ a) && rise (y ∷ b))))
+    (below_both x (least_of (z ∷ a)) q)
     ∙ turn (nat_lt x (least_of (z ∷ a))) (nat_lt x q) (nat_lt (greatest_of (z ∷ a)) q) (rise (z ∷ a)) (rise (y ∷ b))
-    ∙ ap (λ t. t && ((nat_lt x (least_of (z ∷ a)) && rise (z ∷ a)) && rise (y ∷ b))) (sym (both_below x (greatest_of (z ∷ a)) q))
+    ∙ ap (λ t. t && ((nat_lt x (least_of (z ∷ a)) && rise (z ∷ a)) && rise (y ∷ b)))
+    (sym (both_below x (greatest_of (z ∷ a)) q))
 
 rising_of-append : (a b : List ℕ) → rising_of (a ++ b) ≡ rising_join (rising_of a) (rising_of b)
 rising_of-append [] b = refl
@@ -76,7 +79,8 @@ moved : (s : ℕ) (a : List (Option ℕ)) → max s (greatest_of (present a)) �
 moved s [] = omega arith
 moved s (None ∷ a) = moved s a
 moved s (Some x ∷ a) =
-    let e : max s (max x (greatest_of (present a))) ≡ max (max s x) (greatest_of (present a)) = omega arith in e ∙ moved (max s x) a
+    let e : max s (max x (greatest_of (present a))) ≡ max (max s x) (greatest_of (present a)) = omega arith in e
+    ∙ moved (max s x) a
 
 single : (x : Option ℕ) → rising_of (present (x ∷ [])) ≡ one_identifier x
 single None = refl
@@ -86,7 +90,8 @@ single (Some x) = ap (λ g. record { none = false; least = x; greatest = g; rise
 abbrev pub Fit : ℕ → List (Option ℕ) → Type 0
 Fit before ids = Unit {0}
 
-pub rising_shows : Shows (λ ids. rising_of (present ids)) no_identifier one_identifier rising_join greatest_advance greatest_after Fit
+pub rising_shows : Shows
+    (λ ids. rising_of (present ids)) no_identifier one_identifier rising_join greatest_advance greatest_after Fit
 rising_shows = record {
   first_fit = λ s a b f. tt;
   rest_fits = λ s a b f. tt;

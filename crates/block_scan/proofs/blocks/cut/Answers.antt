@@ -11,5 +11,6 @@ loop-rest-preserved g c =
     ap (λ l. items_of (map (λ b. b.now) l) ++ later) c.in_ok-push.ensures.items
     ∙ ap (λ l. l ++ later) (items_of-push-now old first)
     ∙ append_assoc (items_of (map (λ b. b.now) old)) first.now later
-    ∙ ap (λ l. items_of (map (λ b. b.now) old) ++ l) (halves c.min.result c.loop-rest.rest.now first.now later c.split_at.ensures.front c.split_at.ensures.back)
+    ∙ ap (λ l. items_of (map (λ b. b.now) old) ++ l)
+    (halves c.min.result c.loop-rest.rest.now first.now later c.split_at.ensures.front c.split_at.ensures.back)
     ∙ c.loop-rest.invariant

@@ -13,7 +13,10 @@ advance-next-requires g c =
     let i = c.loop-sum.sum-index in
     let sums = c.args.sums.now in
     let rest = drop_next sums i x c.loop-sum-test.true c.sum-item.is in
-    record { fits = (next_sum laws c.loop-sum.state x (drop (i + 1) sums) (subst (AreSums laws c.loop-sum.state) rest c.loop-sum.invariant.left)).0 }
+    record {
+      fits = (next_sum laws c.loop-sum.state x (drop (i + 1) sums)
+          (subst (AreSums laws c.loop-sum.state) rest c.loop-sum.invariant.left)).0;
+    }
 
 pub loop-sum-preserved : goal.loop-sum-preserved
 loop-sum-preserved g c =
@@ -40,5 +43,7 @@ returns g c = λ blocks f e.
     let laws = g.met.S.Summary.laws in
     let m = g.S.Summary in
     let done = drop_all c.loop-sum.sum-index c.args.sums.now c.loop-sum-test.false in
-    sym (append_nil c.loop-sum.states.items) ∙ ap (λ l. c.loop-sum.states.items ++ carried m.advance c.loop-sum.state l) (sym done)
-    ∙ sym c.loop-sum.invariant.states ∙ ap (carried m.advance c.args.start) e ∙ carried-before laws c.args.start blocks f
+    sym (append_nil c.loop-sum.states.items)
+    ∙ ap (λ l. c.loop-sum.states.items ++ carried m.advance c.loop-sum.state l) (sym done)
+    ∙ sym c.loop-sum.invariant.states ∙ ap (carried m.advance c.args.start) e
+    ∙ carried-before laws c.args.start blocks f

@@ -19,10 +19,17 @@ collect-requires-clause-ready g c κs within =
     let long = ap length before ∙ length-states_before m.step start blocks in
     let ends = c.into_par_iter.ensures in
     let inside = nat_range-All
-    (λ i. (i < length carries) × (i < length blocks) × ((s : g.row.S-State.Denot) (b : Bor _) → m.fits (get_or carries i s) (get_or blocks i b).now))
+    (λ i. (i < length carries) × (i < length blocks)
+    × ((s : g.row.S-State.Denot) (b : Bor _) → m.fits (get_or carries i s) (get_or blocks i b).now))
     0 (length blocks)
-    (λ i low high. (omega (arith, long), high, λ s b. subst (λ l. m.fits (get_or l i s) (get_or blocks i b).now) (sym before) (block_fits laws start blocks c.requires.fits.1 i s b high))) in
-    rw (c.map.ensures.base, c.with_min_len.ensures.base, c.map.ensures.f, ends.0, ends.1) (λ k d lt. (inside k d lt, λ y p. tt))
+    (λ i low high. (
+      omega (arith, long),
+      high,
+      λ s b. subst (λ l. m.fits (get_or l i s) (get_or blocks i b).now)
+          (sym before) (block_fits laws start blocks c.requires.fits.1 i s b high),
+    )) in
+    rw (c.map.ensures.base, c.with_min_len.ensures.base, c.map.ensures.f, ends.0, ends.1)
+    (λ k d lt. (inside k d lt, λ y p. tt))
 
 pub returns : goal.returns
 returns g c = λ start before.

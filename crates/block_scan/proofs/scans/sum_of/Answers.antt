@@ -13,7 +13,8 @@ join-sum-requires g c =
     let i = c.loop-item.item-index in
     let x = c.item-item.result in
     let both = next_fits laws s items i x c.requires.fits.1 c.loop-item-test.true c.item-item.is in
-    let one = laws.one (state_after g.S.Summary.step s (take i items)) x (laws.rest_fits s (take i items) (x ∷ []) both) in
+    let one = laws.one (state_after g.S.Summary.step s (take i items)) x
+    (laws.rest_fits s (take i items) (x ∷ []) both) in
     record { fits = (s, take i items, x ∷ [], both, c.loop-item.invariant.summed, c.of.ensures ∙ sym one) }
 
 pub loop-item-preserved : goal.loop-item-preserved

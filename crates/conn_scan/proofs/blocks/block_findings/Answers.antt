@@ -35,4 +35,5 @@ loop-item-preserved c =
 pub returns : goal.returns
 returns c =
     let done = drop_all c.loop-item.item-index c.args.items.now c.loop-item-test.false in
-    sym (c.loop-item.invariant.said ∙ ap (λ l. c.loop-item.findings.items ++ block_run c.loop-item.state l) done ∙ append_nil c.loop-item.findings.items)
+    sym (c.loop-item.invariant.said ∙ ap (λ l. c.loop-item.findings.items ++ block_run c.loop-item.state l) done
+    ∙ append_nil c.loop-item.findings.items)

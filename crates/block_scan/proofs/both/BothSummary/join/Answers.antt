@@ -12,4 +12,14 @@ pub join-requires-2 : goal.join-requires-2
 join-requires-2 g c =
     let f = c.requires.fits in
     let is = summary-both g.A.Summary.empty g.A.Summary.of g.A.Summary.join g.B.Summary.empty g.B.Summary.of g.B.Summary.join in
-    record { fits = (f.0.second, f.1, f.2, f.3.1, ap (λ x. x.second) (f.4 ∙ is f.1), ap (λ x. x.second) (f.5 ∙ is f.2)) }
+    record {
+      fits = (
+        f.0.second,
+        f.1,
+        f.2,
+        f.3.1,
+        ap (λ x. x.second) (f.4 ∙ is f.1),
+        ap (λ x. x.second) (f.5
+            ∙ is f.2),
+      );
+    }

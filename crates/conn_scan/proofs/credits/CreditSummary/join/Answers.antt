@@ -43,5 +43,6 @@ returns c =
     let t0 = rb.sum.0 in let t1 = rb.sum.1 in let i0 = rb.high.0 in let i1 = rb.high.1 in let m0 = rb.low.0 in let m1 = rb.low.1 in
     let max = c.max.ensures.value in
     let min = c.min.ensures.value in
-    credit_is (c.args.self.now.count + c.args.later.now.count) (omega (arith, ints)) (omega (arith, ints, clamps)) (omega (arith, ints, clamps))
+    credit_is (c.args.self.now.count + c.args.later.now.count) (omega (arith, ints)) (omega (arith, ints, clamps))
+    (omega (arith, ints, clamps))
     ∙ sym (join_some c.args.self.now c.args.later.now c.if-self-eq0.false c.if-later-eq0.false)

@@ -9,5 +9,13 @@ join-requires c =
     let f = c.requires.fits in
     let is = summary-view promised_by promised_ids (λ x. x.ids) (λ x. refl) no_identifier one_identifier rising_join in
     record {
-      fits = (f.0, map promised_by f.1, map promised_by f.2, tt, ap (λ x. x.ids) (f.4 ∙ is f.1), ap (λ x. x.ids) (f.5 ∙ is f.2));
+      fits = (
+        f.0,
+        map promised_by f.1,
+        map promised_by f.2,
+        tt,
+        ap (λ x. x.ids) (f.4 ∙ is f.1),
+        ap (λ x. x.ids)
+            (f.5 ∙ is f.2),
+      );
     }

@@ -8,5 +8,6 @@ use Rattle.conn_scan.proofs.side_credits.ClientCreditSummary.advance.Goals as go
 pub advance-requires : goal.advance-requires
 advance-requires c =
     let f = c.requires.fits in
-    let is = summary-view (change_of Client) client_credit (λ x. x.credit) (λ x. refl) no_change one_change credit_join in
+    let is = summary-view (change_of Client) client_credit (λ x. x.credit)
+    (λ x. refl) no_change one_change credit_join in
     record { fits = (map (change_of Client) f.0, f.1, ap (λ x. x.credit) (f.2 ∙ is f.0)) }

@@ -9,7 +9,8 @@ pub join-requires : goal.join-requires
 join-requires c =
     let f = c.requires.fits in
     let view = change_of Server in
-    let is = summary-view (change_of Server) server_credit (λ x. x.credit) (λ x. refl) no_change one_change credit_join in
+    let is = summary-view (change_of Server) server_credit (λ x. x.credit)
+    (λ x. refl) no_change one_change credit_join in
     record {
       fits = (
         f.0,
