@@ -1,8 +1,7 @@
 -- The summary of all parts in closed form, and its step.
-use Rattle.std.proofs.Common.{◌≡◌, ℕ, max, Bool, true, false, List, map, Option, Some, None, refl, ap, ◌∙◌}
+use Rattle.std.proofs.Common.{◌≡◌, ℕ, max, Bool, true, false, List, map, Some, None, refl, ap, ◌∙◌}
 use Rattle.std.specs.Prelude.{if◌then◌else◌}
 use Rattle.audit_terms.specs.declared.sides.Side.TheVariants.{Client, Server}
-use Rattle.audit_terms.specs.declared.connections.ConnectionState.{ConnectionState}
 use Rattle.audit_terms.specs.declared.items.Item.{Item}
 use Rattle.audit_terms.specs.Frame.{promised_in}
 use Rattle.audit_terms.specs.Connection.{credit_after, connection_after, is_opened_by_headers, is_even_promise}
@@ -14,11 +13,11 @@ use Rattle.conn_scan.specs.declared.side_credits.ClientCredit.{ClientCredit}
 use Rattle.conn_scan.specs.declared.side_credits.ServerCredit.{ServerCredit}
 use Rattle.conn_scan.specs.declared.ids.OpenedIds.{OpenedIds}
 use Rattle.conn_scan.specs.declared.ids.PromisedIds.{PromisedIds}
-use Rattle.conn_scan.specs.Credit.{credit_of, no_change, one_change, credit_join}
+use Rattle.conn_scan.specs.Credit.{no_change, one_change, credit_join}
 use Rattle.conn_scan.specs.SideCredit.{client_credit, server_credit, change_of}
-use Rattle.conn_scan.specs.Rising.{present, rising_of, no_identifier, one_identifier, rising_join, greatest_after}
+use Rattle.conn_scan.specs.Rising.{no_identifier, one_identifier, rising_join, greatest_after}
 use Rattle.conn_scan.specs.Ids.{opened_in, promised_by, opened_ids, promised_ids}
-use Rattle.conn_scan.specs.Latest.{latest_of, no_item, one_item, latest_join}
+use Rattle.conn_scan.specs.Latest.{no_item, one_item, latest_join}
 use Rattle.conn_scan.specs.ConnSum.{ConnSum, conn_sum_of, PartsFollow}
 use Rattle.conn_scan.specs.code.CreditLaws.{credit_shows}
 use Rattle.conn_scan.specs.code.RisingLaws.{rising_shows}
