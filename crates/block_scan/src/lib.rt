@@ -1,8 +1,8 @@
 //! A parallel prefix scan under laws.
 //!
 //! A [`Summary`] says what some items do to a state, in a form that can be joined: blocks of a list are summed apart,
-//! on any thread, and a state is then moved past whole blocks. Each instance proves the laws of `specs/Laws.antt`, under
-//! which any division of the list gives the states of the plain fold.
+//! on any thread, and a state is then moved past whole blocks. Each instance proves the laws of `specs/Laws.antt`,
+//! under which any division of the list gives the states of the plain fold.
 //!
 //! - [`sum_of`] is the summary of a list, [`sums`] those of many blocks, in parallel.
 //! - [`carries`] is the state before each block.

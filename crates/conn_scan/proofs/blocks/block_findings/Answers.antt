@@ -26,8 +26,10 @@ loop-item-preserved c =
     let shown = rw c.new-said.ensures.items at meets.said in
     record {
       within = omega arith;
-      said = run_next c.args.before.now c.args.items.now i _ c.loop-item.state c.meet.new.self old c.append.new.self.items
-          c.meet.new.found.items c.put_in_order.new.found.items lt c.loop-item.invariant.said meets.after shown c.in_ok-put_in_order.ensures.ok c.in_ok-append.ensures.items;
+      said = run_next c.args.before.now c.args.items.now i _ c.loop-item.state c.meet.new.self old
+          c.append.new.self.items c.meet.new.found.items c.put_in_order.new.found.items lt
+          c.loop-item.invariant.said meets.after shown c.in_ok-put_in_order.ensures.ok
+          c.in_ok-append.ensures.items;
       client = room_next n i c.meet.new.self.credit.client lt le (meets.client _ c.loop-item.invariant.client);
       server = room_next n i c.meet.new.self.credit.server lt le (meets.server _ c.loop-item.invariant.server);
     }

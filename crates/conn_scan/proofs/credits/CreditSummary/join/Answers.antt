@@ -39,8 +39,10 @@ returns c =
     let f = c.requires.fits in
     let ra = summary_room f.0 f.1 c.args.self.now (front_fits f.0 f.1 f.2 f.3) f.4 in
     let rb = summary_room _ f.2 c.args.later.now (back_fits f.0 f.1 f.2 f.3) f.5 in
-    let s0 = ra.sum.0 in let s1 = ra.sum.1 in let h0 = ra.high.0 in let h1 = ra.high.1 in let l0 = ra.low.0 in let l1 = ra.low.1 in
-    let t0 = rb.sum.0 in let t1 = rb.sum.1 in let i0 = rb.high.0 in let i1 = rb.high.1 in let m0 = rb.low.0 in let m1 = rb.low.1 in
+    let s0 = ra.sum.0 in let s1 = ra.sum.1 in
+    let h0 = ra.high.0 in let h1 = ra.high.1 in let l0 = ra.low.0 in let l1 = ra.low.1 in
+    let t0 = rb.sum.0 in let t1 = rb.sum.1 in
+    let i0 = rb.high.0 in let i1 = rb.high.1 in let m0 = rb.low.0 in let m1 = rb.low.1 in
     let max = c.max.ensures.value in
     let min = c.min.ensures.value in
     credit_is (c.args.self.now.count + c.args.later.now.count) (omega (arith, ints)) (omega (arith, ints, clamps))
