@@ -1,0 +1,4 @@
+pub mod List
+pub mod Laws
+pub mod Both
+pub mod code

@@ -1,0 +1,11 @@
+use Rattle.std.proofs.Common.{map, refl, ap, ◌∙◌}
+use Rattle.conn_scan.specs.Rising.{no_identifier, one_identifier, rising_join}
+use Rattle.conn_scan.specs.Ids.{promised_ids, promised_by}
+use Rattle.conn_scan.specs.code.Through.{summary-view}
+use Rattle.conn_scan.proofs.ids.PromisedIdsSummary.advance.Goals as goal
+
+pub advance-requires : goal.advance-requires
+advance-requires c =
+    let f = c.requires.fits in
+    let is = summary-view promised_by promised_ids (λ x. x.ids) (λ x. refl) no_identifier one_identifier rising_join in
+    record { fits = (map promised_by f.0, tt, ap (λ x. x.ids) (f.2 ∙ is f.0)) }

@@ -1,0 +1,9 @@
+pub mod Credit
+pub mod SideCredit
+pub mod Rising
+pub mod Ids
+pub mod Latest
+pub mod ConnSum
+pub mod Block
+pub mod ScanSums
+pub mod code

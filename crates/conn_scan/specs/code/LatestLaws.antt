@@ -1,0 +1,132 @@
+-- The summary of settings and lengths obeys the laws.
+use Rattle.std.proofs.Common.{◌≡◌, ℕ, max, Bool, true, false, ◌||◌, List, [], ◌∷◌, ◌++◌, Option, Some, None, refl, ap, ◌∙◌, arith}
+use Rattle.std.specs.Prelude.{unwrap_or, if◌then◌else◌}
+use Rattle.audit_terms.specs.declared.sides.Side.{Side}
+use Rattle.audit_terms.specs.declared.sides.Side.TheVariants.{Server}
+use Rattle.audit_terms.specs.declared.items.Change.{Change}
+use Rattle.audit_terms.specs.declared.items.Item.{Item}
+use Rattle.audit_terms.specs.Side.{is_side}
+use Rattle.audit_terms.specs.Sides.{side_of, each_side}
+use Rattle.audit_terms.specs.Change.{new_limit, new_push}
+use Rattle.block_scan.specs.Laws.{SummaryLaws}
+use Rattle.block_scan.specs.List.{state_after}
+use Rattle.block_scan.specs.code.Shown.{Shows, lawful}
+use Rattle.conn_scan.specs.declared.latest.InForce.{InForce}
+use Rattle.conn_scan.specs.Latest.{limit_in, push_in, length_by, grants_zero, newer, lesser, last_limit, least_limit, last_push, longest_by, some_zero_grant, latest_of, no_item, one_item, latest_join, in_force_after, latest_advance, SettingsFit}
+
+newer_none : (x : Option ℕ) → x ≡ newer None x
+newer_none None = refl
+newer_none (Some x) = refl
+
+newer_turn : (x y z : Option ℕ) → newer x (newer y z) ≡ newer (newer x y) z
+newer_turn x y None = refl
+newer_turn x y (Some z) = refl
+
+lesser_none : (x : Option ℕ) → x ≡ lesser None x
+lesser_none None = refl
+lesser_none (Some x) = refl
+
+lesser_turn : (x y z : Option ℕ) → lesser x (lesser y z) ≡ lesser (lesser x y) z
+lesser_turn x y None = refl
+lesser_turn None None (Some z) = refl
+lesser_turn (Some x) None (Some z) = refl
+lesser_turn None (Some y) (Some z) = refl
+lesser_turn (Some x) (Some y) (Some z) = ap Some (omega arith)
+
+limit-append : (d : Side) (a b : List Item) → last_limit d (a ++ b) ≡ newer (last_limit d a) (last_limit d b)
+limit-append d [] b = newer_none (last_limit d b)
+limit-append d (x ∷ a) b = ap (newer (limit_in d x.change)) (limit-append d a b)
+    ∙ newer_turn (limit_in d x.change) (last_limit d a) (last_limit d b)
+
+least-append : (d : Side) (a b : List Item) → least_limit d (a ++ b) ≡ lesser (least_limit d a) (least_limit d b)
+least-append d [] b = lesser_none (least_limit d b)
+least-append d (x ∷ a) b = ap (lesser (limit_in d x.change)) (least-append d a b)
+    ∙ lesser_turn (limit_in d x.change) (least_limit d a) (least_limit d b)
+
+push-append : (a b : List Item) → last_push (a ++ b) ≡ newer (last_push a) (last_push b)
+push-append [] b = newer_none (last_push b)
+push-append (x ∷ a) b = ap (newer (push_in x.change)) (push-append a b)
+    ∙ newer_turn (push_in x.change) (last_push a) (last_push b)
+
+max_turn : (x y z : ℕ) → max x (max y z) ≡ max (max x y) z
+max_turn x y z = omega arith
+
+max_none : (x : ℕ) → x ≡ max 0 x
+max_none x = omega arith
+
+max_one : (x : ℕ) → max x 0 ≡ x
+max_one x = omega arith
+
+longest-append : (d : Side) (a b : List Item) → longest_by d (a ++ b) ≡ max (longest_by d a) (longest_by d b)
+longest-append d [] b = max_none (longest_by d b)
+longest-append d (x ∷ a) b = ap (max (length_by d x)) (longest-append d a b)
+    ∙ max_turn (length_by d x) (longest_by d a) (longest_by d b)
+
+or_turn : (x y z : Bool) → x || (y || z) ≡ (x || y) || z
+or_turn true y z = refl
+or_turn false y z = refl
+
+or_false : (x : Bool) → x || false ≡ x
+or_false true = refl
+or_false false = refl
+
+zero-append : (a b : List Item) → some_zero_grant (a ++ b) ≡ some_zero_grant a || some_zero_grant b
+zero-append [] b = refl
+zero-append (x ∷ a) b = ap (λ t. grants_zero x || t) (zero-append a b) ∙ or_turn (grants_zero x) (some_zero_grant a)
+    (some_zero_grant b)
+
+unwrap_newer : (x y : Option ℕ) (before : ℕ) → unwrap_or (newer x y) before ≡ unwrap_or y (unwrap_or x before)
+unwrap_newer x None before = refl
+unwrap_newer x (Some y) before = refl
+
+chosen : (b : Bool) (x : Option ℕ) (before : ℕ) → unwrap_or (if b then x else None) before
+    ≡ (if b then unwrap_or x before else before)
+chosen true x before = refl
+chosen false x before = refl
+
+limit_is : (d : Side) (change : Option Change) (before : ℕ) → unwrap_or (limit_in d change) before
+    ≡ new_limit change d before
+limit_is d None before = refl
+limit_is d (Some change) before = chosen (is_side d change.side) change.max_frame before
+
+push_is : (change : Option Change) (before : ℕ) → unwrap_or (push_in change) before ≡ new_push change before
+push_is None before = refl
+push_is (Some change) before = chosen (is_side Server change.side) change.push before
+
+limit-next : (d : Side) (x : Item) (a : List Item) (before : ℕ)
+    → unwrap_or (last_limit d (x ∷ a)) before ≡ unwrap_or (last_limit d a) (new_limit x.change d before)
+limit-next d x a before = unwrap_newer (limit_in d x.change) (last_limit d a) before
+    ∙ ap (unwrap_or (last_limit d a)) (limit_is d x.change before)
+
+push-next : (x : Item) (a : List Item) (before : ℕ) → unwrap_or (last_push (x ∷ a)) before ≡ unwrap_or (last_push a)
+    (new_push x.change before)
+push-next x a before = unwrap_newer (push_in x.change) (last_push a) before
+    ∙ ap (unwrap_or (last_push a)) (push_is x.change before)
+
+moved : (s : InForce) (a : List Item) → latest_advance s (latest_of a) ≡ state_after in_force_after s a
+moved s [] = refl
+moved s (x ∷ a) =
+    (λ i. record { limit = each_side (λ d. limit-next d x a (side_of d s.limit) i); push = push-next x a s.push i })
+    ∙ moved (in_force_after s x) a
+
+pub latest_shows : Shows latest_of no_item one_item latest_join latest_advance in_force_after SettingsFit
+latest_shows = record {
+  first_fit = λ s a b f. tt;
+  rest_fits = λ s a b f. tt;
+  none = refl;
+  one = λ x i. record (one_item x) {
+    longest = each_side (λ d. max_one (length_by d x) i);
+    zero_grant = or_false (grants_zero x) i;
+  };
+  joined = λ a b i. record {
+    limit = each_side (λ d. limit-append d a b i);
+    least = each_side (λ d. least-append d a b i);
+    longest = each_side (λ d. longest-append d a b i);
+    push = push-append a b i;
+    zero_grant = zero-append a b i;
+  };
+  moved = λ s a f. moved s a;
+}
+
+pub latest_laws : SummaryLaws no_item one_item latest_join latest_advance in_force_after SettingsFit
+latest_laws = lawful latest_shows
