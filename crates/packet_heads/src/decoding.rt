@@ -127,8 +127,8 @@ fn decode_piece(
 }
 
 /// The packets of the pieces, one after the other, which are so many in all.
-fn joined(alloc: Global, total: usize, pieces: &[Vec<Packet>]) -> Result<Vec<Packet>, AllocError>
-    ensures { IfOk result (λ packets. packets.items ≡ flat_map (λ piece. piece.items) pieces.now) }
+fn joined(alloc: Global, total: usize, pieces: Vec<Vec<Packet>>) -> Result<Vec<Packet>, AllocError>
+    ensures { IfOk result (λ packets. packets.items ≡ flat_map (λ piece. piece.items) pieces.items) }
 {
     let mut packets = Vec::with_capacity(alloc, total)?;
     for piece in pieces {
@@ -161,7 +161,7 @@ fn decode_pieces(
         )
         .with_min_len(1)
         .collect::<Result<Vec<_>, AllocError>>(rt, alloc)??;
-    joined(alloc, rows.len(), pieces.as_slice())
+    joined(alloc, rows.len(), pieces)
 }
 
 /// What each of these rows holds, in order; the first has the number 1.

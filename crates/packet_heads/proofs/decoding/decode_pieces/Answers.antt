@@ -35,7 +35,7 @@ returns-clause-exact g c =
     let zipped = rw (places, got.1) at chain.2 in
     let reach = pieces-reach n (length rows) c.div_ceil.ensures in
     IfOk-then c.joined.result _ _ c.joined.ensures (λ v joined.
-    joined ∙ ap (flat_map (λ piece. piece.items)) (c.as_slice.ensures.value ∙ got.2)
+    joined ∙ ap (flat_map (λ piece. piece.items)) got.2
     ∙ (pieces-all _ (λ piece. piece.items) c.args.link rows c.args.capture.now n got.0 reach.0 zipped).0)
 
 pub returns-clause-stand : goal.returns-clause-stand
@@ -52,5 +52,5 @@ returns-clause-stand g c =
     let reach = pieces-reach n (length rows) c.div_ceil.ensures in
     IfOk-then c.joined.result _ _ c.joined.ensures (λ v joined.
     subst (AllStand 1 rows)
-    (sym (joined ∙ ap (flat_map (λ piece. piece.items)) (c.as_slice.ensures.value ∙ got.2)))
+    (sym (joined ∙ ap (flat_map (λ piece. piece.items)) got.2))
     (pieces-all _ (λ piece. piece.items) c.args.link rows c.args.capture.now n got.0 reach.0 zipped).1)
