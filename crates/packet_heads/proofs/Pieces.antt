@@ -1,5 +1,6 @@
 -- Records in pieces.
-use Rattle.std.proofs.Common.{◌≡◌, ℕ, zero, suc, ◌+◌, ◌*◌, ◌<◌, ◌≤◌, List, [], ◌∷◌, ◌++◌, All, length, take, drop, map, flat_map}
+use Rattle.std.proofs.Common.{◌≡◌, ℕ, zero, suc, ◌+◌, ◌*◌, ◌<◌, ◌≤◌, List, [], ◌∷◌, ◌++◌}
+use Rattle.std.proofs.Common.{All, length, take, drop, map, flat_map}
 use Rattle.std.proofs.Common.{refl, sym, ap, subst, ◌∙◌, arith}
 use Rattle.std.specs.Prelude.{Result, Ok, IfOk}
 use Rattle.std.specs.Int.{div_ceil}
@@ -10,9 +11,8 @@ use Rattle.std.proofs.lemmas.Grind.{div_ceil_times}
 use Rattle.pcap_records.specs.declared.capture.Record.{Record}
 use Rattle.pcap_records.specs.Place.{AreWithin}
 use Rattle.packet_heads.specs.declared.packets.Packet.{Packet}
-use Rattle.packet_heads.specs.Decision.{packet_decision, decisions_from, packet_decisions}
-use Rattle.packet_heads.specs.code.Pieces.{EndsWithin, IsPiece}
-use Rattle.packet_heads.specs.code.Standing.{AllStand}
+use Rattle.packet_heads.specs.Decision.{packet_decision, decisions_from}
+use Rattle.packet_heads.specs.code.Standing.{AllStand, AreDecided, EndsWithin}
 use Rattle.packet_heads.proofs.Rows.{RiseFrom-at}
 
 -- the records of a capture end within it
@@ -42,7 +42,8 @@ decisions-split link number (suc k) (row ∷ rows) capture =
     ∙ decisions-split link (number + 1) k rows capture)
 
 pub AllStand-joined : (number k : ℕ) (rows : List Record) (front back : List Packet)
-    → AllStand number (take k rows) front → AllStand (number + k) (drop k rows) back → AllStand number rows (front ++ back)
+    → AllStand number (take k rows) front → AllStand (number + k) (drop k rows) back
+    → AllStand number rows (front ++ back)
 AllStand-joined number zero rows [] back h g = subst (λ n. AllStand n rows back) (omega arith) g
 AllStand-joined number zero rows (p ∷ front) back h g = absurd h
 AllStand-joined number (suc k) [] [] [] h g = tt
@@ -56,15 +57,16 @@ AllStand-joined number (suc k) (row ∷ rows) (p ∷ front) back h g =
 module _ {X : Type 0} (E : Type 0) (items : X → List Packet) (link : ℕ) (rows : List Record) (capture : List ℕ) where
   -- the packets of the pieces from number n on
   pub pieces-from : (n count : ℕ) (pieces : List X) → length rows ≤ (n + count) * 4096
-      → AllZip (λ k (r : Result X E). IfOk r (λ piece. IsPiece link rows capture k (items piece)))
+      → AllZip (λ k (r : Result X E). IfOk r (λ piece.
+      AreDecided link (k * 4096 + 1) (slice_chunk rows 4096 k) capture (items piece)))
       (range_with_len n count) (map Ok pieces)
-      → (flat_map items pieces ≡ decisions_from link (n * 4096 + 1) (drop (n * 4096) rows) capture)
-      × AllStand (n * 4096 + 1) (drop (n * 4096) rows) (flat_map items pieces)
+      → AreDecided link (n * 4096 + 1) (drop (n * 4096) rows) capture (flat_map items pieces)
   pieces-from n zero [] l h =
-      let none : drop (n * 4096) rows ≡ [] = drop_all (n * 4096) rows (omega arith) in (
-        ap (λ rest. decisions_from link (n * 4096 + 1) rest capture) (sym none),
-        subst (λ rest. AllStand (n * 4096 + 1) rest []) (sym none) tt,
-      )
+      let none : drop (n * 4096) rows ≡ [] = drop_all (n * 4096) rows (omega arith) in
+      record {
+        exact = ap (λ rest. decisions_from link (n * 4096 + 1) rest capture) (sym none);
+        stand = subst (λ rest. AllStand (n * 4096 + 1) rest []) (sym none) tt;
+      }
   pieces-from n zero (piece ∷ pieces) l h = absurd h
   pieces-from n (suc count) [] l h = absurd h
   pieces-from n (suc count) (piece ∷ pieces) l h =
@@ -75,20 +77,24 @@ module _ {X : Type 0} (E : Type 0) (items : X → List Packet) (link : ℕ) (row
       let next : (n + 1) * 4096 ≡ start + 4096 = omega arith in
       let number : (n + 1) * 4096 + 1 ≡ start + 1 + 4096 = omega arith in
       let behind : drop ((n + 1) * 4096) rows ≡ drop 4096 rest =
-      ap (λ k. drop k rows) next ∙ sym (drop-drop 4096 start rows) in (
-        ap (λ front. front ++ back) h.0.exact
+      ap (λ k. drop k rows) next ∙ sym (drop-drop 4096 start rows) in
+      record {
+        exact =
+            ap (λ front. front ++ back) h.0.exact
             ∙ ap (λ l. decisions_from link (start + 1) (take 4096 rest) capture ++ l)
-            (later.0 ∙ ap (λ i. decisions_from link i (drop ((n + 1) * 4096) rows) capture) number
+            (later.exact ∙ ap (λ i. decisions_from link i (drop ((n + 1) * 4096) rows) capture) number
             ∙ ap (λ l. decisions_from link (start + 1 + 4096) l capture) behind)
-            ∙ decisions-split link (start + 1) 4096 rest capture,
-        AllStand-joined (start + 1) 4096 rest (items piece) back h.0.stand
+            ∙ decisions-split link (start + 1) 4096 rest capture;
+        stand =
+            AllStand-joined (start + 1) 4096 rest (items piece) back h.0.stand
             (subst (λ l. AllStand (start + 1 + 4096) l back) behind
-            (subst (λ i. AllStand i (drop ((n + 1) * 4096) rows) back) number later.1)),
-      )
+            (subst (λ i. AllStand i (drop ((n + 1) * 4096) rows) back) number later.stand));
+      }
 
   -- the packets of all pieces
   pub pieces-all : (count : ℕ) (pieces : List X) → length rows ≤ count * 4096
-      → AllZip (λ k (r : Result X E). IfOk r (λ piece. IsPiece link rows capture k (items piece)))
+      → AllZip (λ k (r : Result X E). IfOk r (λ piece.
+      AreDecided link (k * 4096 + 1) (slice_chunk rows 4096 k) capture (items piece)))
       (range_with_len 0 count) (map Ok pieces)
-      → (flat_map items pieces ≡ packet_decisions link rows capture) × AllStand 1 rows (flat_map items pieces)
+      → AreDecided link 1 rows capture (flat_map items pieces)
   pieces-all count pieces l h = pieces-from 0 count pieces (omega arith) h

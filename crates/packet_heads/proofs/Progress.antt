@@ -5,7 +5,7 @@ use Rattle.std.proofs.lemmas.List.{drop_more}
 use Rattle.pcap_records.specs.declared.capture.Record.{Record}
 use Rattle.packet_heads.specs.declared.packets.Packet.{Packet}
 use Rattle.packet_heads.specs.Decision.{packet_decision, decisions_from}
-use Rattle.packet_heads.specs.code.Standing.{StandsIn, AllStand}
+use Rattle.packet_heads.specs.code.Standing.{StandsIn, AllStand, AreDecided}
 
 -- the packets of the rows before this index, and the rows from it on, where the first row has this number
 pub record Progress (link first : ℕ) (rows : List Record) (capture : List ℕ) (index : ℕ) (packets : List Packet) : Type 0 where
@@ -45,13 +45,15 @@ one_more link first rows capture index packets d p so_far below e h =
 
 -- at the end nothing is left
 pub all_done : (link first : ℕ) (rows : List Record) (capture : List ℕ) (packets : List Packet)
-    → Progress link first rows capture (length rows) packets
-    → (packets ≡ decisions_from link first rows capture) × AllStand first rows packets
+    → Progress link first rows capture (length rows) packets → AreDecided link first rows capture packets
 all_done link first rows capture packets done =
-    let none_left = drop-length rows in (
-      sym (append-nil packets)
+    let none_left = drop-length rows in
+    record {
+      exact =
+          sym (append-nil packets)
           ∙ ap (λ rest. packets ++ decisions_from link (first + length rows) rest capture) (sym none_left)
-          ∙ done.exact,
-      subst (λ all. AllStand first rows all) (append-nil packets)
-          (done.stand [] (subst (λ rest. AllStand (first + length rows) rest []) (sym none_left) tt)),
-    )
+          ∙ done.exact;
+      stand =
+          subst (λ all. AllStand first rows all) (append-nil packets)
+          (done.stand [] (subst (λ rest. AllStand (first + length rows) rest []) (sym none_left) tt));
+    }

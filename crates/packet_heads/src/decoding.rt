@@ -4,13 +4,11 @@ ghost use Rattle.std.specs.Prelude.{◌≡◌, ◌+◌, ◌*◌, ◌^◌, ◌<�
 ghost use Rattle.std.specs.Fork.{slice_chunk};
 ghost use Rattle.pcap_records.specs.LinkType.{is_read};
 ghost use Rattle.pcap_records.specs.Place.{AreWithin, AreTimely};
-ghost use Rattle.packet_heads.specs.Decision.{packet_decision, packet_decisions, decisions_from};
-ghost use Rattle.packet_heads.specs.Decision.{segment_of, is_partial};
+ghost use Rattle.packet_heads.specs.Decision.{packet_decision, packet_decisions, segment_of, is_partial};
 ghost use Rattle.packet_heads.specs.Ipv4 as ipv4_words;
 ghost use Rattle.packet_heads.specs.Order.{AreNumberedFrom, PayloadsRise, TimesFit};
 ghost use Rattle.packet_heads.specs.Tcp as tcp_words;
-ghost use Rattle.packet_heads.specs.code.Pieces.{EndsWithin, IsPiece};
-ghost use Rattle.packet_heads.specs.code.Standing.{StandsIn, AllStand};
+ghost use Rattle.packet_heads.specs.code.Standing.{StandsIn, AreDecided, EndsWithin};
 
 use crate::packets::{Endpoint, Packet, Segment};
 use crate::{ipv4, link, tcp};
@@ -91,8 +89,7 @@ fn decode_from(
     requires linked { IsTrue (is_read link) }
     requires few { first + length rows.now < 2 ^ 32 }
     requires inside { All (EndsWithin (length capture.now)) rows.now }
-    ensures exact { IfOk result (λ packets. packets.items ≡ decisions_from link first rows.now capture.now) }
-    ensures stand { IfOk result (λ packets. AllStand first rows.now packets.items) }
+    ensures { IfOk result (λ packets. AreDecided link first rows.now capture.now packets.items) }
 {
     let mut packets = Vec::with_capacity(alloc, rows.len())?;
     for (index, row) in rows.iter().enumerate() {
@@ -121,7 +118,8 @@ fn decode_piece(
     requires linked { IsTrue (is_read link) }
     requires within { AreWithin (length capture.now) rows.now }
     requires piece { n * 4096 < length rows.now }
-    ensures { IfOk result (λ packets. IsPiece link rows.now capture.now n packets.items) }
+    ensures { IfOk result
+        (λ packets. AreDecided link (n * 4096 + 1) (slice_chunk rows.now 4096 n) capture.now packets.items) }
 {
     decode_from(alloc, link, (n * PIECE) as u32 + 1, piece(rows, n), capture)
 }
@@ -147,8 +145,7 @@ fn decode_pieces(
 ) -> Result<Vec<Packet>, AllocError>
     requires linked { IsTrue (is_read link) }
     requires within { AreWithin (length capture.now) rows.now }
-    ensures exact { IfOk result (λ packets. packets.items ≡ packet_decisions link rows.now capture.now) }
-    ensures stand { IfOk result (λ packets. AllStand 1 rows.now packets.items) }
+    ensures { IfOk result (λ packets. AreDecided link 1 rows.now capture.now packets.items) }
 {
     let pieces = (0..rows.len().div_ceil(PIECE))
         .into_par_iter()
@@ -156,7 +153,8 @@ fn decode_pieces(
             |n: usize| -> Result<Vec<Packet>, AllocError>
                 requires { IsTrue (is_read link) × AreWithin (length capture.now) rows.now
                     × (n * 4096 < length rows.now) }
-                ensures { IfOk result (λ packets. IsPiece link rows.entry.now capture.entry.now n packets.items) }
+                ensures { let piece = slice_chunk rows.entry.now 4096 n in
+                    IfOk result (λ packets. AreDecided link (n * 4096 + 1) piece capture.entry.now packets.items) }
             { decode_piece(alloc, link, rows, capture, n) },
         )
         .with_min_len(1)
@@ -174,8 +172,7 @@ fn decode_rows(
 ) -> Result<Vec<Packet>, AllocError>
     requires linked { IsTrue (is_read link) }
     requires within { AreWithin (length capture.now) rows.now }
-    ensures exact { IfOk result (λ packets. packets.items ≡ packet_decisions link rows.now capture.now) }
-    ensures stand { IfOk result (λ packets. AllStand 1 rows.now packets.items) }
+    ensures { IfOk result (λ packets. AreDecided link 1 rows.now capture.now packets.items) }
 {
     if rows.len() <= PIECE {
         return decode_from(alloc, link, 1, rows, capture);

@@ -1,6 +1,6 @@
 use Rattle.std.proofs.Common.{◌*◌, All, length, drop, sym, ap, subst, arith}
 use Rattle.std.proofs.lemmas.List.Elements.{All-take, All-drop}
-use Rattle.packet_heads.specs.code.Pieces.{EndsWithin}
+use Rattle.packet_heads.specs.code.Standing.{EndsWithin}
 use Rattle.packet_heads.proofs.Pieces.{ends-within, piece-few}
 use Rattle.packet_heads.proofs.decoding.decode_piece.Goals as goal
 

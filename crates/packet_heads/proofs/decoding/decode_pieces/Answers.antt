@@ -6,7 +6,7 @@ use Rattle.rayon.proofs.ListFacts.{IfOk-then}
 use Rattle.rayon.proofs.ToStd.{nat_range-All}
 use Rattle.pcap_records.specs.LinkType.{is_read}
 use Rattle.pcap_records.specs.Place.{AreWithin}
-use Rattle.packet_heads.specs.code.Standing.{AllStand}
+use Rattle.packet_heads.specs.code.Standing.{AreDecided}
 use Rattle.packet_heads.proofs.Pieces.{pieces-reach, pieces-all}
 use Rattle.packet_heads.proofs.decoding.decode_pieces.Goals as goal
 
@@ -22,8 +22,8 @@ collect-requires-clause-ready g c κs within =
     rw (c.with_min_len.ensures.base, c.map.ensures.base, c.map.ensures.f, ends.0, ends.1)
     (λ k d lt. (inside k d lt, λ y p. tt))
 
-pub returns-clause-exact : goal.returns-clause-exact
-returns-clause-exact g c =
+pub returns : goal.returns
+returns g c =
     let ends = c.into_par_iter.ensures in
     let rows = c.args.rows.now in
     let n = c.div_ceil.result in
@@ -35,22 +35,6 @@ returns-clause-exact g c =
     let zipped = rw (places, got.1) at chain.2 in
     let reach = pieces-reach n (length rows) c.div_ceil.ensures in
     IfOk-then c.joined.result _ _ c.joined.ensures (λ v joined.
-    joined ∙ ap (flat_map (λ piece. piece.items)) got.2
-    ∙ (pieces-all _ (λ piece. piece.items) c.args.link rows c.args.capture.now n got.0 reach.0 zipped).0)
-
-pub returns-clause-stand : goal.returns-clause-stand
-returns-clause-stand g c =
-    let ends = c.into_par_iter.ensures in
-    let rows = c.args.rows.now in
-    let n = c.div_ceil.result in
-    let whole : n - 0 ≡ n = omega arith in
-    let h = c.in_ok-collect.ensures in
-    let chain = rw (c.with_min_len.ensures.base, c.map.ensures.base, c.map.ensures.f) at h.1 in
-    let got = rw c.in_ok-pieces.was at h.2 in
-    let places = chain.1 ∙ (λ i. nat_range (ends.0 i) (ends.1 i)) ∙ ap (range_with_len 0) whole in
-    let zipped = rw (places, got.1) at chain.2 in
-    let reach = pieces-reach n (length rows) c.div_ceil.ensures in
-    IfOk-then c.joined.result _ _ c.joined.ensures (λ v joined.
-    subst (AllStand 1 rows)
+    subst (AreDecided c.args.link 1 rows c.args.capture.now)
     (sym (joined ∙ ap (flat_map (λ piece. piece.items)) got.2))
-    (pieces-all _ (λ piece. piece.items) c.args.link rows c.args.capture.now n got.0 reach.0 zipped).1)
+    (pieces-all _ (λ piece. piece.items) c.args.link rows c.args.capture.now n got.0 reach.0 zipped))
