@@ -1,5 +1,6 @@
 mod Bits
 mod Headers
+mod Pieces
 mod Placing
 mod Progress
 mod Rows

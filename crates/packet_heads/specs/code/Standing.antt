@@ -3,6 +3,7 @@ use Rattle.std.specs.Prelude.{◌≡◌, ℕ, ◌+◌, ◌≤◌, List, [], ◌�
 use Rattle.pcap_records.specs.declared.capture.Record.{Record}
 use Rattle.packet_heads.specs.declared.packets.Packet.{Packet}
 use Rattle.packet_heads.specs.declared.packets.Packet.TheVariants.{Segment}
+use Rattle.packet_heads.specs.Decision.{decisions_from}
 
 -- a segment has the number and the time of its record, and its payload lies in the captured bytes
 abbrev pub StandsIn : ℕ → Record → Packet → Type 0
@@ -15,6 +16,15 @@ abbrev pub AllStand : ℕ → List Record → List Packet → Type 0
 AllStand number [] [] = Unit {0}
 AllStand number (row ∷ rows) (p ∷ packets) = StandsIn number row p × AllStand (number + 1) rows packets
 AllStand number _ _ = ⊥
+
+-- these are the decisions on these records, of which the first has this number, and each stands in its record
+pub record AreDecided (link number : ℕ) (rows : List Record) (capture : List ℕ) (packets : List Packet) : Type 0 where
+  pub exact : packets ≡ decisions_from link number rows capture
+  pub stand : AllStand number rows packets
+
+-- the captured bytes of a record end within a capture of this size
+abbrev pub EndsWithin : ℕ → Record → Type 0
+EndsWithin size row = row.start + row.length ≤ size
 
 -- skipped or refused
 abbrev pub IsPassedOver : Packet → Type 0
