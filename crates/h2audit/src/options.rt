@@ -3,8 +3,8 @@ ghost use Rattle.h2audit.specs.Options.{AreInRange};
 
 /// How a capture is audited and what its report shows.
 ///
-/// The workers, groups and block length divide the work and never change the report. They are asked for and kept, and
-/// one thread does the work whatever they are.
+/// The workers, groups and block length are to divide the work, and never change the report. They are asked for and kept,
+/// and have no effect so far.
 #[derive(Clone, Copy, Debug, PartialEq, Eq)]
 pub struct Options {
     workers: u32,

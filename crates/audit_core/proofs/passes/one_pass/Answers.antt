@@ -96,10 +96,10 @@ loop-frame-preserved c =
     let initial = c.initial-initial.ensures ∙ ap (λ (f : InForce). f.initial) old.in_force in
     let change = c.in_ok-change.ensures.change ∙ ap (λ (f : InForce). change_of f frame) old.in_force in
     let opens = c.opens-opens.ensures ∙ ap (list_any (row_opens frame)) old.table
-        ∙ opens-frame old.state c.args.frames.now c.loop-frame.frame-index _ c.loop-frame-test.true in
+    ∙ opens-frame old.state c.args.frames.now c.loop-frame.frame-index _ c.loop-frame-test.true in
     let met : Item = record { frame = frame; opens = c.opens-opens.result; change = c.in_ok-change.change } in
     let item : met ≡ item_of old.state frame = same_item old.state frame names c.initial-initial.result c.in_ok-change.change rows initial change old.table
-        c.opens-opens.result opens in
+    c.opens-opens.result opens in
     record {
       state = next old.state frame;
       previous = c.previous_after-previous.ensures
