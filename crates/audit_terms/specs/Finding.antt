@@ -1,12 +1,12 @@
 -- What an audit says of a frame, in which order, and where it stops.
-use Rattle.std.specs.Prelude.{ℕ, ℤ, Bool, List, [], ◌∷◌, if◌then◌else◌, Option, Some, None}
+use Rattle.std.specs.Prelude.{ℕ, ℤ, Bool, ◌||◌, not, List, [], ◌∷◌, filter, if◌then◌else◌, Option, Some, None}
 use Rattle.std.specs.declared.cmp.Ordering.{Ordering}
 use Rattle.std.specs.Ordering.{nat_cmp, int_cmp, then_cmp, on, is_gt}
 use Rattle.audit_terms.specs.declared.sides.Side.{Side}
 use Rattle.audit_terms.specs.declared.kinds.Kind.{Kind}
 use Rattle.audit_terms.specs.declared.findings.Finding.{Finding}
 use Rattle.audit_terms.specs.Side.{side_order}
-use Rattle.audit_terms.specs.Kind.{rank_of, is_connection_error}
+use Rattle.audit_terms.specs.Kind.{rank_of, is_connection_error, is_credit}
 use Rattle.audit_terms.specs.Place.{place_of}
 use Rattle.audit_terms.specs.Order.{ordered_by}
 
@@ -52,3 +52,11 @@ in_order = ordered_by comes_after
 abbrev pub upto_stop : List Finding → List Finding
 upto_stop [] = []
 upto_stop (x ∷ xs) = if stops x then x ∷ [] else x ∷ upto_stop xs
+
+-- is it shown, where credits are shown or are not?
+abbrev pub is_shown : (credits_shown : Bool) → Finding → Bool
+is_shown credits_shown found = credits_shown || not (is_credit found.kind)
+
+-- the findings that are shown
+abbrev pub shown : (credits_shown : Bool) → List Finding → List Finding
+shown credits_shown found = filter (is_shown credits_shown) found

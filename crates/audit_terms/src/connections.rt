@@ -54,8 +54,7 @@ impl ConnectionState {
 
     /// What a frame does to the connection window of a side.
     fn count(&self, side: Side, frame: &Frame) -> Count
-        requires client { HasRoom (2 ^ 60) self.now.credit.client }
-        requires server { HasRoom (2 ^ 60) self.now.credit.server }
+        requires { HasRoom (2 ^ 60) (side_of side self.now.credit) }
         ensures before { result.before ≡ side_of side self.now.credit }
         ensures after { result.after ≡ credit_after side (side_of side self.now.credit) frame.now }
         ensures content { result.content ≡ content_by side frame.now }
@@ -63,10 +62,7 @@ impl ConnectionState {
     {
         let content = frame.content_by(side);
         let granted = frame.grant_to(side, 0);
-        let before = match side {
-            Side::Client => self.credit.client,
-            Side::Server => self.credit.server,
-        };
+        let before = self.credit.of(side);
         Count {
             before,
             after: before + i64::from(granted) - i64::from(content),
@@ -82,8 +78,7 @@ impl ConnectionState {
         frame: &Frame,
     ) -> Result<(), AllocError>
         requires frame { IsInRange frame.now }
-        requires client { HasRoom (2 ^ 60) self.now.credit.client }
-        requires server { HasRoom (2 ^ 60) self.now.credit.server }
+        requires room { HasRoom (2 ^ 60) (side_of side self.now.credit) }
         ensures { OnOk result (found.new.items ≡ found.old.items
             ++ connection_window_said side (side_of side self.now.credit) frame.now) }
     {

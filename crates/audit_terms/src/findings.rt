@@ -17,7 +17,7 @@ pub struct Finding {
 }
 
 impl Finding {
-    ghost use Rattle.audit_terms.specs.Finding.{finding_at, stops, finding_cmp};
+    ghost use Rattle.audit_terms.specs.Finding.{finding_at, stops, finding_cmp, is_shown};
 
     /// The finding of a kind at a frame's number and a stream, of a side.
     pub fn at(kind: Kind, number: u32, stream: u32, side: Side, value: u32) -> Self
@@ -40,6 +40,13 @@ impl Finding {
         self.kind.is_connection_error()
     }
 
+    /// Is it shown, where credits are shown or are not?
+    pub fn is_shown(&self, credits_shown: bool) -> bool
+        ensures { result ≡ is_shown credits_shown self.now }
+    {
+        credits_shown || !self.kind.is_credit()
+    }
+
     /// The order of findings: by place, then the client before the server, then by kind and value.
     pub fn compare(&self, other: &Self) -> Ordering
         ensures { result ≡ finding_cmp self.now other.now }
@@ -53,7 +60,7 @@ impl Finding {
     }
 }
 
-ghost use Rattle.audit_terms.specs.Finding.{say, stops, in_order, upto_stop};
+ghost use Rattle.audit_terms.specs.Finding.{say, stops, in_order, upto_stop, is_shown, shown};
 ghost use Rattle.std.specs.Prelude.{position};
 
 /// Adds a finding where a test holds.
@@ -90,4 +97,15 @@ pub fn cut_at_stop(found: &mut Vec<Finding>)
     if let Some(last) = first_stop(found) {
         found.truncate(last + 1);
     }
+}
+
+/// Drops the credits, unless they are shown.
+pub fn keep_shown(found: &mut Vec<Finding>, credits_shown: bool)
+    ensures { found.new.items ≡ shown credits_shown found.old.items }
+{
+    found.retain(
+        |one| -> bool
+            ensures { result ≡ is_shown credits_shown one.now }
+        { one.is_shown(credits_shown) },
+    );
 }

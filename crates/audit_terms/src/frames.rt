@@ -133,26 +133,26 @@ impl Body {
     }
 }
 
-/// A frame of one connection, in capture order.
+/// A frame of one connection, in capture order. The single bytes stand last, so that it takes 64 bytes.
 #[derive(Clone, Copy, Debug, PartialEq, Eq)]
 pub struct Frame {
     /// Its number in the connection, from 1.
     pub number: u32,
-    /// Who sent it.
-    pub side: Side,
     /// The record at which its last byte arrived.
     pub rec: u32,
-    /// When that record was captured, in nanoseconds.
-    pub nanos: u64,
-    /// The type byte (RFC 9113, 4.1).
-    pub code: u8,
-    /// The flags byte.
-    pub flags: u8,
     /// The stream identifier, 31 bits; 0 is the connection.
     pub stream: u32,
     /// The length of the payload in bytes, 24 bits.
     pub length: u32,
+    /// When its record was captured, in nanoseconds.
+    pub nanos: u64,
     pub body: Body,
+    /// Who sent it.
+    pub side: Side,
+    /// The type byte (RFC 9113, 4.1).
+    pub code: u8,
+    /// The flags byte.
+    pub flags: u8,
 }
 
 impl Frame {
