@@ -9,7 +9,7 @@ use crate::sides::Side;
 pub const LARGEST_WINDOW: u32 = 0x7fff_ffff;
 
 /// What one step does to the credit of one window (RFC 9113, 6.9 and 6.9.1).
-#[derive(Clone, Copy, Debug, PartialEq, Eq)]
+#[derive(Clone, Copy)]
 pub struct Count {
     /// The credit in bytes before the step.
     pub before: i64,

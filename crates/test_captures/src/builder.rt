@@ -12,7 +12,7 @@ const SERVER_ISN: u32 = 5000;
 ///
 /// The sides are those of one connection, from [`CLIENT`] to [`SERVER`], and each keeps the sequence
 /// number of its next byte. An `Err` leaves a capture that may end within a record.
-#[derive(Debug, Drop)]
+#[derive(Drop)]
 pub struct Capture {
     alloc: Global,
     file: FileHeader,

@@ -5,7 +5,7 @@ use crate::bytes::push_bytes;
 use std::alloc::AllocError;
 
 /// The four magics of the classic pcap format.
-#[derive(Clone, Copy, Debug, PartialEq, Eq)]
+#[derive(Clone, Copy)]
 pub enum Magic {
     /// `d4c3b2a1`.
     LittleMicroseconds,
@@ -18,7 +18,7 @@ pub enum Magic {
 }
 
 /// The numbers of a file header that tests vary.
-#[derive(Clone, Copy, Debug, PartialEq, Eq)]
+#[derive(Clone, Copy)]
 pub struct FileHeader {
     pub magic: Magic,
     pub major: u16,

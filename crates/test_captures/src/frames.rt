@@ -15,7 +15,7 @@ pub const PADDED: u8 = 8;
 pub const PRIORITY: u8 = 0x20;
 
 /// The payload of a frame.
-#[derive(Clone, Copy, Debug, PartialEq, Eq)]
+#[derive(Clone, Copy)]
 pub enum Payload<'a> {
     /// This many zero bytes.
     Zeros(u32),
@@ -30,7 +30,7 @@ pub enum Payload<'a> {
 }
 
 /// A frame of HTTP/2 (RFC 9113, 4.1), its length being that of its payload.
-#[derive(Clone, Copy, Debug, PartialEq, Eq)]
+#[derive(Clone, Copy)]
 pub struct Frame<'a> {
     pub code: u8,
     pub flags: u8,

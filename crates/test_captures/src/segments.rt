@@ -5,7 +5,7 @@ use crate::bytes::push_bytes;
 use std::alloc::AllocError;
 
 /// An IPv4 address and a port.
-#[derive(Clone, Copy, Debug, PartialEq, Eq)]
+#[derive(Clone, Copy)]
 pub struct Endpoint {
     pub address: u32,
     pub port: u16,
@@ -31,7 +31,7 @@ pub const SYN_ACK: u8 = 0x12;
 pub const PLAIN: u8 = 0x10;
 
 /// A TCP segment without options.
-#[derive(Clone, Copy, Debug, PartialEq, Eq)]
+#[derive(Clone, Copy)]
 pub struct Segment<'a> {
     pub from: Endpoint,
     pub to: Endpoint,

@@ -4,13 +4,17 @@
 //! hand, from the description of the report and from the rules of the audit; none was taken from the program. Each is
 //! asked for in three mixes of workers, groups and block lengths, with credit lines and without them.
 //!
+//! The captures of `examples/` at the root are audited in the same way, against the reports beside them.
+//!
 //! The form of a row stands in `rows`, that of a script in `script`.
 #![tactic(auto)]
 
+mod examples;
 mod judge;
 mod rows;
 mod script;
 
+use examples::print_examples;
 use rows::print_answers;
 use std::io;
 
@@ -30,5 +34,5 @@ fn main(rt: HostRuntime) -> io::Result<()> {
     for file in FILES {
         print_answers(&rt, file)?;
     }
-    Ok(())
+    print_examples(&rt)
 }

@@ -1,0 +1,3 @@
+//! Records and packets: each call that takes memory once, and printed text.
+
+mod captures;

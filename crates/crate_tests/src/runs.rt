@@ -1,0 +1,7 @@
+//! Whole runs: which calls a reader and a writer get, words and endings, and captures too long to be written out.
+
+mod endings;
+mod fakes;
+mod in_steps;
+mod long_captures;
+mod words;

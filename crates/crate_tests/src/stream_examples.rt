@@ -1,0 +1,35 @@
+//! Worked examples of connections and of offsets, which stand with their answers in `specs/Connections.antt` and
+//! `specs/Offsets.antt`. The functions do nothing; each contract is the example.
+
+ghost use Rattle.crate_tests.specs.Connections.{FirstSynAckOfTheServer, OneEndpoint, OpenedAfterStrays, OpenedTwice, PortsTellApart, RepeatedSyn, StraysOfTwoPairs, SynFromTheOtherEnd};
+ghost use Rattle.crate_tests.specs.Offsets.{BelowOffsetZero, FirstRecordWins, LastOffset, PayloadOfSyn, WrappedArrivals, WrappedSources};
+
+/// Which connection a segment belongs to (RFC 9293, 3.5 and 4).
+pub fn openings_and_members()
+    ensures ports_tell_apart { PortsTellApart }
+    ensures opened_twice { OpenedTwice }
+    ensures repeated_syn { RepeatedSyn }
+    ensures syn_from_the_other_end { SynFromTheOtherEnd }
+    ensures one_endpoint { OneEndpoint }
+{}
+
+/// The server's initial sequence number (RFC 9293, 3.4).
+pub fn server_numbers()
+    ensures { FirstSynAckOfTheServer }
+{}
+
+/// Segments before any opening of their pair.
+pub fn strays()
+    ensures strays_of_two_pairs { StraysOfTwoPairs }
+    ensures opened_after_strays { OpenedAfterStrays }
+{}
+
+/// The offsets of payload bytes, and which record brings them (RFC 9293, 3.4).
+pub fn offsets()
+    ensures wrapped_sources { WrappedSources }
+    ensures wrapped_arrivals { WrappedArrivals }
+    ensures first_record_wins { FirstRecordWins }
+    ensures payload_of_syn { PayloadOfSyn }
+    ensures below_offset_zero { BelowOffsetZero }
+    ensures last_offset { LastOffset }
+{}

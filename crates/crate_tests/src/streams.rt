@@ -1,0 +1,3 @@
+//! A connection's changes, and what one of its streams shows.
+
+mod calls;
