@@ -1,4 +1,7 @@
 pub mod FrameLookup
 pub mod Stalls
 pub mod StallExamples
+pub mod Board
+pub mod Machine
+pub mod RoundLaws
 pub mod code

@@ -3,6 +3,7 @@
 #![tactic(auto)]
 
 mod ends;
+pub mod laws;
 mod lookup;
 mod stalls;
 pub mod worked_examples;
