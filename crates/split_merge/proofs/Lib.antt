@@ -4,3 +4,4 @@ pub mod RoundMembers
 pub mod RoundSteps
 pub mod RoundParts
 pub mod RoundMerge
+pub mod RoundExamples

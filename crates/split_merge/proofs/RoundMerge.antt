@@ -224,11 +224,36 @@ module _ (round : Round) (board : Board) (settled : IsSettled round board) (conn
         omega arith,
   )
 
+  -- what is kept is found
+  found_kept : (place : ℕ) → StopsAt (earlier ++ kept) place → StopsAt (earlier ++ whole) place
+  found_kept place h = by_case (stops-cases earlier kept place h) where
+    by_case : StopsAt earlier place ⊎ StopsAt kept place → StopsAt (earlier ++ whole) place
+    by_case (inl k) = stops-left earlier whole place k
+    by_case (inr k) =
+        stops-right earlier whole place (
+          k.0,
+          in_order-contains whole k.0 (subst (λ xs. Contains xs k.0) parts.together
+              (contains-in_order (kept ++ parts.left_out) k.0 (Contains-append_left kept parts.left_out k.0 k.1))),
+          k.2,
+          k.3,
+        )
+
+  -- and of what was kept
+  kept_least : (stop : Option ℕ) → IsLeast (StopsAt (earlier ++ whole)) stop → IsLeast (StopsAt (earlier ++ kept)) stop
+  kept_least None h = λ place k. h place (found_kept place k)
+  kept_least (Some least) h = (
+    (let r = before least h.0 in
+        let l = h.1 r.0 (found_kept r.0 r.2) in
+        let m = r.1 in
+        let same : r.0 ≡ least = omega arith in
+        subst (StopsAt (earlier ++ kept)) same r.2),
+    λ place k. h.1 place (found_kept place k),
+  )
+
   merges : Merges round board connection earlier
-  merges = record {
-    findings = merged;
-    stop = stop_least (stop_of board.stops connection) (settled.stops_least connection);
-  }
+  merges =
+      let least = stop_least (stop_of board.stops connection) (settled.stops_least connection) in
+      record { findings = merged; stop = least; kept_stop = kept_least (stop_of board.stops connection) least }
 
 pub board_merges_lem : BoardMerges
 board_merges_lem round board settled connection earlier opening = merges round board settled connection earlier opening

@@ -4,4 +4,5 @@ pub mod StallExamples
 pub mod Board
 pub mod Machine
 pub mod RoundLaws
+pub mod RoundExamples
 pub mod code

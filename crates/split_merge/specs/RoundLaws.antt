@@ -16,11 +16,13 @@ RunSettles = (round : Round) → HasConnections round → (events : List Event) 
     IsSettled round (board_of (after_events (round_start round) events))
 
 -- for a connection whose earlier findings have the opening stop as their least error: its parts give, up to the stop,
--- the same findings as its whole jobs, and the board's stop is the least error of all
+-- the same findings as its whole jobs; the board's stop is the least error of all, and of what the parts keep
 pub record Merges (round : Round) (board : Board) (connection : ℕ) (earlier : List Finding) : Type 0 where
   pub findings : upto_stop (in_order (earlier ++ findings_of_parts connection board.parts))
       ≡ upto_stop (in_order (earlier ++ findings_of_jobs connection round.jobs))
   pub stop : IsLeast (StopsAt (earlier ++ findings_of_jobs connection round.jobs)) (stop_of board.stops connection)
+  pub kept_stop :
+      IsLeast (StopsAt (earlier ++ findings_of_parts connection board.parts)) (stop_of board.stops connection)
 
 -- so it is for every settled board
 abbrev pub BoardMerges : Type 0
