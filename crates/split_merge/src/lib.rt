@@ -3,9 +3,11 @@
 #![tactic(auto)]
 
 mod ends;
+pub mod laws;
 mod lookup;
 mod stalls;
 pub mod worked_examples;
+pub mod worked_rounds;
 
 pub use lookup::frame_at;
 pub use stalls::{Stall, stall_pairs};
