@@ -5,3 +5,10 @@ pub mod RoundSteps
 pub mod RoundParts
 pub mod RoundMerge
 pub mod RoundExamples
+pub mod NamedStreams
+pub mod Visited
+pub mod Positions
+pub mod LaidOut
+pub mod SplitIs
+pub mod GroupRanges
+pub mod ShownMerge

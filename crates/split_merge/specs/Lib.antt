@@ -1,8 +1,11 @@
 pub mod FrameLookup
+pub mod Groups
 pub mod Stalls
 pub mod StallExamples
 pub mod Board
 pub mod Machine
 pub mod RoundLaws
 pub mod RoundExamples
+pub mod SplitExamples
 pub mod code
+pub mod Split
