@@ -1,15 +1,16 @@
 -- Worked examples: what one stream shows of its frames and the connection's changes (RFC 9113, 5.1, 6.6, 6.9).
-use Rattle.std.specs.Prelude.{◌≡◌, ℕ, pos, ◌-ℤ◌, List, [], ◌∷◌, Some, None}
+use Rattle.std.specs.Prelude.{◌≡◌, ℕ, pos, ◌-ℤ◌, List, [], ◌∷◌, false, Some, None}
 use Rattle.audit_terms.specs.declared.sides.Side.{Side}
 use Rattle.audit_terms.specs.declared.sides.Side.TheVariants.{Client, Server}
-use Rattle.audit_terms.specs.declared.kinds.Kind.TheVariants.{SettingOverflow, AfterEnd, StreamOverrun, StreamOverflow, StreamStallEnd, StreamStallBegin, StreamCredit}
+use Rattle.audit_terms.specs.declared.kinds.Kind.TheVariants.{NotOpened, SettingOverflow, AfterEnd, StreamOverrun, StreamOverflow, StreamStallEnd, StreamStallBegin, StreamCredit}
 use Rattle.audit_terms.specs.declared.frames.Body.TheVariants.{WindowUpdate}
 use Rattle.audit_terms.specs.declared.frames.Frame.{Frame}
 use Rattle.audit_terms.specs.declared.items.Change.{Change}
 use Rattle.audit_terms.specs.declared.findings.Finding.{Finding}
 use Rattle.audit_terms.specs.FrameType.{window_update_type}
-use Rattle.audit_terms.specs.Finding.{finding_at}
+use Rattle.audit_terms.specs.Finding.{finding_at, shown}
 use Rattle.audit_terms.specs.Run.{frames_of, stream_run}
+use Rattle.stream_credit.specs.Part.{frames_at}
 use Rattle.stream_life.specs.Script.{scripted, data_frame, headers_frame, reset_frame, promise_frame}
 
 -- DATA of a length, and WINDOW_UPDATE of the server
@@ -42,6 +43,14 @@ NegativeWindow =
     ∷ finding_at StreamCredit 9 1 Client (pos 0)
     ∷ finding_at StreamStallEnd 10 1 Client (pos 1) ∷ finding_at StreamCredit 10 1 Client (pos 1) ∷ [])
 
+-- the same, where credits are not shown
+abbrev pub NegativeWindowUnshown : Type 0
+NegativeWindowUnshown =
+    shown false (stream_run 1 (
+    headers_frame 5 Client 1 ∷ sized_data 6 Client 1 100 ∷ update_frame 9 1 100 ∷ update_frame 10 1 1 ∷ [])
+    (brings 8 Client 0 ∷ []))
+    ≡ finding_at StreamStallBegin 8 1 Client (pos 0 -ℤ pos 100) ∷ finding_at StreamStallEnd 10 1 Client (pos 1) ∷ []
+
 -- a change reaches the stream that is open and the one that opens later, on its own side alone (6.9.2)
 abbrev pub SettingsReachEachStream : Type 0
 SettingsReachEachStream =
@@ -50,6 +59,19 @@ SettingsReachEachStream =
     × (stream_run 3 (headers_frame 9 Client 3 ∷ []) (brings 8 Client 10 ∷ []) ≡ opened_with 9 3 10 65535 [])
     × (stream_run 2 (promise_frame 9 Server 1 2 ∷ []) (brings 8 Server 10 ∷ [])
     ≡ finding_at StreamCredit 9 2 Server (pos 10) ∷ [])
+
+-- changes before the opening count by the last on each side, those after both windows are gone not at all, and a stream that
+-- is never opened has no window for any (6.9.2)
+abbrev pub many_changes : List Change
+many_changes =
+    brings 3 Client 5 ∷ brings 4 Server 6 ∷ brings 6 Client 7 ∷ brings 10 Server 8 ∷ brings 13 Client 9 ∷ brings 15 Server 3 ∷ []
+
+abbrev pub ChangesPassedOver : Type 0
+ChangesPassedOver =
+    (stream_run 1 (headers_frame 9 Client 1 ∷ reset_frame 12 Server 1 ∷ sized_data 14 Server 1 4 ∷ []) many_changes
+    ≡ opened_with 9 1 7 6 (finding_at StreamCredit 10 1 Server (pos 8) ∷ finding_at AfterEnd 14 1 Server (pos 0) ∷ []))
+    × (stream_run 3 (update_frame 9 3 4 ∷ []) many_changes
+    ≡ finding_at NotOpened 9 3 Server (pos window_update_type) ∷ [])
 
 -- a window that opens at 0 stalls at its opening, and empty DATA overruns nothing (6.9.1)
 abbrev pub OpensAtZero : Type 0
@@ -99,3 +121,7 @@ PromisedStall =
     ∷ finding_at StreamStallBegin 11 2 Server (pos 0) ∷ finding_at StreamCredit 11 2 Server (pos 0)
     ∷ finding_at AfterEnd 12 2 Client (pos 0) ∷ finding_at StreamStallEnd 13 2 Server (pos 0) ∷ [])
     × (stream_run 1 (frames_of 1 promised_script) [] ≡ opened_with 5 1 65535 65535 [])
+
+-- the frames at the positions of a promised stream
+abbrev pub PartOfPromised : Type 0
+PartOfPromised = frames_at promised_script (1 ∷ 2 ∷ 3 ∷ 4 ∷ 5 ∷ 6 ∷ 7 ∷ 8 ∷ []) ≡ frames_of 2 promised_script

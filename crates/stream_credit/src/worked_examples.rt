@@ -1,15 +1,17 @@
 //! Worked examples: what short scripts show of one stream, computed from the definitions by proof. The functions do
 //! nothing; each contract is the example.
-ghost use Rattle.stream_credit.specs.RunExamples.{NegativeWindow, SettingsReachEachStream, OpensAtZero, OverrunsAboveZero, OverflowingGrant, SettingOverflows, PromisedStall};
+ghost use Rattle.stream_credit.specs.RunExamples.{NegativeWindow, NegativeWindowUnshown, SettingsReachEachStream, ChangesPassedOver, OpensAtZero, OverrunsAboveZero, OverflowingGrant, SettingOverflows, PromisedStall, PartOfPromised};
 
-/// A lower initial window makes a credit negative (RFC 9113, 6.9.2).
+/// A lower initial window makes a credit negative (RFC 9113, 6.9.2), with its credits and without.
 pub fn negative_window()
-    ensures { NegativeWindow }
+    ensures shown { NegativeWindow }
+    ensures unshown { NegativeWindowUnshown }
 {}
 
-/// A change counts for streams that are open and for streams that open later (6.9.2).
+/// A change counts for streams that are open and for streams that open later, and for none that has no window (6.9.2).
 pub fn settings_reach_each_stream()
-    ensures { SettingsReachEachStream }
+    ensures each_stream { SettingsReachEachStream }
+    ensures passed_over { ChangesPassedOver }
 {}
 
 /// A window that opens at 0 (6.9.2).
@@ -28,7 +30,8 @@ pub fn above_the_largest()
     ensures setting_overflows { SettingOverflows }
 {}
 
-/// A promised stream, its stall and its reset (5.1, 6.6).
+/// A promised stream, its stall and its reset (5.1, 6.6), and where its frames stand.
 pub fn promised_stall()
-    ensures { PromisedStall }
+    ensures run { PromisedStall }
+    ensures part { PartOfPromised }
 {}
