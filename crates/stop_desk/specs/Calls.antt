@@ -22,7 +22,7 @@ abbrev pub IsAtMost : ℕ → Option ℕ → Type 0
 IsAtMost q None = ⊤
 IsAtMost q (Some p) = q ≤ p
 
--- a look at the stop of connection c: none only where no stop was known to the pass, or a place at most each that was known
+-- a look at the stop of connection c: none only where the pass knew of no stop, or a place at most each that it knew
 abbrev pub IsLook : (c : ℕ) → PassView → Option ℕ → PassView → Type 0
 IsLook c before None after =
     (after ≡ before) × (opening_stop before.desk c ≡ None)

@@ -4,7 +4,8 @@ use Rattle.atomic_table.specs.Seated.{TableId}
 use Rattle.stop_desk.specs.Counts.{marks}
 use Rattle.stop_desk.specs.Stop.{place_at}
 
--- Which desk it is: no two desks share one table. `opened` are the words that it was opened with: 0, and a stop for each connection.
+-- Which desk it is: no two desks share one table. `opened` are the words that it was opened with: 0, the first number
+-- to draw, and a stop for each connection.
 pub record DeskId : Type 0 where
   pub table : TableId
   pub opened : List ℕ
@@ -45,6 +46,10 @@ closed_of desk words drawn seen lowered =
 -- all numbers that may be drawn: each job once, and one more for each worker, which tells it that no job is left
 abbrev pub all_draws : DeskView → ℕ
 all_draws d = d.workers * (d.jobs + 1)
+
+-- the numbers that a pass drew and those that it may still draw, counted
+abbrev pub pass_draws : PassView → ℕ
+pass_draws v = length v.drawn + v.allowance
 
 -- the desk has a stop for connection c
 abbrev pub IsConnection : DeskId → ℕ → Type 0

@@ -4,7 +4,7 @@ use Rattle.stop_desk.specs.Counts.{times, once_below, marks}
 use Rattle.stop_desk.specs.Desk.{DeskId, ClosedView, IsConnection, opening_stop, final_stop}
 use Rattle.stop_desk.specs.Calls.{IsAtMost}
 
--- the stop is the least of the opening stop of connection c and of the places lowered for it; none where there is neither
+-- the stop is the least of the opening stop of connection c and of the places lowered for it, or none where there is none
 abbrev pub IsLeast : DeskId → (lowered : List (ℕ × ℕ)) → (c : ℕ) → (stop : Option ℕ) → Type 0
 IsLeast d lowered c None = (opening_stop d c ≡ None) × ((p : ℕ) → ¬ (0 < marks c p lowered))
 IsLeast d lowered c (Some q) =

@@ -1,6 +1,6 @@
-ghost use Rattle.std.specs.Prelude.{◌≡◌, ℕ, ◌+◌, ◌*◌, ◌<◌, [], ◌∷◌, Some, map, drop, length, slice_get, IfOk};
-ghost use Rattle.stop_desk.specs.Stop.{IsPlace, place_at, stop_word};
-ghost use Rattle.stop_desk.specs.Desk.{desk_of, pass_of, closed_of, all_draws};
+ghost use Rattle.std.specs.Prelude.{◌≡◌, ◌<◌, [], ◌∷◌, map, drop, All, IfOk};
+ghost use Rattle.stop_desk.specs.Stop.{IsStop, place_at, stop_word};
+ghost use Rattle.stop_desk.specs.Desk.{desk_of, pass_of, closed_of, all_draws, pass_draws};
 ghost use Rattle.stop_desk.specs.Settled.{Settled};
 
 use crate::closing::Closed;
@@ -50,7 +50,8 @@ fn opening_words(alloc: Global, stops: &[Option<Place>]) -> Result<Vec<u64>, All
 }
 
 impl Desk {
-    /// A desk for jobs numbered from 0, with a stop for each connection, and the one pass that may draw all its numbers.
+    /// A desk for jobs numbered from 0, with a stop for each connection, and the first pass, which has all draws: each
+    /// job once, and one more for each worker. `Err` only where memory runs out.
     pub fn make(
         alloc: Global,
         jobs: u32,
@@ -58,7 +59,7 @@ impl Desk {
         workers: u32,
     ) -> Result<(Desk, Pass), AllocError>
         requires workers { 0 < workers }
-        requires places { (c p : ℕ) → slice_get stops.now c ≡ Some (Some p) → IsPlace p }
+        requires places { All IsStop stops.now }
         ensures desk { IfOk result (λ r. r.0 ≡ desk_of r.0.id jobs workers) }
         ensures words { IfOk result (λ r. r.0.id.opened ≡ 0 ∷ map stop_word stops.now) }
         ensures stops { IfOk result (λ r. map place_at (drop 1 r.0.id.opened) ≡ stops.now) }
@@ -91,7 +92,7 @@ impl Desk {
     /// Closes the desk with the pass that all others were joined into.
     pub fn close(self, last: Pass) -> Closed
         requires desk { last.desk ≡ self.id }
-        requires all { length last.drawn + last.allowance ≡ all_draws self }
+        requires all { pass_draws last ≡ all_draws self }
         ensures lists { result ≡ closed_of self.id result.words last.drawn last.seen last.lowered }
         ensures settled { Settled result }
     {

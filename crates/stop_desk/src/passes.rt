@@ -1,6 +1,6 @@
 ghost use Rattle.std.specs.Prelude.{◌≡◌, ◌+◌, ◌-◌, ◌<◌, [], ◌∷◌, ◌++◌};
 ghost use Rattle.stop_desk.specs.Stop.{IsPlace};
-ghost use Rattle.stop_desk.specs.Desk.{pass_of, IsConnection};
+ghost use Rattle.stop_desk.specs.Desk.{pass_of, pass_draws, IsConnection};
 ghost use Rattle.stop_desk.specs.Calls.{IsClaim, IsLook};
 ghost use Rattle.stop_desk.specs.code.Plays.{kept_part, given_part};
 
@@ -87,6 +87,7 @@ impl Pass {
     pub fn claim(&mut self, desk: &Desk) -> Claim
         requires { self.old.desk ≡ desk.now.id }
         ensures desk { self.new.desk ≡ self.old.desk }
+        ensures count { pass_draws self.new ≡ pass_draws self.old }
         ensures drawn { IsClaim desk.now.jobs self.old result self.new }
     {
         if self.allowance == 0 {
