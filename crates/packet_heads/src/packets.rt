@@ -6,20 +6,22 @@ pub struct Endpoint {
 }
 
 /// A TCP segment of a capture. Its payload stands in the capture at `lo..hi`.
+///
+/// The fields stand by falling size, as they do in memory: so a [`Packet`] takes 64 bytes.
 #[derive(Clone, Copy, Debug, PartialEq, Eq)]
 pub struct Segment {
-    /// The number of its record, from 1.
-    pub rec: u32,
     /// When it was captured, in nanoseconds.
     pub nanos: u64,
+    pub lo: usize,
+    pub hi: usize,
     pub from: Endpoint,
     pub to: Endpoint,
+    /// The number of its record, from 1.
+    pub rec: u32,
     /// The sequence number (RFC 9293, 3.1).
     pub seq: u32,
     pub syn: bool,
     pub ack: bool,
-    pub lo: usize,
-    pub hi: usize,
     /// Were fewer bytes captured than the datagram holds?
     pub snapped: bool,
 }

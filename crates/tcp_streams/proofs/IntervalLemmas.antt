@@ -1,13 +1,13 @@
 -- On intervals: the parts between two offsets, and one list of intervals laid over another.
-use Rattle.std.proofs.Common.{◌≡◌, ℕ, zero, suc, ◌+◌, ◌-◌, ◌<◌, ◌≤◌, ◌^◌, min, max, Bool, true, false, ◌&&◌, List, [], ◌∷◌, ◌++◌, length, drop, take, get_or, Option, None, Some, ◌⊎◌, inl, inr, refl, sym, ap, subst, ◌∙◌, arith}
+use Rattle.std.proofs.Common.{◌≡◌, ℕ, zero, suc, ◌+◌, ◌-◌, ◌<◌, ◌≤◌, ◌^◌, min, max, Bool, true, false, ◌&&◌, List, [], ◌∷◌, ◌++◌, length, drop, take, get_or, Option, None, Some, ◌⊎◌, inl, inr, refl, sym, ap, subst, ◌∙◌, arith, true≢false}
 use Rattle.std.specs.Prelude.{if◌then◌else◌, nat_lt, nat_le, All}
 use Rattle.std.specs.Option.{option_or}
 use Rattle.std.proofs.lemmas.Bool.Decides.{leb_tells}
 use Rattle.std.proofs.lemmas.List.{take-append-drop}
-use Rattle.std.proofs.lemmas.List.Elements.{All-head}
+use Rattle.std.proofs.lemmas.List.Elements.{All-head, All-tail}
 use Rattle.std.proofs.lemmas.List.Sums.{sum_by-cons}
 use Rattle.tcp_streams.specs.declared.interval.Interval.{Interval}
-use Rattle.tcp_streams.specs.code.Interval.{HasPassed, IsInterval, IsSame, Spans, at, clipped, holds, overlay, part_of, size_of, source_in, width}
+use Rattle.tcp_streams.specs.code.Interval.{HasPassed, IsInterval, IsSame, Spans, at, clipped, holds, lie_apart, overlay, part_of, size_of, source_in, width}
 use Rattle.tcp_streams.specs.Sequence.{Source, end_of_offsets}
 
 pub lt_cases : (a b : ℕ) → ((nat_lt a b ≡ true) × (a < b)) ⊎ ((nat_lt a b ≡ false) × (b ≤ a))
@@ -274,11 +274,15 @@ size-overlay-left low (x ∷ kept) later h =
 pub size-overlay : (kept later : List Interval) → Spans 0 kept end_of_offsets → size_of (overlay kept later 0) ≤ size_of kept + size_of later
 size-overlay kept later h = omega (arith, size-overlay-left 0 kept later h, left_of-all later)
 
--- one piece or none lies in order
-pub Spans-few : (pieces : List Interval) → length pieces ≤ 1 → All IsInterval pieces → Spans 0 pieces (2 ^ 31)
-Spans-few [] le h = omega arith
-Spans-few (x ∷ []) le h = Spans-one x (All-head IsInterval x [] h)
-Spans-few (x ∷ y ∷ xs) le h = absurd (omega (arith, le))
+-- pieces that lie apart lie in order
+pub Spans-apart : (low : ℕ) (pieces : List Interval) → low ≤ 2 ^ 31 → lie_apart low pieces ≡ true → All IsInterval pieces → Spans low pieces (2 ^ 31)
+Spans-apart low [] le apart h = le
+Spans-apart low (x ∷ xs) le apart h =
+    let x_is : IsInterval x = All-head IsInterval x xs h in
+    elim (leb_tells low x.from) as (λ _. Spans low (x ∷ xs) (2 ^ 31)) [
+      | inl k ↦ (k.1, x_is, Spans-apart x.upto xs x_is.counts (sym (ap (λ t. t && lie_apart x.upto xs) k.0) ∙ apart) (All-tail IsInterval x xs h))
+      | inr k ↦ absurd (true≢false (sym apart ∙ ap (λ t. t && lie_apart x.upto xs) k.0))
+    ]
 
 -- two halves that bring the same as the halves of a list, one laid over the other, bring the same as the list
 pub halves-same : (kept later pieces : List Interval) (n : ℕ) → Spans 0 kept end_of_offsets → IsSame (at kept) (at (take n pieces)) → IsSame (at later) (at (drop n pieces))

@@ -9,17 +9,17 @@ use Rattle.std.proofs.lemmas.Option.{slice_get-map}
 use Rattle.std.proofs.lemmas.List.{map-append, length-map, length-append}
 use Rattle.std.proofs.lemmas.List.Elements.{filter-append}
 use Rattle.std.proofs.lemmas.List.Folds.{list_any-append, find-append}
-use Rattle.indexmap.specs.IndexMap.{get}
 use Rattle.packet_heads.specs.declared.packets.Segment.{Segment}
 use Rattle.tcp_streams.specs.declared.members.Connection.{Connection}
 use Rattle.tcp_streams.specs.declared.table.Table.{Table}
 use Rattle.tcp_streams.specs.declared.members.Stray.{Stray}
 use Rattle.tcp_streams.specs.declared.pair.Pair.{Pair}
-use Rattle.tcp_streams.specs.declared.table.Standing.{Standing}
-use Rattle.tcp_streams.specs.declared.table.Standing.TheVariants.{Unopened, Opened}
+use Rattle.tcp_streams.specs.declared.standings.Standing.{Standing}
+use Rattle.tcp_streams.specs.declared.standings.Standing.TheVariants.{Unopened, Opened}
 use Rattle.tcp_streams.specs.Pair.{is_of, is_pair, pair_of}
 use Rattle.tcp_streams.specs.Membership.{Membership, connection_of, first_strays, is_answer, is_opening, last_opening, members, membership, opening_at, openings, opens, stray_of, strays, with_if}
-use Rattle.tcp_streams.specs.code.Table.{Falls, IsOpened, IsShown, IsTableOf, IsUnknown, IsUnopened, SetsStanding, SetsStandingIn, Stands, opened_by, first_stray, counted, joined}
+use Rattle.tcp_streams.specs.code.Standings.{SetsStanding, SetsStandingIn, standing_of}
+use Rattle.tcp_streams.specs.code.Table.{Falls, IsOpened, IsShown, IsTableOf, IsUnknown, IsUnopened, Stands, opened_by, first_stray, counted, joined}
 use Rattle.tcp_streams.proofs.Lists.{list_any-at, map-agree, map-but, slice_get-last, slice_get-with_if}
 use Rattle.tcp_streams.proofs.Pairs.{is_endpoint-refl, is_pair-refl, is_pair-same, is_pair-sym}
 use Rattle.tcp_streams.proofs.Past.{first_strays-distinct, first_strays-stray, last_opening-kept, last_opening-new, last_opening-other, members-to_come, opening_at-kept, opening_at-opens, openings-below, openings-distinct}
@@ -293,17 +293,17 @@ module _ (past : List Segment) (s : Segment) where
 -- the same of the table as it stands in memory
 module _ (past : List Segment) (s : Segment) (old new : Table) (shown : IsTableOf past old) where
   pub table-opens : map membership new.opened.items ≡ map membership old.opened.items ++ opened_by s ∷ [] → new.strays.items ≡ old.strays.items
-      → SetsStanding (pair_of s) (Opened (length old.opened.items)) old new → opens s past ≡ true → Falls s.rec past → IsTableOf (s ∷ past) new
+      → SetsStanding (pair_of s) (Opened (length old.opened.items)) old.standings new.standings → opens s past ≡ true → Falls s.rec past → IsTableOf (s ∷ past) new
   table-opens opened found sets e falls =
-      let sets' : SetsStandingIn (pair_of s) (Opened (length (map membership old.opened.items))) (get is_pair old.pairs) (get is_pair new.pairs) =
-      subst (λ n. SetsStandingIn (pair_of s) (Opened n) (get is_pair old.pairs) (get is_pair new.pairs)) (sym (length-map old.opened.items membership)) sets in
-      subst (λ (l : List Membership). IsShown (s ∷ past) (get is_pair new.pairs) l new.strays.items) (sym opened)
-      (subst (λ (l : List Stray). IsShown (s ∷ past) (get is_pair new.pairs) (map membership old.opened.items ++ opened_by s ∷ []) l) (sym found)
-      (shown-opens past s (get is_pair old.pairs) (map membership old.opened.items) old.strays.items shown (get is_pair new.pairs) e falls sets'))
+      let sets' : SetsStandingIn (pair_of s) (Opened (length (map membership old.opened.items))) (standing_of old.standings) (standing_of new.standings) =
+      subst (λ n. SetsStandingIn (pair_of s) (Opened n) (standing_of old.standings) (standing_of new.standings)) (sym (length-map old.opened.items membership)) sets in
+      subst (λ (l : List Membership). IsShown (s ∷ past) (standing_of new.standings) l new.strays.items) (sym opened)
+      (subst (λ (l : List Stray). IsShown (s ∷ past) (standing_of new.standings) (map membership old.opened.items ++ opened_by s ∷ []) l) (sym found)
+      (shown-opens past s (standing_of old.standings) (map membership old.opened.items) old.strays.items shown (standing_of new.standings) e falls sets'))
 
   pub table-begins : new.opened.items ≡ old.opened.items → new.strays.items ≡ old.strays.items ++ first_stray s ∷ []
-      → SetsStanding (pair_of s) (Unopened (length old.strays.items)) old new → (opens s past ≡ false) × IsUnknown past (pair_of s) → IsTableOf (s ∷ past) new
+      → SetsStanding (pair_of s) (Unopened (length old.strays.items)) old.standings new.standings → (opens s past ≡ false) × IsUnknown past (pair_of s) → IsTableOf (s ∷ past) new
   table-begins opened found sets turn =
-      subst (λ (l : List Connection). IsShown (s ∷ past) (get is_pair new.pairs) (map membership l) new.strays.items) (sym opened)
-      (subst (λ (l : List Stray). IsShown (s ∷ past) (get is_pair new.pairs) (map membership old.opened.items) l) (sym found)
-      (shown-begins past s (get is_pair old.pairs) (map membership old.opened.items) old.strays.items shown (get is_pair new.pairs) turn.0 turn.1 sets))
+      subst (λ (l : List Connection). IsShown (s ∷ past) (standing_of new.standings) (map membership l) new.strays.items) (sym opened)
+      (subst (λ (l : List Stray). IsShown (s ∷ past) (standing_of new.standings) (map membership old.opened.items) l) (sym found)
+      (shown-begins past s (standing_of old.standings) (map membership old.opened.items) old.strays.items shown (standing_of new.standings) turn.0 turn.1 sets))

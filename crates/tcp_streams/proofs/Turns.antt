@@ -6,8 +6,8 @@ use Rattle.std.proofs.lemmas.List.{length-append}
 use Rattle.packet_heads.specs.declared.packets.Segment.{Segment}
 use Rattle.tcp_streams.specs.declared.members.Stray.{Stray}
 use Rattle.tcp_streams.specs.declared.pair.Pair.{Pair}
-use Rattle.tcp_streams.specs.declared.table.Standing.{Standing}
-use Rattle.tcp_streams.specs.declared.table.Standing.TheVariants.{Unopened, Opened}
+use Rattle.tcp_streams.specs.declared.standings.Standing.{Standing}
+use Rattle.tcp_streams.specs.declared.standings.Standing.TheVariants.{Unopened, Opened}
 use Rattle.tcp_streams.specs.declared.table.Turn.TheVariants.{Opens, Joins, Counts, Begins}
 use Rattle.tcp_streams.specs.Pair.{is_of, pair_of}
 use Rattle.tcp_streams.specs.Membership.{Membership, connection_of, first_strays, is_again, is_request, last_opening, opening_at, openings, opens, repeats, stray_of, strays, with_if}

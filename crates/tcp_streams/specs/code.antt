@@ -1,2 +1,4 @@
 pub mod Interval
+pub mod Pairs
+pub mod Standings
 pub mod Table

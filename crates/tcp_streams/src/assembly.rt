@@ -56,7 +56,7 @@ pub fn assemble(
     match connection.initial_of(side) {
         Some(initial_number) => {
             let pieces = pieces_of(alloc, initial_number, packets, connection, side)?;
-            let intervals = settle(alloc, &pieces)?;
+            let intervals = settle(alloc, pieces)?;
             lay_out(alloc, capture, &intervals)
         }
         None => Ok(Flow::unknown(alloc)),

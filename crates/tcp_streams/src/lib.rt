@@ -16,6 +16,7 @@ mod membership;
 mod overlay;
 mod pair;
 mod pieces;
+mod standings;
 mod streams;
 mod table;
 

@@ -1,23 +1,52 @@
-ghost use Rattle.std.specs.Prelude.{◌≡◌, ◌+◌, ◌-◌, ◌<◌, ◌≤◌, ◌^◌, [], ◌∷◌, ◌++◌, All, length, drop, IfOk, OnOk};
-ghost use Rattle.tcp_streams.specs.code.Interval.{HasPassed, IsInterval, IsSame, Spans, at, clipped, overlay, size_of};
+ghost use Rattle.std.specs.Prelude.{◌≡◌, ◌+◌, ◌-◌, ◌<◌, ◌≤◌, ◌^◌, [], ◌∷◌, ◌++◌, false, All, length, drop, IfOk, OnOk};
+ghost use Rattle.tcp_streams.specs.code.Interval.{HasPassed, IsInterval, IsSame, Spans, at, clipped, lie_apart, overlay, size_of};
 
 use crate::interval::{END_OF_OFFSETS, Interval};
 use std::alloc::{AllocError, Global};
 
 /// Makes intervals that lie apart of pieces in order of record: where pieces share an offset, the first
 /// of them brings it.
-pub fn settle(alloc: Global, pieces: &[Interval]) -> Result<Vec<Interval>, AllocError>
+pub fn settle(alloc: Global, pieces: Vec<Interval>) -> Result<Vec<Interval>, AllocError>
+    requires { All IsInterval pieces.items }
+    ensures spans { IfOk result (λ v. Spans 0 v.items (2 ^ 31)) }
+    ensures same { IfOk result (λ v. IsSame (at v.items) (at pieces.items)) }
+    ensures size { IfOk result (λ v. size_of v.items ≤ size_of pieces.items) }
+{
+    if lie_apart(&pieces) {
+        Ok(pieces)
+    } else {
+        settle_halves(alloc, &pieces)
+    }
+}
+
+/// Do the pieces rise without overlap? Mostly they do: a side's segments come in order.
+fn lie_apart(pieces: &[Interval]) -> bool
+    ensures apart { result ≡ lie_apart 0 pieces.now }
+    ensures several { result ≡ false → 1 < length pieces.now }
+{
+    let mut end = 0;
+    for piece in pieces {
+        if piece.from < end {
+            return false;
+        }
+        end = piece.upto;
+    }
+    true
+}
+
+/// Settles the pieces by halves, of which the second fills what the first leaves free.
+fn settle_halves(alloc: Global, pieces: &[Interval]) -> Result<Vec<Interval>, AllocError>
     requires { All IsInterval pieces.now }
     ensures spans { IfOk result (λ v. Spans 0 v.items (2 ^ 31)) }
     ensures same { IfOk result (λ v. IsSame (at v.items) (at pieces.now)) }
     ensures size { IfOk result (λ v. size_of v.items ≤ size_of pieces.now) }
 {
-    if pieces.len() <= 1 {
+    if lie_apart(pieces) {
         return pieces.to_vec(alloc);
     }
     let middle = pieces.len() / 2;
-    let kept = settle(alloc, &pieces[..middle])?;
-    let later = settle(alloc, &pieces[middle..])?;
+    let kept = settle_halves(alloc, &pieces[..middle])?;
+    let later = settle_halves(alloc, &pieces[middle..])?;
     overlay(alloc, &kept, &later)
 }
 

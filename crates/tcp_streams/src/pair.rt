@@ -3,7 +3,7 @@ ghost use Rattle.std.specs.Prelude.{◌≡◌};
 use packet_heads::{Endpoint, Segment};
 
 /// Two endpoints without order: the lesser stands first.
-#[derive(Clone, Copy, Debug, PartialEq, Eq, Hash)]
+#[derive(Clone, Copy, PartialEq, Eq, PartialOrd, Ord)]
 pub struct Pair {
     pub low: Endpoint,
     pub high: Endpoint,

@@ -48,11 +48,10 @@ fn piece_of_member(
     requires named { IsSome (segment_of packets.now member) }
     ensures { result ≡ member_piece initial_number packets.now connection.now side member }
 {
-    let packet = packets[(member - 1) as usize];
-    match packet {
+    match &packets[(member - 1) as usize] {
         Packet::Segment(segment) => {
-            if is_sent_by(connection, side, &segment) {
-                piece_of(initial_number, &segment)
+            if is_sent_by(connection, side, segment) {
+                piece_of(initial_number, segment)
             } else {
                 None
             }

@@ -3,19 +3,11 @@ ghost use Rattle.tcp_streams.specs.Membership.{is_request};
 
 use crate::members::{Connection, Connections, Stray};
 use crate::pair::Pair;
-use indexmap::IndexMap;
+use crate::standings::{Standing, Standings};
 use packet_heads::Segment;
 use std::alloc::{AllocError, Global};
 
-/// What was seen of a pair of endpoints, with its index in the table's lists.
-#[derive(Clone, Copy, Debug, PartialEq, Eq)]
-pub enum Standing {
-    Unopened(usize),
-    Opened(usize),
-}
-
 /// What the next segment does.
-#[derive(Clone, Copy, Debug, PartialEq, Eq)]
 pub enum Turn {
     /// It opens a connection.
     Opens,
@@ -38,7 +30,7 @@ fn is_request(segment: &Segment) -> bool
 #[derive(Drop)]
 pub struct Table {
     alloc: Global,
-    pub pairs: IndexMap<Pair, Standing>,
+    pub standings: Standings,
     pub opened: Vec<Connection>,
     pub strays: Vec<Stray>,
 }
@@ -48,15 +40,16 @@ impl Table {
     ghost use Rattle.std.specs.Prelude.{◌∷◌, ◌++◌, map, length};
     ghost use Rattle.tcp_streams.specs.Membership.{membership};
     ghost use Rattle.tcp_streams.specs.Pair.{pair_of};
-    ghost use Rattle.tcp_streams.specs.code.Table.{HasPast, IsTableOf, IsTurn, Falls, SetsStanding, opened_by, first_stray};
-    ghost use Rattle.tcp_streams.specs.declared.table.Standing.TheVariants.{Opened, Unopened};
+    ghost use Rattle.tcp_streams.specs.code.Table.{HasPast, IsTableOf, IsTurn, Falls, opened_by, first_stray};
+    ghost use Rattle.tcp_streams.specs.code.Standings.{SetsStanding, standing_of};
+    ghost use Rattle.tcp_streams.specs.declared.standings.Standing.TheVariants.{Opened, Unopened};
 
     pub fn new(alloc: Global) -> Table
         ensures { IsTableOf [] result }
     {
         Table {
             alloc,
-            pairs: IndexMap::new(alloc),
+            standings: Standings::new(alloc),
             opened: Vec::new(alloc),
             strays: Vec::new(alloc),
         }
@@ -68,7 +61,18 @@ impl Table {
         ensures { OnOk result ((past : List Shown) → IsTableOf past self.old → Falls segment.now.rec past
             → IsTableOf (segment.now ∷ past) self.new) }
     {
-        match self.turn(segment) {
+        let standing = self.standings.find(&Pair::of(segment));
+        self.take(segment, standing)
+    }
+
+    /// Takes in the next segment, whose pair stands so.
+    fn take(&mut self, segment: &Segment, standing: Option<Standing>) -> Result<(), AllocError>
+        requires past { HasPast self.old }
+        requires standing { standing ≡ standing_of self.old.standings (pair_of segment.now) }
+        ensures { OnOk result ((past : List Shown) → IsTableOf past self.old → Falls segment.now.rec past
+            → IsTableOf (segment.now ∷ past) self.new) }
+    {
+        match self.turn(segment, standing) {
             Turn::Opens => self.open(segment),
             Turn::Joins(k) => self.opened[k].join(segment),
             Turn::Counts(k) => {
@@ -79,12 +83,13 @@ impl Table {
         }
     }
 
-    /// What the next segment does.
-    fn turn(&self, segment: &Segment) -> Turn
-        requires { HasPast self.now }
+    /// What the next segment does, whose pair stands so.
+    fn turn(&self, segment: &Segment, standing: Option<Standing>) -> Turn
+        requires past { HasPast self.now }
+        requires standing { standing ≡ standing_of self.now.standings (pair_of segment.now) }
         ensures { (past : List Shown) → IsTableOf past self.now → IsTurn past segment.now result }
     {
-        match self.pairs.get(&Pair::of(segment)) {
+        match standing {
             None => {
                 if is_request(segment) {
                     Turn::Opens
@@ -92,20 +97,22 @@ impl Table {
                     Turn::Begins
                 }
             }
-            Some(Standing::Unopened(k)) => {
-                if is_request(segment) {
-                    Turn::Opens
-                } else {
-                    Turn::Counts(*k)
+            Some(known) => match known {
+                Standing::Unopened(k) => {
+                    if is_request(segment) {
+                        Turn::Opens
+                    } else {
+                        Turn::Counts(k)
+                    }
                 }
-            }
-            Some(Standing::Opened(k)) => {
-                if is_request(segment) && !self.opened[*k].is_reopened_by(segment) {
-                    Turn::Opens
-                } else {
-                    Turn::Joins(*k)
+                Standing::Opened(k) => {
+                    if is_request(segment) && !self.opened[k].is_reopened_by(segment) {
+                        Turn::Opens
+                    } else {
+                        Turn::Joins(k)
+                    }
                 }
-            }
+            },
         }
     }
 
@@ -114,23 +121,22 @@ impl Table {
         ensures opened { OnOk result (map membership self.new.opened.items
             ≡ map membership self.old.opened.items ++ opened_by segment.now ∷ []) }
         ensures strays { OnOk result (self.new.strays.items ≡ self.old.strays.items) }
-        ensures pairs { OnOk result
-            (SetsStanding (pair_of segment.now) (Opened (length self.old.opened.items)) self.old self.new) }
+        ensures standings { OnOk result
+            (SetsStanding (pair_of segment.now) (Opened (length self.old.opened.items)) self.old.standings self.new.standings) }
     {
         let connection = Connection::opened_by(self.alloc, segment)?;
         let index = self.connection_count();
         self.opened.push(connection)?;
-        self.pairs
-            .insert(Pair::of(segment), Standing::Opened(index))?;
-        Ok(())
+        self.standings
+            .set(Pair::of(segment), Standing::Opened(index))
     }
 
     /// Takes in the first stray of its pair.
     fn begin(&mut self, segment: &Segment) -> Result<(), AllocError>
         ensures opened { OnOk result (self.new.opened.items ≡ self.old.opened.items) }
         ensures strays { OnOk result (self.new.strays.items ≡ self.old.strays.items ++ first_stray segment.now ∷ []) }
-        ensures pairs { OnOk result
-            (SetsStanding (pair_of segment.now) (Unopened (length self.old.strays.items)) self.old self.new) }
+        ensures standings { OnOk result
+            (SetsStanding (pair_of segment.now) (Unopened (length self.old.strays.items)) self.old.standings self.new.standings) }
     {
         let index = self.stray_count();
         self.strays.push(Stray {
@@ -138,9 +144,8 @@ impl Table {
             to: segment.to,
             segments: 1,
         })?;
-        self.pairs
-            .insert(Pair::of(segment), Standing::Unopened(index))?;
-        Ok(())
+        self.standings
+            .set(Pair::of(segment), Standing::Unopened(index))
     }
 
     /// What was found.

@@ -1,5 +1,5 @@
 -- The intervals that `assemble` works with: runs of offsets, each from one segment. No public clause cites these.
-use Rattle.std.specs.Prelude.{◌≡◌, ℕ, suc, ◌+◌, ◌-◌, ◌<◌, ◌≤◌, ◌^◌, ◌==◌, Bool, ◌&&◌, nat_lt, nat_le, min, max, if◌then◌else◌, List, [], ◌∷◌, ◌++◌, Option, None, Some, IfSome, option_and_then, sum_by}
+use Rattle.std.specs.Prelude.{◌≡◌, ℕ, suc, ◌+◌, ◌-◌, ◌<◌, ◌≤◌, ◌^◌, ◌==◌, Bool, true, ◌&&◌, nat_lt, nat_le, min, max, if◌then◌else◌, List, [], ◌∷◌, ◌++◌, Option, None, Some, IfSome, option_and_then, sum_by}
 use Rattle.std.specs.List.{slice_range}
 use Rattle.audit_terms.specs.declared.sides.Side.{Side}
 use Rattle.packet_heads.specs.declared.packets.Packet.{Packet}
@@ -38,6 +38,11 @@ IsSame F G = (o : ℕ) → o < end_of_offsets → F o ≡ G o
 abbrev pub Spans : ℕ → List Interval → ℕ → Type 0
 Spans low [] high = low ≤ high
 Spans low (x ∷ xs) high = (low ≤ x.from) × IsInterval x × Spans x.upto xs high
+
+-- each begins where the one before it ends or later, and the first at low or later
+abbrev pub lie_apart : ℕ → List Interval → Bool
+lie_apart low [] = true
+lie_apart low (x ∷ xs) = nat_le low x.from && lie_apart x.upto xs
 
 -- how many offsets the intervals hold, each counted as often as it is held
 abbrev pub width : Interval → ℕ

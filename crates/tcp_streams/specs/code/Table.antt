@@ -2,15 +2,15 @@
 use Rattle.std.specs.Prelude.{◌≡◌, ℕ, ◌+◌, ◌<◌, ◌^◌, Bool, true, false, ◌&&◌, not, if◌then◌else◌, List, [], ◌∷◌, ◌++◌, length, map, Option, None, Some, slice_get}
 use Rattle.std.specs.List.{list_any}
 use Rattle.std.specs.Option.{option_or}
-use Rattle.indexmap.specs.IndexMap.{get}
 use Rattle.packet_heads.specs.declared.packets.Segment.{Segment}
 use Rattle.tcp_streams.specs.declared.members.Stray.{Stray}
 use Rattle.tcp_streams.specs.declared.pair.Pair.{Pair}
-use Rattle.tcp_streams.specs.declared.table.Standing.{Standing}
-use Rattle.tcp_streams.specs.declared.table.Standing.TheVariants.{Unopened, Opened}
+use Rattle.tcp_streams.specs.declared.standings.Standing.{Standing}
+use Rattle.tcp_streams.specs.declared.standings.Standing.TheVariants.{Unopened, Opened}
 use Rattle.tcp_streams.specs.declared.table.Table.{Table}
 use Rattle.tcp_streams.specs.declared.table.Turn.{Turn}
 use Rattle.tcp_streams.specs.declared.table.Turn.TheVariants.{Opens, Joins, Counts, Begins}
+use Rattle.tcp_streams.specs.code.Standings.{standing_of}
 use Rattle.tcp_streams.specs.Pair.{is_endpoint, is_of, is_pair, pair_of}
 use Rattle.tcp_streams.specs.Membership.{Membership, connection_of, first_strays, last_opening, membership, openings, opens, stray_of, strays}
 
@@ -82,7 +82,7 @@ pub record IsShown
 
 -- the table shows this past
 abbrev pub IsTableOf : List Segment → Table → Type 0
-IsTableOf past t = IsShown past (get is_pair t.pairs) (map membership t.opened.items) t.strays.items
+IsTableOf past t = IsShown past (standing_of t.standings) (map membership t.opened.items) t.strays.items
 
 -- the records fall along the past, from below n
 abbrev pub Falls : ℕ → List Segment → Type 0
@@ -99,10 +99,3 @@ IsTurn past s Opens = opens s past ≡ true
 IsTurn past s (Joins k) = (opens s past ≡ false) × IsOpened past (pair_of s) k
 IsTurn past s (Counts k) = (opens s past ≡ false) × IsUnopened past (pair_of s) k
 IsTurn past s Begins = (opens s past ≡ false) × IsUnknown past (pair_of s)
-
--- the pair stands so, and every other pair as before
-abbrev pub SetsStandingIn : Pair → Standing → (Pair → Option Standing) → (Pair → Option Standing) → Type 0
-SetsStandingIn p w old new = (q : Pair) → new q ≡ (if is_pair p q then Some w else old q)
-
-abbrev pub SetsStanding : Pair → Standing → Table → Table → Type 0
-SetsStanding p w old new = SetsStandingIn p w (get is_pair old.pairs) (get is_pair new.pairs)

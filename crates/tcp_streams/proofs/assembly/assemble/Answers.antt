@@ -56,13 +56,13 @@ module _ (initial_number : ℕ) (capture : List ℕ) (packets : List Packet) (co
 pub settle-requires : goal.settle-requires
 settle-requires c =
     pieces-valid c.in-Some.initial_number c.args.capture.now c.args.packets.now c.args.connection.now c.args.side c.requires.size c.requires.numbered c.requires.payloads c.requires.times c.requires.members
-    c.deref.result.now (c.deref.ensures.value ∙ c.in_ok-pieces-in-Some.ensures)
+    c.in_ok-pieces-in-Some.pieces.items c.in_ok-pieces-in-Some.ensures
 
 pub lay_out-requires-clause-captured : goal.lay_out-requires-clause-captured
 lay_out-requires-clause-captured c =
-    subst (λ (l : List Interval). AreCaptured (length c.args.capture.now) (at l)) (sym c.deref-in-Some.ensures.value)
+    subst (λ (l : List Interval). AreCaptured (length c.args.capture.now) (at l)) (sym c.deref.ensures.value)
     (intervals-captured c.in-Some.initial_number c.args.capture.now c.args.packets.now c.args.connection.now c.args.side c.requires.size c.requires.numbered c.requires.payloads c.requires.times c.requires.members
-    c.deref.result.now (c.deref.ensures.value ∙ c.in_ok-pieces-in-Some.ensures) c.in_ok-intervals-in-Some.intervals.items c.in_ok-intervals-in-Some.ensures.same c.in_ok-intervals-in-Some.ensures.size)
+    c.in_ok-pieces-in-Some.pieces.items c.in_ok-pieces-in-Some.ensures c.in_ok-intervals-in-Some.intervals.items c.in_ok-intervals-in-Some.ensures.same c.in_ok-intervals-in-Some.ensures.size)
 
 pub returns-in_ok-intervals-in-Some-clause-flow : goal.returns-in_ok-intervals-in-Some-clause-flow
 returns-in_ok-intervals-in-Some-clause-flow c =
@@ -71,18 +71,18 @@ returns-in_ok-intervals-in-Some-clause-flow c =
     (if_ok c.lay_out.result _ _
     (λ f flow. IsFlow-same c.args.capture.now _ _ f.bytes.items f.arrivals.items f.gap
     (sources-same c.in-Some.initial_number c.args.capture.now c.args.packets.now c.args.connection.now c.args.side c.requires.size c.requires.numbered c.requires.payloads c.requires.times c.requires.members
-    c.deref.result.now (c.deref.ensures.value ∙ c.in_ok-pieces-in-Some.ensures) c.in_ok-intervals-in-Some.intervals.items c.in_ok-intervals-in-Some.ensures.same c.in_ok-intervals-in-Some.ensures.size)
-    (subst (λ (l : List Interval). IsFlow c.args.capture.now (at l) f.bytes.items f.arrivals.items f.gap) c.deref-in-Some.ensures.value flow))
+    c.in_ok-pieces-in-Some.pieces.items c.in_ok-pieces-in-Some.ensures c.in_ok-intervals-in-Some.intervals.items c.in_ok-intervals-in-Some.ensures.same c.in_ok-intervals-in-Some.ensures.size)
+    (subst (λ (l : List Interval). IsFlow c.args.capture.now (at l) f.bytes.items f.arrivals.items f.gap) c.deref.ensures.value flow))
     c.lay_out.ensures.flow)
 
 pub returns-in_ok-intervals-in-Some-clause-within : goal.returns-in_ok-intervals-in-Some-clause-within
 returns-in_ok-intervals-in-Some-clause-within c =
     if_ok c.lay_out.result _ _
     (λ f size.
-    let size' : length f.bytes.items ≤ size_of c.in_ok-intervals-in-Some.intervals.items = subst (λ (l : List Interval). length f.bytes.items ≤ size_of l) c.deref-in-Some.ensures.value size in
+    let size' : length f.bytes.items ≤ size_of c.in_ok-intervals-in-Some.intervals.items = subst (λ (l : List Interval). length f.bytes.items ≤ size_of l) c.deref.ensures.value size in
     let within : size_of c.in_ok-intervals-in-Some.intervals.items ≤ payload_sum (side_segments c.args.packets.now c.args.connection.now c.args.side) =
     intervals-within c.in-Some.initial_number c.args.capture.now c.args.packets.now c.args.connection.now c.args.side c.requires.size c.requires.numbered c.requires.payloads c.requires.times c.requires.members
-    c.deref.result.now (c.deref.ensures.value ∙ c.in_ok-pieces-in-Some.ensures) c.in_ok-intervals-in-Some.intervals.items c.in_ok-intervals-in-Some.ensures.same c.in_ok-intervals-in-Some.ensures.size in
+    c.in_ok-pieces-in-Some.pieces.items c.in_ok-pieces-in-Some.ensures c.in_ok-intervals-in-Some.intervals.items c.in_ok-intervals-in-Some.ensures.same c.in_ok-intervals-in-Some.ensures.size in
     omega (arith, size', within, f.bytes.ok.0))
     c.lay_out.ensures.size
 
@@ -91,7 +91,7 @@ returns-in_ok-intervals-in-Some-clause-orderly c =
     if_ok_3 c.lay_out.result _ _ _ _
     (λ f size flow timely.
     flow-orderly c.in-Some.initial_number c.args.capture.now c.args.packets.now c.args.connection.now c.args.side c.requires.size c.requires.numbered c.requires.payloads c.requires.times c.requires.members
-    c.deref.result.now (c.deref.ensures.value ∙ c.in_ok-pieces-in-Some.ensures) c.in_ok-intervals-in-Some.intervals.items c.in_ok-intervals-in-Some.ensures.same c.in_ok-intervals-in-Some.ensures.size f
-    (subst (λ (l : List Interval). length f.bytes.items ≤ size_of l) c.deref-in-Some.ensures.value size)
-    (subst (λ (l : List Interval). IsFlow c.args.capture.now (at l) f.bytes.items f.arrivals.items f.gap) c.deref-in-Some.ensures.value flow) timely)
+    c.in_ok-pieces-in-Some.pieces.items c.in_ok-pieces-in-Some.ensures c.in_ok-intervals-in-Some.intervals.items c.in_ok-intervals-in-Some.ensures.same c.in_ok-intervals-in-Some.ensures.size f
+    (subst (λ (l : List Interval). length f.bytes.items ≤ size_of l) c.deref.ensures.value size)
+    (subst (λ (l : List Interval). IsFlow c.args.capture.now (at l) f.bytes.items f.arrivals.items f.gap) c.deref.ensures.value flow) timely)
     c.lay_out.ensures.size c.lay_out.ensures.flow c.lay_out.ensures.timely

@@ -5,14 +5,14 @@ use Rattle.tcp_streams.specs.Membership.{membership}
 use Rattle.tcp_streams.proofs.Lists.{on_ok, on_ok_3}
 use Rattle.tcp_streams.proofs.Steps.{shown-counts, shown-joins, table-begins, table-opens}
 use Rattle.tcp_streams.proofs.Turns.{counted_few, counted_in_range, joined_in_range, mapped_at}
-use Rattle.tcp_streams.proofs.table.Table.add.Goals as goal
+use Rattle.tcp_streams.proofs.table.Table.take.Goals as goal
 
 pub returns-in-Opens : goal.returns-in-Opens
 returns-in-Opens c =
     on_ok_3 c.open.result
     (λ opened strays pairs past shown falls.
     table-opens past c.args.segment.now c.args.self.now c.open.new.self shown opened strays pairs (c.in-Opens.ensures past shown) falls)
-    c.open.ensures.opened c.open.ensures.strays c.open.ensures.pairs
+    c.open.ensures.opened c.open.ensures.strays c.open.ensures.standings
 
 pub returns-in-Joins : goal.returns-in-Joins
 returns-in-Joins c =
@@ -27,12 +27,12 @@ returns-in-Joins c =
 
 pub overflow_add-index_mut : goal.overflow_add-index_mut
 overflow_add-index_mut c =
-    let lt : c.in-Counts.k < length c.args.self.now.strays.items = counted_in_range c.requires.0 _ _ _ _ _ c.requires.1 (c.in-Counts.ensures c.requires.0 c.requires.1).1 in
+    let lt : c.in-Counts.k < length c.args.self.now.strays.items = counted_in_range c.requires.past.0 _ _ _ _ _ c.requires.past.1 (c.in-Counts.ensures c.requires.past.0 c.requires.past.1).1 in
     let in_range : c.in-Counts.k < vec_len c.args.self.now.strays = omega (arith, c.args.self.now.strays.ok.0) in
     let at : slice_get c.args.self.now.strays.items c.in-Counts.k ≡ Some c.index_mut-in-Counts.result.now =
     slice_get_read c.args.self.now.strays.items (vec_len c.args.self.now.strays) _ _ c.args.self.now.strays.ok.0 in_range c.index_mut-in-Counts.ensures.value in
-    let few : c.index_mut-in-Counts.result.now.segments ≤ length c.requires.0 = counted_few c.requires.0 _ _ _ c.requires.1 c.in-Counts.k _ at in
-    let room : length c.requires.0 + 1 < 2 ^ 32 = c.requires.2 in
+    let few : c.index_mut-in-Counts.result.now.segments ≤ length c.requires.past.0 = counted_few c.requires.past.0 _ _ _ c.requires.past.1 c.in-Counts.k _ at in
+    let room : length c.requires.past.0 + 1 < 2 ^ 32 = c.requires.past.2 in
     search rules
 
 pub returns-in-Counts : goal.returns-in-Counts
@@ -48,4 +48,4 @@ returns-in-Begins c =
     on_ok_3 c.begin.result
     (λ opened strays pairs past shown falls.
     table-begins past c.args.segment.now c.args.self.now c.begin.new.self shown opened strays pairs (c.in-Begins.ensures past shown))
-    c.begin.ensures.opened c.begin.ensures.strays c.begin.ensures.pairs
+    c.begin.ensures.opened c.begin.ensures.strays c.begin.ensures.standings

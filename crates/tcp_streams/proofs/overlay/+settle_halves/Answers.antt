@@ -2,14 +2,15 @@ use Rattle.std.proofs.Common.{◌≡◌, ℕ, List, ◌-◌, ◌/◌, ◌≤◌,
 use Rattle.std.proofs.lemmas.List.{length-drop, take_all}
 use Rattle.tcp_streams.specs.declared.interval.Interval.{Interval}
 use Rattle.tcp_streams.specs.code.Interval.{IsSame, Spans, at, overlay, size_of}
-use Rattle.tcp_streams.proofs.IntervalLemmas.{Spans-few, Spans-overlay, halves-same, halves-size}
+use Rattle.tcp_streams.proofs.IntervalLemmas.{Spans-apart, Spans-overlay, halves-same, halves-size}
 use Rattle.tcp_streams.proofs.Lists.{if_ok}
-use Rattle.tcp_streams.proofs.overlay.+settle.Goals as goal
+use Rattle.tcp_streams.proofs.overlay.+settle_halves.Goals as goal
 
-pub returns-then-pieces-le1-clause-spans : goal.returns-then-pieces-le1-clause-spans
-returns-then-pieces-le1-clause-spans t c =
-    let few : length c.args.pieces.now ≤ 1 = omega arith in
-    if_ok c.to_vec.result _ _ (λ v same. subst (λ (l : List Interval). Spans 0 l (2 ^ 31)) (sym (same (λ x y e. e))) (Spans-few c.args.pieces.now few c.requires)) c.to_vec.ensures.items_if_clones_equal
+pub returns-then-lie_apart-clause-spans : goal.returns-then-lie_apart-clause-spans
+returns-then-lie_apart-clause-spans t c =
+    if_ok c.to_vec.result _ _
+    (λ v same. subst (λ (l : List Interval). Spans 0 l (2 ^ 31)) (sym (same (λ x y e. e))) (Spans-apart 0 c.args.pieces.now (omega arith) (sym c.lie_apart.ensures.apart ∙ c.if-lie_apart.true) c.requires))
+    c.to_vec.ensures.items_if_clones_equal
 
 -- the second slice is all that the first leaves
 rest-is : (pieces : List Interval) (n : ℕ) → take (length pieces - n) (drop n pieces) ≡ drop n pieces
