@@ -79,7 +79,7 @@ same_left (Some f) other unread frames tail left = left
 -- what is left after a frame was taken was left after it
 pub left_before : (frame : Frame) (before after : Unread) (next : Option Frame) → before.next ≡ Some frame →
     ((frames : List Frame) (tail : List ℕ) → AreLeftAfter next after frames tail →
-        AreAhead before.side before.arrivals.now (frame.number + 1) before.offset before.bytes.now frames tail) →
+    AreAhead before.side before.arrivals.now (frame.number + 1) before.offset before.bytes.now frames tail) →
     (frames : List Frame) (tail : List ℕ) → AreLeft (record after { next = next }) frames tail → AreLeft before (frame ∷ frames) tail
 left_before frame before after next is left frames tail later =
     rw is (frames, refl, left frames tail (same_left next next after frames tail later))
