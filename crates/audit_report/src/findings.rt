@@ -1,6 +1,7 @@
 ghost use Rattle.std.specs.Prelude.{◌≡◌, ◌++◌, OnOk, IfOk};
 ghost use Rattle.std.specs.String.{string_bytes};
 ghost use Rattle.audit_terms.specs.Frame.{IsOrderly};
+ghost use Rattle.split_merge.specs.FrameLookup.{frame_numbered};
 ghost use Rattle.audit_report.specs.FindingLine.{moment_text, said_text, finding_line, shown_line, finding_lines};
 
 use crate::words::{push_field, push_signed, push_word};
@@ -70,12 +71,23 @@ fn push_finding_line(
     push_word(out, "\n")
 }
 
+// The frame of this number. Frames numbered from 1 without a gap have it at its own place, so it is looked for there first.
+fn frame_of(frames: &[Frame], number: u32) -> Option<Frame>
+    requires { IsOrderly frames.now }
+    ensures { result ≡ frame_numbered frames.now number }
+{
+    match frames.get((number as usize).saturating_sub(1)) {
+        Some(frame) if frame.number == number => Some(*frame),
+        _ => frame_at(frames, number),
+    }
+}
+
 #[tactic(auto, using(crate::proofs::Joins::joins))]
 fn push_moment(out: &mut String, number: u32, frames: &[Frame]) -> Result<(), AllocError>
     requires { IsOrderly frames.now }
     ensures { OnOk result (string_bytes out.new ≡ string_bytes out.old ++ moment_text frames.now number) }
 {
-    let frame = frame_at(frames, number);
+    let frame = frame_of(frames, number);
     push_field(out, "frame ", number as u64)?;
     push_field(out, " record ", frame.map_or(0, |frame| frame.rec) as u64)?;
     push_field(out, " time ", frame.map_or(0, |frame| frame.nanos))

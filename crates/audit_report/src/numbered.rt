@@ -12,17 +12,17 @@ pub fn push_record_lines(out: &mut String, packets: &[Packet]) -> Result<(), All
     ensures { OnOk result (string_bytes out.new ≡ string_bytes out.old ++ record_lines packets.now) }
 {
     for (i, packet) in packets.iter().enumerate() {
-        push_record_line(out, i as u64 + 1, *packet)?;
+        push_record_line(out, i as u64 + 1, packet)?;
     }
     Ok(())
 }
 
-fn push_record_line(out: &mut String, number: u64, packet: Packet) -> Result<(), AllocError>
-    ensures { OnOk result (string_bytes out.new ≡ string_bytes out.old ++ record_line number packet) }
+fn push_record_line(out: &mut String, number: u64, packet: &Packet) -> Result<(), AllocError>
+    ensures { OnOk result (string_bytes out.new ≡ string_bytes out.old ++ record_line number packet.now) }
 {
     match packet {
         Packet::Skipped(Skip::Fragment) => push_fragment_line(out, number),
-        Packet::Refused(refusal) => push_refused_line(out, number, refusal),
+        Packet::Refused(refusal) => push_refused_line(out, number, *refusal),
         _ => Ok(()),
     }
 }

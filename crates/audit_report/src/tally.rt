@@ -32,24 +32,24 @@ impl Tally {
     {
         let mut tally = Tally::NONE;
         for packet in packets {
-            tally.add(*packet);
+            tally.add(packet);
         }
         tally
     }
 
-    fn add(&mut self, packet: Packet)
+    fn add(&mut self, packet: &Packet)
         requires segments { self.old.segments + 1 < 2 ^ 64 }
         requires snapped { self.old.snapped + 1 < 2 ^ 64 }
         requires not_ipv4 { self.old.not_ipv4 + 1 < 2 ^ 64 }
         requires fragments { self.old.fragments + 1 < 2 ^ 64 }
         requires not_tcp { self.old.not_tcp + 1 < 2 ^ 64 }
         requires refused { self.old.refused + 1 < 2 ^ 64 }
-        ensures segments { self.new.segments ≡ self.old.segments + (if is_segment packet then 1 else 0) }
-        ensures snapped { self.new.snapped ≡ self.old.snapped + (if is_snapped packet then 1 else 0) }
-        ensures not_ipv4 { self.new.not_ipv4 ≡ self.old.not_ipv4 + (if is_not_ipv4 packet then 1 else 0) }
-        ensures fragments { self.new.fragments ≡ self.old.fragments + (if is_fragment packet then 1 else 0) }
-        ensures not_tcp { self.new.not_tcp ≡ self.old.not_tcp + (if is_not_tcp packet then 1 else 0) }
-        ensures refused { self.new.refused ≡ self.old.refused + (if is_refused packet then 1 else 0) }
+        ensures segments { self.new.segments ≡ self.old.segments + (if is_segment packet.now then 1 else 0) }
+        ensures snapped { self.new.snapped ≡ self.old.snapped + (if is_snapped packet.now then 1 else 0) }
+        ensures not_ipv4 { self.new.not_ipv4 ≡ self.old.not_ipv4 + (if is_not_ipv4 packet.now then 1 else 0) }
+        ensures fragments { self.new.fragments ≡ self.old.fragments + (if is_fragment packet.now then 1 else 0) }
+        ensures not_tcp { self.new.not_tcp ≡ self.old.not_tcp + (if is_not_tcp packet.now then 1 else 0) }
+        ensures refused { self.new.refused ≡ self.old.refused + (if is_refused packet.now then 1 else 0) }
     {
         match packet {
             Packet::Segment(segment) => {

@@ -1,7 +1,7 @@
 pub mod SettingsRead
-pub mod Capturing
-pub mod Numbering
+pub mod Arriving
+pub mod Reading
 pub mod Merging
+pub mod Taking
 pub mod BothSides
 pub mod Uniqueness
-pub mod ArrivalsInOrder

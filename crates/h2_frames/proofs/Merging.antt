@@ -1,9 +1,8 @@
 -- Frames that stand in order are merged into order.
-use Rattle.std.proofs.Common.{◌≡◌, ℕ, ◌+◌, ◌-◌, ◌^◌, ◌<◌, ◌≤◌, Bool, true, false, cond, not, List, [], ◌∷◌, ◌++◌, length, refl, ap, sym, ◌∙◌, arith, length-append}
+use Rattle.std.proofs.Common.{◌≡◌, ℕ, suc, ◌+◌, ◌-◌, ◌^◌, ◌<◌, ◌≤◌, Bool, true, false, cond, List, [], ◌∷◌, ◌++◌, length, refl, ap, sym, ◌∙◌, arith, length-append}
 use Rattle.std.specs.Prelude.{nat_lt, ◌==◌, ◌&&◌, ◌||◌}
 use Rattle.std.specs.List.{AllByRecursion}
 use Rattle.std.proofs.lemmas.Bool.Decides.{nat_tests}
-use Rattle.itertools.specs.List.{merge_by, merge_at}
 use Rattle.tcp_streams.specs.declared.streams.Arrival.{Arrival}
 use Rattle.tcp_streams.specs.Arrivals.{Rises}
 use Rattle.audit_terms.specs.declared.sides.Side.{Side}
@@ -11,6 +10,7 @@ use Rattle.audit_terms.specs.declared.frames.Frame.{Frame}
 use Rattle.audit_terms.specs.Order.{put_by, ordered_by}
 use Rattle.audit_terms.specs.Side.{side_order}
 use Rattle.audit_terms.specs.Frame.{IsOrderlyFrom}
+use Rattle.h2_frames.specs.code.Merge.{merged, merged_with}
 use Rattle.h2_frames.specs.code.Steps.{IsReadable}
 use Rattle.h2_frames.specs.declared.spelling.Spelled.{Spelled}
 use Rattle.h2_frames.specs.Spelling.{Spells}
@@ -38,10 +38,6 @@ abbrev pub IsAscending : List Frame → Type 0
 IsAscending [] = Unit {0}
 IsAscending (x ∷ xs) = IsAscendingFrom x xs
 
--- does x come first of the two?
-abbrev pub is_first : Frame → Frame → Bool
-is_first x y = not (comes_after x y)
-
 put-ascending : (x : Frame) (xs : List Frame) → IsAscendingFrom x xs → put_by comes_after x xs ≡ x ∷ xs
 put-ascending x [] h = refl
 put-ascending x (y ∷ ys) h = let first = h.0 in rw first refl
@@ -59,32 +55,32 @@ ordered-ascending (x ∷ xs) h =
 
 -- a frame before those of its side goes where merging puts it
 put-merge : (x : Frame) (xs ys : List Frame) → IsAscendingFrom x xs →
-    put_by comes_after x (merge_by is_first xs ys) ≡ merge_by is_first (x ∷ xs) ys
+    put_by comes_after x (merged xs ys) ≡ merged (x ∷ xs) ys
 put-merge x [] [] h = refl
 put-merge x (c ∷ xs) [] h = let first = h.0 in rw first refl
 put-merge x [] (y ∷ ys) h = by (comes_after x y) (put-merge x [] ys h)
   where
-    by : (test : Bool) → put_by comes_after x ys ≡ merge_at is_first x [] (λ zs. zs) ys →
-        cond test (y ∷ put_by comes_after x ys) (x ∷ y ∷ ys) ≡ cond (not test) (x ∷ y ∷ ys) (y ∷ merge_at is_first x [] (λ zs. zs) ys)
+    by : (test : Bool) → put_by comes_after x ys ≡ merged_with x (λ zs. zs) ys →
+        cond test (y ∷ put_by comes_after x ys) (x ∷ y ∷ ys) ≡ cond test (y ∷ merged_with x (λ zs. zs) ys) (x ∷ y ∷ ys)
     by true rest = ap (λ (zs : List Frame). y ∷ zs) rest
     by false rest = refl
 put-merge x (c ∷ xs) (y ∷ ys) h = by (comes_after x y) refl (put-merge x (c ∷ xs) ys h)
   where
     by : (test : Bool) → comes_after x y ≡ test →
-        put_by comes_after x (merge_by is_first (c ∷ xs) ys) ≡ merge_by is_first (x ∷ c ∷ xs) ys →
-        put_by comes_after x (merge_by is_first (c ∷ xs) (y ∷ ys)) ≡ cond (not test) (x ∷ merge_by is_first (c ∷ xs) (y ∷ ys)) (y ∷ merge_by is_first (x ∷ c ∷ xs) ys)
+        put_by comes_after x (merged (c ∷ xs) ys) ≡ merged (x ∷ c ∷ xs) ys →
+        put_by comes_after x (merged (c ∷ xs) (y ∷ ys)) ≡ cond test (y ∷ merged (x ∷ c ∷ xs) ys) (x ∷ merged (c ∷ xs) (y ∷ ys))
     by true e rest = let past = after_trans x c y h.0 e in rw (past, e) (ap (λ (zs : List Frame). y ∷ zs) rest)
     by false e rest = both (comes_after c y)
       where
         both : (test : Bool) →
-            put_by comes_after x (cond (not test) (c ∷ merge_by is_first xs (y ∷ ys)) (y ∷ merge_at is_first c xs (merge_by is_first xs) ys))
-            ≡ x ∷ cond (not test) (c ∷ merge_by is_first xs (y ∷ ys)) (y ∷ merge_at is_first c xs (merge_by is_first xs) ys)
+            put_by comes_after x (cond test (y ∷ merged_with c (merged xs) ys) (c ∷ merged xs (y ∷ ys)))
+            ≡ x ∷ cond test (y ∷ merged_with c (merged xs) ys) (c ∷ merged xs (y ∷ ys))
         both true = rw e refl
         both false = let first = h.0 in rw first refl
 
 -- merging puts the frames of both sides in order
 pub ordered-merge : (xs ys : List Frame) → IsAscending xs → IsAscending ys →
-    ordered_by comes_after (xs ++ ys) ≡ merge_by is_first xs ys
+    ordered_by comes_after (xs ++ ys) ≡ merged xs ys
 ordered-merge [] ys h k = ordered-ascending ys k
 ordered-merge (x ∷ xs) ys h k =
     let rest = ordered-merge xs ys (rest_ascending x xs h) k in
@@ -160,40 +156,20 @@ captured-in_order side arrivals high rises offset (s ∷ later) bytes tail spell
 
 -- merged and numbered, they are the frames in capture order
 pub merged-capture_order : (client server : List Frame) → IsAscending client → IsAscending server →
-    numbered 1 (merge_by is_first client server) ≡ capture_order client server
+    numbered 1 (merged client server) ≡ capture_order client server
 merged-capture_order client server h k = ap (numbered 1) (sym (ordered-merge client server h k))
 
--- what holds of the frames of both sides holds of the merged ones
-pub all-merge : (P : Frame → Type 0) (xs ys : List Frame) → AllByRecursion P xs → AllByRecursion P ys →
-    AllByRecursion P (merge_by is_first xs ys)
-all-merge P [] ys all each = each
-all-merge P (x ∷ xs) [] all each = all
-all-merge P (x ∷ xs) (y ∷ ys) all each =
-    by (is_first x y) (all-merge P xs (y ∷ ys) all.1 each) (all-merge P (x ∷ xs) ys all each.1)
-  where
-    by : (test : Bool) → AllByRecursion P (merge_by is_first xs (y ∷ ys)) → AllByRecursion P (merge_by is_first (x ∷ xs) ys) →
-        AllByRecursion P (cond test (x ∷ merge_by is_first xs (y ∷ ys)) (y ∷ merge_at is_first x xs (merge_by is_first xs) ys))
-    by true left right = (all.0, left)
-    by false left right = (each.0, right)
-
-pub length-merge : (xs ys : List Frame) → length (merge_by is_first xs ys) ≡ length xs + length ys
-length-merge [] ys = omega arith
-length-merge (x ∷ xs) [] = omega arith
-length-merge (x ∷ xs) (y ∷ ys) = by (is_first x y) (length-merge xs (y ∷ ys)) (length-merge (x ∷ xs) ys)
-  where
-    by : (test : Bool) → length (merge_by is_first xs (y ∷ ys)) ≡ length xs + length (y ∷ ys) →
-        length (merge_by is_first (x ∷ xs) ys) ≡ length (x ∷ xs) + length ys →
-        length (cond test (x ∷ merge_by is_first xs (y ∷ ys)) (y ∷ merge_at is_first x xs (merge_by is_first xs) ys)) ≡ length (x ∷ xs) + length (y ∷ ys)
-    by true left right = omega arith
-    by false left right = omega arith
-
 -- frames in range, numbered upwards, are orderly
-pub numbered-orderly : (low number : ℕ) (frames : List Frame) → AllByRecursion IsReadable frames → low ≤ number →
+pub numbered-orderly : (low number : ℕ) (frames : List Frame) → AllByRecursion IsReadable (numbered number frames) → low ≤ number →
     number + length frames < 2 ^ 28 → IsOrderlyFrom low (numbered number frames)
 numbered-orderly low number [] all h k = tt
 numbered-orderly low number (f ∷ frames) all h k =
-    let readable : IsReadable f = all.0 in (
+    let readable : IsReadable (record f { number = number }) = all.0 in (
       h,
       record { number = omega arith; stream = readable.stream; promised = readable.promised; length = readable.length; nanos = readable.nanos },
       numbered-orderly (number + 1) (number + 1) frames all.1 (omega arith) (omega arith),
     )
+
+pub length-numbered : (number : ℕ) (frames : List Frame) → length (numbered number frames) ≡ length frames
+length-numbered number [] = refl
+length-numbered number (f ∷ frames) = ap suc (length-numbered (number + 1) frames)

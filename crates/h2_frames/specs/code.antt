@@ -1,2 +1,4 @@
 pub mod Beginning
 pub mod Steps
+pub mod Merge
+pub mod Unread

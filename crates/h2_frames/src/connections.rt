@@ -1,7 +1,7 @@
 use audit_terms::{Frame, Sides};
 
 /// What the two flows of a connection hold.
-#[derive(Debug, Drop)]
+#[derive(Drop)]
 pub enum Cut {
     /// Both sides' frames in capture order, and how many bytes each side's flow has after its last frame.
     Http2 {

@@ -6,8 +6,8 @@ ghost use Rattle.h2_frames.specs.Preface.{BeginsWithPreface};
 
 use crate::beginning::{Beginning, PREFACE, beginning_of};
 use crate::connections::Cut;
-use crate::one_side::captured_frames;
 use crate::order::in_capture_order;
+use crate::unread::Unread;
 use audit_terms::{Side, Sides};
 use std::alloc::{AllocError, Global};
 use tcp_streams::Flow;
@@ -23,14 +23,14 @@ fn http2(alloc: Global, rest: &[u8], client: &Flow, server: &Flow) -> Result<Cut
 {
     let offset = PREFACE.len() as u64;
     let arrivals = client.arrivals.as_slice();
-    let (sent, sent_tail) = captured_frames(alloc, Side::Client, rest, offset, arrivals)?;
+    let mut sent = Unread::of(Side::Client, rest, offset, arrivals);
     let arrivals = server.arrivals.as_slice();
     let answers = server.bytes.as_slice();
-    let (answered, answered_tail) = captured_frames(alloc, Side::Server, answers, 0, arrivals)?;
-    let frames = in_capture_order(alloc, sent.as_slice(), answered.as_slice())?;
+    let mut answered = Unread::of(Side::Server, answers, 0, arrivals);
+    let frames = in_capture_order(alloc, &mut sent, &mut answered)?;
     let tails = Sides {
-        client: sent_tail,
-        server: answered_tail,
+        client: sent.tail(),
+        server: answered.tail(),
     };
     Ok(Cut::Http2 { frames, tails })
 }

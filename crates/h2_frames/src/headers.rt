@@ -7,7 +7,7 @@ use byteorder::{BigEndian, ByteOrder};
 pub(crate) const HEADER_LENGTH: usize = 9;
 
 /// A frame header (RFC 9113, 4.1).
-#[derive(Clone, Copy, Debug, PartialEq, Eq)]
+#[derive(Clone, Copy)]
 pub struct Header {
     /// The length of the payload in bytes, 24 bits.
     pub length: u32,

@@ -20,10 +20,10 @@ mod connections;
 mod cutting;
 mod headers;
 pub mod laws;
-mod one_side;
 mod order;
 mod settings;
 mod spelling;
+mod unread;
 
 pub use connections::Cut;
 pub use cutting::cut;

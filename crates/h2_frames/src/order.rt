@@ -1,9 +1,13 @@
-ghost use Rattle.std.specs.Prelude.{◌≡◌, ◌+◌, ◌<◌, ◌^◌, length, not, IfOk};
-ghost use Rattle.itertools.specs.List.{merge_by};
+ghost use Rattle.std.specs.Prelude.{◌≡◌, ◌+◌, ◌<◌, ◌≤◌, ◌^◌, ℕ, List, [], ◌∷◌, length, IfOk, IfSome, IfNone};
+ghost use Rattle.audit_terms.specs.Frame.{IsOrderly};
+ghost use Rattle.audit_terms.specs.declared.frames.Frame.{Frame};
 ghost use Rattle.h2_frames.specs.CaptureOrder.{comes_after, numbered};
+ghost use Rattle.h2_frames.specs.code.Merge.{is_server_first};
+ghost use Rattle.h2_frames.specs.code.Steps.{IsReadable};
+ghost use Rattle.h2_frames.specs.code.Unread.{AreMerged, IsReady, weight};
 
+use crate::unread::Unread;
 use audit_terms::Frame;
-use itertools::Itertools;
 use std::alloc::{AllocError, Global};
 
 /// Does `x` come after `y`: by record, then by number within its side, then Client before Server?
@@ -13,42 +17,57 @@ fn comes_after(x: &Frame, y: &Frame) -> bool
     (x.rec, x.number, x.side) > (y.rec, y.number, y.side)
 }
 
-/// Numbers the frames from 1.
-fn number_upwards(frames: &mut [Frame])
-    requires { length frames.old < 2 ^ 31 }
-    ensures { frames.new ≡ numbered 1 frames.old }
+/// Does the server's next frame come before the client's?
+fn is_server_first(client: &Option<Frame>, server: &Option<Frame>) -> bool
+    ensures { result ≡ is_server_first client.now server.now }
 {
-    let mut number = 0;
-    for frame in frames.iter_mut() {
-        number += 1;
-        frame.number = number;
+    match (client, server) {
+        (Some(x), Some(y)) => comes_after(x, y),
+        (Some(_), None) => false,
+        (None, _) => true,
     }
 }
 
-/// The frames of both sides, of which each side's are in order already.
-fn merged(alloc: Global, client: &[Frame], server: &[Frame]) -> Result<Vec<Frame>, AllocError>
-    requires { length client.now + length server.now < 2 ^ 31 }
-    ensures { IfOk result (λ frames. frames.items ≡ merge_by (λ x y. not (comes_after x y)) client.now server.now) }
+/// Takes the frame out that comes first of both sides.
+fn take_first(client: &mut Unread<'_>, server: &mut Unread<'_>) -> Option<Frame>
+    requires client { IsReady client.old }
+    requires server { IsReady server.old }
+    ensures client { IsReady client.new }
+    ensures server { IsReady server.new }
+    ensures readable { IfSome result IsReadable }
+    ensures first { IfSome result (λ frame. (frames : List Frame) → (tail other : List ℕ) →
+        AreMerged client.new server.new frames tail other → AreMerged client.old server.old (frame ∷ frames) tail other) }
+    ensures over { IfNone result (AreMerged client.new server.new [] client.new.bytes.now server.new.bytes.now) }
+    ensures same_client { IfNone result (client.new ≡ client.old) }
+    ensures same_server { IfNone result (server.new ≡ server.old) }
+    ensures weight { IfSome result (λ frame. weight client.new + weight server.new + 9 ≤ weight client.old + weight server.old) }
 {
-    let server = server.iter().copied();
-    client
-        .iter()
-        .copied()
-        .merge_by(server, |x, y| !comes_after(x, y))
-        .collect(alloc)
+    if is_server_first(&client.next, &server.next) {
+        server.take_next()
+    } else {
+        client.take_next()
+    }
 }
 
-/// The frames of both sides in capture order, numbered from 1. Each side's are to be in order already.
+/// The frames of both sides in capture order, numbered from 1. They are all taken out.
 pub(crate) fn in_capture_order(
     alloc: Global,
-    client: &[Frame],
-    server: &[Frame],
+    client: &mut Unread<'_>,
+    server: &mut Unread<'_>,
 ) -> Result<Vec<Frame>, AllocError>
-    requires { length client.now + length server.now < 2 ^ 31 }
-    ensures { IfOk result (λ frames. frames.items
-        ≡ numbered 1 (merge_by (λ x y. not (comes_after x y)) client.now server.now)) }
+    requires client { IsReady client.old }
+    requires server { IsReady server.old }
+    requires few { weight client.old + weight server.old < 2 ^ 31 }
+    ensures frames { IfOk result (λ frames. (all : List Frame) × (frames.items ≡ numbered 1 all)
+        × AreMerged client.old server.old all client.new.bytes.now server.new.bytes.now) }
+    ensures orderly { IfOk result (λ frames. IsOrderly frames.items) }
+    ensures client { IsReady client.new }
+    ensures server { IsReady server.new }
 {
-    let mut frames = merged(alloc, client, server)?;
-    number_upwards(frames.as_mut_slice());
+    let mut frames = Vec::new(alloc);
+    while let Some(mut frame) = take_first(client, server) {
+        frame.number = frames.len() as u32 + 1;
+        frames.push(frame)?;
+    }
     Ok(frames)
 }

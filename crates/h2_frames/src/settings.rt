@@ -19,7 +19,7 @@ const LARGEST_FRAME_LIMIT: u32 = 16_777_215;
 pub(crate) const SETTING_LENGTH: usize = 6;
 
 /// One setting (RFC 9113, 6.5.1).
-#[derive(Clone, Copy, Debug, PartialEq, Eq)]
+#[derive(Clone, Copy)]
 pub struct Setting {
     pub identifier: u16,
     pub value: u32,

@@ -7,7 +7,7 @@ use crate::headers::{HEADER_LENGTH, Header};
 use audit_terms::Body;
 
 /// A frame as its bytes spell it (RFC 9113, 4.1).
-#[derive(Clone, Copy, Debug, PartialEq, Eq)]
+#[derive(Clone, Copy)]
 pub struct Spelled {
     pub header: Header,
     pub body: Body,

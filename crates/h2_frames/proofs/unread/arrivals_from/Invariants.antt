@@ -1,6 +1,6 @@
 use Rattle.std.proofs.Common.{◌≡◌, length}
 use Rattle.h2_frames.specs.code.Steps.{arrivals_from}
-use Rattle.h2_frames.proofs.one_side.arrivals_from.Given as goal
+use Rattle.h2_frames.proofs.unread.arrivals_from.Given as goal
 
 abbrev pub invariant-loop-first : goal.invariant-loop-first
 invariant-loop-first l = arrivals_from l.offset l.rest ≡ arrivals_from l.offset l.arrivals

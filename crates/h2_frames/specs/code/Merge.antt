@@ -1,0 +1,20 @@
+-- Frames of two sides, each side's in order, put in order by what stands first. No public clause cites this.
+use Rattle.std.specs.Prelude.{Bool, true, false, List, [], ◌∷◌, if◌then◌else◌, Option, Some, None}
+use Rattle.audit_terms.specs.declared.frames.Frame.{Frame}
+use Rattle.h2_frames.specs.CaptureOrder.{comes_after}
+
+-- the first frame of one side, and how its later ones go with the other's
+abbrev pub merged_with : Frame → (later : List Frame → List Frame) → List Frame → List Frame
+merged_with x later [] = x ∷ later []
+merged_with x later (y ∷ ys) = if comes_after x y then y ∷ merged_with x later ys else x ∷ later (y ∷ ys)
+
+-- the frames of both sides
+abbrev pub merged : (client server : List Frame) → List Frame
+merged [] ys = ys
+merged (x ∷ xs) ys = merged_with x (merged xs) ys
+
+-- does the server's next frame come before the client's?
+abbrev pub is_server_first : (client server : Option Frame) → Bool
+is_server_first (Some x) (Some y) = comes_after x y
+is_server_first (Some x) None = false
+is_server_first None server = true
