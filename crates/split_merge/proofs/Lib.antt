@@ -5,3 +5,4 @@ pub mod RoundSteps
 pub mod RoundParts
 pub mod RoundMerge
 pub mod RoundExamples
+pub mod RoundCuts

@@ -4,5 +4,6 @@ pub mod StallExamples
 pub mod Board
 pub mod Machine
 pub mod RoundLaws
+pub mod CutLaws
 pub mod RoundExamples
 pub mod code
