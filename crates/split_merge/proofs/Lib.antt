@@ -12,3 +12,4 @@ pub mod LaidOut
 pub mod SplitIs
 pub mod GroupRanges
 pub mod ShownMerge
+pub mod RoundCuts

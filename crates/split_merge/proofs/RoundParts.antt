@@ -15,7 +15,8 @@ swap-front xs ys zs =
     ∙ in_order-alike (xs ++ ys) (ys ++ xs) zs zs (in_order-append_comm xs ys) refl
     ∙ ap in_order (append_assoc ys xs zs)
 
-swap-middle : (xs ys zs us : List Finding) → in_order ((xs ++ ys) ++ (zs ++ us)) ≡ in_order ((xs ++ zs) ++ (ys ++ us))
+pub swap-middle : (xs ys zs us : List Finding) →
+    in_order ((xs ++ ys) ++ (zs ++ us)) ≡ in_order ((xs ++ zs) ++ (ys ++ us))
 swap-middle xs ys zs us =
     ap in_order (append_assoc xs ys (zs ++ us))
     ∙ in_order-alike xs xs (ys ++ (zs ++ us)) (zs ++ (ys ++ us)) refl (swap-front ys zs us)

@@ -5,6 +5,7 @@ pub mod StallExamples
 pub mod Board
 pub mod Machine
 pub mod RoundLaws
+pub mod CutLaws
 pub mod RoundExamples
 pub mod SplitExamples
 pub mod code

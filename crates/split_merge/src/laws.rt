@@ -17,3 +17,20 @@ pub fn run_settles()
 pub fn board_merges()
     ensures { BoardMerges }
 {}
+
+ghost use Rattle.split_merge.specs.CutLaws.{FrontIsCut, WholeIsCut, CutsJoin};
+
+/// What a part may be: a front of what its job finds or all of it, and parts of such lists put together, as where a job
+/// has several streams of which each went up to a place of its own.
+pub fn cuts_join()
+    ensures front { FrontIsCut }
+    ensures whole { WholeIsCut }
+    ensures join { CutsJoin }
+{}
+
+ghost use Rattle.split_merge.specs.CutLaws.{StopsJoin};
+
+/// What a round gives up to its stop may stand for what its whole jobs would give when further rounds add to it.
+pub fn rounds_join()
+    ensures { StopsJoin }
+{}
