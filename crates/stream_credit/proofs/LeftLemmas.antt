@@ -14,6 +14,7 @@ use Rattle.settings_pair.specs.Changes.{AreOrderlyFrom}
 use Rattle.stream_credit.specs.code.Left.{after_changes, after_each, passed, left_from, change_at, left_after}
 use Rattle.stream_credit.specs.code.Merged.{AcknowledgesAt, Acknowledge}
 use Rattle.stream_credit.specs.code.Walk.{AreBefore}
+use Rattle.stream_credit.proofs.MergedLemmas.{below_from_test, below_test}
 
 -- ---- what is in force
 
@@ -58,14 +59,8 @@ none-in_force now (change ∷ changes) windows e h =
 
 -- ---- the changes before a number
 
-below_from_test : (m n : ℕ) → nat_lt m n ≡ true → m < n
-below_from_test m n e = grind (arith, nat_tests)
-
 not_below_from_test : (m n : ℕ) → nat_lt m n ≡ false → n ≤ m
 not_below_from_test m n e = grind (arith, nat_tests)
-
-below_test : (m n : ℕ) → m < n → nat_lt m n ≡ true
-below_test m n h = grind (arith, nat_tests)
 
 equal_from_test : (m n : ℕ) → nat_eq m n ≡ true → m ≡ n
 equal_from_test m n e = grind (arith, nat_tests)

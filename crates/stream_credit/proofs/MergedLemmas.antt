@@ -20,13 +20,13 @@ equal_test m n e = grind (arith, nat_tests)
 unequal_test : (m n : ℕ) → (m ≡ n → ⊥) → nat_eq m n ≡ false
 unequal_test m n e = grind (arith, nat_tests)
 
-below_test : (m n : ℕ) → m < n → nat_lt m n ≡ true
+pub below_test : (m n : ℕ) → m < n → nat_lt m n ≡ true
 below_test m n h = grind (arith, nat_tests)
 
 not_below_test : (m n : ℕ) → n ≤ m → nat_lt m n ≡ false
 not_below_test m n h = grind (arith, nat_tests)
 
-below_from_test : (m n : ℕ) → nat_lt m n ≡ true → m < n
+pub below_from_test : (m n : ℕ) → nat_lt m n ≡ true → m < n
 below_from_test m n e = grind (arith, nat_tests)
 
 -- ---- the walk is the definition's list

@@ -60,11 +60,12 @@ SettingsReachEachStream =
     × (stream_run 2 (promise_frame 9 Server 1 2 ∷ []) (brings 8 Server 10 ∷ [])
     ≡ finding_at StreamCredit 9 2 Server (pos 10) ∷ [])
 
--- changes before the opening count by the last on each side, those after both windows are gone not at all, and a stream that
--- is never opened has no window for any (6.9.2)
+-- changes before the opening count by the last on each side, those after both windows are gone not at all, and a
+-- stream that is never opened has no window for any (6.9.2)
 abbrev pub many_changes : List Change
 many_changes =
-    brings 3 Client 5 ∷ brings 4 Server 6 ∷ brings 6 Client 7 ∷ brings 10 Server 8 ∷ brings 13 Client 9 ∷ brings 15 Server 3 ∷ []
+    brings 3 Client 5 ∷ brings 4 Server 6 ∷ brings 6 Client 7 ∷ brings 10 Server 8 ∷ brings 13 Client 9
+    ∷ brings 15 Server 3 ∷ []
 
 abbrev pub ChangesPassedOver : Type 0
 ChangesPassedOver =

@@ -74,8 +74,8 @@ impl Walk {
         Ok(())
     }
 
-    /// Meets changes, all before a number, whose frames are on other streams. Where no window lives they change none, and
-    /// only what they leave in force counts.
+    /// Meets changes whose frames are on other streams. Where no window lives they change none, and only what they
+    /// leave in force counts.
     pub(crate) fn meet_changes(&mut self, passed: Left<'_>) -> Result<(), AllocError>
         requires streamed { self.old.stream < 2 ^ 31 }
         requires room { (number : ℕ) × HasRoomBefore number passed.changes.now self.old.entry }
