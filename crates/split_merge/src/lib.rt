@@ -1,5 +1,8 @@
-//! What becomes of the findings of one connection (RFC 9113, 5.2) once they stand in one list: which stalls they tell
-//! of, and which frame each of them is about.
+//! A connection by stream and back (RFC 9113, 5 and 5.2).
+//!
+//! - [`split`] gives each stream its frames, as positions in the list of all frames; [`groups`] deals them out.
+//! - [`merge`] puts what was found part by part into one list, up to the least connection error (5.4.1).
+//! - [`stall_pairs`] and [`frame_at`] say which stalls findings tell of, and which frame each of them is about.
 #![tactic(auto)]
 
 mod ends;

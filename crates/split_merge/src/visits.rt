@@ -51,7 +51,8 @@ impl Visits {
     fn note(&mut self, stream: u32, position: u32) -> Result<(), AllocError>
         requires index { IsIndex (streams_in self.old.rows.items) self.old.index }
         requires room { HasAtMost (2 ^ 30) self.old }
-        ensures named { OnOk result (streams_in self.new.rows.items ≡ with_stream stream (streams_in self.old.rows.items)) }
+        ensures named { OnOk result (streams_in self.new.rows.items
+            ≡ with_stream stream (streams_in self.old.rows.items)) }
         ensures table { OnOk result ((notes : List (ℕ × ℕ)) → IsTableOf notes self.old
             → IsTableOf (notes ++ noted stream position) self.new) }
         ensures room { OnOk result ((many : ℕ) → HasAtMost many self.old → HasAtMost (many + 1) self.new) }

@@ -15,7 +15,8 @@ streams_in rows = map (λ (row : StreamRow). row.stream) rows
 
 -- the positions of the visits of a row
 abbrev pub row_positions : (row : ℕ) → List Visit → List ℕ
-row_positions row visits = map (λ (visit : Visit). visit.position) (filter (λ (visit : Visit). visit.row == row) visits)
+row_positions row visits =
+    map (λ (visit : Visit). visit.position) (filter (λ (visit : Visit). visit.row == row) visits)
 
 -- a stream that meets a frame, by the frame's position, unless the stream is 0
 abbrev pub noted : (stream position : ℕ) → List (ℕ × ℕ)
