@@ -9,7 +9,7 @@
 //! - [`Pass::join`] makes two passes one again. [`Desk::close`] takes the last pass, and the [`Closed`] desk tells how
 //!   many numbers were drawn, each once, and the least place of each connection.
 //!
-//! No call waits, takes a lock or allocates, [`Desk::make`] aside. What a pass drew, saw and lowered is known to
+//! No call waits or takes a lock, and none but [`Desk::make`] allocates. What a pass drew, saw and lowered is known to
 //! contracts alone and takes no memory. The steps of all threads stand in one order, and the desk's rule holds between
 //! any two. Nothing is said of who draws what, nor that a place is seen soon.
 #![tactic(auto)]
