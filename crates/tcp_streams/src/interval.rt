@@ -5,7 +5,7 @@ pub const END_OF_OFFSETS: u64 = 0x8000_0000;
 
 /// Offsets of a stream that follow each other and come from one segment, with the index of the first
 /// one's byte in the capture.
-#[derive(Clone, Copy, Debug, PartialEq, Eq)]
+#[derive(Clone, Copy)]
 pub struct Interval {
     pub from: u64,
     pub upto: u64,

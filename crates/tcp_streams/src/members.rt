@@ -5,7 +5,7 @@ use packet_heads::{Endpoint, Segment};
 use std::alloc::{AllocError, Global};
 
 /// A TCP connection that the capture saw open.
-#[derive(Debug, Drop)]
+#[derive(Drop)]
 pub struct Connection {
     /// Who sent the opening SYN.
     pub client: Endpoint,
@@ -72,7 +72,7 @@ impl Connection {
 }
 
 /// The segments of a pair of endpoints before any opening of that pair.
-#[derive(Clone, Copy, Debug, PartialEq, Eq)]
+#[derive(Clone, Copy)]
 pub struct Stray {
     /// The sender of the first of them.
     pub from: Endpoint,
@@ -82,7 +82,7 @@ pub struct Stray {
 }
 
 /// The connections of a capture, in order of opening, and its strays, in order of first sight.
-#[derive(Debug, Drop)]
+#[derive(Drop)]
 pub struct Connections {
     pub opened: Vec<Connection>,
     pub strays: Vec<Stray>,
