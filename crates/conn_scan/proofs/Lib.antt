@@ -2,3 +2,7 @@ pub mod Words
 pub mod BlockLemmas
 pub mod SumLemmas
 pub mod WalkLemmas
+pub mod ClearLemmas
+pub mod ItemsLemmas
+pub mod ShownLemmas
+pub mod FitLemmas

@@ -1,10 +1,12 @@
 -- The conditions under which a block of items is summed and audited.
 use Rattle.std.specs.Prelude.{◌-◌, ◌*◌, ◌^◌, ◌≤◌, List, [], ◌∷◌, length}
+use Rattle.std.specs.List.{AllByRecursion, AllZip}
 use Rattle.audit_terms.specs.declared.sides.Side.TheVariants.{Client, Server}
 use Rattle.audit_terms.specs.declared.connections.ConnectionState.{ConnectionState}
 use Rattle.audit_terms.specs.declared.items.Item.{Item}
 use Rattle.audit_terms.specs.Connection.{connection_after_all}
 use Rattle.audit_terms.specs.code.Room.{HasRoom}
+use Rattle.block_scan.specs.List.{items_of}
 use Rattle.conn_scan.specs.SideCredit.{change_of}
 
 -- the item moves each side's credit by at most 2^32
@@ -21,3 +23,8 @@ pub record BlockFits (now : ConnectionState) (items : List Item) : Type 0 where
 abbrev pub connections_before : ConnectionState → List (List Item) → List ConnectionState
 connections_before now [] = []
 connections_before now (block ∷ blocks) = now ∷ connections_before (connection_after_all now block) blocks
+
+-- where the items of all blocks fit the first connection, each block fits the connection before it
+abbrev pub BlocksFit : Type 0
+BlocksFit = (now : ConnectionState) (blocks : List (List Item)) → BlockFits now (items_of blocks)
+    → AllByRecursion MovesLittle (items_of blocks) → AllZip BlockFits (connections_before now blocks) blocks

@@ -5,6 +5,9 @@ pub mod Ids
 pub mod Latest
 pub mod ConnSum
 pub mod Items
+pub mod ItemsLaw
 pub mod Block
+pub mod Clear
+pub mod StallInBlocks
 pub mod ScanSums
 pub mod code

@@ -6,3 +6,4 @@ pub mod IdsLaws
 pub mod LatestLaws
 pub mod ConnSumLaws
 pub mod Walk
+pub mod Cleared

@@ -1,5 +1,5 @@
 ghost use Rattle.std.specs.Prelude.{◌≡◌};
-ghost use Rattle.conn_scan.specs.Latest.{limit_in, push_in, length_by, grants_zero, newer, lesser};
+ghost use Rattle.conn_scan.specs.Latest.{limit_in, push_in, length_by, grants_zero, promises_odd, is_zero, newer, lesser};
 
 use audit_terms::{Change, Item, Side, Sides};
 use block_scan::Summary;
@@ -13,7 +13,7 @@ pub struct InForce {
     pub push: u32,
 }
 
-/// What some items bring into force, and the lengths of their frames (RFC 9113, 4.2, 6.5.2).
+/// What some items bring into force, the lengths of their frames, and the server's promises (RFC 9113, 4.2, 6.5.2, 8.4).
 #[derive(Clone, Copy, Debug, PartialEq, Eq)]
 pub struct Latest {
     /// The last limit on the length of a frame that they bring for each side.
@@ -26,6 +26,12 @@ pub struct Latest {
     pub push: Option<u32>,
     /// Is there an increment of 0 on stream 0 (6.9)?
     pub zero_grant: bool,
+    /// Does the server promise an odd stream (5.1.1)?
+    pub odd_promise: bool,
+    /// Does the server promise a stream before they bring any ENABLE_PUSH?
+    pub early_promise: bool,
+    /// Does the server promise a stream while an ENABLE_PUSH of 0 that they brought is in force?
+    pub barred_promise: bool,
 }
 
 /// The limit that a change brings for a side, if it brings one.
@@ -64,6 +70,23 @@ fn grants_zero(item: &Item) -> bool
     ensures { result ≡ grants_zero item.now }
 {
     item.frame.grants_nothing(Side::Client, 0) || item.frame.grants_nothing(Side::Server, 0)
+}
+
+/// Does the server promise an odd stream by an item?
+fn promises_odd(item: &Item) -> bool
+    ensures { result ≡ promises_odd item.now }
+{
+    item.frame.is_server_promise() && item.frame.body.promised() % 2 == 1
+}
+
+/// Is the value there, and 0?
+fn is_zero(value: Option<u32>) -> bool
+    ensures { result ≡ is_zero value }
+{
+    match value {
+        Some(value) => value == 0,
+        None => false,
+    }
 }
 
 /// A value, or the one before it where there is none.
@@ -123,6 +146,9 @@ impl Summary for Latest {
             },
             push: None,
             zero_grant: false,
+            odd_promise: false,
+            early_promise: false,
+            barred_promise: false,
         }
     }
 
@@ -140,6 +166,9 @@ impl Summary for Latest {
             },
             push: push_in(&item.change),
             zero_grant: grants_zero(item),
+            odd_promise: promises_odd(item),
+            early_promise: item.frame.is_server_promise(),
+            barred_promise: false,
         }
     }
 
@@ -159,6 +188,10 @@ impl Summary for Latest {
             },
             push: newer(self.push, later.push),
             zero_grant: self.zero_grant | later.zero_grant,
+            odd_promise: self.odd_promise | later.odd_promise,
+            early_promise: self.early_promise | (self.push.is_none() & later.early_promise),
+            barred_promise: (self.barred_promise | later.barred_promise)
+                | (is_zero(self.push) & later.early_promise),
         }
     }
 

@@ -1,5 +1,9 @@
 //! Promises about the definitions alone: functions that do nothing, and whose contracts are the laws.
+ghost use Rattle.conn_scan.specs.Block.{BlocksFit};
+ghost use Rattle.conn_scan.specs.Clear.{ClearShowsCredit};
 ghost use Rattle.conn_scan.specs.ConnSum.{PartsFollow};
+ghost use Rattle.conn_scan.specs.ItemsLaw.{ItemsAreThePass, ItemsOfBlocksJoin};
+ghost use Rattle.conn_scan.specs.StallInBlocks.{StallItemsFound, StallByOne, StallByTwo, StallAtOnce, ClearFrames};
 ghost use Rattle.conn_scan.specs.ScanSums.{StatesFound, FirstSumFound, LastSumFound, CarriesFound};
 
 /// A window of 65,535 bytes is used up, 1 byte is granted, 1 byte is sent: the credit after each change, the summaries
@@ -14,4 +18,34 @@ pub fn scan_sums()
 /// The state that the summaries of a block advance is that of the connection: both step alike at each item.
 pub fn parts_follow_the_connection()
     ensures { PartsFollow }
+{}
+
+/// With the numbers of the opening frames and all changes, the items of a connection's frames are those of the pass.
+pub fn items_are_the_pass()
+    ensures { ItemsAreThePass }
+{}
+
+/// The items of two consecutive blocks, joined, are those of both.
+pub fn items_of_blocks_join()
+    ensures { ItemsOfBlocksJoin }
+{}
+
+/// Where the items of all blocks fit the first connection, each block fits the connection before it.
+pub fn blocks_fit()
+    ensures { BlocksFit }
+{}
+
+/// A clear block shows connection credit alone.
+pub fn clear_shows_credit()
+    ensures { ClearShowsCredit }
+{}
+
+/// All of 65,535 bytes of connection credit are sent, 1 byte is granted, 1 byte is sent: the same in blocks of 1, of 2
+/// and at once. The frames that take up the last credit are not clear, though credit is there before or after them.
+pub fn stall_ends_then_overrun()
+    ensures items { StallItemsFound }
+    ensures by_one { StallByOne }
+    ensures by_two { StallByTwo }
+    ensures at_once { StallAtOnce }
+    ensures clear { ClearFrames }
 {}

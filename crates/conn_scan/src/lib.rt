@@ -2,14 +2,18 @@
 //!
 //! - [`Credit`] is what changes do to one window; [`ClientCredit`] and [`ServerCredit`] what items do to each side's.
 //! - [`Ids`] are the streams that items open, [`Latest`] the settings that they bring and the lengths of their frames.
-//! - [`ConnSum`] is all of these, and [`block_sum`] that of a block; its parts step as the connection does
+//! - [`Block`] is a range of frames with the numbers of those that open streams and the changes of settings: its items
+//!   are walked one by one, and no list of them is made. [`items`] is that list, for who wants it.
+//! - [`ConnSum`] is all of these summaries, and [`block_sum`] that of a block; its parts step as the connection does
 //!   ([`laws::parts_follow_the_connection`]).
-//! - [`block_findings`] is what a block shows, from the state before it.
+//! - [`carries_of`] is the connection before each block, [`block_findings`] what a block shows from there.
+//! - [`clear`] tells by a summary that a block shows nothing but connection credit ([`laws::clear_shows_credit`]).
 #![tactic(auto)]
 
 mod block_items;
 mod blocks;
 mod carried;
+mod cleared;
 mod credits;
 mod ids;
 mod latest;
@@ -22,6 +26,7 @@ pub use audit_terms::ConnectionState as ConnState;
 pub use block_items::{Block, items};
 pub use blocks::{BlockRun, block_findings};
 pub use carried::carries_of;
+pub use cleared::clear;
 pub use credits::Credit;
 pub use ids::{Ids, OpenedIds, PromisedIds};
 pub use latest::{InForce, Latest};

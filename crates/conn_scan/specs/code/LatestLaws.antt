@@ -1,18 +1,19 @@
 -- The summary of settings and lengths obeys the laws.
-use Rattle.std.proofs.Common.{◌≡◌, ℕ, max, Bool, true, false, ◌||◌, List, [], ◌∷◌, ◌++◌, Option, Some, None, refl, ap, ◌∙◌, arith}
-use Rattle.std.specs.Prelude.{unwrap_or, if◌then◌else◌}
+use Rattle.std.proofs.Common.{◌≡◌, ℕ, max, Bool, true, false, ◌&&◌, ◌||◌, List, [], ◌∷◌, ◌++◌, Option, Some, None, refl, sym, ap, ◌∙◌, arith}
+use Rattle.std.specs.Prelude.{is_none, unwrap_or, if◌then◌else◌, ◌==◌}
 use Rattle.audit_terms.specs.declared.sides.Side.{Side}
 use Rattle.audit_terms.specs.declared.sides.Side.TheVariants.{Server}
 use Rattle.audit_terms.specs.declared.items.Change.{Change}
 use Rattle.audit_terms.specs.declared.items.Item.{Item}
 use Rattle.audit_terms.specs.Side.{is_side}
 use Rattle.audit_terms.specs.Sides.{side_of, each_side}
+use Rattle.audit_terms.specs.Frame.{is_server_promise}
 use Rattle.audit_terms.specs.Change.{new_limit, new_push}
 use Rattle.block_scan.specs.Laws.{SummaryLaws}
 use Rattle.block_scan.specs.List.{state_after}
 use Rattle.block_scan.specs.code.Shown.{Shows, lawful}
 use Rattle.conn_scan.specs.declared.latest.InForce.{InForce}
-use Rattle.conn_scan.specs.Latest.{limit_in, push_in, length_by, grants_zero, newer, lesser, last_limit, least_limit, last_push, longest_by, some_zero_grant, latest_of, no_item, one_item, latest_join, in_force_after, latest_advance, SettingsFit}
+use Rattle.conn_scan.specs.Latest.{limit_in, push_in, length_by, grants_zero, promises_odd, is_zero, newer, lesser, last_limit, least_limit, last_push, longest_by, some_zero_grant, some_odd_promise, some_early_promise, some_barred_promise, latest_of, no_item, one_item, latest_join, in_force_after, latest_advance, SettingsFit}
 
 newer_none : (x : Option ℕ) → x ≡ newer None x
 newer_none None = refl
@@ -75,6 +76,63 @@ zero-append [] b = refl
 zero-append (x ∷ a) b = ap (λ t. grants_zero x || t) (zero-append a b) ∙ or_turn (grants_zero x) (some_zero_grant a)
     (some_zero_grant b)
 
+odd-append : (a b : List Item) → some_odd_promise (a ++ b) ≡ some_odd_promise a || some_odd_promise b
+odd-append [] b = refl
+odd-append (x ∷ a) b = ap (λ t. promises_odd x || t) (odd-append a b)
+    ∙ or_turn (promises_odd x) (some_odd_promise a) (some_odd_promise b)
+
+early_turn : (p : Bool) (c l : Option ℕ) (ea eb : Bool)
+    → p || (is_none c && (ea || (is_none l && eb))) ≡ (p || (is_none c && ea)) || (is_none (newer c l) && eb)
+early_turn true c l ea eb = refl
+early_turn false None None ea eb = refl
+early_turn false None (Some v) ea eb = refl
+early_turn false (Some v) None ea eb = refl
+early_turn false (Some v) (Some w) ea eb = refl
+
+early-append : (a b : List Item) → some_early_promise (a ++ b)
+    ≡ some_early_promise a || (is_none (last_push a) && some_early_promise b)
+early-append [] b = refl
+early-append (x ∷ a) b =
+    ap (λ t. is_server_promise x.frame || (is_none (push_in x.change) && t)) (early-append a b)
+    ∙ early_turn (is_server_promise x.frame) (push_in x.change) (last_push a) (some_early_promise a)
+    (some_early_promise b)
+
+or_true : (a : Bool) → a || true ≡ true
+or_true true = refl
+or_true false = refl
+
+later_turn : (w ea ba bb u : Bool) → (w && (ea || false)) || ((ba || bb) || u) ≡ (((w && ea) || ba) || bb) || u
+later_turn true true ba bb u = refl
+later_turn true false ba bb u = refl
+later_turn false ea ba bb u = refl
+
+same_turn : (w ea eb ba bb : Bool)
+    → (w && (ea || eb)) || ((ba || bb) || false) ≡ (((w && ea) || ba) || bb) || (w && eb)
+same_turn true true eb ba bb = refl
+same_turn true false true ba bb = sym (or_true (ba || bb))
+same_turn true false false ba bb = refl
+same_turn false ea eb ba bb = refl
+
+barred_turn : (c l : Option ℕ) (ea eb ba bb : Bool)
+    → (is_zero c && (ea || (is_none l && eb))) || ((ba || bb) || (is_zero l && eb))
+    ≡ (((is_zero c && ea) || ba) || bb) || (is_zero (newer c l) && eb)
+barred_turn c None ea eb ba bb = same_turn (is_zero c) ea eb ba bb
+barred_turn c (Some v) ea eb ba bb = later_turn (is_zero c) ea ba bb ((v == 0) && eb)
+
+barred-append : (a b : List Item) → some_barred_promise (a ++ b)
+    ≡ (some_barred_promise a || some_barred_promise b) || (is_zero (last_push a) && some_early_promise b)
+barred-append [] b = sym (or_false (some_barred_promise b))
+barred-append (x ∷ a) b =
+    ap (λ t. (is_zero (push_in x.change) && t) || some_barred_promise (a ++ b)) (early-append a b)
+    ∙ ap (λ t. (is_zero (push_in x.change)
+    && (some_early_promise a || (is_none (last_push a) && some_early_promise b))) || t) (barred-append a b)
+    ∙ barred_turn (push_in x.change) (last_push a) (some_early_promise a) (some_early_promise b) (some_barred_promise a)
+    (some_barred_promise b)
+
+and_false : (a : Bool) → a && false ≡ false
+and_false true = refl
+and_false false = refl
+
 unwrap_newer : (x y : Option ℕ) (before : ℕ) → unwrap_or (newer x y) before ≡ unwrap_or y (unwrap_or x before)
 unwrap_newer x None before = refl
 unwrap_newer x (Some y) before = refl
@@ -84,12 +142,12 @@ chosen : (b : Bool) (x : Option ℕ) (before : ℕ) → unwrap_or (if b then x e
 chosen true x before = refl
 chosen false x before = refl
 
-limit_is : (d : Side) (change : Option Change) (before : ℕ) → unwrap_or (limit_in d change) before
+pub limit_is : (d : Side) (change : Option Change) (before : ℕ) → unwrap_or (limit_in d change) before
     ≡ new_limit change d before
 limit_is d None before = refl
 limit_is d (Some change) before = chosen (is_side d change.side) change.max_frame before
 
-push_is : (change : Option Change) (before : ℕ) → unwrap_or (push_in change) before ≡ new_push change before
+pub push_is : (change : Option Change) (before : ℕ) → unwrap_or (push_in change) before ≡ new_push change before
 push_is None before = refl
 push_is (Some change) before = chosen (is_side Server change.side) change.push before
 
@@ -117,6 +175,10 @@ latest_shows = record {
   one = λ x i. record (one_item x) {
     longest = each_side (λ d. max_one (length_by d x) i);
     zero_grant = or_false (grants_zero x) i;
+    odd_promise = or_false (promises_odd x) i;
+    early_promise = (ap (λ t. is_server_promise x.frame || t) (and_false (is_none (push_in x.change)))
+        ∙ or_false (is_server_promise x.frame)) i;
+    barred_promise = (ap (λ t. t || false) (and_false (is_zero (push_in x.change)))) i;
   };
   joined = λ a b i. record {
     limit = each_side (λ d. limit-append d a b i);
@@ -124,6 +186,9 @@ latest_shows = record {
     longest = each_side (λ d. longest-append d a b i);
     push = push-append a b i;
     zero_grant = zero-append a b i;
+    odd_promise = odd-append a b i;
+    early_promise = early-append a b i;
+    barred_promise = barred-append a b i;
   };
   moved = λ s a f. moved s a;
 }

@@ -1,0 +1,346 @@
+-- What the summary of a block tells is what its items do.
+use Rattle.std.proofs.Common.{◌≡◌, ℕ, min, max, ◌%◌, ℤ, pos, neg_ℤ, ◌+ℤ◌, ◌-ℤ◌, Bool, true, false, ◌&&◌, ◌||◌, not, ◌==◌, nat_lt, nat_le, ◌<ℤ◌, ◌≤ℤ◌, int_lt, int_le, if◌then◌else◌, List, [], ◌∷◌, map, Option, Some, None, refl, sym, ap, ◌∙◌, ⊎_elim, arith}
+use Rattle.std.specs.Prelude.{unwrap_or, is_none}
+use Rattle.std.specs.List.{list_all}
+use Rattle.std.specs.Int.{int_max, int_min}
+use Rattle.std.proofs.lemmas.Int.{ints, clamps, by_lt_z}
+use Rattle.std.proofs.lemmas.Bool.{cases_lt, lt-ltb, le-ltb, le-leb, lt-leb}
+use Rattle.std.proofs.lemmas.Bool.Decides.{nat_tests}
+use Rattle.audit_terms.specs.declared.sides.Side.TheVariants.{Client, Server}
+use Rattle.audit_terms.specs.declared.connections.ConnectionState.{ConnectionState}
+use Rattle.audit_terms.specs.declared.items.Item.{Item}
+use Rattle.audit_terms.specs.Frame.{is_server_promise, promised_in}
+use Rattle.audit_terms.specs.Window.{largest_window}
+use Rattle.audit_terms.specs.Connection.{is_opened_by_headers, connection_after}
+use Rattle.conn_scan.specs.Credit.{credit_of}
+use Rattle.conn_scan.specs.SideCredit.{change_of}
+use Rattle.conn_scan.specs.Rising.{least_of, rise, present, rising_of}
+use Rattle.conn_scan.specs.Ids.{opened_in, promised_by}
+use Rattle.conn_scan.specs.Latest.{limit_in, push_in, is_zero, lesser, least_limit, longest_by, grants_zero, some_zero_grant, some_odd_promise, some_early_promise, some_barred_promise, latest_of}
+use Rattle.conn_scan.specs.ConnSum.{conn_sum_of}
+use Rattle.conn_scan.specs.Clear.{connections, is_usable, keeps_credit, grants_something, openings_rise, promises_allowed, promises_rise, is_clear}
+use Rattle.conn_scan.specs.code.CreditLaws.{high, low, high-next, low-next}
+use Rattle.conn_scan.specs.code.LatestLaws.{limit_is, push_is}
+use Rattle.conn_scan.specs.code.Cleared.{credit_clear, ids_clear, push_clear, is_within, length_clear, sum_clear}
+
+and_same : {a b c d : Bool} → a ≡ b → c ≡ d → a && c ≡ b && d
+and_same e f = λ i. e i && f i
+
+and_false : (a : Bool) → a && false ≡ false
+and_false true = refl
+and_false false = refl
+
+and_true : (a : Bool) → a && true ≡ a
+and_true true = refl
+and_true false = refl
+
+or_false : (a : Bool) → a || false ≡ a
+or_false true = refl
+or_false false = refl
+
+-- ---- credit
+
+int_lt-true : (a b : ℤ) → a <ℤ b → int_lt a b ≡ true
+int_lt-true a b h = grind (arith, ints)
+
+int_lt-false : (a b : ℤ) → b ≤ℤ a → int_lt a b ≡ false
+int_lt-false a b h = grind (arith, ints)
+
+int_le-true : (a b : ℤ) → a ≤ℤ b → int_le a b ≡ true
+int_le-true a b h = grind (arith, ints)
+
+int_le-false : (a b : ℤ) → b <ℤ a → int_le a b ≡ false
+int_le-false a b h = grind (arith, ints)
+
+-- the credit is usable before some changes and after each
+abbrev usable_all : ℤ → List ℤ → Bool
+usable_all credit [] = is_usable credit && true
+usable_all credit (change ∷ changes) = is_usable credit && usable_all (credit +ℤ change) changes
+
+no_change_same : (c : ℤ) → is_usable c && true ≡ credit_clear c (credit_of [])
+no_change_same c = by_lt_z (pos 0) c
+    (λ p. by_lt_z largest_window c
+    (λ q. rw (int_le-false c largest_window q, int_lt-true (pos 0) c p) refl)
+    (λ q. rw (
+      int_le-true c largest_window q,
+      int_lt-true (pos 0) c p,
+      int_lt-true (neg_ℤ c) (pos 0) (omega (arith, ints)),
+      int_le-true (pos 0) (largest_window -ℤ c) (omega (arith, ints)),
+    ) refl))
+    (λ p. rw (int_lt-false (pos 0) c p) refl)
+
+-- what holds after a change and of the extremes of those after it, holds of all extremes
+step_same : (c x l h : ℤ)
+    → (int_lt (pos 0) (c +ℤ x) && int_le (c +ℤ x) largest_window)
+    && (int_lt (neg_ℤ (c +ℤ x)) l && int_le h (largest_window -ℤ (c +ℤ x)))
+    ≡ int_lt (neg_ℤ c) (int_min x (x +ℤ l)) && int_le (int_max x (x +ℤ h)) (largest_window -ℤ c)
+step_same c x l h =
+    by_lt_z (pos 0) (c +ℤ x)
+    (λ p. by_lt_z largest_window (c +ℤ x)
+    (λ q. rw (
+      int_le-false (c +ℤ x) largest_window q,
+      int_lt-true (pos 0) (c +ℤ x) p,
+      int_le-false (int_max x (x +ℤ h)) (largest_window -ℤ c) (omega (arith, ints, clamps)),
+    ) (sym (and_false _)))
+    (λ q. by_lt_z (neg_ℤ (c +ℤ x)) l
+    (λ r. by_lt_z (largest_window -ℤ (c +ℤ x)) h
+    (λ s. rw (
+      int_le-true (c +ℤ x) largest_window q,
+      int_lt-true (pos 0) (c +ℤ x) p,
+      int_lt-true (neg_ℤ (c +ℤ x)) l r,
+      int_le-false h (largest_window -ℤ (c +ℤ x)) s,
+      int_le-false (int_max x (x +ℤ h)) (largest_window -ℤ c) (omega (arith, ints, clamps)),
+    ) (sym (and_false _)))
+    (λ s. rw (
+      int_le-true (c +ℤ x) largest_window q,
+      int_lt-true (pos 0) (c +ℤ x) p,
+      int_lt-true (neg_ℤ (c +ℤ x)) l r,
+      int_le-true h (largest_window -ℤ (c +ℤ x)) s,
+      int_lt-true (neg_ℤ c) (int_min x (x +ℤ l)) (omega (arith, ints, clamps)),
+      int_le-true (int_max x (x +ℤ h)) (largest_window -ℤ c) (omega (arith, ints, clamps)),
+    ) refl))
+    (λ r. rw (
+      int_le-true (c +ℤ x) largest_window q,
+      int_lt-true (pos 0) (c +ℤ x) p,
+      int_lt-false (neg_ℤ (c +ℤ x)) l r,
+      int_lt-false (neg_ℤ c) (int_min x (x +ℤ l)) (omega (arith, ints, clamps)),
+    ) refl)))
+    (λ p. rw (
+      int_lt-false (pos 0) (c +ℤ x) p,
+      int_lt-false (neg_ℤ c) (int_min x (x +ℤ l)) (omega (arith, ints, clamps)),
+    ) refl)
+
+lesser_self : (x : ℤ) → int_min x (x +ℤ pos 0) ≡ x
+lesser_self x = omega (arith, ints, clamps)
+
+greater_self : (x : ℤ) → int_max x (x +ℤ pos 0) ≡ x
+greater_self x = omega (arith, ints, clamps)
+
+one_change_same : (c x : ℤ) → is_usable (c +ℤ x) && true
+    ≡ int_lt (neg_ℤ c) x && int_le x (largest_window -ℤ c)
+one_change_same c x = no_change_same (c +ℤ x) ∙ step_same c x (pos 0) (pos 0)
+    ∙ ap (λ l. int_lt (neg_ℤ c) l && int_le (int_max x (x +ℤ pos 0)) (largest_window -ℤ c)) (lesser_self x)
+    ∙ ap (λ h. int_lt (neg_ℤ c) x && int_le h (largest_window -ℤ c)) (greater_self x)
+
+usable_same : (c : ℤ) (changes : List ℤ) → usable_all c changes ≡ credit_clear c (credit_of changes)
+usable_same c [] = no_change_same c
+usable_same c (x ∷ []) = ap (λ b. is_usable c && b) (one_change_same c x)
+usable_same c (x ∷ y ∷ ys) =
+    ap (λ b. is_usable c && b)
+    (usable_same (c +ℤ x) (y ∷ ys) ∙ step_same c x (low (y ∷ ys)) (high (y ∷ ys))
+    ∙ ap (λ l. int_lt (neg_ℤ c) l && int_le (int_max x (x +ℤ high (y ∷ ys))) (largest_window -ℤ c))
+    (sym (low-next x y ys))
+    ∙ ap (λ h. int_lt (neg_ℤ c) (low (x ∷ y ∷ ys)) && int_le h (largest_window -ℤ c)) (sym (high-next x y ys)))
+
+client_usable : (now : ConnectionState) (items : List Item) → keeps_credit Client now items
+    ≡ usable_all now.credit.client (map (change_of Client) items)
+client_usable now [] = refl
+client_usable now (item ∷ items) =
+    ap (λ b. is_usable now.credit.client && b) (client_usable (connection_after now item) items)
+
+server_usable : (now : ConnectionState) (items : List Item) → keeps_credit Server now items
+    ≡ usable_all now.credit.server (map (change_of Server) items)
+server_usable now [] = refl
+server_usable now (item ∷ items) =
+    ap (λ b. is_usable now.credit.server && b) (server_usable (connection_after now item) items)
+
+-- ---- identifiers
+
+below_both : (x p q : ℕ) → nat_lt x (min p q) ≡ nat_lt x p && nat_lt x q
+below_both x p q = ⊎_elim
+    (λ lt. ⊎_elim
+    (λ lu. rw (lt-ltb x p lt, lt-ltb x q lu, lt-ltb x (min p q) (omega arith)) refl)
+    (λ ge. rw (lt-ltb x p lt, le-ltb x q ge, le-ltb x (min p q) (omega arith)) refl)
+    (cases_lt x q))
+    (λ ge. rw (le-ltb x p ge, le-ltb x (min p q) (omega arith)) refl)
+    (cases_lt x p)
+
+both_below : (x g q : ℕ) → nat_lt (max x g) q ≡ nat_lt x q && nat_lt g q
+both_below x g q = ⊎_elim
+    (λ lt. ⊎_elim
+    (λ lu. rw (lt-ltb x q lt, lt-ltb g q lu, lt-ltb (max x g) q (omega arith)) refl)
+    (λ ge. rw (lt-ltb x q lt, le-ltb g q ge, le-ltb (max x g) q (omega arith)) refl)
+    (cases_lt g q))
+    (λ ge. rw (le-ltb x q ge, le-ltb (max x g) q (omega arith)) refl)
+    (cases_lt x q)
+
+id_turn : (a b c d : Bool) → a && ((b && c) && d) ≡ (a && b) && (c && d)
+id_turn true true c d = refl
+id_turn true false c d = refl
+id_turn false b c d = refl
+
+-- each identifier is above all before it, and above one
+abbrev rises_past : ℕ → List ℕ → Bool
+rises_past before [] = true
+rises_past before (x ∷ xs) = nat_lt before x && rises_past (max before x) xs
+
+some_rise : (g x : ℕ) (xs : List ℕ) → rises_past g (x ∷ xs) ≡ nat_lt g (least_of (x ∷ xs)) && rise (x ∷ xs)
+some_rise g x [] = refl
+some_rise g x (y ∷ ys) =
+    let q = least_of (y ∷ ys) in
+    ap (λ b. nat_lt g x && b) (some_rise (max g x) y ys)
+    ∙ ap (λ b. nat_lt g x && (b && rise (y ∷ ys))) (both_below g x q)
+    ∙ id_turn (nat_lt g x) (nat_lt g q) (nat_lt x q) (rise (y ∷ ys))
+    ∙ ap (λ b. b && (nat_lt x q && rise (y ∷ ys))) (sym (below_both g x q))
+
+rise_same : (g : ℕ) (ids : List ℕ) → rises_past g ids ≡ ids_clear g (rising_of ids)
+rise_same g [] = refl
+rise_same g (x ∷ xs) = some_rise g x xs
+
+not_le : (s g : ℕ) → not (nat_le s g) ≡ nat_lt g s
+not_le s g = ⊎_elim (λ lt. rw (lt-ltb g s lt, lt-leb s g lt) refl) (λ ge. rw (le-ltb g s ge, le-leb s g ge) refl)
+    (cases_lt g s)
+
+opens_turn : (b : Bool) (s g : ℕ) (later : List (Option ℕ))
+    → not (b && nat_le s g) && rises_past (if b then max g s else g) (present later)
+    ≡ rises_past g (present ((if b then Some s else None) ∷ later))
+opens_turn true s g later = ap (λ t. t && rises_past (max g s) (present later)) (not_le s g)
+opens_turn false s g later = refl
+
+openings_same : (now : ConnectionState) (items : List Item)
+    → openings_rise now items ≡ rises_past now.opened (present (map opened_in items))
+openings_same now [] = refl
+openings_same now (item ∷ items) =
+    ap (λ b. not (is_opened_by_headers item && nat_le item.frame.stream now.opened) && b)
+    (openings_same (connection_after now item) items)
+    ∙ opens_turn (is_opened_by_headers item) item.frame.stream now.opened (map opened_in items)
+
+-- ---- promises
+
+and_turn : (a b c : Bool) → a && (b && c) ≡ (a && b) && c
+and_turn true b c = refl
+and_turn false b c = refl
+
+odd_is : (n : ℕ) → (n % 2 == 1) ≡ not (n % 2 == 0)
+odd_is n = grind (arith, nat_tests)
+
+parity_turn : (e d : Bool) (n g : ℕ) (later : List (Option ℕ)) (o : Bool) → d ≡ not e
+    → not (d || nat_le n g) && (rises_past (if e then max g n else g) (present later) && not o)
+    ≡ rises_past g (present ((if e then Some n else None) ∷ later)) && not (d || o)
+parity_turn true d n g later o is =
+    rw is (ap (λ t. t && (rises_past (max g n) (present later) && not o)) (not_le n g)
+    ∙ and_turn (nat_lt g n) (rises_past (max g n) (present later)) (not o))
+parity_turn false d n g later o is = rw is (sym (and_false (rises_past g (present later))))
+
+promises_turn : (p : Bool) (n g : ℕ) (later : List (Option ℕ)) (o : Bool)
+    → not (p && ((n % 2 == 1) || nat_le n g))
+    && (rises_past (if p && (n % 2 == 0) then max g n else g) (present later) && not o)
+    ≡ rises_past g (present ((if p && (n % 2 == 0) then Some n else None) ∷ later)) && not ((p && (n % 2 == 1)) || o)
+promises_turn true n g later o = parity_turn (n % 2 == 0) (n % 2 == 1) n g later o (odd_is n)
+promises_turn false n g later o = refl
+
+promises_same : (now : ConnectionState) (items : List Item) → promises_rise now items
+    ≡ rises_past now.promised (present (map promised_by items)) && not (some_odd_promise items)
+promises_same now [] = refl
+promises_same now (item ∷ items) =
+    let n = promised_in item.frame.body in
+    ap (λ b. not (is_server_promise item.frame && ((n % 2 == 1) || nat_le n now.promised)) && b)
+    (promises_same (connection_after now item) items)
+    ∙ promises_turn (is_server_promise item.frame) n now.promised (map promised_by items) (some_odd_promise items)
+
+none_turn : (p e z b : Bool) → not (p && z) && (not (e && z) && not b) ≡ not ((p || e) && z) && not b
+none_turn true true true b = refl
+none_turn true true false b = refl
+none_turn true false true b = refl
+none_turn true false false b = refl
+none_turn false true true b = refl
+none_turn false true false b = refl
+none_turn false false true b = refl
+none_turn false false false b = refl
+
+and_not : (e y b : Bool) → not (e && y) && not b ≡ not ((y && e) || b)
+and_not true true b = refl
+and_not true false b = refl
+and_not false true b = refl
+and_not false false b = refl
+
+push_turn : (p : Bool) (c : Option ℕ) (push : ℕ) (e b : Bool)
+    → not (p && (push == 0)) && (not (e && (unwrap_or c push == 0)) && not b)
+    ≡ not ((p || (is_none c && e)) && (push == 0)) && not ((is_zero c && e) || b)
+push_turn p None push e b = none_turn p e (push == 0) b
+push_turn p (Some v) push e b =
+    ap (λ t. not (p && (push == 0)) && t) (and_not e (v == 0) b)
+    ∙ ap (λ t. not (t && (push == 0)) && not (((v == 0) && e) || b)) (sym (or_false p))
+
+push_same : (now : ConnectionState) (items : List Item) → promises_allowed now items
+    ≡ push_clear now.push (latest_of items)
+push_same now [] = refl
+push_same now (item ∷ items) =
+    let p = is_server_promise item.frame in
+    let e = some_early_promise items in
+    let b = some_barred_promise items in
+    ap (λ t. not (p && (now.push == 0)) && t) (push_same (connection_after now item) items)
+    ∙ ap (λ n. not (p && (now.push == 0)) && (not (e && (n == 0)) && not b)) (sym (push_is item.change now.push))
+    ∙ push_turn p (push_in item.change) now.push e b
+
+-- ---- grants of 0 and lengths
+
+not_both : (a b : Bool) → not a && not b ≡ not (a || b)
+not_both true b = refl
+not_both false b = refl
+
+grants_same : (now : ConnectionState) (items : List Item) → grants_something now items ≡ not (some_zero_grant items)
+grants_same now [] = refl
+grants_same now (item ∷ items) =
+    ap (λ b. not (grants_zero item) && b) (grants_same (connection_after now item) items)
+    ∙ not_both (grants_zero item) (some_zero_grant items)
+
+and_twice : (a b : Bool) → a && (a && b) ≡ a && b
+and_twice true b = refl
+and_twice false b = refl
+
+le_min : (l v y : ℕ) → nat_le l v && nat_le l y ≡ nat_le l (min v y)
+le_min l v y = ⊎_elim
+    (λ lt. rw (lt-leb l v lt, lt-leb l (min v y) (omega arith)) refl)
+    (λ ge. ⊎_elim
+    (λ lt. rw (le-leb l v ge, lt-leb l y lt, lt-leb l (min v y) (omega arith)) refl)
+    (λ le. rw (le-leb l v ge, le-leb l y le, le-leb l (min v y) (omega arith)) refl)
+    (cases_lt y l))
+    (cases_lt v l)
+
+length_turn : (l limit : ℕ) (m least : Option ℕ)
+    → nat_le l limit && (nat_le l (unwrap_or m limit) && is_within l least)
+    ≡ nat_le l limit && is_within l (lesser m least)
+length_turn l limit None None = and_twice (nat_le l limit) true
+length_turn l limit None (Some y) = and_twice (nat_le l limit) (nat_le l y)
+length_turn l limit (Some v) None = ap (λ t. nat_le l limit && t) (and_true (nat_le l v))
+length_turn l limit (Some v) (Some y) = ap (λ t. nat_le l limit && t) (le_min l v y)
+
+client_within : (l : ℕ) (now : ConnectionState) (items : List Item)
+    → list_all (λ (at : ConnectionState). nat_le l at.limit.client) (connections now items)
+    ≡ length_clear now.limit.client l (least_limit Client items)
+client_within l now [] = refl
+client_within l now (item ∷ items) =
+    let limit = now.limit.client in
+    ap (λ b. nat_le l limit && b) (client_within l (connection_after now item) items)
+    ∙ ap (λ n. nat_le l limit && (nat_le l n && is_within l (least_limit Client items)))
+    (sym (limit_is Client item.change limit))
+    ∙ length_turn l limit (limit_in Client item.change) (least_limit Client items)
+
+server_within : (l : ℕ) (now : ConnectionState) (items : List Item)
+    → list_all (λ (at : ConnectionState). nat_le l at.limit.server) (connections now items)
+    ≡ length_clear now.limit.server l (least_limit Server items)
+server_within l now [] = refl
+server_within l now (item ∷ items) =
+    let limit = now.limit.server in
+    ap (λ b. nat_le l limit && b) (server_within l (connection_after now item) items)
+    ∙ ap (λ n. nat_le l limit && (nat_le l n && is_within l (least_limit Server items)))
+    (sym (limit_is Server item.change limit))
+    ∙ length_turn l limit (limit_in Server item.change) (least_limit Server items)
+
+pub clear_same : (now : ConnectionState) (items : List Item) → sum_clear now (conn_sum_of items) ≡ is_clear now items
+clear_same now items = sym (
+    and_same
+    (and_same
+    (and_same
+    (client_usable now items ∙ usable_same now.credit.client (map (change_of Client) items))
+    (server_usable now items ∙ usable_same now.credit.server (map (change_of Server) items)))
+    (and_same (grants_same now items)
+    (openings_same now items ∙ rise_same now.opened (present (map opened_in items)))))
+    (and_same
+    (and_same (push_same now items)
+    (promises_same now items
+    ∙ ap (λ b. b && not (some_odd_promise items)) (rise_same now.promised (present (map promised_by items)))))
+    (and_same
+    (client_within (longest_by Client items) now items)
+    (server_within (longest_by Server items) now items))))

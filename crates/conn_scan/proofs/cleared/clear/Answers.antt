@@ -1,0 +1,8 @@
+use Rattle.std.proofs.Common.{ap, ◌∙◌}
+use Rattle.conn_scan.specs.code.Cleared.{sum_clear}
+use Rattle.conn_scan.proofs.ClearLemmas.{clear_same}
+use Rattle.conn_scan.proofs.cleared.clear.Goals as goal
+
+pub returns : goal.returns
+returns c = λ items e.
+    c.is_sum_clear.ensures ∙ ap (sum_clear c.args.before.now) e ∙ clear_same c.args.before.now items
