@@ -1,0 +1,3 @@
+//! Two passes of one desk, in one thread and in two.
+
+mod draws_and_stops;
