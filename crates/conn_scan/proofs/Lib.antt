@@ -6,3 +6,4 @@ pub mod ClearLemmas
 pub mod ItemsLemmas
 pub mod ShownLemmas
 pub mod FitLemmas
+pub mod OpeningLemmas
