@@ -33,17 +33,15 @@ shown-append credits (x ∷ a) b = step (is_shown credits x) (shown-append credi
 
 -- what is shown of a block, one item further
 pub shown_next : (credits : Bool) (all : List Finding) (state next : ConnectionState) (item : Item) (rest : List Item)
-    (old new met sorted kept : List Finding)
+    (old new said : List Finding)
     → shown credits all ≡ old ++ shown credits (block_run state (item ∷ rest))
-    → next ≡ connection_after state item → met ≡ connection_said state item → sorted ≡ in_order met
-    → kept ≡ shown credits sorted → new ≡ old ++ kept
+    → next ≡ connection_after state item
+    → said ≡ shown credits (in_order (connection_said state item)) → new ≡ old ++ said
     → shown credits all ≡ new ++ shown credits (block_run next rest)
-shown_next credits all state next item rest old new met sorted kept so_far after said in_turn left added =
+shown_next credits all state next item rest old new said so_far after here added =
     let later = block_run (connection_after state item) rest in
-    let here : shown credits (in_order (connection_said state item)) ≡ kept =
-    ap (λ l. shown credits (in_order l)) (sym said) ∙ ap (shown credits) (sym in_turn) ∙ sym left in
     so_far ∙ ap (λ l. old ++ l) (shown-append credits (in_order (connection_said state item)) later)
-    ∙ ap (λ l. old ++ (l ++ shown credits later)) here
-    ∙ sym (append_assoc old kept (shown credits later))
+    ∙ ap (λ l. old ++ (l ++ shown credits later)) (sym here)
+    ∙ sym (append_assoc old said (shown credits later))
     ∙ ap (λ l. l ++ shown credits later) (sym added)
     ∙ ap (λ s. new ++ shown credits (block_run s rest)) (sym after)

@@ -1,11 +1,13 @@
-ghost use Rattle.std.specs.Prelude.{◌≡◌, IfOk};
-ghost use Rattle.audit_terms.specs.Connection.{block_run};
-ghost use Rattle.audit_terms.specs.Finding.{shown};
+ghost use Rattle.std.specs.Prelude.{◌≡◌, ℕ, ◌+◌, ◌^◌, IfOk, OnOk};
+ghost use Rattle.audit_terms.specs.Frame.{IsInRange};
+ghost use Rattle.audit_terms.specs.Connection.{connection_said, connection_after, block_run};
+ghost use Rattle.audit_terms.specs.Finding.{in_order, shown};
+ghost use Rattle.audit_terms.specs.code.Room.{HasRoom};
 ghost use Rattle.conn_scan.specs.Items.{items_in, IsBlock};
 ghost use Rattle.conn_scan.specs.Block.{BlockFits};
 
 use crate::block_items::Block;
-use audit_terms::{ConnectionState, Finding, keep_shown, put_in_order};
+use audit_terms::{ConnectionState, Finding, Item, keep_shown, put_in_order};
 use std::alloc::{AllocError, Global};
 
 /// What a block of frames shows of its connection.
@@ -33,11 +35,31 @@ pub fn block_findings(
     let mut findings = Vec::new(alloc);
     let mut said = Vec::new(alloc);
     for item in block.items() {
-        said.clear();
-        state.meet(&mut said, &item)?;
-        put_in_order(&mut said)?;
-        keep_shown(&mut said, credits_shown);
+        say_item(&mut said, &mut state, &item, credits_shown)?;
         findings.extend_from_slice(said.as_slice())?;
     }
     Ok(BlockRun { findings })
+}
+
+/// Makes of `said` what an item shows, in order, and brings the connection to its state after the item.
+fn say_item(
+    said: &mut Vec<Finding>,
+    state: &mut ConnectionState,
+    item: &Item,
+    credits_shown: bool,
+) -> Result<(), AllocError>
+    requires frame { IsInRange item.now.frame }
+    requires client { HasRoom (2 ^ 60) state.old.credit.client }
+    requires server { HasRoom (2 ^ 60) state.old.credit.server }
+    ensures said { OnOk result (said.new.items
+        ≡ shown credits_shown (in_order (connection_said state.old item.now))) }
+    ensures after { OnOk result (state.new ≡ connection_after state.old item.now) }
+    ensures client { (n : ℕ) → HasRoom n state.old.credit.client → HasRoom (n + 2 ^ 32) state.new.credit.client }
+    ensures server { (n : ℕ) → HasRoom n state.old.credit.server → HasRoom (n + 2 ^ 32) state.new.credit.server }
+{
+    said.clear();
+    state.meet(said, item)?;
+    put_in_order(said)?;
+    keep_shown(said, credits_shown);
+    Ok(())
 }

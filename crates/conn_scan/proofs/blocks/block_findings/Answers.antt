@@ -25,11 +25,11 @@ loop-item-init c =
       server = rw (all, is) c.requires.fits.server;
     }
 
-pub meet-requires-clause-client : goal.meet-requires-clause-client
-meet-requires-clause-client c = room-wider _ (2 ^ 60) _ (omega arith) c.loop-item.invariant.client
+pub say_item-requires-clause-client : goal.say_item-requires-clause-client
+say_item-requires-clause-client c = room-wider _ (2 ^ 60) _ (omega arith) c.loop-item.invariant.client
 
-pub meet-requires-clause-server : goal.meet-requires-clause-server
-meet-requires-clause-server c = room-wider _ (2 ^ 60) _ (omega arith) c.loop-item.invariant.server
+pub say_item-requires-clause-server : goal.say_item-requires-clause-server
+say_item-requires-clause-server c = room-wider _ (2 ^ 60) _ (omega arith) c.loop-item.invariant.server
 
 pub loop-item-preserved : goal.loop-item-preserved
 loop-item-preserved c =
@@ -37,19 +37,17 @@ loop-item-preserved c =
     let walk = c.next.new.self in
     let rest = walked walk.opened.now walk.changes.now walk.frames.now in
     let steps = c.in-Some.ensures.steps in
-    let meets = c.in_ok-meet.ensures in
+    let meets = c.in_ok-say_item.ensures in
     let number = rw steps at i.number in
     record {
       number = omega arith;
       ranges = (rw steps at i.ranges).1;
-      said = shown_next c.args.credits_shown _ c.loop-item.state c.meet.new.self c.in-Some.item rest
-          c.loop-item.findings.items c.extend_from_slice.new.self.items c.meet.new.found.items
-          c.put_in_order.new.found.items c.keep_shown.new.found.items (rw steps at i.said) meets.after
-          (rw c.clear.ensures.items at meets.said) c.in_ok-put_in_order.ensures.ok c.keep_shown.ensures
-          (rw c.as_slice.ensures.value at c.in_ok-extend_from_slice.ensures.items);
-      client = room_next (length rest) c.meet.new.self.credit.client number
+      said = shown_next c.args.credits_shown _ c.loop-item.state c.say_item.new.state c.in-Some.item rest
+          c.loop-item.findings.items c.extend_from_slice.new.self.items c.say_item.new.said.items (rw steps at i.said)
+          meets.after meets.said (rw c.as_slice.ensures.value at c.in_ok-extend_from_slice.ensures.items);
+      client = room_next (length rest) c.say_item.new.state.credit.client number
           (meets.client _ (rw steps at i.client));
-      server = room_next (length rest) c.meet.new.self.credit.server number
+      server = room_next (length rest) c.say_item.new.state.credit.server number
           (meets.server _ (rw steps at i.server));
     }
 
