@@ -1,0 +1,3 @@
+pub mod Openings
+pub mod Parts
+pub mod Items

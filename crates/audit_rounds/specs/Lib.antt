@@ -1,0 +1,4 @@
+pub mod Openings
+pub mod Items
+pub mod Stub
+pub mod code

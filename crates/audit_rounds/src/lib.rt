@@ -1,0 +1,6 @@
+//! The audit of connections, divided over workers.
+#![tactic(auto)]
+
+pub mod laws;
+mod streams;
+pub mod stub;
