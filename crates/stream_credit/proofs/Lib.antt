@@ -1,3 +1,3 @@
 pub mod MergedLemmas
-pub mod AccountLemmas
-pub mod RunLemmas
+pub mod LeftLemmas
+pub mod WalkLemmas

@@ -1,18 +1,16 @@
--- The forward walk gives the steps of the definition, numbered and ranged as the frames and the changes are.
-use Rattle.std.proofs.Common.{◌≡◌, ℕ, ◌+◌, ◌-◌, ◌^◌, ◌<◌, ◌≤◌, All, Bool, true, false, nat_lt, nat_eq, ◌==◌, if◌then◌else◌, List, [], ◌∷◌, map, Option, Some, None, refl, sym, ap, ◌∙◌, subst, ◌⊎◌, inl, inr, arith}
+-- The forward walk gives the steps of the definition; it takes out the changes before a frame, then the frame.
+use Rattle.std.proofs.Common.{◌≡◌, ℕ, ◌+◌, ◌<◌, ◌≤◌, All, Bool, true, false, nat_lt, nat_eq, ◌==◌, if◌then◌else◌, List, [], ◌∷◌, ◌++◌, map, Option, Some, refl, sym, ap, ◌∙◌, ◌⊎◌, inl, inr, arith}
 use Rattle.std.specs.List.{AllByRecursion}
-use Rattle.std.specs.Option.{ForSome}
 use Rattle.std.proofs.lemmas.List.Elements.{recursion_from_All}
 use Rattle.std.proofs.lemmas.Bool.{cases_order}
-use Rattle.std.proofs.lemmas.Option.{same_Some}
 use Rattle.std.proofs.lemmas.Bool.Decides.{nat_tests}
 use Rattle.audit_terms.specs.declared.frames.Frame.{Frame}
 use Rattle.audit_terms.specs.declared.items.Change.{Change}
 use Rattle.audit_terms.specs.declared.items.Step.{Step}
-use Rattle.audit_terms.specs.Frame.{is_ack, meets, IsOrderlyFrom}
 use Rattle.audit_terms.specs.Run.{frame_step, change_step, with_change, steps_of}
 use Rattle.settings_pair.specs.Changes.{AreOrderlyFrom, AreAcknowledged}
-use Rattle.stream_credit.specs.code.Merged.{joined_step, merged_at, merged, IsStepOn, AreStepsFrom}
+use Rattle.stream_credit.specs.code.Left.{passed, left_from, change_at, left_after}
+use Rattle.stream_credit.specs.code.Merged.{joined_step, merged_at, merged, AcknowledgesAt, Acknowledge}
 
 -- ---- the tests on two numbers, by their order
 
@@ -27,6 +25,9 @@ below_test m n h = grind (arith, nat_tests)
 
 not_below_test : (m n : ℕ) → n ≤ m → nat_lt m n ≡ false
 not_below_test m n h = grind (arith, nat_tests)
+
+below_from_test : (m n : ℕ) → nat_lt m n ≡ true → m < n
+below_from_test m n e = grind (arith, nat_tests)
 
 -- ---- the walk is the definition's list
 
@@ -94,98 +95,44 @@ steps_of-merged low frames [] h = sym (merged-no_changes frames)
 steps_of-merged low frames (change ∷ changes) h =
     ap (λ steps. with_change steps change) (steps_of-merged (change.number + 1) frames changes h.2) ∙ with_change-merged frames change changes h.2
 
--- ---- its steps are the stream's, acknowledged, and their numbers rise
+-- ---- the walk takes out the changes before a frame, then the frame with its own
 
-equal_from_test : (m n : ℕ) → nat_eq m n ≡ true → m ≡ n
-equal_from_test m n e = grind (arith, nat_tests)
+pub merged_at-passed : (frame : Frame) (after : List Change → List Step) (changes : List Change)
+    → merged_at frame after changes
+    ≡ map change_step (passed frame.number changes) ++ merged_at frame after (left_from frame.number changes)
+merged_at-passed frame after [] = refl
+merged_at-passed frame after (change ∷ changes) =
+    by_test (nat_lt change.number frame.number) refl (merged_at-passed frame after changes) where
+      by_test : (below : Bool) → nat_lt change.number frame.number ≡ below
+          → merged_at frame after changes
+          ≡ map change_step (passed frame.number changes) ++ merged_at frame after (left_from frame.number changes)
+          → merged_at frame after (change ∷ changes)
+          ≡ map change_step (passed frame.number (change ∷ changes)) ++ merged_at frame after (left_from frame.number (change ∷ changes))
+      by_test true e others =
+          let under : change.number < frame.number = below_from_test change.number frame.number e in
+          rw (e, unequal_test frame.number change.number (λ same. absurd (omega (arith, under, same))))
+          (ap (λ steps. change_step change ∷ steps) others)
+      by_test false e others = rw (e, e) refl
 
-unequal_from_test : (m n : ℕ) → nat_eq m n ≡ false → m ≡ n → ⊥
-unequal_from_test m n e same = grind (arith, nat_tests)
+-- a frame with what it brings
+abbrev pub frame_with : Frame → Option Change → Step
+frame_with frame change = record { number = frame.number; frame = Some frame; change = change }
 
-below_from_test : (m n : ℕ) → nat_lt m n ≡ true → m < n
-below_from_test m n e = grind (arith, nat_tests)
+pub merged_at-own : (frame : Frame) (after : List Change → List Step) (changes : List Change) → AreOrderlyFrom frame.number changes
+    → merged_at frame after changes
+    ≡ frame_with frame (change_at frame.number changes) ∷ after (left_after frame.number changes)
+merged_at-own frame after [] h = refl
+merged_at-own frame after (change ∷ changes) h = by_test (frame.number == change.number) refl where
+  by_test : (same : Bool) → nat_eq frame.number change.number ≡ same
+      → merged_at frame after (change ∷ changes)
+      ≡ frame_with frame (change_at frame.number (change ∷ changes)) ∷ after (left_after frame.number (change ∷ changes))
+  by_test true e = rw e refl
+  by_test false e = rw (e, not_below_test change.number frame.number h.0) refl
 
-not_below_from_test : (m n : ℕ) → nat_lt m n ≡ false → n ≤ m
-not_below_from_test m n e = grind (arith, nat_tests)
-
--- the change's frame, if it is this one, is an acknowledgement
-abbrev AcknowledgesAt : Frame → Change → Type 0
-AcknowledgesAt frame change = frame.number ≡ change.number → is_ack frame.body ≡ true
-
--- the same of each frame and each change
-abbrev Acknowledge : List Frame → List Change → Type 0
-Acknowledge frames changes = AllByRecursion (λ frame. AllByRecursion (AcknowledgesAt frame) changes) frames
-
-acknowledge-tail : (frames : List Frame) (change : Change) (changes : List Change) → Acknowledge frames (change ∷ changes) → Acknowledge frames changes
-acknowledge-tail [] change changes h = tt
-acknowledge-tail (frame ∷ frames) change changes h = (h.0.1, acknowledge-tail frames change changes h.1)
+-- ---- acknowledgements, by recursion
 
 pub acknowledge-all : (frames : List Frame) (changes : List Change) → AreAcknowledged frames changes → Acknowledge frames changes
 acknowledge-all frames changes h = by_frame frames (recursion_from_All (λ (frame : Frame). All (AcknowledgesAt frame) changes) frames h) where
   by_frame : (fs : List Frame) → AllByRecursion (λ frame. All (AcknowledgesAt frame) changes) fs → Acknowledge fs changes
   by_frame [] k = tt
   by_frame (f ∷ fs) k = (recursion_from_All (AcknowledgesAt f) changes k.0, by_frame fs k.1)
-
--- a step of a frame that the stream meets
-frame_is_on : (stream : ℕ) (frame : Frame) (change : Option Change) → frame.number < 2 ^ 28 - 1 → meets stream frame ≡ true
-    → ForSome change (λ _. is_ack frame.body ≡ true)
-    → IsStepOn stream (record { number = frame.number; frame = Some frame; change = change })
-frame_is_on stream frame change low met acked = record {
-  number = low;
-  met = λ f e. subst (λ (x : Frame). meets stream x ≡ true) (same_Some frame f e) met;
-  acknowledged = λ c k f e. subst (λ (x : Frame). is_ack x.body ≡ true) (same_Some frame f e) (acked c k);
-}
-
--- a step of a change alone
-change_is_on : (stream : ℕ) (change : Change) → change.number < 2 ^ 28 - 1 → IsStepOn stream (change_step change)
-change_is_on stream change low = record { number = low; met = λ f e. cc; acknowledged = λ c k f e. cc }
-
-change_steps : (stream low : ℕ) (changes : List Change) → AreOrderlyFrom low changes → AreStepsFrom stream low (map change_step changes)
-change_steps stream low [] h = tt
-change_steps stream low (change ∷ changes) h =
-    (h.0, change_is_on stream change h.1, change_steps stream (change.number + 1) changes h.2)
-
-orderly_lower : (low lower : ℕ) (changes : List Change) → lower ≤ low → AreOrderlyFrom low changes → AreOrderlyFrom lower changes
-orderly_lower low lower [] below h = tt
-orderly_lower low lower (change ∷ changes) below h = (omega (arith, h.0), h.1, h.2)
-
--- of a frame, those after it and some changes; `Rest` is what the steps after the frame ask of the changes
-merged_at-steps : (stream low : ℕ) (frame : Frame) (after : List Change → List Step) (Rest : List Change → Type 0) (changes : List Change)
-    → low ≤ frame.number → frame.number < 2 ^ 28 - 1 → meets stream frame ≡ true
-    → ((c : Change) (cs : List Change) → Rest (c ∷ cs) → Rest cs)
-    → ((cs : List Change) → Rest cs → AreOrderlyFrom (frame.number + 1) cs → AreStepsFrom stream (frame.number + 1) (after cs))
-    → AllByRecursion (AcknowledgesAt frame) changes → Rest changes
-    → AreOrderlyFrom low changes → AreStepsFrom stream low (merged_at frame after changes)
-merged_at-steps stream low frame after Rest [] above fits met drop rest acked r h =
-    (above, frame_is_on stream frame None fits met (λ c k. cc), rest [] r tt)
-merged_at-steps stream low frame after Rest (change ∷ changes) above fits met drop rest acked r h =
-    by_test (frame.number == change.number) (nat_lt change.number frame.number) refl refl
-    (λ (more : change.number + 1 ≤ frame.number).
-    merged_at-steps stream (change.number + 1) frame after Rest changes more fits met drop rest acked.1 (drop change changes r) h.2) where
-      by_test : (same below : Bool) → nat_eq frame.number change.number ≡ same → nat_lt change.number frame.number ≡ below
-          → (change.number + 1 ≤ frame.number → AreStepsFrom stream (change.number + 1) (merged_at frame after changes))
-          → AreStepsFrom stream low (if same then joined_step frame change ∷ after changes
-          else if below then change_step change ∷ merged_at frame after changes else frame_step frame ∷ after (change ∷ changes))
-      by_test true below e g others =
-          let same = equal_from_test frame.number change.number e in (
-            above,
-            frame_is_on stream frame (Some change) fits met (λ c k. acked.0 same),
-            rest changes (drop change changes r) (orderly_lower (change.number + 1) (frame.number + 1) changes (omega (arith, same)) h.2),
-          )
-      by_test false true e g others =
-          (h.0, change_is_on stream change h.1, others (omega (arith, below_from_test change.number frame.number g)))
-      by_test false false e g others = (
-        above,
-        frame_is_on stream frame None fits met (λ c k. cc),
-        rest (change ∷ changes) r
-            (omega (arith, not_below_from_test change.number frame.number g, unequal_from_test frame.number change.number e), h.1, h.2),
-      )
-
-pub merged-steps : (stream low : ℕ) (frames : List Frame) (changes : List Change) → IsOrderlyFrom low frames
-    → AllByRecursion (λ (frame : Frame). meets stream frame ≡ true) frames → Acknowledge frames changes
-    → AreOrderlyFrom low changes → AreStepsFrom stream low (merged frames changes)
-merged-steps stream low [] changes orderly own acked h = change_steps stream low changes h
-merged-steps stream low (frame ∷ frames) changes orderly own acked h =
-    merged_at-steps stream low frame (merged frames) (Acknowledge frames) changes orderly.0 orderly.1.number own.0
-    (acknowledge-tail frames)
-    (λ cs a k. merged-steps stream (frame.number + 1) frames cs orderly.2 own.1 a k) acked.0 acked.1 h

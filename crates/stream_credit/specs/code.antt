@@ -1,2 +1,3 @@
-pub mod Account
+pub mod Left
 pub mod Merged
+pub mod Walk

@@ -4,7 +4,7 @@ ghost use Rattle.audit_terms.specs.Frame.{IsInRange, promised_in};
 use audit_terms::{Body, Change, Finding, Frame, Kind, Settings, Side};
 use settings_pair::pair;
 use std::test::Fail;
-use stream_credit::{StreamPart, stream_run};
+use stream_credit::{Changes, StreamPart, stream_run};
 
 /// A frame without payload.
 fn frame(number: u32, side: Side, code: u8, stream: u32, body: Body) -> Frame
@@ -69,19 +69,20 @@ fn oldest_settings_first(rt: HostRuntime) -> Result<(), Fail> {
 fn opens_at_zero(rt: HostRuntime) -> Result<(), Fail> {
     let part = StreamPart {
         stream: 1,
-        frames: vec![in rt.alloc(); frame(5, Side::Client, 1, 1, Body::Headers)]?,
+        frames: &[
+            frame(4, Side::Client, 6, 0, Body::Ping),
+            frame(5, Side::Client, 1, 1, Body::Headers),
+        ],
+        positions: &[1],
     };
-    let run = stream_run(rt.alloc(), &part, &[change(3, 0)])?;
+    let changes = [change(3, 0)];
+    let changes = Changes::of(rt.alloc(), &changes)?;
+    let run = stream_run(rt.alloc(), &part, &changes, false)?;
     assert_eq!(rt;
         (run.opened_at, run.findings.as_slice()),
         (
             Some(5),
-            [
-                Finding::at(Kind::StreamStallBegin, 5, 1, Side::Client, 0),
-                Finding::at(Kind::StreamCredit, 5, 1, Side::Client, 0),
-                Finding::at(Kind::StreamCredit, 5, 1, Side::Server, 65535),
-            ]
-            .as_slice(),
+            [Finding::at(Kind::StreamStallBegin, 5, 1, Side::Client, 0)].as_slice(),
         )
     );
     Ok(())

@@ -1,11 +1,10 @@
 -- The steps of a stream by one forward walk over its frames and the connection's changes.
-use Rattle.std.specs.Prelude.{◌≡◌, ℕ, ◌+◌, ◌-◌, ◌^◌, ◌<◌, ◌≤◌, true, ◌==◌, nat_lt, if◌then◌else◌, List, [], ◌∷◌, map, Some}
-use Rattle.std.specs.Option.{ForSome}
+use Rattle.std.specs.Prelude.{◌≡◌, true, ◌==◌, nat_lt, if◌then◌else◌, List, [], ◌∷◌, map, Some}
+use Rattle.std.specs.List.{AllByRecursion}
 use Rattle.audit_terms.specs.declared.frames.Frame.{Frame}
 use Rattle.audit_terms.specs.declared.items.Change.{Change}
 use Rattle.audit_terms.specs.declared.items.Step.{Step}
-use Rattle.audit_terms.specs.Frame.{meets}
-use Rattle.audit_terms.specs.Stream.{IsAcknowledged}
+use Rattle.audit_terms.specs.Frame.{is_ack}
 use Rattle.audit_terms.specs.Run.{frame_step, change_step}
 
 -- a frame with the change that it brings
@@ -25,14 +24,10 @@ abbrev pub merged : List Frame → List Change → List Step
 merged [] changes = map change_step changes
 merged (frame ∷ frames) changes = merged_at frame (merged frames) changes
 
--- a step that a frame makes which the stream meets, or a change, or an acknowledgement with its change
-pub record IsStepOn (stream : ℕ) (step : Step) : Type 0 where
-  pub number : step.number < 2 ^ 28 - 1
-  pub met : ForSome step.frame (λ frame. meets stream frame ≡ true)
-  pub acknowledged : IsAcknowledged step
+-- the change's frame, if it is this one, is an acknowledgement
+abbrev pub AcknowledgesAt : Frame → Change → Type 0
+AcknowledgesAt frame change = frame.number ≡ change.number → is_ack frame.body ≡ true
 
--- the first step numbered `low` or above, each further one above the one before it
-abbrev pub AreStepsFrom : (stream low : ℕ) → List Step → Type 0
-AreStepsFrom stream low [] = Unit {0}
-AreStepsFrom stream low (step ∷ steps) =
-    (low ≤ step.number) × IsStepOn stream step × AreStepsFrom stream (step.number + 1) steps
+-- the same of each frame and each change
+abbrev pub Acknowledge : List Frame → List Change → Type 0
+Acknowledge frames changes = AllByRecursion (λ frame. AllByRecursion (AcknowledgesAt frame) changes) frames

@@ -1,48 +1,57 @@
-use Rattle.std.proofs.Common.{◌≡◌, true, List, refl, ap, ◌∙◌, subst}
-use Rattle.std.proofs.lemmas.List.Elements.{recursion_from_All}
+use Rattle.std.proofs.Common.{◌≤◌, ◌+◌, List, drop, length, ap, subst, arith}
+use Rattle.std.proofs.lemmas.List.{drop_all}
 use Rattle.audit_terms.specs.declared.frames.Frame.{Frame}
-use Rattle.audit_terms.specs.declared.items.Step.{Step}
-use Rattle.audit_terms.specs.Frame.{meets}
-use Rattle.stream_credit.specs.code.Account.{entry_of}
-use Rattle.stream_credit.specs.code.Merged.{merged, AreStepsFrom}
-use Rattle.stream_credit.proofs.AccountLemmas.{IsSound-later}
-use Rattle.stream_credit.proofs.MergedLemmas.{acknowledge-all, merged-steps}
-use Rattle.stream_credit.proofs.RunLemmas.{found-all, entry-at_end}
+use Rattle.stream_credit.specs.Part.{frames_at, part_frames}
+use Rattle.stream_credit.specs.code.Merged.{merged}
+use Rattle.stream_credit.specs.code.Walk.{Continues, IsSound}
+use Rattle.stream_credit.proofs.WalkLemmas.{then-continues, frames-next, rest-has_room, all-continues, run-found, run-ends}
 use Rattle.stream_credit.proofs.runs.stream_run.Goals as goal
 
-pub loop-step-init : goal.loop-step-init
-loop-step-init c =
+pub meet_frame-requires : goal.meet_frame-requires
+meet_frame-requires c =
     let part = c.args.part.now in
-    let account = c.idle-account.ensures in
-    let all : merged c.into_iter-step-iterator.result.frames.now c.into_iter-step-iterator.result.changes.now ≡ merged part.frames.items c.args.changes.now =
-    rw (c.into_iter-step-iterator.ensures.into_iter_gives, c.as_slice.ensures.value) refl in
+    let i = c.loop-position.position-index in
+    let later = frames_at part.frames.now (drop (i + 1) part.positions.now) in
+    let next = frames-next part.frames.now part.positions.now i 0 _ c.loop-position-test.true (c.requires.part.within i 0 c.loop-position-test.true) in
+    (later, subst (IsSound c.loop-position.walk c.loop-position.left) next c.loop-position.invariant.sound)
+
+pub loop-position-preserved : goal.loop-position-preserved
+loop-position-preserved c =
+    let part = c.args.part.now in
+    let i = c.loop-position.position-index in
+    let later = frames_at part.frames.now (drop (i + 1) part.positions.now) in
+    let next = frames-next part.frames.now part.positions.now i 0 _ c.loop-position-test.true (c.requires.part.within i 0 c.loop-position-test.true) in
+    let met = c.in_ok-meet_frame.ensures in
     record {
-      low = 0;
-      sound = account.sound 0;
-      same_stream = account.stream;
-      steps = rw all (merged-steps part.stream 0 part.frames.items c.args.changes.now c.requires.part.orderly
-          (recursion_from_All (λ (frame : Frame). meets part.stream frame ≡ true) part.frames.items c.requires.part.own)
-          (acknowledge-all part.frames.items c.args.changes.now c.requires.acknowledged) c.requires.changes);
-      findings = rw (all, c.new-findings.ensures.items, account.initial, account.entry) refl;
-      ends = rw (all, account.initial, account.entry) refl;
+      sound = met.sound later (subst (IsSound c.loop-position.walk c.loop-position.left) next c.loop-position.invariant.sound);
+      continues = then-continues
+          (subst (λ (frames : List Frame). Continues c.idle-walk.result (merged (part_frames part) c.left-left.result.changes.now)
+          c.loop-position.walk (merged frames c.loop-position.left.changes.now)) next c.loop-position.invariant.continues)
+          (met.continues later);
     }
 
-pub meet-requires-clause-sound : goal.meet-requires-clause-sound
-meet-requires-clause-sound c =
-    let i = c.loop-step.invariant in
-    let steps = subst (λ (steps : List Step). AreStepsFrom c.args.part.now.stream i.low steps) c.in-Some.ensures.steps i.steps in
-    IsSound-later i.low c.in-Some.step.number c.loop-step.account steps.0 i.sound
+pub meet_changes-requires-clause-room : goal.meet_changes-requires-clause-room
+meet_changes-requires-clause-room c = rest-has_room c.loop-position.walk c.loop-position.left _ c.loop-position.invariant.sound
 
 pub returns-clause-findings : goal.returns-clause-findings
 returns-clause-findings c =
     let part = c.args.part.now in
-    let i = c.loop-step.invariant in
-    found-all part.stream c.loop-step.account.initial (entry_of c.loop-step.account) c.loop-step.findings.items _ part.frames.items c.args.changes.now
-    c.requires.changes c.in-None.ensures.steps.0 i.findings
+    let start = c.idle-walk.ensures in
+    let past : length part.positions.now ≤ c.loop-position.position-index = omega arith in
+    run-found c.idle-walk.result c.meet_changes.new.self part.stream c.args.credits_shown (part_frames part) c.args.changes.now c.left-left.result.changes.now
+    c.requires.changes c.left-left.ensures.changes start.stream start.credits_shown start.entry start.initial start.found
+    (all-continues c.idle-walk.result c.loop-position.walk c.meet_changes.new.self _ _ c.loop-position.left.changes.now
+    (ap (frames_at part.frames.now) (drop_all c.loop-position.position-index part.positions.now past))
+    c.loop-position.invariant.continues c.in_ok-meet_changes.ensures.continues)
 
 pub returns-clause-opened : goal.returns-clause-opened
 returns-clause-opened c =
     let part = c.args.part.now in
-    let i = c.loop-step.invariant in
-    c.opened_at.ensures ∙ ap (λ entry. entry.life.opened) (entry-at_end part.stream c.loop-step.account.initial (entry_of c.loop-step.account) _ part.frames.items c.args.changes.now
-    c.requires.changes c.in-None.ensures.steps.0 i.ends)
+    let start = c.idle-walk.ensures in
+    let past : length part.positions.now ≤ c.loop-position.position-index = omega arith in
+    ap (λ entry. entry.life.opened)
+    (run-ends c.idle-walk.result c.meet_changes.new.self part.stream (part_frames part) c.args.changes.now c.left-left.result.changes.now
+    c.requires.changes c.left-left.ensures.changes start.stream start.entry start.initial
+    (all-continues c.idle-walk.result c.loop-position.walk c.meet_changes.new.self _ _ c.loop-position.left.changes.now
+    (ap (frames_at part.frames.now) (drop_all c.loop-position.position-index part.positions.now past))
+    c.loop-position.invariant.continues c.in_ok-meet_changes.ensures.continues))

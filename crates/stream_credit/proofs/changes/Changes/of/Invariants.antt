@@ -1,0 +1,9 @@
+use Rattle.std.proofs.Common.{◌≡◌, ◌++◌, drop}
+use Rattle.audit_terms.specs.InForce.{initial_in_force}
+use Rattle.stream_credit.specs.code.Left.{after_each}
+use Rattle.stream_credit.proofs.changes.Changes.of.Given as goal
+
+-- what stands so far, and what comes into force with the changes that are left
+abbrev pub invariant-loop-change : goal.invariant-loop-change
+invariant-loop-change l =
+    l.in_force.items ++ after_each l.now (drop l.change-index l.all) ≡ after_each initial_in_force.initial l.all
