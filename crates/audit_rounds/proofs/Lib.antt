@@ -1,3 +1,4 @@
 pub mod Openings
 pub mod Parts
 pub mod Items
+pub mod Rounds

@@ -1,6 +1,6 @@
 -- The part of one stream.
 use Rattle.std.proofs.Common.{◌≡◌, ℕ, ◌+◌, ◌*◌, ◌<◌, ◌≤◌, length, get_or, append_assoc, Bool, true, false, if◌then◌else◌, List, [], ◌∷◌, ◌++◌, flat_map, filter, All, take, drop, sym, ap, ◌∙◌, arith}
-use Rattle.std.proofs.lemmas.List.Elements.{All-filter, filter_passes}
+use Rattle.std.proofs.lemmas.List.Elements.{All-filter}
 use Rattle.std.specs.Fork.{slice_chunk}
 use Rattle.std.proofs.Math.Seq.{take-add}
 use Rattle.std.proofs.lemmas.Grind.{flat_map-append}
@@ -28,11 +28,6 @@ orderly-filter test low (frame ∷ frames) h = by_test (test frame) (orderly-fil
 -- the frames of a stream are orderly
 pub orderly-frames_of : (stream : ℕ) (frames : List Frame) → IsOrderly frames → IsOrderly (frames_of stream frames)
 orderly-frames_of stream frames h = orderly-filter (meets stream) 0 frames h
-
--- the stream meets each of them
-pub own-frames_of : (stream : ℕ) (frames : List Frame)
-    → All (λ (frame : Frame). meets stream frame ≡ true) (frames_of stream frames)
-own-frames_of stream frames = filter_passes (meets stream) frames
 
 -- the frames of a stream among which changes are acknowledged
 pub acknowledged-frames_of : (stream : ℕ) (frames : List Frame) (changes : List Change) → AreAcknowledged frames changes

@@ -1,4 +1,4 @@
 pub mod Openings
 pub mod Items
-pub mod Stub
+pub mod Rounds
 pub mod code

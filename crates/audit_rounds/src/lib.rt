@@ -3,4 +3,4 @@
 
 pub mod laws;
 mod streams;
-pub mod stub;
+

@@ -6,16 +6,17 @@ ghost use Rattle.std.specs.Fork.{slice_chunk};
 ghost use Rattle.audit_rounds.specs.Openings.{opening_of};
 ghost use Rattle.audit_rounds.specs.code.Streams.{AreStreams, IsRow, Shows, shown_of};
 
-use crate::stub::{Changes, Split, StreamPart, StreamRow, StreamRun, stream_run};
 use audit_terms::{Finding, Frame};
+use split_merge::{SplitFrames, StreamRow};
 use std::alloc::{AllocError, Global};
 use std::thread::{Threads, map_chunks};
+use stream_credit::{Changes, StreamPart, StreamRun, stream_run};
 
 /// A connection's frames by stream, and the changes that settings bring to it.
 #[derive(Clone, Copy)]
 pub(crate) struct Streams<'a> {
     pub(crate) frames: &'a [Frame],
-    pub(crate) split: &'a Split,
+    pub(crate) split: &'a SplitFrames,
     pub(crate) changes: &'a Changes<'a>,
     pub(crate) credits_shown: bool,
 }

@@ -8,10 +8,10 @@ use Rattle.audit_terms.specs.Frame.{IsOrderly}
 use Rattle.audit_terms.specs.InForce.{changes_of}
 use Rattle.audit_terms.specs.Run.{frames_of, stream_run}
 use Rattle.settings_pair.specs.Changes.{AreOrderly, AreAcknowledged}
-use Rattle.audit_rounds.specs.declared.stub.StreamRow.{StreamRow}
+use Rattle.split_merge.specs.declared.splits.StreamRow.{StreamRow}
 use Rattle.audit_rounds.specs.declared.streams.Streams.{Streams}
 use Rattle.audit_rounds.specs.declared.streams.StreamsRun.{StreamsRun}
-use Rattle.audit_rounds.specs.Stub.{IsRange, IsPartOf, part_of}
+use Rattle.split_merge.specs.Split.{IsRange, IsPartOf, part_of}
 use Rattle.audit_rounds.specs.Openings.{opening_of}
 
 -- what is shown of one stream

@@ -1,10 +1,9 @@
-use Rattle.std.proofs.Common.{◌≡◌, ◌<◌, ℕ, List, All, length, true, sym, ap, ◌∙◌, subst}
-use Rattle.audit_terms.specs.declared.frames.Frame.{Frame}
-use Rattle.audit_terms.specs.Frame.{meets, IsOrderly}
+use Rattle.std.proofs.Common.{◌≡◌, ◌<◌, ℕ, List, All, length, sym, ap, ◌∙◌, subst}
+use Rattle.audit_terms.specs.Frame.{IsOrderly}
 use Rattle.audit_terms.specs.Run.{frames_of}
 use Rattle.settings_pair.specs.Changes.{AreAcknowledged}
-use Rattle.audit_rounds.specs.Stub.{frames_at}
-use Rattle.audit_rounds.proofs.Parts.{orderly-frames_of, own-frames_of, acknowledged-frames_of}
+use Rattle.split_merge.specs.Split.{frames_at}
+use Rattle.audit_rounds.proofs.Parts.{orderly-frames_of, acknowledged-frames_of}
 use Rattle.audit_rounds.proofs.streams.run_of_row.Goals as goal
 
 pub stream_run-requires-clause-part : goal.stream_run-requires-clause-part
@@ -13,19 +12,17 @@ stream_run-requires-clause-part c =
     let stream = c.args.row.now.stream in
     let row = c.requires.row in
     let mine : frames_at frames c.positions_of.result.now ≡ frames_of stream frames =
-    ap (frames_at frames) c.positions_of.ensures ∙ row.part.its_frames in
+    ap (frames_at frames) c.positions_of.ensures ∙ row.part.frames in
     record {
-      not_connection = row.part.not_connection;
       in_range = row.in_range;
       within = subst (All (λ (position : ℕ). position < length frames)) (sym c.positions_of.ensures) row.part.within;
       orderly = subst IsOrderly (sym mine) (orderly-frames_of stream frames c.requires.streams.orderly);
-      own = subst (All (λ (frame : Frame). meets stream frame ≡ true)) (sym mine) (own-frames_of stream frames);
     }
 
 pub stream_run-requires-clause-acknowledged : goal.stream_run-requires-clause-acknowledged
 stream_run-requires-clause-acknowledged c =
     let frames = c.args.streams.now.frames.now in
     let mine : frames_at frames c.positions_of.result.now ≡ frames_of c.args.row.now.stream frames =
-    ap (frames_at frames) c.positions_of.ensures ∙ c.requires.row.part.its_frames in
+    ap (frames_at frames) c.positions_of.ensures ∙ c.requires.row.part.frames in
     subst (λ l. AreAcknowledged l c.args.streams.now.changes.now) (sym mine)
     (acknowledged-frames_of c.args.row.now.stream frames _ c.requires.streams.acknowledged)
