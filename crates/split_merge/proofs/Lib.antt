@@ -1,2 +1,9 @@
 pub mod Numbered
 pub mod Sweep
+pub mod NamedStreams
+pub mod Visited
+pub mod Positions
+pub mod LaidOut
+pub mod SplitIs
+pub mod GroupRanges
+pub mod ShownMerge

@@ -1,5 +1,5 @@
 -- The sweep from the back meets the stalls in reverse.
-use Rattle.std.proofs.Common.{◌≡◌, ℕ, ◌+◌, ◌-◌, ◌<◌, ◌≤◌, Bool, true, false, cond, if◌then◌else◌, List, [], ◌∷◌, ◌++◌, reverse, drop, length, get_or, refl, ap, subst, sym, ◌∙◌, arith, Option, Some, None}
+use Rattle.std.proofs.Common.{◌≡◌, ℕ, ◌+◌, ◌-◌, ◌<◌, ◌≤◌, Bool, true, false, if◌then◌else◌, List, [], ◌∷◌, ◌++◌, reverse, drop, length, get_or, ap, subst, sym, ◌∙◌, arith, Option, Some}
 use Rattle.std.proofs.lemmas.List.{reverse-append, drop_more}
 use Rattle.audit_terms.specs.declared.sides.Side.{Side}
 use Rattle.audit_terms.specs.declared.findings.Finding.{Finding}

@@ -4,7 +4,6 @@ use Rattle.audit_terms.specs.declared.sides.Side.{Side}
 use Rattle.audit_terms.specs.declared.sides.Side.TheVariants.{Client, Server}
 use Rattle.audit_terms.specs.declared.frames.Body.TheVariants.{Ping}
 use Rattle.audit_terms.specs.declared.frames.Frame.{Frame}
-use Rattle.audit_terms.specs.declared.findings.Finding.{Finding}
 use Rattle.audit_terms.specs.declared.kinds.Kind.TheVariants.{ConnectionStallBegin, ConnectionStallEnd, StreamStallBegin, StreamStallEnd, StreamOverrun, NotOpened}
 use Rattle.audit_terms.specs.Finding.{finding_at}
 use Rattle.split_merge.specs.Stalls.{stalls}

@@ -3,9 +3,16 @@
 #![tactic(auto)]
 
 mod ends;
+mod grouping;
 mod lookup;
+mod merging;
+mod splits;
 mod stalls;
+mod visits;
 pub mod worked_examples;
 
+pub use grouping::groups;
 pub use lookup::frame_at;
+pub use merging::merge;
+pub use splits::{SplitFrames, StreamRow, split};
 pub use stalls::{Stall, stall_pairs};

@@ -1,5 +1,6 @@
-//! Worked examples: findings of a connection, each with the stalls that the definitions give for them, by proof. The
-//! functions do nothing; each contract is the example.
+//! Worked examples of the definitions, by proof: findings with the stalls that they tell of, frames by stream, groups,
+//! findings of several lists. The functions do nothing; each contract is the example.
+ghost use Rattle.split_merge.specs.SplitExamples.{CutsAtFirstReportedError, GroupsOfFour, SplitsByStream};
 ghost use Rattle.split_merge.specs.StallExamples.{BothSidesStall, ClockGoesBack, FirstEndCounts, StallEndsThenOverrun, StallsStayOpen};
 
 /// A stall of the connection ends and another begins, and that of the stream goes on.
@@ -25,4 +26,19 @@ pub fn both_sides_stall()
 /// The time between two frames is below zero where the capture's clock went back.
 pub fn clock_goes_back()
     ensures { ClockGoesBack }
+{}
+
+/// Streams stand in order of first frames; a promise stands with the stream that it is on and the one that it promises.
+pub fn split_by_stream()
+    ensures { SplitsByStream }
+{}
+
+/// Groups are as many as asked for, or as what there is.
+pub fn groups_of_four()
+    ensures { GroupsOfFour }
+{}
+
+/// A merge ends with the least connection error, whichever list it stands in.
+pub fn cut_at_first_reported_error()
+    ensures { CutsAtFirstReportedError }
 {}

@@ -1,0 +1,118 @@
+-- What the table of streams says that a split fills as it walks over the frames.
+use Rattle.std.specs.Prelude.{◌≡◌, ◌≢◌, ℕ, ◌+◌, ◌<◌, ◌≤◌, ◌==◌, ◌||◌, if◌then◌else◌, Bool, false, List, [], ◌∷◌, ◌++◌, map, filter, length, get_or, slice_get, MatchOption, Some}
+use Rattle.std.specs.List.{All, between}
+use Rattle.std.specs.Ordering.{nat_cmp}
+use Rattle.std.specs.BTreeMap.{BTreeMap, get}
+use Rattle.audit_terms.specs.declared.frames.Frame.{Frame}
+use Rattle.audit_terms.specs.Frame.{promised_by}
+use Rattle.split_merge.specs.declared.splits.StreamRow.{StreamRow}
+use Rattle.split_merge.specs.declared.visits.Visit.{Visit}
+use Rattle.split_merge.specs.declared.visits.Visits.{Visits}
+
+-- the streams of the rows
+abbrev pub streams_in : List StreamRow → List ℕ
+streams_in rows = map (λ (row : StreamRow). row.stream) rows
+
+-- the positions of the visits of a row
+abbrev pub row_positions : (row : ℕ) → List Visit → List ℕ
+row_positions row visits = map (λ (visit : Visit). visit.position) (filter (λ (visit : Visit). visit.row == row) visits)
+
+-- a stream that meets a frame, by the frame's position, unless the stream is 0
+abbrev pub noted : (stream position : ℕ) → List (ℕ × ℕ)
+noted stream position = if stream == 0 then [] else (stream, position) ∷ []
+
+-- the streams that meet the frames from this position on, frame by frame
+abbrev pub notes_from : (position : ℕ) → List Frame → List (ℕ × ℕ)
+notes_from position [] = []
+notes_from position (frame ∷ frames) =
+    noted frame.stream position ++ (noted (promised_by frame) position ++ notes_from (position + 1) frames)
+
+-- the positions of a stream among these
+abbrev pub noted_positions : (stream : ℕ) → List (ℕ × ℕ) → List ℕ
+noted_positions stream notes = map (λ (n : ℕ × ℕ). n.1) (filter (λ (n : ℕ × ℕ). n.0 == stream) notes)
+
+-- how many visits the rows count
+abbrev pub total_of : List StreamRow → ℕ
+total_of [] = 0
+total_of (row ∷ rows) = row.to + total_of rows
+
+-- the stream is not among these
+abbrev pub NotAmong : ℕ → List ℕ → Type 0
+NotAmong stream [] = Unit {0}
+NotAmong stream (other ∷ others) = (stream ≢ other) × NotAmong stream others
+
+-- no stream stands twice
+abbrev pub AreDistinct : List ℕ → Type 0
+AreDistinct [] = Unit {0}
+AreDistinct (stream ∷ streams) = NotAmong stream streams × AreDistinct streams
+
+-- does the stream stand among these?
+abbrev pub is_among : ℕ → List ℕ → Bool
+is_among stream [] = false
+is_among stream (other ∷ others) = (stream == other) || is_among stream others
+
+-- the streams, and one more where it is not 0 and not among them
+abbrev pub with_stream : ℕ → List ℕ → List ℕ
+with_stream stream streams = if (stream == 0) || is_among stream streams then streams else streams ++ stream ∷ []
+
+-- the map has the index of each of these streams, and of no other; 0 is none of them
+pub record IsIndex (streams : List ℕ) (index : BTreeMap ℕ ℕ) : Type 0 where
+  pub distinct : AreDistinct streams
+  pub above : NotAmong 0 streams
+  pub placed : (stream : ℕ) → MatchOption (get nat_cmp index stream)
+      (NotAmong stream streams) (λ row. slice_get streams row ≡ Some stream)
+
+-- the rows, and one of the stream where it has none
+abbrev pub with_row : (stream : ℕ) → List StreamRow → List StreamRow
+with_row stream rows =
+    if is_among stream (streams_in rows) then rows
+    else rows ++ record { stream = stream; from = 0; to = 0 } ∷ []
+
+-- a row that counts one visit more
+abbrev pub counted : StreamRow → StreamRow
+counted row = record { stream = row.stream; from = row.from; to = row.to + 1 }
+
+-- rows and visits say what was noted: each row counts its visits from 0
+pub record IsListed (notes : List (ℕ × ℕ)) (rows : List StreamRow) (visits : List Visit) : Type 0 where
+  pub places : (r : ℕ) → row_positions r visits ≡ noted_positions (get_or (streams_in rows) r 0) notes
+  pub counts : (r : ℕ) (d : StreamRow) → r < length rows → (get_or rows r d).to ≡ length (row_positions r visits)
+  pub within : All (λ (visit : Visit). visit.row < length rows) visits
+  pub none : noted_positions 0 notes ≡ []
+  pub absent : (stream : ℕ) → NotAmong stream (streams_in rows) → noted_positions stream notes ≡ []
+
+-- the table of what was noted
+pub record IsTableOf (notes : List (ℕ × ℕ)) (table : Visits) : Type 0 where
+  pub index : IsIndex (streams_in table.rows.items) table.index
+  pub listed : IsListed notes table.rows.items table.visits.items
+
+-- the table holds at most so many rows and visits
+pub record HasAtMost (many : ℕ) (table : Visits) : Type 0 where
+  pub rows : length table.rows.items ≤ many
+  pub visits : total_of table.rows.items ≤ many
+
+-- each row with its range, empty as yet, from this position of the list on
+abbrev pub laid_out : (from : ℕ) → List StreamRow → List StreamRow
+laid_out from [] = []
+laid_out from (row ∷ rows) =
+    record { stream = row.stream; from = from; to = from } ∷ laid_out (from + row.to) rows
+
+-- the ranges of the rows are empty, and have room for the visits, apart from one another
+pub record HasRoomFor (rows : List StreamRow) (visits : List Visit) (total : ℕ) : Type 0 where
+  pub empty : (r : ℕ) (d : StreamRow) → r < length rows → (get_or rows r d).to ≡ (get_or rows r d).from
+  pub apart : (r s : ℕ) (d : StreamRow) → r < s → s < length rows →
+      (get_or rows r d).from + length (row_positions r visits) ≤ (get_or rows s d).from
+  pub within : (r : ℕ) (d : StreamRow) → r < length rows →
+      (get_or rows r d).from + length (row_positions r visits) ≤ total
+
+-- a row whose range has grown from that of an empty one by so many positions
+abbrev pub grown : StreamRow → ℕ → StreamRow
+grown row many = record { stream = row.stream; from = row.from; to = row.from + many }
+
+-- the ranges have grown from those of `empty` by the positions of the visits
+pub record IsFilled (empty : List StreamRow) (visits : List Visit) (rows : List StreamRow) (positions : List ℕ) : Type 0 where
+  pub long : length rows ≡ length empty
+  pub ranges : (r : ℕ) (d : StreamRow) → r < length empty →
+      get_or rows r d ≡ grown (get_or empty r d) (length (row_positions r visits))
+  pub filled : (r : ℕ) (d : StreamRow) → r < length empty →
+      between (get_or empty r d).from ((get_or empty r d).from + length (row_positions r visits)) positions
+      ≡ row_positions r visits

@@ -1,0 +1,94 @@
+ghost use Rattle.std.specs.Prelude.{◌≡◌, ◌+◌, ◌^◌, ◌<◌, ◌≤◌, IfOk, length, set};
+ghost use Rattle.std.specs.List.{All};
+ghost use Rattle.split_merge.specs.Split.{IsRange, IsSplit, part_of};
+ghost use Rattle.split_merge.specs.code.Visits.{HasRoomFor, IsFilled, counted, laid_out, total_of};
+
+use crate::visits::{Visit, Visits};
+use audit_terms::Frame;
+use std::alloc::{AllocError, Global};
+
+/// A stream, and the range of its frames' positions in the list of a split.
+#[derive(Clone, Copy)]
+pub struct StreamRow {
+    pub stream: u32,
+    pub from: u32,
+    pub to: u32,
+}
+
+/// The frames of a connection by stream. No frame is copied.
+#[derive(Drop)]
+pub struct SplitFrames {
+    /// A row for each stream other than 0 that meets a frame, in order of first frames.
+    pub rows: Vec<StreamRow>,
+    /// Where the frames stand in the list of all frames, stream after stream.
+    pub positions: Vec<u32>,
+}
+
+impl SplitFrames {
+    /// Where the frames of a row's stream stand in the list of all frames, in order.
+    pub fn positions_of(&self, row: &StreamRow) -> &[u32]
+        requires { IsRange self.now row.now }
+        ensures { result.now ≡ part_of self.now row.now }
+    {
+        &self.positions[row.from as usize..row.to as usize]
+    }
+}
+
+/// The frames of a connection by stream, each where its own stream meets it and where the stream that it promises does.
+pub fn split(alloc: Global, frames: &[Frame]) -> Result<SplitFrames, AllocError>
+    requires { length frames.now < 2 ^ 28 }
+    ensures { IfOk result (IsSplit frames.now) }
+{
+    let table = Visits::of(alloc, frames)?;
+    let mut rows = table.rows;
+    let total = lay_out(&mut rows);
+    let positions = place(alloc, &mut rows, &table.visits, total)?;
+    Ok(SplitFrames { rows, positions })
+}
+
+/// Gives each row its range, empty as yet, with room for the visits that it counts, and answers the room in all.
+fn lay_out(rows: &mut [StreamRow]) -> u32
+    requires { total_of rows.old < 2 ^ 32 }
+    ensures rows { rows.new ≡ laid_out 0 rows.old }
+    ensures total { result ≡ total_of rows.old }
+{
+    let mut total = 0;
+    for row in rows.iter_mut() {
+        let count = row.to;
+        row.from = total;
+        row.to = total;
+        total += count;
+    }
+    total
+}
+
+/// The positions of all visits, each at the end of its row's range, which grows by it.
+fn place(
+    alloc: Global,
+    rows: &mut [StreamRow],
+    visits: &[Visit],
+    total: u32,
+) -> Result<Vec<u32>, AllocError>
+    requires room { HasRoomFor rows.old visits.now total }
+    requires rows { All (λ visit. visit.row < length rows.old) visits.now }
+    ensures long { IfOk result (λ positions. length positions.items ≡ total) }
+    ensures filled { IfOk result (λ positions. IsFilled rows.old visits.now rows.new positions.items) }
+{
+    let mut positions = vec![in alloc; 0; total as usize]?;
+    for visit in visits {
+        let row = &mut rows[visit.row as usize];
+        put(&mut positions, row, visit.position);
+    }
+    Ok(positions)
+}
+
+/// Puts a position at the end of a row's range.
+fn put(positions: &mut Vec<u32>, row: &mut StreamRow, position: u32)
+    requires within { row.old.to < length positions.old.items }
+    requires short { length positions.old.items < 2 ^ 32 }
+    ensures positions { positions.new.items ≡ set positions.old.items row.old.to position }
+    ensures row { row.new ≡ counted row.old }
+{
+    positions[row.to as usize] = position;
+    row.to += 1;
+}
