@@ -1,1 +1,4 @@
 pub mod Words
+pub mod BlockLemmas
+pub mod SumLemmas
+pub mod WalkLemmas

@@ -4,6 +4,7 @@ pub mod Rising
 pub mod Ids
 pub mod Latest
 pub mod ConnSum
+pub mod Items
 pub mod Block
 pub mod ScanSums
 pub mod code

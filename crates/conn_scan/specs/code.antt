@@ -5,3 +5,4 @@ pub mod RisingLaws
 pub mod IdsLaws
 pub mod LatestLaws
 pub mod ConnSumLaws
+pub mod Walk

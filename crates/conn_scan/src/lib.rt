@@ -7,7 +7,9 @@
 //! - [`block_findings`] is what a block shows, from the state before it.
 #![tactic(auto)]
 
+mod block_items;
 mod blocks;
+mod carried;
 mod credits;
 mod ids;
 mod latest;
@@ -17,7 +19,9 @@ mod side_credits;
 mod sums;
 
 pub use audit_terms::ConnectionState as ConnState;
+pub use block_items::{Block, items};
 pub use blocks::{BlockRun, block_findings};
+pub use carried::carries_of;
 pub use credits::Credit;
 pub use ids::{Ids, OpenedIds, PromisedIds};
 pub use latest::{InForce, Latest};

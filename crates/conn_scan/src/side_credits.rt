@@ -1,4 +1,5 @@
-ghost use Rattle.std.specs.Prelude.{◌≡◌};
+ghost use Rattle.std.specs.Prelude.{◌≡◌, ◌^◌};
+ghost use Rattle.audit_terms.specs.code.Room.{HasRoom};
 ghost use Rattle.conn_scan.specs.SideCredit.{change_of};
 
 use crate::credits::Credit;
@@ -6,8 +7,9 @@ use audit_terms::{Item, Side};
 use block_scan::Summary;
 
 /// What an item moves the connection credit of a side by, in bytes: the other side's grants, less its own content.
-fn change_of(side: Side, item: &Item) -> i64
-    ensures { result ≡ change_of side item.now }
+pub(crate) fn change_of(side: Side, item: &Item) -> i64
+    ensures value { result ≡ change_of side item.now }
+    ensures little { HasRoom (2 ^ 32) result }
 {
     i64::from(item.frame.grant_to(side, 0)) - i64::from(item.frame.content_by(side))
 }

@@ -1,27 +1,32 @@
 -- The summary of all parts in closed form, and its step.
-use Rattle.std.proofs.Common.{◌≡◌, ℕ, max, Bool, true, false, List, map, Some, None, refl, ap, ◌∙◌}
+use Rattle.std.proofs.Common.{◌≡◌, ℕ, max, Bool, true, false, List, [], ◌∷◌, map, Some, None, refl, sym, ap, ◌∙◌}
 use Rattle.std.specs.Prelude.{if◌then◌else◌}
 use Rattle.audit_terms.specs.declared.sides.Side.TheVariants.{Client, Server}
+use Rattle.audit_terms.specs.declared.connections.ConnectionState.{ConnectionState}
 use Rattle.audit_terms.specs.declared.items.Item.{Item}
 use Rattle.audit_terms.specs.Frame.{promised_in}
-use Rattle.audit_terms.specs.Connection.{credit_after, connection_after, is_opened_by_headers, is_even_promise}
-use Rattle.block_scan.specs.Laws.{summary_of}
-use Rattle.block_scan.specs.Both.{pair, join_both}
-use Rattle.block_scan.specs.code.BothLaws.{both_is, summary-both}
+use Rattle.audit_terms.specs.Connection.{credit_after, connection_after, connection_after_all, is_opened_by_headers, is_even_promise}
+use Rattle.block_scan.specs.Laws.{SummaryLaws, summary_of}
+use Rattle.block_scan.specs.List.{state_after, states_before}
+use Rattle.block_scan.specs.Both.{pair, join_both, advance_both, FitBoth}
+use Rattle.block_scan.specs.code.BothLaws.{both_is, both_laws, summary-both}
 use Rattle.block_scan.specs.code.Shown.{summary-shown}
 use Rattle.conn_scan.specs.declared.side_credits.ClientCredit.{ClientCredit}
 use Rattle.conn_scan.specs.declared.side_credits.ServerCredit.{ServerCredit}
 use Rattle.conn_scan.specs.declared.ids.OpenedIds.{OpenedIds}
 use Rattle.conn_scan.specs.declared.ids.PromisedIds.{PromisedIds}
-use Rattle.conn_scan.specs.Credit.{no_change, one_change, credit_join}
-use Rattle.conn_scan.specs.SideCredit.{client_credit, server_credit, change_of}
-use Rattle.conn_scan.specs.Rising.{no_identifier, one_identifier, rising_join, greatest_after}
-use Rattle.conn_scan.specs.Ids.{opened_in, promised_by, opened_ids, promised_ids}
-use Rattle.conn_scan.specs.Latest.{no_item, one_item, latest_join}
-use Rattle.conn_scan.specs.ConnSum.{ConnSum, conn_sum_of, PartsFollow}
+use Rattle.conn_scan.specs.Credit.{no_change, one_change, credit_join, credit_advance}
+use Rattle.conn_scan.specs.SideCredit.{client_credit, server_credit, change_of, ItemsFit}
+use Rattle.conn_scan.specs.Rising.{no_identifier, one_identifier, rising_join, greatest_after, greatest_advance}
+use Rattle.conn_scan.specs.Ids.{opened_in, promised_by, opened_ids, promised_ids, AnyFit}
+use Rattle.conn_scan.specs.Latest.{no_item, one_item, latest_join, latest_advance, SettingsFit}
+use Rattle.conn_scan.specs.ConnSum.{ConnSum, ConnParts, conn_sum_of, parts_of, parts_step, PartsFollow}
+use Rattle.conn_scan.specs.Block.{connections_before}
 use Rattle.conn_scan.specs.code.CreditLaws.{credit_shows}
 use Rattle.conn_scan.specs.code.RisingLaws.{rising_shows}
-use Rattle.conn_scan.specs.code.LatestLaws.{latest_shows}
+use Rattle.conn_scan.specs.code.LatestLaws.{latest_shows, latest_laws}
+use Rattle.conn_scan.specs.code.SideCreditLaws.{client_laws, server_laws}
+use Rattle.conn_scan.specs.code.IdsLaws.{opened_laws, promised_laws}
 use Rattle.conn_scan.specs.code.Through.{summary-view}
 
 abbrev client_join : ClientCredit → ClientCredit → ClientCredit
@@ -95,3 +100,42 @@ parts_follow now item = λ i.
     (pair (pair (greatest_if (is_opened_by_headers item) item.frame.stream now.opened i)
     (greatest_if (is_even_promise item.frame) (promised_in item.frame.body) now.promised i))
     (record { limit = (connection_after now item).limit; push = (connection_after now item).push }))
+
+abbrev pub conn_advance : ConnParts → ConnSum → ConnParts
+conn_advance = advance_both (advance_both (λ s x. credit_advance s x.credit) (λ s x. credit_advance s x.credit))
+    (advance_both (advance_both (λ s x. greatest_advance s x.ids) (λ s x. greatest_advance s x.ids)) latest_advance)
+
+abbrev pub ConnFits : ConnParts → List Item → Type 0
+ConnFits = FitBoth (FitBoth (ItemsFit Client) (ItemsFit Server)) (FitBoth (FitBoth AnyFit AnyFit) SettingsFit)
+
+pub conn_laws : SummaryLaws conn_none conn_one conn_join conn_advance parts_step ConnFits
+conn_laws = both_laws (both_laws client_laws server_laws) (both_laws (both_laws opened_laws promised_laws) latest_laws)
+
+-- the state of a connection from its parts
+abbrev pub state_of : ConnParts → ConnectionState
+state_of parts = record {
+  credit = record { client = parts.first.first; server = parts.first.second };
+  opened = parts.second.first.first;
+  promised = parts.second.first.second;
+  push = parts.second.second.push;
+  limit = parts.second.second.limit;
+}
+
+parts_after : (now : ConnectionState) (items : List Item) → state_after parts_step (parts_of now) items
+    ≡ parts_of (connection_after_all now items)
+parts_after now [] = refl
+parts_after now (item ∷ items) = ap (λ parts. state_after parts_step parts items) (parts_follow now item)
+    ∙ parts_after (connection_after now item) items
+
+pub states_carried : (now : ConnectionState) (blocks : List (List Item))
+    → map state_of (states_before parts_step (parts_of now) blocks) ≡ connections_before now blocks
+states_carried now [] = refl
+states_carried now (block ∷ blocks) =
+    ap (λ parts. now ∷ map state_of (states_before parts_step parts blocks)) (parts_after now block)
+    ∙ ap (λ states. now ∷ states) (states_carried (connection_after_all now block) blocks)
+
+-- the summaries of blocks
+pub sums-shown : (blocks : List (List Item)) → map conn_sum_of blocks ≡ map (summary_of conn_none conn_one conn_join) blocks
+sums-shown [] = refl
+sums-shown (block ∷ blocks) = ap (λ sum. sum ∷ map conn_sum_of blocks) (sym (conn_sum-shown block))
+    ∙ ap (λ sums. summary_of conn_none conn_one conn_join block ∷ sums) (sums-shown blocks)

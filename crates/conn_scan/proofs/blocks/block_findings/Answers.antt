@@ -1,13 +1,29 @@
-use Rattle.std.proofs.Common.{◌^◌, ◌++◌, length, sym, ap, ◌∙◌, arith}
-use Rattle.std.proofs.lemmas.List.{drop_all}
+use Rattle.std.proofs.Common.{◌≡◌, ◌^◌, ◌++◌, length, refl, sym, ap, ◌∙◌, arith}
+use Rattle.audit_terms.specs.Finding.{shown}
 use Rattle.audit_terms.specs.Connection.{block_run}
 use Rattle.block_scan.specs.code.Shown.{append_nil}
+use Rattle.conn_scan.specs.code.Walk.{walked}
 use Rattle.conn_scan.specs.code.CreditLaws.{room-wider}
-use Rattle.conn_scan.proofs.Words.{room_next, run_next}
+use Rattle.conn_scan.proofs.WalkLemmas.{walked-ranges}
+use Rattle.conn_scan.proofs.BlockLemmas.{block_walked, room_next, shown_next}
 use Rattle.conn_scan.proofs.blocks.block_findings.Goals as goal
 
-pub meet-requires-clause-frame : goal.meet-requires-clause-frame
-meet-requires-clause-frame c = c.requires.fits.frames c.loop-item.item-index _ c.loop-item-test.true
+pub loop-item-init : goal.loop-item-init
+loop-item-init c =
+    let block = c.args.block.now in
+    let walk = c.into_iter-item-iterator.result in
+    let all : walked walk.opened.now walk.changes.now walk.frames.now
+    ≡ walked block.opened.now block.changes.now block.frames.now =
+    rw c.into_iter-item-iterator.ensures.into_iter_gives c.items-item-items.ensures in
+    let is = block_walked block c.requires.block in
+    record {
+      number = rw (all, is) c.requires.fits.number;
+      ranges = rw all
+          (walked-ranges 0 block.opened.now block.changes.now block.frames.now c.requires.block.frames);
+      said = rw (all, c.new-findings.ensures.items) refl;
+      client = rw (all, is) c.requires.fits.client;
+      server = rw (all, is) c.requires.fits.server;
+    }
 
 pub meet-requires-clause-client : goal.meet-requires-clause-client
 meet-requires-clause-client c = room-wider _ (2 ^ 60) _ (omega arith) c.loop-item.invariant.client
@@ -17,25 +33,32 @@ meet-requires-clause-server c = room-wider _ (2 ^ 60) _ (omega arith) c.loop-ite
 
 pub loop-item-preserved : goal.loop-item-preserved
 loop-item-preserved c =
-    let old = c.loop-item.findings.items in
-    let n = length c.args.items.now in
-    let i = c.loop-item.item-index in
-    let lt = c.loop-item-test.true in
-    let le = c.requires.fits.number in
+    let i = c.loop-item.invariant in
+    let walk = c.next.new.self in
+    let rest = walked walk.opened.now walk.changes.now walk.frames.now in
+    let steps = c.in-Some.ensures.steps in
     let meets = c.in_ok-meet.ensures in
-    let shown = rw c.new-said.ensures.items at meets.said in
+    let number = rw steps at i.number in
     record {
-      within = omega arith;
-      said = run_next c.args.before.now c.args.items.now i _ c.loop-item.state c.meet.new.self old
-          c.append.new.self.items c.meet.new.found.items c.put_in_order.new.found.items lt
-          c.loop-item.invariant.said meets.after shown c.in_ok-put_in_order.ensures.ok
-          c.in_ok-append.ensures.items;
-      client = room_next n i c.meet.new.self.credit.client lt le (meets.client _ c.loop-item.invariant.client);
-      server = room_next n i c.meet.new.self.credit.server lt le (meets.server _ c.loop-item.invariant.server);
+      number = omega arith;
+      ranges = (rw steps at i.ranges).1;
+      said = shown_next c.args.credits_shown _ c.loop-item.state c.meet.new.self c.in-Some.item rest
+          c.loop-item.findings.items c.extend_from_slice.new.self.items c.meet.new.found.items
+          c.put_in_order.new.found.items c.keep_shown.new.found.items (rw steps at i.said) meets.after
+          (rw c.clear.ensures.items at meets.said) c.in_ok-put_in_order.ensures.ok c.keep_shown.ensures
+          (rw c.as_slice.ensures.value at c.in_ok-extend_from_slice.ensures.items);
+      client = room_next (length rest) c.meet.new.self.credit.client number
+          (meets.client _ (rw steps at i.client));
+      server = room_next (length rest) c.meet.new.self.credit.server number
+          (meets.server _ (rw steps at i.server));
     }
 
 pub returns : goal.returns
 returns c =
-    let done = drop_all c.loop-item.item-index c.args.items.now c.loop-item-test.false in
-    sym (c.loop-item.invariant.said ∙ ap (λ l. c.loop-item.findings.items ++ block_run c.loop-item.state l) done
-    ∙ append_nil c.loop-item.findings.items)
+    let i = c.loop-item.invariant in
+    let credits = c.args.credits_shown in
+    let found = c.loop-item.findings.items in
+    sym (append_nil found)
+    ∙ ap (λ rest. found ++ shown credits (block_run c.loop-item.state rest)) (sym c.in-None.ensures.steps.0)
+    ∙ sym i.said
+    ∙ ap (λ all. shown credits (block_run c.args.before.now all)) (block_walked c.args.block.now c.requires.block)

@@ -1,0 +1,136 @@
+-- The forward walk gives the items of the definition.
+use Rattle.std.proofs.Common.{◌≡◌, ℕ, suc, ◌+◌, ◌<◌, ◌≤◌, ◌==◌, false, ◌&&◌, List, [], ◌∷◌, length, None, refl, sym, ap, ◌∙◌, ⊎_elim, arith}
+use Rattle.std.specs.List.{AllByRecursion, list_any, find}
+use Rattle.std.proofs.lemmas.Bool.{cases_lt, lt-ltb, le-ltb, eq-eqb, ne_eqb}
+use Rattle.audit_terms.specs.declared.frames.Frame.{Frame}
+use Rattle.audit_terms.specs.declared.items.Change.{Change}
+use Rattle.audit_terms.specs.declared.items.Item.{Item}
+use Rattle.audit_terms.specs.Frame.{is_headers, IsInRange, IsOrderlyFrom}
+use Rattle.settings_pair.specs.Changes.{AreOrderlyFrom}
+use Rattle.conn_scan.specs.Items.{item_with, items_with, NeverFallFrom}
+use Rattle.conn_scan.specs.code.Walk.{numbers_from, changes_from, is_first, first_change, item_at, walked}
+
+-- ---- opening numbers
+
+-- no number is below `low`
+any_below : (low number : ℕ) (numbers : List ℕ) → number < low → NeverFallFrom low numbers
+    → list_any (λ n. n == number) numbers ≡ false
+any_below low number [] lt h = refl
+any_below low number (n ∷ numbers) lt h =
+    rw (ne_eqb n number (λ e. absurd (omega (arith, h.0)))) (any_below n number numbers (omega (arith, h.0)) h.1)
+
+any_from : (low number : ℕ) (numbers : List ℕ) → low ≤ number
+    → list_any (λ n. n == number) numbers ≡ list_any (λ n. n == number) (numbers_from low numbers)
+any_from low number [] le = refl
+any_from low number (n ∷ numbers) le = ⊎_elim
+    (λ lt. rw (lt-ltb n low lt, ne_eqb n number (λ e. absurd (omega arith))) (any_from low number numbers le))
+    (λ ge. rw (le-ltb n low ge) refl)
+    (cases_lt n low)
+
+any_first : (number : ℕ) (numbers : List ℕ) → NeverFallFrom number numbers
+    → list_any (λ n. n == number) numbers ≡ is_first number numbers
+any_first number [] h = refl
+any_first number (n ∷ numbers) h = ⊎_elim
+    (λ lt. rw (ne_eqb n number (λ e. absurd (omega arith))) (any_below n number numbers lt h.1))
+    (λ ge. rw (eq-eqb n number (omega (arith, h.0))) refl)
+    (cases_lt number n)
+
+numbers_from-rise : (start low : ℕ) (numbers : List ℕ) → NeverFallFrom start numbers
+    → NeverFallFrom low (numbers_from low numbers)
+numbers_from-rise start low [] h = tt
+numbers_from-rise start low (n ∷ numbers) h = ⊎_elim
+    (λ lt. rw (lt-ltb n low lt) (numbers_from-rise n low numbers h.1))
+    (λ ge. rw (le-ltb n low ge) (ge, h.1))
+    (cases_lt n low)
+
+-- ---- changes
+
+find_below : (low number : ℕ) (changes : List Change) → number < low → AreOrderlyFrom low changes
+    → find (λ (change : Change). change.number == number) changes ≡ None
+find_below low number [] lt h = refl
+find_below low number (c ∷ changes) lt h =
+    rw (ne_eqb c.number number (λ e. absurd (omega (arith, h.0))))
+    (find_below (c.number + 1) number changes (omega (arith, h.0)) h.2)
+
+find_from : (low number : ℕ) (changes : List Change) → low ≤ number
+    → find (λ (change : Change). change.number == number) changes
+    ≡ find (λ (change : Change). change.number == number) (changes_from low changes)
+find_from low number [] le = refl
+find_from low number (c ∷ changes) le = ⊎_elim
+    (λ lt. rw (lt-ltb c.number low lt, ne_eqb c.number number (λ e. absurd (omega arith)))
+    (find_from low number changes le))
+    (λ ge. rw (le-ltb c.number low ge) refl)
+    (cases_lt c.number low)
+
+find_first : (number : ℕ) (changes : List Change) → AreOrderlyFrom number changes
+    → find (λ (change : Change). change.number == number) changes ≡ first_change number changes
+find_first number [] h = refl
+find_first number (c ∷ changes) h = ⊎_elim
+    (λ lt. rw (ne_eqb c.number number (λ e. absurd (omega arith)))
+    (find_below (c.number + 1) number changes (omega arith) h.2))
+    (λ ge. rw (eq-eqb c.number number (omega (arith, h.0))) refl)
+    (cases_lt number c.number)
+
+changes_from-orderly : (start low : ℕ) (changes : List Change) → AreOrderlyFrom start changes
+    → AreOrderlyFrom low (changes_from low changes)
+changes_from-orderly start low [] h = tt
+changes_from-orderly start low (c ∷ changes) h = ⊎_elim
+    (λ lt. rw (lt-ltb c.number low lt) (changes_from-orderly (c.number + 1) low changes h.2))
+    (λ ge. rw (le-ltb c.number low ge) (ge, h.1, h.2))
+    (cases_lt c.number low)
+
+-- ---- items
+
+-- what stands below all frames may be left out
+items_with-from : (low base : ℕ) (opened : List ℕ) (changes : List Change) (frames : List Frame) → low ≤ base
+    → IsOrderlyFrom base frames
+    → items_with opened changes frames ≡ items_with (numbers_from low opened) (changes_from low changes) frames
+items_with-from low base opened changes [] le h = refl
+items_with-from low base opened changes (frame ∷ frames) le h =
+    let in_range : low ≤ frame.number = omega (arith, h.0) in
+    let first : item_with opened changes frame
+    ≡ item_with (numbers_from low opened) (changes_from low changes) frame = λ i. record {
+      frame = frame;
+      opens = is_headers frame.body && any_from low frame.number opened in_range i;
+      change = find_from low frame.number changes in_range i;
+    } in
+    ap (λ item. item ∷ items_with opened changes frames) first
+    ∙ ap (λ items. item_with (numbers_from low opened) (changes_from low changes) frame ∷ items)
+    (items_with-from low (frame.number + 1) opened changes frames (omega arith) h.2)
+
+pub walked-items_with : (base start begin : ℕ) (opened : List ℕ) (changes : List Change) (frames : List Frame)
+    → IsOrderlyFrom base frames → NeverFallFrom start opened → AreOrderlyFrom begin changes
+    → walked opened changes frames ≡ items_with opened changes frames
+walked-items_with base start begin opened changes [] h o c = refl
+walked-items_with base start begin opened changes (frame ∷ frames) h o c =
+    let n = frame.number in
+    let marks = numbers_from n opened in
+    let news = changes_from n changes in
+    let rise = numbers_from-rise start n opened o in
+    let orderly = changes_from-orderly begin n changes c in
+    let first : item_at frame marks news ≡ item_with marks news frame = λ i. record {
+      frame = frame;
+      opens = is_headers frame.body && sym (any_first n marks rise) i;
+      change = sym (find_first n news orderly) i;
+    } in
+    ap (λ item. item ∷ walked marks news frames) first
+    ∙ ap (λ items. item_with marks news frame ∷ items)
+    (walked-items_with (n + 1) n n marks news frames h.2 rise orderly)
+    ∙ sym (items_with-from n n opened changes (frame ∷ frames) (omega arith) (omega arith, h.1, h.2))
+
+pub length-walked : (opened : List ℕ) (changes : List Change) (frames : List Frame)
+    → length (walked opened changes frames) ≡ length frames
+length-walked opened changes [] = refl
+length-walked opened changes (frame ∷ frames) =
+    ap suc (length-walked (numbers_from frame.number opened) (changes_from frame.number changes) frames)
+
+-- each frame of the walk is in range
+pub walked-ranges : (base : ℕ) (opened : List ℕ) (changes : List Change) (frames : List Frame)
+    → IsOrderlyFrom base frames
+    → AllByRecursion (λ (item : Item). IsInRange item.frame) (walked opened changes frames)
+walked-ranges base opened changes [] h = tt
+walked-ranges base opened changes (frame ∷ frames) h = (
+  h.1,
+  walked-ranges (frame.number + 1)
+      (numbers_from frame.number opened) (changes_from frame.number changes) frames h.2,
+)

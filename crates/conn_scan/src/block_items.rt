@@ -1,0 +1,146 @@
+ghost use Rattle.std.specs.Prelude.{◌≡◌, IfOk};
+ghost use Rattle.std.specs.Iterator.{YieldsFirst, item_count};
+ghost use Rattle.conn_scan.specs.Items.{items_with, items_in, NeverFallFrom, IsBlock};
+ghost use Rattle.audit_terms.specs.Frame.{IsOrderly};
+ghost use Rattle.settings_pair.specs.Changes.{AreOrderly};
+ghost use Rattle.conn_scan.specs.code.Walk.{numbers_from, changes_from, is_first, first_change, item_at, walked};
+
+use audit_terms::{Change, Frame, Item};
+use std::alloc::{AllocError, Global};
+
+/// A range of a connection's frames, with what the audit of the connection needs beside them.
+#[derive(Clone, Copy)]
+pub struct Block<'a> {
+    /// The frames, their numbers rising.
+    pub frames: &'a [Frame],
+    /// The numbers of frames that open streams, in order. A promise may stand here too: it is judged by its body.
+    pub opened: &'a [u32],
+    /// What acknowledgements bring into force, in order of numbers.
+    pub changes: &'a [Change],
+}
+
+impl<'a> Block<'a> {
+    /// The items of the block, one after the other, with no list of them.
+    pub(crate) fn items(&self) -> Walk<'a>
+        ensures { walked result.opened.now result.changes.now result.frames.now
+            ≡ walked self.now.opened.now self.now.changes.now self.now.frames.now }
+    {
+        Walk {
+            frames: self.frames,
+            opened: self.opened,
+            changes: self.changes,
+        }
+    }
+}
+
+/// The items of a block, by one forward walk.
+#[derive(Drop)]
+pub(crate) struct Walk<'a> {
+    pub(crate) frames: &'a [Frame],
+    pub(crate) opened: &'a [u32],
+    pub(crate) changes: &'a [Change],
+}
+
+impl Iterator for Walk<'_> {
+    type Item = Item;
+
+    ghost next_gives = { YieldsFirst (λ s. walked s.opened.now s.changes.now s.frames.now) };
+
+    ghost remaining = { item_count (λ s. walked s.opened.now s.changes.now s.frames.now) };
+
+    fn next(&mut self) -> Option<Item> {
+        match self.frames.split_first() {
+            None => None,
+            Some((frame, frames)) => {
+                self.frames = frames;
+                self.opened = numbers_from(self.opened, frame.number);
+                self.changes = changes_from(self.changes, frame.number);
+                Some(item_at(frame, self.opened, self.changes))
+            }
+        }
+    }
+}
+
+/// The numbers from the first that is not below a number.
+fn numbers_from(numbers: &[u32], low: u32) -> &[u32]
+    ensures { result.now ≡ numbers_from low numbers.now }
+{
+    let mut rest = numbers;
+    while let Some((first, later)) = rest.split_first() {
+        if *first >= low {
+            return rest;
+        }
+        rest = later;
+    }
+    rest
+}
+
+/// The changes from the first whose number is not below a number.
+fn changes_from(changes: &[Change], low: u32) -> &[Change]
+    ensures { result.now ≡ changes_from low changes.now }
+{
+    let mut rest = changes;
+    while let Some((first, later)) = rest.split_first() {
+        if first.number >= low {
+            return rest;
+        }
+        rest = later;
+    }
+    rest
+}
+
+/// Is it the first number?
+fn is_first(number: u32, numbers: &[u32]) -> bool
+    ensures { result ≡ is_first number numbers.now }
+{
+    match numbers.split_first() {
+        Some((first, _)) => *first == number,
+        None => false,
+    }
+}
+
+/// The first change, where it has this number.
+fn first_change(number: u32, changes: &[Change]) -> Option<Change>
+    ensures { result ≡ first_change number changes.now }
+{
+    match changes.split_first() {
+        Some((first, _)) if first.number == number => Some(*first),
+        _ => None,
+    }
+}
+
+/// A frame with its opening mark and its change, where the first number and the first change are not below its number.
+fn item_at(frame: &Frame, opened: &[u32], changes: &[Change]) -> Item
+    ensures { result ≡ item_at frame.now opened.now changes.now }
+{
+    Item {
+        frame: *frame,
+        opens: frame.body.is_headers() && is_first(frame.number, opened),
+        change: first_change(frame.number, changes),
+    }
+}
+
+/// Each frame with its opening mark and the change that it brings.
+pub fn items(
+    alloc: Global,
+    frames: &[Frame],
+    opened: &[u32],
+    changes: &[Change],
+) -> Result<Vec<Item>, AllocError>
+    requires frames { IsOrderly frames.now }
+    requires opened { NeverFallFrom 0 opened.now }
+    requires changes { AreOrderly changes.now }
+    ensures { IfOk result (λ list. list.items ≡ items_with opened.now changes.now frames.now) }
+{
+    let mut list = Vec::with_capacity(alloc, frames.len())?;
+    for item in (Block {
+        frames,
+        opened,
+        changes,
+    })
+    .items()
+    {
+        list.push(item)?;
+    }
+    Ok(list)
+}
