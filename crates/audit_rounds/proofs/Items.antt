@@ -1,7 +1,6 @@
 -- The items of the pass, each found by its frame's number.
-use Rattle.std.proofs.Common.{◌≡◌, ℕ, ◌+◌, ◌<◌, ◌≤◌, ◌==◌, Bool, true, false, ◌&&◌, if◌then◌else◌, List, [], ◌∷◌, ◌++◌, map, Option, Some, None, refl, sym, ap, ◌∙◌, arith, append_assoc, append-nil}
+use Rattle.std.proofs.Common.{◌≡◌, ℕ, ◌+◌, ◌<◌, ◌≤◌, ◌==◌, Bool, false, ◌&&◌, List, [], ◌∷◌, ◌++◌, map, Option, Some, None, refl, sym, ap, ◌∙◌, arith, append_assoc}
 use Rattle.std.specs.Option.{option_to_list}
-use Rattle.std.specs.List.{find, list_any}
 use Rattle.std.specs.List.Sorted.{IsPermutation}
 use Rattle.std.proofs.lemmas.Bool.Decides.{nat_tests}
 use Rattle.std.proofs.lemmas.List.Sorted.{list_any-IsPermutation}
@@ -10,12 +9,11 @@ use Rattle.audit_terms.specs.declared.frames.Settings.{Settings}
 use Rattle.audit_terms.specs.declared.frames.Frame.{Frame}
 use Rattle.audit_terms.specs.declared.items.Change.{Change}
 use Rattle.audit_terms.specs.declared.items.Item.{Item}
-use Rattle.audit_terms.specs.Frame.{is_headers, IsOrderly, IsOrderlyFrom}
-use Rattle.audit_terms.specs.Change.{change_by}
+use Rattle.audit_terms.specs.Frame.{is_headers, IsOrderlyFrom}
 use Rattle.audit_terms.specs.InForce.{InForce, in_force_after, change_of, change_taking, taken, changes_from, changes_of}
-use Rattle.audit_terms.specs.Pass.{PassState, pass_start, next, streams_of, items_of, items_from}
-use Rattle.audit_rounds.specs.Openings.{openings_of, is_opening_headers}
-use Rattle.audit_rounds.specs.Items.{change_at, item_found, ItemsAreFound}
+use Rattle.audit_terms.specs.Pass.{PassState, pass_start, next, items_of, items_from}
+use Rattle.audit_rounds.specs.Openings.{is_opening_headers}
+use Rattle.audit_rounds.specs.Items.{change_at, ItemsAreFound}
 use Rattle.audit_rounds.proofs.Openings.{openings_are_found_lem}
 
 -- ---- changes

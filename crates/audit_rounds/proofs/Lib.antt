@@ -2,3 +2,5 @@ pub mod Openings
 pub mod Parts
 pub mod Items
 pub mod Rounds
+pub mod Whole
+pub mod Each

@@ -1,5 +1,5 @@
 -- The openings that streams by themselves tell are those of the pass.
-use Rattle.std.proofs.Common.{◌≡◌, ℕ, zero, suc, ◌+◌, ◌<◌, ◌≤◌, ◌==◌, Bool, true, false, not, ◌&&◌, ◌||◌, List, [], ◌∷◌, ◌++◌, map, filter, Option, Some, None, is_none, IfSome, refl, sym, ap, subst, ◌∙◌, arith, ◌%◌, if◌then◌else◌, true≢false}
+use Rattle.std.proofs.Common.{◌≡◌, ℕ, ◌+◌, ◌<◌, ◌≤◌, ◌==◌, Bool, true, false, ◌&&◌, ◌||◌, List, [], ◌∷◌, ◌++◌, map, Option, Some, None, is_none, IfSome, refl, sym, ap, subst, ◌∙◌, arith, ◌%◌, if◌then◌else◌}
 use Rattle.std.specs.Option.{option_map_or, option_to_list}
 use Rattle.std.specs.List.{flat_map, list_any}
 use Rattle.std.proofs.lemmas.Bool.Decides.{nat_tests}
@@ -14,16 +14,16 @@ use Rattle.audit_terms.specs.declared.items.Item.{Item}
 use Rattle.audit_terms.specs.declared.items.Step.{Step}
 use Rattle.audit_terms.specs.declared.lives.StreamLife.{StreamLife}
 use Rattle.audit_terms.specs.declared.streams.Stream.{Stream}
-use Rattle.audit_terms.specs.Frame.{meets, promises, promised_by, is_headers, is_promise, is_client_headers, IsOrderly, IsOrderlyFrom}
+use Rattle.audit_terms.specs.Frame.{meets, promises, is_headers, is_promise, is_client_headers, IsOrderly, IsOrderlyFrom}
 use Rattle.audit_terms.specs.InForce.{initial_in_force, in_force_after, change_of, changes_of}
 use Rattle.audit_terms.specs.Life.{is_opening, life_after}
 use Rattle.audit_terms.specs.Stream.{idle_stream, stream_after, stream_after_all, initial_after}
-use Rattle.audit_terms.specs.Pass.{PassState, pass_start, next, step_of, opens_stream, first_of, streams_of, items_of, items_from, state_from, state_after}
+use Rattle.audit_terms.specs.Pass.{PassState, pass_start, next, step_of, opens_stream, streams_of, items_from, state_from, state_after}
 use Rattle.audit_terms.specs.Run.{frames_of, stream_at_end}
 use Rattle.audit_core.proofs.QuietSteps.{stream_after-quiet}
 use Rattle.audit_core.proofs.StreamSteps.{step_if_any, steps_from, steps_of-steps_from}
 use Rattle.audit_core.proofs.StreamsMet.{streams_met_lem}
-use Rattle.audit_rounds.specs.Openings.{opening_of, openings_of, is_opening_headers, OpeningsAreFound}
+use Rattle.audit_rounds.specs.Openings.{openings_of, is_opening_headers, OpeningsAreFound}
 
 -- ---- a stream at its end is the stream in the pass
 
@@ -291,7 +291,7 @@ all-named : (streams : List ℕ) (frames : List Frame)
 all-named streams [] h = tt
 all-named streams (frame ∷ frames) h = (
   h frame.stream (ap (λ b. (b || promises frame.stream frame) || list_any (meets frame.stream) frames)
-  (eq-eqb frame.stream frame.stream refl)),
+      (eq-eqb frame.stream frame.stream refl)),
   all-named streams frames (λ s met. h s (ap (λ b. meets s frame || b) met ∙ or_true (meets s frame))),
 )
 

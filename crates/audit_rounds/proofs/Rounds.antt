@@ -1,14 +1,12 @@
 -- The rounds make the pass.
-use Rattle.std.proofs.Common.{◌≡◌, ℕ, pos, Bool, true, false, not, ◌&&◌, ◌||◌, ◌==◌, is_none, if◌then◌else◌, List, [], ◌∷◌, ◌++◌, Option, Some, None, refl, sym, ap, ◌∙◌, append-nil}
+use Rattle.std.proofs.Common.{◌≡◌, ℕ, pos, Bool, true, false, not, ◌&&◌, ◌||◌, ◌==◌, is_none, List, [], ◌∷◌, ◌++◌, Option, Some, None, refl, sym, ap, ◌∙◌, append-nil}
 use Rattle.std.specs.List.{flat_map}
-use Rattle.audit_terms.specs.declared.sides.Side.{Side}
 use Rattle.audit_terms.specs.declared.sides.Sides.{Sides}
 use Rattle.audit_terms.specs.declared.kinds.Kind.{Kind}
 use Rattle.audit_terms.specs.declared.kinds.Kind.TheVariants.{BadPreface, BrokenBlock, WrongStream, WrongSize, BadPadding, BadSetting, Push, BadPriority, UnmatchedAck}
 use Rattle.audit_terms.specs.declared.frames.Body.{Body}
-use Rattle.audit_terms.specs.declared.frames.Body.TheVariants.{Content, Headers, Priority, RstStream, Settings as SettingsBody, SettingsAck, PushPromise, Ping, GoAway, WindowUpdate, Continuation, Unknown, Unreadable}
+use Rattle.audit_terms.specs.declared.frames.Body.TheVariants.{Settings as SettingsBody, Unreadable}
 use Rattle.audit_terms.specs.declared.frames.Frame.{Frame}
-use Rattle.audit_terms.specs.declared.items.Item.{Item}
 use Rattle.audit_terms.specs.declared.findings.Finding.{Finding}
 use Rattle.audit_terms.specs.declared.sides.Side.TheVariants.{Client}
 use Rattle.audit_terms.specs.Side.{is_side}
@@ -20,12 +18,11 @@ use Rattle.audit_terms.specs.Kind.{is_credit}
 use Rattle.audit_terms.specs.LocalFault.{local_said, local_run, local_run_from, no_previous, previous_after, body_said, reading_fault, fault, is_settings, breaks_block, is_on_wrong_stream}
 use Rattle.audit_terms.specs.InForce.{InForce, taken, settings_said, settings_run, settings_run_from, initial_in_force, in_force_after, changes_of}
 use Rattle.audit_terms.specs.Connection.{connection_start}
-use Rattle.audit_terms.specs.Pass.{full, pass, streams_of}
+use Rattle.audit_terms.specs.Pass.{full, streams_of}
 use Rattle.audit_terms.specs.Run.{frames_of, stream_run, group_run, block_runs}
-use Rattle.audit_core.specs.PartsLaw.{joined, parts_of}
+use Rattle.audit_core.specs.PartsLaw.{joined}
 use Rattle.audit_core.proofs.PartsLemmas.{parts_make_full_lem}
 use Rattle.split_merge.proofs.ShownMerge.{shown-append, shown-flat_map, in_order-shown, merge-shown}
-use Rattle.audit_rounds.specs.code.Streams.{shown_of}
 use Rattle.audit_rounds.specs.Rounds.{RoundsMakePass, streams_shown, blocks_shown}
 
 -- where nothing is a credit, all is shown
@@ -68,11 +65,16 @@ module _ (c : Bool) where
 
   whole-local_said : (previous : Option Frame) (frame : Frame) → Whole (local_said previous frame)
   whole-local_said previous frame =
-      whole-append _ _ (whole-say (is_none previous && not (is_settings frame)) (fault BadPreface frame frame.code) refl)
-      (whole-append _ _ (whole-say (breaks_block previous frame) (fault BrokenBlock frame frame.code) refl)
-      (whole-append _ _ (whole-say (is_on_wrong_stream frame) (fault WrongStream frame frame.code) refl)
-      (whole-append _ _ (whole-body frame frame.body) 
-      (whole-say ((frame.code == push_promise_type) && is_side Client frame.side) (fault Push frame 0) refl))))
+      whole-append _ (say ((frame.code == push_promise_type) && is_side Client frame.side) (fault Push frame 0))
+      (whole-append _ (body_said frame frame.body)
+      (whole-append _ (say (is_on_wrong_stream frame) (fault WrongStream frame frame.code))
+      (whole-append (say (is_none previous && not (is_settings frame)) (fault BadPreface frame frame.code))
+      (say (breaks_block previous frame) (fault BrokenBlock frame frame.code))
+      (whole-say (is_none previous && not (is_settings frame)) (fault BadPreface frame frame.code) refl)
+      (whole-say (breaks_block previous frame) (fault BrokenBlock frame frame.code) refl))
+      (whole-say (is_on_wrong_stream frame) (fault WrongStream frame frame.code) refl))
+      (whole-body frame frame.body))
+      (whole-say ((frame.code == push_promise_type) && is_side Client frame.side) (fault Push frame 0) refl)
 
   whole-local : (previous : Sides (Option Frame)) (frames : List Frame) → Whole (local_run_from previous frames)
   whole-local previous [] = refl

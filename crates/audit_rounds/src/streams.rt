@@ -52,7 +52,11 @@ impl StreamsRun {
 }
 
 /// What one stream shows.
-fn run_of_row(alloc: Global, streams: &Streams<'_>, row: &StreamRow) -> Result<StreamRun, AllocError>
+fn run_of_row(
+    alloc: Global,
+    streams: &Streams<'_>,
+    row: &StreamRow,
+) -> Result<StreamRun, AllocError>
     requires streams { AreStreams streams.now }
     requires row { IsRow streams.now row.now }
     ensures findings { IfOk result (λ run. run.findings.items
@@ -69,7 +73,11 @@ fn run_of_row(alloc: Global, streams: &Streams<'_>, row: &StreamRow) -> Result<S
 }
 
 /// What a group of streams shows, one stream after the other.
-fn run_of_group(alloc: Global, streams: &Streams<'_>, rows: &[StreamRow]) -> Result<StreamsRun, AllocError>
+fn run_of_group(
+    alloc: Global,
+    streams: &Streams<'_>,
+    rows: &[StreamRow],
+) -> Result<StreamsRun, AllocError>
     requires streams { AreStreams streams.now }
     requires rows { All (IsRow streams.now) rows.now }
     ensures { IfOk result (Shows streams.now rows.now) }
@@ -98,7 +106,13 @@ pub(crate) fn run_of_streams<R: Threads + Sync>(
     requires rows { All (IsRow streams.now) rows.now }
     ensures { IfOk result (Shows streams.now rows.now) }
 {
-    let shares = map_chunks(rt, alloc, rows, share, &|_, part| run_of_group(alloc, streams, part))?;
+    let shares = map_chunks(
+        rt,
+        alloc,
+        rows,
+        share,
+        &|_, part| run_of_group(alloc, streams, part),
+    )?;
     joined(alloc, share, streams, rows, shares.as_slice())
 }
 

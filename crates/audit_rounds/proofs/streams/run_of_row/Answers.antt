@@ -1,4 +1,4 @@
-use Rattle.std.proofs.Common.{◌≡◌, ◌<◌, ℕ, List, All, length, sym, ap, ◌∙◌, subst}
+use Rattle.std.proofs.Common.{◌≡◌, ◌<◌, ℕ, All, length, sym, ap, ◌∙◌, subst}
 use Rattle.audit_terms.specs.Frame.{IsOrderly}
 use Rattle.audit_terms.specs.Run.{frames_of}
 use Rattle.settings_pair.specs.Changes.{AreAcknowledged}
