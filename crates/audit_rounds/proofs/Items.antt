@@ -92,7 +92,8 @@ changes-found low earlier state (frame ∷ frames) h p =
     let here : change_at (earlier ++ (own ++ rest)) frame ≡ change_of state.in_force frame =
     find-later frame earlier (own ++ rest) before
     ∙ find-own state.in_force frame rest
-    (changes-later (frame.number + 1) (frame.number + 1) (in_force_after state.in_force frame) frames (omega arith) h.2) in
+    (changes-later (frame.number + 1) (frame.number + 1) (in_force_after state.in_force frame) frames (omega arith)
+    h.2) in
     ap (λ c. c ∷ map (λ (item : Item). item.change) (items_from (next state frame) frames)) (sym here)
     ∙ ap (λ l. change_at (earlier ++ (own ++ rest)) frame ∷ l)
     (changes-found (frame.number + 1) (earlier ++ own) (next state frame) frames h.2

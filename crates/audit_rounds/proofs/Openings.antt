@@ -33,7 +33,8 @@ one_step : (stream number : ℕ) (initial : Sides ℕ) (entry : Stream) (o : Opt
     ≡ stream_after_all stream (initial_after c initial)
     (stream_after stream initial entry (record { number = number; frame = o; change = c })) rest
 one_step stream number initial entry None None rest =
-    ap (λ now. stream_after_all stream initial now rest) (sym (stream_after-quiet stream initial number None entry refl))
+    ap (λ now. stream_after_all stream initial now rest)
+    (sym (stream_after-quiet stream initial number None entry refl))
 one_step stream number initial entry (Some frame) None rest = refl
 one_step stream number initial entry (Some frame) (Some change) rest = refl
 one_step stream number initial entry None (Some change) rest = refl
@@ -65,7 +66,8 @@ abbrev opens_it : PassState → Frame → ℕ → Bool
 opens_it state frame stream = meets stream frame && is_opening stream (state.streams stream).life frame
 
 opened-next : (state : PassState) (frame : Frame) (stream : ℕ)
-    → opened (next state frame) stream ≡ (if opens_it state frame stream then Some frame.number else opened state stream)
+    → opened (next state frame) stream
+    ≡ (if opens_it state frame stream then Some frame.number else opened state stream)
 opened-next state frame stream = by_test (meets stream frame) where
   life : StreamLife
   life = (state.streams stream).life

@@ -12,18 +12,20 @@ use Rattle.settings_pair.specs.Changes.{AreAcknowledged}
 use Rattle.audit_core.proofs.OrderlyRest.{drop-next}
 
 -- orderly from an earlier number on
-orderly-earlier : (low high : ℕ) (frames : List Frame) → low ≤ high → IsOrderlyFrom high frames → IsOrderlyFrom low frames
+orderly-earlier : (low high : ℕ) (frames : List Frame) → low ≤ high → IsOrderlyFrom high frames
+    → IsOrderlyFrom low frames
 orderly-earlier low high [] l h = tt
 orderly-earlier low high (frame ∷ frames) l h = (omega (arith, h.0), h.1, h.2)
 
 orderly-filter : (test : Frame → Bool) (low : ℕ) (frames : List Frame) → IsOrderlyFrom low frames
     → IsOrderlyFrom low (filter test frames)
 orderly-filter test low [] h = tt
-orderly-filter test low (frame ∷ frames) h = by_test (test frame) (orderly-filter test (frame.number + 1) frames h.2) where
-  by_test : (b : Bool) → IsOrderlyFrom (frame.number + 1) (filter test frames)
-      → IsOrderlyFrom low (if b then frame ∷ filter test frames else filter test frames)
-  by_test true rest = (h.0, h.1, rest)
-  by_test false rest = orderly-earlier low (frame.number + 1) _ (omega (arith, h.0)) rest
+orderly-filter test low (frame ∷ frames) h =
+    by_test (test frame) (orderly-filter test (frame.number + 1) frames h.2) where
+      by_test : (b : Bool) → IsOrderlyFrom (frame.number + 1) (filter test frames)
+          → IsOrderlyFrom low (if b then frame ∷ filter test frames else filter test frames)
+      by_test true rest = (h.0, h.1, rest)
+      by_test false rest = orderly-earlier low (frame.number + 1) _ (omega (arith, h.0)) rest
 
 -- the frames of a stream are orderly
 pub orderly-frames_of : (stream : ℕ) (frames : List Frame) → IsOrderly frames → IsOrderly (frames_of stream frames)

@@ -54,7 +54,8 @@ module _ (c : Bool) where
   whole-reading BadPriority frame value = whole-one (fault BadPriority frame value) refl
   whole-reading _ frame value = refl
 
-  whole-bad : (frame : Frame) (bad : Option ℕ) → Whole (say_of (λ identifier. fault BadSetting frame identifier ∷ []) bad)
+  whole-bad : (frame : Frame) (bad : Option ℕ)
+      → Whole (say_of (λ identifier. fault BadSetting frame identifier ∷ []) bad)
   whole-bad frame None = refl
   whole-bad frame (Some identifier) = whole-one (fault BadSetting frame identifier) refl
 
@@ -87,10 +88,12 @@ module _ (c : Bool) where
   whole-settings now [] = refl
   whole-settings now (frame ∷ frames) =
       whole-append (settings_said now frame) _
-      (whole-say (is_ack frame.body && is_none (taken now frame)) (finding_at UnmatchedAck frame.number frame.stream frame.side (pos 0)) refl)
+      (whole-say (is_ack frame.body && is_none (taken now frame))
+      (finding_at UnmatchedAck frame.number frame.stream frame.side (pos 0)) refl)
       (whole-settings (in_force_after now frame) frames)
 
-one-group : (frames : List Frame) (streams : List ℕ) → flat_map (group_run frames) (streams ∷ []) ≡ group_run frames streams
+one-group : (frames : List Frame) (streams : List ℕ)
+    → flat_map (group_run frames) (streams ∷ []) ≡ group_run frames streams
 one-group frames streams = append-nil (group_run frames streams)
 
 one-joined : (streams : List ℕ) → joined (streams ∷ []) ≡ streams

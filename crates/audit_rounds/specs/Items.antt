@@ -22,7 +22,8 @@ item_found opened changes frame = record {
   change = change_at changes frame;
 }
 
--- the items of the pass are the frames, each with the opening and the change of its number, in whatever order openings come
+-- the items of the pass are the frames, each with the opening and the change of its number, in whatever order openings
+-- come
 abbrev pub ItemsAreFound : Type 0
 ItemsAreFound = (frames : List Frame) (opened : List ℕ) → IsOrderly frames →
     IsPermutation (openings_of frames (streams_of frames)) opened →

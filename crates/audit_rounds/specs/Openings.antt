@@ -11,7 +11,8 @@ use Rattle.audit_terms.specs.Run.{frames_of, stream_at_end}
 
 -- the number of the frame that opens the stream, if one does
 abbrev pub opening_of : List Frame → (stream : ℕ) → List ℕ
-opening_of frames stream = option_to_list (stream_at_end stream (frames_of stream frames) (changes_of frames)).life.opened
+opening_of frames stream =
+    option_to_list (stream_at_end stream (frames_of stream frames) (changes_of frames)).life.opened
 
 -- the numbers of the frames that open some streams
 abbrev pub openings_of : List Frame → List ℕ → List ℕ

@@ -23,8 +23,8 @@ streams_shown credits_shown frames = flat_map (shown_of credits_shown frames) (s
 abbrev pub blocks_shown : (credits_shown : Bool) → List (List Item) → List Finding
 blocks_shown credits_shown blocks = shown credits_shown (block_runs connection_start blocks)
 
--- the local faults, the unmatched acknowledgements, what is shown of the streams and what is shown of the blocks, put in order
--- and cut at the first that stops, are what is shown of the pass, however the frames are cut into blocks
+-- the local faults, the unmatched acknowledgements, what is shown of the streams and what is shown of the blocks, put in
+-- order and cut at the first that stops, are what is shown of the pass, however the frames are cut into blocks
 abbrev pub RoundsMakePass : Type 0
 RoundsMakePass = (credits_shown : Bool) (frames : List Frame) (blocks : List (List Item)) → IsOrderly frames →
     joined blocks ≡ items_of frames →

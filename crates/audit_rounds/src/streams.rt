@@ -92,8 +92,8 @@ fn run_of_group(
     Ok(group)
 }
 
-/// What streams show, in their order. Each worker has so many consecutive streams in advance, and the thread at hand does
-/// the work of one for which there is no thread.
+/// What streams show, in their order. Each worker has so many consecutive streams in advance, and the thread at hand
+/// does the work of one for which there is no thread.
 pub(crate) fn run_of_streams<R: Threads + Sync>(
     rt: &R,
     alloc: Global,

@@ -21,7 +21,8 @@ shown_of credits_shown frames stream =
 
 -- what is shown of the streams of some rows
 abbrev pub rows_shown : Streams → List StreamRow → List Finding
-rows_shown streams rows = flat_map (λ (row : StreamRow). shown_of streams.credits_shown streams.frames.now row.stream) rows
+rows_shown streams rows =
+    flat_map (λ (row : StreamRow). shown_of streams.credits_shown streams.frames.now row.stream) rows
 
 -- the numbers of the frames that open the streams of some rows
 abbrev pub rows_opened : Streams → List StreamRow → List ℕ
