@@ -1,0 +1,6 @@
+pub mod Openings
+pub mod Parts
+pub mod Items
+pub mod Rounds
+pub mod Whole
+pub mod Each

@@ -1,0 +1,78 @@
+-- One connection, from its parts.
+use Rattle.std.proofs.Common.{◌≡◌, ℕ, zero, suc, pos, ◌+◌, ◌*◌, ◌-◌, ◌^◌, ◌<◌, ◌≤◌, List, [], ◌∷◌, ◌++◌, map, flat_map, length, get_or, All, refl, sym, ap, ◌∙◌, subst, arith, Bool, true, false, nat_lt, true≢false}
+use Rattle.std.specs.Prelude.{Result, Ok, Err, IfOk}
+use Rattle.std.specs.declared.cmp.Ordering.TheVariants.{Less}
+use Rattle.std.specs.Ordering.{nat_cmp, is_lt}
+use Rattle.std.specs.Cmp.{nat_cmp_is}
+use Rattle.std.specs.List.Sorted.{IsSorted}
+use borrow.Author.Tests.{ltb-true, ltb-false}
+use Rattle.std.proofs.lemmas.Int.{ints}
+use Rattle.audit_terms.specs.declared.connections.ConnectionState.{ConnectionState}
+use Rattle.audit_terms.specs.declared.frames.Frame.{Frame}
+use Rattle.audit_terms.specs.declared.items.Item.{Item}
+use Rattle.audit_terms.specs.code.Room.{HasRoom}
+use Rattle.audit_terms.specs.Connection.{connection_start}
+use Rattle.audit_terms.specs.Frame.{IsOrderly}
+use Rattle.audit_core.proofs.OrderlyRest.{length-orderly}
+use Rattle.audit_core.proofs.PassOrder.{AreStreams as Are31Bits}
+use Rattle.conn_scan.specs.Block.{BlockFits}
+use Rattle.conn_scan.specs.Items.{NeverFallFrom}
+use Rattle.split_merge.specs.declared.splits.StreamRow.{StreamRow}
+use Rattle.split_merge.specs.Split.{IsRange, IsPartOf, part_of}
+use Rattle.audit_rounds.specs.declared.streams.Streams.{Streams}
+use Rattle.audit_rounds.specs.code.Streams.{IsRow}
+
+start-room : (n : ℕ) → n < 2 ^ 28 → HasRoom (2 ^ 60 - 2 ^ 32 * n) (pos 65535)
+start-room n l = (omega (arith, ints), omega (arith, ints))
+
+-- all frames of a connection fit its start
+pub start-fits : (frames : List Frame) (items : List Item) (now : ConnectionState) → IsOrderly frames
+    → length items ≡ length frames → now ≡ connection_start → BlockFits now items
+start-fits frames items now h e s =
+    let l = length-orderly 0 frames (omega arith) h in
+    let n : length items < 2 ^ 28 = omega arith in
+    subst (λ state. BlockFits state items) (sym s)
+    (record { number = omega arith; client = start-room (length items) n; server = start-room (length items) n })
+
+small : (rows : List StreamRow) (k : ℕ) (d : StreamRow) → k < length rows
+    → Are31Bits (map (λ (row : StreamRow). row.stream) rows) → (get_or rows k d).stream < 2 ^ 31
+small [] k d l h = absurd (omega arith)
+small (row ∷ rows) zero d l h = h.0
+small (row ∷ rows) (suc k) d l h = small rows k d (omega arith) h.1
+
+-- the rows of a split
+pub rows-are : (streams : Streams) (rows : List StreamRow) → All (IsRange streams.split.now) rows
+    → All (λ (row : StreamRow). IsPartOf streams.frames.now row.stream (part_of streams.split.now row)) rows
+    → Are31Bits (map (λ (row : StreamRow). row.stream) rows) → All (IsRow streams) rows
+rows-are streams rows r p s k d l = record { range = r k d l; part = p k d l; in_range = small rows k d l s }
+
+pub flat_map-map : {X Y Z : Type 0} (f : Y → List Z) (g : X → Y) (xs : List X)
+    → flat_map (λ x. f (g x)) xs ≡ flat_map f (map g xs)
+flat_map-map f g [] = refl
+flat_map-map f g (x ∷ xs) = ap (λ l. f (g x) ++ l) (flat_map-map f g xs)
+
+-- what follows for the value, where there is one
+pub if_ok-then : {X E : Type 0} (r : Result X E) (P Q : X → Type 0) → IfOk r P → ((x : X) → P x → Q x) → IfOk r Q
+if_ok-then (Ok x) P Q h f = f x h
+if_ok-then (Err e) P Q h f = tt
+
+-- ---- sorted numbers
+
+le-from : (x y : ℕ) → is_lt (nat_cmp y x) ≡ false → x ≤ y
+le-from x y h = by_test _ refl where
+  by_test : (b : Bool) → nat_lt y x ≡ b → x ≤ y
+  by_test true e =
+      let l : y < x = ltb-true y x e in absurd (true≢false (ap is_lt (nat_cmp_is y x Less l) ∙ h))
+  by_test false e = ltb-false y x e
+
+never-fall-after : (x : ℕ) (xs : List ℕ) → IsSorted nat_cmp (x ∷ xs) → NeverFallFrom x xs
+never-fall-after x [] h = tt
+never-fall-after x (y ∷ ys) h = (
+  le-from x y (h 0 x (omega arith) (omega arith)),
+  never-fall-after y ys (λ k d p q.
+      let e : suc k + 1 ≡ suc (k + 1) = omega arith in rw e at (h (suc k) d (omega arith) (omega arith))),
+)
+
+pub never-fall : (xs : List ℕ) → IsSorted nat_cmp xs → NeverFallFrom 0 xs
+never-fall [] h = tt
+never-fall (x ∷ xs) h = (omega arith, never-fall-after x xs h)

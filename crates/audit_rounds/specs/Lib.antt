@@ -1,0 +1,4 @@
+pub mod Openings
+pub mod Items
+pub mod Rounds
+pub mod code
