@@ -4,16 +4,17 @@ use Rattle.std.specs.Fmt.{decimal}
 use Rattle.audit_report.specs.Line.{line, field}
 use Rattle.audit_terms.specs.declared.sides.Side.{Side}
 use Rattle.audit_terms.specs.Side.{side_name}
+use Rattle.audit_terms.specs.declared.sides.Sides.{Sides}
+use Rattle.audit_report.specs.declared.extents.Extent.{Extent}
 use Rattle.tcp_streams.specs.declared.streams.Flow.{Flow}
 
 -- how many bytes a flow has, and where bytes are missing, if later ones were captured
-pub record Extent : Type 0 where
-  pub size : ℕ
-  pub gap : Option ℕ
-
--- the same of a value of the program
 abbrev pub extent_of : Flow → Extent
 extent_of flow = record { size = length flow.bytes.items; gap = flow.gap }
+
+-- the extents of both sides' flows
+abbrev pub extents_of : (client server : Flow) → Sides Extent
+extents_of client server = record { client = extent_of client; server = extent_of server }
 
 abbrev pub gap_text : Option ℕ → List ℕ
 gap_text None = codes "none"

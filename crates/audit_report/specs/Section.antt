@@ -4,7 +4,8 @@ use Rattle.audit_report.specs.ConnectionLine.{connection_line}
 use Rattle.audit_report.specs.Contents.{Contents, Http2, contents_of, tail_of}
 use Rattle.audit_report.specs.EndLine.{end_line}
 use Rattle.audit_report.specs.FindingLine.{finding_lines}
-use Rattle.audit_report.specs.FlowLine.{Extent, extent_of, flow_line}
+use Rattle.audit_report.specs.FlowLine.{flow_line}
+use Rattle.audit_report.specs.declared.extents.Extent.{Extent}
 use Rattle.audit_report.specs.StallLine.{stall_lines}
 use Rattle.audit_report.specs.declared.audited.Audited.{Audited}
 use Rattle.audit_terms.specs.declared.findings.Finding.{Finding}
@@ -14,9 +15,8 @@ use Rattle.audit_terms.specs.declared.sides.Sides.{Sides}
 use Rattle.packet_heads.specs.declared.packets.Endpoint.{Endpoint}
 use Rattle.split_merge.specs.Stalls.{stalls}
 use Rattle.tcp_streams.specs.declared.members.Connection.{Connection}
-use Rattle.tcp_streams.specs.declared.streams.Flow.{Flow}
 
--- a connection: who opened it with which record, its two flows, what they hold, and what was found in them
+-- a connection: who opened it with which record, the extents of its two flows, what they hold, and what was found in them
 pub record Section : Type 0 where
   pub client : Endpoint
   pub server : Endpoint
@@ -54,17 +54,13 @@ sections_text credits_shown k [] = []
 sections_text credits_shown k (section ∷ rest) =
     section_text credits_shown k section ++ sections_text credits_shown (k + 1) rest
 
--- the extents of both sides' flows
-abbrev pub extents_of : (client server : Flow) → Sides Extent
-extents_of client server = record { client = extent_of client; server = extent_of server }
-
 -- what values of the program tell of a connection
 abbrev pub section_of : Connection → Audited → Section
 section_of connection audited = record {
   client = connection.client;
   server = connection.server;
   rec = connection.rec;
-  flows = extents_of audited.flows.client audited.flows.server;
+  flows = audited.extents;
   contents = contents_of audited.cut;
   findings = audited.findings.items;
 }

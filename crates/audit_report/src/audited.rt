@@ -1,12 +1,12 @@
+use crate::extents::Extent;
 use audit_terms::{Finding, Sides};
 use h2_frames::Cut;
-use tcp_streams::Flow;
 
 /// What the audit of one connection gave.
-#[derive(Debug, Drop)]
+#[derive(Drop)]
 pub struct Audited {
-    /// The bytes of each side.
-    pub flows: Sides<Flow>,
+    /// How much of each side's bytes the capture has.
+    pub extents: Sides<Extent>,
     /// What the two flows hold.
     pub cut: Cut,
     /// What was found in the frames, in order; empty where there are none.

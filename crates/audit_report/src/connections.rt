@@ -4,12 +4,13 @@ ghost use Rattle.packet_heads.specs.declared.packets.Endpoint.{Endpoint};
 ghost use Rattle.audit_terms.specs.declared.sides.Side.{Side};
 ghost use Rattle.audit_report.specs.ConnectionLine.{contents_text, roles_text, heading_text, connection_line};
 ghost use Rattle.audit_report.specs.Contents.{contents_of, tail_of};
-ghost use Rattle.audit_report.specs.FlowLine.{extent_of, gap_text, flow_line};
-ghost use Rattle.audit_report.specs.Section.{connection_text, extents_of};
+ghost use Rattle.audit_report.specs.FlowLine.{extents_of, gap_text, flow_line};
+ghost use Rattle.audit_report.specs.Section.{connection_text};
 
 use crate::endpoints::push_endpoint;
+use crate::extents::Extent;
 use crate::words::{push_field, push_number, push_word};
-use audit_terms::Side;
+use audit_terms::{Side, Sides};
 use h2_frames::Cut;
 use packet_heads::Endpoint;
 use std::alloc::{AllocError, Global};
@@ -28,7 +29,8 @@ pub fn connection_lines(
         connection.now.rec (extents_of client.now server.now) (contents_of cut.now)) }
 {
     let mut out = String::new(alloc);
-    push_connection_text(&mut out, k as u64, connection, client, server, cut)?;
+    let extents = Extent::of_both(client, server);
+    push_connection_text(&mut out, k as u64, connection, &extents, cut)?;
     Ok(out.into_bytes())
 }
 
@@ -38,16 +40,15 @@ pub fn push_connection_text(
     out: &mut String,
     k: u64,
     connection: &Connection,
-    client: &Flow,
-    server: &Flow,
+    extents: &Sides<Extent>,
     cut: &Cut,
 ) -> Result<(), AllocError>
     ensures { OnOk result (string_bytes out.new ≡ string_bytes out.old ++ connection_text k connection.now.client
-        connection.now.server connection.now.rec (extents_of client.now server.now) (contents_of cut.now)) }
+        connection.now.server connection.now.rec extents.now (contents_of cut.now)) }
 {
     push_connection_line(out, k, connection, cut)?;
-    push_flow_line(out, Side::Client, client, tail(cut, Side::Client))?;
-    push_flow_line(out, Side::Server, server, tail(cut, Side::Server))
+    push_flow_line(out, Side::Client, extents.client, tail(cut, Side::Client))?;
+    push_flow_line(out, Side::Server, extents.server, tail(cut, Side::Server))
 }
 
 #[tactic(auto, using(crate::proofs::Joins::joins))]
@@ -98,14 +99,14 @@ fn push_contents(out: &mut String, cut: &Cut) -> Result<(), AllocError>
 }
 
 #[tactic(auto, using(crate::proofs::Joins::joins))]
-fn push_flow_line(out: &mut String, side: Side, flow: &Flow, tail: u32) -> Result<(), AllocError>
-    ensures { OnOk result (string_bytes out.new ≡ string_bytes out.old ++ flow_line side (extent_of flow.now) tail) }
+fn push_flow_line(out: &mut String, side: Side, extent: Extent, tail: u32) -> Result<(), AllocError>
+    ensures { OnOk result (string_bytes out.new ≡ string_bytes out.old ++ flow_line side extent tail) }
 {
     push_word(out, "flow ")?;
     push_word(out, side.name())?;
-    push_field(out, " bytes ", flow.bytes.len() as u64)?;
+    push_field(out, " bytes ", extent.size)?;
     push_word(out, " gap ")?;
-    push_gap(out, flow.gap)?;
+    push_gap(out, extent.gap)?;
     push_field(out, " tail ", tail as u64)?;
     push_word(out, "\n")
 }

@@ -79,15 +79,7 @@ fn push_section(
     ensures { OnOk result (string_bytes out.new ≡ string_bytes out.old
         ++ section_text frames_shown k (section_of connection.now audited.now)) }
 {
-    let flows = &audited.flows;
-    push_connection_text(
-        out,
-        k,
-        connection,
-        &flows.client,
-        &flows.server,
-        &audited.cut,
-    )?;
+    push_connection_text(out, k, connection, &audited.extents, &audited.cut)?;
     push_findings(alloc, out, &audited.cut, &audited.findings, frames_shown)
 }
 

@@ -9,8 +9,9 @@ use Rattle.audit_report.specs.RecordLines.{record_lines}
 use Rattle.audit_report.specs.CutRecordLine.{cut_record_line}
 use Rattle.audit_report.specs.UnopenedLines.{unopened_lines}
 use Rattle.audit_report.specs.Contents.{Contents, Http2 as HoldsFrames, contents_of}
-use Rattle.audit_report.specs.Section.{Section, extents_of, section_of, sections_of, sections_text}
-use Rattle.audit_report.specs.FlowLine.{Extent, extent_of}
+use Rattle.audit_report.specs.Section.{Section, section_of, sections_of, sections_text}
+use Rattle.audit_report.specs.FlowLine.{extent_of}
+use Rattle.audit_report.specs.declared.extents.Extent.{Extent}
 use Rattle.audit_terms.specs.declared.sides.Sides.{Sides}
 use Rattle.audit_terms.specs.Pass.{pass}
 use Rattle.h2_frames.specs.declared.connections.Cut.{Cut}
@@ -113,21 +114,21 @@ record IsOneSection (c d : Connection) (a b : Audited) : Type 0 where
 one_section : (capture : List ℕ) (packets : List Packet) (c d : Connection) (a b : Audited)
     → membership c ≡ membership d → IsAudited capture packets c a → IsAudited capture packets d b → IsOneSection c d a b
 one_section capture packets c d a b m h k =
-    let client = one_flow (Some c.client_isn) capture (clients packets (membership c)) a.flows.client b.flows.client h.client
-    (subst (λ (n : Membership). IsClientFlow capture packets n b.flows.client) (sym m) k.client) in
-    let server = one_flow c.server_isn capture (servers packets (membership c)) a.flows.server b.flows.server h.server
-    (subst (λ (n : Membership). IsServerFlow capture packets n b.flows.server) (sym m) k.server) in
-    let cut = one_cut a.cut b.cut (cut-unique a.flows.client a.flows.server b.flows.client b.flows.server a.cut b.cut
+    let client = one_flow (Some c.client_isn) capture (clients packets (membership c)) h.flows.client k.flows.client h.client
+    (subst (λ (n : Membership). IsClientFlow capture packets n k.flows.client) (sym m) k.client) in
+    let server = one_flow c.server_isn capture (servers packets (membership c)) h.flows.server k.flows.server h.server
+    (subst (λ (n : Membership). IsServerFlow capture packets n k.flows.server) (sym m) k.server) in
+    let cut = one_cut a.cut b.cut (cut-unique h.flows.client h.flows.server k.flows.client k.flows.server a.cut b.cut
     client.same server.same h.cut k.cut) in
     let found : a.findings.items ≡ b.findings.items = h.findings ∙ cut.findings ∙ sym k.findings in
-    let flows = ap₂ sides (one_extent a.flows.client b.flows.client client) (one_extent a.flows.server b.flows.server server) in
-    let extents = extents_of a.flows.client a.flows.server in
-    let others = extents_of b.flows.client b.flows.server in
+    let flows : a.extents ≡ b.extents = h.extents
+    ∙ ap₂ sides (one_extent h.flows.client k.flows.client client) (one_extent h.flows.server k.flows.server server)
+    ∙ sym k.extents in
     record {
-      section_is = ap (λ (n : Membership). section n extents (contents_of a.cut) a.findings.items) m
+      section_is = ap (λ (n : Membership). section n a.extents (contents_of a.cut) a.findings.items) m
           ∙ ap (λ (e : Sides Extent). section (membership d) e (contents_of a.cut) a.findings.items) flows
-          ∙ ap (λ (k : Contents). section (membership d) others k a.findings.items) cut.contents
-          ∙ ap (λ (fs : List Finding). section (membership d) others (contents_of b.cut) fs) found;
+          ∙ ap (λ (k : Contents). section (membership d) b.extents k a.findings.items) cut.contents
+          ∙ ap (λ (fs : List Finding). section (membership d) b.extents (contents_of b.cut) fs) found;
       findings = found;
     }
 

@@ -1,5 +1,5 @@
 -- The audit of one connection.
-use Rattle.std.specs.Prelude.{◌≡◌, ℕ, Bool, false, nat_le, if◌then◌else◌, List, [], ◌∷◌, Option, None, Some, IsTrue}
+use Rattle.std.specs.Prelude.{◌≡◌, ℕ, Bool, false, if◌then◌else◌, List, [], ◌∷◌, Option, None, Some, IsTrue}
 use Rattle.std.specs.List.{list_any}
 use Rattle.audit_terms.specs.declared.sides.Side.{Side}
 use Rattle.audit_terms.specs.declared.sides.Side.TheVariants.{Client, Server}
@@ -17,6 +17,8 @@ use Rattle.h2_frames.specs.declared.connections.Cut.{Cut}
 use Rattle.h2_frames.specs.declared.connections.Cut.TheVariants.{Http2}
 use Rattle.h2_frames.specs.Cut.{IsCut}
 use Rattle.audit_report.specs.declared.audited.Audited.{Audited}
+use Rattle.audit_report.specs.FlowLine.{extents_of}
+use Rattle.audit_terms.specs.declared.sides.Sides.{Sides}
 use Rattle.h2audit.specs.declared.verdict.Verdict.{Verdict}
 use Rattle.h2audit.specs.declared.verdict.Verdict.TheVariants.{Clean, Faults}
 
@@ -37,12 +39,14 @@ abbrev pub findings_of : Cut → List Finding
 findings_of (Http2 frames tails) = pass frames.items
 findings_of _ = []
 
--- the audit of a connection: its two flows, what they hold, and what is found in the frames
+-- the audit of a connection: the extents of its two flows, what these hold, and what is found in the frames
 pub record IsAudited (capture : List ℕ) (packets : List Packet) (connection : Connection) (audited : Audited)
     : Type 0 where
-  pub client : IsFlowOf capture packets connection Client audited.flows.client
-  pub server : IsFlowOf capture packets connection Server audited.flows.server
-  pub cut : IsCut audited.flows.client audited.flows.server audited.cut
+  pub flows : Sides Flow
+  pub client : IsFlowOf capture packets connection Client flows.client
+  pub server : IsFlowOf capture packets connection Server flows.server
+  pub extents : audited.extents ≡ extents_of flows.client flows.server
+  pub cut : IsCut flows.client flows.server audited.cut
   pub findings : audited.findings.items ≡ findings_of audited.cut
 
 -- each connection's audit, in order

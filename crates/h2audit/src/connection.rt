@@ -12,8 +12,8 @@ ghost use Rattle.std.specs.List.{list_any};
 
 use crate::verdict::Verdict;
 use audit_core::one_pass;
-use audit_report::Audited;
-use audit_terms::{Finding, Side, Sides};
+use audit_report::{Audited, Extent};
+use audit_terms::{Finding, Side};
 use h2_frames::{Cut, cut};
 use packet_heads::Packet;
 use std::alloc::{AllocError, Global};
@@ -60,9 +60,13 @@ fn audit_connection(
     let client = flow_of(alloc, capture, packets, connection, Side::Client)?;
     let server = flow_of(alloc, capture, packets, connection, Side::Server)?;
     let cut = cut(alloc, &client, &server)?;
+    let extents = Extent::of_both(&client, &server);
+    // Of the flows the report needs no more.
+    drop(client);
+    drop(server);
     let findings = findings_in(alloc, &cut)?;
     Ok(Audited {
-        flows: Sides { client, server },
+        extents,
         cut,
         findings,
     })

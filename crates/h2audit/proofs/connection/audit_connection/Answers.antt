@@ -9,8 +9,10 @@ cut-requires-clause-together c =
 
 pub returns-clause-audit : goal.returns-clause-audit
 returns-clause-audit c = record {
+  flows = record { client = c.in_ok-client.client; server = c.in_ok-server.server };
   client = c.in_ok-client.ensures.flow;
   server = c.in_ok-server.ensures.flow;
+  extents = c.of_both-extents.ensures;
   cut = c.in_ok-cut.ensures.is;
   findings = c.in_ok-findings.ensures;
 }
