@@ -36,11 +36,13 @@ fn take_first(client: &mut Unread<'_>, server: &mut Unread<'_>) -> Option<Frame>
     ensures server { IsReady server.new }
     ensures readable { IfSome result IsReadable }
     ensures first { IfSome result (λ frame. (frames : List Frame) → (tail other : List ℕ) →
-        AreMerged client.new server.new frames tail other → AreMerged client.old server.old (frame ∷ frames) tail other) }
+        AreMerged client.new server.new frames tail other →
+        AreMerged client.old server.old (frame ∷ frames) tail other) }
     ensures over { IfNone result (AreMerged client.new server.new [] client.new.bytes.now server.new.bytes.now) }
     ensures same_client { IfNone result (client.new ≡ client.old) }
     ensures same_server { IfNone result (server.new ≡ server.old) }
-    ensures weight { IfSome result (λ frame. weight client.new + weight server.new + 9 ≤ weight client.old + weight server.old) }
+    ensures weight { IfSome result (λ frame.
+        weight client.new + weight server.new + 9 ≤ weight client.old + weight server.old) }
 {
     if is_server_first(&client.next, &server.next) {
         server.take_next()

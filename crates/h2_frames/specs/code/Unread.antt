@@ -13,7 +13,8 @@ use Rattle.h2_frames.specs.code.Merge.{merged}
 use Rattle.h2_frames.specs.code.Steps.{IsReadable}
 
 -- the bytes from an offset on hold these frames of a side, numbered from here on, and then the tail
-abbrev pub AreAhead : Side → List Arrival → (number offset : ℕ) → (bytes : List ℕ) → List Frame → (tail : List ℕ) → Type 0
+abbrev pub AreAhead : Side → List Arrival → (number offset : ℕ) → (bytes : List ℕ) → List Frame → (tail : List ℕ)
+    → Type 0
 AreAhead side arrivals number offset bytes frames tail =
     (spelled : List Spelled) × Spells bytes spelled tail × (frames ≡ captured_from side arrivals number offset spelled)
 
