@@ -1,4 +1,5 @@
--- Settings that a list of items brings into force, the lengths of its frames, and its promises (RFC 9113, 4.2, 6.5.2, 6.9, 8.4).
+-- Settings that a list of items brings into force, the lengths of its frames, and its promises
+-- (RFC 9113, 4.2, 6.5.2, 6.9, 8.4).
 use Rattle.std.specs.Prelude.{ℕ, min, max, ◌%◌, ◌==◌, Bool, false, ◌&&◌, ◌||◌, if◌then◌else◌, List, [], ◌∷◌, Option, Some, None, is_none, unwrap_or}
 use Rattle.audit_terms.specs.declared.sides.Side.{Side}
 use Rattle.audit_terms.specs.declared.sides.Side.TheVariants.{Client, Server}

@@ -13,7 +13,8 @@ pub struct InForce {
     pub push: u32,
 }
 
-/// What some items bring into force, the lengths of their frames, and the server's promises (RFC 9113, 4.2, 6.5.2, 8.4).
+/// What some items bring into force, the lengths of their frames, and the server's promises (RFC 9113, 4.2, 6.5.2,
+/// 8.4).
 #[derive(Clone, Copy, Debug, PartialEq, Eq)]
 pub struct Latest {
     /// The last limit on the length of a frame that they bring for each side.
