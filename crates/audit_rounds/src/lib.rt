@@ -10,6 +10,8 @@
 mod connections;
 mod divisions;
 pub mod laws;
+mod single;
 mod streams;
 
 pub use divisions::{Division, findings_of_each};
+pub use single::findings_of_one;

@@ -13,6 +13,7 @@ use Rattle.audit_report.specs.Section.{Section, section_of, sections_of, section
 use Rattle.audit_report.specs.FlowLine.{extent_of}
 use Rattle.audit_report.specs.declared.extents.Extent.{Extent}
 use Rattle.audit_terms.specs.declared.sides.Sides.{Sides}
+use Rattle.audit_terms.specs.Finding.{shown as shown_of}
 use Rattle.audit_terms.specs.Pass.{pass}
 use Rattle.h2_frames.specs.declared.connections.Cut.{Cut}
 use Rattle.h2_frames.specs.declared.connections.Cut.TheVariants.{Http2, NotHttp2, NoPreface, NoHandshake}
@@ -72,19 +73,19 @@ IsServerFlow capture packets m flow = IsFlowFrom m.server_isn capture (servers p
 
 -- ---- what the flows hold
 
-record IsOneCut (x y : Cut) : Type 0 where
+record IsOneCut (shown : Bool) (x y : Cut) : Type 0 where
   pub contents : contents_of x ≡ contents_of y
-  pub findings : findings_of x ≡ findings_of y
+  pub findings : findings_of shown x ≡ findings_of shown y
 
-one_cut : (x y : Cut) → IsSameCut x y → IsOneCut x y
-one_cut (Http2 frames tails) (Http2 others rests) h = record {
+one_cut : (shown : Bool) (x y : Cut) → IsSameCut x y → IsOneCut shown x y
+one_cut shown (Http2 frames tails) (Http2 others rests) h = record {
   contents = ap₂ HoldsFrames h.0 h.1;
-  findings = ap pass h.0;
+  findings = ap (λ frames. shown_of shown (pass frames)) h.0;
 }
-one_cut NotHttp2 NotHttp2 h = record { contents = refl; findings = refl }
-one_cut NoPreface NoPreface h = record { contents = refl; findings = refl }
-one_cut NoHandshake NoHandshake h = record { contents = refl; findings = refl }
-one_cut _ _ h = absurd h
+one_cut shown NotHttp2 NotHttp2 h = record { contents = refl; findings = refl }
+one_cut shown NoPreface NoPreface h = record { contents = refl; findings = refl }
+one_cut shown NoHandshake NoHandshake h = record { contents = refl; findings = refl }
+one_cut _ _ _ h = absurd h
 
 -- ---- the section of a connection
 
@@ -111,14 +112,14 @@ record IsOneSection (c d : Connection) (a b : Audited) : Type 0 where
   pub section_is : section_of c a ≡ section_of d b
   pub findings : a.findings.items ≡ b.findings.items
 
-one_section : (capture : List ℕ) (packets : List Packet) (c d : Connection) (a b : Audited)
-    → membership c ≡ membership d → IsAudited capture packets c a → IsAudited capture packets d b → IsOneSection c d a b
-one_section capture packets c d a b m h k =
+one_section : (shown : Bool) (capture : List ℕ) (packets : List Packet) (c d : Connection) (a b : Audited)
+    → membership c ≡ membership d → IsAudited shown capture packets c a → IsAudited shown capture packets d b → IsOneSection c d a b
+one_section shown capture packets c d a b m h k =
     let client = one_flow (Some c.client_isn) capture (clients packets (membership c)) h.flows.client k.flows.client h.client
     (subst (λ (n : Membership). IsClientFlow capture packets n k.flows.client) (sym m) k.client) in
     let server = one_flow c.server_isn capture (servers packets (membership c)) h.flows.server k.flows.server h.server
     (subst (λ (n : Membership). IsServerFlow capture packets n k.flows.server) (sym m) k.server) in
-    let cut = one_cut a.cut b.cut (cut-unique h.flows.client h.flows.server k.flows.client k.flows.server a.cut b.cut
+    let cut = one_cut shown a.cut b.cut (cut-unique h.flows.client h.flows.server k.flows.client k.flows.server a.cut b.cut
     client.same server.same h.cut k.cut) in
     let found : a.findings.items ≡ b.findings.items = h.findings ∙ cut.findings ∙ sym k.findings in
     let flows : a.extents ≡ b.extents = h.extents
@@ -138,21 +139,21 @@ record AreOneAudit (cs ds : List Connection) (xs ys : List Audited) : Type 0 whe
   pub sections : sections_of cs xs ≡ sections_of ds ys
   pub faults : list_any has_fault xs ≡ list_any has_fault ys
 
-one_audit : (capture : List ℕ) (packets : List Packet) (cs ds : List Connection) (xs ys : List Audited)
-    → map membership cs ≡ map membership ds → AreAudited capture packets cs xs → AreAudited capture packets ds ys
+one_audit : (shown : Bool) (capture : List ℕ) (packets : List Packet) (cs ds : List Connection) (xs ys : List Audited)
+    → map membership cs ≡ map membership ds → AreAudited shown capture packets cs xs → AreAudited shown capture packets ds ys
     → AreOneAudit cs ds xs ys
-one_audit capture packets [] [] [] [] m h k = record { sections = refl; faults = refl }
-one_audit capture packets [] [] [] (b ∷ ys) m h k = absurd k
-one_audit capture packets [] [] (a ∷ xs) ys m h k = absurd h
-one_audit capture packets [] (d ∷ ds) xs ys m h k = absurd cc
-one_audit capture packets (c ∷ cs) [] xs ys m h k = absurd cc
-one_audit capture packets (c ∷ cs) (d ∷ ds) [] ys m h k = absurd h
-one_audit capture packets (c ∷ cs) (d ∷ ds) (a ∷ xs) [] m h k = absurd k
-one_audit capture packets (c ∷ cs) (d ∷ ds) (a ∷ xs) (b ∷ ys) m h k =
+one_audit shown capture packets [] [] [] [] m h k = record { sections = refl; faults = refl }
+one_audit shown capture packets [] [] [] (b ∷ ys) m h k = absurd k
+one_audit shown capture packets [] [] (a ∷ xs) ys m h k = absurd h
+one_audit shown capture packets [] (d ∷ ds) xs ys m h k = absurd cc
+one_audit shown capture packets (c ∷ cs) [] xs ys m h k = absurd cc
+one_audit shown capture packets (c ∷ cs) (d ∷ ds) [] ys m h k = absurd h
+one_audit shown capture packets (c ∷ cs) (d ∷ ds) (a ∷ xs) [] m h k = absurd k
+one_audit shown capture packets (c ∷ cs) (d ∷ ds) (a ∷ xs) (b ∷ ys) m h k =
     let here : membership c ≡ membership d = cc in
     let later : map membership cs ≡ map membership ds = cc in
-    let first = one_section capture packets c d a b here h.0 k.0 in
-    let rest = one_audit capture packets cs ds xs ys later h.1 k.1 in
+    let first = one_section shown capture packets c d a b here h.0 k.0 in
+    let rest = one_audit shown capture packets cs ds xs ys later h.1 k.1 in
     record {
       sections = ap₂ (λ (e : Section) (es : List Section). e ∷ es) first.section_is rest.sections;
       faults = ap₂ (λ (p q : Bool). p || q) (ap (λ (fs : List Finding). list_any (λ (finding : Finding). is_fault finding.kind) fs) first.findings) rest.faults;
@@ -174,8 +175,8 @@ one_report_lem bytes shown text other verdict judged x y =
     let decide : ℕ → List Record → List Packet = λ link rows. packet_decisions link rows bytes in
     let packets = ap (λ (link : ℕ). decide link x.found.rows.items) reading.0 ∙ ap (decide y.found.link) reading.1 in
     let opened = x.report.connections ∙ ap (λ (p : List Packet). connections_of (past_of p)) packets ∙ sym y.report.connections in
-    let audits = subst (λ (p : List Packet). AreAudited bytes p y.report.opened y.report.audited) (sym packets) y.report.audits in
-    let same = one_audit bytes (decide x.found.link x.found.rows.items) x.report.opened y.report.opened x.report.audited y.report.audited opened x.report.audits audits in
+    let audits = subst (λ (p : List Packet). AreAudited shown bytes p y.report.opened y.report.audited) (sym packets) y.report.audits in
+    let same = one_audit shown bytes (decide x.found.link x.found.rows.items) x.report.opened y.report.opened x.report.audited y.report.audited opened x.report.audits audits in
     let sections = sections_of x.report.opened x.report.audited in (
       x.report.spelled
           ∙ ap (λ (rows : List Record). text_by shown rows x.found.cut (decide x.found.link x.found.rows.items) sections) reading.1

@@ -5,6 +5,7 @@ use Rattle.audit_terms.specs.declared.sides.Side.{Side}
 use Rattle.audit_terms.specs.declared.sides.Side.TheVariants.{Client, Server}
 use Rattle.audit_terms.specs.declared.findings.Finding.{Finding}
 use Rattle.audit_terms.specs.Kind.{is_fault}
+use Rattle.audit_terms.specs.Finding.{shown}
 use Rattle.audit_terms.specs.Pass.{pass}
 use Rattle.packet_heads.specs.declared.packets.Packet.{Packet}
 use Rattle.packet_heads.specs.declared.packets.Segment.{Segment}
@@ -34,27 +35,29 @@ abbrev pub IsFlowOf : List ℕ → List Packet → Connection → Side → Flow 
 IsFlowOf capture packets connection side flow =
     IsFlowFrom (initial_of connection side) capture (side_segments packets connection side) flow
 
--- what is found in the frames of an HTTP/2 connection: what one pass over them says, up to the first connection error
-abbrev pub findings_of : Cut → List Finding
-findings_of (Http2 frames tails) = pass frames.items
-findings_of _ = []
+-- what is found in the frames of an HTTP/2 connection: what one pass over them says, up to the first connection error,
+-- without the credits where they are not shown
+abbrev pub findings_of : (credits_shown : Bool) → Cut → List Finding
+findings_of credits_shown (Http2 frames tails) = shown credits_shown (pass frames.items)
+findings_of credits_shown _ = []
 
 -- the audit of a connection: the extents of its two flows, what these hold, and what is found in the frames
-pub record IsAudited (capture : List ℕ) (packets : List Packet) (connection : Connection) (audited : Audited)
-    : Type 0 where
+pub record IsAudited (credits_shown : Bool) (capture : List ℕ) (packets : List Packet) (connection : Connection)
+    (audited : Audited) : Type 0 where
   pub flows : Sides Flow
   pub client : IsFlowOf capture packets connection Client flows.client
   pub server : IsFlowOf capture packets connection Server flows.server
   pub extents : audited.extents ≡ extents_of flows.client flows.server
   pub cut : IsCut flows.client flows.server audited.cut
-  pub findings : audited.findings.items ≡ findings_of audited.cut
+  pub findings : audited.findings.items ≡ findings_of credits_shown audited.cut
 
 -- each connection's audit, in order
-abbrev pub AreAudited : List ℕ → List Packet → List Connection → List Audited → Type 0
-AreAudited capture packets [] [] = Unit {0}
-AreAudited capture packets (connection ∷ connections) (audited ∷ rest) =
-    IsAudited capture packets connection audited × AreAudited capture packets connections rest
-AreAudited capture packets _ _ = ⊥
+abbrev pub AreAudited : (credits_shown : Bool) → List ℕ → List Packet → List Connection → List Audited → Type 0
+AreAudited credits_shown capture packets [] [] = Unit {0}
+AreAudited credits_shown capture packets (connection ∷ connections) (audited ∷ rest) =
+    IsAudited credits_shown capture packets connection audited
+    × AreAudited credits_shown capture packets connections rest
+AreAudited credits_shown capture packets _ _ = ⊥
 
 -- some finding is a breach of a rule
 abbrev pub has_fault : Audited → Bool

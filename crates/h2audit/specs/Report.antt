@@ -24,7 +24,7 @@ pub record IsReportOn (bytes : List ℕ) (found : Records) (shown : Bool) (text 
   pub opened : List Connection
   pub audited : List Audited
   pub connections : map membership opened ≡ connections_of (past_of (packets_of bytes found))
-  pub audits : AreAudited bytes (packets_of bytes found) opened audited
+  pub audits : AreAudited shown bytes (packets_of bytes found) opened audited
   pub spelled : text ≡ report_text found (packets_of bytes found) (strays_of (past_of (packets_of bytes found)))
       (sections_of opened audited) shown
   pub judged : verdict ≡ verdict_of audited

@@ -32,7 +32,7 @@ pub fn audit(
     ensures refused { IfErr result (λ e. IsNoReport capture.now e) }
 {
     match records(alloc, capture) {
-        Ok(found) => match audit_records(rt, alloc, &found, capture, options.frames_shown()) {
+        Ok(found) => match audit_records(rt, alloc, &found, capture, options) {
             Ok(answer) => Ok(answer),
             Err(_) => Err(AuditFault::OutOfMemory),
         },
@@ -47,18 +47,21 @@ fn audit_records(
     alloc: Global,
     found: &Records,
     capture: &[u8],
-    frames_shown: bool,
+    options: &Options,
 ) -> Result<(Vec<u8>, Verdict), AllocError>
     requires size { length capture.now < 2 ^ 31 }
     requires linked { IsTrue (is_read found.now.link) }
     requires within { AreWithin (length capture.now) found.now.rows.items }
     requires timely { AreTimely found.now.rows.items }
-    ensures { IfOk result (λ r. IsReportOn capture.now found.now frames_shown r.0.items r.1) }
+    ensures { IfOk result (λ r. IsReportOn capture.now found.now (choices options.now).frames_shown
+        r.0.items r.1) }
 {
     let packets = decode_all(rt, alloc, found, capture)?;
     let connections = connections(alloc, packets.as_slice())?;
     let audited = audit_each(
+        rt,
         alloc,
+        options,
         capture,
         packets.as_slice(),
         connections.opened.as_slice(),
@@ -69,7 +72,7 @@ fn audit_records(
         packets.as_slice(),
         &connections,
         audited.as_slice(),
-        frames_shown,
+        options.frames_shown(),
     )?;
     let verdict = verdict_on(audited.as_slice());
     Ok((text, verdict))

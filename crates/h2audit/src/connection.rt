@@ -5,23 +5,28 @@ ghost use Rattle.tcp_streams.specs.Members.{AreMembers, payload_sum, side_segmen
 ghost use Rattle.tcp_streams.specs.declared.members.Connection.{Connection};
 ghost use Rattle.h2_frames.specs.Cut.{HasOrderlyFrames};
 ghost use Rattle.audit_report.specs.declared.audited.Audited.{Audited};
+ghost use Rattle.h2audit.specs.Choices.{choices};
 ghost use Rattle.h2audit.specs.Audited.{AreAudited, IsAudited, IsFlowOf, findings_of, has_fault, verdict_of};
 ghost use Rattle.audit_terms.specs.declared.findings.Finding.{Finding};
 ghost use Rattle.audit_terms.specs.Kind.{is_fault};
 ghost use Rattle.std.specs.List.{list_any};
 
+use crate::options::Options;
 use crate::verdict::Verdict;
-use audit_core::one_pass;
 use audit_report::{Audited, Extent};
+use audit_rounds::findings_of_one;
 use audit_terms::{Finding, Side};
 use h2_frames::{Cut, cut};
 use packet_heads::Packet;
 use std::alloc::{AllocError, Global};
+use std::thread::Threads;
 use tcp_streams::{Connection, Flow, assemble};
 
 /// The audits of the connections of a capture, in order.
 pub(crate) fn audit_each(
+    rt: &(impl Threads + Sync),
     alloc: Global,
+    options: &Options,
     capture: &[u8],
     packets: &[Packet],
     opened: &[Connection],
@@ -31,12 +36,13 @@ pub(crate) fn audit_each(
     requires payloads { PayloadsRise 0 (length capture.now) packets.now }
     requires times { TimesFit packets.now }
     requires members { All (λ (c : Connection). AreMembers 0 packets.now c.members.items) opened.now }
-    ensures audits { IfOk result (λ each. AreAudited capture.now packets.now opened.now each.items) }
+    ensures audits { IfOk result (λ each. AreAudited (choices options.now).frames_shown capture.now
+        packets.now opened.now each.items) }
     ensures orderly { IfOk result (λ each. All (λ (a : Audited). HasOrderlyFrames a.cut) each.items) }
 {
     let mut each = Vec::new(alloc);
     for connection in opened {
-        let audited = audit_connection(alloc, capture, packets, connection)?;
+        let audited = audit_connection(rt, alloc, options, capture, packets, connection)?;
         each.push(audited)?;
     }
     Ok(each)
@@ -44,7 +50,9 @@ pub(crate) fn audit_each(
 
 /// The audit of one connection: its two flows, what they hold, and what is found in the frames.
 fn audit_connection(
+    rt: &(impl Threads + Sync),
     alloc: Global,
+    options: &Options,
     capture: &[u8],
     packets: &[Packet],
     connection: &Connection,
@@ -54,7 +62,8 @@ fn audit_connection(
     requires payloads { PayloadsRise 0 (length capture.now) packets.now }
     requires times { TimesFit packets.now }
     requires members { AreMembers 0 packets.now connection.now.members.items }
-    ensures audit { IfOk result (IsAudited capture.now packets.now connection.now) }
+    ensures audit { IfOk result (IsAudited (choices options.now).frames_shown capture.now packets.now
+        connection.now) }
     ensures orderly { IfOk result (λ a. HasOrderlyFrames a.cut) }
 {
     let client = flow_of(alloc, capture, packets, connection, Side::Client)?;
@@ -64,7 +73,7 @@ fn audit_connection(
     // Of the flows the report needs no more.
     drop(client);
     drop(server);
-    let findings = findings_in(alloc, &cut)?;
+    let findings = findings_in(rt, alloc, options, &cut)?;
     Ok(Audited {
         extents,
         cut,
@@ -93,12 +102,23 @@ fn flow_of(
 }
 
 /// What is found in the frames of a cut.
-fn findings_in(alloc: Global, cut: &Cut) -> Result<Vec<Finding>, AllocError>
+fn findings_in(
+    rt: &(impl Threads + Sync),
+    alloc: Global,
+    options: &Options,
+    cut: &Cut,
+) -> Result<Vec<Finding>, AllocError>
     requires { HasOrderlyFrames cut.now }
-    ensures { IfOk result (λ found. found.items ≡ findings_of cut.now) }
+    ensures { IfOk result (λ found. found.items ≡ findings_of (choices options.now).frames_shown cut.now) }
 {
     match cut {
-        Cut::Http2 { frames, .. } => one_pass(alloc, frames.as_slice()),
+        Cut::Http2 { frames, .. } => findings_of_one(
+            rt,
+            alloc,
+            &options.division(),
+            options.frames_shown(),
+            frames.as_slice(),
+        ),
         _ => Ok(Vec::new(alloc)),
     }
 }

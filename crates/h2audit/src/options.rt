@@ -1,10 +1,11 @@
 ghost use Rattle.std.specs.Prelude.{◌≡◌, SomeIff, option_map};
 ghost use Rattle.h2audit.specs.Options.{AreInRange};
 
+use audit_rounds::Division;
+
 /// How a capture is audited and what its report shows.
 ///
-/// The workers, groups and block length are to divide the work, and never change the report. They are asked for and kept,
-/// and have no effect so far.
+/// The workers, groups and block length divide the work, and never change the report.
 #[derive(Clone, Copy, Debug, PartialEq, Eq)]
 pub struct Options {
     workers: u32,
@@ -45,6 +46,14 @@ impl Options {
             })
         } else {
             None
+        }
+    }
+
+    /// How the work is divided.
+    pub(crate) fn division(&self) -> Division {
+        Division {
+            workers: self.workers,
+            groups: self.groups,
         }
     }
 

@@ -1,5 +1,3 @@
-use Rattle.std.proofs.Common.{Bool, subst}
-use Rattle.h2audit.specs.Report.{IsReportOn}
 use Rattle.h2audit.proofs.auditing.audit.Goals as goal
 
 pub returns-in-Ok-audit_records-clause-report : goal.returns-in-Ok-audit_records-clause-report
@@ -9,5 +7,5 @@ returns-in-Ok-audit_records-clause-report g c =
       found = c.in-Ok.found;
       taken = c.in-Ok.ensures.ok.0;
       reading = c.in-Ok.ensures.ok.1;
-      report = subst (λ (shown : Bool). IsReportOn c.args.capture.now c.in-Ok.found shown answer.0.items answer.1) c.frames_shown.ensures c.in-Ok-audit_records.ensures;
+      report = c.in-Ok-audit_records.ensures;
     }

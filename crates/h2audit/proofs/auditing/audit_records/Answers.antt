@@ -1,4 +1,4 @@
-use Rattle.std.proofs.Common.{◌≡◌, ◌∙◌, List, length, subst, ap}
+use Rattle.std.proofs.Common.{◌≡◌, ◌∙◌, Bool, List, length, subst, ap}
 use Rattle.audit_report.specs.declared.audited.Audited.{Audited}
 use Rattle.audit_report.specs.Section.{sections_of}
 use Rattle.audit_report.specs.ReportText.{report_text}
@@ -8,16 +8,18 @@ use Rattle.tcp_streams.specs.declared.members.Stray.{Stray}
 use Rattle.tcp_streams.specs.Membership.{connections_of, strays_of}
 use Rattle.tcp_streams.specs.Packets.{past_of}
 use Rattle.h2audit.specs.Audited.{AreAudited, verdict_of}
+use Rattle.h2audit.specs.Choices.{choices}
 use Rattle.h2audit.specs.Report.{packets_of}
 use Rattle.h2audit.proofs.Audits.{AreAudited-length}
 use Rattle.h2audit.proofs.auditing.audit_records.Goals as goal
 
 pub report-requires-clause-each : goal.report-requires-clause-each
 report-requires-clause-each g c =
-    ap length c.as_slice-5.ensures.value ∙ AreAudited-length c.args.capture.now c.as_slice-2.result.now c.as_slice-3.result.now c.in_ok-audited.audited.items c.in_ok-audited.ensures.audits ∙ ap length c.as_slice-3.ensures.value
+    ap length c.as_slice-5.ensures.value ∙ AreAudited-length (choices c.args.options.now).frames_shown c.args.capture.now c.as_slice-2.result.now c.as_slice-3.result.now c.in_ok-audited.audited.items c.in_ok-audited.ensures.audits ∙ ap length c.as_slice-3.ensures.value
 
 pub returns : goal.returns
 returns g c =
+    let credits = (choices c.args.options.now).frames_shown in
     let capture = c.args.capture.now in
     let packets = packets_of capture c.args.found.now in
     let opened = c.in_ok-connections.connections.opened.items in
@@ -27,15 +29,16 @@ returns g c =
     let lent : c.as_slice-2.result.now ≡ packets = c.as_slice-2.ensures.value ∙ exact in
     let shown : c.as_slice-4.result.now ≡ packets = c.as_slice-4.ensures.value ∙ exact in
     let strays = c.in_ok-connections.ensures.strays ∙ ap (λ (p : List Packet). strays_of (past_of p)) given in
-    let by_packets = subst (λ (p : List Packet). AreAudited capture p c.as_slice-3.result.now audited) lent c.in_ok-audited.ensures.audits in
+    let by_packets = subst (λ (p : List Packet). AreAudited credits capture p c.as_slice-3.result.now audited) lent c.in_ok-audited.ensures.audits in
     record {
       opened = opened;
       audited = audited;
       connections = c.in_ok-connections.ensures.opened ∙ ap (λ (p : List Packet). connections_of (past_of p)) given;
-      audits = subst (λ (cs : List Connection). AreAudited capture packets cs audited) c.as_slice-3.ensures.value by_packets;
+      audits = subst (λ (cs : List Connection). AreAudited credits capture packets cs audited) c.as_slice-3.ensures.value by_packets;
       spelled = c.in_ok-text.ensures
-          ∙ ap (λ (p : List Packet). report_text c.args.found.now p c.in_ok-connections.connections.strays.items (sections_of opened c.as_slice-5.result.now) c.args.frames_shown) shown
-          ∙ ap (λ (s : List Stray). report_text c.args.found.now packets s (sections_of opened c.as_slice-5.result.now) c.args.frames_shown) strays
-          ∙ ap (λ (a : List Audited). report_text c.args.found.now packets (strays_of (past_of packets)) (sections_of opened a) c.args.frames_shown) c.as_slice-5.ensures.value;
+          ∙ ap (λ (b : Bool). report_text c.args.found.now c.as_slice-4.result.now c.in_ok-connections.connections.strays.items (sections_of opened c.as_slice-5.result.now) b) c.frames_shown.ensures
+          ∙ ap (λ (p : List Packet). report_text c.args.found.now p c.in_ok-connections.connections.strays.items (sections_of opened c.as_slice-5.result.now) credits) shown
+          ∙ ap (λ (s : List Stray). report_text c.args.found.now packets s (sections_of opened c.as_slice-5.result.now) credits) strays
+          ∙ ap (λ (a : List Audited). report_text c.args.found.now packets (strays_of (past_of packets)) (sections_of opened a) credits) c.as_slice-5.ensures.value;
       judged = c.verdict_on-verdict.ensures ∙ ap verdict_of c.as_slice-6.ensures.value;
     }

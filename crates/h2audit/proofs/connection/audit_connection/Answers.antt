@@ -3,12 +3,12 @@ use Rattle.tcp_streams.proofs.FlowLemmas.{sides-fit}
 use Rattle.h2audit.proofs.connection.audit_connection.Goals as goal
 
 pub cut-requires-clause-together : goal.cut-requires-clause-together
-cut-requires-clause-together c =
+cut-requires-clause-together g c =
     let fit = sides-fit c.args.packets.now (length c.args.capture.now) c.args.connection.now c.requires.payloads c.requires.members in
     omega (arith, fit, c.in_ok-client.ensures.within, c.in_ok-server.ensures.within, c.requires.size)
 
 pub returns-clause-audit : goal.returns-clause-audit
-returns-clause-audit c = record {
+returns-clause-audit g c = record {
   flows = record { client = c.in_ok-client.client; server = c.in_ok-server.server };
   client = c.in_ok-client.ensures.flow;
   server = c.in_ok-server.ensures.flow;

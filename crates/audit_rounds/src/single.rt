@@ -1,0 +1,40 @@
+ghost use Rattle.std.specs.Prelude.{◌≡◌, ◌<◌, IfOk};
+ghost use Rattle.audit_terms.specs.Frame.{IsOrderly};
+ghost use Rattle.audit_terms.specs.Finding.{shown};
+ghost use Rattle.audit_terms.specs.Pass.{pass};
+
+use crate::connections::findings_of;
+use crate::divisions::Division;
+use audit_terms::{Finding, Frame};
+use std::alloc::{AllocError, Global};
+use std::thread::Threads;
+
+/// Fewer frames than this are not worth a second thread.
+const FEW_FRAMES: usize = 4096;
+
+/// How many workers go over so many frames.
+fn workers_for(division: &Division, frames: usize) -> usize
+    ensures { 0 < result }
+{
+    if frames < FEW_FRAMES {
+        1
+    } else {
+        division.workers.min(division.groups).max(1) as usize
+    }
+}
+
+/// What is shown of one connection's frames: what one pass over them says up to the first connection error (RFC 9113,
+/// 5.4.1), with or without credits. Without memory there is no answer.
+pub fn findings_of_one<R: Threads + Sync>(
+    rt: &R,
+    alloc: Global,
+    division: &Division,
+    credits_shown: bool,
+    frames: &[Frame],
+) -> Result<Vec<Finding>, AllocError>
+    requires { IsOrderly frames.now }
+    ensures { IfOk result (λ found. found.items ≡ shown credits_shown (pass frames.now)) }
+{
+    let workers = workers_for(division, frames.len());
+    findings_of(rt, alloc, workers, credits_shown, frames)
+}
