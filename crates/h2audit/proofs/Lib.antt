@@ -4,3 +4,4 @@ mod Audits
 mod OneReport
 mod Numbers
 mod OptionReads
+pub mod Shares

@@ -1,2 +1,3 @@
 pub mod Account
 pub mod Numbers
+pub mod Shares

@@ -5,7 +5,8 @@ ghost use Rattle.h2audit.specs.Choices.{choices};
 ghost use Rattle.h2audit.specs.Report.{IsReport, IsReportOn};
 ghost use Rattle.h2audit.specs.Run.{IsNoReport};
 
-use crate::connection::{audit_each, verdict_on};
+use crate::connection::verdict_on;
+use crate::dealing::audit_each;
 use crate::fault::AuditFault;
 use crate::gate::Gate;
 use crate::options::Options;

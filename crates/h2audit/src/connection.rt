@@ -5,16 +5,14 @@ ghost use Rattle.tcp_streams.specs.Members.{AreMembers, payload_sum, side_segmen
 ghost use Rattle.tcp_streams.specs.declared.members.Connection.{Connection};
 ghost use Rattle.h2_frames.specs.Cut.{HasOrderlyFrames};
 ghost use Rattle.audit_report.specs.declared.audited.Audited.{Audited};
-ghost use Rattle.h2audit.specs.Choices.{choices};
 ghost use Rattle.h2audit.specs.Audited.{AreAudited, IsAudited, IsFlowOf, findings_of, has_fault, verdict_of};
 ghost use Rattle.audit_terms.specs.declared.findings.Finding.{Finding};
 ghost use Rattle.audit_terms.specs.Kind.{is_fault};
 ghost use Rattle.std.specs.List.{list_any};
 
-use crate::options::Options;
 use crate::verdict::Verdict;
 use audit_report::{Audited, Extent};
-use audit_rounds::findings_of_one;
+use audit_rounds::{Division, findings_of_one};
 use audit_terms::{Finding, Side};
 use h2_frames::{Cut, cut};
 use packet_heads::Packet;
@@ -22,11 +20,12 @@ use std::alloc::{AllocError, Global};
 use std::thread::Threads;
 use tcp_streams::{Connection, Flow, assemble};
 
-/// The audits of the connections of a capture, in order.
-pub(crate) fn audit_each(
+/// The audits of some connections, one after the other.
+pub(crate) fn audit_in_turn(
     rt: &(impl Threads + Sync),
     alloc: Global,
-    options: &Options,
+    division: &Division,
+    credits_shown: bool,
     capture: &[u8],
     packets: &[Packet],
     opened: &[Connection],
@@ -36,13 +35,20 @@ pub(crate) fn audit_each(
     requires payloads { PayloadsRise 0 (length capture.now) packets.now }
     requires times { TimesFit packets.now }
     requires members { All (λ (c : Connection). AreMembers 0 packets.now c.members.items) opened.now }
-    ensures audits { IfOk result (λ each. AreAudited (choices options.now).frames_shown capture.now
-        packets.now opened.now each.items) }
+    ensures audits { IfOk result (λ each. AreAudited credits_shown capture.now packets.now opened.now each.items) }
     ensures orderly { IfOk result (λ each. All (λ (a : Audited). HasOrderlyFrames a.cut) each.items) }
 {
-    let mut each = Vec::new(alloc);
+    let mut each = Vec::with_capacity(alloc, opened.len())?;
     for connection in opened {
-        let audited = audit_connection(rt, alloc, options, capture, packets, connection)?;
+        let audited = audit_connection(
+            rt,
+            alloc,
+            division,
+            credits_shown,
+            capture,
+            packets,
+            connection,
+        )?;
         each.push(audited)?;
     }
     Ok(each)
@@ -52,7 +58,8 @@ pub(crate) fn audit_each(
 fn audit_connection(
     rt: &(impl Threads + Sync),
     alloc: Global,
-    options: &Options,
+    division: &Division,
+    credits_shown: bool,
     capture: &[u8],
     packets: &[Packet],
     connection: &Connection,
@@ -62,8 +69,7 @@ fn audit_connection(
     requires payloads { PayloadsRise 0 (length capture.now) packets.now }
     requires times { TimesFit packets.now }
     requires members { AreMembers 0 packets.now connection.now.members.items }
-    ensures audit { IfOk result (IsAudited (choices options.now).frames_shown capture.now packets.now
-        connection.now) }
+    ensures audit { IfOk result (IsAudited credits_shown capture.now packets.now connection.now) }
     ensures orderly { IfOk result (λ a. HasOrderlyFrames a.cut) }
 {
     let client = flow_of(alloc, capture, packets, connection, Side::Client)?;
@@ -73,7 +79,7 @@ fn audit_connection(
     // Of the flows the report needs no more.
     drop(client);
     drop(server);
-    let findings = findings_in(rt, alloc, options, &cut)?;
+    let findings = findings_in(rt, alloc, division, credits_shown, &cut)?;
     Ok(Audited {
         extents,
         cut,
@@ -105,20 +111,17 @@ fn flow_of(
 fn findings_in(
     rt: &(impl Threads + Sync),
     alloc: Global,
-    options: &Options,
+    division: &Division,
+    credits_shown: bool,
     cut: &Cut,
 ) -> Result<Vec<Finding>, AllocError>
     requires { HasOrderlyFrames cut.now }
-    ensures { IfOk result (λ found. found.items ≡ findings_of (choices options.now).frames_shown cut.now) }
+    ensures { IfOk result (λ found. found.items ≡ findings_of credits_shown cut.now) }
 {
     match cut {
-        Cut::Http2 { frames, .. } => findings_of_one(
-            rt,
-            alloc,
-            &options.division(),
-            options.frames_shown(),
-            frames.as_slice(),
-        ),
+        Cut::Http2 { frames, .. } => {
+            findings_of_one(rt, alloc, division, credits_shown, frames.as_slice())
+        }
         _ => Ok(Vec::new(alloc)),
     }
 }

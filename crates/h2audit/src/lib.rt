@@ -4,6 +4,7 @@
 mod auditing;
 mod command;
 mod connection;
+mod dealing;
 mod fault;
 mod gate;
 pub mod laws;

@@ -1,4 +1,4 @@
-ghost use Rattle.std.specs.Prelude.{◌≡◌, SomeIff, option_map};
+ghost use Rattle.std.specs.Prelude.{◌≡◌, ◌<◌, SomeIff, option_map};
 ghost use Rattle.h2audit.specs.Options.{AreInRange};
 
 use audit_rounds::Division;
@@ -50,7 +50,9 @@ impl Options {
     }
 
     /// How the work is divided.
-    pub(crate) fn division(&self) -> Division {
+    pub(crate) fn division(&self) -> Division
+        ensures { 0 < result.workers }
+    {
         Division {
             workers: self.workers,
             groups: self.groups,

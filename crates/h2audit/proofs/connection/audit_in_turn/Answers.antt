@@ -5,13 +5,12 @@ use Rattle.audit_report.specs.declared.audited.Audited.{Audited}
 use Rattle.tcp_streams.specs.declared.members.Connection.{Connection}
 use Rattle.h2_frames.specs.Cut.{HasOrderlyFrames}
 use Rattle.h2audit.specs.Audited.{AreAudited}
-use Rattle.h2audit.specs.Choices.{choices}
 use Rattle.h2audit.proofs.Audits.{AreAudited-push}
-use Rattle.h2audit.proofs.connection.audit_each.Goals as goal
+use Rattle.h2audit.proofs.connection.audit_in_turn.Goals as goal
 
 pub loop-connection-preserved : goal.loop-connection-preserved
 loop-connection-preserved g c =
-    let credits = (choices c.args.options.now).frames_shown in
+    let credits = c.args.credits_shown in
     let capture = c.args.capture.now in
     let packets = c.args.packets.now in
     let opened = c.args.opened.now in
