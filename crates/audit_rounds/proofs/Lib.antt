@@ -3,4 +3,3 @@ pub mod Parts
 pub mod Items
 pub mod Rounds
 pub mod Whole
-pub mod Each

@@ -1,7 +1,5 @@
 -- What the rounds of a divided audit give, and that they make the pass.
 use Rattle.std.specs.Prelude.{◌≡◌, Bool, List, [], ◌∷◌, ◌++◌}
-use Rattle.std.specs.declared.vec.Vec.{Vec}
-use Rattle.std.specs.declared.alloc.Global.{Global}
 use Rattle.std.specs.List.{flat_map}
 use Rattle.audit_terms.specs.declared.frames.Frame.{Frame}
 use Rattle.audit_terms.specs.declared.items.Item.{Item}
@@ -31,10 +29,3 @@ RoundsMakePass = (credits_shown : Bool) (frames : List Frame) (blocks : List (Li
     upto_stop (in_order (((local_run frames ++ settings_run frames) ++ streams_shown credits_shown frames)
     ++ blocks_shown credits_shown blocks))
     ≡ shown credits_shown (pass frames)
-
--- what is shown of each connection
-abbrev pub AreShown : (credits_shown : Bool) → List (List Frame) → List (Vec Finding Global) → Type 0
-AreShown credits_shown [] [] = Unit {0}
-AreShown credits_shown (frames ∷ connections) (found ∷ each) =
-    (found.items ≡ shown credits_shown (pass frames)) × AreShown credits_shown connections each
-AreShown credits_shown _ _ = ⊥

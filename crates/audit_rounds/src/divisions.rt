@@ -1,6 +1,7 @@
-ghost use Rattle.std.specs.Prelude.{◌≡◌, ◌<◌, IfOk, length, All, map};
+ghost use Rattle.std.specs.Prelude.{◌≡◌, ◌<◌, IfOk};
 ghost use Rattle.audit_terms.specs.Frame.{IsOrderly};
-ghost use Rattle.audit_rounds.specs.Rounds.{AreShown};
+ghost use Rattle.audit_terms.specs.Finding.{shown};
+ghost use Rattle.audit_terms.specs.Pass.{pass};
 
 use crate::connections::findings_of;
 use audit_terms::{Finding, Frame};
@@ -16,22 +17,32 @@ pub struct Division {
     pub groups: u32,
 }
 
-/// What is shown of each connection's frames: what one pass over them says up to the first connection error (RFC 9113,
+/// Fewer frames than this are not worth a second thread.
+const FEW_FRAMES: usize = 4096;
+
+/// How many workers go over so many frames.
+fn workers_for(division: &Division, frames: usize) -> usize
+    ensures { 0 < result }
+{
+    if frames < FEW_FRAMES {
+        1
+    } else {
+        division.workers.min(division.groups).max(1) as usize
+    }
+}
+
+/// What is shown of one connection's frames: what one pass over them says up to the first connection error (RFC 9113,
 /// 5.4.1), with or without credits. Without memory there is no answer.
-pub fn findings_of_each<R: Threads + Sync>(
+pub fn connection_findings<R: Threads + Sync>(
     rt: &R,
     alloc: Global,
     division: &Division,
     credits_shown: bool,
-    connections: &[&[Frame]],
-) -> Result<Vec<Vec<Finding>>, AllocError>
-    requires { All (λ frames. IsOrderly frames.now) connections.now }
-    ensures { IfOk result (λ each. AreShown credits_shown (map (λ frames. frames.now) connections.now) each.items) }
+    frames: &[Frame],
+) -> Result<Vec<Finding>, AllocError>
+    requires { IsOrderly frames.now }
+    ensures { IfOk result (λ found. found.items ≡ shown credits_shown (pass frames.now)) }
 {
-    let workers = division.workers.min(division.groups).max(1) as usize;
-    let mut each = Vec::with_capacity(alloc, connections.len())?;
-    for frames in connections {
-        each.push(findings_of(rt, alloc, workers, credits_shown, frames)?)?;
-    }
-    Ok(each)
+    let workers = workers_for(division, frames.len());
+    findings_of(rt, alloc, workers, credits_shown, frames)
 }

@@ -12,7 +12,7 @@ ghost use Rattle.std.specs.List.{list_any};
 
 use crate::verdict::Verdict;
 use audit_report::{Audited, Extent};
-use audit_rounds::{Division, findings_of_one};
+use audit_rounds::{Division, connection_findings};
 use audit_terms::{Finding, Side};
 use h2_frames::{Cut, cut};
 use packet_heads::Packet;
@@ -120,7 +120,7 @@ fn findings_in(
 {
     match cut {
         Cut::Http2 { frames, .. } => {
-            findings_of_one(rt, alloc, division, credits_shown, frames.as_slice())
+            connection_findings(rt, alloc, division, credits_shown, frames.as_slice())
         }
         _ => Ok(Vec::new(alloc)),
     }
