@@ -14,6 +14,8 @@ pub struct Division {
     pub workers: u32,
     /// Into how many groups the streams of a connection are divided at most, 1 at least.
     pub groups: u32,
+    /// How many frames of a connection make a block at most, 1 at least.
+    pub block: u32,
 }
 
 /// What is shown of each connection's frames: what one pass over them says up to the first connection error (RFC 9113,
@@ -29,9 +31,10 @@ pub fn findings_of_each<R: Threads + Sync>(
     ensures { IfOk result (λ each. AreShown credits_shown (map (λ frames. frames.now) connections.now) each.items) }
 {
     let workers = division.workers.min(division.groups).max(1) as usize;
+    let block = division.block.max(1) as usize;
     let mut each = Vec::with_capacity(alloc, connections.len())?;
     for frames in connections {
-        each.push(findings_of(rt, alloc, workers, credits_shown, frames)?)?;
+        each.push(findings_of(rt, alloc, workers, block, credits_shown, frames)?)?;
     }
     Ok(each)
 }
