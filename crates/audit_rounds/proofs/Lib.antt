@@ -3,3 +3,4 @@ pub mod Parts
 pub mod Items
 pub mod Rounds
 pub mod Whole
+pub mod Cuts

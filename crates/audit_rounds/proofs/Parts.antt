@@ -12,7 +12,7 @@ use Rattle.settings_pair.specs.Changes.{AreAcknowledged}
 use Rattle.audit_core.proofs.OrderlyRest.{drop-next}
 
 -- orderly from an earlier number on
-orderly-earlier : (low high : ℕ) (frames : List Frame) → low ≤ high → IsOrderlyFrom high frames
+pub orderly-earlier : (low high : ℕ) (frames : List Frame) → low ≤ high → IsOrderlyFrom high frames
     → IsOrderlyFrom low frames
 orderly-earlier low high [] l h = tt
 orderly-earlier low high (frame ∷ frames) l h = (omega (arith, h.0), h.1, h.2)

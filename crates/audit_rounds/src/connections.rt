@@ -12,9 +12,10 @@ ghost use Rattle.conn_scan.specs.Items.{NeverFallFrom};
 ghost use Rattle.audit_rounds.specs.Openings.{openings_of};
 ghost use Rattle.audit_rounds.specs.Rounds.{streams_shown};
 
+use crate::blocks::connection_run;
 use crate::streams::{Streams, StreamsRun, run_of_streams};
 use audit_terms::{Change, Finding, Frame};
-use conn_scan::{Block, ConnState, block_findings};
+use conn_scan::Block;
 use fault_rules::local_faults;
 use settings_pair::pair;
 use split_merge::{merge, split};
@@ -22,15 +23,17 @@ use std::alloc::{AllocError, Global};
 use std::thread::Threads;
 use stream_credit::Changes;
 
-/// What is shown of a connection's frames, with its streams divided over so many workers.
+/// What is shown of a connection's frames, with its streams, and blocks of so many frames, divided over so many workers.
 pub(crate) fn findings_of<R: Threads + Sync>(
     rt: &R,
     alloc: Global,
     workers: usize,
+    block: usize,
     credits_shown: bool,
     frames: &[Frame],
 ) -> Result<Vec<Finding>, AllocError>
     requires workers { 0 < workers }
+    requires block { 0 < block }
     requires frames { IsOrderly frames.now }
     ensures { IfOk result (λ found. found.items ≡ shown credits_shown (pass frames.now)) }
 {
@@ -38,7 +41,16 @@ pub(crate) fn findings_of<R: Threads + Sync>(
     let changes = pairs.changes.as_slice();
     let streams = streams_in(rt, alloc, workers, credits_shown, frames, changes)?;
     let opened = streams.opened.as_slice();
-    let connection = connection_in(alloc, credits_shown, frames, opened, changes)?;
+    let connection = connection_in(
+        rt,
+        alloc,
+        workers,
+        block,
+        credits_shown,
+        frames,
+        opened,
+        changes,
+    )?;
     let local = local_faults(rt, alloc, frames)?;
     merged(alloc, local, pairs.findings, streams.findings, connection)
 }
@@ -78,13 +90,18 @@ fn streams_in<R: Threads + Sync>(
 }
 
 /// What is shown of the connection itself.
-fn connection_in(
+fn connection_in<R: Threads + Sync>(
+    rt: &R,
     alloc: Global,
+    workers: usize,
+    size: usize,
     credits_shown: bool,
     frames: &[Frame],
     opened: &[u32],
     changes: &[Change],
 ) -> Result<Vec<Finding>, AllocError>
+    requires workers { 0 < workers }
+    requires size { 0 < size }
     requires frames { IsOrderly frames.now }
     requires opened { IsPermutation (openings_of frames.now (streams_of frames.now)) opened.now }
     requires in_order { NeverFallFrom 0 opened.now }
@@ -93,13 +110,12 @@ fn connection_in(
     ensures { IfOk result (λ found. found.items
         ≡ shown credits_shown (block_run connection_start (items_of frames.now))) }
 {
-    let block = Block {
+    let whole = Block {
         frames,
         opened,
         changes,
     };
-    let run = block_findings(alloc, &ConnState::start(), &block, credits_shown)?;
-    Ok(run.findings)
+    connection_run(rt, alloc, workers, size, credits_shown, &whole)
 }
 
 /// All findings of a connection in order, up to and including the first that stops.

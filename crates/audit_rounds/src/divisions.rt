@@ -15,6 +15,8 @@ pub struct Division {
     pub workers: u32,
     /// Into how many groups the streams of a connection are divided at most, 1 at least.
     pub groups: u32,
+    /// How many frames of a connection make a block at most, 1 at least.
+    pub block: u32,
 }
 
 /// Fewer frames than this are not worth a second thread.
@@ -44,5 +46,6 @@ pub fn connection_findings<R: Threads + Sync>(
     ensures { IfOk result (λ found. found.items ≡ shown credits_shown (pass frames.now)) }
 {
     let workers = workers_for(division, frames.len());
-    findings_of(rt, alloc, workers, credits_shown, frames)
+    let block = division.block.max(1) as usize;
+    findings_of(rt, alloc, workers, block, credits_shown, frames)
 }

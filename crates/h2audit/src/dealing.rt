@@ -42,7 +42,16 @@ pub(crate) fn audit_each(
     let workers = division.workers as usize;
     if are_dealt_out(workers, opened) {
         let share = opened.len().div_ceil(workers).max(1);
-        audit_shares(rt, alloc, share, credits_shown, capture, packets, opened)
+        audit_shares(
+            rt,
+            alloc,
+            share,
+            &division,
+            credits_shown,
+            capture,
+            packets,
+            opened,
+        )
     } else {
         audit_in_turn(
             rt,
@@ -75,6 +84,7 @@ fn audit_shares(
     rt: &(impl Threads + Sync),
     alloc: Global,
     share: usize,
+    division: &Division,
     credits_shown: bool,
     capture: &[u8],
     packets: &[Packet],
@@ -91,7 +101,7 @@ fn audit_shares(
 {
     let alone = Division {
         workers: 1,
-        groups: 1,
+        ..*division
     };
     let shares = map_chunks(
         rt,

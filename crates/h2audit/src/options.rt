@@ -56,6 +56,7 @@ impl Options {
         Division {
             workers: self.workers,
             groups: self.groups,
+            block: self.block,
         }
     }
 

@@ -1,0 +1,355 @@
+-- Blocks that a connection's frames are cut into.
+use Rattle.std.proofs.Common.{◌≡◌, ℕ, zero, suc, ◌+◌, ◌*◌, ◌^◌, ◌<◌, ◌≤◌, ◌==◌, ◌&&◌, Bool, List, [], ◌∷◌, ◌++◌, append_assoc, append-nil, map, take, drop, length, length-append, get_or, All, refl, sym, ap, ◌∙◌, subst, ⊎_elim, arith, ℤ, ◌+ℤ◌}
+use Rattle.std.proofs.lemmas.Int.{ints}
+use Rattle.std.proofs.lemmas.Bool.{cases_lt, lt-ltb, le-ltb, ne_eqb}
+use Rattle.std.proofs.lemmas.List.{take-append-drop, map-append}
+use Rattle.std.specs.Prelude.{Result, IfOk}
+use Rattle.std.specs.List.{AllByRecursion, list_any, find}
+use Rattle.audit_terms.specs.declared.connections.ConnectionState.{ConnectionState}
+use Rattle.audit_terms.specs.declared.findings.Finding.{Finding}
+use Rattle.audit_terms.specs.declared.frames.Frame.{Frame}
+use Rattle.audit_terms.specs.declared.items.Change.{Change}
+use Rattle.audit_terms.specs.declared.items.Item.{Item}
+use Rattle.audit_terms.specs.declared.sides.Side.TheVariants.{Client, Server}
+use Rattle.audit_terms.specs.Connection.{block_run, connection_said, connection_after, connection_after_all}
+use Rattle.audit_terms.specs.Finding.{in_order, shown}
+use Rattle.audit_terms.specs.Frame.{is_headers, IsOrderly, IsOrderlyFrom}
+use Rattle.audit_terms.specs.code.Room.{HasRoom}
+use Rattle.settings_pair.specs.Changes.{AreOrderlyFrom}
+use Rattle.block_scan.specs.List.{items_of}
+use Rattle.conn_scan.specs.declared.block_items.Block.{Block}
+use Rattle.conn_scan.specs.declared.blocks.BlockRun.{BlockRun}
+use Rattle.conn_scan.specs.Items.{item_with, items_with, items_in, IsBlock, NeverFallFrom}
+use Rattle.conn_scan.specs.Block.{MovesLittle, BlockFits, connections_before}
+use Rattle.conn_scan.specs.ConnSum.{ConnSum, conn_sum_of}
+use Rattle.conn_scan.specs.SideCredit.{change_of}
+use Rattle.conn_scan.specs.code.CreditLaws.{room-wider}
+use Rattle.conn_scan.specs.code.Walk.{numbers_from, changes_from}
+use Rattle.conn_scan.proofs.SumLemmas.{little-append}
+use Rattle.audit_core.proofs.OrderlyRest.{length-orderly, drop-next}
+use Rattle.split_merge.proofs.ShownMerge.{shown-append}
+use Rattle.audit_rounds.specs.code.Blocks.{IsShort, AreSums, IsReady, AreReady, AreRuns, Say, said_from}
+use Rattle.audit_rounds.proofs.Parts.{orderly-earlier}
+
+-- ---- what stands before a block
+
+any_from : (low number : ℕ) (numbers : List ℕ) → low ≤ number
+    → list_any (λ n. n == number) numbers ≡ list_any (λ n. n == number) (numbers_from low numbers)
+any_from low number [] le = refl
+any_from low number (n ∷ numbers) le = ⊎_elim
+    (λ lt. rw (lt-ltb n low lt, ne_eqb n number (λ e. absurd (omega arith))) (any_from low number numbers le))
+    (λ ge. rw (le-ltb n low ge) refl)
+    (cases_lt n low)
+
+rise-from : (start low : ℕ) (numbers : List ℕ) → NeverFallFrom start numbers → NeverFallFrom 0 (numbers_from low numbers)
+rise-from start low [] h = tt
+rise-from start low (n ∷ numbers) h = ⊎_elim
+    (λ lt. rw (lt-ltb n low lt) (rise-from n low numbers h.1))
+    (λ ge. rw (le-ltb n low ge) (omega arith, h.1))
+    (cases_lt n low)
+
+find_from : (low number : ℕ) (changes : List Change) → low ≤ number
+    → find (λ (change : Change). change.number == number) changes
+    ≡ find (λ (change : Change). change.number == number) (changes_from low changes)
+find_from low number [] le = refl
+find_from low number (c ∷ changes) le = ⊎_elim
+    (λ lt. rw (lt-ltb c.number low lt, ne_eqb c.number number (λ e. absurd (omega arith)))
+    (find_from low number changes le))
+    (λ ge. rw (le-ltb c.number low ge) refl)
+    (cases_lt c.number low)
+
+orderly-from : (start low : ℕ) (changes : List Change) → AreOrderlyFrom start changes
+    → AreOrderlyFrom 0 (changes_from low changes)
+orderly-from start low [] h = tt
+orderly-from start low (c ∷ changes) h = ⊎_elim
+    (λ lt. rw (lt-ltb c.number low lt) (orderly-from (c.number + 1) low changes h.2))
+    (λ ge. rw (le-ltb c.number low ge) (omega arith, h.1, h.2))
+    (cases_lt c.number low)
+
+-- what stands below all frames may be left out
+items-from : (low base : ℕ) (opened : List ℕ) (changes : List Change) (frames : List Frame) → low ≤ base
+    → IsOrderlyFrom base frames
+    → items_with opened changes frames ≡ items_with (numbers_from low opened) (changes_from low changes) frames
+items-from low base opened changes [] le h = refl
+items-from low base opened changes (frame ∷ frames) le h =
+    let in_range : low ≤ frame.number = omega (arith, h.0) in
+    let first : item_with opened changes frame
+    ≡ item_with (numbers_from low opened) (changes_from low changes) frame = λ i. record {
+      frame = frame;
+      opens = is_headers frame.body && any_from low frame.number opened in_range i;
+      change = find_from low frame.number changes in_range i;
+    } in
+    ap (λ item. item ∷ items_with opened changes frames) first
+    ∙ ap (λ items. item_with (numbers_from low opened) (changes_from low changes) frame ∷ items)
+    (items-from low (frame.number + 1) opened changes frames (omega arith) h.2)
+
+-- ---- one block more
+
+orderly-take : (low n : ℕ) (frames : List Frame) → IsOrderlyFrom low frames → IsOrderlyFrom low (take n frames)
+orderly-take low zero frames h = tt
+orderly-take low (suc n) [] h = tt
+orderly-take low (suc n) (frame ∷ frames) h = (h.0, h.1, orderly-take (frame.number + 1) n frames h.2)
+
+orderly-drop : (low n : ℕ) (frames : List Frame) → IsOrderlyFrom low frames → IsOrderlyFrom low (drop n frames)
+orderly-drop low zero frames h = h
+orderly-drop low (suc n) [] h = tt
+orderly-drop low (suc n) (frame ∷ frames) h =
+    orderly-earlier low (frame.number + 1) _ (omega (arith, h.0)) (orderly-drop (frame.number + 1) n frames h.2)
+
+own_number : (frames later : List Frame) (first : Frame) → frames ≡ first ∷ later → IsOrderly frames
+    → IsOrderlyFrom first.number frames
+own_number frames later first e h =
+    let all = subst IsOrderly e h in subst (IsOrderlyFrom first.number) (sym e) (omega arith, all.1, all.2)
+
+-- the items of a block and of what is left
+items-cut : (opened : List ℕ) (changes : List Change) (frames later : List Frame) (first : Frame) (n : ℕ)
+    → frames ≡ first ∷ later → IsOrderly frames
+    → items_with (numbers_from first.number opened) (changes_from first.number changes) (take n frames)
+    ++ items_with (numbers_from first.number opened) (changes_from first.number changes) (drop n frames)
+    ≡ items_with opened changes frames
+items-cut opened changes frames later first n is orderly =
+    let marks = numbers_from first.number opened in
+    let news = changes_from first.number changes in
+    sym (map-append (item_with marks news) (take n frames) (drop n frames))
+    ∙ ap (items_with marks news) (take-append-drop n frames)
+    ∙ sym (items-from first.number first.number opened changes frames (omega arith)
+    (own_number frames later first is orderly))
+
+items-as : (block : Block) (opened : List ℕ) (changes : List Change) (frames : List Frame)
+    → block.opened.now ≡ opened → block.changes.now ≡ changes → block.frames.now ≡ frames
+    → items_in block ≡ items_with opened changes frames
+items-as block opened changes frames o c f = λ i. items_with (o i) (c i) (f i)
+
+cut-is : (opened : List ℕ) (changes : List Change) (first : Frame) (part : List Frame) (block : Block)
+    → block.opened.now ≡ numbers_from first.number opened → block.changes.now ≡ changes_from first.number changes
+    → block.frames.now ≡ part → NeverFallFrom 0 opened → AreOrderlyFrom 0 changes → IsOrderly part → IsBlock block
+cut-is opened changes first part block o c f rise orderly ranges = record {
+  frames = subst IsOrderly (sym f) ranges;
+  opened = subst (NeverFallFrom 0) (sym o) (rise-from 0 first.number opened rise);
+  changes = subst (AreOrderlyFrom 0) (sym c) (orderly-from 0 first.number changes orderly);
+}
+
+-- a block of some frames, and what is left of them
+pub block-cut : (rest front next : Block) (first : Frame) (later : List Frame) (n : ℕ) → IsBlock rest
+    → rest.frames.now ≡ first ∷ later
+    → front.opened.now ≡ numbers_from first.number rest.opened.now
+    → front.changes.now ≡ changes_from first.number rest.changes.now
+    → front.frames.now ≡ take n rest.frames.now
+    → next.opened.now ≡ numbers_from first.number rest.opened.now
+    → next.changes.now ≡ changes_from first.number rest.changes.now
+    → next.frames.now ≡ drop n rest.frames.now
+    → IsShort front × IsBlock next × (items_in front ++ items_in next ≡ items_in rest)
+block-cut rest front next first later n h is fo fc ff go gc gf =
+    let frames = rest.frames.now in
+    let opened = rest.opened.now in
+    let changes = rest.changes.now in
+    let taken = orderly-take 0 n frames h.frames in
+    let whole = cut-is opened changes first (take n frames) front fo fc ff h.opened h.changes taken in
+    let few = length-orderly 0 front.frames.now (omega arith) whole.frames in (
+      record { is_block = whole; number = omega arith },
+      cut-is opened changes first (drop n frames) next go gc gf h.opened h.changes (orderly-drop 0 n frames h.frames),
+      ap (λ l. l ++ items_in next) (items-as front _ _ _ fo fc ff)
+          ∙ ap (λ l. items_with (numbers_from first.number opened) (changes_from first.number changes) (take n frames) ++ l)
+          (items-as next _ _ _ go gc gf)
+          ∙ items-cut opened changes frames later first n is h.frames,
+    )
+
+-- the items of one block more
+pub items-push : (blocks : List Block) (block : Block) (all rest items : List Item)
+    → items_of (map items_in blocks) ++ items ≡ all → items_in block ++ rest ≡ items
+    → items_of (map items_in (blocks ++ block ∷ [])) ++ rest ≡ all
+items-push [] block all rest items h e =
+    append_assoc (items_in block) [] rest ∙ e ∙ h
+items-push (b ∷ blocks) block all rest items h e =
+    append_assoc (items_in b) (items_of (map items_in (blocks ++ block ∷ []))) rest
+    ∙ ap (λ l. items_in b ++ l) (items-push blocks block _ rest items refl e)
+    ∙ sym (append_assoc (items_in b) (items_of (map items_in blocks)) items) ∙ h
+
+-- ---- sums
+
+pub sums-are : (blocks : List Block) (sums : List ConnSum) → AreSums blocks sums
+    → sums ≡ map conn_sum_of (map items_in blocks)
+sums-are [] [] h = refl
+sums-are [] (sum ∷ sums) h = let n = h.number in absurd (omega arith)
+sums-are (block ∷ blocks) [] h = let n = h.number in absurd (omega arith)
+sums-are (block ∷ blocks) (sum ∷ sums) h =
+    let n = h.number in
+    ap (λ s. s ∷ sums) (h.each 0 block sum (omega arith)).is
+    ∙ ap (λ l. conn_sum_of (items_in block) ∷ l)
+    (sums-are blocks sums (record { number = omega arith; each = λ k b s l. h.each (suc k) b s (omega arith) }))
+
+pub little-are : (blocks : List Block) (sums : List ConnSum) → AreSums blocks sums
+    → AllByRecursion MovesLittle (items_of (map items_in blocks))
+little-are [] sums h = tt
+little-are (block ∷ blocks) [] h = let n = h.number in absurd (omega arith)
+little-are (block ∷ blocks) (sum ∷ sums) h =
+    let n = h.number in
+    little-append (items_in block) _ (h.each 0 block sum (omega arith)).little
+    (little-are blocks sums (record { number = omega arith; each = λ k b s l. h.each (suc k) b s (omega arith) }))
+
+-- ---- the connection before each block
+
+moved_room : (n : ℕ) (credit change : ℤ) → HasRoom n credit → HasRoom (2 ^ 32) change
+    → HasRoom (n + 2 ^ 32) (credit +ℤ change)
+moved_room n credit change h k =
+    let a = h.0 in let b = h.1 in let c = k.0 in let d = k.1 in (omega (arith, ints), omega (arith, ints))
+
+client_room : (n : ℕ) (now : ConnectionState) (items : List Item) → AllByRecursion MovesLittle items
+    → HasRoom n now.credit.client → HasRoom (n + 2 ^ 32 * length items) (connection_after_all now items).credit.client
+client_room n now [] little h = room-wider _ _ now.credit.client (omega arith) h
+client_room n now (item ∷ items) little h =
+    room-wider _ _ (connection_after_all now (item ∷ items)).credit.client (omega arith)
+    (client_room (n + 2 ^ 32) (connection_after now item) items little.1
+    (moved_room n now.credit.client (change_of Client item) h little.0.0))
+
+server_room : (n : ℕ) (now : ConnectionState) (items : List Item) → AllByRecursion MovesLittle items
+    → HasRoom n now.credit.server → HasRoom (n + 2 ^ 32 * length items) (connection_after_all now items).credit.server
+server_room n now [] little h = room-wider _ _ now.credit.server (omega arith) h
+server_room n now (item ∷ items) little h =
+    room-wider _ _ (connection_after_all now (item ∷ items)).credit.server (omega arith)
+    (server_room (n + 2 ^ 32) (connection_after now item) items little.1
+    (moved_room n now.credit.server (change_of Server item) h little.0.1))
+
+little-front : (a b : List Item) → AllByRecursion MovesLittle (a ++ b) → AllByRecursion MovesLittle a
+little-front [] b h = tt
+little-front (x ∷ a) b h = (h.0, little-front a b h.1)
+
+little-back : (a b : List Item) → AllByRecursion MovesLittle (a ++ b) → AllByRecursion MovesLittle b
+little-back [] b h = h
+little-back (x ∷ a) b h = little-back a b h.1
+
+first_fits : (now : ConnectionState) (block later : List Item) → BlockFits now (block ++ later) → BlockFits now block
+first_fits now block later fits =
+    let both = length-append block later in
+    let number = fits.number in
+    record {
+      number = omega arith;
+      client = room-wider _ _ now.credit.client (omega arith) fits.client;
+      server = room-wider _ _ now.credit.server (omega arith) fits.server;
+    }
+
+rest_fits : (now : ConnectionState) (block later : List Item) → BlockFits now (block ++ later)
+    → AllByRecursion MovesLittle (block ++ later) → BlockFits (connection_after_all now block) later
+rest_fits now block later fits little =
+    let both = length-append block later in
+    let number = fits.number in
+    let first = little-front block later little in
+    record {
+      number = omega arith;
+      client = room-wider _ _ (connection_after_all now block).credit.client (omega arith)
+          (client_room _ now block first fits.client);
+      server = room-wider _ _ (connection_after_all now block).credit.server (omega arith)
+          (server_room _ now block first fits.server);
+    }
+
+before_number : (now : ConnectionState) (blocks : List Block)
+    → length (connections_before now (map items_in blocks)) ≡ length blocks
+before_number now [] = refl
+before_number now (block ∷ blocks) =
+    ap suc (before_number (connection_after_all now (items_in block)) blocks)
+
+before_each : (now : ConnectionState) (blocks : List Block) (n : ℕ) (before : ConnectionState) (block : Block)
+    → n < length blocks → All IsShort blocks → BlockFits now (items_of (map items_in blocks))
+    → AllByRecursion MovesLittle (items_of (map items_in blocks))
+    → IsReady (get_or (connections_before now (map items_in blocks)) n before) (get_or blocks n block)
+before_each now [] n before block l short fits little = absurd (omega arith)
+before_each now (b ∷ blocks) zero before block l short fits little = record {
+  is_block = (short 0 b (omega arith)).is_block;
+  fits = first_fits now (items_in b) (items_of (map items_in blocks)) fits;
+}
+before_each now (b ∷ blocks) (suc n) before block l short fits little =
+    before_each (connection_after_all now (items_in b)) blocks n before block (omega arith)
+    (λ k d le. short (suc k) d (omega arith))
+    (rest_fits now (items_in b) (items_of (map items_in blocks)) fits little)
+    (little-back (items_in b) (items_of (map items_in blocks)) little)
+
+pub ready-are : (now : ConnectionState) (blocks : List Block) (befores : List ConnectionState)
+    → befores ≡ connections_before now (map items_in blocks) → All IsShort blocks
+    → BlockFits now (items_of (map items_in blocks)) → AllByRecursion MovesLittle (items_of (map items_in blocks))
+    → AreReady befores blocks
+ready-are now blocks befores e short fits little = subst (λ l. AreReady l blocks) (sym e) (record {
+  number = before_number now blocks;
+  each = λ n before block l. before_each now blocks n before block l short fits little;
+})
+
+-- ---- what is shown
+
+said_number : (c : Bool) (now : ConnectionState) (blocks : List Block)
+    → length (said_from c now (map items_in blocks)) ≡ length blocks
+said_number c now [] = refl
+said_number c now (block ∷ blocks) = ap suc (said_number c (connection_after_all now (items_in block)) blocks)
+
+said_each : (c : Bool) (now : ConnectionState) (blocks : List Block) (n : ℕ) (before : ConnectionState)
+    (block : Block) (list : List Finding) → n < length blocks
+    → shown c (block_run (get_or (connections_before now (map items_in blocks)) n before)
+    (items_in (get_or blocks n block)))
+    ≡ get_or (said_from c now (map items_in blocks)) n list
+said_each c now [] n before block list l = absurd (omega arith)
+said_each c now (b ∷ blocks) zero before block list l = refl
+said_each c now (b ∷ blocks) (suc n) before block list l =
+    said_each c (connection_after_all now (items_in b)) blocks n before block list (omega arith)
+
+said-is : {E : Type 0} (c : Bool) (now : ConnectionState) (blocks : List Block) (runs : List (Result BlockRun E))
+    → AreRuns c (connections_before now (map items_in blocks)) blocks runs → (n : ℕ) (run : Result BlockRun E)
+    (list : List Finding) → n < length blocks
+    → IfOk (get_or runs n run) (λ found. found.findings.items ≡ get_or (said_from c now (map items_in blocks)) n list)
+said-is c now [] runs h n run list l = absurd (omega arith)
+said-is c now (block ∷ blocks) runs h n run list l =
+    subst (λ said. IfOk (get_or runs n run) (λ found. found.findings.items ≡ said))
+    (said_each c now (block ∷ blocks) n now block list l) (h.each n now block run l)
+
+-- the runs of the blocks say what is shown of consecutive blocks
+pub say-are : {E : Type 0} (c : Bool) (now : ConnectionState) (blocks : List Block) (runs : List (Result BlockRun E))
+    → AreRuns c (connections_before now (map items_in blocks)) blocks runs
+    → Say runs (said_from c now (map items_in blocks))
+say-are c now blocks runs h =
+    let said = said_number c now blocks in
+    let told = h.number in
+    record {
+      number = omega arith;
+      each = λ n run list l. said-is c now blocks runs h n run list (omega arith);
+    }
+
+block_run-append : (now : ConnectionState) (xs ys : List Item)
+    → block_run now (xs ++ ys) ≡ block_run now xs ++ block_run (connection_after_all now xs) ys
+block_run-append now [] ys = refl
+block_run-append now (x ∷ xs) ys =
+    ap (λ l. in_order (connection_said now x) ++ l) (block_run-append (connection_after now x) xs ys)
+    ∙ sym (append_assoc (in_order (connection_said now x)) _ _)
+
+pub said-joined : (c : Bool) (now : ConnectionState) (blocks : List (List Item))
+    → items_of (said_from c now blocks) ≡ shown c (block_run now (items_of blocks))
+said-joined c now [] = refl
+said-joined c now (block ∷ blocks) =
+    ap (λ l. shown c (block_run now block) ++ l) (said-joined c (connection_after_all now block) blocks)
+    ∙ sym (shown-append c (block_run now block) (block_run (connection_after_all now block) (items_of blocks)))
+    ∙ ap (shown c) (sym (block_run-append now block (items_of blocks)))
+
+-- one block's findings more
+pub said-more : (said : List (List Finding)) (at : ℕ) (before added after : List Finding) → at < length said
+    → added ≡ get_or said at [] → after ≡ before ++ added → before ++ items_of (drop at said) ≡ items_of said
+    → after ++ items_of (drop (at + 1) said) ≡ items_of said
+said-more said at before added after l e g h =
+    ap (λ front. front ++ items_of (drop (at + 1) said)) (g ∙ ap (λ s. before ++ s) e)
+    ∙ append_assoc before (get_or said at []) (items_of (drop (at + 1) said))
+    ∙ sym (ap (λ rest. before ++ items_of rest) (drop-next said at [] l)) ∙ h
+
+none-left : (said : List (List Finding)) (at : ℕ) → length said ≤ at → drop at said ≡ []
+none-left [] zero l = refl
+none-left [] (suc at) l = refl
+none-left (x ∷ said) zero l = absurd (omega arith)
+none-left (x ∷ said) (suc at) l = none-left said at (omega arith)
+
+pub said-all : (said : List (List Finding)) (at : ℕ) (all : List Finding) → length said ≤ at
+    → all ++ items_of (drop at said) ≡ items_of said → all ≡ items_of said
+said-all said at all l h =
+    sym (append-nil all) ∙ ap (λ rest. all ++ items_of rest) (sym (none-left said at l)) ∙ h
+
+-- what is written over all of a list stands in it
+pub written : {X : Type 0} (new old : List X) (n : ℕ) → length old ≡ n → length new ≡ n
+    → take n (new ++ drop (length new) old) ≡ new
+written [] [] n l k = let e : n ≡ 0 = omega arith in rw e refl
+written [] (y ∷ old) n l k = absurd (omega arith)
+written (x ∷ new) [] n l k = absurd (omega arith)
+written (x ∷ new) (y ∷ old) zero l k = absurd (omega arith)
+written (x ∷ new) (y ∷ old) (suc n) l k = ap (λ l. x ∷ l) (written new old n (omega arith) (omega arith))
