@@ -6,4 +6,3 @@ pub mod ClearLemmas
 pub mod ItemsLemmas
 pub mod ShownLemmas
 pub mod FitLemmas
-pub mod OpeningLemmas

@@ -1,33 +1,18 @@
 -- The items of a connection's frames, whole and by blocks.
-use Rattle.std.specs.Prelude.{◌≡◌, ℕ, ◌<◌, ◌≤◌, ◌==◌, true, Option, Some, List, ◌++◌}
-use Rattle.std.specs.List.{AllByRecursion, list_any}
+use Rattle.std.specs.Prelude.{◌≡◌, ℕ, ◌<◌, ◌≤◌, List, ◌++◌}
+use Rattle.std.specs.List.{AllByRecursion}
 use Rattle.audit_terms.specs.declared.frames.Frame.{Frame}
 use Rattle.audit_terms.specs.declared.items.Change.{Change}
 use Rattle.audit_terms.specs.declared.items.Item.{Item}
 use Rattle.audit_terms.specs.Frame.{IsOrderly}
 use Rattle.audit_terms.specs.InForce.{changes_of}
 use Rattle.audit_terms.specs.Pass.{items_of}
-use Rattle.audit_terms.specs.Run.{frames_of, stream_at_end}
 use Rattle.conn_scan.specs.Items.{is_marked, items_with}
 
 -- the HEADERS among the numbers are those that open their streams
 abbrev pub AreOpenings : (opened : List ℕ) → List Frame → Type 0
 AreOpenings opened frames =
     AllByRecursion (λ (item : Item). is_marked opened item.frame ≡ item.opens) (items_of frames)
-
--- the number of the frame at which a stream is opened, if it is
-abbrev pub opening_of : List Frame → (stream : ℕ) → Option ℕ
-opening_of frames stream = (stream_at_end stream (frames_of stream frames) (changes_of frames)).life.opened
-
--- the numbers are those at which streams are opened
-pub record AreNumbersOfOpenings (opened : List ℕ) (frames : List Frame) : Type 0 where
-  pub found : (n : ℕ) → list_any (λ m. m == n) opened ≡ true → (stream : ℕ) × (opening_of frames stream ≡ Some n)
-  pub all : (stream n : ℕ) → opening_of frames stream ≡ Some n → list_any (λ m. m == n) opened ≡ true
-
--- such numbers mark the opening frames
-abbrev pub OpeningsAreMarked : Type 0
-OpeningsAreMarked = (frames : List Frame) (opened : List ℕ) → IsOrderly frames → AreNumbersOfOpenings opened frames
-    → AreOpenings opened frames
 
 -- with the numbers of the opening frames and all changes, the items are those of the pass
 abbrev pub ItemsAreThePass : Type 0

@@ -2,7 +2,7 @@
 ghost use Rattle.conn_scan.specs.Block.{BlocksFit};
 ghost use Rattle.conn_scan.specs.Clear.{ClearShowsCredit};
 ghost use Rattle.conn_scan.specs.ConnSum.{PartsFollow};
-ghost use Rattle.conn_scan.specs.ItemsLaw.{OpeningsAreMarked, ItemsAreThePass, ItemsOfBlocksJoin};
+ghost use Rattle.conn_scan.specs.ItemsLaw.{ItemsAreThePass, ItemsOfBlocksJoin};
 ghost use Rattle.conn_scan.specs.StallInBlocks.{StallItemsFound, StallByOne, StallByTwo, StallAtOnce, ClearFrames};
 ghost use Rattle.conn_scan.specs.ScanSums.{StatesFound, FirstSumFound, LastSumFound, CarriesFound};
 
@@ -18,11 +18,6 @@ pub fn scan_sums()
 /// The state that the summaries of a block advance is that of the connection: both step alike at each item.
 pub fn parts_follow_the_connection()
     ensures { PartsFollow }
-{}
-
-/// The numbers at which streams are opened mark the frames that open their streams.
-pub fn openings_are_marked()
-    ensures { OpeningsAreMarked }
 {}
 
 /// With the numbers of the opening frames and all changes, the items of a connection's frames are those of the pass.

@@ -6,8 +6,8 @@
 #![tactic(auto)]
 
 mod ends;
-pub mod laws;
 mod grouping;
+pub mod laws;
 mod lookup;
 mod merging;
 mod splits;
