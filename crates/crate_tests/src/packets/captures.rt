@@ -52,9 +52,9 @@ fn packets_of_a_capture(rt: HostRuntime) -> Result<(), Fail> {
     capture.extend_from_slice(&TAGGED)?;
     let found = records(alloc, capture.as_slice())?;
     let packets = decode_all(&rt, alloc, &found, capture.as_slice())?;
-    let want = "[Refused(ShortEthernet), Segment(Segment { rec: 2, nanos: 2000, \
+    let want = "[Refused(ShortEthernet), Segment(Segment { nanos: 2000, lo: 131, hi: 133, \
         from: Endpoint { address: 167772161, port: 40000 }, to: Endpoint { address: 167772162, port: 80 }, \
-        seq: 4294967292, syn: false, ack: true, lo: 131, hi: 133, snapped: false })]";
+        rec: 2, seq: 4294967292, syn: false, ack: true, snapped: false })]";
     expect(&rt, format!(in alloc; "{packets:?}")?.as_str(), want);
     Ok(())
 }
