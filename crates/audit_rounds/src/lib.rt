@@ -4,8 +4,8 @@
 //! Connections are done one after the other. Of each, every worker has its share of the streams in advance. After the
 //! streams have told which frames open them, what the connection shows by itself is found in blocks of frames, every
 //! worker having consecutive ones: the blocks are summed, the sums carry the connection's state from block to block,
-//! and each block is audited from the state before it. What streams and the connection show, the faults of single frames and the acknowledgements that answer nothing are put together in order
-//! ([`laws::rounds_make_the_pass`]).
+//! and each block is audited from the state before it. What streams and the connection show, the faults of single
+//! frames and the acknowledgements that answer nothing are put together in order ([`laws::rounds_make_the_pass`]).
 #![tactic(auto)]
 
 mod blocks;
