@@ -45,7 +45,7 @@ fn changes_from(changes: &[Change], low: u32) -> &[Change]
 }
 
 /// The frames in blocks of at most so many, each with the numbers and the changes from its first frame on.
-pub(crate) fn blocks_of<'a>(
+fn blocks_of<'a>(
     alloc: Global,
     size: usize,
     whole: &Block<'a>,
@@ -114,7 +114,8 @@ fn befores_of<R: Threads + Sync>(
     requires workers { 0 < workers }
     requires short { All IsShort blocks.now }
     requires fits { BlockFits connection_start (items_of (map items_in blocks.now)) }
-    ensures befores { IfOk result (λ befores. befores.items ≡ connections_before connection_start (map items_in blocks.now)) }
+    ensures befores { IfOk result (λ befores. befores.items
+        ≡ connections_before connection_start (map items_in blocks.now)) }
     ensures ready { IfOk result (λ befores. AreReady befores.items blocks.now) }
 {
     let sums = sums_of(rt, alloc, workers, blocks)?;
@@ -153,7 +154,8 @@ fn runs_of<R: Threads + Sync>(
 
 /// What the blocks show, one after the other.
 fn joined(alloc: Global, runs: &[Result<BlockRun, AllocError>]) -> Result<Vec<Finding>, AllocError>
-    ensures { (said : List (List FindingTerm)) → Say runs.now said → IfOk result (λ found. found.items ≡ items_of said) }
+    ensures { (said : List (List FindingTerm)) → Say runs.now said
+        → IfOk result (λ found. found.items ≡ items_of said) }
 {
     let mut all = Vec::new(alloc);
     for run in runs {
@@ -178,7 +180,8 @@ fn run_in_blocks<R: Threads + Sync>(
     requires size { 0 < size }
     requires whole { IsBlock whole.now }
     requires fits { BlockFits connection_start (items_in whole.now) }
-    ensures { IfOk result (λ found. found.items ≡ shown credits_shown (block_run connection_start (items_in whole.now))) }
+    ensures { IfOk result (λ found. found.items
+        ≡ shown credits_shown (block_run connection_start (items_in whole.now))) }
 {
     let blocks = blocks_of(alloc, size, whole)?;
     let befores = befores_of(rt, alloc, workers, blocks.as_slice())?;
@@ -207,7 +210,8 @@ pub(crate) fn connection_run<R: Threads + Sync>(
     requires size { 0 < size }
     requires whole { IsBlock whole.now }
     requires fits { BlockFits connection_start (items_in whole.now) }
-    ensures { IfOk result (λ found. found.items ≡ shown credits_shown (block_run connection_start (items_in whole.now))) }
+    ensures { IfOk result (λ found. found.items
+        ≡ shown credits_shown (block_run connection_start (items_in whole.now))) }
 {
     if workers == 1 || whole.frames.len() <= size {
         let run = block_findings(alloc, &ConnState::start(), whole, credits_shown)?;

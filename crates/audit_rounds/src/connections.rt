@@ -23,7 +23,7 @@ use std::alloc::{AllocError, Global};
 use std::thread::Threads;
 use stream_credit::Changes;
 
-/// What is shown of a connection's frames, with its streams, and blocks of so many frames, divided over so many workers.
+/// What is shown of a connection's frames, with its streams, and its blocks of so many frames, divided over workers.
 pub(crate) fn findings_of<R: Threads + Sync>(
     rt: &R,
     alloc: Global,
