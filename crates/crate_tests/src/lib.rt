@@ -8,6 +8,8 @@
 #![tactic(auto)]
 
 #[cfg(test)]
+mod captures;
+#[cfg(test)]
 mod desks;
 #[cfg(test)]
 mod faults;

@@ -28,6 +28,3 @@ pub use frames::{
     settings, settings_ack, window_update,
 };
 pub use segments::{CLIENT, Endpoint, PLAIN, SERVER, SYN, SYN_ACK, Segment};
-
-#[cfg(test)]
-mod tests;

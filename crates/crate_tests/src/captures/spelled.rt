@@ -1,5 +1,7 @@
-use crate::*;
+//! The captures of tests, against bytes that were written out by hand.
+
 use std::test::Fail;
+use test_captures::*;
 
 #[test]
 fn empty_capture(rt: HostRuntime) -> Result<(), Fail> {
@@ -109,7 +111,7 @@ fn spelling_of_frames(rt: HostRuntime) -> Result<(), Fail> {
     for (frame, want) in table {
         let mut spelled = Vec::new(rt.alloc());
         frame.push_to(&mut spelled)?;
-        assert_eq!(rt; spelled.as_slice(), want, "{frame:?}");
+        assert_eq!(rt; spelled.as_slice(), want);
     }
     let mut spelled = Vec::new(rt.alloc());
     raw(255, 9, 5, &[1, 2]).push_to(&mut spelled)?;

@@ -1,0 +1,3 @@
+//! The captures that tests are built from.
+
+mod spelled;
