@@ -5,6 +5,13 @@ Shapes:
   bulk         one connection, one stream, a download of 16,384-byte DATA frames in full TCP segments, with window updates
   small        one connection, many streams, DATA frames of a few bytes, a frame in a record
   connections  many short connections of a handshake, a request and a response
+  chatty       one connection, one stream, many frames of a few bytes in each segment
+  calls        one connection, a thousand streams that take turns with messages of 1,000 bytes
+  streams      one connection, streams of three frames each
+Shapes that a peer might make on purpose, each with as much of one thing as of the other:
+  closed       streams that are reset, then acknowledgements that move the initial window
+  strays       segments of pairs that were never seen to open, one for each pair
+  empty        frames of nine bytes
 The same words always give the same bytes.
 """
 import struct
@@ -97,13 +104,77 @@ def connections(capture, size):
             next_client()
 
 
+def chatty(capture, size):
+    one = Connection(capture, 40000)
+    one.send(CLIENT, frame(1, 4, 1))
+    while capture.size < size:
+        one.send(SERVER, 60 * frame(0, 0, 1, b"abcdefgh"))
+        one.send(CLIENT, 4 * (window_update(0, 120) + window_update(1, 120)))
+        one.send(CLIENT, 30 * frame(0, 0, 1, b"xyz"))
+        one.send(SERVER, 2 * (window_update(0, 45) + window_update(1, 45)))
+
+
+def calls(capture, size):
+    one = Connection(capture, 40000)
+    ids = range(1, 2001, 2)
+    for stream in ids:
+        one.send(CLIENT, frame(1, 4, stream))
+    while capture.size < size:
+        for stream in ids:
+            one.send(CLIENT, frame(0, 0, stream, bytes(1000)))
+            one.send(SERVER, window_update(0, 1000) + window_update(stream, 1000))
+
+
+def streams(capture, size):
+    one = Connection(capture, 40000)
+    stream = 1
+    while capture.size < size:
+        one.send(CLIENT, frame(1, 5, stream))
+        one.send(SERVER, frame(1, 4, stream) + frame(0, 1, stream, bytes(100)))
+        one.send(CLIENT, window_update(0, 100))
+        stream += 2
+
+
+def closed(capture, size):
+    one = Connection(capture, 40000)
+    stream = 1
+    while capture.size < size / 2:
+        one.send(CLIENT, frame(1, 4, stream) + frame(3, 0, stream, bytes(4)))
+        stream += 2
+    value = 0
+    while capture.size < size:
+        value = 65535 - value
+        one.send(CLIENT, frame(4, 0, 0, struct.pack(">HI", 4, value)))
+        one.send(SERVER, frame(4, 1, 0))
+
+
+def strays(capture, size):
+    port = 1
+    while capture.size < size:
+        capture.segment((port, 80), CLIENT, 1, ACK, b"a")
+        port += 1
+        if port == 65536:
+            port = 1
+            next_client()
+
+
+def empty(capture, size):
+    one = Connection(capture, 40000)
+    one.send(CLIENT, frame(1, 4, 1))
+    while capture.size < size:
+        one.send(CLIENT, 160 * frame(0, 0, 1))
+
+
 def next_client():
     """The next client address, where the ports of one are used up."""
     global ADDRESSES
     ADDRESSES = (ADDRESSES[0] + 256, ADDRESSES[1])
 
 
-SHAPES = {"bulk": bulk, "small": small, "connections": connections}
+SHAPES = {
+    each.__name__: each
+    for each in (bulk, small, connections, chatty, calls, streams, closed, strays, empty)
+}
 
 
 def main():

@@ -1,55 +1,74 @@
 #!/usr/bin/env python3
-"""Measures a program against `cat`: measure.py PROGRAM [MEGABYTES ..]   (10, 40 and 160 if none is given)
+"""Measures a program: measure.py PROGRAM [--beside OTHER] [--shapes NAME,..] [MEGABYTES ..]   (10, 40 and 160 if none is given)
 
-For each shape of capture and each size: the least wall time of three runs and the greatest peak memory, of the program and of
-`cat`, both with the capture on standard input and their output thrown away. Prints one line each, with ratios and the
-growth from the size before, since absolute times say more of the machine than of the program.
+For each shape of capture and each size, of three runs each in turn: the least processor time with one worker, the least wall time
+with one and with four, and the greatest peak of memory. `cat` runs beside it, and so does an older program where one is named; all
+have the capture on standard input and their output thrown away. Prints one line each, with ratios and the growth from the size
+before, since absolute times say more of the machine than of the program.
 """
+import argparse
 import os
 import subprocess
 import sys
 import tempfile
 import time
 
+from generate import SHAPES
+
 HERE = os.path.dirname(os.path.abspath(__file__))
-SHAPES = ("bulk", "small", "connections")
+RUNS = 3
 
 
 def once(words, path):
-    """Wall seconds and peak resident kilobytes of a run with the file on standard input."""
+    """Wall and processor seconds and peak resident megabytes of a run with the file on standard input."""
     with open(path, "rb") as source, open(os.devnull, "wb") as nowhere:
         start = time.monotonic()
         child = subprocess.Popen(words, stdin=source, stdout=nowhere, stderr=nowhere)
         _, status, usage = os.wait4(child.pid, 0)
         child.returncode = os.waitstatus_to_exitcode(status)
-        return time.monotonic() - start, usage.ru_maxrss, child.returncode
+        return time.monotonic() - start, usage.ru_utime + usage.ru_stime, usage.ru_maxrss * 1024 / 1000000
 
 
-def best(words, path, runs=3):
-    found = [once(words, path) for _ in range(runs)]
-    return min(f[0] for f in found), max(f[1] for f in found), found[0][2]
+def best(commands, path):
+    """Of each command the least times and the greatest peak, the commands in turn."""
+    found = [[once(words, path) for words in commands] for _ in range(RUNS)]
+    runs = list(zip(*found))
+    return [(min(r[0] for r in run), min(r[1] for r in run), max(r[2] for r in run)) for run in runs]
+
+
+def line_of(shape, path, program, beside, before):
+    size = os.path.getsize(path) / 1000000
+    commands = [[program, "--workers", "1"], [program, "--workers", "4"], ["cat"]]
+    if beside:
+        commands.append([beside, "--workers", "4"])
+    one, four, cat, *other = best(commands, path)
+    peak = max(one[2], four[2])
+    grown = (one[1] / before[0], peak / before[1]) if before else (0, 0)
+    text = "%-11s %5.0f  %8.3f %5.0f %6.1f  %8.2f  %8.1f %6.2f %6.1f" % (
+        shape, size, one[1], one[1] / cat[1], grown[0], four[0] / one[0], peak, peak / size, grown[1])
+    if other:
+        text += "  %6.2f %6.2f" % (one[1] / other[0][1], peak / other[0][2])
+    print(text, flush=True)
+    return one[1], peak
 
 
 def main():
-    if len(sys.argv) < 2:
-        sys.exit(__doc__)
-    program = os.path.abspath(sys.argv[1])
-    sizes = [float(word) for word in sys.argv[2:]] or [10, 40, 160]
-    print("shape        MB     seconds  x cat   growth  peak MB  x file  growth  status")
-    for shape in SHAPES:
+    words = argparse.ArgumentParser(description=__doc__, formatter_class=argparse.RawDescriptionHelpFormatter)
+    words.add_argument("program")
+    words.add_argument("--beside")
+    words.add_argument("--shapes", default=",".join(SHAPES))
+    words.add_argument("megabytes", nargs="*", type=float)
+    asked = words.parse_intermixed_args()
+    program, beside = os.path.abspath(asked.program), asked.beside and os.path.abspath(asked.beside)
+    print("                 processor, one worker  wall, four    memory                   beside the other")
+    print("shape          MB   seconds x cat growth   to one    peak MB x file growth    time memory")
+    for shape in asked.shapes.split(","):
         before = None
-        for size in sizes:
+        for size in asked.megabytes or [10, 40, 160]:
             with tempfile.TemporaryDirectory() as folder:
                 path = os.path.join(folder, "capture.pcap")
                 subprocess.run([sys.executable, os.path.join(HERE, "generate.py"), shape, str(size), path], check=True)
-                file_size = os.path.getsize(path) / 1000000
-                seconds, peak, status = best([program], path)
-                plain, _, _ = best(["cat"], path)
-            peak = peak * 1024 / 1000000
-            growth = ("%6.1f" % (seconds / before[0]), "%6.1f" % (peak / before[1])) if before else ("     -", "     -")
-            print("%-11s %5.0f  %8.3f  %6.0f  %s  %7.1f  %6.2f  %s  %d" % (
-                shape, file_size, seconds, seconds / plain, growth[0], peak, peak / file_size, growth[1], status), flush=True)
-            before = (seconds, peak)
+                before = line_of(shape, path, program, beside, before)
 
 
 if __name__ == "__main__":
