@@ -4,3 +4,4 @@ pub mod UptoStop
 pub mod PlaceOrder
 pub mod Bounds
 pub mod Acknowledged
+pub mod Watching

@@ -16,4 +16,5 @@ pub mod Stream
 pub mod Pass
 pub mod Credit
 pub mod Run
+pub mod Look
 pub mod code

@@ -1,0 +1,254 @@
+-- How a watch goes from step to step.
+use Rattle.std.proofs.Common.{◌≡◌, ℕ, zero, suc, ◌+◌, ◌-◌, ◌*◌, ◌<◌, ◌≤◌, Bool, true, false, ◌||◌, nat_lt, nat_le, List, [], ◌∷◌, ◌++◌, length, filter, slice_get, Option, Some, None, refl, sym, ap, ◌∙◌, subst, arith, lt-ltb, le-ltb, ltb-true, ltb-false, leb-true, length-append, append_assoc}
+use Rattle.std.specs.List.{list_any}
+use Rattle.std.proofs.lemmas.List.Folds.{list_any-append}
+use Rattle.audit_terms.specs.declared.findings.Finding.{Finding}
+use Rattle.audit_terms.specs.declared.looks.Watch.{Watch}
+use Rattle.audit_terms.specs.Place.{place_number}
+use Rattle.audit_terms.specs.Look.{Asked, Looked, last_answer, is_past, found_before, up_to, steps_between, LooksOn, LooksInTime, IsRun}
+use Rattle.audit_terms.specs.code.Watch.{Watches, IsStopped, NeverFallFrom}
+
+looked-on : {L : Type 0} (answers : L → List Finding → Option ℕ → L → Type 0) (a b d : L) (asked : List Asked)
+    (one : Asked) → Looked answers a asked b → answers b one.handed one.answer d → Looked answers a (asked ++ one ∷ []) d
+looked-on answers a b d [] one is step = (d, subst (λ s. answers s one.handed one.answer d) (sym is) step, refl)
+looked-on answers a b d (x ∷ xs) one (m, first, rest) step = (m, first, looked-on answers m b d xs one rest step)
+
+last-on : (first : Option ℕ) (asked : List Asked) (one : Asked) → last_answer first (asked ++ one ∷ []) ≡ one.answer
+last-on first [] one = refl
+last-on first (x ∷ xs) one = last-on x.answer xs one
+
+any-on : (test : ℕ → Bool) (met : List ℕ) (number : ℕ) → list_any test met ≡ false
+    → test number ≡ false → list_any test (met ++ number ∷ []) ≡ false
+any-on test met number none is = list_any-append test met (number ∷ []) ∙ rw (none, is) refl
+
+or-true : (a : Bool) → (a || true) ≡ true
+or-true true = refl
+or-true false = refl
+
+any-at : (test : ℕ → Bool) (met : List ℕ) (number : ℕ) (left : List ℕ) → test number ≡ true
+    → list_any test (met ++ number ∷ left) ≡ true
+any-at test met number left is = list_any-append test met (number ∷ left) ∙ rw (is) (or-true (list_any test met))
+
+get-at : (met : List ℕ) (number : ℕ) (left : List ℕ) → slice_get (met ++ number ∷ left) (length met) ≡ Some number
+get-at [] number left = refl
+get-at (x ∷ xs) number left = get-at xs number left
+
+get-past : (met left : List ℕ) (at number : ℕ) → length met ≤ at → slice_get (met ++ left) at ≡ Some number
+    → (more : ℕ) × (slice_get left more ≡ Some number)
+get-past [] left at number order is = (at, is)
+get-past (x ∷ xs) left zero number order is = absurd (omega arith)
+get-past (x ∷ xs) left (suc at) number order is = get-past xs left at number (omega arith) is
+
+fall-at : (low number : ℕ) (numbers : List ℕ) (n : ℕ) → NeverFallFrom low numbers → slice_get numbers n ≡ Some number
+    → low ≤ number
+fall-at low number [] n fall is = cc
+fall-at low number (x ∷ xs) zero fall is = let same : x ≡ number = cc in subst (λ m. low ≤ m) same fall.0
+fall-at low number (x ∷ xs) (suc n) fall is = let order = fall-at x number xs n fall.1 is in let first = fall.0 in omega arith
+
+past-lower : (stop : Option ℕ) (lower number : ℕ) → lower ≤ number → is_past stop number ≡ false
+    → is_past stop lower ≡ false
+past-lower None lower number order is = refl
+past-lower (Some place) lower number order is =
+    let within : number ≤ place_number place = ltb-false (place_number place) number is in
+    le-ltb (place_number place) lower (omega arith)
+
+past-higher : (stop : Option ℕ) (number higher : ℕ) → number ≤ higher → is_past stop number ≡ true
+    → is_past stop higher ≡ true
+past-higher None number higher order is = is
+past-higher (Some place) number higher order is =
+    let past : place_number place < number = ltb-true (place_number place) number is in
+    lt-ltb (place_number place) higher (omega arith)
+
+none-past : (stop : Option ℕ) (low : ℕ) (met : List ℕ) (number : ℕ) (left : List ℕ)
+    → NeverFallFrom low (met ++ number ∷ left) → is_past stop number ≡ false
+    → (low ≤ number) × (list_any (is_past stop) met ≡ false)
+none-past stop low [] number left fall is = (fall.0, refl)
+none-past stop low (x ∷ xs) number left (order, fall) is =
+    let rest = none-past stop x xs number left fall is in
+    let at = past-lower stop x number rest.0 is in
+    (omega arith, rw (at) rest.1)
+
+fall-back : (low : ℕ) (met : List ℕ) (number : ℕ) (left : List ℕ) → NeverFallFrom low (met ++ number ∷ left)
+    → NeverFallFrom number left
+fall-back low [] number left fall = fall.1
+fall-back low (x ∷ xs) number left fall = fall-back x xs number left fall.1
+
+-- all steps from one that lies past on lie past
+get-later : (stop : Option ℕ) (met : List ℕ) (number : ℕ) (left : List ℕ) (at later : ℕ)
+    → NeverFallFrom 0 (met ++ number ∷ left) → is_past stop number ≡ true → length met ≤ at
+    → slice_get (met ++ number ∷ left) at ≡ Some later → is_past stop later ≡ true
+get-later stop met number left at later fall past order is =
+    let found = get-past met (number ∷ left) at later order is in
+    past-higher stop number later
+    (fall-at number later (number ∷ left) found.0 (omega arith, fall-back 0 met number left fall) found.1) past
+
+append-none : {X : Type 0} (l : List X) → l ++ [] ≡ l
+append-none [] = refl
+append-none (x ∷ xs) = ap (λ l. x ∷ l) (append-none xs)
+
+get-below : (l : List ℕ) (at number : ℕ) → slice_get l at ≡ Some number → at < length l
+get-below [] at number is = cc
+get-below (x ∷ xs) zero number is = omega arith
+get-below (x ∷ xs) (suc at) number is = let below = get-below xs at number is in omega arith
+
+-- what lies at or before a stop was found before each frame that lies past the stop
+up-to-before : (stop : Option ℕ) (number : ℕ) (whole : List Finding) → is_past stop number ≡ true
+    → up_to stop (found_before number whole) ≡ up_to stop whole
+up-to-before None number whole is = cc
+up-to-before (Some place) number [] is = refl
+up-to-before (Some place) number (x ∷ xs) is =
+    by (nat_le x.place place) (nat_lt (place_number x.place) number) refl refl (up-to-before (Some place) number xs is)
+  where
+    by : (within before : Bool) → nat_le x.place place ≡ within → nat_lt (place_number x.place) number ≡ before
+        → filter (λ (found : Finding). nat_le found.place place) (found_before number xs)
+        ≡ filter (λ (found : Finding). nat_le found.place place) xs
+        → up_to (Some place) (found_before number (x ∷ xs)) ≡ up_to (Some place) (x ∷ xs)
+    by true true at early rest = rw (at, early) (rw (at) (ap (λ l. x ∷ l) rest))
+    by true false at early rest =
+        let order : x.place ≤ place = leb-true x.place place at in
+        let late : number ≤ place_number x.place = ltb-false (place_number x.place) number early in
+        let past : place_number place < number = ltb-true (place_number place) number is in
+        absurd (omega arith)
+    by false true at early rest = rw (at, early) (rw (at) rest)
+    by false false at early rest = rw (at, early) rest
+
+module _ {L : Type 0} (answers : L → List Finding → Option ℕ → L → Type 0) (start : L) (whole : List Finding) where
+  pub begins : (after : L) (numbers : List ℕ) (stop : Option ℕ) → answers start [] stop after → NeverFallFrom 0 numbers
+      → Watches answers start after whole [] numbers (record { stop = stop; looks = 1; left = 256 })
+  begins after numbers stop answered fall = record {
+    asked = record { handed = []; answer = stop } ∷ [];
+    looked = (after, answered, refl);
+    count = refl;
+    last = refl;
+    due = refl;
+    rise = fall;
+    within = refl;
+    in_time = λ rest on. (refl, on);
+  }
+
+  -- one more step
+  pub steps : (now : L) (met : List ℕ) (number : ℕ) (left : List ℕ) (watch : Watch)
+      → Watches answers start now whole met (number ∷ left) watch → is_past watch.stop number ≡ false → 0 < watch.left
+      → Watches answers start now whole (met ++ number ∷ []) left (record watch { left = watch.left - 1 })
+  steps now met number left watch w within some =
+      let same = append_assoc met (number ∷ []) left in
+      let one = length-append met (number ∷ []) in
+      let due = w.due in
+      record {
+        asked = w.asked;
+        looked = w.looked;
+        count = w.count;
+        last = w.last;
+        due = omega arith;
+        rise = subst (NeverFallFrom 0) (sym same) w.rise;
+        within = any-on (is_past watch.stop) met number w.within within;
+        in_time = subst (λ l. (rest : List Asked) → LooksOn l whole watch.looks watch.stop rest
+            → LooksInTime l whole (w.asked ++ rest)) (sym same) w.in_time;
+      }
+
+  -- the look that is due before a step
+  pub asks : (now after : L) (met : List ℕ) (number : ℕ) (left : List ℕ) (watch : Watch) (stop : Option ℕ)
+      → Watches answers start now whole met (number ∷ left) watch → is_past watch.stop number ≡ false → watch.left ≡ 0
+      → answers now (found_before number whole) stop after → is_past stop number ≡ false
+      → Watches answers start after whole met (number ∷ left)
+      (record { stop = stop; looks = watch.looks + 1; left = 256 })
+  asks now after met number left watch stop w within none answered goes =
+      let one : Asked = record { handed = found_before number whole; answer = stop } in
+      let due = w.due in
+      let at : length met ≡ steps_between * watch.looks = omega arith in
+      record {
+        asked = w.asked ++ one ∷ [];
+        looked = looked-on answers start now after w.asked one w.looked answered;
+        count = length-append w.asked (one ∷ []) ∙ ap (λ n. n + 1) w.count;
+        last = last-on None w.asked one;
+        due = omega arith;
+        rise = w.rise;
+        within = (none-past stop 0 met number left w.rise goes).1;
+        in_time = λ rest on. subst (LooksInTime (met ++ number ∷ left) whole) (sym (append_assoc w.asked (one ∷ []) rest))
+            (w.in_time (one ∷ rest) (
+              number,
+              subst (λ n. slice_get (met ++ number ∷ left) n ≡ Some number) at
+                  (get-at met number left),
+              within,
+              refl,
+              on,
+            ));
+      }
+
+  -- the step lies past the last answer
+  pub stops : (now : L) (met : List ℕ) (number : ℕ) (left : List ℕ) (watch : Watch)
+      → Watches answers start now whole met (number ∷ left) watch → is_past watch.stop number ≡ true
+      → IsStopped answers start now whole (met ++ number ∷ left) number watch
+  stops now met number left watch w past =
+      let due = w.due in
+      record {
+        asked = w.asked;
+        looked = w.looked;
+        count = w.count;
+        last = w.last;
+        past = past;
+        any = any-at (is_past watch.stop) met number left past;
+        in_time = subst (LooksInTime (met ++ number ∷ left) whole) (append-none w.asked)
+            (w.in_time [] (λ later is. get-later watch.stop met number left (steps_between * watch.looks) later
+            w.rise past (omega arith) is));
+      }
+
+  -- the step lies past what a look before it answers
+  pub asks-stops : (now after : L) (met : List ℕ) (number : ℕ) (left : List ℕ) (watch : Watch) (stop : Option ℕ)
+      → Watches answers start now whole met (number ∷ left) watch → is_past watch.stop number ≡ false → watch.left ≡ 0
+      → answers now (found_before number whole) stop after → is_past stop number ≡ true
+      → IsStopped answers start after whole (met ++ number ∷ left) number
+      (record { stop = stop; looks = watch.looks + 1; left = 256 })
+  asks-stops now after met number left watch stop w within none answered past =
+      let one : Asked = record { handed = found_before number whole; answer = stop } in
+      let due = w.due in
+      let at : length met ≡ steps_between * watch.looks = omega arith in
+      record {
+        asked = w.asked ++ one ∷ [];
+        looked = looked-on answers start now after w.asked one w.looked answered;
+        count = length-append w.asked (one ∷ []) ∙ ap (λ n. n + 1) w.count;
+        last = last-on None w.asked one;
+        past = past;
+        any = any-at (is_past stop) met number left past;
+        in_time = w.in_time (one ∷ []) (
+          number,
+          subst (λ n. slice_get (met ++ number ∷ left) n ≡ Some number) at
+              (get-at met number left),
+          within,
+          refl,
+          λ later is. get-later stop met number left
+              (steps_between * (watch.looks + 1)) later w.rise past (omega arith) is,
+        );
+      }
+
+  -- a run that met all its steps is whole
+  pub ends : (now : L) (met : List ℕ) (watch : Watch) → Watches answers start now whole met [] watch
+      → IsRun answers start now met whole whole None watch.stop watch.looks
+  ends now met watch w =
+      let due = w.due in
+      record {
+        asked = w.asked;
+        looked = w.looked;
+        in_time = subst (λ l. LooksInTime l whole w.asked) (append-none met)
+            (subst (LooksInTime (met ++ []) whole) (append-none w.asked)
+            (w.in_time [] (λ number is. let below = get-below (met ++ []) (steps_between * watch.looks) number is in
+            let size = length-append met [] in absurd (omega arith))));
+        count = w.count;
+        last = w.last;
+        goes = rw (w.within) refl;
+        found = refl;
+      }
+
+  -- a run that stopped goes up to the last answer
+  pub is-cut : (now : L) (numbers : List ℕ) (number : ℕ) (watch : Watch) (kept : List Finding)
+      → IsStopped answers start now whole numbers number watch → kept ≡ up_to watch.stop (found_before number whole)
+      → IsRun answers start now numbers whole kept watch.stop watch.stop watch.looks
+  is-cut now numbers number watch kept w found = record {
+    asked = w.asked;
+    looked = w.looked;
+    in_time = w.in_time;
+    count = w.count;
+    last = w.last;
+    goes = rw (w.any) refl;
+    found = found ∙ up-to-before watch.stop number whole w.past;
+  }

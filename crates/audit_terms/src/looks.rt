@@ -1,0 +1,97 @@
+//! When a run looks for the stop of its connection.
+
+ghost use Rattle.std.specs.Prelude.{◌≡◌, ℕ, ◌+◌, ◌-◌, ◌*◌, ◌≤◌, List, [], ◌∷◌, ◌++◌, Option};
+ghost use Rattle.std.specs.Bool.{OnTrue, OnFalse};
+ghost use Rattle.audit_terms.specs.declared.findings.Finding.{Finding as FindingTerm};
+ghost use Rattle.audit_terms.specs.Look.{is_past, steps_between, found_before};
+ghost use Rattle.audit_terms.specs.code.Watch.{Watches, IsStopped, NeverFallFrom};
+
+use crate::findings::Finding;
+use crate::places::Place;
+
+/// Tells a run where its connection stops, as far as is known by now.
+///
+/// An implementor states how its state before, what it is handed, its answer and its state after are related.
+pub trait Look {
+    ghost use Rattle.audit_terms.specs.declared.findings.Finding.{Finding};
+
+    ghost answers: { Self → List Finding → Option ℕ → Self → Type 0 };
+
+    /// The place of the least connection error that is known, if one is. `found` is what the run found so far.
+    fn look(&mut self, found: &[Finding]) -> Option<Place>
+        ensures { answers self.old found.now result self.new };
+}
+
+/// How many steps a run makes from one look to the next.
+const STEPS_BETWEEN: u32 = 256;
+
+/// A run that looks, between two of its steps: the last answer, how often it looked, and when it is to look again.
+#[derive(Clone, Copy)]
+pub struct Watch {
+    /// The last answer.
+    pub stop: Option<Place>,
+    /// How often the run looked.
+    pub looks: u32,
+    /// How many steps come before the next look.
+    pub left: u32,
+}
+
+impl Watch {
+    /// Looks before the first step.
+    pub fn begin<L: Look>(look: &mut L) -> Self
+        ensures { (whole : List FindingTerm) (numbers : List ℕ) → NeverFallFrom 0 numbers
+            → Watches L.answers look.old look.new whole [] numbers result }
+    {
+        Watch {
+            stop: look.look(&[]),
+            looks: 1,
+            left: STEPS_BETWEEN,
+        }
+    }
+
+    /// Does a step at a frame of this number lie past the last answer?
+    pub fn is_past(&self, number: u32) -> bool
+        ensures { result ≡ is_past self.now.stop number }
+    {
+        match &self.stop {
+            Some(place) => place.number() < number,
+            None => false,
+        }
+    }
+
+    /// Whether the run goes on to a step at a frame of this number, before which it looks if that is due. `found` is
+    /// what was found at the frames before.
+    pub fn goes_on<L: Look>(&mut self, look: &mut L, found: &[Finding], number: u32) -> bool
+        requires { (met : ℕ) × (met ≤ number) × (met + self.old.left ≡ steps_between * self.old.looks) }
+        ensures goes_on { OnTrue result ((start : L) (whole : List FindingTerm) (met left : List ℕ)
+            → found.now ≡ found_before number whole
+            → Watches L.answers start look.old whole met (number ∷ left) self.old
+            → Watches L.answers start look.new whole (met ++ number ∷ []) left self.new) }
+        ensures stops { OnFalse result ((start : L) (whole : List FindingTerm) (met left : List ℕ)
+            → found.now ≡ found_before number whole
+            → Watches L.answers start look.old whole met (number ∷ left) self.old
+            → IsStopped L.answers start look.new whole (met ++ number ∷ left) number self.new) }
+    {
+        if self.is_past(number) {
+            return false;
+        }
+        if self.left == 0 {
+            self.stop = look.look(found);
+            self.looks += 1;
+            self.left = STEPS_BETWEEN;
+            if self.is_past(number) {
+                return false;
+            }
+        }
+        self.left -= 1;
+        true
+    }
+
+    /// Passes over so many steps, at which nothing is found.
+    pub fn passes_over(&mut self, count: u32)
+        requires { count ≤ self.old.left }
+        ensures { self.new ≡ record self.old { left = self.old.left - count } }
+    {
+        self.left -= count;
+    }
+}
