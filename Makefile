@@ -1,5 +1,6 @@
 PREFIX ?= /usr/local
 ZSHDIR ?= $(PREFIX)/share/zsh/site-functions
+PACKAGES ?= out
 # How much the toolchain does at once: a check takes up to some 3 GB.
 RT_JOBS ?= $(shell nproc)
 PROGRAM = crates/h2audit_cli/out/h2audit_cli
@@ -52,11 +53,12 @@ install: $(PROGRAM)
 	install -D -m 644 -t $(DESTDIR)$(ZSHDIR) tools/completions/_h2audit
 	install -D -m 644 -t $(share)/fish/vendor_completions.d tools/completions/h2audit.fish tools/completions/h2audit-plot.fish
 
-# Builds a Debian package of what is installed, in out/.
+# Builds a Debian package of what is installed, in the folder PACKAGES.
 deb: $(PROGRAM)
-	@stage=$$(mktemp -d) && trap 'rm -r "$$stage"' EXIT && chmod 755 "$$stage" && mkdir -p out && \
-		$(MAKE) --no-print-directory install DESTDIR="$$stage" PREFIX=/usr ZSHDIR=/usr/share/zsh/vendor-completions > /dev/null && \
-		tools/package/build_deb.sh "$$stage" "$(CURDIR)/out"
+	@stage=$$(mktemp -d) && trap 'rm -r "$$stage"' EXIT && chmod 755 "$$stage" && mkdir -p $(PACKAGES) && \
+		$(MAKE) --no-print-directory install DESTDIR="$$stage" PREFIX=/usr \
+		ZSHDIR=/usr/share/zsh/vendor-completions > /dev/null && \
+		tools/package/build_deb.sh "$$stage" "$(abspath $(PACKAGES))"
 
 # The gate: proves every crate from nothing, tries the must-fail edits, runs the tests and the programs.
 test:
