@@ -1,11 +1,11 @@
 #!/usr/bin/python3
-"""Runs the commands of README.md and docs/*.md, and compares what they print with what stands there.
+"""Runs the commands of the documents, and compares what they print with what stands there. Looks for the files of links too.
 
     tools/tests/recipes_test.py [PROGRAM]
 
-A command is a block ```sh that a block ```text follows. It is run by bash at the top of the repository, once with each awk that
-is installed. The names h2audit and h2audit-plot are those of PROGRAM and of tools/. Without PROGRAM, h2audit is a stand-in that
-prints the stored reports of examples/.
+A command is a block ```sh that a block ```text follows. It is run by bash at the top of the repository, once with each awk
+that is installed. The names h2audit and h2audit-plot are those of PROGRAM and of tools/. Without PROGRAM, h2audit is a
+stand-in that prints the stored reports of examples/.
 """
 
 import os
@@ -18,13 +18,26 @@ import tempfile
 
 TOP = pathlib.Path(__file__).resolve().parents[2]
 PAIR = re.compile(r"^```sh\n(.*?)^```\n+```text\n(.*?)^```$", re.M | re.S)
+LINK = re.compile(r"\]\(([^)#:]+)(?:#[^)]*)?\)")
 AWKS = [awk for awk in ("mawk", "gawk", "original-awk") if shutil.which(awk)]
+
+
+def documents():
+    folders = [TOP, TOP / "docs", TOP / "bench", TOP / "crates" / "whole_reports" / "data" / "examples"]
+    return [document for folder in folders for document in sorted(folder.glob("*.md"))]
+
+
+def broken_links():
+    """The links of the documents that lead to no file."""
+    return [f"{document.relative_to(TOP)}: no file {link[1]}"
+            for document in documents() for link in LINK.finditer(document.read_text())
+            if not (document.parent / link[1]).exists()]
 
 
 def recipes():
     """Each command with its place and what it should print."""
-    for document in [TOP / "README.md", *sorted((TOP / "docs").glob("*.md")), TOP / "examples" / "README.md"]:
-        text = document.read_text() if document.exists() else ""
+    for document in documents():
+        text = document.read_text()
         for pair in PAIR.finditer(text):
             line = text.count("\n", 0, pair.start()) + 1
             yield f"{document.relative_to(TOP)}:{line}", pair[1], pair[2]
@@ -44,13 +57,16 @@ def printed(command, bin_of):
     path = f"{bin_of}:{os.environ['PATH']}"
     with tempfile.TemporaryDirectory() as folder:
         surroundings = {**os.environ, "PATH": path, "LC_ALL": "C.UTF-8", "TMPDIR": folder}
-        run = subprocess.run(["bash", "-c", command], cwd=TOP, env=surroundings, capture_output=True, text=True, timeout=60)
+        run = subprocess.run(
+            ["bash", "-c", command], cwd=TOP, env=surroundings, capture_output=True, text=True, timeout=60)
     return run.stdout + run.stderr
 
 
 def main(words):
     program = pathlib.Path(words[0]).resolve() if words else TOP / "tools" / "tests" / "h2audit_stand_in"
-    wrong, number = 0, 0
+    for line in broken_links():
+        print(line)
+    wrong, number = len(broken_links()), 0
     with tempfile.TemporaryDirectory() as folder:
         for awk in AWKS:
             bin_of = tools_folder(folder, program, awk)
@@ -62,7 +78,7 @@ def main(words):
                     print(f"{place}, {awk}: it is\n{found}and should be\n{wanted}")
     if not number:
         wrong = 1
-    print(f"{number} commands with {', '.join(AWKS)}: {wrong} wrong")
+    print(f"{number} runs of commands, with {', '.join(AWKS)}: {wrong} wrong")
     return 1 if wrong else 0
 
 
