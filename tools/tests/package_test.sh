@@ -1,8 +1,8 @@
 #!/usr/bin/env bash
 # Tests `make install` and `make deb`: package_test.sh PROGRAM
 #
-# The package is judged by lintian, and installed and removed under a folder that knows the machine's own packages: so dpkg
-# judges what it depends on, and nothing of the machine changes.
+# The package is judged by lintian, and installed and removed under a folder that knows the machine's own packages: so
+# dpkg judges what it depends on, and nothing of the machine changes.
 set -euo pipefail
 cd "$(dirname "$0")/../.."
 

@@ -1,5 +1,5 @@
 #!/usr/bin/python3
-"""Runs the commands of the documents, and compares what they print with what stands there. Looks for the files of links too.
+"""Runs the commands of the documents, and compares what they print with what stands there. Follows links to files too.
 
     tools/tests/recipes_test.py [PROGRAM]
 

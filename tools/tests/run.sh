@@ -1,9 +1,9 @@
 #!/usr/bin/env bash
 # Tests what stands around the program: pictures, man pages, completions, recipes and the Debian package.
 #
-# It proves and builds nothing. Where the program is not built, or is older than its sources, the recipes read the stored reports
-# of examples/, and install and package have another program in its place. As root it installs the Debian packages that it
-# needs and that are missing.
+# It proves and builds nothing. Where the program is not built, or is older than its sources, the recipes read the stored
+# reports of examples/, and install and package have another program in its place. As root it installs the Debian
+# packages that it needs and that are missing.
 set -euo pipefail
 cd "$(dirname "$0")/../.."
 
@@ -32,7 +32,7 @@ install_packages() {
     [[ $(id -u) -eq 0 ]] || fail "install these Debian packages first, or run it as root: ${packages[*]}"
     echo "installing ${packages[*]}"
     export DEBIAN_FRONTEND=noninteractive
-    local patience=(-o Acquire::Retries=1 -o Acquire::http::Timeout=20 -o Acquire::https::Timeout=20 -o DPkg::Lock::Timeout=60)
+    local patience=(-o Acquire::Retries=1 -o Acquire::http::Timeout=20 -o DPkg::Lock::Timeout=60)
     timeout 60 apt-get "${patience[@]}" update > "$work/apt" 2>&1 || true
     timeout 240 apt-get "${patience[@]}" -o Dpkg::Options::=--force-unsafe-io install -y --no-install-recommends \
         "${packages[@]}" < /dev/null >> "$work/apt" 2>&1 || {

@@ -1,7 +1,7 @@
 #!/usr/bin/python3
-"""Tests of the man pages and of the completions, each by its own program, and that all of them name the programs' options.
+"""Tests of the man pages and of the completions, each by its own program: all of them name the programs' options.
 
-The options of h2audit are those of its help text, which the tests of the gate pin; those of h2audit-plot are in its --help.
+The options of h2audit are those of its help text, which a test of the gate pins; those of h2audit-plot are in its --help.
 """
 
 import os
