@@ -22,7 +22,11 @@ PROGRAM = TOP / "tools" / "h2audit-plot"
 EXAMPLES = TOP / "examples"
 PICTURES = TOP / "docs" / "pictures"
 # What is drawn of each report, where it is not everything.
-CHOICES = {"leaked_connection_credit_nginx": ["--stream", "0"]}
+CHOICES = {
+    "leaked_connection_credit_nginx": ["--stream", "0"],
+    "negative_window_tomcat": ["--stream", "1"],
+    "stream_overrun_go": ["--by-frame"],
+}
 
 
 def loaded():

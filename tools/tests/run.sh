@@ -41,11 +41,11 @@ install_packages() {
     }
 }
 
-# Runs one test for at most two minutes; what it says is shown where it fails.
+# Runs one test for at most four minutes; what it says is shown where it fails.
 try() {
     local name=$1 start=$SECONDS
     shift
-    timeout 120 "$@" > "$work/said" 2>&1 < /dev/null || {
+    timeout 240 "$@" > "$work/said" 2>&1 < /dev/null || {
         cat "$work/said" >&2
         fail "$name: failed"
     }
