@@ -171,6 +171,7 @@ class BadInput(unittest.TestCase):
         self.refuses(good.split(b"\n", 1)[0] + b"\nframe 1 record 1 time 1 client stream-credit stream 1 value 1\n",
                      "line 2 is no line of a report")
         self.refuses(good[:-12], "line 17 is no line of a report")
+        self.refuses(good.replace(b"value 10000", b"value " + b"9" * 5000), "line 5 is no line of a report")
 
     def test_nothing_to_draw(self):
         report = str(EXAMPLES / "stream_overrun_go.frames.report")
@@ -187,7 +188,8 @@ class BadInput(unittest.TestCase):
         self.assertEqual(answer("/", "-o", missing), (4, "h2audit-plot: /: Is a directory\n"))
 
     def test_words(self):
-        for words in (["--connection", "0"], ["--stream", "-1"], ["--stream"], ["--format", "gif"], ["one", "two"]):
+        for words in (["--connection", "0"], ["--stream", "-1"], ["--stream"], ["--format", "gif"], ["one", "two"],
+                      ["--panels", "65"], ["--panels", "9" * 5000]):
             status, said = answer(*words)
             self.assertEqual((status, said.count("\n"), said.startswith("h2audit-plot: ")), (2, 1, True), words)
 
