@@ -1,11 +1,13 @@
 PREFIX ?= /usr/local
+ZSHDIR ?= $(PREFIX)/share/zsh/site-functions
+PACKAGES ?= out
 # How much the toolchain does at once: a check takes up to some 3 GB.
 RT_JOBS ?= $(shell nproc)
 PROGRAM = crates/h2audit_cli/out/h2audit_cli
 FIRST = examples/negative_window_tomcat.pcap examples/stream_overrun_go.pcap
 SOURCES := crates.txt $(shell find crates -name out -prune -o -name '*.rt' -print -o -name '*.antt' -print)
 
-.PHONY: run build install test bench believed
+.PHONY: run build install deb test test-tools bench believed pictures
 
 # Shows two reports at once, from a build without proof: of a connection with stalls and a window below zero, and of one with an
 # overrun, whose status of 1 is the program's answer.
@@ -40,13 +42,35 @@ proved-h2audit_cli:
 # The toolchain's own libraries come proved.
 proved-%: ;
 
-# Puts the program in place as h2audit.
+# Puts the program in place as h2audit, with h2audit-plot, man pages and completions.
+install: share = $(DESTDIR)$(PREFIX)/share
 install: $(PROGRAM)
 	install -D -m 755 $(PROGRAM) $(DESTDIR)$(PREFIX)/bin/h2audit
+	install -D -m 755 -t $(DESTDIR)$(PREFIX)/bin tools/h2audit-plot
+	install -D -m 644 -t $(share)/man/man1 tools/man/h2audit.1 tools/man/h2audit-plot.1
+	install -D -m 644 tools/completions/h2audit.bash $(share)/bash-completion/completions/h2audit
+	ln -sf h2audit $(share)/bash-completion/completions/h2audit-plot
+	install -D -m 644 -t $(DESTDIR)$(ZSHDIR) tools/completions/_h2audit
+	install -D -m 644 -t $(share)/fish/vendor_completions.d tools/completions/h2audit.fish tools/completions/h2audit-plot.fish
+
+# Builds a Debian package of what is installed, in the folder PACKAGES.
+deb: $(PROGRAM)
+	@stage=$$(mktemp -d) && trap 'rm -r "$$stage"' EXIT && chmod 755 "$$stage" && mkdir -p $(PACKAGES) && \
+		$(MAKE) --no-print-directory install DESTDIR="$$stage" PREFIX=/usr \
+		ZSHDIR=/usr/share/zsh/vendor-completions > /dev/null && \
+		tools/package/build_deb.sh "$$stage" "$(abspath $(PACKAGES))"
 
 # The gate: proves every crate from nothing, tries the must-fail edits, runs the tests and the programs.
 test:
 	RT_JOBS=$(RT_JOBS) rt ci
+
+# Tests what stands around the program: pictures, man pages, completions, recipes and package. It proves nothing.
+test-tools:
+	tools/tests/run.sh
+
+# Draws the pictures of docs/ anew.
+pictures:
+	tools/tests/plot_test.py --write
 
 # Measures time and memory on generated captures, beside cat.
 bench: $(PROGRAM)

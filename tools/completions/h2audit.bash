@@ -1,0 +1,42 @@
+# Completions of h2audit and h2audit-plot for bash.
+
+# The words that compgen finds with these arguments, one a line.
+_h2audit_offer() {
+    mapfile -t COMPREPLY < <(compgen "$@")
+}
+
+_h2audit() {
+    local word=${COMP_WORDS[COMP_CWORD]} before=${COMP_WORDS[COMP_CWORD - 1]}
+    # "--workers=4" is three words, since "=" is among the word breaks.
+    [[ $word == = ]] && word=
+    [[ $before == = ]] && before=${COMP_WORDS[COMP_CWORD - 2]}
+    case $before in
+    --workers) _h2audit_offer -W "$(echo {1..64})" -- "$word" ;;
+    --groups) _h2audit_offer -W '1 4 16 64 256 1024' -- "$word" ;;
+    --block) _h2audit_offer -W '1 64 1024 4096 16384 65536 1048576' -- "$word" ;;
+    *)
+        case $word in
+        -*) _h2audit_offer -W '--workers --groups --block --frames --help -h' -- "$word" ;;
+        *) _h2audit_offer -f -- "$word" ;;
+        esac
+        ;;
+    esac
+}
+
+_h2audit_plot() {
+    local word=${COMP_WORDS[COMP_CWORD]} before=${COMP_WORDS[COMP_CWORD - 1]}
+    local options='--output --format --connection --stream --panels --by-frame --help -o -h'
+    case $before in
+    --format) _h2audit_offer -W 'svg png' -- "$word" ;;
+    --connection | --stream | --panels) COMPREPLY=() ;;
+    *)
+        case $word in
+        -*) _h2audit_offer -W "$options" -- "$word" ;;
+        *) _h2audit_offer -f -- "$word" ;;
+        esac
+        ;;
+    esac
+}
+
+complete -o filenames -F _h2audit h2audit
+complete -o filenames -F _h2audit_plot h2audit-plot

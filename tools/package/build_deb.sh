@@ -1,0 +1,46 @@
+#!/usr/bin/env bash
+# Builds a Debian package: build_deb.sh STAGE FOLDER
+#
+# STAGE has what `make install` put there with PREFIX=/usr. The package goes to FOLDER, and its name is printed. Its version is
+# the first of the changelog. The same files give the same package, byte for byte.
+set -euo pipefail
+cd "$(dirname "$0")"
+
+stage=$1
+folder=$2
+version=$(sed -n '1s/^h2audit (\(.*\)) .*/\1/p' changelog)
+architecture=$(dpkg --print-architecture)
+package=$folder/h2audit_${version}_$architecture.deb
+SOURCE_DATE_EPOCH=$(date -d "$(sed -n 's/^ -- .*>  //p' changelog)" +%s)
+export SOURCE_DATE_EPOCH
+
+# The newest version of the C library whose names the program asks for.
+libc_of() {
+    objdump -T "$1" 2>/dev/null | sed -n 's/.*GLIBC_\([0-9.]*\).*/\1/p' | sort -V | tail -n 1
+}
+
+# Documents, as Debian wants them: compressed, with licence and changelog.
+documents() {
+    local doc=$stage/usr/share/doc/h2audit
+    install -d "$doc"
+    { printf 'Licence of h2audit:\n\n'; cat ../../LICENSE; } > "$doc/copyright"
+    gzip -9n < changelog > "$doc/changelog.gz"
+    gzip -9nf "$stage"/usr/share/man/man1/*.1
+}
+
+control() {
+    local libc size
+    libc=$(libc_of "$stage/usr/bin/h2audit")
+    size=$(du -k -s --apparent-size "$stage/usr" | cut -f 1)
+    install -d "$stage/DEBIAN"
+    sed -e "s/@VERSION@/$version/" -e "s/@ARCHITECTURE@/$architecture/" -e "s/@SIZE@/$size/" \
+        -e "s/@LIBC@/${libc:+ (>= $libc)}/" control > "$stage/DEBIAN/control"
+    (cd "$stage" && find usr -type f -print0 | LC_ALL=C sort -z | xargs -0 md5sum > DEBIAN/md5sums)
+}
+
+strip --strip-unneeded --remove-section=.comment --remove-section=.note "$stage/usr/bin/h2audit"
+documents
+control
+find "$stage" -exec touch --no-dereference --date="@$SOURCE_DATE_EPOCH" {} +
+dpkg-deb --build --root-owner-group "$stage" "$package" > /dev/null
+echo "$package"

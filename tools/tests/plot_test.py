@@ -1,0 +1,211 @@
+#!/usr/bin/python3
+"""Tests of h2audit-plot over all reports with credit lines in examples/, over the pictures in docs/, and on bad input.
+
+    tools/tests/plot_test.py            runs the tests
+    tools/tests/plot_test.py --write    draws the pictures of docs/ anew
+"""
+
+import contextlib
+import importlib.machinery
+import importlib.util
+import io
+import pathlib
+import re
+import subprocess
+import sys
+import tempfile
+import unittest
+import xml.etree.ElementTree as xml
+
+TOP = pathlib.Path(__file__).resolve().parents[2]
+PROGRAM = TOP / "tools" / "h2audit-plot"
+EXAMPLES = TOP / "examples"
+PICTURES = TOP / "docs" / "pictures"
+# What is drawn of each report, where it is not everything.
+CHOICES = {
+    "leaked_connection_credit_nginx": ["--stream", "0"],
+    "negative_window_tomcat": ["--stream", "1"],
+    "stream_overrun_go": ["--by-frame"],
+}
+
+
+def loaded():
+    sys.dont_write_bytecode = True
+    loader = importlib.machinery.SourceFileLoader("h2audit_plot", str(PROGRAM))
+    module = importlib.util.module_from_spec(importlib.util.spec_from_loader(loader.name, loader))
+    sys.modules[loader.name] = module
+    loader.exec_module(module)
+    return module
+
+
+plot = loaded()
+
+
+def answer(*words):
+    """The status of a run and its line on standard error."""
+    said = io.StringIO()
+    with contextlib.redirect_stderr(said):
+        try:
+            status = plot.main(list(words))
+        except SystemExit as ended:
+            status = ended.code
+    return status, said.getvalue()
+
+
+def reports():
+    return sorted(EXAMPLES.glob("*.frames.report"))
+
+
+def name_of(report):
+    return report.name.removesuffix(".frames.report")
+
+
+def draw(report, output, *choices):
+    status, said = answer(str(report), "--output", str(output), *choices)
+    assert (status, said) == (0, ""), (report, status, said)
+
+
+class Examples(unittest.TestCase):
+    """Each report is read whole, and each of its windows, stalls and faults is in the picture."""
+
+    def test_each_report(self):
+        self.assertTrue(reports())
+        with tempfile.TemporaryDirectory() as folder:
+            for report in reports():
+                with self.subTest(report.name):
+                    draw(report, pathlib.Path(folder, "picture.svg"))
+                    self.judge(report.read_text(), pathlib.Path(folder, "picture.svg").read_text())
+
+    def judge(self, report, picture):
+        xml.fromstring(picture)
+        windows = set(re.findall(r"(client|server) \w+-credit stream (\d+)", report))
+        for side, stream in windows if len(windows) <= 8 else []:
+            self.assertIn(f'id="credit-1-{side}-{stream}"', picture)
+        for side, stream in re.findall(r"^stall (client|server) stream (\d+)", report, re.M):
+            self.assertIn(f'id="stalls-1-{side}-{stream}"', picture)
+        for frame, kind in re.findall(r"^frame (\d+) record .* (\S*(?:over|after|not-|zero-)\S*) stream", report, re.M):
+            self.assertIn(f"frame {frame}: {kind} by the ", picture)
+
+    def test_png(self):
+        with tempfile.TemporaryDirectory() as folder:
+            draw(reports()[0], pathlib.Path(folder, "picture.PNG"))
+            self.assertEqual(pathlib.Path(folder, "picture.PNG").read_bytes()[:8], b"\x89PNG\r\n\x1a\n")
+
+    def test_stalls_are_those_of_the_report(self):
+        for report in reports():
+            text = report.read_text()
+            windows = [window for one in plot.connections_of(text) for window in plot.windows_of(one)]
+            drawn = sorted(
+                f"stall {window.side} stream {window.stream} from {begin.frame} "
+                + (f"to {end.frame} nanos {end.time - begin.time}" if end else "open")
+                for window in windows for begin, end in window.stalls)
+            self.assertEqual(drawn, sorted(re.findall(r"^stall .*", text, re.M)), report.name)
+
+    def test_who_broke_it(self):
+        with tempfile.TemporaryDirectory() as folder:
+            picture = pathlib.Path(folder, "picture.svg")
+            draw(EXAMPLES / "connection_overflow_nginx.frames.report", picture)
+            self.assertIn("frame 9: connection-overflow by the client", picture.read_text())
+            draw(EXAMPLES / "stream_overrun_go.frames.report", picture)
+            self.assertIn("frame 7: stream-overrun by the client", picture.read_text())
+
+
+class Pictures(unittest.TestCase):
+    """The pictures of docs/ are those of the reports."""
+
+    def test_pictures(self):
+        import matplotlib
+
+        self.assertTrue(list(PICTURES.glob("*.svg")))
+        for picture in PICTURES.glob("*.svg"):
+            text = picture.read_text()
+            if f"Matplotlib v{matplotlib.__version__}," not in text:
+                self.skipTest(f"{picture.name} was drawn by another matplotlib")
+            with tempfile.TemporaryDirectory() as folder:
+                again = pathlib.Path(folder, "again.svg")
+                draw(EXAMPLES / f"{picture.stem}.frames.report", again, *CHOICES.get(picture.stem, []))
+                self.assertTrue(text == again.read_text(), f"{picture.name} is old: tools/tests/plot_test.py --write")
+
+
+class Choices(unittest.TestCase):
+    """Options choose what is drawn."""
+
+    REPORT = EXAMPLES / "negative_window_tomcat.frames.report"
+
+    def windows(self, *words):
+        asked = plot.arguments([str(self.REPORT), *words])
+        drawn, left_out = plot.chosen(plot.connections_of(self.REPORT.read_text()), asked)
+        return [window.name for window in drawn], left_out
+
+    def test_windows(self):
+        self.assertEqual(self.windows(), (["server, connection", "server, stream 1", "server, stream 3"], 0))
+        self.assertEqual(self.windows("--connection", "1", "--stream", "3"), (["server, stream 3"], 0))
+        self.assertEqual(self.windows("--stream", "0"), (["server, connection"], 0))
+        self.assertEqual(self.windows("--panels", "1"), (["server, stream 1"], 2))
+
+    def test_standard_input_and_output(self):
+        for form, begin in (("svg", b"<?xml"), ("png", b"\x89PNG")):
+            with self.REPORT.open("rb") as report:
+                run = subprocess.run([PROGRAM, "--by-frame", "--format", form], stdin=report, capture_output=True)
+            self.assertEqual((run.returncode, run.stderr), (0, b""))
+            self.assertTrue(run.stdout.startswith(begin))
+
+
+class BadInput(unittest.TestCase):
+    """Each gives one line on standard error, and its status."""
+
+    def refuses(self, text, why):
+        with tempfile.NamedTemporaryFile() as file:
+            file.write(text)
+            file.flush()
+            self.assertEqual(answer(file.name, "-o", "/dev/null"), (3, f"h2audit-plot: report refused: {why}\n"))
+
+    def test_refused_reports(self):
+        good = (EXAMPLES / "stream_overrun_go.frames.report").read_bytes()
+        self.refuses(b"", "not a report of h2audit")
+        self.refuses(b"\xff\xfe", "not a report of h2audit")
+        self.refuses((EXAMPLES / "stream_overrun_go.pcap").read_bytes(), "not a report of h2audit")
+        self.refuses((EXAMPLES / "stream_overrun_go.report").read_bytes(),
+                     "the report has no credit lines: make it with h2audit --frames")
+        self.refuses(good.replace(b"nanos", b"nano"), "line 16 is no line of a report")
+        self.refuses(good.split(b"\n", 1)[0] + b"\nframe 1 record 1 time 1 client stream-credit stream 1 value 1\n",
+                     "line 2 is no line of a report")
+        self.refuses(good[:-12], "line 17 is no line of a report")
+        self.refuses(good.replace(b"value 10000", b"value " + b"9" * 5000), "line 5 is no line of a report")
+
+    def test_nothing_to_draw(self):
+        report = str(EXAMPLES / "stream_overrun_go.frames.report")
+        self.assertEqual(answer(report, "--connection", "2"),
+                         (3, "h2audit-plot: report refused: the report has no connection 2\n"))
+        self.assertEqual(answer(report, "--stream", "3"),
+                         (3, "h2audit-plot: report refused: the report tells no credit of stream 3\n"))
+
+    def test_files(self):
+        report = str(EXAMPLES / "stream_overrun_go.frames.report")
+        missing = "/nowhere/at all"
+        self.assertEqual(answer(missing), (4, f"h2audit-plot: {missing}: No such file or directory\n"))
+        self.assertEqual(answer(report, "-o", missing), (4, f"h2audit-plot: {missing}: No such file or directory\n"))
+        self.assertEqual(answer("/", "-o", missing), (4, "h2audit-plot: /: Is a directory\n"))
+
+    def test_words(self):
+        for words in (["--connection", "0"], ["--stream", "-1"], ["--stream"], ["--format", "gif"], ["one", "two"],
+                      ["--panels", "65"], ["--panels", "9" * 5000]):
+            status, said = answer(*words)
+            self.assertEqual((status, said.count("\n"), said.startswith("h2audit-plot: ")), (2, 1, True), words)
+
+    def test_closed_pipe(self):
+        report = EXAMPLES / "stream_stalls_nghttpd.frames.report"
+        run = subprocess.run(["bash", "-c", 'set -o pipefail; "$0" "$1" | true', PROGRAM, report], capture_output=True)
+        self.assertIn((run.returncode, run.stderr), [(0, b""), (4, b"h2audit-plot: input or output: Broken pipe\n")])
+
+
+def write_pictures():
+    for picture in PICTURES.glob("*.svg"):
+        draw(EXAMPLES / f"{picture.stem}.frames.report", picture, *CHOICES.get(picture.stem, []))
+
+
+if __name__ == "__main__":
+    if sys.argv[1:] == ["--write"]:
+        write_pictures()
+    else:
+        unittest.main()

@@ -1,0 +1,86 @@
+#!/usr/bin/python3
+"""Runs the commands of the documents, and compares what they print with what stands there. Follows links to files too.
+
+    tools/tests/recipes_test.py [PROGRAM]
+
+A command is a block ```sh that a block ```text follows. It is run by bash at the top of the repository, once with each awk
+that is installed. The names h2audit and h2audit-plot are those of PROGRAM and of tools/. Without PROGRAM, h2audit is a
+stand-in that prints the stored reports of examples/.
+"""
+
+import os
+import pathlib
+import re
+import shutil
+import subprocess
+import sys
+import tempfile
+
+TOP = pathlib.Path(__file__).resolve().parents[2]
+PAIR = re.compile(r"^```sh\n(.*?)^```\n+```text\n(.*?)^```$", re.M | re.S)
+LINK = re.compile(r"\]\(([^)#:]+)(?:#[^)]*)?\)")
+AWKS = [awk for awk in ("mawk", "gawk", "original-awk") if shutil.which(awk)]
+
+
+def documents():
+    folders = [TOP, TOP / "docs", TOP / "bench", TOP / "crates" / "whole_reports" / "data" / "examples"]
+    return [document for folder in folders for document in sorted(folder.glob("*.md"))]
+
+
+def broken_links():
+    """The links of the documents that lead to no file."""
+    return [f"{document.relative_to(TOP)}: no file {link[1]}"
+            for document in documents() for link in LINK.finditer(document.read_text())
+            if not (document.parent / link[1]).exists()]
+
+
+def recipes():
+    """Each command with its place and what it should print."""
+    for document in documents():
+        text = document.read_text()
+        for pair in PAIR.finditer(text):
+            line = text.count("\n", 0, pair.start()) + 1
+            yield f"{document.relative_to(TOP)}:{line}", pair[1], pair[2]
+
+
+def tools_folder(folder, program, awk):
+    """A folder that has the programs by their names."""
+    bin_of = pathlib.Path(folder, awk)
+    bin_of.mkdir()
+    (bin_of / "h2audit").symlink_to(program)
+    (bin_of / "h2audit-plot").symlink_to(TOP / "tools" / "h2audit-plot")
+    (bin_of / "awk").symlink_to(shutil.which(awk))
+    return bin_of
+
+
+def printed(command, bin_of):
+    path = f"{bin_of}:{os.environ['PATH']}"
+    with tempfile.TemporaryDirectory() as folder:
+        surroundings = {**os.environ, "PATH": path, "LC_ALL": "C.UTF-8", "TMPDIR": folder}
+        run = subprocess.run(
+            ["bash", "-c", command], cwd=TOP, env=surroundings, capture_output=True, text=True, timeout=60)
+    return run.stdout + run.stderr
+
+
+def main(words):
+    program = pathlib.Path(words[0]).resolve() if words else TOP / "tools" / "tests" / "h2audit_stand_in"
+    for line in broken_links():
+        print(line)
+    wrong, number = len(broken_links()), 0
+    with tempfile.TemporaryDirectory() as folder:
+        for awk in AWKS:
+            bin_of = tools_folder(folder, program, awk)
+            for place, command, wanted in recipes():
+                number += 1
+                found = printed(command, bin_of)
+                if found != wanted:
+                    wrong += 1
+                    print(f"{place}, {awk}: it is\n{found}and should be\n{wanted}")
+    if not number:
+        wrong = 1
+    print(f"{number} runs of commands, with {', '.join(AWKS)}: {wrong} wrong")
+    return 1 if wrong else 0
+
+
+if __name__ == "__main__":
+    sys.exit(main(sys.argv[1:]))

@@ -1,0 +1,70 @@
+#!/usr/bin/env bash
+# Tests what stands around the program: pictures, man pages, completions, recipes and the Debian package.
+#
+# It proves and builds nothing. Where the program is not built, or is older than its sources, the recipes read the stored
+# reports of examples/, and install and package have another program in its place. As root it installs the Debian
+# packages that it needs and that are missing.
+set -euo pipefail
+cd "$(dirname "$0")/../.."
+
+needed=(python3-matplotlib mandoc lintian zsh fish gawk mawk original-awk tshark binutils)
+built=crates/h2audit_cli/out/h2audit_cli
+work=$(mktemp -d)
+trap 'rm -r "$work"' EXIT
+
+fail() {
+    echo "test-tools: $1" >&2
+    exit 1
+}
+
+missing() {
+    local package
+    for package in "${needed[@]}"; do
+        dpkg-query -W -f '${Status}\n' "$package" 2> /dev/null | grep -qx 'install ok installed' || echo "$package"
+    done
+}
+
+# Where there is no network this fails within two minutes, and does not hang.
+install_packages() {
+    local packages
+    mapfile -t packages < <(missing)
+    [[ ${#packages[@]} -eq 0 ]] && return
+    [[ $(id -u) -eq 0 ]] || fail "install these Debian packages first, or run it as root: ${packages[*]}"
+    echo "installing ${packages[*]}"
+    export DEBIAN_FRONTEND=noninteractive
+    local patience=(-o Acquire::Retries=1 -o Acquire::http::Timeout=20 -o DPkg::Lock::Timeout=60)
+    timeout 60 apt-get "${patience[@]}" update > "$work/apt" 2>&1 || true
+    timeout 240 apt-get "${patience[@]}" -o Dpkg::Options::=--force-unsafe-io install -y --no-install-recommends \
+        "${packages[@]}" < /dev/null >> "$work/apt" 2>&1 || {
+        tail -n 5 "$work/apt" >&2
+        fail "these Debian packages are missing and could not be installed: ${packages[*]}"
+    }
+}
+
+# Runs one test for at most four minutes; what it says is shown where it fails.
+try() {
+    local name=$1 start=$SECONDS
+    shift
+    timeout 240 "$@" > "$work/said" 2>&1 < /dev/null || {
+        cat "$work/said" >&2
+        fail "$name: failed"
+    }
+    echo "$name: passed in $((SECONDS - start)) s"
+}
+
+install_packages
+if make -q "$built" > /dev/null 2>&1; then
+    echo "with the program that is built"
+    program=$built
+    audits=("$built")
+else
+    echo "without the program: /bin/true stands in for it in the package, and stored reports in the recipes"
+    program=$work/stand_in
+    cp /bin/true "$program"
+    audits=()
+fi
+try 'man pages and completions' tools/tests/words_test.py
+try 'recipes' tools/tests/recipes_test.py "${audits[@]}"
+try 'pictures' tools/tests/plot_test.py
+try 'install and package' tools/tests/package_test.sh "$program"
+echo 'test-tools: all passed'

@@ -1,0 +1,162 @@
+#!/usr/bin/python3
+"""Tests of the man pages and of the completions, each by its own program: all of them name the programs' options.
+
+The options of h2audit are those of its help text, which a test of the gate pins; those of h2audit-plot are in its --help.
+"""
+
+import os
+import pathlib
+import pty
+import re
+import subprocess
+import tempfile
+import time
+import unittest
+
+TOP = pathlib.Path(__file__).resolve().parents[2]
+MAN = TOP / "tools" / "man"
+COMPLETIONS = TOP / "tools" / "completions"
+HELP_OF_H2AUDIT = TOP / "crates" / "crate_tests" / "src" / "runs" / "words.rt"
+OPTION = re.compile(r"(?<![\w-])(--[a-z][a-z-]*)")
+
+
+def output_of(*words, **more):
+    return subprocess.run(words, check=True, capture_output=True, text=True, **more).stdout
+
+
+def options_of(name):
+    """The long options of a program's help."""
+    if name == "h2audit":
+        text = re.search(r'const HELP: &str = "(.*?)";', HELP_OF_H2AUDIT.read_text(), re.S)[1]
+    else:
+        text = output_of(TOP / "tools" / name, "--help").split("\noptions:\n")[1]
+    return sorted(set(OPTION.findall(text)))
+
+
+PROGRAMS = {name: options_of(name) for name in ("h2audit", "h2audit-plot")}
+
+
+class Man(unittest.TestCase):
+    def test_lint(self):
+        """mandoc finds nothing; whether other manuals are on this machine says nothing of ours."""
+        run = subprocess.run(["mandoc", "-Tlint", *MAN.glob("*.1")], capture_output=True, text=True)
+        self.assertEqual([line for line in run.stdout.splitlines() if "referenced manual not found" not in line], [])
+
+    def test_options(self):
+        for name, options in PROGRAMS.items():
+            tags = re.findall(r"^\.It (Fl .*)", (MAN / f"{name}.1").read_text(), re.M)
+            named = sorted("--" + word for tag in tags for word in re.findall(r"Fl \\-([a-z-]+)", tag))
+            self.assertEqual(named, options)
+
+
+class Bash(unittest.TestCase):
+    def offered(self, *words):
+        """What bash offers for the last word, after those before."""
+        script = """
+            source "$1"; shift
+            COMP_WORDS=("$@"); COMP_CWORD=$(($# - 1))
+            "$(complete -p "$1" | sed 's/.*-F \\([a-z0-9_]*\\) .*/\\1/')"
+            printf '%s\\n' "${COMPREPLY[@]}"
+        """
+        return output_of("bash", "-euc", script, "bash", COMPLETIONS / "h2audit.bash", *words, cwd=TOP).split("\n")[:-1]
+
+    def test_options(self):
+        for name, options in PROGRAMS.items():
+            self.assertEqual(sorted(self.offered(name, "--")), options)
+
+    def test_values(self):
+        self.assertEqual(self.offered("h2audit", "--workers", "6"), ["6", "60", "61", "62", "63", "64"])
+        self.assertEqual(self.offered("h2audit", "--workers", "=", "64"), ["64"])
+        self.assertEqual(len(self.offered("h2audit", "--workers", "=")), 64)
+        self.assertEqual(self.offered("h2audit", "--groups", "10"), ["1024"])
+        self.assertEqual(self.offered("h2audit", "--block", "10"), ["1024", "1048576"])
+        self.assertEqual(self.offered("h2audit-plot", "--format", ""), ["svg", "png"])
+        self.assertEqual(self.offered("h2audit", "--frames", "READ"), ["README.md"])
+
+
+class Fish(unittest.TestCase):
+    def offered(self, line):
+        name = line.split()[0]
+        script = f"source {COMPLETIONS}/{name}.fish; complete -C '{line}'"
+        with tempfile.TemporaryDirectory() as home:
+            said = output_of("fish", "--no-config", "-c", script, cwd=TOP, env={**os.environ, "HOME": home})
+        return [word.split("\t")[0] for word in said.splitlines()]
+
+    def test_options(self):
+        for name, options in PROGRAMS.items():
+            self.assertEqual(sorted(self.offered(f"{name} --")), options)
+
+    def test_values(self):
+        self.assertEqual(self.offered("h2audit --workers 6"), ["6", "60", "61", "62", "63", "64"])
+        self.assertEqual(self.offered("h2audit --groups=10"), ["--groups=1024"])
+        self.assertEqual(self.offered("h2audit --block 104"), ["1048576"])
+        self.assertEqual(sorted(self.offered("h2audit-plot --format ")), ["png", "svg"])
+        self.assertIn("README.md", self.offered("h2audit READ"))
+
+
+class Zsh(unittest.TestCase):
+    """zsh completes in a terminal of its own; a key shows what the line has become."""
+
+    SHOW, TAB = "\x18", "\t"
+
+    @classmethod
+    def setUpClass(cls):
+        cls.folder = tempfile.TemporaryDirectory()
+        cls.shown = pathlib.Path(cls.folder.name, "shown")
+        ready = pathlib.Path(cls.folder.name, "ready")
+        child, cls.terminal = pty.fork()
+        if child == 0:
+            os.chdir(TOP)
+            os.execvpe("zsh", ["zsh", "-f", "-i"], {**os.environ, "HOME": cls.folder.name, "TERM": "dumb"})
+        cls.type(f"fpath=({COMPLETIONS} $fpath); autoload -Uz compinit; compinit -u -D; setopt menu_complete\r")
+        cls.type("show() { print -r -- $BUFFER >> %s; BUFFER= }; zle -N show; bindkey '^X' show\r" % cls.shown)
+        cls.type(f"bindkey '^I' menu-complete; touch {ready}\r")
+        cls.until(ready.exists)
+
+    @classmethod
+    def tearDownClass(cls):
+        os.close(cls.terminal)
+        cls.folder.cleanup()
+
+    @classmethod
+    def type(cls, text):
+        os.write(cls.terminal, text.encode())
+
+    @classmethod
+    def until(cls, is_done):
+        """Waits at most 30 seconds, and reads what the terminal shows, so that zsh can go on writing."""
+        os.set_blocking(cls.terminal, False)
+        for _ in range(300):
+            try:
+                os.read(cls.terminal, 65536)
+            except BlockingIOError:
+                pass
+            if is_done():
+                return
+            time.sleep(0.1)
+        raise AssertionError("zsh does not answer")
+
+    def completed(self, line, tabs=1):
+        self.shown.unlink(missing_ok=True)
+        self.type(line + self.TAB * tabs + self.SHOW)
+        self.until(lambda: self.shown.exists() and self.shown.read_text().endswith("\n"))
+        return self.shown.read_text().rstrip("\n ")
+
+    def test_options(self):
+        """Each option is found from its beginning, and the whole list has no other."""
+        for name, options in PROGRAMS.items():
+            for option in options:
+                self.assertEqual(self.completed(f"{name} {option[:-1]}").rstrip("="), f"{name} {option}")
+            found = {self.completed(f"{name} --", tabs).rstrip("=") for tabs in range(1, len(options) + 2)}
+            self.assertEqual(sorted(word.split()[1] for word in found), options)
+
+    def test_values(self):
+        self.assertEqual(self.completed("h2audit --workers=6", 2), "h2audit --workers=60")
+        self.assertEqual(self.completed("h2audit --groups=10"), "h2audit --groups=1024")
+        self.assertEqual(self.completed("h2audit --block=104"), "h2audit --block=1048576")
+        self.assertEqual(self.completed("h2audit-plot --format=p"), "h2audit-plot --format=png")
+        self.assertEqual(self.completed("h2audit READ"), "h2audit README.md")
+
+
+if __name__ == "__main__":
+    unittest.main()
