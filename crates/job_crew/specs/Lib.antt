@@ -1,0 +1,4 @@
+pub mod Heeding
+pub mod Laid
+pub mod Crew
+pub mod Settling
