@@ -11,10 +11,12 @@
 #![tactic(auto)]
 
 mod crews;
+mod desk_looks;
 mod gate;
 mod parts;
 mod rounds;
 mod settling;
+mod workers;
 
 pub use crews::crew;
 pub use gate::{Gate, NoGate};
