@@ -1,0 +1,6 @@
+pub mod Stops
+pub mod Jobs
+pub mod Counting
+pub mod Draws
+pub mod Marked
+pub mod Closing

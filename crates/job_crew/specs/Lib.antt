@@ -1,0 +1,5 @@
+pub mod Heeding
+pub mod Laid
+pub mod Crew
+pub mod Settling
+pub mod code

@@ -1,0 +1,99 @@
+//! Workers on threads of their own, over one desk.
+
+ghost use Rattle.std.specs.Prelude.{◌≡◌, ◌+◌, ◌-◌, ◌*◌, ◌<◌, [], All, IfOk, length};
+ghost use Rattle.std.specs.Thread.{IsSend, IsSync};
+ghost use Rattle.stop_desk.specs.Desk.{pass_of, all_draws, IsConnection};
+ghost use Rattle.split_merge.specs.Board.{Job};
+ghost use Rattle.job_crew.specs.Crew.{IsDone};
+ghost use Rattle.job_crew.specs.code.Worked.{IsAllWorked};
+
+use crate::gate::Gate;
+use crate::parts::Part;
+use crate::rounds::Round;
+use crate::workers::{Shift, work};
+use std::alloc::{AllocError, Global};
+use std::thread::{Threads, join};
+use stop_desk::{Closed, Desk, Pass};
+
+/// Gives some of the workers of an unused pass a pass of their own.
+fn divide(desk: &Desk, pass: Pass, workers: u32, given: u32) -> (Pass, Pass)
+    requires fresh { pass ≡ pass_of desk.now.id (workers * (desk.now.jobs + 1)) [] [] [] }
+    requires some { 0 < given }
+    requires fewer { given < workers }
+    ensures kept { result.0 ≡ pass_of desk.now.id ((workers - given) * (desk.now.jobs + 1)) [] [] [] }
+    ensures given { result.1 ≡ pass_of desk.now.id (given * (desk.now.jobs + 1)) [] [] [] }
+{
+    pass.split(desk, u64::from(given) * (u64::from(desk.jobs()) + 1))
+}
+
+/// Has workers do all jobs, each half of them on a thread of its own.
+fn fork<R: Threads + Sync, G: Gate, P: Round>(
+    rt: &R,
+    alloc: Global,
+    workers: u32,
+    shift: &Shift<'_, G, P>,
+    pass: Pass,
+) -> Result<(Vec<Part<P::Made>>, Pass), AllocError>
+    requires some { 0 < workers }
+    requires fresh { pass ≡ pass_of shift.now.desk.now.id (workers * (shift.now.desk.now.jobs + 1)) [] [] [] }
+    ensures { IfOk result (λ r. IsAllWorked (P.makes shift.now.plan.now) (P.jobs shift.now.plan.now) shift.now.desk.now.id
+        shift.now.round (workers * (shift.now.desk.now.jobs + 1)) r.0.items r.1) }
+{
+    if workers == 1 {
+        return work(alloc, shift, pass);
+    }
+    let half = workers / 2;
+    let rest = workers - half;
+    let (kept, given) = divide(shift.desk, pass, workers, half);
+    let (one, other) = join(
+        rt,
+        || -> Result<(Vec<Part<P::Made>>, Pass), AllocError>
+            requires { IsSend P.Made.row × IsSync R.row × IsSync G.row × IsSync P.row × (0 < half)
+                × (given ≡ pass_of shift.now.desk.now.id (half * (shift.now.desk.now.jobs + 1)) [] [] []) }
+            ensures { IfOk result (λ r. IsAllWorked (P.makes shift.entry.now.plan.now) (P.jobs shift.entry.now.plan.now)
+                shift.entry.now.desk.now.id shift.entry.now.round (half * (shift.entry.now.desk.now.jobs + 1))
+                r.0.items r.1) }
+        { fork(rt, alloc, half, shift, given) },
+        || -> Result<(Vec<Part<P::Made>>, Pass), AllocError>
+            requires { IsSend P.Made.row × IsSync R.row × IsSync G.row × IsSync P.row × (0 < rest)
+                × (kept ≡ pass_of shift.now.desk.now.id (rest * (shift.now.desk.now.jobs + 1)) [] [] []) }
+            ensures { IfOk result (λ r. IsAllWorked (P.makes shift.entry.now.plan.now) (P.jobs shift.entry.now.plan.now)
+                shift.entry.now.desk.now.id shift.entry.now.round (rest * (shift.entry.now.desk.now.jobs + 1))
+                r.0.items r.1) }
+        { fork(rt, alloc, rest, shift, kept) },
+    );
+    let (mut parts, mine) = one?;
+    let (mut more, theirs) = other?;
+    parts.append(&mut more)?;
+    Ok((parts, mine.join(theirs, shift.desk)))
+}
+
+/// Has workers do all jobs of a round, and closes the desk. `Err` only where memory runs out.
+///
+/// Each worker passes the gate before each of its jobs.
+pub fn crew<R: Threads + Sync, G: Gate, P: Round>(
+    rt: &R,
+    alloc: Global,
+    workers: u32,
+    desk: Desk,
+    pass: Pass,
+    gate: &G,
+    round: u8,
+    plan: &P,
+) -> Result<(Vec<Part<P::Made>>, Closed), AllocError>
+    requires some { 0 < workers }
+    requires workers { desk.workers ≡ workers }
+    requires jobs { desk.jobs ≡ length (P.jobs plan.now) }
+    requires first { pass ≡ pass_of desk.id (all_draws desk) [] [] [] }
+    requires connections { All (λ (job : Job). IsConnection desk.id job.connection) (P.jobs plan.now) }
+    ensures { IfOk result (λ done. IsDone (P.makes plan.now) (P.jobs plan.now) desk.id round done.0.items done.1) }
+{
+    let shift = Shift {
+        desk: &desk,
+        gate,
+        round,
+        plan,
+    };
+    let (parts, last) = fork(rt, alloc, workers, &shift, pass)?;
+    Ok((parts, desk.close(last)))
+}
