@@ -1,8 +1,10 @@
-ghost use Rattle.std.specs.Prelude.{◌≡◌, ℕ, ◌+◌, ◌-◌, ◌^◌, ◌≤◌, nat_le, All, map, IfOk, OnOk};
+ghost use Rattle.std.specs.Prelude.{◌≡◌, ℕ, ◌+◌, ◌-◌, ◌*◌, ◌^◌, ◌≤◌, nat_le, List, [], ◌∷◌, ◌++◌, All, map, IfOk, OnOk};
+ghost use Rattle.std.specs.Bool.{OnTrue, OnFalse};
 ghost use Rattle.audit_terms.specs.declared.findings.Finding.{Finding as FindingTerm};
 ghost use Rattle.audit_terms.specs.declared.frames.Frame.{Frame as FrameTerm};
 ghost use Rattle.audit_terms.specs.Place.{place_number};
-ghost use Rattle.audit_terms.specs.Look.{IsRun, up_to};
+ghost use Rattle.audit_terms.specs.Look.{IsRun, up_to, found_before, steps_between};
+ghost use Rattle.audit_terms.specs.code.Watch.{Watches, IsStopped};
 ghost use Rattle.audit_terms.specs.Frame.{IsInRange};
 ghost use Rattle.audit_terms.specs.Connection.{connection_said, connection_after, block_run};
 ghost use Rattle.audit_terms.specs.Finding.{in_order, shown};
@@ -51,7 +53,7 @@ pub fn block_findings<L: Look>(
     let mut said = Vec::new(alloc);
     let mut watch = Watch::begin(look);
     for item in block.items() {
-        if !watch.goes_on(look, findings.as_slice(), item.frame.number) {
+        if !goes_on(&mut watch, look, findings.as_slice(), &item) {
             keep_up_to(&mut findings, &watch.stop);
             let upto = watch.stop;
             return Ok(BlockRun {
@@ -70,6 +72,21 @@ pub fn block_findings<L: Look>(
         last_look: watch.stop,
         looks: watch.looks,
     })
+}
+
+/// Whether the run goes on to an item, before which it looks if that is due. `found` is what the items before show.
+fn goes_on<L: Look>(watch: &mut Watch, look: &mut L, found: &[Finding], item: &Item) -> bool
+    requires { (met : ℕ) × (met ≤ item.now.frame.number) × (met + watch.old.left ≡ steps_between * watch.old.looks) }
+    ensures goes_on { OnTrue result ((start : L) (whole : List FindingTerm) (met left : List ℕ)
+        → found.now ≡ found_before item.now.frame.number whole
+        → Watches L.answers start look.old whole met (item.now.frame.number ∷ left) watch.old
+        → Watches L.answers start look.new whole (met ++ item.now.frame.number ∷ []) left watch.new) }
+    ensures stops { OnFalse result ((start : L) (whole : List FindingTerm) (met left : List ℕ)
+        → found.now ≡ found_before item.now.frame.number whole
+        → Watches L.answers start look.old whole met (item.now.frame.number ∷ left) watch.old
+        → IsStopped L.answers start look.new whole (met ++ item.now.frame.number ∷ left) item.now.frame.number watch.new) }
+{
+    watch.goes_on(look, found, item.frame.number)
 }
 
 /// Drops what lies past a place, where there is one.
