@@ -1,5 +1,5 @@
 -- The run of a block, item by item.
-use Rattle.std.proofs.Common.{◌≡◌, ℕ, suc, ◌-◌, ◌*◌, ◌^◌, ◌+◌, ◌≤◌, Bool, true, false, cond, List, [], ◌∷◌, ◌++◌, append_assoc, sym, ap, ◌∙◌, refl, ℤ, arith}
+use Rattle.std.proofs.Common.{◌≡◌, ℕ, ◌^◌, ◌+◌, Bool, true, false, cond, List, [], ◌∷◌, ◌++◌, append_assoc, sym, ap, ◌∙◌, refl, arith}
 use Rattle.audit_terms.specs.declared.connections.ConnectionState.{ConnectionState}
 use Rattle.audit_terms.specs.declared.items.Item.{Item}
 use Rattle.audit_terms.specs.declared.findings.Finding.{Finding}
@@ -7,6 +7,7 @@ use Rattle.audit_terms.specs.Finding.{in_order, is_shown, shown}
 use Rattle.audit_terms.specs.Connection.{connection_said, connection_after, block_run}
 use Rattle.audit_terms.specs.code.Room.{HasRoom}
 use Rattle.conn_scan.specs.declared.block_items.Block.{Block}
+use Rattle.conn_scan.specs.Block.{BlockFits}
 use Rattle.conn_scan.specs.Items.{items_in, IsBlock}
 use Rattle.conn_scan.specs.code.Walk.{walked}
 use Rattle.conn_scan.specs.code.CreditLaws.{room-wider}
@@ -17,10 +18,17 @@ pub block_walked : (block : Block) → IsBlock block
 block_walked block h =
     walked-items_with 0 0 0 block.opened.now block.changes.now block.frames.now h.frames h.opened h.changes
 
--- the room that is left after one item more
-pub room_next : (left : ℕ) (x : ℤ) → suc left ≤ 2 ^ 28 → HasRoom (2 ^ 60 - 2 ^ 32 * suc left + 2 ^ 32) x
-    → HasRoom (2 ^ 60 - 2 ^ 32 * left) x
-room_next left x le h = room-wider _ _ x (omega arith) h
+-- the items that are left fit the connection after the first of them
+pub fits_next : (now next : ConnectionState) (item : Item) (rest : List Item) → BlockFits now (item ∷ rest)
+    → ((n : ℕ) → HasRoom n now.credit.client → HasRoom (n + 2 ^ 32) next.credit.client)
+    → ((n : ℕ) → HasRoom n now.credit.server → HasRoom (n + 2 ^ 32) next.credit.server) → BlockFits next rest
+fits_next now next item rest fits client server =
+    let number = fits.number in
+    record {
+      number = omega arith;
+      client = room-wider _ _ next.credit.client (omega arith) (client _ fits.client);
+      server = room-wider _ _ next.credit.server (omega arith) (server _ fits.server);
+    }
 
 shown-append : (credits : Bool) (a b : List Finding) → shown credits (a ++ b) ≡ shown credits a ++ shown credits b
 shown-append credits [] b = refl
@@ -32,13 +40,13 @@ shown-append credits (x ∷ a) b = step (is_shown credits x) (shown-append credi
   step false e = e
 
 -- what is shown of a block, one item further
-pub shown_next : (credits : Bool) (all : List Finding) (state next : ConnectionState) (item : Item) (rest : List Item)
+pub shown_next : (credits : Bool) (whole : List Finding) (state next : ConnectionState) (item : Item) (rest : List Item)
     (old new said : List Finding)
-    → shown credits all ≡ old ++ shown credits (block_run state (item ∷ rest))
+    → whole ≡ old ++ shown credits (block_run state (item ∷ rest))
     → next ≡ connection_after state item
     → said ≡ shown credits (in_order (connection_said state item)) → new ≡ old ++ said
-    → shown credits all ≡ new ++ shown credits (block_run next rest)
-shown_next credits all state next item rest old new said so_far after here added =
+    → whole ≡ new ++ shown credits (block_run next rest)
+shown_next credits whole state next item rest old new said so_far after here added =
     let later = block_run (connection_after state item) rest in
     so_far ∙ ap (λ l. old ++ l) (shown-append credits (in_order (connection_said state item)) later)
     ∙ ap (λ l. old ++ (l ++ shown credits later)) (sym here)

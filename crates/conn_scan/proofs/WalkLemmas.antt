@@ -1,11 +1,10 @@
 -- The forward walk gives the items of the definition.
 use Rattle.std.proofs.Common.{◌≡◌, ℕ, suc, ◌+◌, ◌<◌, ◌≤◌, ◌==◌, false, ◌&&◌, List, [], ◌∷◌, length, None, refl, sym, ap, ◌∙◌, ⊎_elim, arith}
-use Rattle.std.specs.List.{AllByRecursion, list_any, find}
+use Rattle.std.specs.List.{list_any, find}
 use Rattle.std.proofs.lemmas.Bool.{cases_lt, lt-ltb, le-ltb, eq-eqb, ne_eqb}
 use Rattle.audit_terms.specs.declared.frames.Frame.{Frame}
 use Rattle.audit_terms.specs.declared.items.Change.{Change}
-use Rattle.audit_terms.specs.declared.items.Item.{Item}
-use Rattle.audit_terms.specs.Frame.{is_headers, IsInRange, IsOrderlyFrom}
+use Rattle.audit_terms.specs.Frame.{is_headers, IsOrderlyFrom}
 use Rattle.settings_pair.specs.Changes.{AreOrderlyFrom}
 use Rattle.conn_scan.specs.Items.{item_with, items_with, NeverFallFrom}
 use Rattle.conn_scan.specs.code.Walk.{numbers_from, changes_from, is_first, first_change, item_at, walked}
@@ -123,14 +122,3 @@ pub length-walked : (opened : List ℕ) (changes : List Change) (frames : List F
 length-walked opened changes [] = refl
 length-walked opened changes (frame ∷ frames) =
     ap suc (length-walked (numbers_from frame.number opened) (changes_from frame.number changes) frames)
-
--- each frame of the walk is in range
-pub walked-ranges : (base : ℕ) (opened : List ℕ) (changes : List Change) (frames : List Frame)
-    → IsOrderlyFrom base frames
-    → AllByRecursion (λ (item : Item). IsInRange item.frame) (walked opened changes frames)
-walked-ranges base opened changes [] h = tt
-walked-ranges base opened changes (frame ∷ frames) h = (
-  h.1,
-  walked-ranges (frame.number + 1)
-      (numbers_from frame.number opened) (changes_from frame.number changes) frames h.2,
-)

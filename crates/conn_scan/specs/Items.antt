@@ -1,10 +1,11 @@
 -- The items of some frames: each frame with what the audit of the connection needs beside it.
-use Rattle.std.specs.Prelude.{ℕ, ◌==◌, ◌&&◌, ◌≤◌, Bool, Option, List, [], ◌∷◌, map}
+use Rattle.std.specs.Prelude.{ℕ, ◌==◌, ◌&&◌, Bool, Option, List, map}
 use Rattle.std.specs.List.{list_any, find}
 use Rattle.audit_terms.specs.declared.frames.Frame.{Frame}
 use Rattle.audit_terms.specs.declared.items.Change.{Change}
 use Rattle.audit_terms.specs.declared.items.Item.{Item}
 use Rattle.audit_terms.specs.Frame.{is_headers, IsOrderly}
+pub use Rattle.audit_terms.specs.code.Watch.{NeverFallFrom}
 use Rattle.settings_pair.specs.Changes.{AreOrderly}
 use Rattle.conn_scan.specs.declared.block_items.Block.{Block}
 
@@ -31,11 +32,6 @@ items_with opened changes frames = map (item_with opened changes) frames
 -- the items of a block
 abbrev pub items_in : Block → List Item
 items_in block = items_with block.opened.now block.changes.now block.frames.now
-
--- numbers that never fall, the first `low` or above
-abbrev pub NeverFallFrom : (low : ℕ) → List ℕ → Type 0
-NeverFallFrom low [] = Unit {0}
-NeverFallFrom low (number ∷ numbers) = (low ≤ number) × NeverFallFrom number numbers
 
 -- What a block holds: frames, opening numbers and changes, each in order of numbers.
 pub record IsBlock (block : Block) : Type 0 where

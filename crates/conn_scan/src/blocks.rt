@@ -1,4 +1,10 @@
-ghost use Rattle.std.specs.Prelude.{◌≡◌, ℕ, ◌+◌, ◌^◌, IfOk, OnOk};
+ghost use Rattle.std.specs.Prelude.{◌≡◌, ℕ, ◌+◌, ◌-◌, ◌*◌, ◌^◌, ◌≤◌, nat_le, List, [], ◌∷◌, ◌++◌, All, map, IfOk, OnOk};
+ghost use Rattle.std.specs.Bool.{OnTrue, OnFalse};
+ghost use Rattle.audit_terms.specs.declared.findings.Finding.{Finding as FindingTerm};
+ghost use Rattle.audit_terms.specs.declared.frames.Frame.{Frame as FrameTerm};
+ghost use Rattle.audit_terms.specs.Place.{place_number};
+ghost use Rattle.audit_terms.specs.Look.{IsRun, up_to, found_before, steps_between};
+ghost use Rattle.audit_terms.specs.code.Watch.{Watches, IsStopped};
 ghost use Rattle.audit_terms.specs.Frame.{IsInRange};
 ghost use Rattle.audit_terms.specs.Connection.{connection_said, connection_after, block_run};
 ghost use Rattle.audit_terms.specs.Finding.{in_order, shown};
@@ -7,38 +13,94 @@ ghost use Rattle.conn_scan.specs.Items.{items_in, IsBlock};
 ghost use Rattle.conn_scan.specs.Block.{BlockFits};
 
 use crate::block_items::Block;
-use audit_terms::{ConnectionState, Finding, Item, keep_shown, put_in_order};
+use audit_terms::{ConnectionState, Finding, Item, Look, Place, Watch, keep_shown, put_in_order};
 use std::alloc::{AllocError, Global};
 
-/// What a block of frames shows of its connection.
+/// What a block of frames shows of its connection, up to where the run stopped.
 #[derive(Drop)]
 pub struct BlockRun {
     /// In the order of the audit.
     pub findings: Vec<Finding>,
+    /// The last answer, where a frame of the block lies past it: what was found stands at or before this place.
+    pub upto: Option<Place>,
+    /// The last answer to a look.
+    pub last_look: Option<Place>,
+    /// How often the run looked.
+    pub looks: u32,
 }
 
-/// What a block of frames shows of its connection, from the state before it, with no stop: over-long frames, promises
-/// that are not allowed, openings out of order, and what becomes of both connection windows (RFC 9113, 4.2, 5.1.1, 6.9,
-/// 8.4). Credits are left out unless they are shown.
-pub fn block_findings(
+/// What a block of frames shows of its connection, from the state before it, up to where `look` says that the connection
+/// stops: over-long frames, promises that are not allowed, openings out of order, and what becomes of both connection
+/// windows (RFC 9113, 4.2, 5.1.1, 6.9, 8.4). Credits are left out unless they are shown.
+pub fn block_findings<L: Look>(
     alloc: Global,
     before: &ConnectionState,
     block: &Block,
     credits_shown: bool,
+    look: &mut L,
 ) -> Result<BlockRun, AllocError>
     requires block { IsBlock block.now }
     requires fits { BlockFits before.now (items_in block.now) }
-    ensures { IfOk result (λ run. run.findings.items
-        ≡ shown credits_shown (block_run before.now (items_in block.now))) }
+    ensures run { IfOk result (λ run. IsRun L.answers look.old look.new
+        (map (λ (frame : FrameTerm). frame.number) block.now.frames.now)
+        (shown credits_shown (block_run before.now (items_in block.now)))
+        run.findings.items run.upto run.last_look run.looks) }
+    ensures numbered { IfOk result (λ run.
+        All (λ (found : FindingTerm). place_number found.place ≤ 2 ^ 28 - 2) run.findings.items) }
 {
     let mut state = *before;
     let mut findings = Vec::new(alloc);
     let mut said = Vec::new(alloc);
+    let mut watch = Watch::begin(look);
     for item in block.items() {
+        if !goes_on(&mut watch, look, findings.as_slice(), &item) {
+            keep_up_to(&mut findings, &watch.stop);
+            let upto = watch.stop;
+            return Ok(BlockRun {
+                findings,
+                upto,
+                last_look: watch.stop,
+                looks: watch.looks,
+            });
+        }
         say_item(&mut said, &mut state, &item, credits_shown)?;
         findings.extend_from_slice(said.as_slice())?;
     }
-    Ok(BlockRun { findings })
+    Ok(BlockRun {
+        findings,
+        upto: None,
+        last_look: watch.stop,
+        looks: watch.looks,
+    })
+}
+
+/// Whether the run goes on to an item, before which it looks if that is due. `found` is what the items before show.
+fn goes_on<L: Look>(watch: &mut Watch, look: &mut L, found: &[Finding], item: &Item) -> bool
+    requires { (met : ℕ) × (met ≤ item.now.frame.number) × (met + watch.old.left ≡ steps_between * watch.old.looks) }
+    ensures goes_on { OnTrue result ((start : L) (whole : List FindingTerm) (met left : List ℕ)
+        → found.now ≡ found_before item.now.frame.number whole
+        → Watches L.answers start look.old whole met (item.now.frame.number ∷ left) watch.old
+        → Watches L.answers start look.new whole (met ++ item.now.frame.number ∷ []) left watch.new) }
+    ensures stops { OnFalse result ((start : L) (whole : List FindingTerm) (met left : List ℕ)
+        → found.now ≡ found_before item.now.frame.number whole
+        → Watches L.answers start look.old whole met (item.now.frame.number ∷ left) watch.old
+        → IsStopped L.answers start look.new whole (met ++ item.now.frame.number ∷ left) item.now.frame.number watch.new) }
+{
+    watch.goes_on(look, found, item.frame.number)
+}
+
+/// Drops what lies past a place, where there is one.
+fn keep_up_to(found: &mut Vec<Finding>, upto: &Option<Place>)
+    ensures { found.new.items ≡ up_to upto.now found.old.items }
+{
+    if let Some(last) = upto {
+        let last = *last;
+        found.retain(
+            |one| -> bool
+                ensures { result ≡ nat_le one.now.place last }
+            { one.place <= last },
+        );
+    }
 }
 
 /// Makes of `said` what an item shows, in order, and brings the connection to its state after the item.

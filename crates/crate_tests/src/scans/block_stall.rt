@@ -3,6 +3,7 @@ ghost use Rattle.std.specs.Prelude.{◌≡◌, ℕ, ◌^◌, ◌-◌, ◌<◌, �
 ghost use Rattle.audit_terms.specs.Frame.{promised_in, IsInRange, IsOrderly};
 ghost use Rattle.audit_terms.specs.code.Room.{HasRoom};
 
+use super::test_look::TestLook;
 use audit_terms::{Body, Finding, Frame, Kind, Side, Sides};
 use conn_scan::{Block, ConnState, block_findings, items};
 use std::alloc::{AllocError, Global};
@@ -47,7 +48,7 @@ fn shown(alloc: Global, credit: i64, frames: &[Frame]) -> Result<Vec<Finding>, A
         opened: &[],
         changes: &[],
     };
-    Ok(block_findings(alloc, &before, &block, false)?.findings)
+    Ok(block_findings(alloc, &before, &block, false, &mut TestLook::of_none())?.findings)
 }
 
 #[test]

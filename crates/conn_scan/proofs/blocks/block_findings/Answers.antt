@@ -1,62 +1,60 @@
-use Rattle.std.proofs.Common.{◌≡◌, ◌^◌, ◌++◌, length, refl, sym, ap, ◌∙◌, arith}
-use Rattle.audit_terms.specs.Finding.{shown}
-use Rattle.audit_terms.specs.Connection.{block_run}
-use Rattle.block_scan.specs.code.Shown.{append_nil}
-use Rattle.conn_scan.specs.code.Walk.{walked}
+use Rattle.std.proofs.Common.{◌≡◌, ◌^◌, ◌∙◌, arith}
+use Rattle.conn_scan.specs.Items.{items_in}
 use Rattle.conn_scan.specs.code.CreditLaws.{room-wider}
-use Rattle.conn_scan.proofs.WalkLemmas.{walked-ranges}
-use Rattle.conn_scan.proofs.BlockLemmas.{block_walked, room_next, shown_next}
+use Rattle.conn_scan.specs.code.Walk.{walked}
+use Rattle.conn_scan.proofs.BlockLemmas.{block_walked, fits_next}
+use Rattle.conn_scan.proofs.Halfway.{begins, is-due, goes, stops, stops-numbered, is-whole, whole-numbered}
 use Rattle.conn_scan.proofs.blocks.block_findings.Goals as goal
 
 pub loop-item-init : goal.loop-item-init
-loop-item-init c =
-    let block = c.args.block.now in
+loop-item-init g c =
     let walk = c.into_iter-item-iterator.result in
-    let all : walked walk.opened.now walk.changes.now walk.frames.now
-    ≡ walked block.opened.now block.changes.now block.frames.now =
-    rw c.into_iter-item-iterator.ensures.into_iter_gives c.items-item-items.ensures in
-    let is = block_walked block c.requires.block in
-    record {
-      number = rw (all, is) c.requires.fits.number;
-      ranges = rw all
-          (walked-ranges 0 block.opened.now block.changes.now block.frames.now c.requires.block.frames);
-      said = rw (all, c.new-findings.ensures.items) refl;
-      client = rw (all, is) c.requires.fits.client;
-      server = rw (all, is) c.requires.fits.server;
-    }
+    let all : walked walk.opened.now walk.changes.now walk.frames.now ≡ items_in c.args.block.now =
+    rw c.into_iter-item-iterator.ensures.into_iter_gives
+    (c.items-item-items.ensures ∙ block_walked c.args.block.now c.requires.block) in
+    rw (all, c.new-findings.ensures.items) (record {
+      fits = c.requires.fits;
+      halfway = begins g.L.Look.answers c.args.look.now c.args.credits_shown c.args.block.now c.begin-watch.new.look
+          c.args.before.now c.begin-watch.result c.requires.block c.begin-watch.ensures;
+    })
+
+pub goes_on-requires : goal.goes_on-requires
+goes_on-requires g c = is-due _ _ _ _ _ _ _ _ _ _ _ (rw c.in-Some.ensures.steps at c.loop-item.invariant.halfway)
+
+pub returns-then-not-goes_on-clause-run : goal.returns-then-not-goes_on-clause-run
+returns-then-not-goes_on-clause-run g c =
+    stops _ _ _ _ _ _ _ _ _ _ _ (rw c.in-Some.ensures.steps at c.loop-item.invariant.halfway)
+    c.goes_on.new.look c.keep_up_to.new.found.items c.goes_on.new.watch
+    (rw c.as_slice.ensures.value at c.if-not-goes_on.ensures.stops) c.keep_up_to.ensures
+
+pub returns-then-not-goes_on-clause-numbered : goal.returns-then-not-goes_on-clause-numbered
+returns-then-not-goes_on-clause-numbered g c =
+    stops-numbered _ _ _ _ _ _ _ _ _ _ _ (rw c.in-Some.ensures.steps at c.loop-item.invariant.halfway)
+    c.keep_up_to.new.found.items c.goes_on.new.watch.stop c.keep_up_to.ensures
+
+pub say_item-requires-clause-frame : goal.say_item-requires-clause-frame
+say_item-requires-clause-frame g c = (rw c.in-Some.ensures.steps at c.loop-item.invariant.halfway).orderly.1
 
 pub say_item-requires-clause-client : goal.say_item-requires-clause-client
-say_item-requires-clause-client c = room-wider _ (2 ^ 60) _ (omega arith) c.loop-item.invariant.client
+say_item-requires-clause-client g c = room-wider _ (2 ^ 60) _ (omega arith) c.loop-item.invariant.fits.client
 
 pub say_item-requires-clause-server : goal.say_item-requires-clause-server
-say_item-requires-clause-server c = room-wider _ (2 ^ 60) _ (omega arith) c.loop-item.invariant.server
+say_item-requires-clause-server g c = room-wider _ (2 ^ 60) _ (omega arith) c.loop-item.invariant.fits.server
 
 pub loop-item-preserved : goal.loop-item-preserved
-loop-item-preserved c =
-    let i = c.loop-item.invariant in
-    let walk = c.next.new.self in
-    let rest = walked walk.opened.now walk.changes.now walk.frames.now in
-    let steps = c.in-Some.ensures.steps in
+loop-item-preserved g c =
     let meets = c.in_ok-say_item.ensures in
-    let number = rw steps at i.number in
     record {
-      number = omega arith;
-      ranges = (rw steps at i.ranges).1;
-      said = shown_next c.args.credits_shown _ c.loop-item.state c.say_item.new.state c.in-Some.item rest
-          c.loop-item.findings.items c.extend_from_slice.new.self.items c.say_item.new.said.items (rw steps at i.said)
-          meets.after meets.said (rw c.as_slice.ensures.value at c.in_ok-extend_from_slice.ensures.items);
-      client = room_next (length rest) c.say_item.new.state.credit.client number
-          (meets.client _ (rw steps at i.client));
-      server = room_next (length rest) c.say_item.new.state.credit.server number
-          (meets.server _ (rw steps at i.server));
+      fits = fits_next _ _ _ _ (rw c.in-Some.ensures.steps at c.loop-item.invariant.fits) meets.client meets.server;
+      halfway = goes _ _ _ _ _ _ _ _ _ _ _ (rw c.in-Some.ensures.steps at c.loop-item.invariant.halfway)
+          c.goes_on.new.look c.say_item.new.state c.say_item.new.said.items c.extend_from_slice.new.self.items
+          c.goes_on.new.watch (rw c.as_slice.ensures.value at c.if-not-goes_on.ensures.goes_on) meets.after meets.said
+          (rw c.as_slice-in-loop-item.ensures.value at c.in_ok-extend_from_slice.ensures.items);
     }
 
-pub returns : goal.returns
-returns c =
-    let i = c.loop-item.invariant in
-    let credits = c.args.credits_shown in
-    let found = c.loop-item.findings.items in
-    sym (append_nil found)
-    ∙ ap (λ rest. found ++ shown credits (block_run c.loop-item.state rest)) (sym c.in-None.ensures.steps.0)
-    ∙ sym i.said
-    ∙ ap (λ all. shown credits (block_run c.args.before.now all)) (block_walked c.args.block.now c.requires.block)
+pub returns-clause-run : goal.returns-clause-run
+returns-clause-run g c = is-whole _ _ _ _ _ _ _ _ _ (rw c.in-None.ensures.steps.0 at c.loop-item.invariant.halfway)
+
+pub returns-clause-numbered : goal.returns-clause-numbered
+returns-clause-numbered g c =
+    whole-numbered _ _ _ _ _ _ _ _ _ (rw c.in-None.ensures.steps.0 at c.loop-item.invariant.halfway)

@@ -1,0 +1,159 @@
+-- A block's run between two items, and how it goes on.
+use Rattle.std.proofs.Common.{◌≡◌, ℕ, ◌+◌, ◌-◌, ◌*◌, ◌^◌, ◌≤◌, Bool, List, [], ◌∷◌, ◌++◌, append_assoc, length, map, All, Option, Some, None, refl, sym, ap, ◌∙◌, subst, arith, length-append}
+use Rattle.std.specs.List.{AllByRecursion}
+use Rattle.std.proofs.lemmas.List.Elements.{All-from_recursion}
+use Rattle.audit_terms.specs.declared.connections.ConnectionState.{ConnectionState}
+use Rattle.audit_terms.specs.declared.findings.Finding.{Finding}
+use Rattle.audit_terms.specs.declared.frames.Frame.{Frame}
+use Rattle.audit_terms.specs.declared.items.Change.{Change}
+use Rattle.audit_terms.specs.declared.items.Item.{Item}
+use Rattle.audit_terms.specs.declared.looks.Watch.{Watch}
+use Rattle.audit_terms.specs.Connection.{connection_said, connection_after, block_run}
+use Rattle.audit_terms.specs.Finding.{in_order, is_shown, shown}
+use Rattle.audit_terms.specs.Frame.{IsOrderlyFrom}
+use Rattle.audit_terms.specs.Look.{found_before, up_to, steps_between, IsRun}
+use Rattle.audit_terms.specs.Place.{place_number}
+use Rattle.audit_terms.specs.code.Watch.{Watches, IsStopped, NeverFallFrom}
+use Rattle.audit_terms.proofs.Watching.{ends, is-cut}
+use Rattle.block_scan.specs.code.Shown.{append_nil}
+use Rattle.conn_scan.specs.declared.block_items.Block.{Block}
+use Rattle.conn_scan.specs.Items.{items_with, items_in, IsBlock}
+use Rattle.conn_scan.proofs.BlockLemmas.{shown_next}
+use Rattle.conn_scan.proofs.FindingLists.{each-append, each-filter, each-weaker}
+use Rattle.conn_scan.proofs.FindingPlaces.{IsBelow, frames_of, item-from, block-from, before-front}
+
+abbrev pub numbers_of : List Frame → List ℕ
+numbers_of frames = map (λ (frame : Frame). frame.number) frames
+
+-- what was found so far stands below `low`, the frames that are left stand from it on, and what their items show from
+-- here is what is left of all
+pub record Halfway {L : Type 0} (answers : L → List Finding → Option ℕ → L → Type 0) (before now : L) (credits : Bool)
+    (numbers : List ℕ) (whole found : List Finding) (state : ConnectionState) (left : List Item) (watch : Watch) :
+    Type 0 where
+  pub met : List ℕ
+  pub low : ℕ
+  pub all : met ++ numbers_of (frames_of left) ≡ numbers
+  pub few : length met ≤ low
+  pub narrow : low ≤ 2 ^ 28 - 1
+  pub orderly : IsOrderlyFrom low (frames_of left)
+  pub said : whole ≡ found ++ shown credits (block_run state left)
+  pub below : AllByRecursion (IsBelow low) found
+  pub watches : Watches answers before now whole met (numbers_of (frames_of left)) watch
+
+frames_with : (opened : List ℕ) (changes : List Change) (frames : List Frame)
+    → frames_of (items_with opened changes frames) ≡ frames
+frames_with opened changes [] = refl
+frames_with opened changes (frame ∷ frames) = ap (λ rest. frame ∷ rest) (frames_with opened changes frames)
+
+never-fall : (start low : ℕ) (frames : List Frame) → start ≤ low → IsOrderlyFrom low frames
+    → NeverFallFrom start (numbers_of frames)
+never-fall start low [] le h = tt
+never-fall start low (frame ∷ frames) le h =
+    let first = h.0 in (omega arith, never-fall frame.number (frame.number + 1) frames (omega arith) h.2)
+
+numbered : (low : ℕ) (found : List Finding) → low ≤ 2 ^ 28 - 1 → AllByRecursion (IsBelow low) found
+    → All (λ (one : Finding). place_number one.place ≤ 2 ^ 28 - 2) found
+numbered low found narrow below =
+    All-from_recursion (λ (one : Finding). place_number one.place ≤ 2 ^ 28 - 2) found
+    (each-weaker (IsBelow low) (λ (one : Finding). place_number one.place ≤ 2 ^ 28 - 2) (λ one lt. omega arith) found below)
+
+-- the run of a whole block, before its first item
+pub begins : {L : Type 0} (answers : L → List Finding → Option ℕ → L → Type 0) (before : L) (credits : Bool)
+    (block : Block) (now : L) (state : ConnectionState) (watch : Watch) → IsBlock block
+    → ((whole : List Finding) (numbers : List ℕ) → NeverFallFrom 0 numbers
+    → Watches answers before now whole [] numbers watch)
+    → Halfway answers before now credits (numbers_of block.frames.now)
+    (shown credits (block_run state (items_in block))) [] state (items_in block) watch
+begins answers before credits block now state watch h begun =
+    let frames = frames_with block.opened.now block.changes.now block.frames.now in
+    record {
+      met = [];
+      low = 0;
+      all = ap numbers_of frames;
+      few = omega arith;
+      narrow = omega arith;
+      orderly = subst (IsOrderlyFrom 0) (sym frames) h.frames;
+      said = refl;
+      below = tt;
+      watches = begun (shown credits (block_run state (items_in block))) (numbers_of (frames_of (items_in block)))
+          (subst (λ all. NeverFallFrom 0 (numbers_of all)) (sym frames)
+          (never-fall 0 0 block.frames.now (omega arith) h.frames));
+    }
+
+module _ {L : Type 0} (answers : L → List Finding → Option ℕ → L → Type 0) (before : L) (credits : Bool)
+    (numbers : List ℕ) (whole : List Finding) where
+  module _ (now : L) (found : List Finding) (state : ConnectionState) (item : Item) (left : List Item) (watch : Watch)
+      (h : Halfway answers before now credits numbers whole found state (item ∷ left) watch) where
+    pub is-due : (met : ℕ) × (met ≤ item.frame.number) × (met + watch.left ≡ steps_between * watch.looks)
+    is-due =
+        let few = h.few in
+        let first = h.orderly.0 in
+        (length h.met, omega arith, h.watches.due)
+
+    pub is-found : found ≡ found_before item.frame.number whole
+    is-found =
+        sym (ap (found_before item.frame.number) h.said
+        ∙ before-front h.low item.frame.number found (shown credits (block_run state (item ∷ left))) h.orderly.0 h.below
+        (each-filter _ (is_shown credits) (block_run state (item ∷ left))
+        (block-from item.frame.number state (item ∷ left) (omega arith, h.orderly.1, h.orderly.2))))
+
+    pub goes : (after : L) (next : ConnectionState) (said new : List Finding) (then : Watch)
+        → ((start : L) (all : List Finding) (met rest : List ℕ) → found ≡ found_before item.frame.number all
+        → Watches answers start now all met (item.frame.number ∷ rest) watch
+        → Watches answers start after all (met ++ item.frame.number ∷ []) rest then)
+        → next ≡ connection_after state item → said ≡ shown credits (in_order (connection_said state item))
+        → new ≡ found ++ said
+        → Halfway answers before after credits numbers whole new next left then
+    goes after next said new then on later here added =
+        let few = h.few in
+        let first = h.orderly.0 in
+        let range = h.orderly.1.number in
+        let one = length-append h.met (item.frame.number ∷ []) in
+        record {
+          met = h.met ++ item.frame.number ∷ [];
+          low = item.frame.number + 1;
+          all = append_assoc h.met (item.frame.number ∷ []) (numbers_of (frames_of left)) ∙ h.all;
+          few = omega arith;
+          narrow = omega arith;
+          orderly = h.orderly.2;
+          said = shown_next credits whole state next item left found new said h.said later here added;
+          below = subst (AllByRecursion (IsBelow (item.frame.number + 1)))
+              (sym (added ∙ ap (λ l. found ++ l) here))
+              (each-append _ found (shown credits (in_order (connection_said state item)))
+              (each-weaker (IsBelow h.low) _ (λ x lt. omega arith) found h.below)
+              (each-filter _ (is_shown credits) (in_order (connection_said state item))
+              (item-from state item h.orderly.1)));
+          watches = on before whole h.met (numbers_of (frames_of left)) is-found h.watches;
+        }
+
+    pub stops : (after : L) (kept : List Finding) (then : Watch)
+        → ((start : L) (all : List Finding) (met rest : List ℕ) → found ≡ found_before item.frame.number all
+        → Watches answers start now all met (item.frame.number ∷ rest) watch
+        → IsStopped answers start after all (met ++ item.frame.number ∷ rest) item.frame.number then)
+        → kept ≡ up_to then.stop found
+        → IsRun answers before after numbers whole kept then.stop then.stop then.looks
+    stops after kept then on cut =
+        subst (λ at. IsRun answers before after at whole kept then.stop then.stop then.looks) h.all
+        (is-cut answers before whole after (h.met ++ item.frame.number ∷ numbers_of (frames_of left)) item.frame.number then
+        kept (on before whole h.met (numbers_of (frames_of left)) is-found h.watches)
+        (cut ∙ ap (up_to then.stop) is-found))
+
+    pub stops-numbered : (kept : List Finding) (stop : Option ℕ) → kept ≡ up_to stop found
+        → All (λ (one : Finding). place_number one.place ≤ 2 ^ 28 - 2) kept
+    stops-numbered kept stop cut = numbered h.low kept h.narrow (subst (AllByRecursion (IsBelow h.low)) (sym cut) (up stop))
+      where
+        up : (stop : Option ℕ) → AllByRecursion (IsBelow h.low) (up_to stop found)
+        up None = h.below
+        up (Some place) = each-filter (IsBelow h.low) _ found h.below
+
+  module _ (now : L) (found : List Finding) (state : ConnectionState) (watch : Watch)
+      (h : Halfway answers before now credits numbers whole found state [] watch) where
+    pub is-whole : IsRun answers before now numbers whole found None watch.stop watch.looks
+    is-whole =
+        let all = sym (h.said ∙ append_nil found) in
+        let met = sym (append_nil h.met) ∙ h.all in
+        rw all (subst (λ at. IsRun answers before now at whole whole None watch.stop watch.looks) met
+        (ends answers before whole now h.met watch h.watches))
+
+    pub whole-numbered : All (λ (one : Finding). place_number one.place ≤ 2 ^ 28 - 2) found
+    whole-numbered = numbered h.low found h.narrow h.below
