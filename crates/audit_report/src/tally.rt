@@ -4,7 +4,7 @@ ghost use Rattle.audit_report.specs.CaptureLine.{is_segment, is_snapped, is_not_
 use packet_heads::{Packet, Skip};
 
 /// How many packets there are of each kind.
-#[derive(Clone, Copy, Debug, Default, PartialEq, Eq)]
+#[derive(Clone, Copy)]
 pub struct Tally {
     pub segments: u64,
     pub snapped: u64,

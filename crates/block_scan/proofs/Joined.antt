@@ -2,8 +2,9 @@
 use Rattle.std.proofs.Common.{◌≡◌, ◌+◌, ◌<◌, ℕ, zero, suc, List, [], ◌∷◌, ◌++◌, map, length, get_or, take, drop, take-append-drop, Bor, refl, sym, ap, ◌∙◌, subst, arith}
 use Rattle.std.proofs.lemmas.List.{take_more}
 use Rattle.block_scan.specs.Laws.{SummaryLaws, summary_of}
-use Rattle.block_scan.specs.List.{items_of, state_after, states_before}
+use Rattle.block_scan.specs.List.{items_of, state_after, states_after, states_before}
 use Rattle.block_scan.specs.code.Carried.{carried}
+use Rattle.block_scan.proofs.Folds.{states_after-append}
 
 module _ {Sum Item State : Type 0} {empty : Sum} {of : Item → Sum} {join : Sum → Sum → Sum} {advance : State → Sum
     → State} {step : State → Item → State} {fits : State → List Item → Type 0}
@@ -47,6 +48,40 @@ module _ {Sum Item State : Type 0} {empty : Sum} {of : Item → Sum} {join : Sum
       let more : take (i + 1) items ≡ take i items ++ x ∷ [] = take_more items i x lt
       ∙ ap (λ y. take i items ++ y ∷ []) (sym read) in
       subst (fits s) more (taken_fit s items (i + 1) f)
+
+  -- one item more: its summary fits after those before it
+  pub next_alone : (s : State) (items : List Item) (i : ℕ) (x : Item) → fits s items → i < length items
+      → x ≡ get_or items i x → fits (state_after step s (take i items)) (x ∷ [])
+  next_alone s items i x f lt read =
+      laws.rest_fits s (take i items) (x ∷ []) (next_fits s items i x f lt read)
+
+  taken_more : (items : List Item) (i : ℕ) (x : Item) → i < length items → x ≡ get_or items i x
+      → take i items ++ x ∷ [] ≡ take (i + 1) items
+  taken_more items i x lt read =
+      ap (λ y. take i items ++ y ∷ []) read ∙ sym (take_more items i x lt)
+
+  -- the summary goes one item on
+  pub next_summary : (s : State) (items : List Item) (i : ℕ) (x : Item) → fits s items → i < length items
+      → x ≡ get_or items i x → (sum one next : Sum) → sum ≡ summary_of empty of join (take i items) → one ≡ of x
+      → next ≡ join sum one → next ≡ summary_of empty of join (take (i + 1) items)
+  next_summary s items i x f lt read sum one next sum_is one_is next_is =
+      let whole = summary_of empty of join in
+      let both = next_fits s items i x f lt read in
+      let alone = laws.one (state_after step s (take i items)) x (laws.rest_fits s (take i items) (x ∷ []) both) in
+      next_is ∙ ap (λ y. join y one) sum_is ∙ ap (join (whole (take i items))) (one_is ∙ sym alone)
+      ∙ sym (laws.appended s (take i items) (x ∷ []) both) ∙ ap whole (taken_more items i x lt read)
+
+  -- the states go one item on
+  pub next_states : (s : State) (items : List Item) (i : ℕ) (x : Item) → fits s items → i < length items
+      → x ≡ get_or items i x → (states more : List State) (last next : State) (one : Sum)
+      → states ≡ states_after step s (take i items) → last ≡ state_after step s (take i items) → one ≡ of x
+      → next ≡ advance last one → more ≡ states ++ next ∷ [] → more ≡ states_after step s (take (i + 1) items)
+  next_states s items i x f lt read states more last next one states_are last_is one_is next_is more_is =
+      let before = take i items in
+      let stepped = next_is ∙ ap (λ y. advance y one) last_is ∙ ap (advance (state_after step s before)) one_is
+      ∙ laws.advance_by_one (state_after step s before) x (next_alone s items i x f lt read) in
+      more_is ∙ ap (λ l. l ++ next ∷ []) states_are ∙ ap (λ y. states_after step s before ++ y ∷ []) stepped
+      ∙ sym (states_after-append step s before (x ∷ [])) ∙ ap (states_after step s) (taken_more items i x lt read)
 
   -- each block fits the state before it
   pub block_fits : (s : State) (blocks : List (Bor (List Item))) → fits s (items_of (map (λ b. b.now) blocks))

@@ -12,12 +12,7 @@ mod captures;
 #[cfg(test)]
 mod desks;
 #[cfg(test)]
-mod faults;
-#[cfg(test)]
-mod flows;
-pub mod frame_examples;
-#[cfg(test)]
-mod packets;
+mod frame_examples;
 #[cfg(test)]
 mod passes;
 #[cfg(test)]
@@ -26,6 +21,7 @@ mod reports;
 mod runs;
 #[cfg(test)]
 mod scans;
-pub mod stream_examples;
+#[cfg(test)]
+mod stream_examples;
 #[cfg(test)]
 mod streams;

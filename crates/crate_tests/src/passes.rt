@@ -1,5 +1,5 @@
 //! The plain pass over short scripts of frames, each compared as a whole with lines that were written by hand.
 
 mod lines;
-mod scripts;
+pub mod scripts;
 mod shown;

@@ -1,4 +1,3 @@
-//! The calls that answer a part of a report, and the words for all kinds of findings.
+//! The calls that answer a part of a report.
 
-mod kinds;
 mod lines;

@@ -1,3 +1,3 @@
-//! A connection's changes, and what one of its streams shows.
+//! What one stream of a connection shows.
 
 mod calls;

@@ -1,4 +1,4 @@
-ghost use Rattle.std.specs.Prelude.{◌≡◌, ◌+◌, ◌*◌, ◌<◌, ◌≤◌, ◌^◌, ℕ, List, ◌∷◌, length, Some, None, IfSome, IfNone};
+ghost use Rattle.std.specs.Prelude.{◌≡◌, ◌+◌, ◌-◌, ◌*◌, ◌<◌, ◌≤◌, ◌^◌, ℕ, List, ◌∷◌, length, Some, None, IfSome, IfNone};
 ghost use Rattle.tcp_streams.specs.Arrivals.{AreTimely, Rises};
 ghost use Rattle.audit_terms.specs.declared.frames.Frame.{Frame};
 ghost use Rattle.h2_frames.specs.CaptureOrder.{captured};
@@ -21,6 +21,15 @@ fn arrivals_from(arrivals: &[Arrival], offset: u64) -> &[Arrival]
         rest = later;
     }
     rest
+}
+
+/// The arrivals from the one on at which the last byte arrives of a frame of this offset and length.
+fn arrivals_of_frame(arrivals: &[Arrival], offset: u64, length: u64) -> &[Arrival]
+    requires some { 0 < length }
+    requires short { offset + length < 2 ^ 63 }
+    ensures { result.now ≡ arrivals_from (offset + length - 1) arrivals.now }
+{
+    arrivals_from(arrivals, offset + length - 1)
 }
 
 impl Spelled {
@@ -91,11 +100,11 @@ impl<'a> Unread<'a> {
         ensures weight { weight_after result self.new ≤ length self.old.bytes.now }
     {
         let (spelled, later) = first_frame(self.bytes)?;
-        let upto = self.offset + (HEADER_LENGTH as u64 + spelled.header.length as u64);
-        let to_come = arrivals_from(self.arrivals, upto - 1);
+        let length = HEADER_LENGTH as u64 + spelled.header.length as u64;
+        let to_come = arrivals_of_frame(self.arrivals, self.offset, length);
         let frame = spelled.captured(self.side, number, to_come[0]);
         self.bytes = later;
-        self.offset = upto;
+        self.offset += length;
         self.arrivals = to_come;
         Some(frame)
     }

@@ -22,7 +22,7 @@ pub enum LifeOutcome {
 }
 
 /// One stream, as far as its frames alone tell: its life, and which windows are live where no grant overflowed them.
-#[derive(Clone, Copy, Debug)]
+#[derive(Clone, Copy)]
 pub struct Life {
     stream: u32,
     life: StreamLife,

@@ -13,7 +13,7 @@ pub struct Arrival {
 }
 
 /// What one side of a connection sent, as far as the capture shows it without a hole.
-#[derive(Debug, Drop)]
+#[derive(Drop)]
 pub struct Flow {
     /// Is the side's initial sequence number known?
     pub started: bool,

@@ -24,7 +24,7 @@ use test_captures::{
 use thiserror::Error;
 
 /// Why a script gives no capture.
-#[derive(Clone, Copy, Debug, PartialEq, Eq, Error)]
+#[derive(Clone, Copy, Debug, Error)]
 pub enum ScriptError {
     #[error("is not understood")]
     NotUnderstood,

@@ -48,41 +48,6 @@ fn layout_of_a_record(rt: HostRuntime) -> Result<(), Fail> {
     Ok(())
 }
 
-// The ends of the records of the opening and of six frames after it.
-#[test]
-fn ends_of_records(rt: HostRuntime) -> Result<(), Fail> {
-    let alloc = rt.alloc();
-    assert_eq!(rt; Capture::handshake(alloc)?.as_slice().len(), 164);
-    let mut capture = Capture::opened(alloc)?;
-    assert_eq!(rt; capture.as_slice().len(), 504);
-    capture.client(headers(1))?;
-    assert_eq!(rt; capture.as_slice().len(), 583);
-    capture.client(data(1, 100))?;
-    assert_eq!(rt; capture.as_slice().len(), 762);
-    capture.server(settings(&[(4, 0)]))?;
-    assert_eq!(rt; capture.as_slice().len(), 847);
-    capture.client(settings_ack())?;
-    assert_eq!(rt; capture.as_slice().len(), 926);
-    capture.server(window_update(1, 100))?;
-    assert_eq!(rt; capture.as_slice().len(), 1009);
-    capture.server(window_update(1, 1))?;
-    assert_eq!(rt; capture.as_slice().len(), 1092);
-    assert_eq!(rt; capture.records(), 12);
-    Ok(())
-}
-
-// Each side's segments follow each other, and a snapped one counts whole.
-#[test]
-fn sequence_numbers(rt: HostRuntime) -> Result<(), Fail> {
-    let mut capture = Capture::opened(rt.alloc())?;
-    assert_eq!(rt; capture.client_next(), 1043);
-    assert_eq!(rt; capture.server_next(), 5019);
-    capture.snapped_client(data(1, 100), 59)?;
-    assert_eq!(rt; capture.client_next(), 1152);
-    assert_eq!(rt; capture.as_slice().len(), 504 + 16 + 54 + 59);
-    Ok(())
-}
-
 #[test]
 fn spelling_of_frames(rt: HostRuntime) -> Result<(), Fail> {
     let table: [(Frame, &[u8]); 12] = [

@@ -24,30 +24,30 @@ fn frame(side: Side, code: u8, flags: u8, stream: u32, length: u32, body: Body) 
     }
 }
 
-pub(super) fn headers(side: Side, stream: u32) -> Frame {
+pub fn headers(side: Side, stream: u32) -> Frame {
     frame(side, 1, END_HEADERS, stream, 0, Body::Headers)
 }
 
 /// DATA of some bytes.
-pub(super) fn data(side: Side, stream: u32, length: u32) -> Frame {
+pub fn data(side: Side, stream: u32, length: u32) -> Frame {
     frame(side, 0, 0, stream, length, Body::Content)
 }
 
 /// DATA with PADDED, whose length holds the padding.
-pub(super) fn padded_data(side: Side, stream: u32, length: u32) -> Frame {
+pub fn padded_data(side: Side, stream: u32, length: u32) -> Frame {
     frame(side, 0, PADDED, stream, length, Body::Content)
 }
 
 /// WINDOW_UPDATE.
-pub(super) fn update(side: Side, stream: u32, increment: u32) -> Frame {
+pub fn update(side: Side, stream: u32, increment: u32) -> Frame {
     frame(side, 8, 0, stream, 4, Body::WindowUpdate(increment))
 }
 
-pub(super) fn reset(side: Side, stream: u32) -> Frame {
+pub fn reset(side: Side, stream: u32) -> Frame {
     frame(side, 3, 0, stream, 4, Body::RstStream)
 }
 
-pub(super) fn promise(stream: u32, promised: u32) -> Frame {
+pub fn promise(stream: u32, promised: u32) -> Frame {
     frame(
         Side::Server,
         5,
@@ -59,7 +59,7 @@ pub(super) fn promise(stream: u32, promised: u32) -> Frame {
 }
 
 /// SETTINGS with an initial window, or with nothing.
-pub(super) fn settings(side: Side, initial: Option<u32>) -> Frame {
+pub fn settings(side: Side, initial: Option<u32>) -> Frame {
     let values = Settings {
         push: None,
         initial,
@@ -69,7 +69,7 @@ pub(super) fn settings(side: Side, initial: Option<u32>) -> Frame {
     frame(side, 4, 0, 0, 0, Body::Settings(values))
 }
 
-pub(super) fn acknowledgement(side: Side) -> Frame {
+pub fn acknowledgement(side: Side) -> Frame {
     frame(side, 4, 1, 0, 0, Body::SettingsAck)
 }
 
@@ -96,7 +96,7 @@ fn is_in_range(frame: &Frame) -> bool
 }
 
 /// Are the frames in range and their numbers rising?
-pub(super) fn are_orderly(frames: &[Frame]) -> bool
+pub fn are_orderly(frames: &[Frame]) -> bool
     ensures { result ≡ true → IsOrderly frames.now }
 {
     let mut low = 0;

@@ -42,6 +42,29 @@ fn writer(alloc: Global, step: usize) -> Slow {
     Slow::new(alloc, step, REPORT.len())
 }
 
+/// The calls that a reader and a writer got.
+fn calls_of(reader: &Pieces, writer: &Slow) -> Calls {
+    Calls {
+        reads: reader.reads,
+        reads_past_end: reader.reads_past_end,
+        writes: writer.writes,
+        short_offers: writer.short_offers,
+        flushes: writer.flushes,
+    }
+}
+
+/// What a run over this reader and this writer answers, and its account.
+fn answer_of(
+    rt: &(impl AllocGlobal + Sync + Threads),
+    reader: &mut Pieces,
+    writer: &mut Slow,
+) -> Result<(Result<Verdict, AuditFault>, Seen), Fail> {
+    let options = Options::of(4, 16, 4096, false).ok_or("range")?;
+    let mut seen = Seen::NOTHING;
+    let answer = run_seen(rt, rt.alloc(), &options, reader, writer, &NoGate, &mut seen);
+    Ok((answer, seen))
+}
+
 /// A run gives this answer and account, makes these calls, and writes the first `written` bytes of the report.
 fn expect(
     rt: &(impl Abort + AllocGlobal + Sync + Threads),
@@ -52,29 +75,11 @@ fn expect(
     expected: Calls,
     written: usize,
 ) -> Result<(), Fail> {
-    let options = Options::of(4, 16, 4096, false).ok_or("range")?;
-    let mut seen = Seen::NOTHING;
-    let given = run_seen(
-        rt,
-        rt.alloc(),
-        &options,
-        &mut reader,
-        &mut writer,
-        &NoGate,
-        &mut seen,
-    );
-    let made = Calls {
-        reads: reader.reads,
-        reads_past_end: reader.reads_past_end,
-        writes: writer.writes,
-        short_offers: writer.short_offers,
-        flushes: writer.flushes,
-    };
+    let (given, seen) = answer_of(rt, &mut reader, &mut writer)?;
+    let made = calls_of(&reader, &writer);
     assert_eq!(rt; (given, seen, made), (answer, account, expected));
-    assert_eq!(rt;
-        Some(writer.taken.as_slice()),
-        REPORT.as_bytes().get(..written)
-    );
+    let report = REPORT.as_bytes().get(..written).ok_or("written")?;
+    assert_eq!(rt; writer.taken.as_slice(), report);
     Ok(())
 }
 

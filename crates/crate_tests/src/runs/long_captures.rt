@@ -1,4 +1,5 @@
 //! Captures that are too long to be written out, with reports that a rule gives.
+ghost use Rattle.std.specs.Prelude.{◌<◌, ◌^◌};
 
 use h2audit::{NoGate, Options, audit, ending};
 use std::alloc::{AllocError, Global};
@@ -53,6 +54,20 @@ fn busy_stream(alloc: Global) -> Result<Capture, AllocError> {
     Ok(capture)
 }
 
+/// The lines of a DATA frame, which leaves this credit to its stream, and of the grant after it.
+fn push_round(text: &mut String, frame: u64, left: u64) -> Result<(), AllocError>
+    requires { frame < 2 ^ 32 }
+{
+    let (next, sent, granted) = (frame + 1, frame + 2, frame + 3);
+    write!(
+        text,
+        "frame {frame} record {sent} time {sent}000 client connection-credit stream 0 value 65135
+frame {frame} record {sent} time {sent}000 client stream-credit stream 1 value {left}
+frame {next} record {granted} time {granted}000 client connection-credit stream 0 value 65535
+"
+    )
+}
+
 /// Its report, with a credit line for each change.
 fn busy_report(alloc: Global) -> Result<String, AllocError> {
     let mut text = String::from_str(
@@ -67,20 +82,7 @@ frame 6 record 8 time 8000 client stream-credit stream 1 value 2065535
 ",
     )?;
     for i in 0..5000u64 {
-        let (frame, left) = (7 + 2 * i, 2_065_535 - 400 * (i + 1));
-        let at = format!(in alloc;
-            "frame {frame} record {} time {}000 client",
-            frame + 2,
-            frame + 2
-        )?;
-        write!(text, "{at} connection-credit stream 0 value 65135\n")?;
-        write!(text, "{at} stream-credit stream 1 value {left}\n")?;
-        let (next, record) = (frame + 1, frame + 3);
-        write!(
-            text,
-            "frame {next} record {record} time {record}000 client "
-        )?;
-        text.push_str("connection-credit stream 0 value 65535\n")?;
+        push_round(&mut text, 7 + 2 * i, 2_065_135 - 400 * i)?;
     }
     text.push_str("audit of all frames\n")?;
     Ok(text)
@@ -145,34 +147,57 @@ stall client stream 1 from 8 open
 audit of all frames
 ";
 
-// A prefix below a file header is refused. Every other has a report, and says whether a record was cut.
-#[test]
-fn each_prefix(rt: HostRuntime) -> Result<(), Fail> {
-    let mut capture = Capture::opened(rt.alloc())?;
+/// The capture of the negative window.
+fn negative_window(alloc: Global) -> Result<Capture, AllocError> {
+    let mut capture = Capture::opened(alloc)?;
     capture.client(headers(1))?;
     capture.client(data(1, 100))?;
     capture.server(settings(&[(4, 0)]))?;
     capture.client(settings_ack())?;
     capture.server(window_update(1, 100))?;
     capture.server(window_update(1, 1))?;
+    Ok(capture)
+}
+
+/// The status; whether there is no report, a record is cut, and the stall is open at the end.
+type Told = (u8, bool, bool, bool);
+
+/// What the answer tells.
+fn told(status: u8, text: &str) -> Told {
+    (
+        status,
+        text.is_empty(),
+        text.contains(" cut\n"),
+        text.ends_with(STALLED),
+    )
+}
+
+/// What a prefix of this length is to be told: one below a file header is refused. Every other has a report, and says
+/// whether a record was cut.
+fn wanted(length: usize) -> Told {
+    if length < 24 {
+        (3, true, false, false)
+    } else {
+        (
+            0,
+            false,
+            !WHOLE.contains(&length),
+            (926..1092).contains(&length),
+        )
+    }
+}
+
+#[test]
+fn each_prefix(rt: HostRuntime) -> Result<(), Fail> {
+    let capture = negative_window(rt.alloc())?;
     for length in 0..=1092 {
         let prefix = capture.as_slice().get(..length).ok_or("prefix")?;
         let (status, text) = report_of(&rt, rt.alloc(), (1, 1, 1), prefix, false)?;
-        let text = text.as_str();
-        let given = (
-            status,
-            text.is_empty(),
-            text.contains(" cut\n"),
-            text.ends_with(STALLED),
+        assert_eq!(rt;
+            told(status, text.as_str()),
+            wanted(length),
+            "length {length}"
         );
-        let refused = length < 24;
-        let wanted = (
-            if refused { 3 } else { 0 },
-            refused,
-            !refused && !WHOLE.contains(&length),
-            (926..1092).contains(&length),
-        );
-        assert_eq!(rt; given, wanted, "length {length}");
     }
     Ok(())
 }

@@ -1,44 +1,23 @@
 //! 65,535 bytes of credit are used up, 1 byte is granted, 1 byte is sent: what each block shows, for each block length.
-ghost use Rattle.std.specs.Prelude.{◌≡◌, ℕ, ◌^◌, ◌-◌, ◌<◌, ◌≤◌, length};
-ghost use Rattle.audit_terms.specs.Frame.{promised_in, IsInRange, IsOrderly};
-ghost use Rattle.audit_terms.specs.code.Room.{HasRoom};
+ghost use Rattle.std.specs.Prelude.{◌≤◌, length};
+ghost use Rattle.audit_terms.specs.Frame.{IsOrderly};
 
 use super::test_look::TestLook;
-use audit_terms::{Body, Finding, Frame, Kind, Side, Sides};
+use crate::passes::scripts::{are_orderly, data, headers, promise, update};
+use audit_terms::{Finding, Frame, Kind, Side, Sides};
 use conn_scan::{Block, ConnState, block_findings, items};
 use std::alloc::{AllocError, Global};
+use std::process::Abort;
 use std::test::Fail;
 
-fn frame(number: u32, side: Side, stream: u32, length: u32, body: Body) -> Frame
-    requires number { number < 2 ^ 28 - 1 }
-    requires stream { stream < 2 ^ 31 }
-    requires length { length < 2 ^ 24 }
-    requires promised { promised_in body < 2 ^ 31 }
-    ensures number { result.number ≡ number }
-    ensures range { IsInRange result }
-{
-    Frame {
-        number,
-        rec: number + 2,
-        stream,
-        length,
-        nanos: 0,
-        body,
-        side,
-        code: 0,
-        flags: 0,
-    }
-}
-
 /// What a block shows where the client has this much credit before it, without the credits.
-fn shown(alloc: Global, credit: i64, frames: &[Frame]) -> Result<Vec<Finding>, AllocError>
+fn shown(alloc: Global, credit: u16, frames: &[Frame]) -> Result<Vec<Finding>, AllocError>
     requires orderly { IsOrderly frames.now }
     requires few { length frames.now ≤ 3 }
-    requires room { HasRoom (2 ^ 59) credit }
 {
     let before = ConnState {
         credit: Sides {
-            client: credit,
+            client: i64::from(credit),
             server: 65_535,
         },
         ..ConnState::start()
@@ -51,50 +30,60 @@ fn shown(alloc: Global, credit: i64, frames: &[Frame]) -> Result<Vec<Finding>, A
     Ok(block_findings(alloc, &before, &block, false, &mut TestLook::of_none())?.findings)
 }
 
+/// A block of frames shows these findings, where the client has this much credit before it.
+fn assert_shown(
+    rt: &impl Abort,
+    alloc: Global,
+    credit: u16,
+    frames: &[Frame],
+    want: &[Finding],
+) -> Result<(), Fail> {
+    assert!(rt; are_orderly(frames) && frames.len() <= 3);
+    assert_eq!(rt; shown(alloc, credit, frames)?.as_slice(), want);
+    Ok(())
+}
+
+/// A frame with this number.
+fn numbered(number: u32, frame: Frame) -> Frame {
+    Frame { number, ..frame }
+}
+
 #[test]
 fn stall_ends_then_overrun(rt: HostRuntime) -> Result<(), Fail> {
-    let last = frame(9, Side::Client, 1, 16_383, Body::Content);
-    let grant = frame(10, Side::Server, 0, 4, Body::WindowUpdate(1));
-    let byte = frame(11, Side::Client, 1, 1, Body::Content);
-    let begin = Finding::at(Kind::ConnectionStallBegin, 9, 0, Side::Client, 0);
-    let end = Finding::at(Kind::ConnectionStallEnd, 10, 0, Side::Client, 1);
-    let again = Finding::at(Kind::ConnectionStallBegin, 11, 0, Side::Client, 0);
-    let alloc = rt.alloc();
+    let frames = [
+        numbered(9, data(Side::Client, 1, 16_383)),
+        numbered(10, update(Side::Server, 0, 1)),
+        numbered(11, data(Side::Client, 1, 1)),
+    ];
+    let findings = [
+        Finding::at(Kind::ConnectionStallBegin, 9, 0, Side::Client, 0),
+        Finding::at(Kind::ConnectionStallEnd, 10, 0, Side::Client, 1),
+        Finding::at(Kind::ConnectionStallBegin, 11, 0, Side::Client, 0),
+    ];
     // blocks of 1, 2 and 4096, each from the credit that those before it leave
-    assert_eq!(rt;
-        shown(alloc, 16_383, [last].as_slice())?.as_slice(),
-        [begin].as_slice()
-    );
-    assert_eq!(rt;
-        shown(alloc, 0, [grant].as_slice())?.as_slice(),
-        [end].as_slice()
-    );
-    assert_eq!(rt;
-        shown(alloc, 1, [byte].as_slice())?.as_slice(),
-        [again].as_slice()
-    );
-    assert_eq!(rt;
-        shown(alloc, 16_383, [last, grant].as_slice())?.as_slice(),
-        [begin, end].as_slice()
-    );
-    assert_eq!(rt;
-        shown(alloc, 16_383, [last, grant, byte].as_slice())?.as_slice(),
-        [begin, end, again].as_slice()
-    );
+    for (credit, from, upto) in [
+        (16_383, 0, 1),
+        (0, 1, 2),
+        (1, 2, 3),
+        (16_383, 0, 2),
+        (16_383, 0, 3),
+    ] {
+        let block = frames.get(from..upto).ok_or("range")?;
+        let want = findings.get(from..upto).ok_or("range")?;
+        assert_shown(&rt, rt.alloc(), credit, block, want)?;
+    }
     Ok(())
 }
 
 #[test]
 fn a_mark_counts_on_headers(rt: HostRuntime) -> Result<(), Fail> {
-    let opening = frame(5, Side::Client, 1, 0, Body::Headers);
-    let promise = frame(6, Side::Server, 1, 4, Body::PushPromise(2));
-    let list = items(
-        rt.alloc(),
-        [opening, promise].as_slice(),
-        [5, 6].as_slice(),
-        &[],
-    )?;
-    assert_eq!(rt; list[0].opens, true);
-    assert_eq!(rt; list[1].opens, false);
+    let frames = [
+        numbered(5, headers(Side::Client, 1)),
+        numbered(6, promise(1, 2)),
+    ];
+    assert!(rt; are_orderly(&frames));
+    let list = items(rt.alloc(), &frames, [5, 6].as_slice(), &[])?;
+    let opens: Vec<bool> = list.iter().map(|item| item.opens).collect(rt.alloc())?;
+    assert_eq!(rt; opens.as_slice(), [true, false].as_slice());
     Ok(())
 }

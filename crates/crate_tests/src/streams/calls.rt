@@ -1,8 +1,7 @@
 ghost use Rattle.std.specs.Prelude.{◌≡◌, ◌<◌};
 ghost use Rattle.audit_terms.specs.Frame.{IsInRange, promised_in};
 
-use audit_terms::{Body, Change, Finding, Frame, Kind, Settings, Side};
-use settings_pair::pair;
+use audit_terms::{Body, Change, Finding, Frame, Kind, Side};
 use std::test::Fail;
 use stream_credit::{Changes, StreamPart, stream_run};
 
@@ -39,30 +38,6 @@ fn change(number: u32, initial: u32) -> Change
         max_frame: None,
         push: None,
     }
-}
-
-#[test]
-fn oldest_settings_first(rt: HostRuntime) -> Result<(), Fail> {
-    let initial = Settings {
-        push: None,
-        initial: Some(5),
-        max_frame: None,
-        bad: None,
-    };
-    let frames = [
-        frame(1, Side::Server, 4, 0, Body::Settings(initial)),
-        frame(2, Side::Server, 4, 0, Body::SettingsAck),
-        frame(3, Side::Client, 4, 0, Body::SettingsAck),
-    ];
-    let pairs = pair(rt.alloc(), &frames)?;
-    assert_eq!(rt;
-        (pairs.changes.as_slice(), pairs.findings.as_slice()),
-        (
-            [change(3, 5)].as_slice(),
-            [Finding::at(Kind::UnmatchedAck, 2, 0, Side::Server, 0)].as_slice(),
-        )
-    );
-    Ok(())
 }
 
 #[test]

@@ -1,3 +1,0 @@
-//! The local faults of frames in several pieces, where what precedes a frame stands in an earlier piece.
-
-mod pieces;

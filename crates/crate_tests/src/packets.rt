@@ -1,3 +1,0 @@
-//! Records and packets: each call that takes memory once, and printed text.
-
-mod captures;
