@@ -15,7 +15,7 @@ use crate::ends::run_of;
 use crate::left::Left;
 use crate::parts::{StreamPart, StreamRun};
 use crate::walks::Walk;
-use audit_terms::{Look, Watch};
+use audit_terms::Look;
 use std::alloc::{AllocError, Global};
 
 /// Meets all frames of a part, and all changes of its connection, and answers whether it met them all.
@@ -68,8 +68,7 @@ pub fn stream_run<L: Look>(
     ensures numbered { IfOk result (λ run.
         All (λ (found : Finding). place_number found.place ≤ 2 ^ 28 - 2) run.findings.items) }
 {
-    let watch = Watch::begin(look);
-    let mut walk = Walk::idle(alloc, part.stream, credits_shown, watch);
+    let mut walk = Walk::idle(alloc, part.stream, credits_shown, look);
     let is_whole = meet_all(&mut walk, look, part, changes.left())?;
     Ok(run_of(walk, is_whole))
 }

@@ -2,9 +2,11 @@ ghost use Rattle.std.specs.Prelude.{◌≡◌, ℕ, ◌+◌, ◌-◌, ◌^◌, �
 ghost use Rattle.std.specs.Bool.{OnTrue, OnFalse};
 ghost use Rattle.audit_terms.specs.declared.frames.Frame.{Frame};
 ghost use Rattle.audit_terms.specs.declared.items.Step.{Step};
+ghost use Rattle.audit_terms.specs.declared.findings.Finding.{Finding as FindingTerm};
 ghost use Rattle.audit_terms.specs.InForce.{initial_in_force};
 ghost use Rattle.audit_terms.specs.Run.{change_step};
 ghost use Rattle.audit_terms.specs.Stream.{IsAcknowledged, idle_stream, initial_after};
+ghost use Rattle.audit_terms.specs.code.Watch.{Watches, NeverFallFrom};
 ghost use Rattle.stream_credit.specs.code.Left.{after_changes, IsInForce};
 ghost use Rattle.stream_credit.specs.code.Walk.{IsCounted, HasRoomAt, WholeRun, IsAt, IsAtChanges, IsSound, HasStopped};
 
@@ -32,15 +34,22 @@ pub(crate) struct Walk {
 }
 
 impl Walk {
-    /// A stream that no step has met.
-    pub(crate) fn idle(alloc: Global, stream: u32, credits_shown: bool, watch: Watch) -> Self
+    /// A stream that no step has met, after the first look.
+    pub(crate) fn idle<L: Look>(
+        alloc: Global,
+        stream: u32,
+        credits_shown: bool,
+        look: &mut L,
+    ) -> Self
         ensures stream { result.stream ≡ stream }
         ensures credits_shown { result.credits_shown ≡ credits_shown }
-        ensures watch { result.watch ≡ watch }
+        ensures watch { (whole : List FindingTerm) (numbers : List ℕ) → NeverFallFrom 0 numbers
+            → Watches L.answers look.old look.new whole [] numbers result.watch }
         ensures entry { result.entry ≡ idle_stream }
         ensures initial { result.initial ≡ initial_in_force.initial }
         ensures found { result.found.items ≡ [] }
     {
+        let watch = Watch::begin(look);
         Walk {
             stream,
             credits_shown,
