@@ -1,6 +1,7 @@
 ghost use Rattle.std.specs.Prelude.{◌≡◌, ◌<◌};
 ghost use Rattle.audit_terms.specs.Frame.{IsInRange, promised_in};
 
+use super::test_look::TestLook;
 use audit_terms::{Body, Change, Finding, Frame, Kind, Settings, Side};
 use settings_pair::pair;
 use std::test::Fail;
@@ -77,7 +78,8 @@ fn opens_at_zero(rt: HostRuntime) -> Result<(), Fail> {
     };
     let changes = [change(3, 0)];
     let changes = Changes::of(rt.alloc(), &changes)?;
-    let run = stream_run(rt.alloc(), &part, &changes, false)?;
+    let mut look = TestLook::of_none();
+    let run = stream_run(rt.alloc(), &part, &changes, false, &mut look)?;
     assert_eq!(rt;
         (run.opened_at, run.findings.as_slice()),
         (
