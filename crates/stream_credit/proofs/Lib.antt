@@ -1,3 +1,7 @@
 pub mod MergedLemmas
 pub mod LeftLemmas
+pub mod StrideLemmas
+pub mod SaidNumbers
 pub mod WalkLemmas
+pub mod FrameLemmas
+pub mod RunLemmas

@@ -1,3 +1,4 @@
+pub mod Looks
 pub mod Part
 pub mod RunExamples
 pub mod code

@@ -9,7 +9,11 @@ use Rattle.audit_terms.specs.declared.items.Change.{Change}
 use Rattle.audit_terms.specs.declared.findings.Finding.{Finding}
 use Rattle.audit_terms.specs.FrameType.{window_update_type}
 use Rattle.audit_terms.specs.Finding.{finding_at, shown}
+use Rattle.audit_terms.specs.Kind.{rank_of}
+use Rattle.audit_terms.specs.Place.{place_of}
+use Rattle.audit_terms.specs.Look.{found_before, up_to, upto_of}
 use Rattle.audit_terms.specs.Run.{frames_of, stream_run}
+use Rattle.stream_credit.specs.Looks.{step_numbers, opened_up_to}
 use Rattle.stream_credit.specs.Part.{frames_at}
 use Rattle.stream_life.specs.Script.{scripted, data_frame, headers_frame, reset_frame, promise_frame}
 
@@ -126,3 +130,32 @@ PromisedStall =
 -- the frames at the positions of a promised stream
 abbrev pub PartOfPromised : Type 0
 PartOfPromised = frames_at promised_script (1 ∷ 2 ∷ 3 ∷ 4 ∷ 5 ∷ 6 ∷ 7 ∷ 8 ∷ []) ≡ frames_of 2 promised_script
+
+-- the findings of `NegativeWindow` up to frame 9
+abbrev pub negative_found : List Finding
+negative_found =
+    opened_with 5 1 65535 65535 (
+    finding_at StreamCredit 6 1 Client (pos 65435)
+    ∷ finding_at StreamStallBegin 8 1 Client (pos 0 -ℤ pos 100) ∷ finding_at StreamCredit 8 1 Client (pos 0 -ℤ pos 100)
+    ∷ finding_at StreamCredit 9 1 Client (pos 0) ∷ [])
+
+-- a run hands its look what was found at frames before its next step; one that stopped keeps what lies at or before its
+-- last answer, of the answer's own frame too, and the opening only up to there
+abbrev pub KeptUpToStop : Type 0
+KeptUpToStop =
+    (found_before 8 negative_found
+    ≡ opened_with 5 1 65535 65535 (finding_at StreamCredit 6 1 Client (pos 65435) ∷ []))
+    × (up_to (Some (place_of 8 (rank_of StreamStallBegin) 1)) negative_found
+    ≡ opened_with 5 1 65535 65535 (
+    finding_at StreamCredit 6 1 Client (pos 65435) ∷ finding_at StreamStallBegin 8 1 Client (pos 0 -ℤ pos 100) ∷ []))
+    × (up_to None negative_found ≡ negative_found)
+    × (upto_of (5 ∷ 6 ∷ 8 ∷ 9 ∷ []) (Some (place_of 8 12 3)) ≡ Some (place_of 8 12 3))
+    × (upto_of (5 ∷ 6 ∷ 8 ∷ []) (Some (place_of 8 12 3)) ≡ None)
+    × (opened_up_to (Some (place_of 5 0 0)) (Some 5) ≡ Some 5)
+    × (opened_up_to (Some (place_of 4 26 7)) (Some 5) ≡ None)
+
+-- the steps of the frames and of the changes, a number that both have being one step
+abbrev pub StepNumbers : Type 0
+StepNumbers =
+    step_numbers (headers_frame 5 Client 1 ∷ sized_data 8 Client 1 100 ∷ []) (brings 3 Client 0 ∷ brings 8 Server 1 ∷ [])
+    ≡ 3 ∷ 5 ∷ 8 ∷ []

@@ -1,4 +1,4 @@
-use audit_terms::{Finding, Frame};
+use audit_terms::{Finding, Frame, Place};
 
 /// The frames that one stream meets: a list of frames, and their positions in it, in order.
 #[derive(Clone, Copy)]
@@ -14,8 +14,14 @@ pub struct StreamPart<'a> {
 /// What one stream shows.
 #[derive(Drop)]
 pub struct StreamRun {
-    /// Its findings, in order.
+    /// Its findings up to `upto`, in order.
     pub findings: Vec<Finding>,
-    /// The number of the frame that opens it.
+    /// The number of the frame that opens it, unless that frame lies past `upto`.
     pub opened_at: Option<u32>,
+    /// Where it stopped; `None` where it met all steps.
+    pub upto: Option<Place>,
+    /// The last answer of its look.
+    pub last_look: Option<Place>,
+    /// How often it looked.
+    pub looks: u32,
 }

@@ -1,41 +1,74 @@
-ghost use Rattle.std.specs.Prelude.{◌≡◌, IfOk};
+ghost use Rattle.std.specs.Prelude.{◌≡◌, ◌-◌, ◌^◌, ◌≤◌, All, IfOk};
+ghost use Rattle.std.specs.Bool.{OnTrue, OnFalse};
+ghost use Rattle.audit_terms.specs.declared.findings.Finding.{Finding};
+ghost use Rattle.audit_terms.specs.Place.{place_number};
 ghost use Rattle.audit_terms.specs.Finding.{shown};
+ghost use Rattle.audit_terms.specs.Look.{IsRun};
 ghost use Rattle.audit_terms.specs.Run.{stream_run, stream_at_end};
 ghost use Rattle.settings_pair.specs.Changes.{AreOrderly, AreAcknowledged};
+ghost use Rattle.stream_credit.specs.Looks.{step_numbers, opened_up_to};
 ghost use Rattle.stream_credit.specs.Part.{IsPart, part_frames};
+ghost use Rattle.stream_credit.specs.code.Walk.{WholeRun, IsSound, HasEnded, HasStopped};
 
 use crate::changes::Changes;
+use crate::ends::run_of;
+use crate::left::Left;
 use crate::parts::{StreamPart, StreamRun};
 use crate::walks::Walk;
+use audit_terms::Look;
 use std::alloc::{AllocError, Global};
+
+/// Meets all frames of a part, and all changes of its connection, and answers whether it met them all.
+fn meet_all<L: Look>(
+    walk: &mut Walk,
+    look: &mut L,
+    part: &StreamPart<'_>,
+    mut left: Left<'_>,
+) -> Result<bool, AllocError>
+    requires part { IsPart part.now }
+    requires sound { (run : WholeRun L) × IsSound L.answers run look.old walk.old left (part_frames part.now) }
+    ensures goes_on { IfOk result (λ goes_on. OnTrue goes_on ((run : WholeRun L)
+        → IsSound L.answers run look.old walk.old left.entry (part_frames part.now)
+        → HasEnded L.answers run look.new walk.new)) }
+    ensures stops { IfOk result (λ goes_on. OnFalse goes_on ((run : WholeRun L)
+        → IsSound L.answers run look.old walk.old left.entry (part_frames part.now)
+        → HasStopped L.answers run look.new walk.new)) }
+{
+    for position in part.positions {
+        if !walk.meet_frame(look, &mut left, &part.frames[*position as usize])? {
+            return Ok(false);
+        }
+    }
+    walk.meet_changes(look, left)
+}
 
 /// The findings of one stream, from its frames and all changes of its connection, and its opening.
 ///
 /// The kinds are `NotOpened`, `SettingOverflow`, `AfterEnd`, `StreamOverrun`, `ZeroStreamGrant`, `StreamOverflow`, the
-/// stalls of the stream's windows and, where credits are shown, `StreamCredit`. Nothing stops the run: what follows a
-/// connection error is there too. Credits, in bytes, stay below 2^60 in size.
-pub fn stream_run(
+/// stalls of the stream's windows and, where credits are shown, `StreamCredit`. The run looks where its connection
+/// stops before its first step and then before each 256th more; it stops before a step past the last answer, and leaves
+/// out what lies past it. Nothing else stops it: what follows a connection error of its own is there too. Credits, in
+/// bytes, stay below 2^60 in size.
+pub fn stream_run<L: Look>(
     alloc: Global,
     part: &StreamPart<'_>,
     changes: &Changes<'_>,
     credits_shown: bool,
+    look: &mut L,
 ) -> Result<StreamRun, AllocError>
     requires part { IsPart part.now }
     requires changes { AreOrderly changes.now }
     requires acknowledged { AreAcknowledged (part_frames part.now) changes.now }
-    ensures findings { IfOk result (λ run. run.findings.items
-        ≡ shown credits_shown (stream_run part.now.stream (part_frames part.now) changes.now)) }
-    ensures opened { IfOk result (λ run. run.opened_at
-        ≡ (stream_at_end part.now.stream (part_frames part.now) changes.now).life.opened) }
+    ensures run { IfOk result (λ run. IsRun L.answers look.old look.new
+        (step_numbers (part_frames part.now) changes.now)
+        (shown credits_shown (stream_run part.now.stream (part_frames part.now) changes.now))
+        run.findings.items run.upto run.last_look run.looks) }
+    ensures opened { IfOk result (λ run. run.opened_at ≡ opened_up_to run.upto
+        (stream_at_end part.now.stream (part_frames part.now) changes.now).life.opened) }
+    ensures numbered { IfOk result (λ run.
+        All (λ (found : Finding). place_number found.place ≤ 2 ^ 28 - 2) run.findings.items) }
 {
-    let mut walk = Walk::idle(alloc, part.stream, credits_shown);
-    let mut left = changes.left();
-    for position in part.positions {
-        walk.meet_frame(&mut left, &part.frames[*position as usize])?;
-    }
-    walk.meet_changes(left)?;
-    Ok(StreamRun {
-        findings: walk.found,
-        opened_at: walk.entry.life.opened,
-    })
+    let mut walk = Walk::idle(alloc, part.stream, credits_shown, look);
+    let is_whole = meet_all(&mut walk, look, part, changes.left())?;
+    Ok(run_of(walk, is_whole))
 }

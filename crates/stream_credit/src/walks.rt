@@ -1,17 +1,21 @@
-ghost use Rattle.std.specs.Prelude.{◌≡◌, ℕ, ◌+◌, ◌-◌, ◌^◌, ◌<◌, ◌≤◌, [], ◌∷◌, ◌++◌, ◌||◌, List, map, is_some, OnOk};
+ghost use Rattle.std.specs.Prelude.{◌≡◌, ℕ, ◌+◌, ◌-◌, ◌^◌, ◌<◌, ◌≤◌, [], ◌∷◌, ◌||◌, false, List, is_some, OnOk, IfOk};
+ghost use Rattle.std.specs.Bool.{OnTrue, OnFalse};
 ghost use Rattle.audit_terms.specs.declared.frames.Frame.{Frame};
 ghost use Rattle.audit_terms.specs.declared.items.Step.{Step};
+ghost use Rattle.audit_terms.specs.declared.findings.Finding.{Finding as FindingTerm};
 ghost use Rattle.audit_terms.specs.InForce.{initial_in_force};
 ghost use Rattle.audit_terms.specs.Run.{change_step};
 ghost use Rattle.audit_terms.specs.Stream.{IsAcknowledged, idle_stream, initial_after};
+ghost use Rattle.audit_terms.specs.code.Watch.{Watches, NeverFallFrom};
 ghost use Rattle.stream_credit.specs.code.Left.{after_changes, IsInForce};
-ghost use Rattle.stream_credit.specs.code.Merged.{merged};
-ghost use Rattle.stream_credit.specs.code.Walk.{Continues, HasRoomAt, HasRoomBefore, IsSound};
+ghost use Rattle.stream_credit.specs.code.Walk.{IsCounted, HasRoomAt, WholeRun, IsAt, IsAtChanges, IsSound, HasStopped};
 
 use crate::changes::FIRST_WINDOWS;
 use crate::left::Left;
+use crate::strides::pass_over;
 use audit_terms::{
-    Change, Finding, Frame, Sides, Step, Stream, initial_after, keep_shown, put_in_order,
+    Change, Finding, Frame, Look, Sides, Step, Stream, Watch, initial_after, keep_shown,
+    put_in_order,
 };
 use std::alloc::{AllocError, Global};
 
@@ -20,6 +24,7 @@ use std::alloc::{AllocError, Global};
 pub(crate) struct Walk {
     stream: u32,
     credits_shown: bool,
+    pub(crate) watch: Watch,
     pub(crate) entry: Stream,
     /// The initial windows in force.
     initial: Sides<u32>,
@@ -29,17 +34,26 @@ pub(crate) struct Walk {
 }
 
 impl Walk {
-    /// A stream that no step has met.
-    pub(crate) fn idle(alloc: Global, stream: u32, credits_shown: bool) -> Self
+    /// A stream that no step has met, after the first look.
+    pub(crate) fn idle<L: Look>(
+        alloc: Global,
+        stream: u32,
+        credits_shown: bool,
+        look: &mut L,
+    ) -> Self
         ensures stream { result.stream ≡ stream }
         ensures credits_shown { result.credits_shown ≡ credits_shown }
+        ensures watch { (whole : List FindingTerm) (numbers : List ℕ) → NeverFallFrom 0 numbers
+            → Watches L.answers look.old look.new whole [] numbers result.watch }
         ensures entry { result.entry ≡ idle_stream }
         ensures initial { result.initial ≡ initial_in_force.initial }
         ensures found { result.found.items ≡ [] }
     {
+        let watch = Watch::begin(look);
         Walk {
             stream,
             credits_shown,
+            watch,
             entry: Stream::idle(),
             initial: FIRST_WINDOWS,
             found: Vec::new(alloc),
@@ -54,14 +68,13 @@ impl Walk {
         self.entry.window.client.is_some() || self.entry.window.server.is_some()
     }
 
-    /// Meets one step.
-    fn meet(&mut self, step: &Step) -> Result<(), AllocError>
+    /// Counts one step in the stream, and adds what it shows.
+    fn count(&mut self, step: &Step) -> Result<(), AllocError>
         requires numbered { step.now.number ≤ 2 ^ 28 - 2 }
         requires streamed { self.old.stream < 2 ^ 31 }
         requires acknowledged { IsAcknowledged step.now }
         requires room { HasRoomAt step.now.number self.old.entry }
-        ensures continues { OnOk result ((rest : List Step) → Continues self.old (step.now ∷ rest) self.new rest) }
-        ensures initial { OnOk result (self.new.initial ≡ initial_after step.now.change self.old.initial) }
+        ensures counted { OnOk result (IsCounted self.old step.now self.new) }
         ensures room { OnOk result (HasRoomAt (step.now.number + 1) self.new.entry) }
     {
         self.said.clear();
@@ -74,50 +87,129 @@ impl Walk {
         Ok(())
     }
 
-    /// Meets changes whose frames are on other streams. Where no window lives they change none, and only what they
-    /// leave in force counts.
-    pub(crate) fn meet_changes(&mut self, passed: Left<'_>) -> Result<(), AllocError>
-        requires streamed { self.old.stream < 2 ^ 31 }
-        requires room { (number : ℕ) × HasRoomBefore number passed.changes.now self.old.entry }
-        requires in_force { IsInForce self.old.initial passed }
-        ensures continues { OnOk result ((rest : List Step)
-            → Continues self.old (map change_step passed.entry.changes.now ++ rest) self.new rest) }
-        ensures initial { OnOk result (self.new.initial ≡ after_changes self.old.initial passed.entry.changes.now) }
-        ensures room { OnOk result ((number : ℕ) → HasRoomBefore number passed.entry.changes.now self.old.entry
-            → HasRoomAt number self.new.entry) }
+    /// Meets one step, unless it lies past the place at which its connection stops, and answers whether it met it.
+    fn meet<L: Look>(&mut self, look: &mut L, step: &Step) -> Result<bool, AllocError>
+        requires numbered { step.now.number ≤ 2 ^ 28 - 2 }
+        requires acknowledged { IsAcknowledged step.now }
+        requires at { (run : WholeRun L) × (rest : List Step)
+            × IsAt L.answers run look.old self.old step.now.number (step.now ∷ rest) }
+        ensures goes_on { IfOk result (λ goes_on. OnTrue goes_on ((run : WholeRun L) (rest : List Step)
+            → IsAt L.answers run look.old self.old step.now.number (step.now ∷ rest)
+            → IsAt L.answers run look.new self.new (step.now.number + 1) rest)) }
+        ensures stops { IfOk result (λ goes_on. OnFalse goes_on ((run : WholeRun L) (rest : List Step)
+            → IsAt L.answers run look.old self.old step.now.number (step.now ∷ rest)
+            → HasStopped L.answers run look.new self.new)) }
+        ensures initial { IfOk result (λ goes_on. OnTrue goes_on
+            (self.new.initial ≡ initial_after step.now.change self.old.initial)) }
     {
-        if self.is_live() {
-            for change in passed.changes {
-                self.meet(&with_change(change))?;
-            }
-        } else if let Some(initial) = passed.in_force.last() {
-            self.initial = *initial;
+        let found = self.found.as_slice();
+        if !self.watch.goes_on(look, found, step.number) {
+            return Ok(false);
         }
-        Ok(())
+        self.count(step)?;
+        Ok(true)
     }
 
-    /// Meets the next frame of the stream, and the changes before it.
-    pub(crate) fn meet_frame(
+    /// Meets changes whose frames are on other streams, and answers whether it met them all. Where no window lives they
+    /// change none, and only what they leave in force counts.
+    pub(crate) fn meet_changes<L: Look>(
         &mut self,
+        look: &mut L,
+        passed: Left<'_>,
+    ) -> Result<bool, AllocError>
+        requires at { (run : WholeRun L) × (number : ℕ) × (rest : List Step)
+            × IsAtChanges L.answers run look.old self.old number passed.changes.now rest }
+        requires in_force { IsInForce self.old.initial passed }
+        ensures goes_on { IfOk result (λ goes_on. OnTrue goes_on ((run : WholeRun L) (number : ℕ) (rest : List Step)
+            → IsAtChanges L.answers run look.old self.old number passed.entry.changes.now rest
+            → IsAt L.answers run look.new self.new number rest)) }
+        ensures stops { IfOk result (λ goes_on. OnFalse goes_on ((run : WholeRun L) (number : ℕ) (rest : List Step)
+            → IsAtChanges L.answers run look.old self.old number passed.entry.changes.now rest
+            → HasStopped L.answers run look.new self.new)) }
+        ensures initial { IfOk result (λ goes_on. OnTrue goes_on
+            (self.new.initial ≡ after_changes self.old.initial passed.entry.changes.now)) }
+    {
+        if self.is_live() {
+            self.meet_each(look, passed.changes)
+        } else {
+            Ok(self.pass_each(look, passed))
+        }
+    }
+
+    /// Meets changes one by one.
+    fn meet_each<L: Look>(&mut self, look: &mut L, changes: &[Change]) -> Result<bool, AllocError>
+        requires { (run : WholeRun L) × (number : ℕ) × (rest : List Step)
+            × IsAtChanges L.answers run look.old self.old number changes.now rest }
+        ensures goes_on { IfOk result (λ goes_on. OnTrue goes_on ((run : WholeRun L) (number : ℕ) (rest : List Step)
+            → IsAtChanges L.answers run look.old self.old number changes.now rest
+            → IsAt L.answers run look.new self.new number rest)) }
+        ensures stops { IfOk result (λ goes_on. OnFalse goes_on ((run : WholeRun L) (number : ℕ) (rest : List Step)
+            → IsAtChanges L.answers run look.old self.old number changes.now rest
+            → HasStopped L.answers run look.new self.new)) }
+        ensures initial { IfOk result (λ goes_on. OnTrue goes_on
+            (self.new.initial ≡ after_changes self.old.initial changes.now)) }
+    {
+        for change in changes {
+            if !self.meet(look, &with_change(change))? {
+                return Ok(false);
+            }
+        }
+        Ok(true)
+    }
+
+    /// Passes over changes where no window lives.
+    fn pass_each<L: Look>(&mut self, look: &mut L, passed: Left<'_>) -> bool
+        requires dead { (is_some self.old.entry.window.client || is_some self.old.entry.window.server) ≡ false }
+        requires at { (run : WholeRun L) × (number : ℕ) × (rest : List Step)
+            × IsAtChanges L.answers run look.old self.old number passed.changes.now rest }
+        requires in_force { IsInForce self.old.initial passed }
+        ensures goes_on { OnTrue result ((run : WholeRun L) (number : ℕ) (rest : List Step)
+            → IsAtChanges L.answers run look.old self.old number passed.entry.changes.now rest
+            → IsAt L.answers run look.new self.new number rest) }
+        ensures stops { OnFalse result ((run : WholeRun L) (number : ℕ) (rest : List Step)
+            → IsAtChanges L.answers run look.old self.old number passed.entry.changes.now rest
+            → HasStopped L.answers run look.new self.new) }
+        ensures initial { OnTrue result (self.new.initial ≡ after_changes self.old.initial passed.entry.changes.now) }
+    {
+        let found = self.found.as_slice();
+        if !pass_over(&mut self.watch, look, found, passed.changes) {
+            return false;
+        }
+        if let Some(initial) = passed.in_force.last() {
+            self.initial = *initial;
+        }
+        true
+    }
+
+    /// Meets the next frame of the stream, and the changes before it, and answers whether it met them all.
+    pub(crate) fn meet_frame<L: Look>(
+        &mut self,
+        look: &mut L,
         left: &mut Left<'_>,
         frame: &Frame,
-    ) -> Result<(), AllocError>
-        requires { (frames : List Frame) × IsSound self.old left.old (frame.now ∷ frames) }
-        ensures continues { OnOk result ((frames : List Frame)
-            → Continues self.old (merged (frame.now ∷ frames) left.old.changes.now)
-            self.new (merged frames left.new.changes.now)) }
-        ensures sound { OnOk result ((frames : List Frame)
-            → IsSound self.old left.old (frame.now ∷ frames) → IsSound self.new left.new frames) }
+    ) -> Result<bool, AllocError>
+        requires { (run : WholeRun L) × (frames : List Frame)
+            × IsSound L.answers run look.old self.old left.old (frame.now ∷ frames) }
+        ensures goes_on { IfOk result (λ goes_on. OnTrue goes_on ((run : WholeRun L) (frames : List Frame)
+            → IsSound L.answers run look.old self.old left.old (frame.now ∷ frames)
+            → IsSound L.answers run look.new self.new left.new frames)) }
+        ensures stops { IfOk result (λ goes_on. OnFalse goes_on ((run : WholeRun L) (frames : List Frame)
+            → IsSound L.answers run look.old self.old left.old (frame.now ∷ frames)
+            → HasStopped L.answers run look.new self.new)) }
     {
         let passed = left.pass(frame.number);
-        self.meet_changes(passed)?;
+        if !self.meet_changes(look, passed)? {
+            return Ok(false);
+        }
         let change = left.take(frame.number);
-        self.meet(&Step {
-            number: frame.number,
-            frame: Some(*frame),
-            change,
-        })?;
-        Ok(())
+        self.meet(
+            look,
+            &Step {
+                number: frame.number,
+                frame: Some(*frame),
+                change,
+            },
+        )
     }
 }
 

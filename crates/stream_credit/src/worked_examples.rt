@@ -1,6 +1,6 @@
 //! Worked examples: what short scripts show of one stream, computed from the definitions by proof. The functions do
 //! nothing; each contract is the example.
-ghost use Rattle.stream_credit.specs.RunExamples.{NegativeWindow, NegativeWindowUnshown, SettingsReachEachStream, ChangesPassedOver, OpensAtZero, OverrunsAboveZero, OverflowingGrant, SettingOverflows, PromisedStall, PartOfPromised};
+ghost use Rattle.stream_credit.specs.RunExamples.{NegativeWindow, NegativeWindowUnshown, SettingsReachEachStream, ChangesPassedOver, OpensAtZero, OverrunsAboveZero, OverflowingGrant, SettingOverflows, PromisedStall, PartOfPromised, KeptUpToStop, StepNumbers};
 
 /// A lower initial window makes a credit negative (RFC 9113, 6.9.2), with its credits and without.
 pub fn negative_window()
@@ -34,4 +34,10 @@ pub fn above_the_largest()
 pub fn promised_stall()
     ensures run { PromisedStall }
     ensures part { PartOfPromised }
+{}
+
+/// What a run has found before a step, and what it keeps where it stops.
+pub fn kept_up_to_stop()
+    ensures kept { KeptUpToStop }
+    ensures steps { StepNumbers }
 {}

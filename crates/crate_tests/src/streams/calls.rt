@@ -1,6 +1,7 @@
 ghost use Rattle.std.specs.Prelude.{◌≡◌, ◌<◌};
 ghost use Rattle.audit_terms.specs.Frame.{IsInRange, promised_in};
 
+use super::test_look::TestLook;
 use audit_terms::{Body, Change, Finding, Frame, Kind, Side};
 use std::test::Fail;
 use stream_credit::{Changes, StreamPart, stream_run};
@@ -52,7 +53,8 @@ fn opens_at_zero(rt: HostRuntime) -> Result<(), Fail> {
     };
     let changes = [change(3, 0)];
     let changes = Changes::of(rt.alloc(), &changes)?;
-    let run = stream_run(rt.alloc(), &part, &changes, false)?;
+    let mut look = TestLook::of_none();
+    let run = stream_run(rt.alloc(), &part, &changes, false, &mut look)?;
     assert_eq!(rt;
         (run.opened_at, run.findings.as_slice()),
         (

@@ -1,17 +1,14 @@
-use Rattle.std.proofs.Common.{arith}
-use Rattle.audit_terms.specs.declared.sides.Side.TheVariants.{Client, Server}
-use Rattle.stream_credit.proofs.WalkLemmas.{room-wide, HasRoomAt-next}
+use Rattle.std.proofs.Common.{◌∙◌}
+use Rattle.stream_credit.proofs.WalkLemmas.{step-stops, step-on}
 use Rattle.stream_credit.proofs.walks.Walk.meet.Goals as goal
 
-pub meet-requires-clause-client : goal.meet-requires-clause-client
-meet-requires-clause-client c =
-    room-wide c.args.step.now.number c.args.self.now.entry.window.client (omega arith) (c.requires.room Client)
+pub returns-then-not-goes_on-clause-stops : goal.returns-then-not-goes_on-clause-stops
+returns-then-not-goes_on-clause-stops g c = λ run.
+    step-stops g.L.Look.answers run c.args.look.now c.goes_on.new.look c.args.self.now c.goes_on.new.self c.args.step.now
+    (λ start whole met left found. c.if-not-goes_on.ensures.stops start whole met left (c.as_slice-found.ensures.value ∙ found))
 
-pub meet-requires-clause-server : goal.meet-requires-clause-server
-meet-requires-clause-server c =
-    room-wide c.args.step.now.number c.args.self.now.entry.window.server (omega arith) (c.requires.room Server)
-
-pub returns-clause-room : goal.returns-clause-room
-returns-clause-room c =
-    HasRoomAt-next c.args.step.now.number c.meet.new.self (c.in_ok-meet.ensures.client _ (c.requires.room Client))
-    (c.in_ok-meet.ensures.server _ (c.requires.room Server))
+pub returns-clause-goes_on : goal.returns-clause-goes_on
+returns-clause-goes_on g c = λ run.
+    step-on g.L.Look.answers run c.args.look.now c.goes_on.new.look c.args.self.now c.count.new.self c.goes_on.new.self c.args.step.now
+    (λ start whole met left found. c.if-not-goes_on.ensures.goes_on start whole met left (c.as_slice-found.ensures.value ∙ found))
+    c.in_ok-count.ensures.counted c.in_ok-count.ensures.room

@@ -1,41 +1,65 @@
-use Rattle.std.proofs.Common.{[], ◌∙◌}
-use Rattle.stream_credit.proofs.WalkLemmas.{passed-have_room, frame-acknowledged, frame-continues, frame-in_force, frame-sound}
+use Rattle.std.proofs.lemmas.Bool.{OnTrue_at, OnFalse_at}
+use Rattle.stream_credit.specs.code.Merged.{merged}
+use Rattle.stream_credit.proofs.FrameLemmas.{later_changes, goes-tail_both, stops-tail, frame-before, frame-changes, frame-acknowledged, frame-at, frame-meets, frame-sound, frame-in_force}
 use Rattle.stream_credit.proofs.walks.Walk.meet_frame.Goals as goal
 
-pub meet_changes-requires-clause-room : goal.meet_changes-requires-clause-room
-meet_changes-requires-clause-room c = (
-  c.args.frame.now.number,
-  passed-have_room c.args.self.now c.args.left.now c.args.frame.now c.requires.0 c.pass-passed.result.changes.now
-      c.pass-passed.ensures.passed c.requires.1,
-)
+pub meet_changes-requires-clause-at : goal.meet_changes-requires-clause-at
+meet_changes-requires-clause-at g c =
+    let r = c.requires in
+    frame-before g.L.Look.answers r.0 c.args.look.now c.args.self.now c.args.left.now c.args.frame.now r.1 r.2
+    c.pass-passed.result.changes.now c.pass-passed.ensures.passed
 
-pub meet-requires-clause-streamed : goal.meet-requires-clause-streamed
-meet-requires-clause-streamed c = rw (c.in_ok-meet_changes.ensures.continues []).stream c.requires.1.streamed
+pub returns-then-not-branch-clause-stops : goal.returns-then-not-branch-clause-stops
+returns-then-not-branch-clause-stops g c = λ run frames h.
+    OnFalse_at c.if-not-branch.true c.in_ok-meet_changes.ensures.stops run c.args.frame.now.number _
+    (frame-changes g.L.Look.answers run c.args.look.now c.args.self.now c.args.left.now c.args.frame.now frames h
+    c.pass-passed.result.changes.now c.pass-passed.ensures.passed)
 
 pub meet-requires-clause-acknowledged : goal.meet-requires-clause-acknowledged
-meet-requires-clause-acknowledged c =
-    frame-acknowledged c.args.self.now c.args.left.now c.args.frame.now c.requires.0 c.pass-passed.new.self.changes.now c.take-change.result
-    c.pass-passed.ensures.left c.take-change.ensures.change c.requires.1
+meet-requires-clause-acknowledged g c =
+    let r = c.requires in
+    frame-acknowledged g.L.Look.answers r.0 c.args.look.now c.args.self.now c.args.left.now c.args.frame.now r.1 r.2
+    c.pass-passed.new.self.changes.now c.take-change.result c.pass-passed.ensures.left c.take-change.ensures.change
 
-pub meet-requires-clause-room : goal.meet-requires-clause-room
-meet-requires-clause-room c =
-    c.in_ok-meet_changes.ensures.room c.args.frame.now.number
-    (passed-have_room c.args.self.now c.args.left.now c.args.frame.now c.requires.0 c.pass-passed.result.changes.now
-    c.pass-passed.ensures.passed c.requires.1)
+pub meet-requires-clause-at : goal.meet-requires-clause-at
+meet-requires-clause-at g c =
+    let r = c.requires in
+    frame-meets g.L.Look.answers r.0 c.args.look.now c.args.self.now c.args.left.now c.args.frame.now r.1 r.2
+    c.meet_changes.new.look c.meet_changes.new.self c.pass-passed.new.self.changes.now c.take-change.result
+    c.pass-passed.ensures.left c.take-change.ensures.change
+    (OnTrue_at c.if-not-branch.false c.in_ok-meet_changes.ensures.goes_on r.0 c.args.frame.now.number _
+    (frame-changes g.L.Look.answers r.0 c.args.look.now c.args.self.now c.args.left.now c.args.frame.now r.1 r.2
+    c.pass-passed.result.changes.now c.pass-passed.ensures.passed))
 
-pub returns-clause-continues : goal.returns-clause-continues
-returns-clause-continues c = λ frames.
-    frame-continues c.args.self.now c.meet_changes.new.self c.meet.new.self c.args.left.now c.args.frame.now frames
-    c.pass-passed.result.changes.now c.pass-passed.new.self.changes.now c.take-change.new.self.changes.now c.take-change.result
-    c.requires.1.low c.requires.1.changes c.pass-passed.ensures.passed c.pass-passed.ensures.left c.take-change.ensures.change c.take-change.ensures.left
-    c.in_ok-meet_changes.ensures.continues c.in_ok-meet.ensures.continues
-
-pub returns-clause-sound : goal.returns-clause-sound
-returns-clause-sound c = λ frames sound.
-    let in_force = frame-in_force c.args.self.now.initial c.meet_changes.new.self.initial c.meet.new.self.initial
-    c.pass-passed.result.changes.now c.take-change.result c.take-change.new.self c.in_ok-meet_changes.ensures.initial c.in_ok-meet.ensures.initial
-    (c.take-change.ensures.in_force _ (c.pass-passed.ensures.in_force_after c.args.self.now.initial sound.in_force)) in
-    frame-sound c.args.self.now c.meet.new.self c.args.left.now c.take-change.new.self c.args.frame.now frames c.pass-passed.new.self.changes.now
+pub returns-clause-goes_on : goal.returns-clause-goes_on
+returns-clause-goes_on g c =
+    goes-tail_both c.meet.result _ _ _
+    (λ goes initial. λ run frames h.
+    frame-sound g.L.Look.answers run c.args.look.now c.args.self.now c.args.left.now c.args.frame.now frames h
+    c.meet.new.look c.meet.new.self c.take-change.new.self c.pass-passed.new.self.changes.now
     c.pass-passed.ensures.left c.take-change.ensures.left
-    ((c.in_ok-meet.ensures.continues []).stream ∙ (c.in_ok-meet_changes.ensures.continues []).stream)
-    c.in_ok-meet.ensures.room in_force sound
+    (frame-in_force c.args.self.now.initial c.meet_changes.new.self.initial c.meet.new.self.initial
+    c.pass-passed.result.changes.now c.take-change.result c.take-change.new.self
+    (OnTrue_at c.if-not-branch.false c.in_ok-meet_changes.ensures.initial) initial
+    (c.take-change.ensures.in_force _ (c.pass-passed.ensures.in_force_after c.args.self.now.initial h.in_force)))
+    (goes run (merged frames (later_changes c.args.frame.now c.args.left.now.changes.now))
+    (frame-at g.L.Look.answers run c.args.look.now c.args.self.now c.args.left.now c.args.frame.now frames h
+    c.meet_changes.new.look c.meet_changes.new.self c.pass-passed.new.self.changes.now c.take-change.result
+    c.pass-passed.ensures.left c.take-change.ensures.change
+    (OnTrue_at c.if-not-branch.false c.in_ok-meet_changes.ensures.goes_on run c.args.frame.now.number _
+    (frame-changes g.L.Look.answers run c.args.look.now c.args.self.now c.args.left.now c.args.frame.now frames h
+    c.pass-passed.result.changes.now c.pass-passed.ensures.passed)))))
+    c.meet.ensures.goes_on c.meet.ensures.initial
+
+pub returns-clause-stops : goal.returns-clause-stops
+returns-clause-stops g c =
+    stops-tail c.meet.result _ _
+    (λ stops. λ run frames h.
+    stops run (merged frames (later_changes c.args.frame.now c.args.left.now.changes.now))
+    (frame-at g.L.Look.answers run c.args.look.now c.args.self.now c.args.left.now c.args.frame.now frames h
+    c.meet_changes.new.look c.meet_changes.new.self c.pass-passed.new.self.changes.now c.take-change.result
+    c.pass-passed.ensures.left c.take-change.ensures.change
+    (OnTrue_at c.if-not-branch.false c.in_ok-meet_changes.ensures.goes_on run c.args.frame.now.number _
+    (frame-changes g.L.Look.answers run c.args.look.now c.args.self.now c.args.left.now c.args.frame.now frames h
+    c.pass-passed.result.changes.now c.pass-passed.ensures.passed))))
+    c.meet.ensures.stops
