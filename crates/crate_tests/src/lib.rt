@@ -10,6 +10,8 @@
 #[cfg(test)]
 mod captures;
 #[cfg(test)]
+mod crew;
+#[cfg(test)]
 mod desks;
 #[cfg(test)]
 mod faults;
