@@ -10,6 +10,7 @@
 #[cfg(test)]
 mod captures;
 #[cfg(test)]
+#[cfg(test)]
 mod desks;
 #[cfg(test)]
 mod frame_examples;

@@ -4,3 +4,5 @@ pub mod Counting
 pub mod Draws
 pub mod Marked
 pub mod Closing
+pub mod Ordered
+pub mod Placed

@@ -1,9 +1,9 @@
 -- Marks counted and marks in a list, and the stops of connections one by one.
-use Rattle.std.proofs.Common.{◌≡◌, ℕ, zero, suc, ◌+◌, ◌<◌, ◌≤◌, ◌⊎◌, inl, inr, List, [], ◌∷◌, length, drop, map, get_or, Option, None, refl, sym, ap, subst, ◌∙◌, arith, Contains, lt-ltb, le-ltb}
+use Rattle.std.proofs.Common.{◌≡◌, ℕ, zero, suc, ◌+◌, ◌<◌, ◌≤◌, ◌⊎◌, inl, inr, List, [], ◌∷◌, length, drop, map, get_or, Option, Some, None, refl, sym, ap, subst, ◌∙◌, arith, Contains, lt-ltb, le-ltb, take, ◌++◌, All, Bool, true, false, nat_lt, if◌then◌else◌, ltb-true}
 use Rattle.std.proofs.Math.Numerals.{add-one}
 use Rattle.std.proofs.lemmas.Bool.{cases_lt}
 use Rattle.stop_desk.specs.Counts.{marks, is_mark, once_below}
-use Rattle.stop_desk.specs.Stop.{place_at}
+use Rattle.stop_desk.specs.Stop.{place_at, past_places, IsStop}
 use Rattle.stop_desk.specs.Desk.{DeskId, ClosedView, IsConnection, opening_stop, final_stop}
 use Rattle.stop_desk.proofs.Marks.{mark-cases, mark-here}
 use Rattle.split_merge.specs.Board.{stop_of}
@@ -99,3 +99,41 @@ below-cases x n = by_case (cases_lt x n) where
   by_case : (x < n) ⊎ (n ≤ x) → ((x < n) × (once_below x n ≡ 1)) ⊎ ((n ≤ x) × (once_below x n ≡ 0))
   by_case (inl lt) = inl (lt, rw (lt-ltb x n lt) refl)
   by_case (inr le) = inr (le, rw (le-ltb x n le) refl)
+
+more-from : (closed : ClosedView) (first n : ℕ) (words : List ℕ) → n < length words →
+    last_stops_from closed first (take (suc n) words)
+    ≡ last_stops_from closed first (take n words) ++ final_stop closed (first + n) ∷ []
+more-from closed first n [] lt = absurd (omega arith)
+more-from closed first zero (w ∷ ws) lt =
+    let e : first ≡ first + 0 = omega arith in ap (λ n. final_stop closed n ∷ []) e
+more-from closed first (suc n) (w ∷ ws) lt =
+    let e : first + 1 + n ≡ first + suc n = omega arith in
+    ap (λ stops. final_stop closed first ∷ stops)
+    (more-from closed (first + 1) n ws (omega arith)
+    ∙ ap (λ m. last_stops_from closed (first + 1) (take n ws) ++ final_stop closed m ∷ []) e)
+
+-- one connection more
+pub last_stops-more : (closed : ClosedView) (n : ℕ) → IsConnection closed.desk n →
+    last_stops_from closed 0 (take (n + 1) (drop 1 closed.desk.opened))
+    ≡ last_stops_from closed 0 (take n (drop 1 closed.desk.opened)) ++ final_stop closed n ∷ []
+last_stops-more closed n there =
+    let words = drop 1 closed.desk.opened in
+    let e : 0 + n ≡ n = omega arith in
+    ap (λ m. last_stops_from closed 0 (take m words)) (add-one n)
+    ∙ more-from closed 0 n words (rest-at closed.desk.opened n there).0
+    ∙ ap (λ m. last_stops_from closed 0 (take n words) ++ final_stop closed m ∷ []) e
+
+is_stop-if : (b : Bool) (n : ℕ) → nat_lt n past_places ≡ b → IsStop (if b then Some n else None)
+is_stop-if true n e = ltb-true n past_places e
+is_stop-if false n e = tt
+
+-- each last stop is none or a place
+pub last_stops-places : (closed : ClosedView) (first : ℕ) (words : List ℕ) → All IsStop (last_stops_from closed first words)
+last_stops-places closed first [] k d lt = absurd (omega arith)
+last_stops-places closed first (w ∷ ws) zero d lt =
+    is_stop-if (nat_lt (get_or closed.words (first + 1) 0) past_places) (get_or closed.words (first + 1) 0) refl
+last_stops-places closed first (w ∷ ws) (suc k) d lt = last_stops-places closed (first + 1) ws k d (omega arith)
+
+pub length-last_stops : (closed : ClosedView) → length (last_stops closed) ≡ length (opening_stops closed.desk)
+length-last_stops closed =
+    length-last_stops_from closed 0 (drop 1 closed.desk.opened) ∙ sym (length-places (drop 1 closed.desk.opened))

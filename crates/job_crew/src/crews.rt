@@ -36,8 +36,8 @@ fn fork<R: Threads + Sync, G: Gate, P: Round>(
 ) -> Result<(Vec<Part<P::Made>>, Pass), AllocError>
     requires some { 0 < workers }
     requires fresh { pass ≡ pass_of shift.now.desk.now.id (workers * (shift.now.desk.now.jobs + 1)) [] [] [] }
-    ensures { IfOk result (λ r. IsAllWorked (P.makes shift.now.plan.now) (P.jobs shift.now.plan.now) shift.now.desk.now.id
-        shift.now.round (workers * (shift.now.desk.now.jobs + 1)) r.0.items r.1) }
+    ensures { IfOk result (λ r. IsAllWorked (P.makes shift.now.plan.now) (P.jobs shift.now.plan.now)
+        shift.now.desk.now.id shift.now.round (workers * (shift.now.desk.now.jobs + 1)) r.0.items r.1) }
 {
     if workers == 1 {
         return work(alloc, shift, pass);

@@ -1,20 +1,49 @@
-ghost use Rattle.std.specs.Prelude.{◌<◌, All, IfOk, length};
+ghost use Rattle.std.specs.Prelude.{◌≡◌, ◌+◌, ◌<◌, All, IfOk, length};
+ghost use Rattle.std.specs.List.Sorted.{IsPermutation, IsNonDecreasingBy};
 ghost use Rattle.stop_desk.specs.Stop.{IsStop};
 ghost use Rattle.split_merge.specs.Board.{Job};
+ghost use Rattle.job_crew.specs.declared.parts.Part.{Part as PartTerm};
+ghost use Rattle.job_crew.specs.Crew.{last_stops};
 ghost use Rattle.job_crew.specs.Settling.{HasSettled};
 
+use crate::crews::crew;
 use crate::gate::Gate;
 use crate::parts::Part;
 use crate::rounds::Round;
 use audit_terms::Place;
 use std::alloc::{AllocError, Global};
 use std::thread::Threads;
+use stop_desk::{Closed, Desk};
 
 /// A part for each job of a round, in the order of the jobs, and where each connection stops, if it does.
 #[derive(Drop)]
 pub struct Settled<M> {
     pub parts: Vec<Part<M>>,
     pub stops: Vec<Option<Place>>,
+}
+
+/// Puts parts in the order of their jobs.
+fn put_in_order<M>(parts: &mut Vec<Part<M>>)
+    ensures same { IsPermutation parts.old.items parts.new.items }
+    ensures sorted { IsNonDecreasingBy (λ (part : PartTerm M). part.job) parts.new.items }
+{
+    parts.sort_unstable_by_key(|part| part.job);
+}
+
+/// The last stop of each connection.
+fn stops_of(
+    alloc: Global,
+    closed: &Closed,
+    connections: usize,
+) -> Result<Vec<Option<Place>>, AllocError>
+    requires { length closed.now.desk.opened ≡ connections + 1 }
+    ensures { IfOk result (λ stops. stops.items ≡ last_stops closed.now) }
+{
+    let mut stops = Vec::with_capacity(alloc, connections)?;
+    for connection in 0..connections {
+        stops.push(closed.stop(connection))?;
+    }
+    Ok(stops)
 }
 
 /// Has workers do all jobs of a round, where it is known of some connections where they stop.
@@ -34,5 +63,11 @@ pub fn settle<R: Threads + Sync, G: Gate, P: Round>(
     requires connections { All (λ (job : Job). job.connection < length stops.now) (P.jobs plan.now) }
     ensures { IfOk result (λ settled. HasSettled (P.makes plan.now) (P.jobs plan.now) stops.now settled) }
 {
-    Err(AllocError)
+    let jobs = plan.count();
+    let workers = workers.min(jobs).max(1);
+    let (desk, pass) = Desk::make(alloc, jobs, stops, workers)?;
+    let (mut parts, closed) = crew(rt, alloc, workers, desk, pass, gate, round, plan)?;
+    put_in_order(&mut parts);
+    let stops = stops_of(alloc, &closed, stops.len())?;
+    Ok(Settled { parts, stops })
 }

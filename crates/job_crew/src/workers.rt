@@ -50,7 +50,8 @@ fn do_job<G: Gate, P: Round>(
 ) -> Result<(Part<P::Made>, Pass), AllocError>
     requires desk { pass.desk ≡ shift.now.desk.now.id }
     requires job { job < length (P.jobs shift.now.plan.now) }
-    ensures { IfOk result (λ r. DoesJob (P.makes shift.now.plan.now) (P.jobs shift.now.plan.now) shift.now.round job pass r.0 r.1) }
+    ensures { IfOk result (λ r. DoesJob (P.makes shift.now.plan.now) (P.jobs shift.now.plan.now) shift.now.round job
+        pass r.0 r.1) }
 {
     let connection = shift.plan.connection(job);
     let mut look = DeskLook {
@@ -79,8 +80,8 @@ pub(crate) fn work<G: Gate, P: Round>(
     mine: Pass,
 ) -> Result<(Vec<Part<P::Made>>, Pass), AllocError>
     requires { mine ≡ pass_of shift.now.desk.now.id (shift.now.desk.now.jobs + 1) [] [] [] }
-    ensures { IfOk result (λ r. IsAllWorked (P.makes shift.now.plan.now) (P.jobs shift.now.plan.now) shift.now.desk.now.id
-        shift.now.round (shift.now.desk.now.jobs + 1) r.0.items r.1) }
+    ensures { IfOk result (λ r. IsAllWorked (P.makes shift.now.plan.now) (P.jobs shift.now.plan.now)
+        shift.now.desk.now.id shift.now.round (shift.now.desk.now.jobs + 1) r.0.items r.1) }
 {
     let mut pass = mine;
     let mut parts = Vec::new(alloc);

@@ -57,7 +57,8 @@ DrewPast jobs pass = (n : ℕ) × (length jobs ≤ n) × (0 < times n pass.drawn
 -- and no job is left
 abbrev pub IsAllWorked : {M : Type 0} → (makes : ℕ → Option ℕ → M → Type 0) → (jobs : List Job) → (desk : DeskId)
     → (round whole : ℕ) → List (Part M) → PassView → Type 0
-IsAllWorked makes jobs desk round whole parts pass = IsWorked makes jobs desk round whole parts pass × DrewPast jobs pass
+IsAllWorked makes jobs desk round whole parts pass =
+    IsWorked makes jobs desk round whole parts pass × DrewPast jobs pass
 
 -- while a worker draws: only jobs were drawn, each once
 abbrev pub DrewJobs : (jobs : List Job) → PassView → Type 0
