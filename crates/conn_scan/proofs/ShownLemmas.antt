@@ -17,9 +17,9 @@ use Rattle.audit_terms.specs.Sides.{side_of}
 use Rattle.audit_terms.specs.Frame.{is_content, content_by, grant_to, grants_nothing, increment}
 use Rattle.audit_terms.specs.Window.{largest_window, is_used_up, overflows, overruns, stall_ends, stall_begins}
 use Rattle.audit_terms.specs.Change.{new_limit}
-use Rattle.audit_terms.specs.Finding.{say, in_order, comes_after, shown}
-use Rattle.audit_terms.specs.Order.{put_by}
+use Rattle.audit_terms.specs.Finding.{say, in_order, shown}
 use Rattle.audit_terms.specs.Connection.{credit_after, length_said, connection_window_said, connection_said, connection_after, block_run}
+use Rattle.conn_scan.proofs.FindingLists.{each-append, each-in_order, each-said}
 use Rattle.conn_scan.specs.Latest.{length_by, longest_by}
 use Rattle.conn_scan.specs.Clear.{connections, is_usable, keeps_credit, grants_something, openings_rise, promises_allowed, promises_rise, ClearShowsCredit}
 
@@ -32,28 +32,17 @@ Only = AllByRecursion IsCredit
 -- ---- lists of credits
 
 both_only : (a b : List Finding) → Only a → Only b → Only (a ++ b)
-both_only [] b h k = k
-both_only (x ∷ a) b h k = (h.0, both_only a b h.1 k)
-
-put_only : (x : Finding) (a : List Finding) → IsCredit x → Only a → Only (put_by comes_after x a)
-put_only x [] h k = (h, tt)
-put_only x (y ∷ a) h k = step (comes_after x y) (put_only x a h k.1) where
-  step : (later : Bool) → Only (put_by comes_after x a)
-      → Only (if later then y ∷ put_by comes_after x a else x ∷ y ∷ a)
-  step true o = (k.0, o)
-  step false o = (h, k)
+both_only = each-append IsCredit
 
 ordered_only : (a : List Finding) → Only a → Only (in_order a)
-ordered_only [] h = tt
-ordered_only (x ∷ a) h = put_only x (in_order a) h.0 (ordered_only a h.1)
+ordered_only = each-in_order IsCredit
 
 none_said : (b : Bool) (found : Finding) → b ≡ false → Only (say b found)
 none_said true found e = absurd (true≢false e)
 none_said false found e = tt
 
 credit_said : (b : Bool) (found : Finding) → IsCredit found → Only (say b found)
-credit_said true found e = (e, tt)
-credit_said false found e = tt
+credit_said = each-said IsCredit
 
 hidden : (found : List Finding) → Only found → shown false found ≡ []
 hidden [] h = refl

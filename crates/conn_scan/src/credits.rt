@@ -1,7 +1,10 @@
+ghost use Rattle.std.specs.Prelude.{◌≡◌, ◌+ℤ◌, ◌^◌};
+ghost use Rattle.audit_terms.specs.code.Room.{HasRoom};
+
 use block_scan::Summary;
 
 /// What a list of signed changes does to the credit of a window (RFC 9113, 6.9). Of no change all is 0.
-#[derive(Clone, Copy, Debug, PartialEq, Eq)]
+#[derive(Clone, Copy)]
 pub struct Credit {
     /// How many changes there are.
     pub count: u32,
@@ -13,8 +16,18 @@ pub struct Credit {
     pub low: i64,
 }
 
+impl Credit {
+    /// The sum of these changes and of some first ones of a later summary.
+    fn sum_with(&self, later: i64) -> i64
+        requires sum { HasRoom (2 ^ 60) self.now.sum }
+        requires later { HasRoom (2 ^ 60) later }
+        ensures { result ≡ self.now.sum +ℤ later }
+    {
+        self.sum + later
+    }
+}
+
 impl Summary for Credit {
-    ghost use Rattle.std.specs.Prelude.{◌+ℤ◌};
     ghost use Rattle.conn_scan.specs.Credit.{no_change, one_change, credit_join, credit_advance, ChangesFit};
     ghost use Rattle.conn_scan.specs.code.CreditLaws.{credit_laws};
 
@@ -61,9 +74,9 @@ impl Summary for Credit {
         }
         Credit {
             count: self.count + later.count,
-            sum: self.sum + later.sum,
-            high: self.high.max(self.sum + later.high),
-            low: self.low.min(self.sum + later.low),
+            sum: self.sum_with(later.sum),
+            high: self.high.max(self.sum_with(later.high)),
+            low: self.low.min(self.sum_with(later.low)),
         }
     }
 

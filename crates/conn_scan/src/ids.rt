@@ -32,7 +32,7 @@ fn promised_by(item: &Item) -> Option<u32>
 }
 
 /// The streams that HEADERS of the client open (RFC 9113, 5.1.1).
-#[derive(Clone, Copy, Debug, PartialEq, Eq)]
+#[derive(Clone, Copy)]
 pub struct OpenedIds {
     pub ids: Rising,
 }
@@ -84,7 +84,7 @@ impl Summary for OpenedIds {
 }
 
 /// The even streams that the server promises (RFC 9113, 5.1.1).
-#[derive(Clone, Copy, Debug, PartialEq, Eq)]
+#[derive(Clone, Copy)]
 pub struct PromisedIds {
     pub ids: Rising,
 }

@@ -5,7 +5,7 @@ use audit_terms::{Change, Item, Side, Sides};
 use block_scan::Summary;
 
 /// The settings in force for each side's frames (RFC 9113, 6.5.2).
-#[derive(Clone, Copy, Debug, PartialEq, Eq)]
+#[derive(Clone, Copy)]
 pub struct InForce {
     /// The greatest length in bytes of a frame that each side may send.
     pub limit: Sides<u32>,
@@ -15,7 +15,7 @@ pub struct InForce {
 
 /// What some items bring into force, the lengths of their frames, and the server's promises (RFC 9113, 4.2, 6.5.2,
 /// 8.4).
-#[derive(Clone, Copy, Debug, PartialEq, Eq)]
+#[derive(Clone, Copy)]
 pub struct Latest {
     /// The last limit on the length of a frame that they bring for each side.
     pub limit: Sides<Option<u32>>,

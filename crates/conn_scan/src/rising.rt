@@ -1,7 +1,7 @@
 use block_scan::Summary;
 
 /// Identifiers of opened streams, and whether they rise (RFC 9113, 5.1.1).
-#[derive(Clone, Copy, Debug, PartialEq, Eq)]
+#[derive(Clone, Copy)]
 pub struct Rising {
     /// Is there no identifier?
     pub none: bool,

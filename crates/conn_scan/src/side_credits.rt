@@ -15,7 +15,7 @@ pub(crate) fn change_of(side: Side, item: &Item) -> i64
 }
 
 /// What some items do to the connection credit of the client.
-#[derive(Clone, Copy, Debug, PartialEq, Eq)]
+#[derive(Clone, Copy)]
 pub struct ClientCredit {
     pub credit: Credit,
 }
@@ -69,7 +69,7 @@ impl Summary for ClientCredit {
 }
 
 /// What some items do to the connection credit of the server.
-#[derive(Clone, Copy, Debug, PartialEq, Eq)]
+#[derive(Clone, Copy)]
 pub struct ServerCredit {
     pub credit: Credit,
 }

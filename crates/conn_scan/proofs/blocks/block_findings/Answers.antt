@@ -1,4 +1,4 @@
-use Rattle.std.proofs.Common.{◌≡◌, ◌^◌, ◌∙◌, arith}
+use Rattle.std.proofs.Common.{◌≡◌, ◌^◌, arith}
 use Rattle.conn_scan.specs.Items.{items_in}
 use Rattle.conn_scan.specs.code.CreditLaws.{room-wider}
 use Rattle.conn_scan.specs.code.Walk.{walked}
@@ -10,8 +10,8 @@ pub loop-item-init : goal.loop-item-init
 loop-item-init g c =
     let walk = c.into_iter-item-iterator.result in
     let all : walked walk.opened.now walk.changes.now walk.frames.now ≡ items_in c.args.block.now =
-    rw c.into_iter-item-iterator.ensures.into_iter_gives
-    (c.items-item-items.ensures ∙ block_walked c.args.block.now c.requires.block) in
+    rw (c.into_iter-item-iterator.ensures.into_iter_gives, c.items-item-items.ensures)
+    (block_walked c.args.block.now c.requires.block) in
     rw (all, c.new-findings.ensures.items) (record {
       fits = c.requires.fits;
       halfway = begins g.L.Look.answers c.args.look.now c.args.credits_shown c.args.block.now c.begin-watch.new.look

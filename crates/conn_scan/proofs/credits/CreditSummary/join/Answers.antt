@@ -1,7 +1,6 @@
-use Rattle.std.proofs.Common.{◌+◌, ◌^◌, ◌∙◌, sym, arith, length-append}
-use Rattle.std.proofs.lemmas.Int.{ints, clamps}
-use Rattle.conn_scan.specs.code.CreditLaws.{credit_is, summary_room, summary_count, front_fits, back_fits, join_some, room-wider}
-use Rattle.conn_scan.proofs.Words.{sum_fits}
+use Rattle.std.proofs.Common.{◌+◌, ◌∙◌, sym, arith, length-append}
+use Rattle.conn_scan.specs.code.CreditLaws.{credit_is, summary_room, summary_count, front_fits, back_fits, join_some}
+use Rattle.conn_scan.proofs.Words.{held-room, sum-held, max-held, min-held}
 use Rattle.conn_scan.proofs.credits.CreditSummary.join.Goals as goal
 
 pub overflow_add-result : goal.overflow_add-result
@@ -13,38 +12,50 @@ overflow_add-result c =
     let number = f.3.number in
     omega arith
 
-pub overflow_add-result-2 : goal.overflow_add-result-2
-overflow_add-result-2 c =
+pub sum_with-requires-clause-sum : goal.sum_with-requires-clause-sum
+sum_with-requires-clause-sum c =
     let f = c.requires.fits in
-    let a = summary_room f.0 f.1 c.args.self.now (front_fits f.0 f.1 f.2 f.3) f.4 in
-    let b = summary_room _ f.2 c.args.later.now (back_fits f.0 f.1 f.2 f.3) f.5 in
-    sum_fits c.args.self.now.sum c.args.later.now.sum (room-wider (2 ^ 60) (2 ^ 61) _ (omega arith) a.sum) b.sum
+    (summary_room f.0 f.1 c.args.self.now (front_fits f.0 f.1 f.2 f.3) f.4).sum
 
-pub overflow_add-self : goal.overflow_add-self
-overflow_add-self c =
+pub sum_with-requires-clause-later : goal.sum_with-requires-clause-later
+sum_with-requires-clause-later c =
     let f = c.requires.fits in
-    let a = summary_room f.0 f.1 c.args.self.now (front_fits f.0 f.1 f.2 f.3) f.4 in
-    let b = summary_room _ f.2 c.args.later.now (back_fits f.0 f.1 f.2 f.3) f.5 in
-    sum_fits c.args.self.now.sum c.args.later.now.high (room-wider (2 ^ 60) (2 ^ 61) _ (omega arith) a.sum) b.high
+    let room = summary_room _ f.2 c.args.later.now (back_fits f.0 f.1 f.2 f.3) f.5 in
+    held-room c.args.later.now.sum room.sum
 
-pub overflow_add-self-2 : goal.overflow_add-self-2
-overflow_add-self-2 c =
+pub sum_with-requires-2-clause-sum : goal.sum_with-requires-2-clause-sum
+sum_with-requires-2-clause-sum c =
     let f = c.requires.fits in
-    let a = summary_room f.0 f.1 c.args.self.now (front_fits f.0 f.1 f.2 f.3) f.4 in
-    let b = summary_room _ f.2 c.args.later.now (back_fits f.0 f.1 f.2 f.3) f.5 in
-    sum_fits c.args.self.now.sum c.args.later.now.low (room-wider (2 ^ 60) (2 ^ 61) _ (omega arith) a.sum) b.low
+    (summary_room f.0 f.1 c.args.self.now (front_fits f.0 f.1 f.2 f.3) f.4).sum
+
+pub sum_with-requires-2-clause-later : goal.sum_with-requires-2-clause-later
+sum_with-requires-2-clause-later c =
+    let f = c.requires.fits in
+    let room = summary_room _ f.2 c.args.later.now (back_fits f.0 f.1 f.2 f.3) f.5 in
+    held-room c.args.later.now.high room.high
+
+pub sum_with-requires-3-clause-sum : goal.sum_with-requires-3-clause-sum
+sum_with-requires-3-clause-sum c =
+    let f = c.requires.fits in
+    (summary_room f.0 f.1 c.args.self.now (front_fits f.0 f.1 f.2 f.3) f.4).sum
+
+pub sum_with-requires-3-clause-later : goal.sum_with-requires-3-clause-later
+sum_with-requires-3-clause-later c =
+    let f = c.requires.fits in
+    let room = summary_room _ f.2 c.args.later.now (back_fits f.0 f.1 f.2 f.3) f.5 in
+    held-room c.args.later.now.low room.low
 
 pub returns : goal.returns
 returns c =
     let f = c.requires.fits in
-    let ra = summary_room f.0 f.1 c.args.self.now (front_fits f.0 f.1 f.2 f.3) f.4 in
-    let rb = summary_room _ f.2 c.args.later.now (back_fits f.0 f.1 f.2 f.3) f.5 in
-    let s0 = ra.sum.0 in let s1 = ra.sum.1 in
-    let h0 = ra.high.0 in let h1 = ra.high.1 in let l0 = ra.low.0 in let l1 = ra.low.1 in
-    let t0 = rb.sum.0 in let t1 = rb.sum.1 in
-    let i0 = rb.high.0 in let i1 = rb.high.1 in let m0 = rb.low.0 in let m1 = rb.low.1 in
-    let max = c.max.ensures.value in
-    let min = c.min.ensures.value in
-    credit_is (c.args.self.now.count + c.args.later.now.count) (omega (arith, ints)) (omega (arith, ints, clamps))
-    (omega (arith, ints, clamps))
-    ∙ sym (join_some c.args.self.now c.args.later.now c.if-self-eq0.false c.if-later-eq0.false)
+    let a = c.args.self.now in
+    let b = c.args.later.now in
+    let here = summary_room f.0 f.1 a (front_fits f.0 f.1 f.2 f.3) f.4 in
+    let there = summary_room _ f.2 b (back_fits f.0 f.1 f.2 f.3) f.5 in
+    credit_is (a.count + b.count)
+    (sum-held a.sum b.sum c.sum_with.result here.sum there.sum c.sum_with.ensures)
+    (max-held a.sum b.high c.sum_with-2.result here.sum there.high c.sum_with-2.ensures a.high c.max.result here.high
+    c.max.ensures.value)
+    (min-held a.sum b.low c.sum_with-3.result here.sum there.low c.sum_with-3.ensures a.low c.min.result here.low
+    c.min.ensures.value)
+    ∙ sym (join_some a b c.if-self-eq0.false c.if-later-eq0.false)
