@@ -10,11 +10,16 @@ use std::thread::Threads;
 use std::{fs, io};
 
 /// The captures that were taken between real peers, each with its exit status.
-const TAKEN: [(&str, u8); 5] = [
+const TAKEN: [(&str, u8); 10] = [
     ("connection_overflow_nginx", 1),
+    ("leaked_connection_credit_nginx", 0),
     ("negative_window_tomcat", 0),
+    ("paused_stream_node", 0),
+    ("round_trip_client_side", 0),
+    ("round_trip_server_side", 0),
     ("stream_overrun_go", 1),
     ("stream_stalls_nghttpd", 0),
+    ("tiny_window_lighttpd", 0),
     ("zero_increment_nginx", 1),
 ];
 
