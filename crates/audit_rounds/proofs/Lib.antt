@@ -4,3 +4,4 @@ pub mod Items
 pub mod Rounds
 pub mod Whole
 pub mod Cuts
+mod Unasked

@@ -10,9 +10,10 @@ ghost use Rattle.conn_scan.specs.Block.{BlockFits, connections_before};
 ghost use Rattle.conn_scan.specs.code.Walk.{numbers_from, changes_from};
 ghost use Rattle.audit_rounds.specs.code.Blocks.{IsShort, IsSum, AreSums, AreReady, Tells, AreRuns, Say};
 
+use crate::no_look::whole_block;
 use audit_terms::{Change, Finding};
 use block_scan::Summary;
-use conn_scan::{Block, BlockRun, ConnState, ConnSum, block_findings, block_sum, carries_of};
+use conn_scan::{Block, BlockRun, ConnState, ConnSum, block_sum, carries_of};
 use std::alloc::{AllocError, Global};
 use std::thread::{Threads, for_each_mut};
 
@@ -147,7 +148,7 @@ fn runs_of<R: Threads + Sync>(
             requires { (at < length blocks.now) × AreReady befores.now blocks.now }
             ensures { (before : _) (block : _) → IfOk run.exit.now (Tells credits_shown
                 (slice_index_or befores.entry.now at before) (slice_index_or blocks.entry.now at block)) }
-        { *run = block_findings(alloc, &befores[at], &blocks[at], credits_shown) },
+        { *run = whole_block(alloc, &befores[at], &blocks[at], credits_shown) },
     );
     Ok(runs)
 }
@@ -214,7 +215,7 @@ pub(crate) fn connection_run<R: Threads + Sync>(
         ≡ shown credits_shown (block_run connection_start (items_in whole.now))) }
 {
     if workers == 1 || whole.frames.len() <= size {
-        let run = block_findings(alloc, &ConnState::start(), whole, credits_shown)?;
+        let run = whole_block(alloc, &ConnState::start(), whole, credits_shown)?;
         return Ok(run.findings);
     }
     run_in_blocks(rt, alloc, workers, size, credits_shown, whole)

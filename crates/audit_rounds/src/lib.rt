@@ -12,6 +12,7 @@ mod blocks;
 mod connections;
 mod divisions;
 pub mod laws;
+mod no_look;
 mod streams;
 
 pub use divisions::{Division, connection_findings};

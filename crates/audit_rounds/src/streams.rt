@@ -6,11 +6,12 @@ ghost use Rattle.std.specs.Fork.{slice_chunk};
 ghost use Rattle.audit_rounds.specs.Openings.{opening_of};
 ghost use Rattle.audit_rounds.specs.code.Streams.{AreStreams, IsRow, Shows, shown_of};
 
+use crate::no_look::whole_stream;
 use audit_terms::{Finding, Frame};
 use split_merge::{SplitFrames, StreamRow};
 use std::alloc::{AllocError, Global};
 use std::thread::{Threads, map_chunks};
-use stream_credit::{Changes, StreamPart, StreamRun, stream_run};
+use stream_credit::{Changes, StreamPart, StreamRun};
 
 /// A connection's frames by stream, and the changes that settings bring to it.
 #[derive(Clone, Copy)]
@@ -69,7 +70,7 @@ fn run_of_row(
         frames: streams.frames,
         positions: streams.split.positions_of(row),
     };
-    stream_run(alloc, &part, streams.changes, streams.credits_shown)
+    whole_stream(alloc, &part, streams.changes, streams.credits_shown)
 }
 
 /// What a group of streams shows, one stream after the other.

@@ -6,8 +6,8 @@ use Rattle.split_merge.specs.Split.{frames_at}
 use Rattle.audit_rounds.proofs.Parts.{orderly-frames_of, acknowledged-frames_of}
 use Rattle.audit_rounds.proofs.streams.run_of_row.Goals as goal
 
-pub stream_run-requires-clause-part : goal.stream_run-requires-clause-part
-stream_run-requires-clause-part c =
+pub whole_stream-requires-clause-part : goal.whole_stream-requires-clause-part
+whole_stream-requires-clause-part c =
     let frames = c.args.streams.now.frames.now in
     let stream = c.args.row.now.stream in
     let row = c.requires.row in
@@ -19,8 +19,8 @@ stream_run-requires-clause-part c =
       orderly = subst IsOrderly (sym mine) (orderly-frames_of stream frames c.requires.streams.orderly);
     }
 
-pub stream_run-requires-clause-acknowledged : goal.stream_run-requires-clause-acknowledged
-stream_run-requires-clause-acknowledged c =
+pub whole_stream-requires-clause-acknowledged : goal.whole_stream-requires-clause-acknowledged
+whole_stream-requires-clause-acknowledged c =
     let frames = c.args.streams.now.frames.now in
     let mine : frames_at frames c.positions_of.result.now ≡ frames_of c.args.row.now.stream frames =
     ap (frames_at frames) c.positions_of.ensures ∙ c.requires.row.part.frames in
