@@ -10,7 +10,6 @@
 #[cfg(test)]
 mod captures;
 #[cfg(test)]
-#[cfg(test)]
 mod desks;
 #[cfg(test)]
 mod frame_examples;

@@ -2,7 +2,6 @@
 
 mod endings;
 mod fakes;
-mod gates;
 mod in_steps;
 mod long_captures;
 mod words;
