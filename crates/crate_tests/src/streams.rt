@@ -1,5 +1,4 @@
 //! What one stream of a connection shows.
 
 mod calls;
-mod looks;
 mod test_look;
