@@ -1,9 +1,9 @@
 -- Blocks that a connection's frames are cut into.
-use Rattle.std.proofs.Common.{◌≡◌, ℕ, zero, suc, ◌+◌, ◌*◌, ◌^◌, ◌<◌, ◌≤◌, ◌==◌, ◌&&◌, Bool, List, [], ◌∷◌, ◌++◌, append_assoc, append-nil, map, take, drop, length, length-append, get_or, All, refl, sym, ap, ◌∙◌, subst, ⊎_elim, arith, ℤ, ◌+ℤ◌}
+use Rattle.std.proofs.Common.{◌≡◌, ℕ, zero, suc, ◌+◌, ◌*◌, ◌^◌, ◌<◌, ◌≤◌, ◌==◌, ◌&&◌, Bool, List, [], ◌∷◌, ◌++◌, append_assoc, map, take, drop, length, length-append, get_or, All, refl, sym, ap, ◌∙◌, subst, ⊎_elim, arith, ℤ, ◌+ℤ◌}
 use Rattle.std.proofs.lemmas.Int.{ints}
 use Rattle.std.proofs.lemmas.Bool.{cases_lt, lt-ltb, le-ltb, ne_eqb}
-use Rattle.std.proofs.lemmas.List.{take-append-drop, map-append}
-use Rattle.std.specs.Prelude.{Result, IfOk}
+use Rattle.std.proofs.lemmas.List.{take-append-drop, map-append, get_or-take, get_or-drop, length-take-le, length-map, length-drop}
+use Rattle.std.proofs.Math.ListN.{get_or-map}
 use Rattle.std.specs.List.{AllByRecursion, list_any, find}
 use Rattle.audit_terms.specs.declared.connections.ConnectionState.{ConnectionState}
 use Rattle.audit_terms.specs.declared.findings.Finding.{Finding}
@@ -11,14 +11,13 @@ use Rattle.audit_terms.specs.declared.frames.Frame.{Frame}
 use Rattle.audit_terms.specs.declared.items.Change.{Change}
 use Rattle.audit_terms.specs.declared.items.Item.{Item}
 use Rattle.audit_terms.specs.declared.sides.Side.TheVariants.{Client, Server}
-use Rattle.audit_terms.specs.Connection.{block_run, connection_said, connection_after, connection_after_all}
+use Rattle.audit_terms.specs.Connection.{connection_start, block_run, connection_said, connection_after, connection_after_all}
 use Rattle.audit_terms.specs.Finding.{in_order, shown}
 use Rattle.audit_terms.specs.Frame.{is_headers, IsOrderly, IsOrderlyFrom}
 use Rattle.audit_terms.specs.code.Room.{HasRoom}
 use Rattle.settings_pair.specs.Changes.{AreOrderlyFrom}
 use Rattle.block_scan.specs.List.{items_of}
 use Rattle.conn_scan.specs.declared.block_items.Block.{Block}
-use Rattle.conn_scan.specs.declared.blocks.BlockRun.{BlockRun}
 use Rattle.conn_scan.specs.Items.{item_with, items_with, items_in, IsBlock, NeverFallFrom}
 use Rattle.conn_scan.specs.Block.{MovesLittle, BlockFits, connections_before}
 use Rattle.conn_scan.specs.ConnSum.{ConnSum, conn_sum_of}
@@ -26,9 +25,11 @@ use Rattle.conn_scan.specs.SideCredit.{change_of}
 use Rattle.conn_scan.specs.code.CreditLaws.{room-wider}
 use Rattle.conn_scan.specs.code.Walk.{numbers_from, changes_from}
 use Rattle.conn_scan.proofs.SumLemmas.{little-append}
-use Rattle.audit_core.proofs.OrderlyRest.{length-orderly, drop-next}
+use Rattle.audit_core.proofs.OrderlyRest.{length-orderly}
 use Rattle.split_merge.proofs.ShownMerge.{shown-append}
-use Rattle.audit_rounds.specs.code.Blocks.{IsShort, AreSums, IsReady, AreReady, AreRuns, Say, said_from}
+use Rattle.audit_rounds.specs.declared.blocks.ConnectionBlock.{ConnectionBlock}
+use Rattle.audit_rounds.specs.code.Blocks.{IsShort, AreShort, IsSum, AreSums, IsReady, blocks_in}
+use Rattle.audit_rounds.proofs.Jobs.{all-map}
 use Rattle.audit_rounds.proofs.Parts.{orderly-earlier}
 
 -- ---- what stands before a block
@@ -167,25 +168,46 @@ items-push (b ∷ blocks) block all rest items h e =
 
 -- ---- sums
 
-pub sums-are : (blocks : List Block) (sums : List ConnSum) → AreSums blocks sums
-    → sums ≡ map conn_sum_of (map items_in blocks)
+pub sums-are : (blocks : List ConnectionBlock) (sums : List ConnSum) → AreSums blocks sums
+    → sums ≡ map conn_sum_of (map items_in (blocks_in blocks))
 sums-are [] [] h = refl
 sums-are [] (sum ∷ sums) h = let n = h.number in absurd (omega arith)
-sums-are (block ∷ blocks) [] h = let n = h.number in absurd (omega arith)
-sums-are (block ∷ blocks) (sum ∷ sums) h =
+sums-are (one ∷ blocks) [] h = let n = h.number in absurd (omega arith)
+sums-are (one ∷ blocks) (sum ∷ sums) h =
     let n = h.number in
-    ap (λ s. s ∷ sums) (h.each 0 block sum (omega arith)).is
-    ∙ ap (λ l. conn_sum_of (items_in block) ∷ l)
+    ap (λ s. s ∷ sums) (h.each 0 one sum (omega arith)).is
+    ∙ ap (λ l. conn_sum_of (items_in one.block) ∷ l)
     (sums-are blocks sums (record { number = omega arith; each = λ k b s l. h.each (suc k) b s (omega arith) }))
 
-pub little-are : (blocks : List Block) (sums : List ConnSum) → AreSums blocks sums
-    → AllByRecursion MovesLittle (items_of (map items_in blocks))
+pub little-are : (blocks : List ConnectionBlock) (sums : List ConnSum) → AreSums blocks sums
+    → AllByRecursion MovesLittle (items_of (map items_in (blocks_in blocks)))
 little-are [] sums h = tt
-little-are (block ∷ blocks) [] h = let n = h.number in absurd (omega arith)
-little-are (block ∷ blocks) (sum ∷ sums) h =
+little-are (one ∷ blocks) [] h = let n = h.number in absurd (omega arith)
+little-are (one ∷ blocks) (sum ∷ sums) h =
     let n = h.number in
-    little-append (items_in block) _ (h.each 0 block sum (omega arith)).little
+    little-append (items_in one.block) _ (h.each 0 one sum (omega arith)).little
     (little-are blocks sums (record { number = omega arith; each = λ k b s l. h.each (suc k) b s (omega arith) }))
+
+-- the sums of some of the blocks
+pub sums-slice : (blocks : List ConnectionBlock) (sums : List ConnSum) (start number : ℕ) → AreSums blocks sums
+    → start + number ≤ length blocks
+    → AreSums (take number (drop start blocks)) (take number (drop start sums))
+sums-slice blocks sums start number h l =
+    let as_many = h.number in
+    let left = length-drop start blocks in
+    let left' = length-drop start sums in
+    let here = length-take-le number (drop start blocks) (omega arith) in
+    let here' = length-take-le number (drop start sums) (omega arith) in
+    record {
+      number = here' ∙ sym here;
+      each = λ n one sum within.
+          let at : n < number = omega arith in
+          let block = get_or-take number (drop start blocks) n one at ∙ get_or-drop start blocks n one in
+          let own = get_or-take number (drop start sums) n sum at ∙ get_or-drop start sums n sum in
+          subst (IsSum (get_or (take number (drop start blocks)) n one).block) (sym own)
+          (subst (λ (one : ConnectionBlock). IsSum one.block (get_or sums (start + n) sum)) (sym block)
+          (h.each (start + n) one sum (omega arith)));
+    }
 
 -- ---- the connection before each block
 
@@ -242,13 +264,14 @@ rest_fits now block later fits little =
           (server_room _ now block first fits.server);
     }
 
-before_number : (now : ConnectionState) (blocks : List Block)
+pub before_number : (now : ConnectionState) (blocks : List Block)
     → length (connections_before now (map items_in blocks)) ≡ length blocks
 before_number now [] = refl
 before_number now (block ∷ blocks) =
     ap suc (before_number (connection_after_all now (items_in block)) blocks)
 
-before_each : (now : ConnectionState) (blocks : List Block) (n : ℕ) (before : ConnectionState) (block : Block)
+-- each block may be audited from the connection before it
+pub before_each : (now : ConnectionState) (blocks : List Block) (n : ℕ) (before : ConnectionState) (block : Block)
     → n < length blocks → All IsShort blocks → BlockFits now (items_of (map items_in blocks))
     → AllByRecursion MovesLittle (items_of (map items_in blocks))
     → IsReady (get_or (connections_before now (map items_in blocks)) n before) (get_or blocks n block)
@@ -263,23 +286,20 @@ before_each now (b ∷ blocks) (suc n) before block l short fits little =
     (rest_fits now (items_in b) (items_of (map items_in blocks)) fits little)
     (little-back (items_in b) (items_of (map items_in blocks)) little)
 
-pub ready-are : (now : ConnectionState) (blocks : List Block) (befores : List ConnectionState)
-    → befores ≡ connections_before now (map items_in blocks) → All IsShort blocks
-    → BlockFits now (items_of (map items_in blocks)) → AllByRecursion MovesLittle (items_of (map items_in blocks))
-    → AreReady befores blocks
-ready-are now blocks befores e short fits little = subst (λ l. AreReady l blocks) (sym e) (record {
-  number = before_number now blocks;
-  each = λ n before block l. before_each now blocks n before block l short fits little;
-})
-
 -- ---- what is shown
 
-said_number : (c : Bool) (now : ConnectionState) (blocks : List Block)
+-- what is shown of consecutive blocks of items, from the connection before them
+abbrev pub said_from : (credits_shown : Bool) → ConnectionState → List (List Item) → List (List Finding)
+said_from credits_shown now [] = []
+said_from credits_shown now (block ∷ blocks) =
+    shown credits_shown (block_run now block) ∷ said_from credits_shown (connection_after_all now block) blocks
+
+pub said_number : (c : Bool) (now : ConnectionState) (blocks : List Block)
     → length (said_from c now (map items_in blocks)) ≡ length blocks
 said_number c now [] = refl
 said_number c now (block ∷ blocks) = ap suc (said_number c (connection_after_all now (items_in block)) blocks)
 
-said_each : (c : Bool) (now : ConnectionState) (blocks : List Block) (n : ℕ) (before : ConnectionState)
+pub said_each : (c : Bool) (now : ConnectionState) (blocks : List Block) (n : ℕ) (before : ConnectionState)
     (block : Block) (list : List Finding) → n < length blocks
     → shown c (block_run (get_or (connections_before now (map items_in blocks)) n before)
     (items_in (get_or blocks n block)))
@@ -288,27 +308,6 @@ said_each c now [] n before block list l = absurd (omega arith)
 said_each c now (b ∷ blocks) zero before block list l = refl
 said_each c now (b ∷ blocks) (suc n) before block list l =
     said_each c (connection_after_all now (items_in b)) blocks n before block list (omega arith)
-
-said-is : {E : Type 0} (c : Bool) (now : ConnectionState) (blocks : List Block) (runs : List (Result BlockRun E))
-    → AreRuns c (connections_before now (map items_in blocks)) blocks runs → (n : ℕ) (run : Result BlockRun E)
-    (list : List Finding) → n < length blocks
-    → IfOk (get_or runs n run) (λ found. found.findings.items ≡ get_or (said_from c now (map items_in blocks)) n list)
-said-is c now [] runs h n run list l = absurd (omega arith)
-said-is c now (block ∷ blocks) runs h n run list l =
-    subst (λ said. IfOk (get_or runs n run) (λ found. found.findings.items ≡ said))
-    (said_each c now (block ∷ blocks) n now block list l) (h.each n now block run l)
-
--- the runs of the blocks say what is shown of consecutive blocks
-pub say-are : {E : Type 0} (c : Bool) (now : ConnectionState) (blocks : List Block) (runs : List (Result BlockRun E))
-    → AreRuns c (connections_before now (map items_in blocks)) blocks runs
-    → Say runs (said_from c now (map items_in blocks))
-say-are c now blocks runs h =
-    let said = said_number c now blocks in
-    let told = h.number in
-    record {
-      number = omega arith;
-      each = λ n run list l. said-is c now blocks runs h n run list (omega arith);
-    }
 
 block_run-append : (now : ConnectionState) (xs ys : List Item)
     → block_run now (xs ++ ys) ≡ block_run now xs ++ block_run (connection_after_all now xs) ys
@@ -325,31 +324,58 @@ said-joined c now (block ∷ blocks) =
     ∙ sym (shown-append c (block_run now block) (block_run (connection_after_all now block) (items_of blocks)))
     ∙ ap (shown c) (sym (block_run-append now block (items_of blocks)))
 
--- one block's findings more
-pub said-more : (said : List (List Finding)) (at : ℕ) (before added after : List Finding) → at < length said
-    → added ≡ get_or said at [] → after ≡ before ++ added → before ++ items_of (drop at said) ≡ items_of said
-    → after ++ items_of (drop (at + 1) said) ≡ items_of said
-said-more said at before added after l e g h =
-    ap (λ front. front ++ items_of (drop (at + 1) said)) (g ∙ ap (λ s. before ++ s) e)
-    ∙ append_assoc before (get_or said at []) (items_of (drop (at + 1) said))
-    ∙ sym (ap (λ rest. before ++ items_of rest) (drop-next said at [] l)) ∙ h
+-- ---- one of the blocks, and the connection before it
 
-none-left : (said : List (List Finding)) (at : ℕ) → length said ≤ at → drop at said ≡ []
-none-left [] zero l = refl
-none-left [] (suc at) l = refl
-none-left (x ∷ said) zero l = absurd (omega arith)
-none-left (x ∷ said) (suc at) l = none-left said at (omega arith)
+pub befores-are : (blocks : List ConnectionBlock) (sums : List ConnSum) (start : ConnectionState)
+    (befores : List ConnectionState) → start ≡ connection_start
+    → BlockFits connection_start (items_of (map items_in (blocks_in blocks))) → AreSums blocks sums
+    → ((cut : List (List Item)) → BlockFits start (items_of cut) → AllByRecursion MovesLittle (items_of cut)
+    → sums ≡ map conn_sum_of cut → befores ≡ connections_before start cut)
+    → befores ≡ connections_before connection_start (map items_in (blocks_in blocks))
+befores-are blocks sums start befores e fits h carried =
+    let cut = map items_in (blocks_in blocks) in
+    carried cut (subst (λ now. BlockFits now (items_of cut)) (sym e) fits) (little-are blocks sums h)
+    (sums-are blocks sums h)
+    ∙ ap (λ now. connections_before now cut) e
 
-pub said-all : (said : List (List Finding)) (at : ℕ) (all : List Finding) → length said ≤ at
-    → all ++ items_of (drop at said) ≡ items_of said → all ≡ items_of said
-said-all said at all l h =
-    sym (append-nil all) ∙ ap (λ rest. all ++ items_of rest) (sym (none-left said at l)) ∙ h
+pub befores-number : (blocks : List ConnectionBlock) (befores : List ConnectionState)
+    → befores ≡ connections_before connection_start (map items_in (blocks_in blocks)) → length befores ≡ length blocks
+befores-number blocks befores e =
+    ap length e ∙ before_number connection_start (blocks_in blocks) ∙ length-map blocks _
 
--- what is written over all of a list stands in it
-pub written : {X : Type 0} (new old : List X) (n : ℕ) → length old ≡ n → length new ≡ n
-    → take n (new ++ drop (length new) old) ≡ new
-written [] [] n l k = let e : n ≡ 0 = omega arith in rw e refl
-written [] (y ∷ old) n l k = absurd (omega arith)
-written (x ∷ new) [] n l k = absurd (omega arith)
-written (x ∷ new) (y ∷ old) zero l k = absurd (omega arith)
-written (x ∷ new) (y ∷ old) (suc n) l k = ap (λ l. x ∷ l) (written new old n (omega arith) (omega arith))
+module _ (blocks : List ConnectionBlock) (befores : List ConnectionState) (at : ℕ) (before : ConnectionState)
+    (d : ConnectionBlock) (e : befores ≡ connections_before connection_start (map items_in (blocks_in blocks)))
+    (is : before ≡ get_or befores at before) (l : at < length blocks) where
+  here : get_or (connections_before connection_start (map items_in (blocks_in blocks))) at before ≡ before
+  here = sym (is ∙ ap (λ l. get_or l at before) e)
+
+  own : get_or (blocks_in blocks) at d.block ≡ (get_or blocks at d).block
+  own = get_or-map (λ (one : ConnectionBlock). one.block) blocks at d
+
+  within : at < length (blocks_in blocks)
+  within =
+      let n : length (blocks_in blocks) ≡ length blocks = length-map blocks _ in omega arith
+
+  -- it may be gone through
+  pub block-ready : AreShort blocks → BlockFits connection_start (items_of (map items_in (blocks_in blocks)))
+      → AllByRecursion MovesLittle (items_of (map items_in (blocks_in blocks)))
+      → IsReady before (get_or blocks at d).block
+  block-ready short fits little =
+      subst (IsReady before) own
+      (subst (λ now. IsReady now (get_or (blocks_in blocks) at d.block)) here
+      (before_each connection_start (blocks_in blocks) at before d.block within
+      (all-map IsShort (λ (one : ConnectionBlock). one.block) blocks short) fits little))
+
+  -- what is shown of it
+  pub block-said : (c : Bool) → shown c (block_run before (items_in (get_or blocks at d).block))
+      ≡ get_or (said_from c connection_start (map items_in (blocks_in blocks))) at []
+  block-said c =
+      ap (λ now. shown c (block_run now (items_in (get_or blocks at d).block))) (sym here)
+      ∙ ap (λ block. shown c (block_run (get_or (connections_before connection_start
+      (map items_in (blocks_in blocks))) at before) (items_in block))) (sym own)
+      ∙ said_each c connection_start (blocks_in blocks) at before d.block [] within
+
+-- an element, where there is one
+pub some_of : {X : Type 0} (xs : List X) (n : ℕ) → n < length xs → X
+some_of [] n l = absurd (omega arith)
+some_of (x ∷ xs) n l = x

@@ -1,7 +1,25 @@
 pub mod Openings
+pub mod Settling
+pub mod Told
 pub mod Parts
 pub mod Items
 pub mod Rounds
 pub mod Whole
+pub mod PartsKept
+pub mod Fronts
+pub mod Batches
 pub mod Cuts
-mod Unasked
+pub mod Layouts
+pub mod Plans
+pub mod Jobs
+pub mod Clears
+pub mod Settles
+pub mod StreamOrder
+pub mod StreamWork
+pub mod StreamPlan
+pub mod StreamReady
+pub mod Openers
+pub mod Ordered
+mod LaidOut
+pub mod StreamRounds
+pub mod StreamsLeft

@@ -17,7 +17,7 @@ pub orderly-earlier : (low high : ℕ) (frames : List Frame) → low ≤ high �
 orderly-earlier low high [] l h = tt
 orderly-earlier low high (frame ∷ frames) l h = (omega (arith, h.0), h.1, h.2)
 
-orderly-filter : (test : Frame → Bool) (low : ℕ) (frames : List Frame) → IsOrderlyFrom low frames
+pub orderly-filter : (test : Frame → Bool) (low : ℕ) (frames : List Frame) → IsOrderlyFrom low frames
     → IsOrderlyFrom low (filter test frames)
 orderly-filter test low [] h = tt
 orderly-filter test low (frame ∷ frames) h =

@@ -1,5 +1,5 @@
 -- One connection, from its parts.
-use Rattle.std.proofs.Common.{◌≡◌, ℕ, zero, suc, pos, ◌+◌, ◌*◌, ◌-◌, ◌^◌, ◌<◌, ◌≤◌, List, [], ◌∷◌, ◌++◌, map, flat_map, length, get_or, All, refl, sym, ap, ◌∙◌, subst, arith, Bool, true, false, nat_lt, true≢false}
+use Rattle.std.proofs.Common.{◌≡◌, ℕ, suc, pos, ◌+◌, ◌*◌, ◌-◌, ◌^◌, ◌<◌, ◌≤◌, List, [], ◌∷◌, ◌++◌, map, flat_map, length, refl, sym, ap, ◌∙◌, subst, arith, Bool, true, false, nat_lt, true≢false}
 use Rattle.std.specs.Prelude.{Result, Ok, Err, IfOk}
 use Rattle.std.specs.declared.cmp.Ordering.TheVariants.{Less}
 use Rattle.std.specs.Ordering.{nat_cmp, is_lt}
@@ -14,13 +14,8 @@ use Rattle.audit_terms.specs.code.Room.{HasRoom}
 use Rattle.audit_terms.specs.Connection.{connection_start}
 use Rattle.audit_terms.specs.Frame.{IsOrderly}
 use Rattle.audit_core.proofs.OrderlyRest.{length-orderly}
-use Rattle.audit_core.proofs.PassOrder.{AreStreams as Are31Bits}
 use Rattle.conn_scan.specs.Block.{BlockFits}
 use Rattle.conn_scan.specs.Items.{NeverFallFrom}
-use Rattle.split_merge.specs.declared.splits.StreamRow.{StreamRow}
-use Rattle.split_merge.specs.Split.{IsRange, IsPartOf, part_of}
-use Rattle.audit_rounds.specs.declared.streams.Streams.{Streams}
-use Rattle.audit_rounds.specs.code.Streams.{IsRow}
 
 start-room : (n : ℕ) → n < 2 ^ 28 → HasRoom (2 ^ 60 - 2 ^ 32 * n) (pos 65535)
 start-room n l = (omega (arith, ints), omega (arith, ints))
@@ -33,18 +28,6 @@ start-fits frames items now h e s =
     let n : length items < 2 ^ 28 = omega arith in
     subst (λ state. BlockFits state items) (sym s)
     (record { number = omega arith; client = start-room (length items) n; server = start-room (length items) n })
-
-small : (rows : List StreamRow) (k : ℕ) (d : StreamRow) → k < length rows
-    → Are31Bits (map (λ (row : StreamRow). row.stream) rows) → (get_or rows k d).stream < 2 ^ 31
-small [] k d l h = absurd (omega arith)
-small (row ∷ rows) zero d l h = h.0
-small (row ∷ rows) (suc k) d l h = small rows k d (omega arith) h.1
-
--- the rows of a split
-pub rows-are : (streams : Streams) (rows : List StreamRow) → All (IsRange streams.split.now) rows
-    → All (λ (row : StreamRow). IsPartOf streams.frames.now row.stream (part_of streams.split.now row)) rows
-    → Are31Bits (map (λ (row : StreamRow). row.stream) rows) → All (IsRow streams) rows
-rows-are streams rows r p s k d l = record { range = r k d l; part = p k d l; in_range = small rows k d l s }
 
 pub flat_map-map : {X Y Z : Type 0} (f : Y → List Z) (g : X → Y) (xs : List X)
     → flat_map (λ x. f (g x)) xs ≡ flat_map f (map g xs)

@@ -1,138 +1,159 @@
-//! One connection: its streams, then its connection, then all findings together.
+//! A batch of connections: each is made ready, then the rounds go over all of them, and what they found of each is put
+//! in order.
 
-ghost use Rattle.std.specs.Prelude.{◌≡◌, ◌++◌, ◌<◌, ◌^◌, IfOk, length};
-ghost use Rattle.std.specs.List.Sorted.{IsPermutation};
+ghost use Rattle.std.specs.Prelude.{◌≡◌, ℕ, ◌<◌, All, IfOk, length, map, slice_index_or};
 ghost use Rattle.audit_terms.specs.Frame.{IsOrderly};
 ghost use Rattle.audit_terms.specs.Finding.{in_order, upto_stop, shown};
-ghost use Rattle.audit_terms.specs.InForce.{changes_of};
-ghost use Rattle.audit_terms.specs.Connection.{connection_start, block_run};
-ghost use Rattle.audit_terms.specs.Pass.{pass, streams_of, items_of};
-ghost use Rattle.settings_pair.specs.Changes.{AreOrderly, AreAcknowledged};
-ghost use Rattle.conn_scan.specs.Items.{NeverFallFrom};
-ghost use Rattle.audit_rounds.specs.Openings.{openings_of};
-ghost use Rattle.audit_rounds.specs.Rounds.{streams_shown};
+ghost use Rattle.audit_terms.specs.Pass.{pass};
+ghost use Rattle.audit_rounds.specs.Settling.{frames_within};
+ghost use Rattle.audit_rounds.specs.code.Prepared.{IsPrepared, found_before};
+ghost use Rattle.audit_rounds.specs.code.Connections.{front_of, IsRest, AreRests};
 
-use crate::blocks::connection_run;
-use crate::streams::{Streams, StreamsRun, run_of_streams};
-use audit_terms::{Change, Finding, Frame};
+use crate::block_rounds::rounds_over_blocks;
+use crate::divisions::Division;
+use crate::prepared::{Prepared, prepare};
+use crate::remaining::Remaining;
+use crate::stream_round::{AfterStreams, round_over_streams};
+use audit_terms::{Finding, Frame, Place};
 use conn_scan::Block;
-use fault_rules::local_faults;
-use settings_pair::pair;
-use split_merge::{merge, split};
+use job_crew::Gate;
+use split_merge::merge;
 use std::alloc::{AllocError, Global};
 use std::thread::Threads;
-use stream_credit::Changes;
 
-/// What is shown of a connection's frames, with its streams, and its blocks of so many frames, divided over workers.
-pub(crate) fn findings_of<R: Threads + Sync>(
-    rt: &R,
-    alloc: Global,
-    workers: usize,
-    block: usize,
-    credits_shown: bool,
-    frames: &[Frame],
-) -> Result<Vec<Finding>, AllocError>
-    requires workers { 0 < workers }
-    requires block { 0 < block }
-    requires frames { IsOrderly frames.now }
-    ensures { IfOk result (λ found. found.items ≡ shown credits_shown (pass frames.now)) }
-{
-    let pairs = pair(alloc, frames)?;
-    let changes = pairs.changes.as_slice();
-    let streams = streams_in(rt, alloc, workers, credits_shown, frames, changes)?;
-    let opened = streams.opened.as_slice();
-    let connection = connection_in(
-        rt,
-        alloc,
-        workers,
-        block,
-        credits_shown,
-        frames,
-        opened,
-        changes,
-    )?;
-    let local = local_faults(rt, alloc, frames)?;
-    merged(alloc, local, pairs.findings, streams.findings, connection)
+/// What bounds the rest of the work on a connection.
+#[derive(Drop)]
+pub(crate) struct Front {
+    /// Where the connection is known to stop.
+    pub(crate) stop: Option<Place>,
+    /// The numbers of the frames that open streams.
+    pub(crate) opened: Vec<u32>,
 }
 
-/// What is shown of all streams, and the numbers of the frames that open them, in order.
-fn streams_in<R: Threads + Sync>(
+/// What is shown of each connection of a batch.
+pub(crate) fn findings_of_batch<R: Threads + Sync, G: Gate>(
     rt: &R,
     alloc: Global,
-    workers: usize,
+    division: &Division,
+    gate: &G,
     credits_shown: bool,
-    frames: &[Frame],
-    changes: &[Change],
-) -> Result<StreamsRun, AllocError>
-    requires workers { 0 < workers }
-    requires frames { IsOrderly frames.now }
-    requires changes { changes.now ≡ changes_of frames.now }
-    requires orderly { AreOrderly changes.now }
-    requires acknowledged { AreAcknowledged frames.now changes.now }
-    ensures findings { IfOk result (λ run. run.findings.items ≡ streams_shown credits_shown frames.now) }
-    ensures opened { IfOk result (λ run.
-        IsPermutation (openings_of frames.now (streams_of frames.now)) run.opened.items) }
-    ensures in_order { IfOk result (λ run. NeverFallFrom 0 run.opened.items) }
+    connections: &[&[Frame]],
+) -> Result<Vec<Vec<Finding>>, AllocError>
+    requires workers { 0 < division.now.workers }
+    requires groups { 0 < division.now.groups }
+    requires frames { All (λ frames. IsOrderly frames.now) connections.now }
+    ensures { IfOk result (λ found. map (λ one. one.items) found.items
+        ≡ map (λ frames. shown credits_shown (pass frames.now)) connections.now) }
 {
-    let split = split(alloc, frames)?;
-    let changes = Changes::of(alloc, changes)?;
-    let streams = Streams {
-        frames,
-        split: &split,
-        changes: &changes,
-        credits_shown,
-    };
-    let rows = split.rows.as_slice();
-    let share = rows.len().div_ceil(workers).max(1);
-    let mut run = run_of_streams(rt, alloc, share, &streams, rows)?;
-    run.opened.sort_unstable();
-    Ok(run)
+    let (prepared, found) = prepare_each(rt, alloc, connections)?;
+    let prepared = prepared.as_slice();
+    let streams = round_over_streams(rt, alloc, division, gate, credits_shown, prepared, found)?;
+    let (found, fronts) = apart(alloc, streams)?;
+    let rests = rest_of_each(alloc, prepared, fronts.as_slice())?;
+    let rests = rests.as_slice();
+    let last = rounds_over_blocks(rt, alloc, division, gate, credits_shown, rests, found)?;
+    settled(alloc, last)
 }
 
-/// What is shown of the connection itself.
-fn connection_in<R: Threads + Sync>(
+/// Makes each connection ready, and answers what is found of each before the rounds.
+fn prepare_each<'a, R: Threads + Sync>(
     rt: &R,
     alloc: Global,
-    workers: usize,
-    size: usize,
-    credits_shown: bool,
-    frames: &[Frame],
-    opened: &[u32],
-    changes: &[Change],
-) -> Result<Vec<Finding>, AllocError>
-    requires workers { 0 < workers }
-    requires size { 0 < size }
-    requires frames { IsOrderly frames.now }
-    requires opened { IsPermutation (openings_of frames.now (streams_of frames.now)) opened.now }
-    requires in_order { NeverFallFrom 0 opened.now }
-    requires changes { changes.now ≡ changes_of frames.now }
-    requires orderly { AreOrderly changes.now }
-    ensures { IfOk result (λ found. found.items
-        ≡ shown credits_shown (block_run connection_start (items_of frames.now))) }
+    connections: &[&'a [Frame]],
+) -> Result<(Vec<Prepared<'a>>, Vec<Vec<Finding>>), AllocError>
+    requires frames { All (λ frames. IsOrderly frames.now) connections.now }
+    ensures frames { IfOk result (λ made. map (λ one. one.frames.now) made.0.items
+        ≡ map (λ frames. frames.now) connections.now) }
+    ensures prepared { IfOk result (λ made. All IsPrepared made.0.items) }
+    ensures found { IfOk result (λ made. map (λ one. one.items) made.1.items ≡ map found_before made.0.items) }
 {
-    let whole = Block {
-        frames,
-        opened,
-        changes,
-    };
-    connection_run(rt, alloc, workers, size, credits_shown, &whole)
+    let mut prepared = Vec::with_capacity(alloc, connections.len())?;
+    let mut found = Vec::with_capacity(alloc, connections.len())?;
+    for frames in connections {
+        let (ready, before) = prepare(rt, alloc, *frames)?;
+        prepared.push(ready)?;
+        found.push(before)?;
+    }
+    Ok((prepared, found))
 }
 
-/// All findings of a connection in order, up to and including the first that stops.
-fn merged(
+/// What was found of each connection, and what bounds the rest of its work.
+fn apart(
     alloc: Global,
-    local: Vec<Finding>,
-    settings: Vec<Finding>,
-    streams: Vec<Finding>,
-    connection: Vec<Finding>,
-) -> Result<Vec<Finding>, AllocError>
-    ensures { IfOk result (λ found. found.items ≡ upto_stop (in_order
-        (((local.items ++ settings.items) ++ streams.items) ++ connection.items))) }
+    streams: Vec<AfterStreams>,
+) -> Result<(Vec<Vec<Finding>>, Vec<Front>), AllocError>
+    ensures found { IfOk result (λ parts. parts.0.items ≡ map (λ one. one.found) streams.items) }
+    ensures fronts { IfOk result (λ parts. parts.1.items ≡ map front_of streams.items) }
 {
-    let mut lists = Vec::new(alloc);
-    lists.push(local)?;
-    lists.push(settings)?;
-    lists.push(streams)?;
-    lists.push(connection)?;
-    merge(alloc, lists)
+    let mut found = Vec::with_capacity(alloc, streams.len())?;
+    let mut fronts = Vec::with_capacity(alloc, streams.len())?;
+    for one in streams {
+        found.push(one.found)?;
+        fronts.push(Front {
+            stop: one.stop,
+            opened: one.opened,
+        })?;
+    }
+    Ok((found, fronts))
+}
+
+/// The frames up to the one at which the connection stops, that one included.
+fn frames_within<'a>(stop: &Option<Place>, frames: &'a [Frame]) -> &'a [Frame]
+    requires { IsOrderly frames.now }
+    ensures { result.now ≡ frames_within stop.now frames.now }
+{
+    match stop {
+        Some(place) => {
+            let last = place.number();
+            &frames[..frames.partition_point(|frame| frame.number <= last)]
+        }
+        None => frames,
+    }
+}
+
+/// What is left to do of a connection.
+fn rest_of<'a>(connection: &'a Prepared<'a>, front: &'a Front) -> Remaining<'a>
+    requires { IsPrepared connection.now }
+    ensures { IsRest connection.now front.now result }
+{
+    Remaining {
+        whole: Block {
+            frames: frames_within(&front.stop, connection.frames),
+            opened: front.opened.as_slice(),
+            changes: connection.changes.as_slice(),
+        },
+        stop: front.stop,
+    }
+}
+
+/// What is left to do of each connection.
+fn rest_of_each<'a>(
+    alloc: Global,
+    connections: &'a [Prepared<'a>],
+    fronts: &'a [Front],
+) -> Result<Vec<Remaining<'a>>, AllocError>
+    requires number { length connections.now ≡ length fronts.now }
+    requires prepared { All IsPrepared connections.now }
+    ensures { IfOk result (λ rests. AreRests connections.now fronts.now rests.items) }
+{
+    let mut rests = Vec::with_capacity(alloc, connections.len())?;
+    for front in fronts {
+        let rest = rest_of(&connections[rests.len()], front);
+        rests.extend_from_slice(&[rest])?;
+    }
+    Ok(rests)
+}
+
+/// Each list in order, up to and including the first that stops.
+fn settled(alloc: Global, lists: Vec<Vec<Finding>>) -> Result<Vec<Vec<Finding>>, AllocError>
+    ensures { IfOk result (λ all. map (λ one. one.items) all.items
+        ≡ map (λ list. upto_stop (in_order list.items)) lists.items) }
+{
+    let mut all = Vec::with_capacity(alloc, lists.len())?;
+    for list in lists {
+        let mut alone = Vec::with_capacity(alloc, 1)?;
+        alone.push(list)?;
+        all.push(merge(alloc, alone)?)?;
+    }
+    Ok(all)
 }

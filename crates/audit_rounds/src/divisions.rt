@@ -1,10 +1,11 @@
-ghost use Rattle.std.specs.Prelude.{◌≡◌, ◌<◌, IfOk};
+ghost use Rattle.std.specs.Prelude.{◌≡◌, ◌<◌, ◌≤◌, All, IfOk, length, map};
 ghost use Rattle.audit_terms.specs.Frame.{IsOrderly};
 ghost use Rattle.audit_terms.specs.Finding.{shown};
 ghost use Rattle.audit_terms.specs.Pass.{pass};
 
-use crate::connections::findings_of;
+use crate::connections::findings_of_batch;
 use audit_terms::{Finding, Frame};
+use job_crew::Gate;
 use std::alloc::{AllocError, Global};
 use std::thread::Threads;
 
@@ -19,33 +20,66 @@ pub struct Division {
     pub block: u32,
 }
 
-/// Fewer frames than this are not worth a second thread.
-const FEW_FRAMES: usize = 4096;
+/// How many frames, and how many connections, are in a batch of more than one connection. What the rounds need beside
+/// the frames is there for one batch at a time, and so many frames are enough to keep all workers at work.
+const BATCH: usize = 1 << 22;
 
-/// How many workers go over so many frames.
-fn workers_for(division: &Division, frames: usize) -> usize
-    ensures { 0 < result }
-{
-    if frames < FEW_FRAMES {
-        1
-    } else {
-        division.workers.min(division.groups).max(1) as usize
+impl Division {
+    /// The same division, with 1 for 0.
+    fn filled(&self) -> Division
+        ensures workers { 0 < result.workers }
+        ensures groups { 0 < result.groups }
+        ensures block { 0 < result.block }
+    {
+        Division {
+            workers: self.workers.max(1),
+            groups: self.groups.max(1),
+            block: self.block.max(1),
+        }
     }
 }
 
-/// What is shown of one connection's frames: what one pass over them says up to the first connection error (RFC 9113,
-/// 5.4.1), with or without credits. Without memory there is no answer.
-pub fn connection_findings<R: Threads + Sync>(
+/// How many connections make the next batch.
+fn batch_length(connections: &[&[Frame]]) -> usize
+    requires { 0 < length connections.now }
+    ensures some { 0 < result }
+    ensures within { result ≤ length connections.now }
+{
+    let mut count = 0;
+    let mut together = 0;
+    for frames in connections {
+        together += frames.len();
+        if together > BATCH || count == BATCH {
+            break;
+        }
+        count += 1;
+    }
+    count.max(1)
+}
+
+/// What is shown of each connection, from its frames: what one pass over them says up to the first connection error
+/// (RFC 9113, 5.4.1), with or without credits. Without memory there is no answer.
+pub fn findings_of_each<R: Threads + Sync, G: Gate>(
     rt: &R,
     alloc: Global,
     division: &Division,
+    gate: &G,
     credits_shown: bool,
-    frames: &[Frame],
-) -> Result<Vec<Finding>, AllocError>
-    requires { IsOrderly frames.now }
-    ensures { IfOk result (λ found. found.items ≡ shown credits_shown (pass frames.now)) }
+    connections: &[&[Frame]],
+) -> Result<Vec<Vec<Finding>>, AllocError>
+    requires { All (λ frames. IsOrderly frames.now) connections.now }
+    ensures { IfOk result (λ found. map (λ one. one.items) found.items
+        ≡ map (λ frames. shown credits_shown (pass frames.now)) connections.now) }
 {
-    let workers = workers_for(division, frames.len());
-    let block = division.block.max(1) as usize;
-    findings_of(rt, alloc, workers, block, credits_shown, frames)
+    let division = division.filled();
+    let mut all = Vec::with_capacity(alloc, connections.len())?;
+    let mut done = 0;
+    while done < connections.len() {
+        let (_, rest) = connections.split_at(done);
+        let (batch, _) = rest.split_at(batch_length(rest));
+        let mut found = findings_of_batch(rt, alloc, &division, gate, credits_shown, batch)?;
+        all.append(&mut found)?;
+        done += batch.len();
+    }
+    Ok(all)
 }

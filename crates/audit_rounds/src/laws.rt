@@ -3,10 +3,17 @@
 ghost use Rattle.audit_rounds.specs.Openings.{OpeningsAreFound};
 ghost use Rattle.audit_rounds.specs.Items.{ItemsAreFound};
 ghost use Rattle.audit_rounds.specs.Rounds.{RoundsMakePass};
+ghost use Rattle.audit_rounds.specs.Settling.{RoundsSettle, OpeningsAreTold};
 
 /// What the rounds of a divided audit show makes what is shown of the pass, however the frames are cut into blocks.
 pub fn rounds_make_the_pass()
     ensures { RoundsMakePass }
+{}
+
+/// They do so as well where the round over streams has left out what lies past the stop, and the blocks are those of
+/// the frames up to it: what lies past a stop does not count, and the openings up to it are known.
+pub fn rounds_settle()
+    ensures { RoundsSettle }
 {}
 
 /// The frames that open their streams in the pass are the HEADERS whose numbers the streams by themselves tell.
@@ -17,4 +24,10 @@ pub fn openings_are_found()
 /// So the items of the pass are found from those numbers and the connection's changes.
 pub fn items_are_found()
     ensures { ItemsAreFound }
+{}
+
+/// The run of a stream that went up to some place tells its opening if that stands there, so the runs of all streams,
+/// each of which reached the stop, tell the openings up to the stop.
+pub fn openings_are_told()
+    ensures { OpeningsAreTold }
 {}

@@ -1,17 +1,15 @@
-//! The streams of a connection, each by itself, a job being a group of them.
+//! The streams of a connection, each by itself.
 
-ghost use Rattle.std.specs.Prelude.{◌≡◌, ℕ, ◌++◌, ◌*◌, ◌<◌, ◌≤◌, IfOk, OnOk, All, length, slice_index_or};
+ghost use Rattle.std.specs.Prelude.{◌≡◌, ◌++◌, ◌<◌, IfOk, OnOk, All};
 ghost use Rattle.std.specs.Option.{option_to_list};
-ghost use Rattle.std.specs.Fork.{slice_chunk};
-ghost use Rattle.audit_rounds.specs.Openings.{opening_of};
-ghost use Rattle.audit_rounds.specs.code.Streams.{AreStreams, IsRow, Shows, shown_of};
+ghost use Rattle.settings_pair.specs.Changes.{AreOrderly};
+ghost use Rattle.audit_rounds.specs.code.Streams.{IsRow, IsWork, lesser, row_shown, row_opened, rows_shown, rows_opened};
 
-use crate::no_look::whole_stream;
-use audit_terms::{Finding, Frame};
+use audit_terms::{Frame, Look, Place, put_in_order};
+use job_crew::Work;
 use split_merge::{SplitFrames, StreamRow};
 use std::alloc::{AllocError, Global};
-use std::thread::{Threads, map_chunks};
-use stream_credit::{Changes, StreamPart, StreamRun};
+use stream_credit::{Changes, StreamPart, StreamRun, stream_run};
 
 /// A connection's frames by stream, and the changes that settings bring to it.
 #[derive(Clone, Copy)]
@@ -19,126 +17,76 @@ pub(crate) struct Streams<'a> {
     pub(crate) frames: &'a [Frame],
     pub(crate) split: &'a SplitFrames,
     pub(crate) changes: &'a Changes<'a>,
-    pub(crate) credits_shown: bool,
 }
 
-/// What some streams show, and the numbers of the frames that open them.
-#[derive(Drop)]
-pub(crate) struct StreamsRun {
-    pub(crate) findings: Vec<Finding>,
-    pub(crate) opened: Vec<u32>,
-}
-
-impl StreamsRun {
-    /// Adds what one stream shows.
-    fn add(&mut self, mut run: StreamRun) -> Result<(), AllocError>
-        ensures findings { OnOk result (self.new.findings.items ≡ self.old.findings.items ++ run.findings.items) }
-        ensures opened { OnOk result (self.new.opened.items ≡ self.old.opened.items ++ option_to_list run.opened_at) }
-    {
-        self.findings.append(&mut run.findings)?;
-        if let Some(number) = run.opened_at {
-            self.opened.push(number)?;
-        }
-        Ok(())
-    }
-
-    /// Adds what further streams show.
-    fn append(&mut self, run: &StreamsRun) -> Result<(), AllocError>
-        ensures findings { OnOk result (self.new.findings.items ≡ self.old.findings.items ++ run.now.findings.items) }
-        ensures opened { OnOk result (self.new.opened.items ≡ self.old.opened.items ++ run.now.opened.items) }
-    {
-        self.findings.extend_from_slice(run.findings.as_slice())?;
-        self.opened.extend_from_slice(run.opened.as_slice())
-    }
-}
-
-/// What one stream shows.
-fn run_of_row(
+/// What one stream shows, with a look.
+fn run_of_row<L: Look>(
     alloc: Global,
     streams: &Streams<'_>,
     row: &StreamRow,
+    credits_shown: bool,
+    look: &mut L,
 ) -> Result<StreamRun, AllocError>
-    requires streams { AreStreams streams.now }
+    requires changes { AreOrderly streams.now.changes.now }
     requires row { IsRow streams.now row.now }
-    ensures findings { IfOk result (λ run. run.findings.items
-        ≡ shown_of streams.now.credits_shown streams.now.frames.now row.now.stream) }
-    ensures opened { IfOk result (λ run. option_to_list run.opened_at
-        ≡ opening_of streams.now.frames.now row.now.stream) }
+    ensures { IfOk result (λ run. IsWork L.answers look.old look.new (row_shown credits_shown streams.now row.now)
+        (option_to_list (row_opened streams.now row.now)) run.upto run.findings.items (option_to_list run.opened_at)) }
 {
     let part = StreamPart {
         stream: row.stream,
         frames: streams.frames,
         positions: streams.split.positions_of(row),
     };
-    whole_stream(alloc, &part, streams.changes, streams.credits_shown)
+    stream_run(alloc, &part, streams.changes, credits_shown, look)
 }
 
-/// What a group of streams shows, one stream after the other.
-fn run_of_group(
+/// The lesser of two places up to which runs went.
+pub(crate) fn lesser(one: &Option<Place>, other: &Option<Place>) -> Option<Place>
+    ensures { result ≡ lesser one.now other.now }
+{
+    match (one, other) {
+        (Some(one), Some(other)) => Some(*one.min(other)),
+        (Some(one), None) => Some(*one),
+        (None, other) => *other,
+    }
+}
+
+/// Adds what one stream shows.
+fn add(work: &mut Work<Vec<u32>>, mut run: StreamRun) -> Result<(), AllocError>
+    ensures findings { OnOk result (work.new.findings.items ≡ work.old.findings.items ++ run.findings.items) }
+    ensures upto { OnOk result (work.new.upto ≡ lesser work.old.upto run.upto) }
+    ensures opened { OnOk result (work.new.made.items ≡ work.old.made.items ++ option_to_list run.opened_at) }
+{
+    work.findings.append(&mut run.findings)?;
+    work.upto = lesser(&work.upto, &run.upto);
+    if let Some(number) = run.opened_at {
+        work.made.push(number)?;
+    }
+    Ok(())
+}
+
+/// What a group of streams shows, one stream after the other, put in order.
+pub(crate) fn run_of_rows<L: Look>(
     alloc: Global,
     streams: &Streams<'_>,
     rows: &[StreamRow],
-) -> Result<StreamsRun, AllocError>
-    requires streams { AreStreams streams.now }
+    credits_shown: bool,
+    look: &mut L,
+) -> Result<Work<Vec<u32>>, AllocError>
+    requires changes { AreOrderly streams.now.changes.now }
     requires rows { All (IsRow streams.now) rows.now }
-    ensures { IfOk result (Shows streams.now rows.now) }
+    ensures { IfOk result (λ work. IsWork L.answers look.old look.new (rows_shown credits_shown streams.now rows.now)
+        (rows_opened streams.now rows.now) work.upto work.findings.items work.made.items) }
 {
-    let mut group = StreamsRun {
+    let mut work = Work {
         findings: Vec::new(alloc),
-        opened: Vec::new(alloc),
+        upto: None,
+        made: Vec::new(alloc),
     };
     for row in rows {
-        group.add(run_of_row(alloc, streams, row)?)?;
+        let run = run_of_row(alloc, streams, row, credits_shown, look)?;
+        add(&mut work, run)?;
     }
-    Ok(group)
-}
-
-/// What streams show, in their order. Each worker has so many consecutive streams in advance, and the thread at hand
-/// does the work of one for which there is no thread.
-pub(crate) fn run_of_streams<R: Threads + Sync>(
-    rt: &R,
-    alloc: Global,
-    share: usize,
-    streams: &Streams<'_>,
-    rows: &[StreamRow],
-) -> Result<StreamsRun, AllocError>
-    requires share { 0 < share }
-    requires streams { AreStreams streams.now }
-    requires rows { All (IsRow streams.now) rows.now }
-    ensures { IfOk result (Shows streams.now rows.now) }
-{
-    let shares = map_chunks(
-        rt,
-        alloc,
-        rows,
-        share,
-        &|_, part| run_of_group(alloc, streams, part),
-    )?;
-    joined(alloc, share, streams, rows, shares.as_slice())
-}
-
-/// What the shares show, one after the other.
-fn joined(
-    alloc: Global,
-    share: usize,
-    streams: &Streams<'_>,
-    rows: &[StreamRow],
-    shares: &[Result<StreamsRun, AllocError>],
-) -> Result<StreamsRun, AllocError>
-    requires whole { length rows.now ≤ length shares.now * share }
-    requires each { (n : ℕ) (d : _) → n < length shares.now
-        → IfOk (slice_index_or shares.now n d) (Shows streams.now (slice_chunk rows.now share n)) }
-    ensures { IfOk result (Shows streams.now rows.now) }
-{
-    let mut all = StreamsRun {
-        findings: Vec::new(alloc),
-        opened: Vec::new(alloc),
-    };
-    for run in shares {
-        match run {
-            Ok(run) => all.append(run)?,
-            Err(error) => return Err(*error),
-        }
-    }
-    Ok(all)
+    put_in_order(&mut work.findings)?;
+    Ok(work)
 }

@@ -4,4 +4,5 @@ mod Audits
 mod OneReport
 mod Numbers
 mod OptionReads
-pub mod Shares
+mod Flows
+mod Opened

@@ -1,3 +1,3 @@
 pub mod Account
 pub mod Numbers
-pub mod Shares
+pub mod Flows

@@ -5,13 +5,12 @@ ghost use Rattle.h2audit.specs.Choices.{choices};
 ghost use Rattle.h2audit.specs.Report.{IsReport, IsReportOn};
 ghost use Rattle.h2audit.specs.Run.{IsNoReport};
 
-use crate::connection::verdict_on;
-use crate::dealing::audit_each;
+use crate::connection::{audit_each, verdict_on};
 use crate::fault::AuditFault;
-use crate::gate::Gate;
 use crate::options::Options;
 use crate::verdict::Verdict;
 use audit_report::report;
+use job_crew::Gate;
 use packet_heads::decode_all;
 use pcap_records::{PcapFault, Records, records};
 use std::alloc::{AllocError, Global};
@@ -26,14 +25,14 @@ pub fn audit(
     alloc: Global,
     options: &Options,
     capture: &[u8],
-    _gate: &impl Gate,
+    gate: &impl Gate,
 ) -> Result<(Vec<u8>, Verdict), AuditFault>
     ensures report { IfOk result
         (λ r. IsReport capture.now (choices options.now).frames_shown r.0.items r.1) }
     ensures refused { IfErr result (λ e. IsNoReport capture.now e) }
 {
     match records(alloc, capture) {
-        Ok(found) => match audit_records(rt, alloc, &found, capture, options) {
+        Ok(found) => match audit_records(rt, alloc, &found, capture, options, gate) {
             Ok(answer) => Ok(answer),
             Err(_) => Err(AuditFault::OutOfMemory),
         },
@@ -49,6 +48,7 @@ fn audit_records(
     found: &Records,
     capture: &[u8],
     options: &Options,
+    gate: &impl Gate,
 ) -> Result<(Vec<u8>, Verdict), AllocError>
     requires size { length capture.now < 2 ^ 31 }
     requires linked { IsTrue (is_read found.now.link) }
@@ -66,6 +66,7 @@ fn audit_records(
         capture,
         packets.as_slice(),
         connections.opened.as_slice(),
+        gate,
     )?;
     let text = report(
         alloc,

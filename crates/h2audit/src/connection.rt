@@ -1,129 +1,159 @@
-ghost use Rattle.std.specs.Prelude.{◌≡◌, ◌<◌, ◌≤◌, ◌^◌, All, IfOk, length, vec_len};
+//! The audits of all connections of a capture: their flows, what these hold, and what is found in the frames.
+
+ghost use Rattle.std.specs.Prelude.{◌≡◌, ◌<◌, ◌^◌, All, IfOk, length, map};
 ghost use Rattle.packet_heads.specs.Order.{AreNumberedFrom, PayloadsRise, TimesFit};
-ghost use Rattle.tcp_streams.specs.Arrivals.{IsOrderly};
-ghost use Rattle.tcp_streams.specs.Members.{AreMembers, payload_sum, side_segments};
+ghost use Rattle.tcp_streams.specs.Members.{AreMembers};
 ghost use Rattle.tcp_streams.specs.declared.members.Connection.{Connection};
-ghost use Rattle.h2_frames.specs.Cut.{HasOrderlyFrames};
 ghost use Rattle.audit_report.specs.declared.audited.Audited.{Audited};
-ghost use Rattle.h2audit.specs.Audited.{AreAudited, IsAudited, IsFlowOf, findings_of, has_fault, verdict_of};
+ghost use Rattle.h2_frames.specs.Cut.{HasOrderlyFrames};
+ghost use Rattle.h2audit.specs.Audited.{AreAudited, findings_of, has_fault, verdict_of};
+ghost use Rattle.h2audit.specs.Choices.{choices};
+ghost use Rattle.h2audit.specs.code.Flows.{AreConnectionCuts, frames_in, found_in, audit_with, audits_of};
 ghost use Rattle.audit_terms.specs.declared.findings.Finding.{Finding};
 ghost use Rattle.audit_terms.specs.Kind.{is_fault};
 ghost use Rattle.std.specs.List.{list_any};
 
+use crate::flow_round::{ConnectionCut, FlowRound};
+use crate::options::Options;
 use crate::verdict::Verdict;
-use audit_report::{Audited, Extent};
-use audit_rounds::{Division, connection_findings};
-use audit_terms::{Finding, Side};
-use h2_frames::{Cut, cut};
+use audit_report::Audited;
+use audit_rounds::findings_of_each;
+use audit_terms::{Finding, Frame, Place};
+use h2_frames::Cut;
+use job_crew::{Gate, Part, settle};
 use packet_heads::Packet;
 use std::alloc::{AllocError, Global};
 use std::thread::Threads;
-use tcp_streams::{Connection, Flow, assemble};
+use tcp_streams::Connection;
 
-/// The audits of some connections, one after the other.
-pub(crate) fn audit_in_turn(
+/// The audits of the connections of a capture, in order.
+pub(crate) fn audit_each(
     rt: &(impl Threads + Sync),
     alloc: Global,
-    division: &Division,
-    credits_shown: bool,
+    options: &Options,
     capture: &[u8],
     packets: &[Packet],
     opened: &[Connection],
+    gate: &impl Gate,
 ) -> Result<Vec<Audited>, AllocError>
     requires size { length capture.now < 2 ^ 31 }
+    requires few { length opened.now < 2 ^ 32 }
     requires numbered { AreNumberedFrom 1 packets.now }
     requires payloads { PayloadsRise 0 (length capture.now) packets.now }
     requires times { TimesFit packets.now }
     requires members { All (λ (c : Connection). AreMembers 0 packets.now c.members.items) opened.now }
-    ensures audits { IfOk result (λ each. AreAudited credits_shown capture.now packets.now opened.now each.items) }
+    ensures audits { IfOk result (λ each. AreAudited (choices options.now).frames_shown capture.now
+        packets.now opened.now each.items) }
     ensures orderly { IfOk result (λ each. All (λ (a : Audited). HasOrderlyFrames a.cut) each.items) }
 {
-    let mut each = Vec::with_capacity(alloc, opened.len())?;
-    for connection in opened {
-        let audited = audit_connection(
-            rt,
-            alloc,
-            division,
-            credits_shown,
-            capture,
-            packets,
-            connection,
-        )?;
-        each.push(audited)?;
-    }
+    let cuts = cut_each(rt, alloc, options, capture, packets, opened, gate)?;
+    let found = find_each(rt, alloc, options, cuts.as_slice(), gate)?;
+    let each = together(alloc, cuts, found)?;
     Ok(each)
 }
 
-/// The audit of one connection: its two flows, what they hold, and what is found in the frames.
-fn audit_connection(
+/// What the flows of each connection hold, in order.
+fn cut_each(
     rt: &(impl Threads + Sync),
     alloc: Global,
-    division: &Division,
-    credits_shown: bool,
+    options: &Options,
     capture: &[u8],
     packets: &[Packet],
-    connection: &Connection,
-) -> Result<Audited, AllocError>
+    opened: &[Connection],
+    gate: &impl Gate,
+) -> Result<Vec<Part<ConnectionCut>>, AllocError>
     requires size { length capture.now < 2 ^ 31 }
+    requires few { length opened.now < 2 ^ 32 }
     requires numbered { AreNumberedFrom 1 packets.now }
     requires payloads { PayloadsRise 0 (length capture.now) packets.now }
     requires times { TimesFit packets.now }
-    requires members { AreMembers 0 packets.now connection.now.members.items }
-    ensures audit { IfOk result (IsAudited credits_shown capture.now packets.now connection.now) }
-    ensures orderly { IfOk result (λ a. HasOrderlyFrames a.cut) }
+    requires members { All (λ (c : Connection). AreMembers 0 packets.now c.members.items) opened.now }
+    ensures { IfOk result (λ cuts. AreConnectionCuts capture.now packets.now opened.now cuts.items) }
 {
-    let client = flow_of(alloc, capture, packets, connection, Side::Client)?;
-    let server = flow_of(alloc, capture, packets, connection, Side::Server)?;
-    let cut = cut(alloc, &client, &server)?;
-    let extents = Extent::of_both(&client, &server);
-    // Of the flows the report needs no more.
-    drop(client);
-    drop(server);
-    let findings = findings_in(rt, alloc, division, credits_shown, &cut)?;
-    Ok(Audited {
-        extents,
-        cut,
-        findings,
-    })
+    let mut stops: Vec<Option<Place>> = Vec::new(alloc);
+    stops.resize(opened.len(), None)?;
+    let round = FlowRound {
+        capture,
+        packets,
+        opened,
+    };
+    let settled = settle(
+        rt,
+        alloc,
+        options.division().workers,
+        gate,
+        FLOWS,
+        stops.as_slice(),
+        &round,
+    )?;
+    Ok(settled.parts)
 }
 
-/// The flow of one side.
-fn flow_of(
-    alloc: Global,
-    capture: &[u8],
-    packets: &[Packet],
-    connection: &Connection,
-    side: Side,
-) -> Result<Flow, AllocError>
-    requires size { length capture.now < 2 ^ 31 }
-    requires numbered { AreNumberedFrom 1 packets.now }
-    requires payloads { PayloadsRise 0 (length capture.now) packets.now }
-    requires times { TimesFit packets.now }
-    requires members { AreMembers 0 packets.now connection.now.members.items }
-    ensures flow { IfOk result (IsFlowOf capture.now packets.now connection.now side) }
-    ensures within { IfOk result (λ f. vec_len f.bytes ≤ payload_sum (side_segments packets.now connection.now side)) }
-    ensures orderly { IfOk result IsOrderly }
-{
-    assemble(alloc, capture, packets, connection, side)
-}
+/// The number of the first round.
+const FLOWS: u8 = 0;
 
-/// What is found in the frames of a cut.
-fn findings_in(
+/// What is found in the frames of each connection, in order.
+fn find_each(
     rt: &(impl Threads + Sync),
     alloc: Global,
-    division: &Division,
-    credits_shown: bool,
-    cut: &Cut,
-) -> Result<Vec<Finding>, AllocError>
-    requires { HasOrderlyFrames cut.now }
-    ensures { IfOk result (λ found. found.items ≡ findings_of credits_shown cut.now) }
+    options: &Options,
+    cuts: &[Part<ConnectionCut>],
+    gate: &impl Gate,
+) -> Result<Vec<Vec<Finding>>, AllocError>
+    requires { All (λ cut. HasOrderlyFrames cut.made.cut) cuts.now }
+    ensures { IfOk result (λ found. map (λ one. one.items) found.items
+        ≡ found_in (choices options.now).frames_shown cuts.now) }
+{
+    let mut frames = Vec::with_capacity(alloc, cuts.len())?;
+    for cut in cuts {
+        frames.push(frames_in(&cut.made.cut))?;
+    }
+    let credits_shown = options.frames_shown();
+    let found = findings_of_each(
+        rt,
+        alloc,
+        &options.division(),
+        gate,
+        credits_shown,
+        frames.as_slice(),
+    )?;
+    Ok(found)
+}
+
+/// The frames of a connection, if it is one of HTTP/2.
+fn frames_in(cut: &Cut) -> &[Frame]
+    ensures { result.now ≡ frames_in cut.now }
 {
     match cut {
-        Cut::Http2 { frames, .. } => {
-            connection_findings(rt, alloc, division, credits_shown, frames.as_slice())
-        }
-        _ => Ok(Vec::new(alloc)),
+        Cut::Http2 { frames, .. } => frames.as_slice(),
+        _ => &[],
     }
+}
+
+/// The audit of each connection, from what its flows hold and what is found in its frames.
+fn together(
+    alloc: Global,
+    cuts: Vec<Part<ConnectionCut>>,
+    found: Vec<Vec<Finding>>,
+) -> Result<Vec<Audited>, AllocError>
+    requires number { length found.items ≡ length cuts.items }
+    ensures audits { IfOk result (λ each. each.items ≡ audits_of cuts.items found.items) }
+{
+    cuts.into_iter()
+        .zip(found)
+        .map(
+            |pair: (Part<ConnectionCut>, Vec<Finding>)| -> Audited
+                ensures { result ≡ audit_with pair }
+            {
+                let (part, findings) = pair;
+                Audited {
+                    extents: part.made.extents,
+                    cut: part.made.cut,
+                    findings,
+                }
+            },
+        )
+        .collect(alloc)
 }
 
 /// Faults where some connection has a finding that is a fault.

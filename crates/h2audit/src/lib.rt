@@ -4,9 +4,8 @@
 mod auditing;
 mod command;
 mod connection;
-mod dealing;
 mod fault;
-mod gate;
+mod flow_round;
 pub mod laws;
 mod options;
 mod reading;
@@ -19,7 +18,7 @@ mod writing;
 
 pub use auditing::audit;
 pub use fault::AuditFault;
-pub use gate::{Gate, NoGate};
+pub use job_crew::{Gate, NoGate};
 pub use options::Options;
 pub use running::{run, run_seen};
 pub use seen::Seen;

@@ -6,12 +6,12 @@ ghost use Rattle.h2audit.specs.Seen.{Tells};
 
 use crate::auditing::audit;
 use crate::fault::AuditFault;
-use crate::gate::Gate;
 use crate::options::Options;
 use crate::reading::read_capture;
 use crate::seen::Seen;
 use crate::verdict::Verdict;
 use crate::writing::write_report;
+use job_crew::Gate;
 use std::alloc::Global;
 use std::io::{Read, Write};
 use std::thread::Threads;

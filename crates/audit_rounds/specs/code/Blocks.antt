@@ -1,64 +1,70 @@
--- The blocks that a connection's frames are cut into, and what is known of each.
-use Rattle.std.specs.Prelude.{◌≡◌, ℕ, ◌<◌, ◌≤◌, ◌^◌, Bool, Result, IfOk, List, [], ◌∷◌, length, slice_index_or}
+-- The blocks that connections' frames are cut into, and what is known of each.
+use Rattle.std.specs.Prelude.{◌≡◌, ℕ, ◌+◌, ◌<◌, ◌≤◌, ◌^◌, All, List, [], ◌∷◌, ◌++◌, length, map, slice_index_or}
 use Rattle.std.specs.List.{AllByRecursion}
 use Rattle.audit_terms.specs.declared.connections.ConnectionState.{ConnectionState}
-use Rattle.audit_terms.specs.declared.findings.Finding.{Finding}
 use Rattle.audit_terms.specs.declared.items.Item.{Item}
-use Rattle.audit_terms.specs.Connection.{block_run, connection_after_all}
-use Rattle.audit_terms.specs.Finding.{shown}
+use Rattle.block_scan.specs.List.{items_of}
 use Rattle.conn_scan.specs.declared.block_items.Block.{Block}
-use Rattle.conn_scan.specs.declared.blocks.BlockRun.{BlockRun}
 use Rattle.conn_scan.specs.Items.{items_in, IsBlock}
 use Rattle.conn_scan.specs.Block.{MovesLittle, BlockFits}
 use Rattle.conn_scan.specs.ConnSum.{ConnSum, conn_sum_of}
+use Rattle.audit_rounds.specs.declared.remaining.Remaining.{Remaining}
+use Rattle.audit_rounds.specs.declared.blocks.ConnectionBlock.{ConnectionBlock}
 
 -- a block that may be summed
 pub record IsShort (block : Block) : Type 0 where
   pub is_block : IsBlock block
   pub number : length block.frames.now ≤ 2 ^ 28
 
--- the summary of a block, whose items move credits by little
-pub record IsSum (block : Block) (sum : ConnSum) : Type 0 where
-  pub is : sum ≡ conn_sum_of (items_in block)
-  pub little : AllByRecursion MovesLittle (items_in block)
-
--- the summary of each block
-pub record AreSums (blocks : List Block) (sums : List ConnSum) : Type 0 where
-  pub number : length sums ≡ length blocks
-  pub each : (n : ℕ) (block : Block) (sum : ConnSum) → n < length blocks
-      → IsSum (slice_index_or blocks n block) (slice_index_or sums n sum)
+-- all blocks may be summed
+abbrev pub AreShort : List ConnectionBlock → Type 0
+AreShort blocks = All (λ (one : ConnectionBlock). IsShort one.block) blocks
 
 -- a connection from which a block may be audited
 pub record IsReady (before : ConnectionState) (block : Block) : Type 0 where
   pub is_block : IsBlock block
   pub fits : BlockFits before (items_in block)
 
--- a connection for each block
-pub record AreReady (befores : List ConnectionState) (blocks : List Block) : Type 0 where
-  pub number : length befores ≡ length blocks
-  pub each : (n : ℕ) (before : ConnectionState) (block : Block) → n < length blocks
-      → IsReady (slice_index_or befores n before) (slice_index_or blocks n block)
+-- the summary of a block, whose items move credits by little
+pub record IsSum (block : Block) (sum : ConnSum) : Type 0 where
+  pub is : sum ≡ conn_sum_of (items_in block)
+  pub little : AllByRecursion MovesLittle (items_in block)
 
--- what is shown of a block
-abbrev pub Tells : (credits_shown : Bool) → ConnectionState → Block → BlockRun → Type 0
-Tells credits_shown before block run = run.findings.items ≡ shown credits_shown (block_run before (items_in block))
+-- the blocks alone
+abbrev pub blocks_in : List ConnectionBlock → List Block
+blocks_in all = map (λ (one : ConnectionBlock). one.block) all
 
--- what is shown of each block
-pub record AreRuns {E : Type 0} (credits_shown : Bool) (befores : List ConnectionState) (blocks : List Block)
-    (runs : List (Result BlockRun E)) : Type 0 where
-  pub number : length runs ≡ length blocks
-  pub each : (n : ℕ) (before : ConnectionState) (block : Block) (run : Result BlockRun E) → n < length blocks
-      → IfOk (slice_index_or runs n run)
-      (Tells credits_shown (slice_index_or befores n before) (slice_index_or blocks n block))
+-- the summary of each block
+pub record AreSums (blocks : List ConnectionBlock) (sums : List ConnSum) : Type 0 where
+  pub number : length sums ≡ length blocks
+  pub each : (n : ℕ) (one : ConnectionBlock) (sum : ConnSum) → n < length blocks
+      → IsSum (slice_index_or blocks n one).block (slice_index_or sums n sum)
 
--- what some runs say, where there is one
-pub record Say {E : Type 0} (runs : List (Result BlockRun E)) (said : List (List Finding)) : Type 0 where
-  pub number : length said ≡ length runs
-  pub each : (n : ℕ) (run : Result BlockRun E) (list : List Finding) → n < length runs
-      → IfOk (slice_index_or runs n run) (λ found. found.findings.items ≡ slice_index_or said n list)
+-- blocks as those of a connection
+abbrev pub blocks_of_connection : (connection : ℕ) → List Block → List ConnectionBlock
+blocks_of_connection connection blocks =
+    map (λ (block : Block). record { connection = connection; block = block }) blocks
 
--- what is shown of consecutive blocks of items, from the connection before them
-abbrev pub said_from : (credits_shown : Bool) → ConnectionState → List (List Item) → List (List Finding)
-said_from credits_shown now [] = []
-said_from credits_shown now (block ∷ blocks) =
-    shown credits_shown (block_run now block) ∷ said_from credits_shown (connection_after_all now block) blocks
+-- the blocks of consecutive connections, the first of this number, one connection's after the other's
+abbrev pub laid_out : (connection : ℕ) → List (List Block) → List ConnectionBlock
+laid_out connection [] = []
+laid_out connection (blocks ∷ later) = blocks_of_connection connection blocks ++ laid_out (connection + 1) later
+
+-- the items of each connection
+abbrev pub wholes : List Remaining → List (List Item)
+wholes connections = map (λ (one : Remaining). items_in one.whole) connections
+
+-- the items of consecutive connections, the first of this number, cut into so many blocks each
+pub record AreCut (connection : ℕ) (wholes : List (List Item)) (counts : List ℕ) (blocks : List ConnectionBlock)
+    : Type 0 where
+  pub cuts : List (List Block)
+  pub laid : blocks ≡ laid_out connection cuts
+  pub number : counts ≡ map length cuts
+  pub items : wholes ≡ map (λ (blocks : List Block). items_of (map items_in blocks)) cuts
+
+-- the blocks of one connection more
+pub record AddsBlocks (connection : ℕ) (whole : Block) (old new : List ConnectionBlock) : Type 0 where
+  pub cut : List Block
+  pub added : new ≡ old ++ blocks_of_connection connection cut
+  pub items : items_of (map items_in cut) ≡ items_in whole
+  pub short : AreShort old → AreShort new

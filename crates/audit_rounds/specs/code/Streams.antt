@@ -1,47 +1,72 @@
--- What the streams of a connection show, a row of the split for each.
-use Rattle.std.specs.Prelude.{◌≡◌, ℕ, ◌^◌, ◌<◌, Bool, List}
-use Rattle.std.specs.List.{flat_map}
+-- What the streams of a connection show and open, a row of the split for each.
+use Rattle.std.specs.Prelude.{◌≡◌, ℕ, ◌^◌, ◌-◌, ◌==◌, ◌<◌, ◌≤◌, min, Bool, false, List, All, length, Option, Some, None}
+use Rattle.std.specs.Option.{option_to_list}
+use Rattle.std.specs.List.{flat_map, list_any}
 use Rattle.audit_terms.specs.declared.frames.Frame.{Frame}
 use Rattle.audit_terms.specs.declared.findings.Finding.{Finding}
 use Rattle.audit_terms.specs.Finding.{shown}
 use Rattle.audit_terms.specs.Frame.{IsOrderly}
 use Rattle.audit_terms.specs.InForce.{changes_of}
-use Rattle.audit_terms.specs.Run.{frames_of, stream_run}
-use Rattle.settings_pair.specs.Changes.{AreOrderly, AreAcknowledged}
+use Rattle.audit_terms.specs.Look.{is_past}
+use Rattle.audit_terms.specs.Place.{place_number}
+use Rattle.audit_terms.specs.Run.{frames_of, stream_run, stream_at_end}
+use Rattle.settings_pair.specs.Changes.{AreAcknowledged}
 use Rattle.split_merge.specs.declared.splits.StreamRow.{StreamRow}
+use Rattle.split_merge.specs.Split.{IsRange, part_of, frames_at}
+use Rattle.split_merge.specs.Board.{IsCut}
+use Rattle.job_crew.specs.Heeding.{Heeds}
 use Rattle.audit_rounds.specs.declared.streams.Streams.{Streams}
-use Rattle.audit_rounds.specs.declared.streams.StreamsRun.{StreamsRun}
-use Rattle.split_merge.specs.Split.{IsRange, IsPartOf, part_of}
-use Rattle.audit_rounds.specs.Openings.{opening_of}
 
 -- what is shown of one stream
 abbrev pub shown_of : (credits_shown : Bool) → List Frame → (stream : ℕ) → List Finding
 shown_of credits_shown frames stream =
     shown credits_shown (stream_run stream (frames_of stream frames) (changes_of frames))
 
--- what is shown of the streams of some rows
-abbrev pub rows_shown : Streams → List StreamRow → List Finding
-rows_shown streams rows =
-    flat_map (λ (row : StreamRow). shown_of streams.credits_shown streams.frames.now row.stream) rows
+-- the frames of a row
+abbrev pub row_frames : Streams → StreamRow → List Frame
+row_frames streams row = frames_at streams.frames.now (part_of streams.split.now row)
 
--- the numbers of the frames that open the streams of some rows
+-- what is shown of the stream of a row
+abbrev pub row_shown : (credits_shown : Bool) → Streams → StreamRow → List Finding
+row_shown credits_shown streams row =
+    shown credits_shown (stream_run row.stream (row_frames streams row) streams.changes.now)
+
+-- the number of the frame that opens the stream of a row
+abbrev pub row_opened : Streams → StreamRow → Option ℕ
+row_opened streams row =
+    (stream_at_end row.stream (row_frames streams row) streams.changes.now).life.opened
+
+-- the same of several rows
+abbrev pub rows_shown : (credits_shown : Bool) → Streams → List StreamRow → List Finding
+rows_shown credits_shown streams rows = flat_map (row_shown credits_shown streams) rows
+
 abbrev pub rows_opened : Streams → List StreamRow → List ℕ
-rows_opened streams rows = flat_map (λ (row : StreamRow). opening_of streams.frames.now row.stream) rows
+rows_opened streams rows = flat_map (λ (row : StreamRow). option_to_list (row_opened streams row)) rows
 
--- the connection's frames, and its changes
-pub record AreStreams (streams : Streams) : Type 0 where
-  pub orderly : IsOrderly streams.frames.now
-  pub changes : streams.changes.now ≡ changes_of streams.frames.now
-  pub changes_orderly : AreOrderly streams.changes.now
-  pub acknowledged : AreAcknowledged streams.frames.now streams.changes.now
-
--- a row of the split
+-- a row whose stream may be gone through
 pub record IsRow (streams : Streams) (row : StreamRow) : Type 0 where
   pub range : IsRange streams.split.now row
-  pub part : IsPartOf streams.frames.now row.stream (part_of streams.split.now row)
   pub in_range : row.stream < 2 ^ 31
+  pub within : All (λ (position : ℕ). position < length streams.frames.now) (part_of streams.split.now row)
+  pub orderly : IsOrderly (row_frames streams row)
+  pub acknowledged : AreAcknowledged (row_frames streams row) streams.changes.now
 
--- what the streams of some rows show
-pub record Shows (streams : Streams) (rows : List StreamRow) (run : StreamsRun) : Type 0 where
-  pub findings : run.findings.items ≡ rows_shown streams rows
-  pub opened : run.opened.items ≡ rows_opened streams rows
+-- the lesser of two places up to which runs went, of which none is the greatest
+abbrev pub lesser : (one other : Option ℕ) → Option ℕ
+lesser None other = other
+lesser (Some one) None = Some one
+lesser (Some one) (Some other) = Some (min one other)
+
+-- these openings are all up to a place, and none but those
+abbrev pub AreOpenedUpTo : (upto : Option ℕ) → (opened all : List ℕ) → Type 0
+AreOpenedUpTo upto opened all = (number : ℕ) → is_past upto number ≡ false →
+    list_any (λ one. one == number) opened ≡ list_any (λ one. one == number) all
+
+-- what was made of some streams, which show `whole` and open at `openings`
+pub record IsWork {L : Type 0} (answers : L → List Finding → Option ℕ → L → Type 0) (before after : L)
+    (whole : List Finding) (openings : List ℕ) (upto : Option ℕ) (kept : List Finding) (opened : List ℕ)
+    : Type 0 where
+  pub cut : IsCut whole upto kept
+  pub opens : AreOpenedUpTo upto opened openings
+  pub numbered : All (λ (found : Finding). place_number found.place ≤ 2 ^ 28 - 2) kept
+  pub looks : Heeds answers before after upto

@@ -1,4 +1,4 @@
-use Rattle.std.proofs.Common.{◌≡◌, ◌∙◌, Bool, List, length, subst, ap}
+use Rattle.std.proofs.Common.{◌≡◌, ◌+◌, ◌<◌, ◌≤◌, arith, ◌∙◌, Bool, List, length, subst, ap}
 use Rattle.audit_report.specs.declared.audited.Audited.{Audited}
 use Rattle.audit_report.specs.Section.{sections_of}
 use Rattle.audit_report.specs.ReportText.{report_text}
@@ -10,8 +10,19 @@ use Rattle.tcp_streams.specs.Packets.{past_of}
 use Rattle.h2audit.specs.Audited.{AreAudited, verdict_of}
 use Rattle.h2audit.specs.Choices.{choices}
 use Rattle.h2audit.specs.Report.{packets_of}
+use Rattle.h2audit.proofs.Opened.{opened-few}
 use Rattle.h2audit.proofs.Audits.{AreAudited-length}
 use Rattle.h2audit.proofs.auditing.audit_records.Goals as goal
+
+pub audit_each-requires-clause-few : goal.audit_each-requires-clause-few
+audit_each-requires-clause-few g c κs within =
+    let packets = c.in_ok-packets.packets.items in
+    let few = opened-few c.as_slice.result.now c.in_ok-connections.connections.opened.items c.in_ok-connections.ensures.opened in
+    let same : length c.as_slice.result.now ≡ length packets = ap length c.as_slice.ensures.value in
+    let lent : length c.as_slice-3.result.now ≡ length c.in_ok-connections.connections.opened.items =
+    ap length c.as_slice-3.ensures.value in
+    let all = c.in_ok-packets.ensures.few in
+    omega arith
 
 pub report-requires-clause-each : goal.report-requires-clause-each
 report-requires-clause-each g c =

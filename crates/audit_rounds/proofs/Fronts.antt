@@ -1,0 +1,278 @@
+-- What is left to do of connections, and that it makes their passes.
+use Rattle.std.proofs.Common.{◌≡◌, ℕ, zero, suc, ◌+◌, ◌<◌, ◌≤◌, Bool, true, false, not, nat_lt, leb, if◌then◌else◌, List, [], ◌∷◌, ◌++◌, map, filter, take, length, get_or, All, refl, sym, ap, ◌∙◌, subst, arith, None, Vec, Global}
+use Rattle.std.specs.List.Sorted.{IsPartitionPoint, IsPartitionedBy}
+use Rattle.std.proofs.lemmas.Bool.Decides.{leb_tells}
+use Rattle.std.proofs.Common.{⊎_elim, Bor}
+use Rattle.std.proofs.lemmas.List.{length-map, length-append, get_or-map, get_or_default, ext_get_or, map-append, map_more}
+use Rattle.std.proofs.lemmas.List.Sorted.{IsPartitionedBy-leb}
+use Rattle.std.proofs.lemmas.Bool.{cases_eq}
+use Rattle.std.proofs.lemmas.Simd.{map-map}
+use Rattle.std.proofs.Math.ListN.{get_or-append}
+use Rattle.std.proofs.Math.Seq.{get_or-append_seam}
+use Rattle.audit_terms.specs.declared.findings.Finding.{Finding}
+use Rattle.audit_terms.specs.declared.frames.Frame.{Frame}
+use Rattle.audit_terms.specs.Connection.{connection_start, block_run}
+use Rattle.audit_terms.specs.Finding.{in_order, upto_stop, shown}
+use Rattle.audit_terms.specs.Frame.{IsOrderly, IsOrderlyFrom}
+use Rattle.audit_terms.specs.InForce.{changes_of}
+use Rattle.audit_terms.specs.Look.{is_past}
+use Rattle.audit_terms.specs.Pass.{pass}
+use Rattle.settings_pair.specs.Changes.{AreOrderly}
+use Rattle.split_merge.specs.Board.{IsLeast, StopsAt}
+use Rattle.stop_desk.specs.Stop.{IsStop}
+use Rattle.conn_scan.specs.Items.{items_with, items_in, item_with, NeverFallFrom}
+use Rattle.audit_rounds.specs.Settling.{IsAfterStreams, frames_within}
+use Rattle.audit_rounds.specs.declared.connections.Front.{Front}
+use Rattle.audit_rounds.specs.declared.prepared.Prepared.{Prepared}
+use Rattle.audit_rounds.specs.declared.remaining.Remaining.{Remaining}
+use Rattle.audit_rounds.specs.declared.stream_round.AfterStreams.{AfterStreams}
+use Rattle.audit_rounds.specs.code.AfterStreams.{AreAfterStreams}
+use Rattle.audit_rounds.specs.code.Connections.{front_of, IsRest, AreRests}
+use Rattle.audit_rounds.specs.code.Prepared.{IsPrepared, found_before}
+use Rattle.audit_rounds.specs.code.Remaining.{IsRemaining}
+use Rattle.audit_rounds.proofs.Parts.{orderly-filter}
+use Rattle.audit_rounds.proofs.Settling.{rounds_settle_lem}
+use Rattle.audit_rounds.proofs.Whole.{start-fits}
+
+-- ---- the frames up to a number
+
+number-above : (low k : ℕ) (frames : List Frame) (d : Frame) → IsOrderlyFrom low frames → k < length frames
+    → low ≤ (get_or frames k d).number
+number-above low k [] d h l = absurd (omega arith)
+number-above low zero (frame ∷ frames) d h l = h.0
+number-above low (suc k) (frame ∷ frames) d h l =
+    let above = number-above (frame.number + 1) k frames d h.2 (omega arith) in omega (arith, h.0, above)
+
+numbers-rise : (low i j : ℕ) (frames : List Frame) (d : Frame) → IsOrderlyFrom low frames → i ≤ j → j < length frames
+    → (get_or frames i d).number ≤ (get_or frames j d).number
+numbers-rise low i j [] d h order l = absurd (omega arith)
+numbers-rise low zero zero (frame ∷ frames) d h order l = omega arith
+numbers-rise low zero (suc j) (frame ∷ frames) d h order l =
+    let above = number-above (frame.number + 1) j frames d h.2 (omega arith) in omega (arith, above)
+numbers-rise low (suc i) zero (frame ∷ frames) d h order l = absurd (omega arith)
+numbers-rise low (suc i) (suc j) (frame ∷ frames) d h order l =
+    numbers-rise (frame.number + 1) i j frames d h.2 (omega arith) (omega arith)
+
+pub frames-parted : (last : ℕ) (frames : List Frame) → IsOrderly frames
+    → IsPartitionedBy (λ (frame : Frame). leb frame.number last) frames
+frames-parted last frames h = IsPartitionedBy-leb (λ (frame : Frame). frame.number) frames last
+    (λ i j d order l. numbers-rise 0 i j frames d h order l)
+
+-- the elements before the point
+take-point : (test : Frame → Bool) (i : ℕ) (frames : List Frame) → i ≤ length frames
+    → IsPartitionPoint (λ frame. test frame ≡ true) (λ frame. test frame ≡ false) frames i
+    → take i frames ≡ filter test frames
+take-point test zero [] l point = refl
+take-point test zero (frame ∷ frames) l point =
+    let out : test frame ≡ false = point.1 0 frame (omega arith) (omega arith) in
+    rw out (take-point test zero frames (omega arith)
+    (λ k d low below. absurd (omega arith), λ k d low below. point.1 (suc k) d (omega arith) (omega arith)))
+take-point test (suc i) [] l point = absurd (omega arith)
+take-point test (suc i) (frame ∷ frames) l point =
+    let out : test frame ≡ true = point.0 0 frame (omega arith) (omega arith) in
+    rw out (ap (λ fs. frame ∷ fs) (take-point test i frames (omega arith) (
+      λ k d low below. point.0 (suc k) d (omega arith) (omega arith),
+      λ k d low below. point.1 (suc k) d (omega arith) (omega arith),
+    )))
+
+filter-same : (test other : Frame → Bool) (frames : List Frame) → ((frame : Frame) → test frame ≡ other frame)
+    → filter test frames ≡ filter other frames
+filter-same test other [] h = refl
+filter-same test other (frame ∷ frames) h =
+    ap (λ b. if b then frame ∷ filter test frames else filter test frames) (h frame)
+    ∙ ap (λ fs. if other frame then frame ∷ fs else fs) (filter-same test other frames h)
+
+not-above : (last number : ℕ) → leb number last ≡ not (nat_lt last number)
+not-above last number = ⊎_elim
+    (λ a. ⊎_elim (λ b. absurd (omega (arith, a.1, b.1))) (λ b. a.0 ∙ sym (ap not b.0)) (leb_tells (suc last) number))
+    (λ a. ⊎_elim (λ b. a.0 ∙ sym (ap not b.0)) (λ b. absurd (omega (arith, a.1, b.1))) (leb_tells (suc last) number))
+    (leb_tells number last)
+
+-- the frames up to a number stand before the point
+pub within-point : (last i : ℕ) (frames : List Frame) → i ≤ length frames
+    → IsPartitionPoint (λ (frame : Frame). leb frame.number last ≡ true) (λ (frame : Frame). leb frame.number last ≡ false)
+    frames i
+    → take i frames ≡ filter (λ (frame : Frame). not (nat_lt last frame.number)) frames
+within-point last i frames l point =
+    take-point (λ (frame : Frame). leb frame.number last) i frames l point
+    ∙ filter-same (λ (frame : Frame). leb frame.number last) (λ (frame : Frame). not (nat_lt last frame.number)) frames
+    (λ frame. not-above last frame.number)
+
+-- where nothing stops, these are all frames
+pub all-within : (frames : List Frame) → frames ≡ frames_within None frames
+all-within [] = refl
+all-within (frame ∷ frames) = ap (λ fs. frame ∷ fs) (all-within frames)
+
+-- ---- one connection
+
+module _ (credits_shown : Bool) (connection : Prepared) (front : Front) (rest : Remaining) (found : List Finding) (prepared : IsPrepared connection) (is : IsRest connection front rest) (after : IsAfterStreams credits_shown connection.frames.now found front.stop front.opened.items) where
+  within-orderly : IsOrderly rest.whole.frames.now
+  within-orderly = subst IsOrderly (sym is.frames)
+      (orderly-filter (λ (frame : Frame). not (is_past front.stop frame.number)) 0 connection.frames.now prepared.orderly)
+
+  one-remains : IsStop front.stop → IsRemaining rest found
+  one-remains place = record {
+    is_block = record {
+      frames = within-orderly;
+      opened = subst (NeverFallFrom 0) (sym is.opened) after.rising;
+      changes = subst AreOrderly (sym is.changes) prepared.changes_orderly;
+    };
+    fits = start-fits rest.whole.frames.now (items_in rest.whole) connection_start within-orderly
+        (length-map rest.whole.frames.now (item_with rest.whole.opened.now rest.whole.changes.now)) refl;
+    place = subst IsStop (sym is.stop) place;
+    stop = subst (IsLeast (StopsAt found)) (sym is.stop) after.kept;
+  }
+
+  items-are : items_in rest.whole
+      ≡ items_with front.opened.items (changes_of connection.frames.now) (frames_within front.stop connection.frames.now)
+  items-are =
+      ap (λ opened. items_with opened rest.whole.changes.now rest.whole.frames.now) is.opened
+      ∙ ap (λ changes. items_with front.opened.items changes rest.whole.frames.now) (is.changes ∙ prepared.changes)
+      ∙ ap (items_with front.opened.items (changes_of connection.frames.now)) is.frames
+
+  one-settles : (last : List Finding)
+      → upto_stop (in_order last)
+      ≡ upto_stop (in_order (found ++ shown credits_shown (block_run connection_start (items_in rest.whole))))
+      → upto_stop (in_order last) ≡ shown credits_shown (pass connection.frames.now)
+  one-settles last e =
+      rounds_settle_lem credits_shown connection.frames.now found last front.stop front.opened.items prepared.orderly after
+      (e ∙ ap (λ items. upto_stop (in_order (found ++ shown credits_shown (block_run connection_start items)))) items-are)
+
+-- ---- all connections of a batch
+
+-- an element of a list
+some-of : {X : Type 0} (xs : List X) → 0 < length xs → X
+some-of [] l = absurd (omega arith)
+some-of (x ∷ xs) l = x
+
+abbrev found_in : AfterStreams → Vec Finding Global
+found_in one = one.found
+
+abbrev list-in_order : Vec Finding Global → List Finding
+list-in_order list = upto_stop (in_order list.items)
+
+module _ (credits_shown : Bool) (connections : List Prepared) (streams : List AfterStreams) (found : List (Vec Finding Global)) (fronts : List Front) (rests : List Remaining) (prepared : All IsPrepared connections) (after : AreAfterStreams credits_shown connections streams) (found_is : found ≡ map (λ (one : AfterStreams). one.found) streams) (fronts_are : fronts ≡ map front_of streams) (rests_are : AreRests connections fronts rests) where
+  found-at : (n : ℕ) (list : Vec Finding Global) (d : AfterStreams) → n < length streams
+      → get_or found n list ≡ (get_or streams n d).found
+  found-at n list d l = ap (λ all. get_or all n list) found_is ∙ get_or-map found_in streams n d list l
+
+  rest-at : (n : ℕ) (rest : Remaining) (connection : Prepared) (one : AfterStreams) → n < length connections
+      → IsRest (get_or connections n connection) (front_of (get_or streams n one)) (get_or rests n rest)
+  rest-at n rest connection one l =
+      let number = after.number in
+      subst (λ f. IsRest (get_or connections n connection) f (get_or rests n rest))
+      (ap (λ all. get_or all n (front_of one)) fronts_are ∙ get_or-map front_of streams n one (front_of one) (omega arith))
+      (rests_are.each n connection (front_of one) rest l)
+
+  pub each-remains : (n : ℕ) (rest : Remaining) (list : Vec Finding Global) → n < length rests
+      → IsRemaining (get_or rests n rest) (get_or found n list).items
+  each-remains n rest list l =
+      let number = after.number in
+      let number' = rests_are.number in
+      let lc : n < length connections = omega arith in
+      let connection = some-of connections (omega arith) in
+      let one = some-of streams (omega arith) in
+      subst (λ (v : Vec Finding Global). IsRemaining (get_or rests n rest) v.items)
+      (sym (found-at n list one (omega arith)))
+      (one-remains credits_shown (get_or connections n connection) (front_of (get_or streams n one)) (get_or rests n rest)
+      (get_or streams n one).found.items (prepared n connection lc) (rest-at n rest connection one lc)
+      (after.each n one connection lc) (after.stops n one (omega arith)))
+
+  each-settles : (last : List (Vec Finding Global)) (n : ℕ) (connection : Prepared) (list list' : Vec Finding Global)
+      (rest : Remaining) → n < length connections
+      → list-in_order (get_or last n list)
+      ≡ upto_stop (in_order ((get_or found n list').items ++ shown credits_shown
+      (block_run connection_start (items_in (get_or rests n rest).whole))))
+      → list-in_order (get_or last n list) ≡ shown credits_shown (pass (get_or connections n connection).frames.now)
+  each-settles last n connection list list' rest lc e =
+      let number = after.number in
+      let one = some-of streams (omega arith) in
+      one-settles credits_shown (get_or connections n connection) (front_of (get_or streams n one)) (get_or rests n rest)
+      (get_or streams n one).found.items (prepared n connection lc) (rest-at n rest connection one lc)
+      (after.each n one connection lc) (get_or last n list).items
+      (e ∙ ap (λ (v : Vec Finding Global). upto_stop (in_order (v.items ++ shown credits_shown
+      (block_run connection_start (items_in (get_or rests n rest).whole))))) (found-at n list' one (omega arith)))
+
+  pub all-settle : (last : List (Vec Finding Global)) → length last ≡ length found
+      → ((n : ℕ) (rest : Remaining) (list list' : Vec Finding Global) → n < length rests
+      → upto_stop (in_order (get_or last n list).items)
+      ≡ upto_stop (in_order ((get_or found n list').items ++ shown credits_shown
+      (block_run connection_start (items_in (get_or rests n rest).whole)))))
+      → map (λ (list : Vec Finding Global). upto_stop (in_order list.items)) last
+      ≡ map (λ (connection : Prepared). shown credits_shown (pass connection.frames.now)) connections
+  all-settle last long e =
+      let number = after.number in
+      let number' = rests_are.number in
+      let same : length found ≡ length streams = ap length found_is ∙ length-map streams found_in in
+      let passed = λ (connection : Prepared). shown credits_shown (pass connection.frames.now) in
+      ext_get_or [] (map list-in_order last) (map passed connections)
+      (length-map last list-in_order ∙ long ∙ same ∙ number ∙ sym (length-map connections passed))
+      (λ n l.
+      let is = length-map last list-in_order in
+      let lc : n < length connections = omega arith in
+      let connection = some-of connections (omega arith) in
+      let rest = some-of rests (omega arith) in
+      let list = some-of last (omega arith) in
+      get_or-map list-in_order last n list [] (omega arith)
+      ∙ each-settles last n connection list list rest lc (e n rest list list (omega arith))
+      ∙ sym (get_or-map passed connections n connection [] lc))
+
+-- ---- connections made ready, one after the other
+
+pub ready-more : (made : List Prepared) (one : Prepared) (all : List (Bor (List Frame))) (at : ℕ) (d : Bor (List Frame))
+    → at < length all → one.frames.now ≡ (get_or all at d).now
+    → map (λ (one : Prepared). one.frames.now) made ≡ map (λ (frames : Bor (List Frame)). frames.now) (take at all)
+    → map (λ (one : Prepared). one.frames.now) (made ++ one ∷ [])
+    ≡ map (λ (frames : Bor (List Frame)). frames.now) (take (at + 1) all)
+ready-more made one all at d l is e =
+    map-append (λ (one : Prepared). one.frames.now) made (one ∷ [])
+    ∙ ap (λ fs. fs ++ one.frames.now ∷ []) e
+    ∙ ap (λ f. map (λ (frames : Bor (List Frame)). frames.now) (take at all) ++ f ∷ []) is
+    ∙ sym (map_more (λ (frames : Bor (List Frame)). frames.now) all at d l)
+
+pub before-more : (found : List (Vec Finding Global)) (made : List Prepared) (list : Vec Finding Global) (one : Prepared)
+    → list.items ≡ found_before one
+    → map (λ (list : Vec Finding Global). list.items) found ≡ map found_before made
+    → map (λ (list : Vec Finding Global). list.items) (found ++ list ∷ []) ≡ map found_before (made ++ one ∷ [])
+before-more found made list one is e =
+    map-append (λ (list : Vec Finding Global). list.items) found (list ∷ [])
+    ∙ ap (λ ls. ls ++ list.items ∷ []) e
+    ∙ ap (λ l. map found_before made ++ l ∷ []) is
+    ∙ sym (map-append found_before made (one ∷ []))
+
+-- ---- what is left of connections, one after the other
+
+pub rests-more : (connections : List Prepared) (fronts : List Front) (rests : List Remaining) (k j : ℕ)
+    (connection : Prepared) (front : Front) (rest : Remaining) → k ≡ length rests → j ≡ length rests
+    → k < length connections → j < length fronts → connection ≡ get_or connections k connection
+    → front ≡ get_or fronts j front → IsRest connection front rest
+    → ((n : ℕ) (c : Prepared) (f : Front) (r : Remaining) → n < length rests
+    → IsRest (get_or connections n c) (get_or fronts n f) (get_or rests n r))
+    → (n : ℕ) (c : Prepared) (f : Front) (r : Remaining) → n < length (rests ++ rest ∷ [])
+    → IsRest (get_or connections n c) (get_or fronts n f) (get_or (rests ++ rest ∷ []) n r)
+rests-more connections fronts rests k j connection front rest ek ej lk lj isc isf is each n c f r l = ⊎_elim
+    (λ e.
+    let here : n ≡ k = e ∙ sym ek in
+    let there : n ≡ j = e ∙ sym ej in
+    subst (λ one. IsRest one (get_or fronts n f) (get_or (rests ++ rest ∷ []) n r))
+    (isc ∙ get_or_default connections k connection c lk ∙ ap (λ at. get_or connections at c) (sym here))
+    (subst (λ one. IsRest connection one (get_or (rests ++ rest ∷ []) n r))
+    (isf ∙ get_or_default fronts j front f lj ∙ ap (λ at. get_or fronts at f) (sym there))
+    (subst (IsRest connection front)
+    (sym (ap (λ at. get_or (rests ++ rest ∷ []) at r) e ∙ get_or-append_seam rests rest [] r)) is)))
+    (λ ne.
+    let long = length-append rests (rest ∷ []) in
+    let before : n < length rests = omega (arith, l, long, ne) in
+    subst (IsRest (get_or connections n c) (get_or fronts n f)) (sym (get_or-append rests (rest ∷ []) r n before))
+    (each n c f r before))
+    (cases_eq n (length rests))
+
+-- what is shown of connections made ready
+pub passes-same : (credits_shown : Bool) (connections : List Prepared) (all : List (Bor (List Frame)))
+    → map (λ (one : Prepared). one.frames.now) connections ≡ map (λ (frames : Bor (List Frame)). frames.now) all
+    → map (λ (one : Prepared). shown credits_shown (pass one.frames.now)) connections
+    ≡ map (λ (frames : Bor (List Frame)). shown credits_shown (pass frames.now)) all
+passes-same credits_shown connections all e =
+    sym (map-map (λ (frames : List Frame). shown credits_shown (pass frames)) (λ (one : Prepared). one.frames.now) connections)
+    ∙ ap (map (λ (frames : List Frame). shown credits_shown (pass frames))) e
+    ∙ map-map (λ (frames : List Frame). shown credits_shown (pass frames)) (λ (frames : Bor (List Frame)). frames.now) all

@@ -1,0 +1,124 @@
+-- The jobs of the rounds over blocks.
+use Rattle.std.proofs.Common.{◌≡◌, ℕ, zero, suc, ◌+◌, Bool, true, false, if◌then◌else◌, List, [], ◌∷◌, map, length, get_or, All, Contains, Option, Some, None, slice_get, ◌⊎◌, inl, inr, ⊎_elim, refl, sym, ap, ◌∙◌, subst, arith}
+use Rattle.std.proofs.lemmas.List.{length-map, get_or-map}
+use Rattle.std.proofs.lemmas.Option.{slice_get_within, get_or_from_slice_get}
+use Rattle.std.specs.List.{list_any}
+use Rattle.audit_terms.specs.declared.connections.ConnectionState.{ConnectionState}
+use Rattle.audit_terms.specs.declared.findings.Finding.{Finding}
+use Rattle.audit_terms.specs.declared.frames.Frame.{Frame}
+use Rattle.audit_terms.specs.declared.items.Change.{Change}
+use Rattle.audit_terms.specs.Connection.{block_run, connection_said, connection_after}
+use Rattle.audit_terms.specs.Finding.{in_order, shown, comes_after}
+use Rattle.audit_terms.specs.Frame.{IsOrderlyFrom}
+use Rattle.audit_terms.specs.Look.{Asked, last_answer, is_past, upto_of, up_to, IsRun}
+use Rattle.audit_terms.proofs.FindingOrder.{comes_after_is}
+use Rattle.audit_terms.proofs.OrderedLists.{IsInOrder, ordered-in_order, in_order-append, in_order-ordered}
+use Rattle.audit_core.proofs.PassOrder.{AreFrom, at-connection, at-in_order, from-at, from-from, from-append, precedes-at}
+use Rattle.conn_scan.specs.declared.block_items.Block.{Block}
+use Rattle.conn_scan.specs.Items.{item_with, items_with, items_in, IsBlock}
+use Rattle.split_merge.specs.Board.{Job, IsCut}
+use Rattle.split_merge.proofs.RoundCuts.{front_is_cut_lem, whole_is_cut_lem}
+use Rattle.split_merge.proofs.ShownMerge.{in_order-shown}
+use Rattle.job_crew.specs.Heeding.{Heeds}
+use Rattle.audit_rounds.specs.declared.blocks.ConnectionBlock.{ConnectionBlock}
+use Rattle.audit_rounds.specs.code.Plans.{sum_job}
+
+-- the job of a number
+pub job-is : {X : Type 0} (f : X → Job) (xs : List X) (k : ℕ) (one : Job) (d : X) → slice_get (map f xs) k ≡ Some one
+    → one ≡ f (get_or xs k d)
+job-is f xs k one d e =
+    let number : length (map f xs) ≡ length xs = length-map xs f in
+    let within = slice_get_within (map f xs) k one e in
+    sym (get_or_from_slice_get (map f xs) k one one e) ∙ get_or-map f xs k d one (omega arith)
+
+-- what holds of the images
+pub all-map : {X Y : Type 0} (P : Y → Type 0) (f : X → Y) (xs : List X) → All (λ x. P (f x)) xs → All P (map f xs)
+all-map P f [] h n d l = absurd (omega arith)
+all-map P f (x ∷ xs) h zero d l = h 0 x (omega arith)
+all-map P f (x ∷ xs) h (suc n) d l = all-map P f xs (λ k e m. h (suc k) e (omega arith)) n d (omega arith)
+
+none-found : (blocks : List ConnectionBlock) → All (λ (job : Job). job.findings ≡ []) (map sum_job blocks)
+none-found blocks = all-map (λ (job : Job). job.findings ≡ []) sum_job blocks (λ n d l. refl)
+
+-- a sum finds all that its job has to find, which is nothing
+pub sum-cut : (blocks : List ConnectionBlock) (k : ℕ) (one : Job) → slice_get (map sum_job blocks) k ≡ Some one
+    → IsCut one.findings None []
+sum-cut blocks k one e =
+    let within = slice_get_within (map sum_job blocks) k one e in
+    let none : one.findings ≡ [] = subst (λ (job : Job). job.findings ≡ [])
+    (get_or_from_slice_get (map sum_job blocks) k one one e) (none-found blocks k one within) in
+    subst (λ l. IsCut l None []) (sym none) (whole_is_cut_lem [] None refl)
+
+-- ---- what a block shows stands in order
+
+run-from : (now : ConnectionState) (low : ℕ) (opened : List ℕ) (changes : List Change) (frames : List Frame)
+    → IsOrderlyFrom low frames → AreFrom low (block_run now (items_with opened changes frames))
+run-from now low opened changes [] h = tt
+run-from now low opened changes (frame ∷ frames) h =
+    let item = item_with opened changes frame in
+    from-append low (in_order (connection_said now item)) _
+    (from-at low frame.number _ h.0
+    (at-in_order frame.number (connection_said now item) (at-connection now item h.1)).within)
+    (from-from low (frame.number + 1) _ (omega (arith, h.0))
+    (run-from (connection_after now item) (frame.number + 1) opened changes frames h.2))
+
+run-in_order : (now : ConnectionState) (low : ℕ) (opened : List ℕ) (changes : List Change) (frames : List Frame)
+    → IsOrderlyFrom low frames
+    → IsInOrder comes_after comes_after_is (block_run now (items_with opened changes frames))
+run-in_order now low opened changes [] h = tt
+run-in_order now low opened changes (frame ∷ frames) h =
+    let item = item_with opened changes frame in
+    in_order-append comes_after comes_after_is (in_order (connection_said now item)) _
+    (in_order-ordered comes_after comes_after_is (connection_said now item))
+    (run-in_order (connection_after now item) (frame.number + 1) opened changes frames h.2)
+    (precedes-at frame.number _ _
+    (at-in_order frame.number (connection_said now item) (at-connection now item h.1)).within
+    (run-from (connection_after now item) (frame.number + 1) opened changes frames h.2))
+
+shown-in_order : (c : Bool) (now : ConnectionState) (block : Block) → IsBlock block
+    → in_order (shown c (block_run now (items_in block))) ≡ shown c (block_run now (items_in block))
+shown-in_order c now block h =
+    in_order-shown c (block_run now (items_in block))
+    ∙ ap (shown c) (ordered-in_order comes_after comes_after_is (block_run now (items_in block))
+    (run-in_order now 0 block.opened.now block.changes.now block.frames.now h.frames))
+
+upto-cut : (whole : List Finding) (upto : Option ℕ) → in_order whole ≡ whole → IsCut whole upto (up_to upto whole)
+upto-cut whole None e = whole_is_cut_lem whole None e
+upto-cut whole (Some place) e = front_is_cut_lem whole place e
+
+-- what was found of a block up to a place is a cut of what it shows
+pub block-cut-is : (c : Bool) (now : ConnectionState) (block : Block) (upto : Option ℕ) (kept : List Finding)
+    → IsBlock block → kept ≡ up_to upto (shown c (block_run now (items_in block)))
+    → IsCut (shown c (block_run now (items_in block))) upto kept
+block-cut-is c now block upto kept h e =
+    let whole = shown c (block_run now (items_in block)) in
+    subst (IsCut whole upto) (sym e) (upto-cut whole upto (shown-in_order c now block h))
+
+-- ---- what was answered
+
+in-asked : (first : Option ℕ) (asked : List Asked) (place : ℕ) → last_answer first asked ≡ Some place
+    → (first ≡ Some place) ⊎ ((one : Asked) × Contains asked one × (one.answer ≡ Some place))
+in-asked first [] place e = inl e
+in-asked first (a ∷ asked) place e = ⊎_elim
+    (λ is. inr (a, (0, omega arith, refl), is))
+    (λ h. inr (h.0, (suc h.1.0, omega (arith, h.1.1), h.1.2), h.2))
+    (in-asked a.answer asked place e)
+
+last-upto : (numbers : List ℕ) (last : Option ℕ) (place : ℕ) → upto_of numbers last ≡ Some place → last ≡ Some place
+last-upto numbers last place = by_test (list_any (is_past last) numbers) where
+  by_test : (b : Bool) → (if b then last else None) ≡ Some place → last ≡ Some place
+  by_test true e = e
+  by_test false e = cc
+
+-- a run goes up to a place that was answered
+pub run-heeds : {L : Type 0} (answers : L → List Finding → Option ℕ → L → Type 0) (before after : L) (numbers : List ℕ)
+    (whole kept : List Finding) (upto last : Option ℕ) (looks : ℕ)
+    → IsRun answers before after numbers whole kept upto last looks → Heeds answers before after upto
+run-heeds answers before after numbers whole kept upto last looks run = record {
+  asked = run.asked;
+  looked = run.looked;
+  answered = λ place e. ⊎_elim
+      (λ none. cc)
+      (λ h. h)
+      (in-asked None run.asked place (run.last ∙ last-upto numbers last place (sym run.goes ∙ e)));
+}

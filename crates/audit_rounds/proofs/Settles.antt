@@ -1,0 +1,109 @@
+-- What settled rounds over blocks give.
+use Rattle.std.proofs.Common.{◌≡◌, ℕ, ◌+◌, ◌<◌, Bool, List, ◌++◌, map, length, get_or, All, Option, Some, None, slice_get, sym, ap, ◌∙◌, subst, arith, Vec, Global}
+use Rattle.std.proofs.lemmas.List.{length-map, get_or-map}
+use Rattle.std.proofs.lemmas.Option.{slice_get_within, get_or_from_slice_get, slice_get-get_or}
+use Rattle.audit_terms.specs.declared.findings.Finding.{Finding}
+use Rattle.audit_terms.specs.Finding.{in_order, upto_stop}
+use Rattle.audit_terms.specs.Connection.{connection_start}
+use Rattle.conn_scan.specs.Items.{items_in, IsBlock}
+use Rattle.conn_scan.specs.Block.{BlockFits}
+use Rattle.conn_scan.specs.ConnSum.{ConnSum}
+use Rattle.stop_desk.specs.Stop.{IsStop}
+use Rattle.split_merge.specs.Board.{Job, IsLeast, StopsAt, findings_of_parts}
+use Rattle.split_merge.proofs.RoundMerge.{board_merges_lem}
+use Rattle.job_crew.specs.declared.parts.Part.{Part}
+use Rattle.job_crew.specs.declared.settling.Settled.{Settled}
+use Rattle.job_crew.specs.Laid.{part_of}
+use Rattle.job_crew.specs.Settling.{HasSettled}
+use Rattle.audit_rounds.specs.declared.blocks.ConnectionBlock.{ConnectionBlock}
+use Rattle.audit_rounds.specs.declared.block_plans.ReadyBlock.{ReadyBlock}
+use Rattle.audit_rounds.specs.declared.remaining.Remaining.{Remaining}
+use Rattle.audit_rounds.specs.code.Blocks.{IsSum, AreSums, wholes}
+use Rattle.audit_rounds.specs.code.Plans.{sum_job, block_job, whole_shown, shown_at, IsPlan, AreParts}
+use Rattle.audit_rounds.specs.code.Remaining.{IsRemaining}
+use Rattle.audit_rounds.proofs.Cuts.{some_of}
+use Rattle.audit_rounds.proofs.Jobs.{all-map}
+use Rattle.audit_rounds.proofs.Plans.{shown-at}
+
+-- the parts of a settled round hold the sum of each block
+pub sums-settled : (blocks : List ConnectionBlock) (stops : List (Option ℕ)) (settled : Settled ConnSum)
+    → HasSettled (λ (job : ℕ) (upto : Option ℕ) (made : ConnSum). (one : ConnectionBlock)
+    → IsSum (get_or blocks job one).block made) (map sum_job blocks) stops settled
+    → AreSums blocks (map (λ (part : Part ConnSum). part.made) settled.parts.items)
+sums-settled blocks stops settled h =
+    let parts = settled.parts.items in
+    let made = λ (part : Part ConnSum). part.made in
+    let number : length parts ≡ length blocks = h.count ∙ length-map blocks sum_job in
+    record {
+      number = length-map parts made ∙ number;
+      each = λ n one sum l.
+          let inside : n < length parts = omega arith in
+          let d = some_of parts n inside in
+          let own = h.in_order n (get_or parts n d) (slice_get-get_or parts n d inside) in
+          subst (IsSum (get_or blocks n one).block) (sym (get_or-map made parts n d sum inside)) (own.1 one);
+    }
+
+job-within : (jobs : List Job) (bound k : ℕ) (job : Job) → All (λ (job : Job). job.connection < bound) jobs
+    → slice_get jobs k ≡ Some job → job.connection < bound
+job-within jobs bound k job all e =
+    subst (λ (job : Job). job.connection < bound) (get_or_from_slice_get jobs k job job e)
+    (all k job (slice_get_within jobs k job e))
+
+-- each part is of one of the connections
+pub parts-within : {M : Type 0} (jobs : List Job) (stops : List (Option ℕ)) (parts : List (Part M)) (bound : ℕ)
+    → AreParts jobs stops parts → All (λ (job : Job). job.connection < bound) jobs
+    → All (λ (part : Part M). part.connection < bound) parts
+parts-within jobs stops parts bound h all k d l =
+    let part = get_or parts k d in
+    let number = length-map parts part_of in
+    let own = h.board.parts_of_jobs (part_of part)
+    (k, omega arith, get_or-map part_of parts k d (part_of part) l) in
+    let job = job-within jobs bound part.job own.0 all own.1 in
+    let same = own.2.of_connection in
+    omega arith
+
+-- what was found of a connection, and what the parts keep of it, is up to its stop what was found and what is shown of
+-- all its blocks
+pub merged : {M : Type 0} (c : Bool) (connections : List Remaining) (bound : ℕ) (plan : List ReadyBlock)
+    (stops : List (Option ℕ)) (parts : List (Part M)) (found last : List Finding) (n : ℕ) (remaining : Remaining)
+    → stops ≡ map (λ (one : Remaining). one.stop) connections
+    → IsPlan c bound (shown_at c 0 (wholes connections)) plan → AreParts (map (block_job c) plan) stops parts
+    → IsLeast (StopsAt found) (get_or connections n remaining).stop → n < length connections
+    → last ≡ found ++ findings_of_parts n (map part_of parts)
+    → upto_stop (in_order last)
+    ≡ upto_stop (in_order (found ++ whole_shown c (items_in (get_or connections n remaining).whole)))
+merged c connections bound plan stops parts found last n remaining e planned h least l is =
+    let stop = λ (one : Remaining). one.stop in
+    let items = λ (one : Remaining). items_in one.whole in
+    let number : length (wholes connections) ≡ length connections = length-map connections items in
+    let at : n ≡ 0 + n = omega arith in
+    let opening = subst (IsLeast (StopsAt found))
+    (sym (ap (λ s. get_or s n None) e ∙ get_or-map stop connections n remaining None l)) least in
+    ap (λ l. upto_stop (in_order l)) is
+    ∙ (board_merges_lem (record { jobs = map (block_job c) plan; opening_stops = stops }) _ h.board n found
+    opening).findings
+    ∙ ap (λ l. upto_stop (in_order (found ++ l)))
+    (planned.of_each n ∙ ap (shown_at c 0 (wholes connections)) at
+    ∙ shown-at c 0 (wholes connections) n (items remaining) (omega arith)
+    ∙ ap (whole_shown c) (get_or-map items connections n remaining (items remaining) l))
+
+-- ---- what is left to do of each connection
+
+module _ (connections : List Remaining) (found : List (Vec Finding Global))
+    (number : length connections ≡ length found)
+    (each : (n : ℕ) (remaining : Remaining) (list : Vec Finding Global) → n < length connections
+    → IsRemaining (get_or connections n remaining) (get_or found n list).items) where
+  is-remaining : (n : ℕ) (d : Remaining) (l : n < length connections) (m : n < length found)
+      → IsRemaining (get_or connections n d) (get_or found n (some_of found n m)).items
+  is-remaining n d l m = each n d (some_of found n m) l
+
+  pub each-block : All (λ (one : Remaining). IsBlock one.whole) connections
+  each-block n d l = (is-remaining n d l (omega arith)).is_block
+
+  pub each-fits : All (BlockFits connection_start) (wholes connections)
+  each-fits = all-map (BlockFits connection_start) (λ (one : Remaining). items_in one.whole) connections
+      (λ n d l. (is-remaining n d l (omega arith)).fits)
+
+  pub each-place : All IsStop (map (λ (one : Remaining). one.stop) connections)
+  each-place = all-map IsStop (λ (one : Remaining). one.stop) connections
+      (λ n d l. (is-remaining n d l (omega arith)).place)

@@ -1,0 +1,294 @@
+-- The round over blocks need not go past the stop.
+use Rattle.std.proofs.Common.{◌≡◌, ℕ, zero, suc, ◌+◌, ◌*◌, ◌^◌, ◌<◌, ◌≤◌, ◌&&◌, Bool, true, false, nat_lt, List, [], ◌∷◌, ◌++◌, filter, refl, sym, ap, subst, ◌∙◌, arith, append_assoc, append-nil, ◌⊎◌, inl, inr, Contains, Option, Some, None, slice_get, lt-ltb, ltb-true}
+use Rattle.std.proofs.lemmas.List.{map-append}
+use Rattle.std.proofs.lemmas.List.Sorted.{IsPermutation-refl}
+use Rattle.audit_terms.specs.declared.connections.ConnectionState.{ConnectionState}
+use Rattle.audit_terms.specs.declared.findings.Finding.{Finding}
+use Rattle.audit_terms.specs.declared.frames.Frame.{Frame}
+use Rattle.audit_terms.specs.declared.items.Change.{Change}
+use Rattle.audit_terms.specs.declared.items.Item.{Item}
+use Rattle.audit_terms.specs.Connection.{connection_start, connection_said, connection_after, connection_after_all, block_run}
+use Rattle.audit_terms.specs.Finding.{in_order, upto_stop, is_shown, shown}
+use Rattle.audit_terms.specs.Frame.{is_headers, IsOrderly, IsOrderlyFrom}
+use Rattle.audit_terms.specs.InForce.{settings_run, changes_of}
+use Rattle.audit_terms.specs.LocalFault.{local_run}
+use Rattle.audit_terms.specs.Look.{is_past}
+use Rattle.audit_terms.specs.Pass.{pass, streams_of, items_of}
+use Rattle.audit_terms.specs.Place.{place_number}
+use Rattle.audit_terms.proofs.FindingOrder.{in_order-append_comm, in_order-alike}
+use Rattle.audit_core.specs.PartsLaw.{joined}
+use Rattle.audit_core.proofs.PassOrder.{AreFrom, at-connection, at-in_order, from-at, from-from, from-append}
+use Rattle.conn_scan.specs.Items.{item_with, items_with, change_at}
+use Rattle.split_merge.specs.Board.{Job, Round, Part, Board, stop_of, StopsAt, IsLeast, IsGiven, IsPast, IsCut, IsPartOf, IsSettled, parts_of}
+use Rattle.split_merge.proofs.RoundCuts.{stops_join_lem}
+use Rattle.split_merge.proofs.RoundMembers.{contains-none, contains-here, contains-cases}
+use Rattle.split_merge.proofs.RoundMerge.{board_merges_lem}
+use Rattle.split_merge.proofs.ShownMerge.{shown-append}
+use Rattle.audit_rounds.specs.Openings.{openings_of}
+use Rattle.audit_rounds.specs.Rounds.{streams_shown, blocks_shown}
+use Rattle.audit_rounds.specs.Settling.{AgreeWithin, IsAfterStreams, frames_within, blocks_within, RoundsSettle}
+use Rattle.audit_rounds.proofs.Items.{items_are_found_lem}
+use Rattle.audit_rounds.proofs.Parts.{orderly-filter}
+use Rattle.audit_rounds.proofs.Rounds.{rounds_make_pass_lem}
+
+-- a place of a connection
+abbrev entry : (connection place : ℕ) → ℕ × ℕ
+entry connection place = (connection, place)
+
+-- ---- what lies past a stop does not count: as a job of which nothing is kept
+
+module _ (earlier late : List Finding) (stop : Option ℕ) (least : IsLeast (StopsAt earlier) stop) (past : (found : Finding) → Contains late found → IsPast stop found.place) where
+  abbrev job : Job
+  job = record { connection = 0; findings = late }
+
+  abbrev part : Part
+  part = record { job = 0; connection = 0; upto = stop; findings = [] }
+
+  abbrev round : Round
+  round = record { jobs = job ∷ []; opening_stops = stop ∷ [] }
+
+  abbrev seen_at : Option ℕ → List (ℕ × ℕ)
+  seen_at None = []
+  seen_at (Some place) = (0, place) ∷ []
+
+  abbrev board : Board
+  board = record { parts = part ∷ []; seen = seen_at stop; lowered = []; stops = stop ∷ [] }
+
+  left_out : IsCut late stop []
+  left_out = record { ordered = refl; left_out = late; together = refl; past = past }
+
+  was_seen : (upto : Option ℕ) (place : ℕ) → upto ≡ Some place → Contains (seen_at upto) (0, place)
+  was_seen None place e = cc
+  was_seen (Some other) place e =
+      let same : other ≡ place = cc in
+      subst (λ p. Contains (entry 0 other ∷ []) (entry 0 p)) same (contains-here (entry 0 other) [])
+
+  is_part : IsPartOf (seen_at stop) [] job part
+  is_part = record {
+    of_connection = refl;
+    cut = left_out;
+    upto_seen = was_seen stop;
+    stops_lowered = λ place h. absurd (contains-none h.0 h.1);
+  }
+
+  one_each : (number : ℕ) → number < 1 → parts_of number (part ∷ []) ≡ 1
+  one_each zero l = refl
+  one_each (suc number) l = absurd (omega arith)
+
+  of_job : (other : Part) → (part ≡ other) ⊎ Contains [] other →
+      (j : Job) × (slice_get (job ∷ []) other.job ≡ Some j) × IsPartOf (seen_at stop) [] j other
+  of_job other (inl e) =
+      subst (λ (o : Part). (j : Job) × (slice_get (job ∷ []) o.job ≡ Some j) × IsPartOf (seen_at stop) [] j o) e
+      (job, refl, is_part)
+  of_job other (inr k) = absurd (contains-none other k)
+
+  given_by : (upto : Option ℕ) (connection place : ℕ) → Contains (seen_at upto) (connection, place) →
+      stop_of (upto ∷ []) connection ≡ Some place
+  given_by None connection place k = absurd (contains-none (entry connection place) k)
+  given_by (Some seen) connection place k = by_case (contains-cases (entry 0 seen) [] (entry connection place) k) where
+    by_case : (entry 0 seen ≡ entry connection place) ⊎ Contains [] (entry connection place) →
+        stop_of (Some seen ∷ []) connection ≡ Some place
+    by_case (inl e) =
+        subst (λ (one : ℕ × ℕ). stop_of (Some seen ∷ []) one.0 ≡ Some one.1) e refl
+    by_case (inr l) = absurd (contains-none (entry connection place) l)
+
+  least_given : (at : Option ℕ) (connection : ℕ) → stop_of (stop ∷ []) connection ≡ at →
+      IsLeast (IsGiven round [] connection) at
+  least_given None connection e = λ place h. none place h where
+    none : (place : ℕ) → IsGiven round [] connection place → ⊥
+    none place (inl k) = let other : None ≡ Some place = sym e ∙ k in absurd cc
+    none place (inr k) = contains-none (entry connection place) k
+  least_given (Some least) connection e = (inl e, λ place h. below place h) where
+    below : (place : ℕ) → IsGiven round [] connection place → least ≤ place
+    below place (inl k) =
+        let both : Some least ≡ Some place = sym e ∙ k in
+        let same : least ≡ place = cc in
+        omega arith
+    below place (inr k) = absurd (contains-none (entry connection place) k)
+
+  settled : IsSettled round board
+  settled = record {
+    one_part_each = one_each;
+    parts_of_jobs = λ other h. of_job other (contains-cases part [] other h);
+    lowered_real = λ connection place h. absurd (contains-none (entry connection place) h);
+    seen_given = λ connection place h. inl (given_by stop connection place h);
+    stops_least = λ connection. least_given _ connection refl;
+  }
+
+  late-left : upto_stop (in_order (earlier ++ late)) ≡ upto_stop (in_order earlier)
+  late-left =
+      ap (λ l. upto_stop (in_order (earlier ++ l))) (sym (append-nil late))
+      ∙ sym (board_merges_lem round board settled 0 earlier least).findings
+      ∙ ap (λ l. upto_stop (in_order l)) (append-nil earlier)
+
+-- ---- frames up to the stop, and past it
+
+abbrev frames_past : (stop : Option ℕ) → List Frame → List Frame
+frames_past stop frames = filter (λ (frame : Frame). is_past stop frame.number) frames
+
+past-higher : (stop : Option ℕ) (number higher : ℕ) → number ≤ higher → is_past stop number ≡ true →
+    is_past stop higher ≡ true
+past-higher None number higher l e = e
+past-higher (Some place) number higher l e =
+    let past : place_number place < number = ltb-true (place_number place) number e in
+    lt-ltb (place_number place) higher (omega arith)
+
+none-within : (stop : Option ℕ) (low : ℕ) (frames : List Frame) → is_past stop low ≡ true → IsOrderlyFrom low frames →
+    frames_within stop frames ≡ []
+none-within stop low [] e h = refl
+none-within stop low (frame ∷ frames) e h =
+    let here = past-higher stop low frame.number h.0 e in
+    let next = past-higher stop low (frame.number + 1) (omega (arith, h.0)) e in
+    rw here (none-within stop (frame.number + 1) frames next h.2)
+
+all-past : (stop : Option ℕ) (low : ℕ) (frames : List Frame) → is_past stop low ≡ true → IsOrderlyFrom low frames →
+    frames_past stop frames ≡ frames
+all-past stop low [] e h = refl
+all-past stop low (frame ∷ frames) e h =
+    let here = past-higher stop low frame.number h.0 e in
+    let next = past-higher stop low (frame.number + 1) (omega (arith, h.0)) e in
+    rw here (ap (λ l. frame ∷ l) (all-past stop (frame.number + 1) frames next h.2))
+
+divided : (stop : Option ℕ) (low : ℕ) (frames : List Frame) → IsOrderlyFrom low frames →
+    frames_within stop frames ++ frames_past stop frames ≡ frames
+divided stop low [] h = refl
+divided stop low (frame ∷ frames) h = by_test _ refl (divided stop (frame.number + 1) frames h.2) where
+  by_test : (b : Bool) → is_past stop frame.number ≡ b →
+      frames_within stop frames ++ frames_past stop frames ≡ frames →
+      frames_within stop (frame ∷ frames) ++ frames_past stop (frame ∷ frames) ≡ frame ∷ frames
+  by_test true e ih =
+      let next = past-higher stop frame.number (frame.number + 1) (omega arith) e in
+      let none = none-within stop (frame.number + 1) frames next h.2 in
+      let all = all-past stop (frame.number + 1) frames next h.2 in
+      rw (e, none, all) refl
+  by_test false e ih = rw e (ap (λ l. frame ∷ l) ih)
+
+past-orderly : (place low : ℕ) (frames : List Frame) → IsOrderlyFrom low frames →
+    IsOrderlyFrom (place_number place + 1) (frames_past (Some place) frames)
+past-orderly place low [] h = tt
+past-orderly place low (frame ∷ frames) h = by_test _ refl (past-orderly place (frame.number + 1) frames h.2) where
+  by_test : (b : Bool) → nat_lt (place_number place) frame.number ≡ b →
+      IsOrderlyFrom (place_number place + 1) (frames_past (Some place) frames) →
+      IsOrderlyFrom (place_number place + 1) (frames_past (Some place) (frame ∷ frames))
+  by_test true e ih =
+      let past = ltb-true (place_number place) frame.number e in
+      rw e
+      (omega arith, h.1, orderly-filter (λ (f : Frame). is_past (Some place) f.number) (frame.number + 1) frames h.2)
+  by_test false e ih = rw e ih
+
+-- ---- what blocks of them show
+
+-- findings stand at their frames
+from-block_run : (low : ℕ) (now : ConnectionState) (opened : List ℕ) (changes : List Change) (frames : List Frame) →
+    IsOrderlyFrom low frames → AreFrom low (block_run now (items_with opened changes frames))
+from-block_run low now opened changes [] h = tt
+from-block_run low now opened changes (frame ∷ frames) h =
+    let item : Item = item_with opened changes frame in
+    from-append low (in_order (connection_said now item)) _
+    (from-at low frame.number _ h.0 (at-in_order frame.number _ (at-connection now item h.1)).within)
+    (from-from low (frame.number + 1) _ (omega arith)
+    (from-block_run (frame.number + 1) (connection_after now item) opened changes frames h.2))
+
+from-shown : (c : Bool) (low : ℕ) (xs : List Finding) → AreFrom low xs → AreFrom low (shown c xs)
+from-shown c low [] h = tt
+from-shown c low (x ∷ xs) h = by_test _ refl (from-shown c low xs h.1) where
+  by_test : (b : Bool) → is_shown c x ≡ b → AreFrom low (shown c xs) → AreFrom low (shown c (x ∷ xs))
+  by_test true e ih = rw e (h.0, ih)
+  by_test false e ih = rw e ih
+
+from-contains : (low : ℕ) (xs : List Finding) (x : Finding) → AreFrom low xs → Contains xs x → low * 2 ^ 36 ≤ x.place
+from-contains low [] x h k = absurd (contains-none x k)
+from-contains low (y ∷ xs) x h k = by_case (from-contains low xs x h.1) (contains-cases y xs x k) where
+  by_case : (Contains xs x → low * 2 ^ 36 ≤ x.place) → (y ≡ x) ⊎ Contains xs x → low * 2 ^ 36 ≤ x.place
+  by_case ih (inl e) = subst (λ (z : Finding). low * 2 ^ 36 ≤ z.place) e h.0
+  by_case ih (inr l) = ih l
+
+none-past : (frames : List Frame) → frames_past None frames ≡ []
+none-past [] = refl
+none-past (frame ∷ frames) = none-past frames
+
+past-shown : (c : Bool) (stop : Option ℕ) (now : ConnectionState) (opened : List ℕ) (changes : List Change)
+    (frames : List Frame) → IsOrderly frames → (found : Finding) →
+    Contains (shown c (block_run now (items_with opened changes (frames_past stop frames)))) found →
+    IsPast stop found.place
+past-shown c None now opened changes frames h found k =
+    let none = none-past frames in
+    contains-none found (rw none at k)
+past-shown c (Some place) now opened changes frames h found k =
+    let from : (place_number place + 1) * 2 ^ 36 ≤ found.place =
+    from-contains (place_number place + 1) _ found (from-shown c (place_number place + 1) _
+    (from-block_run (place_number place + 1) now opened changes (frames_past (Some place) frames)
+    (past-orderly place 0 frames h))) k in
+    omega arith
+
+-- openings count by the frames within
+same-items : (xs ys : List ℕ) (changes : List Change) (stop : Option ℕ) (frames : List Frame) →
+    AgreeWithin stop xs ys →
+    items_with xs changes (frames_within stop frames) ≡ items_with ys changes (frames_within stop frames)
+same-items xs ys changes stop [] h = refl
+same-items xs ys changes stop (frame ∷ frames) h = by_test _ refl (same-items xs ys changes stop frames h) where
+  marked : Bool → Item
+  marked b = record { frame = frame; opens = is_headers frame.body && b; change = change_at changes frame }
+
+  by_test : (b : Bool) → is_past stop frame.number ≡ b →
+      items_with xs changes (frames_within stop frames) ≡ items_with ys changes (frames_within stop frames) →
+      items_with xs changes (frames_within stop (frame ∷ frames))
+      ≡ items_with ys changes (frames_within stop (frame ∷ frames))
+  by_test true e ih = rw e ih
+  by_test false e ih =
+      rw e (ap (λ l. item_with xs changes frame ∷ l) ih
+      ∙ ap (λ b. marked b ∷ items_with ys changes (frames_within stop frames)) (h frame.number e))
+
+-- ---- the law
+
+module _ (c : Bool) (frames : List Frame) (found : List Finding) (stop : Option ℕ) (opened : List ℕ) (h : IsOrderly frames) (after : IsAfterStreams c frames found stop opened) where
+  abbrev openings : List ℕ
+  openings = openings_of frames (streams_of frames)
+
+  abbrev front : List Item
+  front = items_with opened (changes_of frames) (frames_within stop frames)
+
+  abbrev back : List Item
+  back = items_with openings (changes_of frames) (frames_past stop frames)
+
+  cut : joined (front ∷ back ∷ []) ≡ items_of frames
+  cut =
+      ap (λ l. front ++ l) (append-nil back)
+      ∙ ap (λ l. l ++ back) (same-items opened openings (changes_of frames) stop frames after.opened_within)
+      ∙ sym (map-append (item_with openings (changes_of frames)) (frames_within stop frames) (frames_past stop frames))
+      ∙ ap (items_with openings (changes_of frames)) (divided stop 0 frames h)
+      ∙ items_are_found_lem frames openings h (IsPermutation-refl openings)
+
+  abbrev streams : List Finding
+  streams = (local_run frames ++ settings_run frames) ++ streams_shown c frames
+
+  abbrev shown_front : List Finding
+  shown_front = blocks_within c frames stop opened
+
+  abbrev shown_back : List Finding
+  shown_back = shown c (block_run (connection_after_all connection_start front) back)
+
+  both : blocks_shown c (front ∷ back ∷ []) ≡ shown_front ++ shown_back
+  both =
+      ap (λ l. shown c (block_run connection_start front ++ l))
+      (append-nil (block_run (connection_after_all connection_start front) back))
+      ∙ shown-append c (block_run connection_start front) _
+
+  back-left : upto_stop (in_order (streams ++ shown_front))
+      ≡ upto_stop (in_order (streams ++ (shown_front ++ shown_back)))
+  back-left =
+      sym (stops_join_lem (streams ++ shown_back) streams shown_front
+      (late-left streams shown_back stop after.least
+      (past-shown c stop (connection_after_all connection_start front) openings (changes_of frames) frames h)))
+      ∙ ap (λ l. upto_stop (in_order l)) (append_assoc streams shown_back shown_front)
+      ∙ ap upto_stop (in_order-alike streams streams (shown_back ++ shown_front) (shown_front ++ shown_back) refl
+      (in_order-append_comm shown_back shown_front))
+
+  settles : upto_stop (in_order (found ++ shown_front)) ≡ shown c (pass frames)
+  settles =
+      stops_join_lem found streams shown_front after.cut ∙ back-left
+      ∙ ap (λ l. upto_stop (in_order (streams ++ l))) (sym both)
+      ∙ rounds_make_pass_lem c frames (front ∷ back ∷ []) h cut
+
+pub rounds_settle_lem : RoundsSettle
+rounds_settle_lem c frames found last stop opened h after e = e ∙ settles c frames found stop opened h after

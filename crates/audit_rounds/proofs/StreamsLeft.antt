@@ -1,0 +1,251 @@
+-- What a settled round over streams leaves of each connection.
+use Rattle.std.proofs.Common.{◌≡◌, ℕ, zero, suc, ◌<◌, ◌≤◌, ◌==◌, if◌then◌else◌, Bool, true, false, eqb-true, List, [], ◌∷◌, ◌++◌, length, map, flat_map, get_or, slice_get, All, Option, Some, None, refl, sym, ap, ◌∙◌, subst, arith, Vec, Global}
+use Rattle.std.specs.List.{AllZip, zip}
+use Rattle.std.proofs.lemmas.List.{length-map, get_or-map, get_or_default}
+use Rattle.std.proofs.lemmas.Option.{slice_get_within, slice_get-get_or, get_or_from_slice_get}
+use Rattle.std.proofs.lemmas.Slice.Zip.{AllZip-long, length-zip, get_or-zip}
+use Rattle.audit_terms.specs.declared.findings.Finding.{Finding}
+use Rattle.audit_terms.specs.Finding.{in_order, upto_stop}
+use Rattle.stop_desk.specs.Stop.{IsStop}
+use Rattle.split_merge.specs.Board.{Job, StopsAt, IsLeast, stop_of, findings_of_jobs, findings_of_parts}
+use Rattle.split_merge.specs.RoundLaws.{Merges}
+use Rattle.split_merge.proofs.RoundMerge.{board_merges_lem}
+use Rattle.job_crew.specs.declared.parts.Part.{Part}
+use Rattle.job_crew.specs.declared.settling.Settled.{Settled}
+use Rattle.job_crew.specs.Laid.{part_of, board_with}
+use Rattle.audit_rounds.specs.declared.prepared.Prepared.{Prepared}
+use Rattle.audit_rounds.specs.declared.streams.Streams.{Streams}
+use Rattle.audit_rounds.specs.declared.stream_plan.StreamJob.{StreamJob}
+use Rattle.audit_rounds.specs.declared.stream_round.AfterStreams.{AfterStreams}
+use Rattle.audit_rounds.specs.Rounds.{streams_shown}
+use Rattle.audit_rounds.specs.Settling.{AgreeWithin, Reaches, IsAfterStreams}
+use Rattle.audit_rounds.specs.code.AfterStreams.{AreAfterStreams, HaveSettled, after_with, afters_of}
+use Rattle.audit_rounds.specs.code.Opened.{numbers_told, IsInOrder}
+use Rattle.audit_rounds.specs.code.Prepared.{IsPrepared, found_before}
+use Rattle.audit_rounds.specs.code.StreamJobs.{job_of, of_rows, plan_from}
+use Rattle.audit_rounds.specs.code.StreamRound.{IsFirstStop, IsStreamsOf}
+use Rattle.audit_rounds.specs.code.Streams.{rows_opened}
+use Rattle.audit_rounds.proofs.Jobs.{job-is}
+use Rattle.audit_rounds.proofs.Settles.{parts-within}
+use Rattle.audit_rounds.proofs.StreamRounds.{jobs-of, jobs-within, openings-of}
+use Rattle.audit_rounds.proofs.Told.{agree-append, agree-permuted, agree-reached}
+
+-- ---- lists side by side
+
+-- what holds of the elements at each index
+zip-of : {X Y : Type 0} (R : X → Y → Type 0) (xs : List X) (ys : List Y) → length xs ≡ length ys
+    → ((n : ℕ) (x : X) (y : Y) → slice_get xs n ≡ Some x → slice_get ys n ≡ Some y → R x y) → AllZip R xs ys
+zip-of R [] [] e h = tt
+zip-of R [] (y ∷ ys) e h = absurd (omega (arith, e))
+zip-of R (x ∷ xs) [] e h = absurd (omega (arith, e))
+zip-of R (x ∷ xs) (y ∷ ys) e h = (h 0 x y refl refl, zip-of R xs ys (omega (arith, e)) (λ n. h (suc n)))
+
+both-at : {X Y : Type 0} (R : X → Y → Type 0) (xs : List X) (ys : List Y) (n : ℕ) (d : X) (e : Y) → AllZip R xs ys
+    → n < length xs → R (get_or xs n d) (get_or ys n e)
+both-at R [] ys n d e h l = absurd (omega (arith, l))
+both-at R (x ∷ xs) [] n d e h l = absurd h
+both-at R (x ∷ xs) (y ∷ ys) zero d e h l = h.0
+both-at R (x ∷ xs) (y ∷ ys) (suc n) d e h l = both-at R xs ys n d e h.1 (omega (arith, l))
+
+-- what was found before is of each connection
+pub as-many : (connections : List Prepared) (found : List (Vec Finding Global))
+    → map (λ (one : Vec Finding Global). one.items) found ≡ map found_before connections
+    → length found ≡ length connections
+as-many connections found before =
+    sym (length-map found (λ (one : Vec Finding Global). one.items)) ∙ ap length before
+    ∙ length-map connections found_before
+
+-- ---- what the parts tell of openings
+
+-- a part tells the openings of its job, up to the stop of its connection at least
+record Tells (stops : List (Option ℕ)) (openings : StreamJob → List ℕ) (part : Part (Vec ℕ Global)) (job : StreamJob)
+    : Type 0 where
+  connection : part.connection ≡ job.connection
+  agree : AgreeWithin (stop_of stops part.connection) part.made.items (openings job)
+
+module _ (stops : List (Option ℕ)) (openings : StreamJob → List ℕ) (n : ℕ) where
+  -- so the parts of a connection tell those of its jobs
+  agree-parts : (parts : List (Part (Vec ℕ Global))) (plan : List StreamJob) → AllZip (Tells stops openings) parts plan
+      → AgreeWithin (stop_of stops n) (numbers_told n parts)
+      (flat_map (λ (job : StreamJob). if job.connection == n then openings job else []) plan)
+  agree-parts [] [] h = λ number e. refl
+  agree-parts [] (job ∷ plan) h = absurd h
+  agree-parts (part ∷ parts) [] h = absurd h
+  agree-parts (part ∷ parts) (job ∷ plan) h =
+      agree-append (stop_of stops n) (if part.connection == n then part.made.items else [])
+      (if job.connection == n then openings job else []) (numbers_told n parts)
+      (flat_map (λ (job : StreamJob). if job.connection == n then openings job else []) plan)
+      (by_test _ refl) (agree-parts parts plan h.1) where
+        by_test : (b : Bool) → (part.connection == n) ≡ b
+            → AgreeWithin (stop_of stops n) (if part.connection == n then part.made.items else [])
+            (if job.connection == n then openings job else [])
+        by_test true t =
+            let own : (job.connection == n) ≡ true = ap (λ m. m == n) (sym h.0.connection) ∙ t in
+            rw (t, own) (subst (λ m. AgreeWithin (stop_of stops m) part.made.items (openings job))
+            (eqb-true part.connection n t) h.0.agree)
+        by_test false t =
+            let other : (job.connection == n) ≡ false = ap (λ m. m == n) (sym h.0.connection) ∙ t in
+            rw (t, other) (λ number e. refl)
+
+-- a run that went up to a place at or past the stop reached it
+reaches : (upto stop : Option ℕ) → ((place : ℕ) → upto ≡ Some place → (s : ℕ) × (stop ≡ Some s) × (s ≤ place))
+    → Reaches upto stop
+reaches None stop h = tt
+reaches (Some place) stop h = let s = h place refl in subst (Reaches (Some place)) (sym s.1) s.2
+
+-- ---- a settled round
+
+module _ (credits_shown : Bool) (count : ℕ) (streams : List Streams) (opening : List (Option ℕ))
+    (settled : Settled (Vec ℕ Global)) (h : HaveSettled credits_shown count streams opening settled) where
+  abbrev plan : List StreamJob
+  plan = plan_from count 0 streams
+
+  abbrev jobs : List Job
+  jobs = map (job_of credits_shown streams) plan
+
+  abbrev parts : List (Part (Vec ℕ Global))
+  parts = settled.parts.items
+
+  abbrev stops : List (Option ℕ)
+  stops = settled.stops.items
+
+  part-tells : (n : ℕ) (part : Part (Vec ℕ Global)) (job : StreamJob) → slice_get parts n ≡ Some part
+      → slice_get plan n ≡ Some job → Tells stops (of_rows rows_opened streams) part job
+  part-tells n part job e f =
+      let own = h.in_order n part e in
+      let l : n < length parts = slice_get_within parts n part e in
+      let at : get_or parts n part ≡ part = get_or_from_slice_get parts n part part e in
+      let number = length-map parts part_of in
+      let laid = h.board.parts_of_jobs (part_of part)
+      (n, omega (arith, l, number), get_or-map part_of parts n part (part_of part) l ∙ ap part_of at) in
+      let job_is : laid.0 ≡ job_of credits_shown streams job =
+      job-is (job_of credits_shown streams) plan part.job laid.0 job laid.1
+      ∙ ap (λ k. job_of credits_shown streams (get_or plan k job)) own.0
+      ∙ ap (job_of credits_shown streams) (get_or_from_slice_get plan n job job f) in
+      record {
+        connection = laid.2.of_connection ∙ ap (λ (job : Job). job.connection) job_is;
+        agree = agree-reached part.upto (stop_of stops part.connection) part.made.items
+            (of_rows rows_opened streams job)
+            (reaches part.upto (stop_of stops part.connection) (h.heeded part (n, l, at)))
+            (own.1 job f);
+      }
+
+  all-tell : AllZip (Tells stops (of_rows rows_opened streams)) parts plan
+  all-tell =
+      zip-of (Tells stops (of_rows rows_opened streams)) parts plan
+      (h.count ∙ length-map plan (job_of credits_shown streams)) part-tells
+
+  module _ (connections : List Prepared) (some : 1 ≤ count) (prepared : All IsPrepared connections)
+      (is : AllZip IsStreamsOf connections streams) (n : ℕ) (one : Prepared)
+      (there : slice_get connections n ≡ Some one)
+      (least : IsLeast (StopsAt (found_before one)) (stop_of opening n)) where
+    merges : Merges (record { jobs = jobs; opening_stops = opening })
+        (board_with (map part_of parts) h.seen h.lowered stops) n (found_before one)
+    merges =
+        board_merges_lem (record { jobs = jobs; opening_stops = opening })
+        (board_with (map part_of parts) h.seen h.lowered stops) h.board n (found_before one) least
+
+    shows : findings_of_jobs n jobs ≡ streams_shown credits_shown one.frames.now
+    shows = jobs-of credits_shown count connections streams some prepared is n one there
+
+    -- what is left of a connection
+    pub is-after : (last : List Finding) (opened : List ℕ)
+        → last ≡ found_before one ++ findings_of_parts n (map part_of parts) → IsInOrder (numbers_told n parts) opened
+        → IsAfterStreams credits_shown one.frames.now last (stop_of stops n) opened
+    is-after last opened e order =
+        let frames = one.frames.now in
+        subst (λ last. IsAfterStreams credits_shown frames last (stop_of stops n) opened) (sym e) (record {
+          cut = merges.findings ∙ ap (λ l. upto_stop (in_order (found_before one ++ l))) shows;
+          least = subst (λ l. IsLeast (StopsAt (found_before one ++ l)) (stop_of stops n)) shows merges.stop;
+          kept = merges.kept_stop;
+          opened_within = subst (AgreeWithin (stop_of stops n) opened)
+              (openings-of count connections streams some prepared is n one there)
+              (agree-permuted (stop_of stops n) (numbers_told n parts) _ opened
+              (agree-parts stops (of_rows rows_opened streams) n parts plan all-tell) order.same);
+          rising = order.rising;
+        })
+
+  -- each part is of one of the connections
+  pub parts-inside : (bound : ℕ) → length streams ≡ bound
+      → All (λ (part : Part (Vec ℕ Global)). part.connection < bound) parts
+  parts-inside bound number =
+      parts-within jobs opening parts bound
+      (record { seen = h.seen; lowered = h.lowered; last = stops; board = h.board })
+      (jobs-within credits_shown count streams bound number)
+
+  -- what is left of all connections
+  module _ (connections : List Prepared) (some : 1 ≤ count) (prepared : All IsPrepared connections)
+      (is : AllZip IsStreamsOf connections streams) (found last : List (Vec Finding Global))
+      (opened : List (Vec ℕ Global))
+      (before : map (λ (one : Vec Finding Global). one.items) found ≡ map found_before connections)
+      (first : AllZip (λ (one : Vec Finding Global) (stop : Option ℕ). IsFirstStop one.items stop) found opening)
+      (lasts : length last ≡ length found)
+      (kept : (n : ℕ) (list list' : Vec Finding Global) → n < length found
+      → (get_or last n list).items ≡ (get_or found n list').items ++ findings_of_parts n (map part_of parts))
+      (opens : length opened ≡ length connections)
+      (orders : (n : ℕ) (list : Vec ℕ Global) → n < length connections
+      → IsInOrder (numbers_told n parts) (get_or opened n list).items) where
+    founds : length found ≡ length connections
+    founds = as-many connections found before
+
+    stops-number : length stops ≡ length found
+    stops-number = h.connections ∙ AllZip-long _ found opening first
+
+    pairs-number : length (zip (zip last opened) stops) ≡ length connections
+    pairs-number =
+        let all = length-zip (zip last opened) stops in
+        let two = length-zip last opened in
+        let a = founds in
+        let b = stops-number in
+        omega (arith, all, two, lasts, opens, a, b)
+
+    found-at : (n : ℕ) (list : Vec Finding Global) (connection : Prepared) → n < length connections
+        → (get_or found n list).items ≡ found_before (get_or connections n connection)
+    found-at n list connection l =
+        let a = founds in
+        sym (get_or-map (λ (one : Vec Finding Global). one.items) found n list [] (omega (arith, a, l)))
+        ∙ ap (λ lists. get_or lists n []) before ∙ get_or-map found_before connections n connection [] l
+
+    all-at : (n : ℕ) (one : AfterStreams) → n < length connections
+        → get_or (afters_of last opened stops) n one
+        ≡ after_with ((get_or last n one.found, get_or opened n one.opened), get_or stops n one.stop)
+    all-at n one l =
+        let a = founds in
+        let b = stops-number in
+        let c = pairs-number in
+        let two = length-zip last opened in
+        let d : (Vec Finding Global × Vec ℕ Global) × Option ℕ = ((one.found, one.opened), one.stop) in
+        get_or-map after_with (zip (zip last opened) stops) n d one (omega (arith, c, l))
+        ∙ ap after_with (get_or-zip (zip last opened) stops n d (omega (arith, two, lasts, opens, a, l))
+        (omega (arith, a, b, l))
+        ∙ ap (λ pair. (pair, get_or stops n one.stop))
+        (get_or-zip last opened n d.0 (omega (arith, lasts, a, l)) (omega (arith, opens, l))))
+
+    pub are-after : AreAfterStreams credits_shown connections (afters_of last opened stops)
+    are-after = record {
+      number = length-map (zip (zip last opened) stops) after_with ∙ pairs-number;
+      each = λ n one connection l.
+          let a = founds in
+          let b = stops-number in
+          let list = get_or found n one.found in
+          let stop-is = get_or_default stops n None one.stop (omega (arith, a, b, l)) in
+          let least = subst (λ found. IsLeast (StopsAt found) (stop_of opening n)) (found-at n one.found connection l)
+          (both-at _ found opening n one.found None first (omega (arith, a, l))) in
+          subst (λ (left : AfterStreams). IsAfterStreams credits_shown (get_or connections n connection).frames.now
+          left.found.items left.stop left.opened.items) (sym (all-at n one l))
+          (subst (λ stop. IsAfterStreams credits_shown (get_or connections n connection).frames.now
+          (get_or last n one.found).items stop (get_or opened n one.opened).items) stop-is
+          (is-after connections some prepared is n (get_or connections n connection)
+          (slice_get-get_or connections n connection l) least (get_or last n one.found).items
+          (get_or opened n one.opened).items
+          (kept n one.found one.found (omega (arith, a, l))
+          ∙ ap (λ front. front ++ findings_of_parts n (map part_of parts)) (found-at n one.found connection l))
+          (orders n one.opened l)));
+      stops = λ n one l.
+          let c = pairs-number in
+          let number = length-map (zip (zip last opened) stops) after_with in
+          let a = founds in
+          let b = stops-number in
+          subst (λ (left : AfterStreams). IsStop left.stop) (sym (all-at n one (omega (arith, c, number, l))))
+          (h.places n one.stop (omega (arith, a, b, c, number, l)));
+    }

@@ -1,0 +1,12 @@
+use Rattle.std.proofs.Common.{◌∙◌, ap, subst}
+use Rattle.audit_rounds.specs.code.StreamRound.{IsFirstStop}
+use Rattle.audit_rounds.proofs.Openers.{zip-more}
+use Rattle.audit_rounds.proofs.beginnings.opening_stops.Goals as goal
+
+pub loop-one-preserved : goal.loop-one-preserved
+loop-one-preserved c =
+    zip-more (λ one stop. IsFirstStop one.items stop) c.args.found.now c.loop-one.one-index c.one-item.result
+    c.loop-one.stops.items c.push.new.self.items c.first_stop.result c.loop-one-test.true c.loop-one.invariant
+    (subst (λ l. IsFirstStop l c.first_stop.result) (c.as_slice.ensures.value ∙ ap (λ one. one.items) c.one-item.is)
+    c.first_stop.ensures)
+    c.in_ok-push.ensures.items

@@ -1,0 +1,8 @@
+use Rattle.std.proofs.Common.{take}
+use Rattle.std.specs.List.{AllZip}
+use Rattle.audit_rounds.specs.code.StreamRound.{IsStreamsOf}
+use Rattle.audit_rounds.proofs.beginnings.streams_each.Given as goal
+
+-- the streams of the connections so far
+abbrev pub invariant-loop-n : goal.invariant-loop-n
+invariant-loop-n l = AllZip IsStreamsOf (take l.n l.connections) l.all.items

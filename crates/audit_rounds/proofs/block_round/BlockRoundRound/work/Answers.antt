@@ -1,0 +1,21 @@
+use Rattle.std.proofs.Common.{◌≡◌, ◌<◌, length, map, sym, subst, arith}
+use Rattle.std.proofs.lemmas.List.{length-map}
+use Rattle.split_merge.specs.Board.{Job, IsCut}
+use Rattle.audit_rounds.specs.code.Plans.{block_job}
+use Rattle.audit_rounds.proofs.Jobs.{job-is, block-cut-is, run-heeds}
+use Rattle.audit_rounds.proofs.block_round.BlockRoundRound.work.Goals as goal
+
+pub returns-clause-cut : goal.returns-clause-cut
+returns-clause-cut g c = λ one is.
+    let round = c.args.self.now in
+    let run = c.in_ok-run.run' in
+    let number : length (map (block_job round.credits_shown) round.plan.now) ≡ length round.plan.now =
+    length-map round.plan.now (block_job round.credits_shown) in
+    let within : c.args.job < length round.plan.now = omega arith in
+    subst (λ (job : Job). IsCut job.findings run.upto run.findings.items)
+    (sym (job-is (block_job round.credits_shown) round.plan.now c.args.job one _ is))
+    (block-cut-is round.credits_shown _ _ run.upto run.findings.items (round.ready c.args.job _ within).is_block
+    c.in_ok-run.ensures.run.found)
+
+pub returns-clause-looks : goal.returns-clause-looks
+returns-clause-looks g c = run-heeds _ _ _ _ _ _ _ _ _ c.in_ok-run.ensures.run

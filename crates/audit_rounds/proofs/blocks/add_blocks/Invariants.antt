@@ -1,0 +1,18 @@
+use Rattle.std.proofs.Common.{◌≡◌, ◌++◌, List, length, map}
+use Rattle.block_scan.specs.List.{items_of}
+use Rattle.conn_scan.specs.declared.block_items.Block.{Block}
+use Rattle.conn_scan.specs.Items.{items_in, IsBlock}
+use Rattle.audit_rounds.specs.code.Blocks.{AreShort, blocks_of_connection}
+use Rattle.audit_rounds.proofs.blocks.add_blocks.Given as goal
+
+-- the items of the blocks that were added, and of the rest, are all
+abbrev pub invariant-loop-first : goal.invariant-loop-first
+invariant-loop-first l = record {
+  is_block : IsBlock l.rest;
+  short : AreShort l.fn.blocks.items → AreShort l.blocks.items;
+  added : (cut : List Block) × (l.blocks.items ≡ l.fn.blocks.items ++ blocks_of_connection l.connection cut)
+      × (items_of (map items_in cut) ++ items_in l.rest ≡ items_in l.whole);
+}
+
+abbrev pub decreases-loop-first : goal.decreases-loop-first
+decreases-loop-first l = length l.rest.frames.now

@@ -1,0 +1,11 @@
+use Rattle.std.proofs.Common.{◌≡◌, length, take}
+use Rattle.audit_rounds.specs.code.Blocks.{AreCut, AreShort, wholes}
+use Rattle.audit_rounds.proofs.blocks.cut_into_blocks.Given as goal
+
+-- the connections so far are cut
+abbrev pub invariant-loop-connection : goal.invariant-loop-connection
+invariant-loop-connection l = record {
+  number : length l.counts.items ≡ l.connection-index;
+  cut : AreCut 0 (take l.connection-index (wholes l.connections)) l.counts.items l.blocks.items;
+  short : AreShort l.blocks.items;
+}

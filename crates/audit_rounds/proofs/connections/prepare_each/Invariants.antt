@@ -1,0 +1,12 @@
+use Rattle.std.proofs.Common.{◌≡◌, ◌≤◌, All, map, take, length}
+use Rattle.audit_rounds.specs.code.Prepared.{IsPrepared, found_before}
+use Rattle.audit_rounds.proofs.connections.prepare_each.Given as goal
+
+-- the connections so far are ready
+abbrev pub invariant-loop-frames : goal.invariant-loop-frames
+invariant-loop-frames g l = record {
+  within : l.frames-index ≤ length l.connections;
+  frames : map (λ one. one.frames.now) l.prepared.items ≡ map (λ frames. frames.now) (take l.frames-index l.connections);
+  prepared : All IsPrepared l.prepared.items;
+  found : map (λ one. one.items) l.found.items ≡ map found_before l.prepared.items;
+}

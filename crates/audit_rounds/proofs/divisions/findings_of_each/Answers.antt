@@ -1,0 +1,22 @@
+use Rattle.std.proofs.Common.{List, Bor, arith}
+use Rattle.audit_terms.specs.declared.frames.Frame.{Frame}
+use Rattle.audit_terms.specs.Finding.{shown}
+use Rattle.audit_terms.specs.Pass.{pass}
+use Rattle.audit_rounds.proofs.Batches.{batch-more}
+use Rattle.audit_rounds.proofs.divisions.findings_of_each.Goals as goal
+
+pub loop-done-preserved : goal.loop-done-preserved
+loop-done-preserved g c =
+    let at = c.loop-done in
+    let cut = c.split_at-in-loop-done in
+    let left = c.split_at.ensures.back_len in
+    let long = cut.ensures.front_len in
+    let few = c.batch_length.ensures.within in
+    let within = at.invariant.within in
+    record {
+      within = omega (arith, left, long, few, within);
+      shown = batch-more (λ (frames : Bor (List Frame)). shown c.args.credits_shown (pass frames.now)) at.all.items
+          c.in_ok-found.found.items c.append.new.self.items c.args.connections.now cut.result.0.now
+          c.split_at.result.1.now at.done c.batch_length.result long cut.ensures.front c.split_at.ensures.back
+          c.in_ok-append.ensures.items at.invariant.shown c.in_ok-found.ensures;
+    }

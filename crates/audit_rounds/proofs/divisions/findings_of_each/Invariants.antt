@@ -1,0 +1,15 @@
+use Rattle.std.proofs.Common.{◌≡◌, ◌≤◌, ◌-◌, map, length, take}
+use Rattle.audit_terms.specs.Finding.{shown}
+use Rattle.audit_terms.specs.Pass.{pass}
+use Rattle.audit_rounds.proofs.divisions.findings_of_each.Given as goal
+
+-- what is shown of the batches so far
+abbrev pub invariant-loop-done : goal.invariant-loop-done
+invariant-loop-done g l = record {
+  within : l.done ≤ length l.connections;
+  shown : map (λ one. one.items) l.all.items
+      ≡ map (λ frames. shown l.credits_shown (pass frames.now)) (take l.done l.connections);
+}
+
+abbrev pub decreases-loop-done : goal.decreases-loop-done
+decreases-loop-done g l = length l.connections - l.done

@@ -1,0 +1,15 @@
+use Rattle.std.proofs.Common.{◌≡◌, ℕ, ◌++◌, ◌<◌, map, length, get_or}
+use Rattle.std.specs.Vec.Iter.{into_iter_items}
+use Rattle.split_merge.specs.Board.{findings_of_parts}
+use Rattle.job_crew.specs.Laid.{part_of}
+use Rattle.audit_rounds.proofs.gathering.gathered.Given as goal
+
+-- the parts so far and those that are left are all of them, and what those so far keep stands in the lists
+abbrev pub invariant-loop-part : goal.invariant-loop-part
+invariant-loop-part g l = record {
+  parts : l.yielded ++ into_iter_items l.part-iterator ≡ l.fn.parts.items;
+  number : length l.all.items ≡ length l.fn.found.items;
+  each : (n : ℕ) (list list' : _) → n < length l.fn.found.items →
+      (get_or l.all.items n list).items
+      ≡ (get_or l.fn.found.items n list').items ++ findings_of_parts n (map part_of l.yielded);
+}

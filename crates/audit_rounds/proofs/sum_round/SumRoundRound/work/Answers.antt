@@ -1,0 +1,8 @@
+use Rattle.std.proofs.Common.{None, sym, subst}
+use Rattle.split_merge.specs.Board.{IsCut}
+use Rattle.audit_rounds.proofs.Jobs.{sum-cut}
+use Rattle.audit_rounds.proofs.sum_round.SumRoundRound.work.Goals as goal
+
+pub returns-clause-cut : goal.returns-clause-cut
+returns-clause-cut g c = λ one is. subst (IsCut one.findings None) (sym c.new.ensures.items)
+    (sum-cut c.args.self.now.blocks.now c.args.job one is)

@@ -1,0 +1,57 @@
+-- The plan of the round in which blocks are gone through.
+use Rattle.std.specs.Prelude.{◌≡◌, ℕ, ◌+◌, ◌<◌, ◌==◌, Bool, if◌then◌else◌, All, List, [], ◌∷◌, ◌++◌, map, Option}
+use Rattle.audit_terms.specs.declared.findings.Finding.{Finding}
+use Rattle.audit_terms.specs.declared.items.Item.{Item}
+use Rattle.audit_terms.specs.Connection.{connection_start, block_run}
+use Rattle.audit_terms.specs.Finding.{shown}
+use Rattle.conn_scan.specs.Items.{items_in}
+use Rattle.split_merge.specs.Board.{Job, IsSettled, findings_of_jobs}
+use Rattle.job_crew.specs.declared.parts.Part.{Part}
+use Rattle.job_crew.specs.Laid.{part_of, board_with}
+use Rattle.audit_rounds.specs.declared.blocks.ConnectionBlock.{ConnectionBlock}
+use Rattle.audit_rounds.specs.declared.block_plans.ReadyBlock.{ReadyBlock}
+use Rattle.audit_rounds.specs.code.Blocks.{IsReady}
+
+-- to sum a block finds nothing
+abbrev pub sum_job : ConnectionBlock → Job
+sum_job one = record { connection = one.connection; findings = [] }
+
+-- to go through a block finds what it shows
+abbrev pub block_job : (credits_shown : Bool) → ReadyBlock → Job
+block_job credits_shown one = record {
+  connection = one.connection;
+  findings = shown credits_shown (block_run one.before (items_in one.block));
+}
+
+-- all blocks may be gone through
+abbrev pub AreReady : List ReadyBlock → Type 0
+AreReady plan = All (λ (one : ReadyBlock). IsReady one.before one.block) plan
+
+-- what is shown of a connection's items
+abbrev pub whole_shown : (credits_shown : Bool) → List Item → List Finding
+whole_shown credits_shown items = shown credits_shown (block_run connection_start items)
+
+-- the findings, where they are of this connection
+abbrev pub where_of : (connection n : ℕ) → List Finding → List Finding
+where_of connection n findings = if connection == n then findings else []
+
+-- what is shown of connection n among consecutive ones, the first of this number
+abbrev pub shown_at : (credits_shown : Bool) → (connection : ℕ) → List (List Item) → (n : ℕ) → List Finding
+shown_at credits_shown connection [] n = []
+shown_at credits_shown connection (items ∷ later) n =
+    where_of connection n (whole_shown credits_shown items) ++ shown_at credits_shown (connection + 1) later n
+
+-- a plan for so many connections, whose jobs find `finds n` of connection n
+pub record IsPlan (credits_shown : Bool) (connections : ℕ) (finds : ℕ → List Finding) (plan : List ReadyBlock)
+    : Type 0 where
+  pub ready : AreReady plan
+  pub within : All (λ (one : ReadyBlock). one.connection < connections) plan
+  pub of_each : (n : ℕ) → findings_of_jobs n (map (block_job credits_shown) plan) ≡ finds n
+
+-- the parts of a settled board, for connections with these stops
+pub record AreParts {M : Type 0} (jobs : List Job) (stops : List (Option ℕ)) (parts : List (Part M)) : Type 0 where
+  pub seen : List (ℕ × ℕ)
+  pub lowered : List (ℕ × ℕ)
+  pub last : List (Option ℕ)
+  pub board : IsSettled (record { jobs = jobs; opening_stops = stops })
+      (board_with (map part_of parts) seen lowered last)

@@ -1,0 +1,72 @@
+//! What the round over streams begins from.
+
+ghost use Rattle.std.specs.Prelude.{◌≡◌, IfOk};
+ghost use Rattle.std.specs.List.{AllZip};
+ghost use Rattle.audit_rounds.specs.code.StreamRound.{IsFirstStop, IsStreamsOf, changes_in};
+
+use crate::prepared::Prepared;
+use crate::streams::{Streams, lesser};
+use audit_terms::{Finding, Place};
+use std::alloc::{AllocError, Global};
+use stream_credit::Changes;
+
+/// The changes of each connection, made ready for its streams.
+pub(crate) fn changes_each<'a>(
+    alloc: Global,
+    connections: &'a [Prepared<'_>],
+) -> Result<Vec<Changes<'a>>, AllocError>
+    ensures { IfOk result (λ all. all.items ≡ changes_in connections.now) }
+{
+    let mut all = Vec::new(alloc);
+    for connection in connections {
+        all.push(Changes::of(alloc, connection.changes.as_slice())?)?;
+    }
+    Ok(all)
+}
+
+/// The streams of each connection.
+pub(crate) fn streams_each<'a>(
+    alloc: Global,
+    connections: &'a [Prepared<'_>],
+    changes: &'a [Changes<'a>],
+) -> Result<Vec<Streams<'a>>, AllocError>
+    requires { changes.now ≡ changes_in connections.now }
+    ensures { IfOk result (λ all. AllZip IsStreamsOf connections.now all.items) }
+{
+    let mut all = Vec::new(alloc);
+    for (n, connection) in connections.iter().enumerate() {
+        all.push(Streams {
+            frames: connection.frames,
+            split: &connection.split,
+            changes: &changes[n],
+        })?;
+    }
+    Ok(all)
+}
+
+/// Where the first error of the connection stands among these findings, if there is one.
+fn first_stop(found: &[Finding]) -> Option<Place>
+    ensures { IsFirstStop found.now result }
+{
+    let mut stop = None;
+    for one in found {
+        if one.stops() {
+            stop = lesser(&stop, &Some(one.place));
+        }
+    }
+    stop
+}
+
+/// Where each connection is known to stop, as the round opens.
+pub(crate) fn opening_stops(
+    alloc: Global,
+    found: &[Vec<Finding>],
+) -> Result<Vec<Option<Place>>, AllocError>
+    ensures { IfOk result (λ stops. AllZip (λ one stop. IsFirstStop one.items stop) found.now stops.items) }
+{
+    let mut stops = Vec::new(alloc);
+    for one in found {
+        stops.push(first_stop(one.as_slice()))?;
+    }
+    Ok(stops)
+}

@@ -1,0 +1,67 @@
+//! The round in which blocks are gone through.
+
+ghost use Rattle.std.specs.Prelude.{◌≡◌, ℕ, ◌-◌, ◌<◌, ◌≤◌, ◌^◌, All, IfOk, length, map, slice_get, Option, Some, ⊤};
+ghost use Rattle.audit_terms.specs.declared.findings.Finding.{Finding as FindingTerm};
+ghost use Rattle.audit_terms.specs.Place.{place_number};
+ghost use Rattle.split_merge.specs.Board.{Job, IsCut};
+ghost use Rattle.job_crew.specs.Heeding.{Heeds};
+ghost use Rattle.audit_rounds.specs.code.Plans.{block_job, AreReady};
+ghost use Rattle.audit_rounds.specs.code.Props.{ready-props};
+
+use crate::block_plans::ReadyBlock;
+use audit_terms::Look;
+use conn_scan::block_findings;
+use job_crew::{Round, Work};
+use std::alloc::{AllocError, Global};
+
+/// Blocks to be gone through, each a job.
+#[derive(Drop)]
+pub(crate) struct BlockRound<'a> {
+    plan: &'a [ReadyBlock<'a>],
+    credits_shown: bool,
+    ghost few: { length plan.now < 2 ^ 32 },
+    ghost ready: { AreReady plan.now } by { ready-props plan.now },
+}
+
+impl<'a> BlockRound<'a> {
+    /// `Err` where there are more blocks than jobs can be numbered.
+    pub(crate) fn of(plan: &'a [ReadyBlock<'a>], credits_shown: bool) -> Result<Self, AllocError>
+        requires { AreReady plan.now }
+        ensures plan { IfOk result (λ round. round.plan.now ≡ plan.now) }
+        ensures credits_shown { IfOk result (λ round. round.credits_shown ≡ credits_shown) }
+    {
+        if plan.len() > u32::MAX as usize {
+            return Err(AllocError);
+        }
+        Ok(BlockRound {
+            plan,
+            credits_shown,
+        })
+    }
+}
+
+impl Round for BlockRound<'_> {
+    type Made = ();
+
+    ghost jobs = { λ round. map (block_job round.credits_shown) round.plan.now };
+
+    ghost makes = { λ round job upto made. ⊤ };
+
+    fn count(&self) -> u32 {
+        self.plan.len() as u32
+    }
+
+    fn connection(&self, job: u32) -> usize {
+        self.plan[job as usize].connection
+    }
+
+    fn work<L: Look>(&self, alloc: Global, job: u32, look: &mut L) -> Result<Work<()>, AllocError> {
+        let ready = &self.plan[job as usize];
+        let run = block_findings(alloc, &ready.before, &ready.block, self.credits_shown, look)?;
+        Ok(Work {
+            findings: run.findings,
+            upto: run.upto,
+            made: (),
+        })
+    }
+}

@@ -1,0 +1,138 @@
+//! The connections' own findings, by blocks of frames: the blocks of all connections are summed in one round, and gone
+//! through in another, each from the state that the sums of the blocks before it lead to.
+
+ghost use Rattle.std.specs.Prelude.{◌≡◌, ℕ, ◌++◌, ◌<◌, All, IfOk, map, length, slice_index_or};
+ghost use Rattle.audit_terms.specs.Connection.{connection_start, block_run};
+ghost use Rattle.audit_terms.specs.Finding.{in_order, upto_stop, shown};
+ghost use Rattle.stop_desk.specs.Stop.{IsStop};
+ghost use Rattle.split_merge.specs.Board.{Job};
+ghost use Rattle.job_crew.specs.Settling.{HasSettled};
+ghost use Rattle.conn_scan.specs.ConnSum.{ConnSum as ConnSumTerm};
+ghost use Rattle.conn_scan.specs.Items.{items_in};
+ghost use Rattle.job_crew.specs.declared.parts.Part.{Part as PartTerm};
+ghost use Rattle.audit_rounds.specs.declared.blocks.ConnectionBlock.{ConnectionBlock as BlockTerm};
+ghost use Rattle.audit_rounds.specs.declared.remaining.Remaining.{Remaining as RemainingTerm};
+ghost use Rattle.audit_rounds.specs.code.Blocks.{AreShort, AreSums};
+ghost use Rattle.audit_rounds.specs.code.Plans.{AreReady, AreParts, block_job};
+ghost use Rattle.audit_rounds.specs.code.Remaining.{IsRemaining};
+
+use crate::block_plans::{ReadyBlock, plan_of};
+use crate::block_round::BlockRound;
+use crate::blocks::{ConnectionBlock, cut_into_blocks};
+use crate::divisions::Division;
+use crate::gathering::gathered;
+use crate::remaining::Remaining;
+use crate::sum_round::SumRound;
+use audit_terms::{Finding, Place};
+use conn_scan::ConnSum;
+use job_crew::{Gate, Part, settle};
+use std::alloc::{AllocError, Global};
+use std::thread::Threads;
+
+/// The number of the round in which blocks are summed.
+const SUM_ROUND: u8 = 2;
+
+/// The number of the round in which blocks are gone through.
+const BLOCK_ROUND: u8 = 3;
+
+/// Where each connection stops, as far as is known.
+fn stops_of(alloc: Global, connections: &[Remaining<'_>]) -> Result<Vec<Option<Place>>, AllocError>
+    ensures { IfOk result (λ stops. stops.items ≡ map (λ (one : RemainingTerm). one.stop) connections.now) }
+{
+    let mut stops = Vec::with_capacity(alloc, connections.len())?;
+    for connection in connections {
+        let place = connection.stop;
+        stops.push(place)?;
+    }
+    Ok(stops)
+}
+
+/// The summaries that parts hold.
+fn summaries(alloc: Global, parts: Vec<Part<ConnSum>>) -> Result<Vec<ConnSum>, AllocError>
+    ensures { IfOk result (λ sums. sums.items ≡ map (λ (part : PartTerm ConnSumTerm). part.made) parts.items) }
+{
+    let mut sums = Vec::with_capacity(alloc, parts.len())?;
+    for part in parts {
+        sums.push(part.made)?;
+    }
+    Ok(sums)
+}
+
+/// The summary of each block.
+fn sums_of<R: Threads + Sync, G: Gate>(
+    rt: &R,
+    alloc: Global,
+    division: &Division,
+    gate: &G,
+    stops: &[Option<Place>],
+    blocks: &[ConnectionBlock<'_>],
+) -> Result<Vec<ConnSum>, AllocError>
+    requires places { All IsStop stops.now }
+    requires short { AreShort blocks.now }
+    requires within { All (λ (one : BlockTerm). one.connection < length stops.now) blocks.now }
+    ensures { IfOk result (λ sums. AreSums blocks.now sums.items) }
+{
+    let round = SumRound::of(blocks)?;
+    let workers = division.workers.max(1);
+    let settled = settle(rt, alloc, workers, gate, SUM_ROUND, stops, &round)?;
+    summaries(alloc, settled.parts)
+}
+
+/// What the planned blocks show, each as far as its connection's stop has it.
+fn parts_of<R: Threads + Sync, G: Gate>(
+    rt: &R,
+    alloc: Global,
+    division: &Division,
+    gate: &G,
+    credits_shown: bool,
+    stops: &[Option<Place>],
+    plan: &[ReadyBlock<'_>],
+) -> Result<Vec<Part<()>>, AllocError>
+    requires places { All IsStop stops.now }
+    requires ready { AreReady plan.now }
+    requires within { All (λ (job : Job). job.connection < length stops.now)
+        (map (block_job credits_shown) plan.now) }
+    ensures { IfOk result (λ parts. AreParts (map (block_job credits_shown) plan.now) stops.now parts.items) }
+{
+    let round = BlockRound::of(plan, credits_shown)?;
+    let workers = division.workers.max(1);
+    let settled = settle(rt, alloc, workers, gate, BLOCK_ROUND, stops, &round)?;
+    Ok(settled.parts)
+}
+
+/// What was found of each connection, and what its blocks show, up to its stop.
+pub(crate) fn rounds_over_blocks<R: Threads + Sync, G: Gate>(
+    rt: &R,
+    alloc: Global,
+    division: &Division,
+    gate: &G,
+    credits_shown: bool,
+    connections: &[Remaining<'_>],
+    found: Vec<Vec<Finding>>,
+) -> Result<Vec<Vec<Finding>>, AllocError>
+    requires number { length connections.now ≡ length found.items }
+    requires each { (n : ℕ) (remaining list : _) → n < length connections.now
+        → IsRemaining (slice_index_or connections.now n remaining) (slice_index_or found.items n list).items }
+    ensures number { IfOk result (λ last. length last.items ≡ length found.items) }
+    ensures findings { IfOk result (λ last. (n : ℕ) (remaining list list' : _) → n < length connections.now
+        → upto_stop (in_order (slice_index_or last.items n list).items)
+        ≡ upto_stop (in_order ((slice_index_or found.items n list').items
+        ++ shown credits_shown (block_run connection_start
+        (items_in (slice_index_or connections.now n remaining).whole))))) }
+{
+    let stops = stops_of(alloc, connections)?;
+    let cut = cut_into_blocks(alloc, division.block.max(1) as usize, connections)?;
+    let stops = stops.as_slice();
+    let sums = sums_of(rt, alloc, division, gate, stops, cut.blocks.as_slice())?;
+    let plan = plan_of(alloc, credits_shown, &cut, sums.as_slice())?;
+    let parts = parts_of(
+        rt,
+        alloc,
+        division,
+        gate,
+        credits_shown,
+        stops,
+        plan.as_slice(),
+    )?;
+    gathered(found, parts)
+}

@@ -1,0 +1,27 @@
+//! What rounds found, connection by connection.
+
+ghost use Rattle.std.specs.Prelude.{◌≡◌, ℕ, ◌++◌, ◌<◌, All, IfOk, map, length, slice_index_or};
+ghost use Rattle.split_merge.specs.Board.{findings_of_parts};
+ghost use Rattle.job_crew.specs.Laid.{part_of};
+
+use audit_terms::Finding;
+use job_crew::Part;
+use std::alloc::AllocError;
+
+/// What was found of each connection, and after it what the parts of a round keep of it.
+pub(crate) fn gathered<M: Drop>(
+    found: Vec<Vec<Finding>>,
+    parts: Vec<Part<M>>,
+) -> Result<Vec<Vec<Finding>>, AllocError>
+    requires { All (λ part. part.connection < length found.items) parts.items }
+    ensures number { IfOk result (λ all. length all.items ≡ length found.items) }
+    ensures each { IfOk result (λ all. (n : ℕ) (list list' : _) → n < length found.items
+        → (slice_index_or all.items n list).items
+        ≡ (slice_index_or found.items n list').items ++ findings_of_parts n (map part_of parts.items)) }
+{
+    let mut all = found;
+    for mut part in parts {
+        all[part.connection].append(&mut part.findings)?;
+    }
+    Ok(all)
+}

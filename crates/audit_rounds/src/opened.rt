@@ -1,0 +1,66 @@
+//! Which frames open streams, connection by connection, as the parts of the round over streams tell.
+
+ghost use Rattle.std.specs.Global.{Global as GlobalTerm};
+ghost use Rattle.std.specs.Prelude.{◌≡◌, ℕ, ◌<◌, [], All, IfOk, Vec as VecTerm, length, slice_index_or};
+ghost use Rattle.job_crew.specs.declared.parts.Part.{Part as PartTerm};
+ghost use Rattle.audit_rounds.specs.code.Opened.{numbers_told, IsInOrder};
+
+use job_crew::Part;
+use std::alloc::{AllocError, Global};
+
+/// So many empty lists.
+fn none_of_each(alloc: Global, connections: usize) -> Result<Vec<Vec<u32>>, AllocError>
+    ensures number { IfOk result (λ all. length all.items ≡ connections) }
+    ensures each { IfOk result (λ all. All (λ list. list.items ≡ []) all.items) }
+{
+    let mut all = Vec::with_capacity(alloc, connections)?;
+    for _ in 0..connections {
+        all.push(Vec::new(alloc))?;
+    }
+    Ok(all)
+}
+
+/// The numbers that the parts tell of each connection, one part after the other.
+fn told_of_each(
+    alloc: Global,
+    connections: usize,
+    parts: &[Part<Vec<u32>>],
+) -> Result<Vec<Vec<u32>>, AllocError>
+    requires { All (λ (part : PartTerm (VecTerm ℕ GlobalTerm)). part.connection < connections) parts.now }
+    ensures number { IfOk result (λ all. length all.items ≡ connections) }
+    ensures each { IfOk result (λ all. (n : ℕ) (list : _) → n < connections
+        → (slice_index_or all.items n list).items ≡ numbers_told n parts.now) }
+{
+    let mut all = none_of_each(alloc, connections)?;
+    for part in parts {
+        all[part.connection].extend_from_slice(part.made.as_slice())?;
+    }
+    Ok(all)
+}
+
+/// Puts each list in order.
+fn put_in_order(lists: &mut Vec<Vec<u32>>)
+    ensures number { length lists.new.items ≡ length lists.old.items }
+    ensures each { (n : ℕ) (list list' : _) → n < length lists.old.items
+        → IsInOrder (slice_index_or lists.old.items n list).items (slice_index_or lists.new.items n list').items }
+{
+    for list in lists.iter_mut() {
+        list.sort_unstable();
+    }
+}
+
+/// The numbers that the parts tell of each connection, in order.
+pub(crate) fn opened_each(
+    alloc: Global,
+    connections: usize,
+    parts: &[Part<Vec<u32>>],
+) -> Result<Vec<Vec<u32>>, AllocError>
+    requires { All (λ (part : PartTerm (VecTerm ℕ GlobalTerm)). part.connection < connections) parts.now }
+    ensures number { IfOk result (λ all. length all.items ≡ connections) }
+    ensures each { IfOk result (λ all. (n : ℕ) (list : _) → n < connections
+        → IsInOrder (numbers_told n parts.now) (slice_index_or all.items n list).items) }
+{
+    let mut all = told_of_each(alloc, connections, parts)?;
+    put_in_order(&mut all);
+    Ok(all)
+}

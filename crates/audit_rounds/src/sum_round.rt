@@ -1,0 +1,68 @@
+//! The round in which blocks are summed.
+
+ghost use Rattle.std.specs.Prelude.{◌≡◌, ℕ, ◌-◌, ◌<◌, ◌≤◌, ◌^◌, All, IfOk, length, map, slice_get, slice_index_or, Option, Some};
+ghost use Rattle.audit_terms.specs.declared.findings.Finding.{Finding as FindingTerm};
+ghost use Rattle.audit_terms.specs.Place.{place_number};
+ghost use Rattle.split_merge.specs.Board.{Job, IsCut};
+ghost use Rattle.job_crew.specs.Heeding.{Heeds};
+ghost use Rattle.audit_rounds.specs.declared.blocks.ConnectionBlock.{ConnectionBlock as BlockTerm};
+ghost use Rattle.audit_rounds.specs.code.Blocks.{AreShort, IsSum};
+ghost use Rattle.audit_rounds.specs.code.Plans.{sum_job};
+ghost use Rattle.audit_rounds.specs.code.Props.{short-props};
+
+use crate::blocks::ConnectionBlock;
+use audit_terms::{Look, Place};
+use conn_scan::{ConnSum, block_sum};
+use job_crew::{Round, Work};
+use std::alloc::{AllocError, Global};
+
+/// Blocks to be summed, each a job.
+#[derive(Drop)]
+pub(crate) struct SumRound<'a> {
+    blocks: &'a [ConnectionBlock<'a>],
+    ghost few: { length blocks.now < 2 ^ 32 },
+    ghost short: { AreShort blocks.now } by { short-props blocks.now },
+}
+
+impl<'a> SumRound<'a> {
+    /// `Err` where there are more blocks than jobs can be numbered.
+    pub(crate) fn of(blocks: &'a [ConnectionBlock<'a>]) -> Result<Self, AllocError>
+        requires { AreShort blocks.now }
+        ensures { IfOk result (λ round. round.blocks.now ≡ blocks.now) }
+    {
+        if blocks.len() > u32::MAX as usize {
+            return Err(AllocError);
+        }
+        Ok(SumRound { blocks })
+    }
+}
+
+impl Round for SumRound<'_> {
+    type Made = ConnSum;
+
+    ghost jobs = { λ round. map sum_job round.blocks.now };
+
+    ghost makes = { λ round job upto made.
+        (one : BlockTerm) → IsSum (slice_index_or round.blocks.now job one).block made };
+
+    fn count(&self) -> u32 {
+        self.blocks.len() as u32
+    }
+
+    fn connection(&self, job: u32) -> usize {
+        self.blocks[job as usize].connection
+    }
+
+    fn work<L: Look>(
+        &self,
+        alloc: Global,
+        job: u32,
+        look: &mut L,
+    ) -> Result<Work<ConnSum>, AllocError> {
+        Ok(Work {
+            findings: Vec::new(alloc),
+            upto: None,
+            made: block_sum(&self.blocks[job as usize].block),
+        })
+    }
+}

@@ -1,0 +1,36 @@
+-- A capture opens no more connections than it has packets.
+use Rattle.std.proofs.Common.{◌≡◌, ℕ, ◌+◌, ◌<◌, ◌≤◌, Bool, true, false, List, [], ◌∷◌, ◌++◌, length, map, refl, sym, ap, ◌∙◌, subst, arith, length-append}
+use Rattle.std.proofs.lemmas.List.{length-map}
+use Rattle.packet_heads.specs.declared.packets.Packet.{Packet}
+use Rattle.packet_heads.specs.declared.packets.Segment.{Segment}
+use Rattle.tcp_streams.specs.declared.members.Connection.{Connection}
+use Rattle.tcp_streams.specs.Membership.{with_if, opens, openings, connection_of, connections_of, membership}
+use Rattle.tcp_streams.specs.Packets.{past_of, past_after}
+use Rattle.packet_heads.specs.declared.packets.Packet.TheVariants.{Segment as Carried, Skipped, Refused}
+
+with-one : (test : Bool) (before : List Segment) (s : Segment) → length (with_if test before s) ≤ length before + 1
+with-one true before s = let all = length-append before (s ∷ []) in omega arith
+with-one false before s = omega arith
+
+openings-few : (past : List Segment) → length (openings past) ≤ length past
+openings-few [] = omega arith
+openings-few (s ∷ earlier) =
+    let one = with-one (opens s earlier) (openings earlier) s in
+    let rest = openings-few earlier in
+    omega arith
+
+past-few : (past : List Segment) (packets : List Packet) → length (past_after past packets) ≤ length past + length packets
+past-few past [] = omega arith
+past-few past (Carried s ∷ rest) = let later = past-few (s ∷ past) rest in omega arith
+past-few past (Skipped _ ∷ rest) = let later = past-few past rest in omega arith
+past-few past (Refused _ ∷ rest) = let later = past-few past rest in omega arith
+
+pub opened-few : (packets : List Packet) (opened : List Connection)
+    → map membership opened ≡ connections_of (past_of packets) → length opened ≤ length packets
+opened-few packets opened is =
+    let same : length (map membership opened) ≡ length (connections_of (past_of packets)) = ap length is in
+    let mine = length-map opened membership in
+    let theirs = length-map (openings (past_of packets)) (connection_of (past_of packets)) in
+    let openings = openings-few (past_of packets) in
+    let past = past-few [] packets in
+    omega arith

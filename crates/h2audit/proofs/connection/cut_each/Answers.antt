@@ -1,0 +1,19 @@
+use Rattle.std.proofs.Common.{◌≡◌, ◌+◌, ◌<◌, ◌≤◌, List, length, sym, ap, ◌∙◌, subst, All, arith}
+use Rattle.split_merge.specs.Board.{Job}
+use Rattle.h2audit.specs.code.Flows.{flow_jobs}
+use Rattle.h2audit.proofs.Flows.{flow_jobs-within, flow_jobs-length, are-cuts}
+use Rattle.h2audit.proofs.connection.cut_each.Goals as goal
+
+pub settle-requires-clause-connections : goal.settle-requires-clause-connections
+settle-requires-clause-connections g c κs within =
+    let size : length c.as_slice.result.now ≡ length c.args.opened.now =
+    c.as_slice.ensures.len ∙ c.in_ok-resize.ensures.len in
+    subst (λ n. All (λ (job : Job). job.connection < n) (flow_jobs 0 c.args.opened.now)) (sym size)
+    (flow_jobs-within 0 (length c.args.opened.now) c.args.opened.now (omega arith))
+
+pub returns : goal.returns
+returns g c =
+    let settled = c.in_ok-settled.ensures in
+    are-cuts c.args.capture.now c.args.packets.now c.args.opened.now c.in_ok-settled.settled.parts.items
+    (settled.count ∙ flow_jobs-length 0 c.args.opened.now)
+    (λ n part connection is there. (settled.in_order n part is).1 connection there)
