@@ -12,6 +12,8 @@ mod captures;
 #[cfg(test)]
 mod desks;
 #[cfg(test)]
+mod flows;
+#[cfg(test)]
 mod frame_examples;
 #[cfg(test)]
 mod passes;
