@@ -1,8 +1,26 @@
 //! The plain pass of an HTTP/2 flow-control audit over a connection's frames (RFC 9113, sections 4 to 6), and the laws
 //! of the definitions that it follows, which stand in `audit_terms`.
 //!
-//! - [`one_pass`] gives the findings of the pass.
-//! - [`laws`] and [`worked_examples`] are promises about the definitions alone.
+//! - [`one_pass`] gives the findings of the pass: all, of every kind, in order, up to and including the first that
+//!   stops. It is a program for tests; the audit itself goes in the rounds of `audit_rounds`.
+//! - [`laws`] say what follows from the definitions, and of no code. Each credit is the closed sum of RFC 9113, 6.9,
+//!   and a live window is one of an opened stream that its side has not ended. The streams of a connection are those
+//!   that its frames meet, each once, and the steps of a stream are its frames and the changes, in order. The pass ends
+//!   at its first error, which is the least; no two findings share place and side, and no two errors a place. All
+//!   findings are those of the local faults, the settings, the streams and the blocks, however streams are grouped and
+//!   frames cut.
+//! - [`worked_examples`] are equations, computed by proof, between what the pass gives for a script of frames and the
+//!   findings that a reader expects, typed from the rules; some go over all findings, past the stop. The table of kinds
+//!   is written out there.
+//!
+//! The state of the pass is four machines that step side by side: the last frame of each side, settings in force, the
+//! connection, and the streams. So the state of one is its own run along the frames. Sorting a joined list is a sum in
+//! which parts may change places, so all findings split by machine; and a stream that has no frame and no change at a
+//! number says nothing there. From this the law on parts follows.
+//!
+//! Wrong bodies that the prover refuses: settings that count when they are sent, settings that reach open streams only,
+//! DATA on a reset stream that is not counted. Tested, in `crate_tests`: that `one_pass` succeeds where there is
+//! memory.
 #![tactic(auto)]
 
 pub mod laws;

@@ -1,5 +1,5 @@
 //! The audit of connections, divided over workers: [`findings_of_each`] shows of each connection what one pass over its
-//! frames does (RFC 9113, 5.4.1), whatever the division.
+//! frames does (RFC 9113, 5.4.1), for every [`Division`] and every interleaving of the workers.
 //!
 //! The work is done in rounds, each over all connections of a batch, and each of jobs that workers draw. As a job goes
 //! on, it looks where its connection stops by now, and goes no further than it has to; where it finds a connection
@@ -8,11 +8,27 @@
 //! 1. In the first round, a job is a group of the streams of a connection. This tells which frames open streams.
 //! 2. What a connection shows by itself, up to its stop, is found in blocks of its frames. In the second round, blocks
 //!    are summed, and the sums carry the connection's state from block to block.
-//! 3. In the third, blocks that are not clear are gone through, each from the state before it.
+//! 3. In the third, blocks that are not clear are gone through, each from the state before it; where credits are shown,
+//!    all blocks are.
 //!
 //! All that was found of a connection, with the faults of single frames and the acknowledgements that answer nothing,
-//! is put in order and cut at the first error, and so makes the pass ([`laws::rounds_settle`]). A batch is consecutive
-//! connections that have not too many frames together.
+//! is put in order and cut at the first error, and so makes the pass. A batch is consecutive connections that have not
+//! too many frames together: it bounds what the rounds need beside the frames, and lets threads start once for many
+//! small connections. Jobs have numbers of 32 bits; a plan with more would be answered as want of memory.
+//!
+//! - [`laws::rounds_make_the_pass`]: local faults, unmatched acknowledgements, what is shown of the streams and of the
+//!   blocks make what is shown of the pass, for every cut of the frames into blocks. Credits that no line shows are
+//!   left out of each part first, which changes nothing, since a credit never stops an audit.
+//! - [`laws::rounds_settle`]: they do so as well where the round over streams left out what lies past the stop, and the
+//!   blocks are those of the frames up to it, that frame included ([`laws::openings_are_told`]: the openings up to it
+//!   are known). A job of several streams goes up to the least of the places of its runs; what it found past that may
+//!   stay.
+//! - [`laws::openings_are_found`] and [`laws::items_are_found`]: the numbers that streams tell, and the changes, make
+//!   the items of the pass.
+//!
+//! Wrong bodies that the prover refuses: openings not handed on, a block that starts from the connection's start, a
+//! clear block left out though credits are shown, the greatest place of several runs. Tested by whole reports, in three
+//! mixes of workers, groups and block lengths: that the call succeeds where there is memory.
 #![tactic(auto)]
 
 mod beginnings;

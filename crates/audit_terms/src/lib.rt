@@ -1,15 +1,29 @@
-//! Frames, places and findings of an HTTP/2 flow-control audit (RFC 9113, sections 4 to 6), and the definitions that
-//! every part of the audit cites.
+//! The vocabulary of an HTTP/2 flow-control audit (RFC 9113, sections 4 to 6): frames, places and findings, and the
+//! definitions that every part of the audit cites.
 //!
-//! `specs/` holds the rules: what a frame shows by itself, settings in force (6.5.3), streams (5.1), both sides'
-//! windows (6.9), the pass over all frames of a connection and where it ends (5.4.1), credit as a closed sum.
+//! `specs/` holds the rules, each beside its section of the RFC: what a frame shows by itself (`LocalFault`), settings
+//! in force (`InForce`, 6.5.3), the life of a stream (`Life`, 5.1), both sides' windows (`Connection` and `Stream`,
+//! 6.9), the pass over all frames of a connection and where it ends (`Pass`, 5.4.1), what a stream, a group or a block
+//! shows by itself (`Run`), credit as a closed sum (`Credit`), and when a run looks for the stop of its connection
+//! (`Look`).
 //!
 //! - [`Frame`], [`Change`], [`Item`] and [`Step`] are what an audit reads: frames, and what they bring.
-//! - [`Stream`] and [`ConnectionState`] are a stream and a connection between two frames; their calls count a frame in
-//!   them as the definitions say.
+//! - [`Stream`], [`StreamLife`] and [`ConnectionState`] are a stream and a connection between two frames. Their calls,
+//!   [`say_local`] and [`say_window`] count one frame as the definitions say. The plain pass and the rounds take them
+//!   from here, so both say each rule by the same code, and differ only in how they walk.
 //! - [`Place`], [`Kind`] and [`Finding`] say where a finding stands, what it says and whether it stops the audit;
 //!   [`put_in_order`], [`cut_at_stop`] and [`keep_shown`] order findings, end them and drop credits.
-//! - [`laws`] are promises about the definitions alone.
+//! - [`Look`] and [`Watch`]: a run asks where its connection stops before its first step and before each 256th more.
+//! - [`laws`]: places stand in the order of frame number, rank and stream, and none is all ones.
+//!
+//! Each contract gives exactly what its definition says. The order of findings goes on from the place to side, kind and
+//! value, so it is total, and putting in order asks for no condition. A step with a change has an acknowledgement for
+//! its frame (`IsAcknowledged`), so one thing alone moves a window at a step: content, a grant, or a difference of
+//! initial windows. Each is below 2^32, so credits stay below 2^60 over the fewer than 2^28 frames of a connection, and
+//! no sum wraps; that bound is bookkeeping of code (`specs/code/`).
+//!
+//! Wrong bodies that the prover refuses: a cut by the frame, an order with the server first, padding that does not
+//! count, an overflowing grant that is added. That calls succeed where there is memory is tested by those above them.
 #![tactic(auto)]
 
 mod connections;

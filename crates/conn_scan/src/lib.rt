@@ -1,13 +1,28 @@
 //! What a block of frames does to a connection (RFC 9113, 4.2, 5.1.1, 6.9), in a form that can be joined.
 //!
 //! - [`Credit`] is what changes do to one window; [`ClientCredit`] and [`ServerCredit`] what items do to each side's.
+//!   The greatest and the least prefix sum stand beside the sum: by the sum alone, a block that falls below 0 and rises
+//!   again would look quiet.
 //! - [`Ids`] are the streams that items open, [`Latest`] the settings that they bring and the lengths of their frames.
 //! - [`Block`] is a range of frames with the numbers of those that open streams and the changes of settings: its items
-//!   are walked one by one, and no list of them is made. [`items`] is that list, for who wants it.
-//! - [`ConnSum`] is all of these summaries, and [`block_sum`] that of a block; its parts step as the connection does
-//!   ([`laws::parts_follow_the_connection`]).
-//! - [`carries_of`] is the connection before each block, [`block_findings`] what a block shows from there.
-//! - [`clear`] tells by a summary that a block shows nothing but connection credit ([`laws::clear_shows_credit`]).
+//!   are walked one by one, and no list of them is made. [`items`] is that list, for who wants it. A number counts as
+//!   an opening on HEADERS alone, and numbers of no frame are passed over.
+//! - [`ConnSum`] is all of these summaries, each a lawful one of `block_scan`, and [`block_sum`] that of a block; its
+//!   parts step as the connection does ([`laws::parts_follow_the_connection`]).
+//! - [`carries_of`] is the connection before each block. [`block_findings`] is what a block shows from there, up to the
+//!   place at which its look has it end, with the looks made in time (`IsRun` of `audit_terms`).
+//! - [`clear`] tells by a summary that a block shows nothing but connection credit ([`laws::clear_shows_credit`]). It
+//!   is exact for `is_clear` of `specs/Clear.antt`, both ways.
+//!
+//! [`laws`] say too that the items of a connection are those of the pass and that those of consecutive blocks join, and
+//! that each block fits where all blocks fit the first connection: `block_findings` asks for credits that its items
+//! cannot bring beyond 2^60, and `block_sum` says that an item moves each by at most 2^32. Two laws are worked
+//! examples: credit used up, granted and used again, in states, sums and carries, and a stall in blocks of one, of two
+//! and at once.
+//!
+//! Wrong bodies that the prover refuses: a block that starts afresh, a join that leaves out what is before, clear by
+//! the total alone, a run that looks once or ends at the look. Tested, in `crate_tests`: that the calls succeed where
+//! there is memory, and how often a run over 1,000 frames looks.
 #![tactic(auto)]
 
 mod block_items;

@@ -1,10 +1,19 @@
-//! Tests of the crates: calls that take memory once each where there is memory, printed text, and what no contract says.
+//! Tests of the crates: calls that take memory once each where there is memory, printed text, and what no contract
+//! says.
 //!
-//! What the calls answer is proved in their own crates, and worked out by proof in their `worked_examples`. Whole captures
-//! with their reports stand in the crate `whole_reports`. [`stream_examples`] and [`frame_examples`] compute the
-//! definitions of `tcp_streams` and `h2_frames` on small inputs, by proof.
+//! What the calls answer is proved in their own crates, and worked out by proof in their `worked_examples`; no test
+//! repeats an equation. Whole captures with their reports stand in the crate `whole_reports`.
 //!
-//! All tests are one crate, since each crate of tests takes the libraries below it anew.
+//! [`stream_examples`] and [`frame_examples`] compute the definitions of `tcp_streams` and `h2_frames` on small inputs,
+//! by proof: openings, strays and offsets that wrap; each type's payload at the lengths where its answer changes,
+//! padding, values of settings at the ends of their ranges, the preface, frame headers, capture order.
+//!
+//! What is left for tests: `assemble` beside a slow program over random segments; two passes over one desk, and runs
+//! with a stop and without; readers and writers that go in steps or fail; the texts of help and of refused words; long
+//! captures, and every prefix of one; and calls that whole reports do not reach, once each.
+//!
+//! All tests are one crate, since a test in a library's crate proves the library once more, and each crate of tests
+//! takes the libraries below it anew.
 #![tactic(auto)]
 
 #[cfg(test)]

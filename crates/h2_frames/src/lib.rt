@@ -4,14 +4,25 @@
 //! sent into frames: nine header bytes and the payload whose length they give (4.1). Each frame's body is read by its
 //! type and flags (6.1 to 6.10): padding, the fields before a field block, settings with the first value out of range,
 //! increments, promised streams; a payload of a wrong size, or with bad padding, makes a frame whose body is
-//! unreadable. What is left over at the end of a flow, less than a whole frame, is its tail.
-//!
-//! The frames of both sides come in capture order, numbered from 1: a frame is there when its last byte arrives.
+//! unreadable. What is left over at the end of a flow, less than a whole frame, is its tail. The frames of both sides
+//! come in capture order, numbered from 1: a frame is there when its last byte arrives.
 //!
 //! - The contract of [`cut`] is exactly this: `specs/Spelling.antt` says what spells a frame, `specs/Body.antt` what
 //!   its payload says, `specs/CaptureOrder.antt` what the order is, and `specs/Cut.antt` puts them together.
-//! - [`laws`] says that one list of bytes has one spelling, and that two flows have one cut.
-//! - The frames are orderly, as the calls on frames require.
+//! - No other answer meets it for the same flows (clause `only`), and [`laws`] say so without the code: one list of
+//!   bytes has one spelling, two flows have one cut.
+//! - The frames are orderly, as the calls on frames ask: numbers rise, streams have 31 bits and lengths 24, times are
+//!   below 2^63.
+//! - Want of memory, its one error, is answered only for a connection that is HTTP/2. The two flows together are
+//!   shorter than 2^31 bytes, so that frame numbers stay below 2^28 - 1.
+//!
+//! The definition of a spelling is a grammar by cases on the list of frames, and the order an insertion sort. The code
+//! follows neither: it reads both flows through cursors, each with its next frame read ahead, and the frame that stands
+//! first goes into the one list.
+//!
+//! Wrong bodies that the prover refuses: padding as long as the payload, an order by first bytes. Worked examples of
+//! bodies, headers and order are proved in `crate_tests`. Tested by whole reports: that `cut` succeeds where there is
+//! memory, on connections of each of the four kinds.
 #![tactic(auto)]
 
 mod beginning;

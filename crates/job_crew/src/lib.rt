@@ -1,13 +1,29 @@
 //! Workers that draw jobs from a desk, look as they work, lower stops, and lay down what they found.
 //!
 //! Any program may use it that deals numbered jobs to threads, where what one job finds can end another early. A
-//! [`Round`] says what its jobs are, and [`settle`] has workers do them all: each worker draws jobs, hands each a
-//! [`Look`](audit_terms::Look) at the stop of its connection, lowers the stop where a finding ends the connection, and
-//! lays down a [`Part`]. What is left is a settled board, by whichever order the workers ran in: nothing is lost before
-//! the stop of a connection, and the stop is its least error.
+//! [`Round`] says what its jobs are, as if nothing stopped them, and [`settle`] has workers do them all: each worker
+//! draws jobs, hands each a [`Look`](audit_terms::Look) at the stop of its connection, lowers the stop where a finding
+//! ends the connection, and lays down a [`Part`]. There are no more workers than jobs.
 //!
-//! - [`crew`] works on a desk that is given, and answers the parts and the closed desk.
-//! - [`Gate`] holds workers back before they start a job, for tests.
+//! - [`crew`] works on a desk that is given, and answers the parts and the closed desk. What is left is a settled board
+//!   (`IsSettled` of `split_merge`), for every number of workers and by whichever order they ran in: one part a job,
+//!   each up to a place that was seen; each error of a part was lowered; each stop is the least of its opening stop and
+//!   what was lowered. So nothing is lost before the stop of a connection, and the stop is its least error.
+//! - [`settle`] gives the parts in the order of jobs, with the stops read, and says of each part that it was not cut
+//!   below its connection's stop (`HasSettled` of `specs/Settling.antt`).
+//! - [`Gate`] holds workers back before they start a job, for tests. It has no say in the answer.
+//!
+//! Of an implementor's work it asks that it keeps all findings up to a place, which is none or the answer of one of its
+//! looks (`IsCut`, `Heeds`). Work takes any look, and so cannot know of desks. A worker's look owns the worker's pass
+//! while a job runs, and gives it back.
+//!
+//! A worker's promise speaks of its own parts and its own pass, so the induction over workers has one step, a join of
+//! two; closing the desk speaks of all. Each worker begins with one draw more than there are jobs, so it ends where no
+//! job is left and never for want of draws. Want of memory is the one error; after it the desk is gone.
+//!
+//! Wrong bodies that the prover refuses: parts dropped where two halves join, an overrun lowered, stops not lowered,
+//! parts in no order. Trusted: std's `join`, which starts threads, and does the work on the thread at hand where none
+//! can be had. That several threads work at once is not proved.
 #![tactic(auto)]
 
 mod crews;

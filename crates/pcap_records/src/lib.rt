@@ -1,15 +1,26 @@
 //! The records of a classic pcap capture (file format version 2.4).
 //!
-//! [`records`] reads a capture forward once, by offsets, and copies no packet. It takes the four
-//! magics of the format (either order of bytes, microseconds or nanoseconds), and answers either
-//! each whole record in the order of the file, with the number of the record that the end of the
-//! capture cuts off, or the first refusal that applies, in the order of the numbers of [`PcapFault`].
+//! [`records`] reads a capture forward once, by offsets, and copies no packet. It takes the four magics of the format
+//! (either order of bytes, microseconds or nanoseconds), and answers either each whole record in the order of the file,
+//! with the number of the record that the end of the capture cuts off, or the first refusal that applies, in the order
+//! of the numbers of [`PcapFault`].
 //!
-//! Its contract pins both answers to definitions that go by the bytes alone: `refusal` of
-//! `specs/Refusal.antt` looks at the header and the length, and `IsReading` of `specs/Reading.antt`
-//! is a relation by cases, a record of 16 header bytes and the captured ones and then the rest. The
-//! laws of [`laws`] say that a capture has one reading, and that its first 2^31 bytes are refused
-//! exactly as the whole is. [`worked_examples`] has small captures with what the definitions say of them.
+//! Its contract pins both answers to definitions that go by the bytes alone: `refusal` of `specs/Refusal.antt` looks at
+//! the header and the length, and `IsReading` of `specs/Reading.antt` is a relation by cases, a record of 16 header
+//! bytes and the captured ones and then the rest. They share no offset and no loop with the code.
+//!
+//! - A refusal is decided by the header and the length, before memory is taken, so it is answered whatever memory there
+//!   is. Any other fault is want of memory.
+//! - Records are fewer than 2^27 and rise without overlap inside the capture, their times are below 2^63, the link type
+//!   is one of the two that are read, and the capture has fewer than 2^31 bytes. So lengths and offsets fit 31 bits and
+//!   frame numbers 28, and a place is one word.
+//! - [`laws`]: a capture has one reading; its first 2^31 bytes are refused exactly as the whole, so that a program may
+//!   stop reading there; a capture of 2^31 - 1 bytes is not too large, which no test could afford.
+//! - [`worked_examples`]: the four magics, each refusal at the value that decides, their order, times in both units,
+//!   cut records.
+//!
+//! A wrong body that the prover refuses: the original length of a record taken for the captured one. Tested, in
+//! `crate_tests`: that `records` succeeds where there is memory, and how faults print.
 #![tactic(auto)]
 
 mod capture;

@@ -3,10 +3,27 @@
 //!
 //! A [`StreamPart`] points at the frames that one stream meets: those on it, and the server's promises of it. Settings
 //! change the windows of every stream, so [`stream_run`] takes all [`Changes`] of the connection beside them (RFC 9113,
-//! 6.9.2); those that come while no window of the stream lives are passed over. Its findings are the run of the stream
-//! as `audit_terms` defines it, over the whole of the part, credits only where they are shown; of these it keeps what
-//! lies up to the place at which its connection stops, where its [`audit_terms::Look`] tells that in time.
-//! [`worked_examples`] are short runs of the definitions.
+//! 6.9.2); its steps are the frames and the changes, joined by their numbers.
+//!
+//! - The findings are the run of the stream as `audit_terms` defines it, in order, credits only where they are shown,
+//!   up to the place at which its [`audit_terms::Look`] has it end; with it the opening, if that does not lie past the
+//!   place.
+//! - The looks are made in time, so many and no other (`IsRun`): before the first step, and then before each 256th
+//!   more. A run that meets all its steps says that it is whole, and keeps all. One that ends early keeps what lies up
+//!   to its last answer; it cuts once, since a later answer may be lower than what was found before it.
+//! - Changes that find no live window of the stream, before its opening and after its ends, are steps at which nothing
+//!   happens. They are passed over by strides from look to look, each at a 256th of a step; the contract speaks of all.
+//! - No sum wraps, for any increments and settings that a frame can hold: 2^28 steps of less than 2^32 fit a signed
+//!   word.
+//! - [`worked_examples`] are short runs of the definitions: windows below zero, settings that reach open and later
+//!   streams, windows that open at 0, overruns, both overflows, a promised stream, a run that ends at a stop.
+//!
+//! Asked of the caller: rising numbers, and that a frame with the number of a change is an acknowledgement, as
+//! `settings_pair` gives them.
+//!
+//! Wrong bodies that the prover refuses: settings that reach open streams only, a run that never looks, looks once or
+//! looks ahead of its work, one that leaves out all once it is stopped. Tested, in `crate_tests`: that `stream_run`
+//! succeeds where there is memory.
 #![tactic(auto)]
 
 mod changes;

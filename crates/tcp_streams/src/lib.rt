@@ -1,10 +1,25 @@
 //! The TCP connections of a capture, and the bytes that each side sent (RFC 9293).
 //!
-//! [`connections`] says which SYNs open a connection, which segments belong to which opening (RFC 9293,
-//! 3.5), and which are strays. [`assemble`] gives a side's bytes from its initial sequence number on (RFC
-//! 9293, 3.4), whatever order, loss or repetition the capture shows, with the record at which each byte
-//! was there, and a gap where bytes are missing before later ones. [`laws`] has what follows from the
-//! definitions alone.
+//! - [`connections`] says which SYNs open a connection, which segments belong to which opening (RFC 9293, 3.5), and
+//!   which are strays. In `specs/Membership.antt` the segments stand newest first, so that each definition looks back.
+//! - [`assemble`] gives a side's bytes from its initial sequence number on (RFC 9293, 3.4), whatever order, loss or
+//!   repetition the capture shows: `IsFlow` of `specs/Flow.antt` is the longest covered run from offset 0, its bytes,
+//!   the record at which each byte was there, and a gap where bytes are missing before later ones. Of several records
+//!   that cover an offset the first wins (`source` of `specs/Sequence.antt`), as a receiver that took it discards the
+//!   others. A side whose initial number was not captured has an empty flow, which is always answered.
+//! - A flow is orderly, as the cut into frames asks: shorter than 2^31, its arrivals rising in offset and record, times
+//!   below 2^63. It is no longer than the payloads of its side.
+//! - [`laws`]: there is one flow for a source; each payload byte is brought to the offset that the RFC's arithmetic
+//!   gives it; all flows together fit in the capture.
+//!
+//! The code lays disjoint intervals over one another: the first half of the segments is settled, then the second, which
+//! gives only the offsets that the first leaves free; so it takes n log n steps in whichever order segments come. Pairs
+//! are kept in an ordered map: the hashes at hand have a fixed seed, and a capture could be made whose pairs all
+//! collide.
+//!
+//! Wrong bodies that the prover refuses: the last retransmission wins, a SYN of any number opens again. Worked examples
+//! of openings, strays and offsets are proved in `crate_tests`. Tested there: random segments beside a slow program
+//! that keeps a plain list of offsets, and interleaved connections.
 #![tactic(auto)]
 
 mod assembly;

@@ -1,9 +1,9 @@
 //! Captures for tests, built from short scripts.
 //!
-//! A [`Capture`] grows by one record for each call. [`Capture::opened`] is a connection whose two
-//! sides have made their handshakes, TCP's and HTTP/2's; after it each [`Capture::client`] and
-//! [`Capture::server`] puts one HTTP/2 frame into one record, with the sequence number that follows.
-//! Record n has the time n microseconds, so frame n of such a script stands in record n + 2.
+//! A [`Capture`] grows by one record for each call. [`Capture::opened`] is a connection whose two sides have made their
+//! handshakes, TCP's and HTTP/2's; after it each [`Capture::client`] and [`Capture::server`] puts one HTTP/2 frame into
+//! one record, with the sequence number that follows. Record n has the time n microseconds, so frame n of such a script
+//! stands in record n + 2.
 //!
 //! ```rust
 //! let mut capture = Capture::opened(alloc)?;
@@ -12,6 +12,12 @@
 //! capture.server(window_update(0, 10))?;
 //! let found = records(alloc, capture.as_slice())?;
 //! ```
+//!
+//! It stands on no other crate of the repository, so the tests of each of them may use it. Every call is safe and
+//! total, for every argument. The bytes of a file header and of a packet are exactly those of `specs/FileBytes.antt`
+//! and `specs/PacketBytes.antt`. Frames and whole captures have no contract beyond safety: tests in `crate_tests`
+//! compare them with bytes that were written out by hand. A packet longer than an IPv4 total length can say has total
+//! length 0, as captures with segmentation offload have; [`Capture::set_byte`] changes any byte of the last packet.
 #![tactic(auto)]
 
 mod builder;
