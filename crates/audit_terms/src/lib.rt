@@ -8,9 +8,9 @@
 //! (`Look`).
 //!
 //! - [`Frame`], [`Change`], [`Item`] and [`Step`] are what an audit reads: frames, and what they bring.
-//! - [`Stream`], [`StreamLife`] and [`ConnectionState`] are a stream and a connection between two frames. Their calls,
-//!   [`say_local`] and [`say_window`] count one frame as the definitions say. The plain pass and the rounds take them
-//!   from here, so both say each rule by the same code, and differ only in how they walk.
+//! - [`Stream`], [`StreamLife`] and [`ConnectionState`] are a stream and a connection between two frames, and their
+//!   calls count one frame as the definitions say; so do [`say_local`] and [`say_window`]. The plain pass and the
+//!   rounds take them from here: both say each rule by the same code, and differ only in how they walk.
 //! - [`Place`], [`Kind`] and [`Finding`] say where a finding stands, what it says and whether it stops the audit;
 //!   [`put_in_order`], [`cut_at_stop`] and [`keep_shown`] order findings, end them and drop credits.
 //! - [`Look`] and [`Watch`]: a run asks where its connection stops before its first step and before each 256th more.

@@ -19,9 +19,9 @@
 //!   [`Options`] refuses numbers out of range. [`laws::known_words`] computes seven command lines. [`ending`] is status
 //!   and line.
 //!
-//! Reading stops at 2^31 bytes, which are refused as the whole is. A first round of jobs assembles and cuts the flows
-//! of each connection, and `audit_rounds` finds what is shown. No answer says that a worker was not started
-//! (`IsNoReport`).
+//! Reading stops at 2^31 bytes, which are refused as the whole is. Round 0 has a job for each connection, which
+//! assembles both of its flows and cuts them; `audit_rounds` has the rounds after it. No answer says that a worker was
+//! not started (`IsNoReport`).
 //!
 //! The account is as honest as the code that enters it: `read_once`, `write_once` and `flush_once` make the crate's
 //! only calls of `read`, `write` and `flush`, and ask that none follows one that failed; `read_more` enters want of
