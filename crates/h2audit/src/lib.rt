@@ -11,10 +11,11 @@
 //!   there is no second one.
 //! - [`run`] reads a capture to its end, audits it, writes the report and flushes once. For a reader and a writer that
 //!   tell their bytes, what is written is the whole report; after a failed write a beginning of it; after any other
-//!   fault nothing (`Leaves` of `specs/Run.antt`). That nothing is written before such a fault holds for every writer.
+//!   fault nothing (`Leaves` of `specs/Run.antt`). The last holds for every reader.
 //! - [`run_seen`] is `run` with an account of what reader and writer answered ([`Seen`]), and what the program calls.
-//!   Its clauses `tells` and `judged` say how a run ends: after a verdict nothing failed and a flush came last; a
-//!   capture for which there was room is refused where its bytes are.
+//!   For every reader and writer it tells how a run ends: after a verdict nothing failed, and a flush came last; before
+//!   any fault but a write fault nothing was written. A capture for which there was room is refused where its bytes
+//!   are.
 //! - [`parse`] says what the words of a command line ask for, by `clap`'s own definition of the command, and
 //!   [`Options`] refuses numbers out of range. [`laws::known_words`] computes seven command lines. [`ending`] is status
 //!   and line.
