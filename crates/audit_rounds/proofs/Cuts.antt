@@ -86,7 +86,7 @@ items-from low base opened changes (frame ∷ frames) le h =
 
 -- ---- one block more
 
-orderly-take : (low n : ℕ) (frames : List Frame) → IsOrderlyFrom low frames → IsOrderlyFrom low (take n frames)
+pub orderly-take : (low n : ℕ) (frames : List Frame) → IsOrderlyFrom low frames → IsOrderlyFrom low (take n frames)
 orderly-take low zero frames h = tt
 orderly-take low (suc n) [] h = tt
 orderly-take low (suc n) (frame ∷ frames) h = (h.0, h.1, orderly-take (frame.number + 1) n frames h.2)

@@ -23,3 +23,5 @@ pub mod Ordered
 mod LaidOut
 pub mod StreamRounds
 pub mod StreamsLeft
+pub mod EarlyStop
+pub mod ByFronts

@@ -2,4 +2,5 @@ pub mod Openings
 pub mod Items
 pub mod Rounds
 pub mod Settling
+pub mod EarlyStop
 pub mod code

@@ -3,6 +3,7 @@
 ghost use Rattle.audit_rounds.specs.Openings.{OpeningsAreFound};
 ghost use Rattle.audit_rounds.specs.Items.{ItemsAreFound};
 ghost use Rattle.audit_rounds.specs.Rounds.{RoundsMakePass};
+ghost use Rattle.audit_rounds.specs.EarlyStop.{FrontsSettle};
 ghost use Rattle.audit_rounds.specs.Settling.{RoundsSettle, OpeningsAreTold};
 
 /// What the rounds of a divided audit show makes what is shown of the pass, however the frames are cut into blocks.
@@ -30,4 +31,9 @@ pub fn items_are_found()
 /// each of which reached the stop, tell the openings up to the stop.
 pub fn openings_are_told()
     ensures { OpeningsAreTold }
+{}
+
+/// Where the pass over a front of the frames shows an error of the connection, the pass over all of them shows the same.
+pub fn fronts_settle()
+    ensures { FrontsSettle }
 {}

@@ -38,6 +38,7 @@ mod block_rounds;
 mod blocks;
 mod connections;
 mod divisions;
+mod early_stops;
 mod gathering;
 pub mod laws;
 mod opened;

@@ -62,7 +62,7 @@ none_among q (x ∷ xs) h = step _ refl (none_among q xs h.1) where
   step true e ih = absurd (h.0 (eqb-true q x e))
   step false e ih = rw e ih
 
-found_among : (q : ℕ) (seen : List ℕ) (i : ℕ) → slice_get seen i ≡ Some q → is_among q seen ≡ true
+pub found_among : (q : ℕ) (seen : List ℕ) (i : ℕ) → slice_get seen i ≡ Some q → is_among q seen ≡ true
 found_among q [] i e = cc
 found_among q (x ∷ xs) zero e =
     let k : Some x ≡ Some q = e in

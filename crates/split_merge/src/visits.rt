@@ -1,4 +1,5 @@
 ghost use Rattle.std.specs.Prelude.{◌≡◌, ◌≢◌, ℕ, ◌*◌, ◌+◌, ◌^◌, ◌<◌, ◌++◌, List, IfOk, OnOk, Some, length, slice_get};
+ghost use Rattle.std.specs.Bool.{OnTrue};
 ghost use Rattle.audit_terms.specs.Pass.{streams_of};
 ghost use Rattle.split_merge.specs.code.Visits.{HasAtMost, IsIndex, IsTableOf, counted, noted, notes_from, streams_in, with_row, with_stream};
 
@@ -23,6 +24,8 @@ pub struct Visits {
     /// The index of each stream's row.
     pub index: BTreeMap<u32, u32>,
     pub visits: Vec<Visit>,
+    /// The row sought last: often the next one too, since frames of one stream follow one another.
+    pub last: u32,
 }
 
 impl Visits {
@@ -37,6 +40,7 @@ impl Visits {
             rows: Vec::new(alloc),
             index: BTreeMap::new(alloc),
             visits: Vec::new(alloc),
+            last: 0,
         };
         let mut position = 0;
         for frame in frames {
@@ -61,6 +65,7 @@ impl Visits {
             return Ok(());
         }
         let row = self.row_of(stream)?;
+        self.last = row;
         count(&mut self.rows[row as usize]);
         self.visits.push(Visit { row, position })?;
         Ok(())
@@ -76,6 +81,9 @@ impl Visits {
         ensures rows { OnOk result (self.new.rows.items ≡ with_row stream self.old.rows.items) }
         ensures visits { OnOk result (self.new.visits.items ≡ self.old.visits.items) }
     {
+        if is_row_of(self.rows.as_slice(), self.last, stream) {
+            return Ok(self.last);
+        }
         if let Some(row) = self.index.get(&stream) {
             return Ok(*row);
         }
@@ -87,6 +95,16 @@ impl Visits {
             to: 0,
         })?;
         Ok(row)
+    }
+}
+
+/// Is the row at this index the stream's?
+fn is_row_of(rows: &[StreamRow], row: u32, stream: u32) -> bool
+    ensures { OnTrue result (slice_get (streams_in rows.now) row ≡ Some stream) }
+{
+    match rows.get(row as usize) {
+        Some(found) => found.stream == stream,
+        None => false,
     }
 }
 

@@ -2,9 +2,15 @@ use Rattle.std.proofs.Common.{◌≡◌, ◌++◌, ◌∷◌, [], Some, cond, le
 use Rattle.std.specs.Ordering.{nat_cmp, is_eq}
 use Rattle.std.specs.BTreeMap.{get}
 use Rattle.split_merge.specs.code.Visits.{streams_in, NotAmong, IsIndex}
-use Rattle.split_merge.proofs.NamedStreams.{among-from_map, absent-from_map, index-more, slice_get-last, streams_in-push, length-streams_in}
+use Rattle.split_merge.proofs.NamedStreams.{found_among, among-from_map, absent-from_map, index-more, slice_get-last, streams_in-push, length-streams_in}
 use Rattle.split_merge.proofs.Visited.{with_row-seen, with_row-new}
 use Rattle.split_merge.proofs.visits.Visits.row_of.Goals as goal
+
+pub returns-then-is_row_of-clause-rows : goal.returns-then-is_row_of-clause-rows
+returns-then-is_row_of-clause-rows c =
+    with_row-seen c.args.stream c.args.self.now.rows.items
+    (found_among c.args.stream (streams_in c.args.self.now.rows.items) c.args.self.now.last
+    (ap (λ l. slice_get (streams_in l) c.args.self.now.last) (sym c.as_slice.ensures.value) ∙ c.if-is_row_of.ensures))
 
 pub returns-in-Some-clause-rows : goal.returns-in-Some-clause-rows
 returns-in-Some-clause-rows c =

@@ -1,0 +1,185 @@
+//! An error that lies early in a long connection spares what comes after it: of each long connection a front is gone
+//! through first, and all of it only where the front shows no error.
+
+ghost use Rattle.std.specs.Prelude.{◌≡◌, ◌<◌, All, IfOk, length, map};
+ghost use Rattle.std.specs.List.{zip};
+ghost use Rattle.audit_terms.specs.declared.findings.Finding.{Finding as FindingTerm};
+ghost use Rattle.audit_terms.specs.Frame.{IsOrderly};
+ghost use Rattle.audit_terms.specs.Finding.{shown};
+ghost use Rattle.audit_terms.specs.Pass.{pass};
+ghost use Rattle.audit_rounds.specs.code.EarlyStops.{begun_of, chosen_of, found_with, front_of, has_stopped, later_of};
+
+use crate::connections::findings_of_batch;
+use crate::divisions::Division;
+use audit_terms::{Finding, Frame};
+use job_crew::Gate;
+use std::alloc::{AllocError, Global};
+use std::thread::Threads;
+
+/// Of so many frames and more a front is gone through first.
+const LONG: usize = 131_072;
+
+/// How many times shorter than its connection a front is, and so what it may cost where it shows no error.
+const FRONTS: usize = 32;
+
+/// The frames of a connection that are gone through first: none, if there are not many.
+fn front_of<'a>(frames: &'a [Frame]) -> &'a [Frame]
+    ensures { result.now ≡ front_of frames.now }
+{
+    let length = if frames.len() < LONG {
+        0
+    } else {
+        frames.len() / FRONTS
+    };
+    &frames[..length]
+}
+
+/// What is gone through first of each connection.
+fn fronts_of<'a>(alloc: Global, connections: &[&'a [Frame]]) -> Result<Vec<&'a [Frame]>, AllocError>
+    ensures { IfOk result (λ fronts. map (λ front. front.now) fronts.items
+        ≡ map (λ frames. front_of frames.now) connections.now) }
+{
+    let mut fronts = Vec::with_capacity(alloc, connections.len())?;
+    for frames in connections {
+        let front = front_of(*frames);
+        fronts.extend_from_slice(&[front])?;
+    }
+    Ok(fronts)
+}
+
+/// Does one of these findings stop the connection?
+fn has_stopped(found: &[Finding]) -> bool
+    ensures { result ≡ has_stopped found.now }
+{
+    found.iter().any(|one| one.stops())
+}
+
+/// The frames of a connection that are gone through later: none, where this was found of its front and ends it.
+fn later_of<'a>(frames: &'a [Frame], early: &[Finding]) -> &'a [Frame]
+    ensures { result.now ≡ later_of frames.now early.now }
+{
+    if has_stopped(early) { &[] } else { frames }
+}
+
+/// What is gone through later of each connection, of whose fronts this was found.
+fn laters_of<'a>(
+    alloc: Global,
+    connections: &[&'a [Frame]],
+    early: &[Vec<Finding>],
+) -> Result<Vec<&'a [Frame]>, AllocError>
+    requires { length early.now ≡ length connections.now }
+    ensures { IfOk result (λ laters. map (λ later. later.now) laters.items
+        ≡ map (λ one. later_of one.0.now one.1.items) (zip connections.now early.now)) }
+{
+    let mut laters = Vec::with_capacity(alloc, connections.len())?;
+    for n in 0..connections.len() {
+        let later = later_of(connections[n], early[n].as_slice());
+        laters.extend_from_slice(&[later])?;
+    }
+    Ok(laters)
+}
+
+/// What was found of a connection's front.
+#[derive(Drop)]
+struct Begun {
+    found: Vec<Finding>,
+}
+
+/// What was found of a connection: of its front, and later.
+#[derive(Drop)]
+struct Found {
+    early: Vec<Finding>,
+    later: Vec<Finding>,
+}
+
+/// What was found of each front.
+fn begun_each(alloc: Global, early: Vec<Vec<Finding>>) -> Result<Vec<Begun>, AllocError>
+    ensures { IfOk result (λ all. all.items ≡ map begun_of early.items) }
+{
+    early
+        .into_iter()
+        .map(
+            |found: Vec<Finding>| -> Begun
+                ensures { result ≡ begun_of found }
+            { Begun { found } },
+        )
+        .collect(alloc)
+}
+
+/// What was found of each connection.
+fn together(
+    alloc: Global,
+    early: Vec<Begun>,
+    later: Vec<Vec<Finding>>,
+) -> Result<Vec<Found>, AllocError>
+    requires { length later.items ≡ length early.items }
+    ensures { IfOk result (λ all. all.items ≡ map found_with (zip early.items later.items)) }
+{
+    early
+        .into_iter()
+        .zip(later)
+        .map(
+            |pair: (Begun, Vec<Finding>)| -> Found
+                ensures { result ≡ found_with pair }
+            {
+                let (early, later) = pair;
+                Found {
+                    early: early.found,
+                    later,
+                }
+            },
+        )
+        .collect(alloc)
+}
+
+/// What a connection's front shows, where that ends it, else what was found later.
+#[tactic(auto, unfolding(crate::specs::code::EarlyStops::chosen_of))]
+fn chosen_of(found: Found) -> Vec<Finding>
+    ensures { result ≡ chosen_of found }
+{
+    let Found { early, later } = found;
+    if has_stopped(early.as_slice()) {
+        early
+    } else {
+        later
+    }
+}
+
+/// That of each connection.
+fn chosen(alloc: Global, found: Vec<Found>) -> Result<Vec<Vec<Finding>>, AllocError>
+    ensures { IfOk result (λ all. all.items ≡ map chosen_of found.items) }
+{
+    let mut all = Vec::with_capacity(alloc, found.len())?;
+    for one in found {
+        all.push(chosen_of(one))?;
+    }
+    Ok(all)
+}
+
+/// What is shown of each connection of a batch. Where one is long, fronts are gone through first.
+pub(crate) fn findings_by_fronts<R: Threads + Sync, G: Gate>(
+    rt: &R,
+    alloc: Global,
+    division: &Division,
+    gate: &G,
+    credits_shown: bool,
+    connections: &[&[Frame]],
+) -> Result<Vec<Vec<Finding>>, AllocError>
+    requires workers { 0 < division.now.workers }
+    requires groups { 0 < division.now.groups }
+    requires frames { All (λ frames. IsOrderly frames.now) connections.now }
+    ensures { IfOk result (λ found. map (λ one. one.items) found.items
+        ≡ map (λ frames. shown credits_shown (pass frames.now)) connections.now) }
+{
+    if !connections.iter().any(|frames| frames.len() >= LONG) {
+        return findings_of_batch(rt, alloc, division, gate, credits_shown, connections);
+    }
+    let fronts = fronts_of(alloc, connections)?;
+    let fronts = fronts.as_slice();
+    let early = findings_of_batch(rt, alloc, division, gate, credits_shown, fronts)?;
+    let laters = laters_of(alloc, connections, early.as_slice())?;
+    let laters = laters.as_slice();
+    let found = findings_of_batch(rt, alloc, division, gate, credits_shown, laters)?;
+    let begun = begun_each(alloc, early)?;
+    chosen(alloc, together(alloc, begun, found)?)
+}
