@@ -20,6 +20,5 @@ pub mod StreamPlan
 pub mod StreamReady
 pub mod Openers
 pub mod Ordered
-mod LaidOut
 pub mod StreamRounds
 pub mod StreamsLeft

@@ -8,7 +8,7 @@
 //! - [`Stream`] and [`ConnectionState`] are a stream and a connection between two frames; their calls count a frame in
 //!   them as the definitions say.
 //! - [`Place`], [`Kind`] and [`Finding`] say where a finding stands, what it says and whether it stops the audit;
-//!   [`put_in_order`], [`cut_at_stop`] and [`keep_shown`] order findings, end them and drop credits.
+//!   [`put_in_order`], [`cut_at_stop`], [`keep_up_to`] and [`keep_shown`] order findings, end them and drop credits.
 //! - [`laws`] are promises about the definitions alone.
 #![tactic(auto)]
 
@@ -29,7 +29,7 @@ mod windows;
 
 pub use connections::{ConnectionState, FIRST_LIMIT};
 pub use counts::LARGEST_WINDOW;
-pub use findings::{Finding, cut_at_stop, keep_shown, put_in_order, say_if};
+pub use findings::{Finding, cut_at_stop, keep_shown, keep_up_to, put_in_order, say_if};
 pub use frames::{Body, END_STREAM, Frame, Settings};
 pub use items::{Change, Item, Step};
 pub use kinds::Kind;
