@@ -3,7 +3,8 @@
 //! - [`Credit`] is what changes do to one window; [`ClientCredit`] and [`ServerCredit`] what items do to each side's.
 //! - [`Ids`] are the streams that items open, [`Latest`] the settings that they bring and the lengths of their frames.
 //! - [`Block`] is a range of frames with the numbers of those that open streams and the changes of settings: its items
-//!   are walked one by one, and no list of them is made. [`items`] is that list, for who wants it.
+//!   are walked one by one, and no list of them is made. [`items`] is that list, for who wants it. [`numbers_from`] and
+//!   [`changes_from`] are what a later block needs of them.
 //! - [`ConnSum`] is all of these summaries, and [`block_sum`] that of a block; its parts step as the connection does
 //!   ([`laws::parts_follow_the_connection`]).
 //! - [`carries_of`] is the connection before each block, [`block_findings`] what a block shows from there.
@@ -23,7 +24,7 @@ mod side_credits;
 mod sums;
 
 pub use audit_terms::ConnectionState as ConnState;
-pub use block_items::{Block, items};
+pub use block_items::{Block, changes_from, items, numbers_from};
 pub use blocks::{BlockRun, block_findings};
 pub use carried::carries_of;
 pub use cleared::clear;
