@@ -11,7 +11,8 @@ use Rattle.audit_core.specs.code.StreamTable.{NotAmong, AreDistinct}
 use Rattle.audit_terms.specs.Pass.{PassState, pass_start, said, full_from, full, next, first_of, streams_of}
 use Rattle.audit_core.specs.ApartLaw.{EachPair, AreApart, StandApart}
 use Rattle.audit_core.proofs.Pairs.{Across, pairs-append, pairs-ordered}
-use Rattle.audit_core.proofs.PassOrder.{AreWithin, AreFrom, AreStreams, at-said, from-full_from, rows_of, streams-streams_of}
+use Rattle.audit_terms.proofs.SaidPlaces.{AreWithin, AreFrom}
+use Rattle.audit_core.proofs.PassOrder.{AreStreams, at-said, from-full_from, rows_of, streams-streams_of}
 use Rattle.audit_core.proofs.FrameRows.{rows-apart-at}
 
 not_among-filter : (test : ℕ → Bool) (stream : ℕ) (streams : List ℕ) → NotAmong stream streams →

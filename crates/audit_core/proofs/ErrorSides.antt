@@ -34,7 +34,8 @@ use Rattle.audit_terms.specs.Stream.{opens, counted, window_at_opening, window_s
 use Rattle.audit_terms.specs.Pass.{PassState, pass_start, said, full, streams_of, streams_said, step_of, item_of}
 use Rattle.audit_core.specs.ApartLaw.{EachPair, AreApart, AreApartAsErrors}
 use Rattle.audit_core.proofs.Pairs.{all-append, all-ordered, pairs-refine}
-use Rattle.audit_core.proofs.PassOrder.{AreStreams, rows_of, rank-small, streams-streams_of}
+use Rattle.audit_terms.proofs.SaidPlaces.{rank-small}
+use Rattle.audit_core.proofs.PassOrder.{AreStreams, rows_of, streams-streams_of}
 use Rattle.audit_core.proofs.TableRows.{rank-place}
 use Rattle.audit_core.proofs.Apart.{apart-said, distinct-streams_of, pairs-full_from}
 

@@ -11,7 +11,7 @@ use Rattle.audit_terms.specs.Place.{place_of, place_rank, place_stream}
 use Rattle.audit_terms.specs.Finding.{finding_at, say, say_of}
 use Rattle.audit_core.specs.ApartLaw.{AreApart, StandApart}
 use Rattle.audit_core.proofs.Pairs.{all-append, all-map, across-by, pairs-append}
-use Rattle.audit_core.proofs.PassOrder.{rank-small}
+use Rattle.audit_terms.proofs.SaidPlaces.{rank-small}
 
 -- the row in which a rank is said of an endpoint, by rank: 0 to 4 local faults, 5 settings, 6 length, 7 the server's
 -- push, 8 order of openings, 9 to 14 and 15 to 20 the connection windows of client and server, 21 to 23 what a frame

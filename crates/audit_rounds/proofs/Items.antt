@@ -12,8 +12,8 @@ use Rattle.audit_terms.specs.declared.items.Item.{Item}
 use Rattle.audit_terms.specs.Frame.{is_headers, IsOrderlyFrom}
 use Rattle.audit_terms.specs.InForce.{InForce, in_force_after, change_of, change_taking, taken, changes_from, changes_of}
 use Rattle.audit_terms.specs.Pass.{PassState, pass_start, next, items_of, items_from}
-use Rattle.audit_rounds.specs.Openings.{is_opening_headers}
-use Rattle.audit_rounds.specs.Items.{change_at, ItemsAreFound}
+use Rattle.conn_scan.specs.Items.{is_marked, change_at}
+use Rattle.audit_rounds.specs.Items.{ItemsAreFound}
 use Rattle.audit_rounds.proofs.Openings.{openings_are_found_lem}
 
 -- ---- changes
@@ -133,16 +133,16 @@ by_parts opens change (item ∷ items) (frame ∷ frames) f o c =
     (by_parts opens change items frames (tail_same _ _ _ _ f) (tail_same _ _ _ _ o) (tail_same _ _ _ _ c))
 
 marks-permuted : (xs ys : List ℕ) (frames : List Frame) → IsPermutation xs ys
-    → map (is_opening_headers xs) frames ≡ map (is_opening_headers ys) frames
+    → map (is_marked xs) frames ≡ map (is_marked ys) frames
 marks-permuted xs ys [] h = refl
 marks-permuted xs ys (frame ∷ frames) h =
-    ap (λ b. (is_headers frame.body && b) ∷ map (is_opening_headers xs) frames)
+    ap (λ b. (is_headers frame.body && b) ∷ map (is_marked xs) frames)
     (list_any-IsPermutation (λ number. number == frame.number) xs ys h)
-    ∙ ap (λ l. is_opening_headers ys frame ∷ l) (marks-permuted xs ys frames h)
+    ∙ ap (λ l. is_marked ys frame ∷ l) (marks-permuted xs ys frames h)
 
 pub items_are_found_lem : ItemsAreFound
 items_are_found_lem frames opened h p =
-    sym (by_parts (is_opening_headers opened) (change_at (changes_of frames)) (items_of frames) frames
+    sym (by_parts (is_marked opened) (change_at (changes_of frames)) (items_of frames) frames
     (items-frames pass_start frames)
     (openings_are_found_lem frames h ∙ marks-permuted _ opened frames p)
     (changes-found 0 [] pass_start frames h tt))

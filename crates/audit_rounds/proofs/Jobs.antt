@@ -13,7 +13,7 @@ use Rattle.audit_terms.specs.Frame.{IsOrderlyFrom}
 use Rattle.audit_terms.specs.Look.{Asked, last_answer, is_past, upto_of, up_to, IsRun}
 use Rattle.audit_terms.proofs.FindingOrder.{comes_after_is}
 use Rattle.audit_terms.proofs.OrderedLists.{IsInOrder, ordered-in_order, in_order-append, in_order-ordered}
-use Rattle.audit_core.proofs.PassOrder.{AreFrom, at-connection, at-in_order, from-at, from-from, from-append, precedes-at}
+use Rattle.audit_terms.proofs.SaidPlaces.{AreFrom, at-connection, at-in_order, from-at, from-from, from-append, precedes-at}
 use Rattle.conn_scan.specs.declared.block_items.Block.{Block}
 use Rattle.conn_scan.specs.Items.{item_with, items_with, items_in, IsBlock}
 use Rattle.split_merge.specs.Board.{Job, IsCut}

@@ -20,7 +20,6 @@ pub mod StreamPlan
 pub mod StreamReady
 pub mod Openers
 pub mod Ordered
-mod LaidOut
 pub mod StreamRounds
 pub mod StreamsLeft
 pub mod EarlyStop

@@ -23,7 +23,8 @@ use Rattle.audit_terms.specs.Run.{frames_of, stream_at_end}
 use Rattle.audit_core.proofs.QuietSteps.{stream_after-quiet}
 use Rattle.audit_core.proofs.StreamSteps.{step_if_any, steps_from, steps_of-steps_from}
 use Rattle.audit_core.proofs.StreamsMet.{streams_met_lem}
-use Rattle.audit_rounds.specs.Openings.{openings_of, is_opening_headers, OpeningsAreFound}
+use Rattle.conn_scan.specs.Items.{is_marked}
+use Rattle.audit_rounds.specs.Openings.{openings_of, OpeningsAreFound}
 
 -- ---- a stream at its end is the stream in the pass
 
@@ -305,10 +306,10 @@ opens-here : (state : PassState) (frame : Frame) (frames : List Frame) (streams 
     → OpenedBelow frame.number state → IsOrderlyFrom (frame.number + 1) frames
     → ((frame.stream == 0) ≡ false → among frame.stream streams ≡ true)
     → opens_stream state frame
-    ≡ is_opening_headers (openings_at (state_from (next state frame) frames) streams) frame
+    ≡ is_marked (openings_at (state_from (next state frame) frames) streams) frame
 opens-here state frame frames streams below h named = opens-pass state frame ∙ sym (by_test _ refl) where
   by_test : (b : Bool) → is_headers frame.body ≡ b
-      → is_opening_headers (openings_at (state_from (next state frame) frames) streams) frame ≡ is_opened state frame
+      → is_marked (openings_at (state_from (next state frame) frames) streams) frame ≡ is_opened state frame
   by_test false e =
       ap (λ b. b && list_any (λ m. m == frame.number) (openings_at (state_from (next state frame) frames) streams)) e
       ∙ sym (other-opens state frame e)
@@ -321,14 +322,14 @@ opens-here state frame frames streams below h named = opens-pass state frame ∙
 opens-all : (low : ℕ) (state : PassState) (frames : List Frame) (streams : List ℕ)
     → OpenedBelow low state → IsOrderlyFrom low frames → AllNamed streams frames
     → map (λ (item : Item). item.opens) (items_from state frames)
-    ≡ map (is_opening_headers (openings_at (state_from state frames) streams)) frames
+    ≡ map (is_marked (openings_at (state_from state frames) streams)) frames
 opens-all low state [] streams below h named = refl
 opens-all low state (frame ∷ frames) streams below h named =
     let now : OpenedBelow frame.number state =
     λ s. below-wider (opened state s) low frame.number h.0 (below s) in
     ap (λ b. b ∷ map (λ (item : Item). item.opens) (items_from (next state frame) frames))
     (opens-here state frame frames streams now h.2 named.0)
-    ∙ ap (λ l. is_opening_headers (openings_at (state_from (next state frame) frames) streams) frame ∷ l)
+    ∙ ap (λ l. is_marked (openings_at (state_from (next state frame) frames) streams) frame ∷ l)
     (opens-all (frame.number + 1) (next state frame) frames streams (below-next state frame now) h.2 named.1)
 
 openings-end : (frames : List Frame) (streams : List ℕ) → IsOrderly frames
@@ -343,4 +344,4 @@ openings_are_found_lem frames h =
     opens-all 0 pass_start frames (streams_of frames) (λ s. tt) h
     (all-named (streams_of frames) frames
     (λ s met above. streams_met_lem s frames ∙ rw (above, met) refl))
-    ∙ ap (λ opened. map (is_opening_headers opened) frames) (sym (openings-end frames (streams_of frames) h))
+    ∙ ap (λ opened. map (is_marked opened) frames) (sym (openings-end frames (streams_of frames) h))

@@ -1,5 +1,5 @@
 -- The round over blocks need not go past the stop.
-use Rattle.std.proofs.Common.{◌≡◌, ℕ, zero, suc, ◌+◌, ◌*◌, ◌^◌, ◌<◌, ◌≤◌, ◌&&◌, Bool, true, false, nat_lt, List, [], ◌∷◌, ◌++◌, filter, refl, sym, ap, subst, ◌∙◌, arith, append_assoc, append-nil, ◌⊎◌, inl, inr, Contains, Option, Some, None, slice_get, lt-ltb, ltb-true}
+use Rattle.std.proofs.Common.{◌≡◌, ℕ, ◌+◌, ◌*◌, ◌^◌, ◌<◌, ◌≤◌, ◌&&◌, Bool, true, false, nat_lt, List, [], ◌∷◌, ◌++◌, filter, refl, sym, ap, subst, ◌∙◌, arith, append_assoc, append-nil, ◌⊎◌, inl, inr, Contains, Option, Some, None, lt-ltb, ltb-true}
 use Rattle.std.proofs.lemmas.List.{map-append}
 use Rattle.std.proofs.lemmas.List.Sorted.{IsPermutation-refl}
 use Rattle.audit_terms.specs.declared.connections.ConnectionState.{ConnectionState}
@@ -17,12 +17,12 @@ use Rattle.audit_terms.specs.Pass.{pass, streams_of, items_of}
 use Rattle.audit_terms.specs.Place.{place_number}
 use Rattle.audit_terms.proofs.FindingOrder.{in_order-append_comm, in_order-alike}
 use Rattle.audit_core.specs.PartsLaw.{joined}
-use Rattle.audit_core.proofs.PassOrder.{AreFrom, at-connection, at-in_order, from-at, from-from, from-append}
+use Rattle.audit_terms.proofs.SaidPlaces.{AreFrom, at-connection, at-in_order, from-at, from-from, from-append}
 use Rattle.conn_scan.specs.Items.{item_with, items_with, change_at}
-use Rattle.split_merge.specs.Board.{Job, Round, Part, Board, stop_of, StopsAt, IsLeast, IsGiven, IsPast, IsCut, IsPartOf, IsSettled, parts_of}
+use Rattle.split_merge.specs.Board.{StopsAt, IsLeast, IsPast}
 use Rattle.split_merge.proofs.RoundCuts.{stops_join_lem}
-use Rattle.split_merge.proofs.RoundMembers.{contains-none, contains-here, contains-cases}
-use Rattle.split_merge.proofs.RoundMerge.{board_merges_lem}
+use Rattle.split_merge.proofs.RoundMembers.{contains-none, contains-cases}
+use Rattle.split_merge.proofs.RoundMerge.{cut-all}
 use Rattle.split_merge.proofs.ShownMerge.{shown-append}
 use Rattle.audit_rounds.specs.Openings.{openings_of}
 use Rattle.audit_rounds.specs.Rounds.{streams_shown, blocks_shown}
@@ -31,95 +31,18 @@ use Rattle.audit_rounds.proofs.Items.{items_are_found_lem}
 use Rattle.audit_rounds.proofs.Parts.{orderly-filter}
 use Rattle.audit_rounds.proofs.Rounds.{rounds_make_pass_lem}
 
--- a place of a connection
-abbrev entry : (connection place : ℕ) → ℕ × ℕ
-entry connection place = (connection, place)
+-- ---- what lies past a stop does not count
 
--- ---- what lies past a stop does not count: as a job of which nothing is kept
-
-module _ (earlier late : List Finding) (stop : Option ℕ) (least : IsLeast (StopsAt earlier) stop) (past : (found : Finding) → Contains late found → IsPast stop found.place) where
-  abbrev job : Job
-  job = record { connection = 0; findings = late }
-
-  abbrev part : Part
-  part = record { job = 0; connection = 0; upto = stop; findings = [] }
-
-  abbrev round : Round
-  round = record { jobs = job ∷ []; opening_stops = stop ∷ [] }
-
-  abbrev seen_at : Option ℕ → List (ℕ × ℕ)
-  seen_at None = []
-  seen_at (Some place) = (0, place) ∷ []
-
-  abbrev board : Board
-  board = record { parts = part ∷ []; seen = seen_at stop; lowered = []; stops = stop ∷ [] }
-
-  left_out : IsCut late stop []
-  left_out = record { ordered = refl; left_out = late; together = refl; past = past }
-
-  was_seen : (upto : Option ℕ) (place : ℕ) → upto ≡ Some place → Contains (seen_at upto) (0, place)
-  was_seen None place e = cc
-  was_seen (Some other) place e =
-      let same : other ≡ place = cc in
-      subst (λ p. Contains (entry 0 other ∷ []) (entry 0 p)) same (contains-here (entry 0 other) [])
-
-  is_part : IsPartOf (seen_at stop) [] job part
-  is_part = record {
-    of_connection = refl;
-    cut = left_out;
-    upto_seen = was_seen stop;
-    stops_lowered = λ place h. absurd (contains-none h.0 h.1);
-  }
-
-  one_each : (number : ℕ) → number < 1 → parts_of number (part ∷ []) ≡ 1
-  one_each zero l = refl
-  one_each (suc number) l = absurd (omega arith)
-
-  of_job : (other : Part) → (part ≡ other) ⊎ Contains [] other →
-      (j : Job) × (slice_get (job ∷ []) other.job ≡ Some j) × IsPartOf (seen_at stop) [] j other
-  of_job other (inl e) =
-      subst (λ (o : Part). (j : Job) × (slice_get (job ∷ []) o.job ≡ Some j) × IsPartOf (seen_at stop) [] j o) e
-      (job, refl, is_part)
-  of_job other (inr k) = absurd (contains-none other k)
-
-  given_by : (upto : Option ℕ) (connection place : ℕ) → Contains (seen_at upto) (connection, place) →
-      stop_of (upto ∷ []) connection ≡ Some place
-  given_by None connection place k = absurd (contains-none (entry connection place) k)
-  given_by (Some seen) connection place k = by_case (contains-cases (entry 0 seen) [] (entry connection place) k) where
-    by_case : (entry 0 seen ≡ entry connection place) ⊎ Contains [] (entry connection place) →
-        stop_of (Some seen ∷ []) connection ≡ Some place
-    by_case (inl e) =
-        subst (λ (one : ℕ × ℕ). stop_of (Some seen ∷ []) one.0 ≡ Some one.1) e refl
-    by_case (inr l) = absurd (contains-none (entry connection place) l)
-
-  least_given : (at : Option ℕ) (connection : ℕ) → stop_of (stop ∷ []) connection ≡ at →
-      IsLeast (IsGiven round [] connection) at
-  least_given None connection e = λ place h. none place h where
-    none : (place : ℕ) → IsGiven round [] connection place → ⊥
-    none place (inl k) = let other : None ≡ Some place = sym e ∙ k in absurd cc
-    none place (inr k) = contains-none (entry connection place) k
-  least_given (Some least) connection e = (inl e, λ place h. below place h) where
-    below : (place : ℕ) → IsGiven round [] connection place → least ≤ place
-    below place (inl k) =
-        let both : Some least ≡ Some place = sym e ∙ k in
-        let same : least ≡ place = cc in
-        omega arith
-    below place (inr k) = absurd (contains-none (entry connection place) k)
-
-  settled : IsSettled round board
-  settled = record {
-    one_part_each = one_each;
-    parts_of_jobs = λ other h. of_job other (contains-cases part [] other h);
-    lowered_real = λ connection place h. absurd (contains-none (entry connection place) h);
-    seen_given = λ connection place h. inl (given_by stop connection place h);
-    stops_least = λ connection. least_given _ connection refl;
-  }
-
-  late-left : upto_stop (in_order (earlier ++ late)) ≡ upto_stop (in_order earlier)
-  late-left =
-      ap (λ l. upto_stop (in_order (earlier ++ l))) (sym (append-nil late))
-      ∙ sym (board_merges_lem round board settled 0 earlier least).findings
-      ∙ ap (λ l. upto_stop (in_order l)) (append-nil earlier)
+late-left : (earlier late : List Finding) (stop : Option ℕ) → IsLeast (StopsAt earlier) stop →
+    ((found : Finding) → Contains late found → IsPast stop found.place) →
+    upto_stop (in_order (earlier ++ late)) ≡ upto_stop (in_order earlier)
+late-left earlier late stop least past =
+    ap upto_stop (in_order-append_comm earlier late)
+    ∙ cut-all late earlier (λ found k. beyond stop least found (past found k)) where
+      beyond : (at : Option ℕ) → IsLeast (StopsAt earlier) at → (found : Finding) → IsPast at found.place →
+          (place : ℕ) × StopsAt earlier place × (place < found.place)
+      beyond None h found l = absurd l
+      beyond (Some place) h found l = (place, h.0, l)
 
 -- ---- frames up to the stop, and past it
 

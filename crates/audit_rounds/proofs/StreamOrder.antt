@@ -13,7 +13,7 @@ use Rattle.audit_terms.specs.Run.{frame_step, with_change, steps_of, stream_run}
 use Rattle.audit_terms.specs.Stream.{idle_stream, initial_after, stream_after, stream_said, stream_run_from}
 use Rattle.audit_terms.proofs.OrderedLists.{IsInOrder, in_order-ordered, in_order-append, ordered-in_order}
 use Rattle.audit_terms.proofs.FindingOrder.{comes_after_is}
-use Rattle.audit_core.proofs.PassOrder.{AreFrom, at-in_order, at-stream, from-append, from-at, from-from, precedes-at}
+use Rattle.audit_terms.proofs.SaidPlaces.{AreFrom, at-in_order, at-stream, from-append, from-at, from-from, precedes-at}
 use Rattle.split_merge.proofs.ShownMerge.{in_order-shown}
 
 -- each number above the one before it, the first `low` or above

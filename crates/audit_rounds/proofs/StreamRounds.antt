@@ -20,7 +20,8 @@ use Rattle.audit_terms.specs.Pass.{streams_of}
 use Rattle.audit_terms.specs.Run.{frames_of, stream_at_end, stream_run}
 use Rattle.audit_terms.specs.Sides.{side_of}
 use Rattle.audit_core.proofs.OrderlyRest.{length-orderly}
-use Rattle.audit_core.proofs.PassOrder.{AreAt, AreWithin, AreStreams as Are31Bits, at-in_order, at-local, at-settings, streams-streams_of}
+use Rattle.audit_terms.proofs.SaidPlaces.{AreAt, AreWithin, at-in_order, at-local, at-settings}
+use Rattle.audit_core.proofs.PassOrder.{AreStreams as Are31Bits, streams-streams_of}
 use Rattle.settings_pair.specs.Changes.{AreOrderly, AreAcknowledged}
 use Rattle.split_merge.specs.declared.splits.StreamRow.{StreamRow}
 use Rattle.split_merge.specs.Board.{Job, findings_of_jobs}

@@ -2,13 +2,11 @@
 
 ghost use Rattle.std.specs.Prelude.{◌≡◌, ◌<◌, All, IfOk, OnOk};
 ghost use Rattle.conn_scan.specs.Items.{IsBlock};
-ghost use Rattle.conn_scan.specs.code.Walk.{numbers_from, changes_from};
 ghost use Rattle.audit_rounds.specs.declared.remaining.Remaining.{Remaining as RemainingTerm};
 ghost use Rattle.audit_rounds.specs.code.Blocks.{AddsBlocks, AreCut, AreShort, wholes};
 
 use crate::remaining::Remaining;
-use audit_terms::Change;
-use conn_scan::Block;
+use conn_scan::{Block, changes_from, numbers_from};
 use std::alloc::{AllocError, Global};
 
 /// A block, and the connection that it is of.
@@ -26,34 +24,6 @@ pub(crate) struct Cut<'c, 'a> {
     pub(crate) blocks: Vec<ConnectionBlock<'a>>,
     /// How many blocks each connection has.
     pub(crate) counts: Vec<usize>,
-}
-
-/// The numbers from the first that is not below a number.
-fn numbers_from(numbers: &[u32], low: u32) -> &[u32]
-    ensures { result.now ≡ numbers_from low numbers.now }
-{
-    let mut rest = numbers;
-    while let Some((first, later)) = rest.split_first() {
-        if *first >= low {
-            return rest;
-        }
-        rest = later;
-    }
-    rest
-}
-
-/// The changes from the first whose number is not below a number.
-fn changes_from(changes: &[Change], low: u32) -> &[Change]
-    ensures { result.now ≡ changes_from low changes.now }
-{
-    let mut rest = changes;
-    while let Some((first, later)) = rest.split_first() {
-        if first.number >= low {
-            return rest;
-        }
-        rest = later;
-    }
-    rest
 }
 
 /// Adds the frames of a connection in blocks of at most so many, each with the numbers and the changes from its first

@@ -5,3 +5,5 @@ pub mod PlaceOrder
 pub mod Bounds
 pub mod Acknowledged
 pub mod Watching
+pub mod FindingLists
+pub mod SaidPlaces

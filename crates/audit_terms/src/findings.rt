@@ -1,4 +1,4 @@
-ghost use Rattle.std.specs.Prelude.{◌≡◌, ℕ, ◌-◌, ◌^◌, ◌<◌, ◌≤◌, ◌++◌, pos, OnOk, OnErr};
+ghost use Rattle.std.specs.Prelude.{◌≡◌, ℕ, ◌-◌, ◌^◌, ◌<◌, ◌≤◌, ◌++◌, nat_le, pos, OnOk, OnErr};
 
 use crate::kinds::Kind;
 use crate::places::Place;
@@ -61,6 +61,7 @@ impl Finding {
 }
 
 ghost use Rattle.audit_terms.specs.Finding.{say, stops, in_order, upto_stop, is_shown, shown};
+ghost use Rattle.audit_terms.specs.Look.{up_to};
 ghost use Rattle.std.specs.Prelude.{position};
 
 /// Adds a finding where a test holds.
@@ -108,4 +109,18 @@ pub fn keep_shown(found: &mut Vec<Finding>, credits_shown: bool)
             ensures { result ≡ is_shown credits_shown one.now }
         { one.is_shown(credits_shown) },
     );
+}
+
+/// Drops what stands past a place, where there is one.
+pub fn keep_up_to(found: &mut Vec<Finding>, upto: &Option<Place>)
+    ensures { found.new.items ≡ up_to upto.now found.old.items }
+{
+    if let Some(place) = upto {
+        let last = place.word();
+        found.retain(
+            |one| -> bool
+                ensures { result ≡ nat_le one.now.place last }
+            { one.place.word() <= last },
+        );
+    }
 }

@@ -12,7 +12,7 @@
 //!   calls count one frame as the definitions say; so do [`say_local`] and [`say_window`]. The plain pass and the
 //!   rounds take them from here: both say each rule by the same code, and differ only in how they walk.
 //! - [`Place`], [`Kind`] and [`Finding`] say where a finding stands, what it says and whether it stops the audit;
-//!   [`put_in_order`], [`cut_at_stop`] and [`keep_shown`] order findings, end them and drop credits.
+//!   [`put_in_order`], [`cut_at_stop`], [`keep_up_to`] and [`keep_shown`] order findings, end them and drop credits.
 //! - [`Look`] and [`Watch`]: a run asks where its connection stops before its first step and before each 256th more.
 //! - [`laws`]: places stand in the order of frame number, rank and stream, and none is all ones.
 //!
@@ -43,7 +43,7 @@ mod windows;
 
 pub use connections::{ConnectionState, FIRST_LIMIT};
 pub use counts::LARGEST_WINDOW;
-pub use findings::{Finding, cut_at_stop, keep_shown, put_in_order, say_if};
+pub use findings::{Finding, cut_at_stop, keep_shown, keep_up_to, put_in_order, say_if};
 pub use frames::{Body, END_STREAM, Frame, Settings};
 pub use items::{Change, Item, Step};
 pub use kinds::Kind;

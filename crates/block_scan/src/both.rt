@@ -1,7 +1,7 @@
 use crate::summaries::Summary;
 
 /// Two summaries of the same items, or the two states that they advance.
-#[derive(Clone, Copy, Debug, PartialEq, Eq)]
+#[derive(Clone, Copy)]
 pub struct Both<A, B> {
     pub first: A,
     pub second: B,

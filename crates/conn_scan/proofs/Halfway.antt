@@ -19,8 +19,9 @@ use Rattle.block_scan.specs.code.Shown.{append_nil}
 use Rattle.conn_scan.specs.declared.block_items.Block.{Block}
 use Rattle.conn_scan.specs.Items.{items_with, items_in, IsBlock}
 use Rattle.conn_scan.proofs.BlockLemmas.{shown_next}
-use Rattle.conn_scan.proofs.FindingLists.{each-append, each-filter, each-weaker}
-use Rattle.conn_scan.proofs.FindingPlaces.{IsBelow, frames_of, item-from, block-from, before-front}
+use Rattle.audit_terms.proofs.FindingLists.{each-append, each-filter, each-weaker}
+use Rattle.audit_terms.proofs.SaidPlaces.{IsBelow, before-front}
+use Rattle.conn_scan.proofs.FindingPlaces.{frames_of, item-from, block-from}
 
 abbrev pub numbers_of : List Frame → List ℕ
 numbers_of frames = map (λ (frame : Frame). frame.number) frames

@@ -6,6 +6,5 @@ pub mod ClearLemmas
 pub mod ItemsLemmas
 pub mod ShownLemmas
 pub mod FitLemmas
-pub mod FindingLists
 pub mod FindingPlaces
 pub mod Halfway

@@ -62,7 +62,7 @@ impl Iterator for Walk<'_> {
 }
 
 /// The numbers from the first that is not below a number.
-fn numbers_from(numbers: &[u32], low: u32) -> &[u32]
+pub fn numbers_from(numbers: &[u32], low: u32) -> &[u32]
     ensures { result.now ≡ numbers_from low numbers.now }
 {
     let mut rest = numbers;
@@ -76,7 +76,7 @@ fn numbers_from(numbers: &[u32], low: u32) -> &[u32]
 }
 
 /// The changes from the first whose number is not below a number.
-fn changes_from(changes: &[Change], low: u32) -> &[Change]
+pub fn changes_from(changes: &[Change], low: u32) -> &[Change]
     ensures { result.now ≡ changes_from low changes.now }
 {
     let mut rest = changes;

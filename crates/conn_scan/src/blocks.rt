@@ -1,4 +1,4 @@
-ghost use Rattle.std.specs.Prelude.{◌≡◌, ℕ, ◌+◌, ◌-◌, ◌*◌, ◌^◌, ◌≤◌, nat_le, List, [], ◌∷◌, ◌++◌, All, map, IfOk, OnOk};
+ghost use Rattle.std.specs.Prelude.{◌≡◌, ℕ, ◌+◌, ◌-◌, ◌*◌, ◌^◌, ◌≤◌, List, [], ◌∷◌, ◌++◌, All, map, IfOk, OnOk};
 ghost use Rattle.std.specs.Bool.{OnTrue, OnFalse};
 ghost use Rattle.audit_terms.specs.declared.findings.Finding.{Finding as FindingTerm};
 ghost use Rattle.audit_terms.specs.declared.frames.Frame.{Frame as FrameTerm};
@@ -13,7 +13,9 @@ ghost use Rattle.conn_scan.specs.Items.{items_in, IsBlock};
 ghost use Rattle.conn_scan.specs.Block.{BlockFits};
 
 use crate::block_items::Block;
-use audit_terms::{ConnectionState, Finding, Item, Look, Place, Watch, keep_shown, put_in_order};
+use audit_terms::{
+    ConnectionState, Finding, Item, Look, Place, Watch, keep_shown, keep_up_to, put_in_order,
+};
 use std::alloc::{AllocError, Global};
 
 /// What a block of frames shows of its connection, up to where the run stopped.
@@ -87,20 +89,6 @@ fn goes_on<L: Look>(watch: &mut Watch, look: &mut L, found: &[Finding], item: &I
         → IsStopped L.answers start look.new whole (met ++ item.now.frame.number ∷ left) item.now.frame.number watch.new) }
 {
     watch.goes_on(look, found, item.frame.number)
-}
-
-/// Drops what lies past a place, where there is one.
-fn keep_up_to(found: &mut Vec<Finding>, upto: &Option<Place>)
-    ensures { found.new.items ≡ up_to upto.now found.old.items }
-{
-    if let Some(last) = upto {
-        let last = *last;
-        found.retain(
-            |one| -> bool
-                ensures { result ≡ nat_le one.now.place last }
-            { one.place <= last },
-        );
-    }
 }
 
 /// Makes of `said` what an item shows, in order, and brings the connection to its state after the item.

@@ -93,3 +93,10 @@ has-settled {M} makes jobs opening desk round parts closed settled done opened s
       places = subst (All IsStop) (sym stops_are) (last_stops-places closed 0 (drop 1 closed.desk.opened));
       heeded = not-below jobs opening sorted closed.seen closed.lowered stops board';
     }
+
+-- each part is of the round
+pub in-round : {M : Type 0} (makes : ℕ → Option ℕ → M → Type 0) (jobs : List Job) (desk : DeskId) (round : ℕ)
+    (parts sorted : List (Part M)) (closed : ClosedView) → IsDone makes jobs desk round parts closed →
+    IsPermutation parts sorted → (part : Part M) → Contains sorted part → part.round ≡ round
+in-round makes jobs desk round parts sorted closed done same part k =
+    (done.made part (Contains-permutation sorted parts part (IsPermutation-sym parts sorted same) k)).0

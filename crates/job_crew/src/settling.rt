@@ -1,4 +1,4 @@
-ghost use Rattle.std.specs.Prelude.{◌≡◌, ◌+◌, ◌<◌, All, IfOk, length};
+ghost use Rattle.std.specs.Prelude.{◌≡◌, ◌+◌, ◌<◌, All, Contains, IfOk, length};
 ghost use Rattle.std.specs.List.Sorted.{IsPermutation, IsNonDecreasingBy};
 ghost use Rattle.stop_desk.specs.Stop.{IsStop};
 ghost use Rattle.split_merge.specs.Board.{Job};
@@ -61,7 +61,9 @@ pub fn settle<R: Threads + Sync, G: Gate, P: Round>(
     requires workers { 0 < workers }
     requires places { All IsStop stops.now }
     requires connections { All (λ (job : Job). job.connection < length stops.now) (P.jobs plan.now) }
-    ensures { IfOk result (λ settled. HasSettled (P.makes plan.now) (P.jobs plan.now) stops.now settled) }
+    ensures settled { IfOk result (λ settled. HasSettled (P.makes plan.now) (P.jobs plan.now) stops.now settled) }
+    ensures round { IfOk result (λ settled. (part : PartTerm P.Made) → Contains settled.parts.items part
+        → part.round ≡ round) }
 {
     let jobs = plan.count();
     let workers = workers.min(jobs).max(1);

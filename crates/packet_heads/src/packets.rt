@@ -8,7 +8,7 @@ pub struct Endpoint {
 /// A TCP segment of a capture. Its payload stands in the capture at `lo..hi`.
 ///
 /// The fields stand by falling size, as they do in memory: so a [`Packet`] takes 64 bytes.
-#[derive(Clone, Copy, Debug, PartialEq, Eq)]
+#[derive(Clone, Copy)]
 pub struct Segment {
     /// When it was captured, in nanoseconds.
     pub nanos: u64,
@@ -27,7 +27,7 @@ pub struct Segment {
 }
 
 /// Why a packet is passed over.
-#[derive(Clone, Copy, Debug, PartialEq, Eq)]
+#[derive(Clone, Copy)]
 pub enum Skip {
     /// A frame of another type than IPv4, or one with two VLAN tags; raw IP of version 6.
     NotIpv4,
@@ -38,7 +38,7 @@ pub enum Skip {
 }
 
 /// What is wrong with a packet that cannot be read.
-#[derive(Clone, Copy, Debug, PartialEq, Eq)]
+#[derive(Clone, Copy)]
 pub enum Refusal {
     /// Fewer bytes were captured than an Ethernet header has: 14, or 18 with a VLAN tag.
     ShortEthernet,
@@ -80,7 +80,7 @@ impl Refusal {
 }
 
 /// What a record holds.
-#[derive(Clone, Copy, Debug, PartialEq, Eq)]
+#[derive(Clone, Copy)]
 pub enum Packet {
     Segment(Segment),
     Skipped(Skip),

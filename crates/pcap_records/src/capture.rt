@@ -1,5 +1,5 @@
 /// One whole record of a capture, whose packet stands in the capture at `start..start + length`.
-#[derive(Clone, Copy, Debug, PartialEq, Eq)]
+#[derive(Clone, Copy)]
 pub struct Record {
     /// When it was captured, in nanoseconds.
     pub nanos: u64,
@@ -18,7 +18,7 @@ pub const ETHERNET: u16 = 1;
 pub const RAW_IP: u16 = 101;
 
 /// The records of a capture, numbered from 1 in the order of the file.
-#[derive(Debug, Drop)]
+#[derive(Drop)]
 pub struct Records {
     /// The link type: the low 16 bits of the header's network field, [`ETHERNET`] or [`RAW_IP`].
     pub link: u16,

@@ -60,7 +60,7 @@ cut-put x y (z ∷ zs) o h s l = by_case (λ k. cut-put x y zs o.1 k s l) (conta
       rw a (past _ refl (ih k))
 
 -- so it is with all that comes after it
-cut-all : (xs ys : List Finding) →
+pub cut-all : (xs ys : List Finding) →
     ((x : Finding) → Contains xs x → (place : ℕ) × StopsAt ys place × (place < x.place)) →
     upto_stop (in_order (xs ++ ys)) ≡ upto_stop (in_order ys)
 cut-all [] ys h = refl

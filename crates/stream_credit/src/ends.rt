@@ -1,26 +1,12 @@
 //! What a walk shows at its end.
 
-ghost use Rattle.std.specs.Prelude.{◌≡◌, nat_le, if◌then◌else◌, None};
+ghost use Rattle.std.specs.Prelude.{◌≡◌, if◌then◌else◌, None};
 ghost use Rattle.audit_terms.specs.Look.{up_to};
 ghost use Rattle.stream_credit.specs.Looks.{opened_up_to};
 
 use crate::parts::StreamRun;
 use crate::walks::Walk;
-use audit_terms::{Finding, Place, Watch};
-
-/// Drops the findings past a place.
-fn keep_up_to(found: &mut Vec<Finding>, upto: &Option<Place>)
-    ensures { found.new.items ≡ up_to upto.now found.old.items }
-{
-    if let Some(place) = upto {
-        let last = place.word();
-        found.retain(
-            |one| -> bool
-                ensures { result ≡ nat_le one.now.place last }
-            { one.place.word() <= last },
-        );
-    }
-}
+use audit_terms::{Place, Watch, keep_up_to};
 
 /// The number of an opening, unless its frame lies past a place.
 fn opened_up_to(upto: &Option<Place>, opened: Option<u32>) -> Option<u32>

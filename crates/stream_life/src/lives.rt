@@ -7,7 +7,7 @@ use audit_terms::{Frame, Side, Sides, StreamLife};
 use std::marker::Model;
 
 /// What a frame is to the life of a stream.
-#[derive(Clone, Copy, Debug, PartialEq, Eq)]
+#[derive(Clone, Copy)]
 pub enum LifeOutcome {
     /// It opens the stream.
     Opened,

@@ -20,7 +20,7 @@ settle-requires-clause-connections g c κs inside =
 pub returns : goal.returns
 returns g c =
     let sums = sums-settled c.in_ok-round.round.blocks.now c.args.stops.now c.in_ok-settled.settled
-    c.in_ok-settled.ensures in
+    c.in_ok-settled.ensures.settled in
     if_ok-then c.summaries.result _ _ c.summaries.ensures (λ made is.
     subst (AreSums c.args.blocks.now) (sym is)
     (subst (λ blocks. AreSums blocks (map (λ (part : Part ConnSum). part.made) c.in_ok-settled.settled.parts.items))

@@ -13,7 +13,7 @@ settle-requires-clause-connections g c κs within =
 
 pub returns : goal.returns
 returns g c =
-    let settled = c.in_ok-settled.ensures in
+    let settled = c.in_ok-settled.ensures.settled in
     are-cuts c.args.capture.now c.args.packets.now c.args.opened.now c.in_ok-settled.settled.parts.items
     (settled.count ∙ flow_jobs-length 0 c.args.opened.now)
     (λ n part connection is there. (settled.in_order n part is).1 connection there)
