@@ -6,8 +6,8 @@
 //! - [`Ids`] are the streams that items open, [`Latest`] the settings that they bring and the lengths of their frames.
 //! - [`Block`] is a range of frames with the numbers of those that open streams and the changes of settings: its items
 //!   are walked one by one, and no list of them is made. [`items`] is that list, for who wants it. A number counts as
-//!   an opening on HEADERS alone, and numbers of no frame are passed over. [`numbers_from`] and [`changes_from`] are what a
-//!   later block needs of both.
+//!   an opening on HEADERS alone, and numbers of no frame are passed over. [`numbers_from`] and [`changes_from`] are
+//!   what a later block needs of both.
 //! - [`ConnSum`] is all of these summaries, each a lawful one of `block_scan`, and [`block_sum`] that of a block; its
 //!   parts step as the connection does ([`laws::parts_follow_the_connection`]).
 //! - [`carries_of`] is the connection before each block. [`block_findings`] is what a block shows from there, up to the
