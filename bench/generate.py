@@ -12,6 +12,17 @@ Shapes that a peer might make on purpose, each with as much of one thing as of t
   closed       streams that are reset, then acknowledgements that move the initial window
   strays       segments of pairs that were never seen to open, one for each pair
   empty        frames of nine bytes
+  hollow       records of no byte
+  openings     SYNs, each of which opens a connection
+  backwards    one connection, segments of a small frame each, the last one captured first
+  overlapping  one connection, segments of 1,400 bytes that begin 100 bytes after the one before
+  grants       WINDOW_UPDATE frames on one stream
+  settings     SETTINGS frames and their acknowledgements
+  waiting      SETTINGS frames that nobody acknowledges
+  crumbs       segments of one byte
+  promised     streams that the server promises
+  colliding    strays of pairs whose two ends differ in the same bits
+  live         open streams, then acknowledgements that move the window of each
 The same words always give the same bytes.
 """
 import struct
@@ -45,7 +56,9 @@ class Capture:
         ends = (ADDRESSES[side], ADDRESSES[1 - side])
         ip = struct.pack(">BBHIBBHII", 0x45, 0, total, 0, 64, 6, 0, *ends)
         tcp = struct.pack(">HHIIBBHHH", ports[side], ports[1 - side], seq % 2 ** 32, 0, 0x50, flags, 0, 0, 0)
-        packet = bytes(12) + b"\x08\x00" + ip + tcp + payload
+        self.record(bytes(12) + b"\x08\x00" + ip + tcp + payload)
+
+    def record(self, packet):
         self.records += 1
         head = struct.pack("<IIII", self.records // 1000000, self.records % 1000000, len(packet), len(packet))
         self.file.write(head + packet)
@@ -165,16 +178,102 @@ def empty(capture, size):
         one.send(CLIENT, 160 * frame(0, 0, 1))
 
 
+def hollow(capture, size):
+    while capture.size < size:
+        capture.record(b"")
+
+
+def openings(capture, size):
+    while capture.size < size:
+        capture.segment((40000, 80), CLIENT, capture.records, SYN)
+
+
+def backwards(capture, size):
+    one = Connection(capture, 40000)
+    one.send(CLIENT, frame(1, 4, 1))
+    payload = frame(0, 0, 1, b"abcdefghijk")
+    for number in reversed(range((size - capture.size) // 90)):
+        capture.segment(one.ports, CLIENT, one.next[CLIENT] + number * len(payload), ACK, payload)
+
+
+def overlapping(capture, size):
+    one = Connection(capture, 40000)
+    one.send(CLIENT, frame(1, 4, 1))
+    payload = 14 * frame(0, 0, 1, bytes(91))
+    while capture.size < size:
+        capture.segment(one.ports, CLIENT, one.next[CLIENT], ACK, payload)
+        one.next[CLIENT] += 100
+
+
+def grants(capture, size):
+    one = Connection(capture, 40000)
+    one.send(CLIENT, frame(1, 4, 1))
+    while capture.size < size:
+        one.send(SERVER, 110 * window_update(1, 1))
+
+
+def settings(capture, size):
+    one = Connection(capture, 40000)
+    while capture.size < size:
+        one.send(CLIENT, 90 * frame(4, 0, 0, struct.pack(">HI", 4, 65535)))
+        one.send(SERVER, 90 * frame(4, 1, 0))
+
+
+def waiting(capture, size):
+    one = Connection(capture, 40000)
+    while capture.size < size:
+        one.send(CLIENT, 160 * frame(4, 0, 0))
+
+
+def crumbs(capture, size):
+    one = Connection(capture, 40000)
+    one.send(CLIENT, frame(1, 4, 1))
+    while capture.size < size:
+        one.send(CLIENT, frame(0, 0, 1), most=1)
+
+
+def promised(capture, size):
+    one = Connection(capture, 40000)
+    one.send(CLIENT, frame(1, 4, 1))
+    stream = 2
+    while capture.size < size:
+        one.send(SERVER, b"".join(frame(5, 4, 1, struct.pack(">I", stream + 2 * i)) for i in range(110)))
+        stream += 220
+
+
+def colliding(capture, size):
+    global ADDRESSES
+    number = 0
+    while capture.size < size:
+        port = 1 + number % 65535
+        ADDRESSES = (0x0A000000 + number, 0x0B000000 + number)
+        capture.segment((port, port), CLIENT, 1, ACK, b"a")
+        number += 1
+
+
+def live(capture, size):
+    one = Connection(capture, 40000)
+    stream = 1
+    while capture.size < size / 2:
+        one.send(CLIENT, frame(1, 4, stream))
+        stream += 2
+    value = 1
+    while capture.size < size:
+        value = 65536 - value
+        one.send(SERVER, frame(4, 0, 0, struct.pack(">HI", 4, value)))
+        one.send(CLIENT, frame(4, 1, 0))
+
+
 def next_client():
     """The next client address, where the ports of one are used up."""
     global ADDRESSES
     ADDRESSES = (ADDRESSES[0] + 256, ADDRESSES[1])
 
 
-SHAPES = {
-    each.__name__: each
-    for each in (bulk, small, connections, chatty, calls, streams, closed, strays, empty)
-}
+USUAL = (bulk, small, connections, chatty, calls, streams)
+HOSTILE = (
+    closed, strays, colliding, empty, hollow, openings, backwards, overlapping, grants, settings, waiting, crumbs, promised)
+SHAPES = {each.__name__: each for each in USUAL + HOSTILE + (live,)}
 
 
 def main():

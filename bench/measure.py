@@ -1,7 +1,8 @@
 #!/usr/bin/env python3
-"""Measures a program: measure.py PROGRAM [--beside OTHER] [--shapes NAME,..] [MEGABYTES ..]   (10, 40 and 160 if none is given)
+"""Measures a program: measure.py PROGRAM [--beside OTHER] [--shapes NAME,..] [MEGABYTES ..]
 
-For each shape of capture and each size, of three runs each in turn: the least processor time with one worker, the least wall time
+Without MEGABYTES these are 10, 40 and 160, of shapes that a peer might make on purpose 12.5, 25, 50 and 100, and of `live`, which
+is quadratic, as many hundredths. For each shape of capture and each size, of three runs each in turn: the least processor time with one worker, the least wall time
 with one and with four, and the greatest peak of memory. `cat` runs beside it, and so does an older program where one is named; all
 have the capture on standard input and their output thrown away. Prints one line each, with ratios and the growth from the size
 before, since absolute times say more of the machine than of the program.
@@ -13,10 +14,11 @@ import sys
 import tempfile
 import time
 
-from generate import SHAPES
+from generate import HOSTILE, SHAPES, USUAL, live
 
 HERE = os.path.dirname(os.path.abspath(__file__))
 RUNS = 3
+SIZES = [(USUAL, (10, 40, 160)), (HOSTILE, (12.5, 25, 50, 100)), ((live,), (0.125, 0.25, 0.5, 1))]
 
 
 def once(words, path):
@@ -44,12 +46,16 @@ def line_of(shape, path, program, beside, before):
     one, four, cat, *other = best(commands, path)
     peak = max(one[2], four[2])
     grown = (one[1] / before[0], peak / before[1]) if before else (0, 0)
-    text = "%-11s %5.0f  %8.3f %5.0f %6.1f  %8.2f  %8.1f %6.2f %6.1f" % (
+    text = "%-11s %5.3g  %8.3f %5.0f %6.1f  %8.2f  %8.1f %6.2f %6.1f" % (
         shape, size, one[1], one[1] / cat[1], grown[0], four[0] / one[0], peak, peak / size, grown[1])
     if other:
         text += "  %6.2f %6.2f" % (one[1] / other[0][1], peak / other[0][2])
     print(text, flush=True)
     return one[1], peak
+
+
+def sizes_of(shape):
+    return next(sizes for shapes, sizes in SIZES if SHAPES[shape] in shapes)
 
 
 def main():
@@ -64,7 +70,7 @@ def main():
     print("shape          MB   seconds x cat growth   to one    peak MB x file growth    time memory")
     for shape in asked.shapes.split(","):
         before = None
-        for size in asked.megabytes or [10, 40, 160]:
+        for size in asked.megabytes or sizes_of(shape):
             with tempfile.TemporaryDirectory() as folder:
                 path = os.path.join(folder, "capture.pcap")
                 subprocess.run([sys.executable, os.path.join(HERE, "generate.py"), shape, str(size), path], check=True)

@@ -1,0 +1,174 @@
+#!/usr/bin/python3
+"""Refuses each growth, thread, read and write of a program in turn: tools/tests/refusals_test.py PROGRAM
+
+refuse.c is loaded before the C library and makes one call fail. A run whose call is refused either says so, with the status and
+the line that README.md names and nothing on standard output, or gives the same answer as a run that meets no refusal. Only after
+a failed write is there more on standard output: a beginning of the report. A thread that cannot be had changes nothing, and
+neither does a read or a write of a single byte.
+"""
+
+import itertools
+import os
+import pathlib
+import struct
+import subprocess
+import sys
+import tempfile
+import unittest
+
+TOP = pathlib.Path(__file__).resolve().parents[2]
+sys.path.insert(0, str(TOP / "bench"))
+sys.dont_write_bytecode = True
+
+from generate import CLIENT, SERVER, Capture, Connection, frame, window_update  # noqa: E402
+
+HEADERS, PADDED, END_HEADERS = 1, 8, 4
+OUT_OF_MEMORY = (5, b"", b"h2audit: out of memory\n")
+READ_FAILED = (4, b"", b"h2audit: read failed\n")
+WRITE_FAILED = (4, b"h2audit: write failed\n")
+
+
+def one_frame(one, side, data):
+    """A frame in a record of its own."""
+    one.send(side, data, most=len(data))
+
+
+def padded_stall(capture):
+    """Content that uses up both windows of its side."""
+    one = Connection(capture, 40000)
+    one_frame(one, CLIENT, frame(HEADERS, END_HEADERS, 1))
+    for _ in range(3):
+        one_frame(one, CLIENT, frame(0, 0, 1, bytes(16384)))
+    one_frame(one, CLIENT, frame(0, PADDED, 1, bytes([10]) + bytes(16382)))
+
+
+def first_error_below_overflow(capture):
+    """An error of one stream, and after it one of the connection."""
+    one = Connection(capture, 40000)
+    for stream in (1, 3):
+        one_frame(one, CLIENT, frame(HEADERS, END_HEADERS, stream))
+    one_frame(one, SERVER, window_update(9, 1))
+    one_frame(one, SERVER, window_update(0, 2147418113))
+    one_frame(one, CLIENT, frame(0, 0, 11))
+
+
+def many_connections(capture):
+    """Connections enough for several workers, strays, and a record of no byte."""
+    for port in range(40000, 40006):
+        one = Connection(capture, port)
+        one.send(CLIENT, frame(HEADERS, END_HEADERS, 1) + frame(0, 0, 1, bytes(100)))
+        one.send(SERVER, frame(4, 0, 0, struct.pack(">HI", 4, 0)))
+        one.send(CLIENT, frame(4, 1, 0))
+    capture.segment((50000, 80), CLIENT, 1, 0x10, b"a")
+    capture.record(b"")
+
+
+def long_connection(capture):
+    """Frames enough for several workers to share one connection."""
+    one = Connection(capture, 40000)
+    for stream in range(1, 401, 2):
+        one.send(CLIENT, frame(HEADERS, END_HEADERS, stream))
+        for _ in range(12):
+            one.send(CLIENT, frame(0, 0, stream, bytes(50)))
+            one.send(SERVER, window_update(0, 50))
+
+
+class Refusals(unittest.TestCase):
+    @classmethod
+    def setUpClass(cls):
+        cls.folder = tempfile.TemporaryDirectory()
+        cls.addClassCleanup(cls.folder.cleanup)
+        home = pathlib.Path(cls.folder.name)
+        cls.shim, cls.met = home / "refuse.so", home / "met"
+        source = pathlib.Path(__file__).with_name("refuse.c")
+        subprocess.run(["cc", "-O2", "-shared", "-fPIC", "-o", cls.shim, source], check=True)
+        cls.captures = {}
+        for script in (padded_stall, first_error_below_overflow, many_connections, long_connection):
+            path = cls.captures[script.__name__] = home / script.__name__
+            with open(path, "wb") as file:
+                script(Capture(file))
+        header = struct.pack("<IHHIIII", 0xA1B2C3D4, 2, 4, 0, 0, 262144, 1)
+        for name, data in (("no_record", header), ("pcapng", b"\n\r\r\n" + bytes(20))):
+            cls.captures[name] = home / name
+            cls.captures[name].write_bytes(data)
+
+    def run_program(self, words, refused="none 0", source=None):
+        """Status and both outputs, and whether the refused call was made."""
+        self.met.unlink(missing_ok=True)
+        surroundings = dict(os.environ, LD_PRELOAD=str(self.shim), REFUSE=refused, MET=str(self.met))
+        with open(source or os.devnull, "rb") as given:
+            ended = subprocess.run([PROGRAM, *words], stdin=given, capture_output=True, env=surroundings, timeout=60)
+        return (ended.returncode, ended.stdout, ended.stderr), self.met.exists()
+
+    def each_refused(self, kind, words, source=None):
+        """The answer of a run with no refusal, and then of each run in which the first, second .. call is refused."""
+        whole, _ = self.run_program(words, source=source)
+        answers = []
+        for number in itertools.count(1):
+            answer, met = self.run_program(words, f"{kind} {number}", source)
+            if not met:
+                self.assertEqual(answer, whole)
+                return whole, answers
+            answers.append(answer)
+
+    def growths(self, words, status, source=None):
+        whole, answers = self.each_refused("growth", words, source)
+        self.assertEqual(whole[0], status)
+        self.assertEqual(answers[:1], [OUT_OF_MEMORY])
+        for number, answer in enumerate(answers, 1):
+            self.assertIn(answer, (whole, OUT_OF_MEMORY), f"growth {number}")
+
+    def test_growths(self):
+        for name, workers, status in (
+            ("padded_stall", 1, 0),
+            ("padded_stall", 2, 0),
+            ("first_error_below_overflow", 2, 1),
+            ("many_connections", 2, 0),
+            ("long_connection", 4, 0),
+            ("no_record", 4, 0),
+            ("pcapng", 4, 3),
+        ):
+            with self.subTest(name, workers=workers):
+                self.growths(["--workers", str(workers), "--frames", str(self.captures[name])], status)
+        with self.subTest("standard input"):
+            self.growths([], 0, self.captures["padded_stall"])
+
+    def test_growths_of_words(self):
+        for words, status in ((["--help"], 0), (["--workers", "0"], 2), (["/nothing/there"], 4)):
+            with self.subTest(words):
+                self.growths(words, status)
+
+    def test_threads(self):
+        for name in ("many_connections", "long_connection"):
+            with self.subTest(name):
+                words = ["--workers", "4", "--groups", "8", "--block", "64", str(self.captures[name])]
+                whole, answers = self.each_refused("thread", words)
+                self.assertNotEqual(answers, [])
+                self.assertEqual(set(answers), {whole})
+
+    def test_reads(self):
+        for name in self.captures:
+            with self.subTest(name):
+                path = str(self.captures[name])
+                _, answers = self.each_refused("read", [path])
+                self.assertEqual(set(answers), {READ_FAILED})
+                whole, answers = self.each_refused("read-one", [path])
+                self.assertEqual(set(answers), {whole})
+
+    def test_writes(self):
+        for name in ("no_record", "padded_stall"):
+            path = str(self.captures[name])
+            for kind, taken in (("write", 0), ("write-none", 0), ("drip", 3)):
+                with self.subTest(name, kind=kind):
+                    whole, answers = self.each_refused(kind, [path])
+                    self.assertEqual(len(answers), -(-len(whole[1]) // taken) if taken else 1)
+                    for number, (status, text, line) in enumerate(answers):
+                        self.assertEqual((status, line), WRITE_FAILED)
+                        self.assertEqual(text, whole[1][:number * taken])
+            whole, answers = self.each_refused("write-one", [path])
+            self.assertEqual(set(answers), {whole})
+
+
+if __name__ == "__main__":
+    PROGRAM = os.path.abspath(sys.argv.pop(1))
+    unittest.main()
