@@ -12,7 +12,8 @@
 //!
 //! All that was found of a connection, with the faults of single frames and the acknowledgements that answer nothing,
 //! is put in order and cut at the first error, and so makes the pass ([`laws::rounds_settle`]). A batch is consecutive
-//! connections that have not too many frames together.
+//! connections that have not too many frames together. Of a long connection a front goes through the rounds first: what
+//! an early error ends is then never split, gone through or kept ([`laws::fronts_settle`]).
 #![tactic(auto)]
 
 mod beginnings;
