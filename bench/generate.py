@@ -8,6 +8,7 @@ Shapes:
   chatty       one connection, one stream, many frames of a few bytes in each segment
   calls        one connection, a thousand streams that take turns with messages of 1,000 bytes
   streams      one connection, streams of three frames each
+  early        the same, after a grant that brings the connection's window above the largest
 Shapes that a peer might make on purpose, each with as much of one thing as of the other:
   closed       streams that are reset, then acknowledgements that move the initial window
   strays       segments of pairs that were never seen to open, one for each pair
@@ -139,7 +140,16 @@ def calls(capture, size):
 
 
 def streams(capture, size):
+    three_frames_each(capture, size, Connection(capture, 40000))
+
+
+def early(capture, size):
     one = Connection(capture, 40000)
+    one.send(CLIENT, window_update(0, 2 ** 31 - 1))
+    three_frames_each(capture, size, one)
+
+
+def three_frames_each(capture, size, one):
     stream = 1
     while capture.size < size:
         one.send(CLIENT, frame(1, 5, stream))
@@ -270,7 +280,7 @@ def next_client():
     ADDRESSES = (ADDRESSES[0] + 256, ADDRESSES[1])
 
 
-USUAL = (bulk, small, connections, chatty, calls, streams)
+USUAL = (bulk, small, connections, chatty, calls, streams, early)
 HOSTILE = (
     closed, strays, colliding, empty, hollow, openings, backwards, overlapping, grants, settings, waiting, crumbs, promised)
 SHAPES = {each.__name__: each for each in USUAL + HOSTILE + (live,)}

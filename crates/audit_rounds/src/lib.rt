@@ -15,6 +15,8 @@
 //! is put in order and cut at the first error, and so makes the pass. A batch is consecutive connections that have not
 //! too many frames together: it bounds what the rounds need beside the frames, and lets threads start once for many
 //! small connections. Jobs have numbers of 32 bits; a plan with more would be answered as want of memory.
+//! Of a long connection a front goes through the rounds first: what an early error ends is then neither split nor gone
+//! through.
 //!
 //! - [`laws::rounds_make_the_pass`]: local faults, unmatched acknowledgements, what is shown of the streams and of the
 //!   blocks make what is shown of the pass, for every cut of the frames into blocks. Credits that no line shows are
@@ -23,12 +25,14 @@
 //!   blocks are those of the frames up to it, that frame included ([`laws::openings_are_told`]: the openings up to it
 //!   are known). A job of several streams goes up to the least of the places of its runs; what it found past that may
 //!   stay.
+//! - [`laws::fronts_settle`]: where the pass over a front shows an error of the connection, the pass over all of its
+//!   frames shows the same.
 //! - [`laws::openings_are_found`] and [`laws::items_are_found`]: the numbers that streams tell, and the changes, make
 //!   the items of the pass.
 //!
 //! Wrong bodies that the prover refuses: openings not handed on, a block that starts from the connection's start, a
-//! clear block left out though credits are shown, the greatest place of several runs. Tested by whole reports, in three
-//! mixes of workers, groups and block lengths: that the call succeeds where there is memory.
+//! clear block left out though credits are shown, the greatest place of several runs. Tested by whole reports, in
+//! many mixes of workers, groups and block lengths: that the call succeeds where there is memory.
 #![tactic(auto)]
 
 mod beginnings;

@@ -16,13 +16,17 @@ pub fn merge(alloc: Global, lists: Vec<Vec<Finding>>) -> Result<Vec<Finding>, Al
     Ok(all)
 }
 
-/// The findings of all lists, one list after the other.
+/// The findings of all lists, one list after the other. The first that has some is taken as it is.
 fn joined(alloc: Global, lists: Vec<Vec<Finding>>) -> Result<Vec<Finding>, AllocError>
     ensures { IfOk result (λ all. all.items ≡ flat_map (λ list. list.items) lists.items) }
 {
     let mut all = Vec::new(alloc);
-    for list in lists {
-        all.extend_from_slice(list.as_slice())?;
+    for mut list in lists {
+        if all.is_empty() {
+            all = list;
+        } else {
+            all.append(&mut list)?;
+        }
     }
     Ok(all)
 }

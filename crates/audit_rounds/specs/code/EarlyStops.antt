@@ -1,6 +1,6 @@
 -- Connections of which a front is gone through first.
 use Rattle.std.specs.Global.{Global}
-use Rattle.std.specs.Prelude.{ℕ, ◌/◌, nat_lt, Bool, if◌then◌else◌, List, [], Vec, length, take}
+use Rattle.std.specs.Prelude.{◌/◌, nat_lt, Bool, if◌then◌else◌, List, [], Vec, length, take}
 use Rattle.std.specs.List.{list_any}
 use Rattle.audit_terms.specs.declared.findings.Finding.{Finding}
 use Rattle.audit_terms.specs.declared.frames.Frame.{Frame}

@@ -1,11 +1,11 @@
-use Rattle.std.proofs.Common.{◌≡◌, List, Bor, Vec, Global, map, length, sym, ap, ◌∙◌, subst}
+use Rattle.std.proofs.Common.{◌≡◌, List, Bor, Vec, Global, map, length, sym, ap, ◌∙◌}
 use Rattle.std.specs.List.{zip}
 use Rattle.std.proofs.lemmas.List.{length-map}
 use Rattle.audit_terms.specs.declared.findings.Finding.{Finding}
 use Rattle.audit_terms.specs.declared.frames.Frame.{Frame}
 use Rattle.audit_terms.specs.Finding.{shown}
 use Rattle.audit_terms.specs.Pass.{pass}
-use Rattle.audit_rounds.specs.code.EarlyStops.{front_of, begun_of, found_with, chosen_of}
+use Rattle.audit_rounds.specs.code.EarlyStops.{begun_of, found_with, chosen_of}
 use Rattle.audit_rounds.proofs.ByFronts.{laters_of, orderly-fronts, orderly-laters, shown-fronts, shown-laters, as-many-early, as-many-later, chosen-pass}
 use Rattle.audit_rounds.proofs.Whole.{if_ok-then}
 use Rattle.audit_rounds.proofs.early_stops.findings_by_fronts.Goals as goal
