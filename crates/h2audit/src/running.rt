@@ -37,7 +37,8 @@ pub fn run<R: Read, W: Write>(
     requires unread { IsUnread reader.old }
     requires unwritten { IsUnwritten writer.old }
     ensures tells { Tells reader.new writer.new (choices options.now).frames_shown result }
-    ensures given { IfSome (R.remaining reader.old.reader) (λ bytes. IsReadToEnd reader.new → given reader.new ≡ take (2 ^ 31) bytes) }
+    ensures given { IfSome (R.remaining reader.old.reader) (λ bytes.
+        IsReadToEnd reader.new → given reader.new ≡ take (2 ^ 31) bytes) }
     ensures taken { Appends (W.contents writer.old.writer) (W.contents writer.new.writer) (written writer.new) }
     ensures leaves { IfSome (R.remaining reader.old.reader) (λ bytes. Leaves bytes (choices options.now).frames_shown
         (W.contents writer.old.writer) (W.contents writer.new.writer) result) }
