@@ -16,7 +16,7 @@ _h2audit() {
     --block) _h2audit_offer -W '1 64 1024 4096 16384 65536 1048576' -- "$word" ;;
     *)
         case $word in
-        -*) _h2audit_offer -W '--workers --groups --block --frames --help -h' -- "$word" ;;
+        -*) _h2audit_offer -W '--workers --groups --block --frames --help -h --version -V' -- "$word" ;;
         *) _h2audit_offer -f -- "$word" ;;
         esac
         ;;

@@ -27,13 +27,22 @@ def output_of(*words, **more):
 def options_of(name):
     """The long options of a program's help."""
     if name == "h2audit":
-        text = re.search(r'const HELP: &str = "(.*?)";', HELP_OF_H2AUDIT.read_text(), re.S)[1]
+        text = re.search(r'const HELP: &str = "(.*?)(?<!\\)";', HELP_OF_H2AUDIT.read_text(), re.S)[1]
     else:
         text = output_of(TOP / "tools" / name, "--help").split("\noptions:\n")[1]
     return sorted(set(OPTION.findall(text)))
 
 
 PROGRAMS = {name: options_of(name) for name in ("h2audit", "h2audit-plot")}
+
+
+class Version(unittest.TestCase):
+    def test_package(self):
+        """The package has the version that the program prints."""
+        source = (TOP / "crates" / "h2audit" / "src" / "command.rt").read_text()
+        version = re.search(r'const VERSION: &str = "(.*)";', source)[1]
+        changelog = (TOP / "tools" / "package" / "changelog").read_text()
+        self.assertTrue(changelog.startswith(f"h2audit ({version}) "))
 
 
 class Man(unittest.TestCase):

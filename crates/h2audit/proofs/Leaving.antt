@@ -1,14 +1,17 @@
 -- What a run on the front of a reader's bytes leaves is what a run on all of them leaves.
-use Rattle.std.proofs.Common.{◌≡◌, ◌∙◌, ℕ, Bool, ◌<◌, ◌≤◌, min, List, length, take, Option, Some, None, IfSome, Ok, Err, sym, ap, subst, arith}
+use Rattle.std.proofs.Common.{◌≡◌, ◌∙◌, ℕ, Bool, ◌<◌, ◌≤◌, min, List, ◌++◌, length, take, Option, Some, None, IfSome, Ok, Err, sym, ap, subst, arith}
 use Rattle.std.specs.Prelude.{Result}
-use Rattle.std.proofs.lemmas.List.{take_all, length-take}
+use Rattle.std.proofs.lemmas.List.{append-nil, length-take, take_all}
+use Rattle.std.specs.Io.KnownBytes.{Appends, Keeps}
 use Rattle.pcap_records.specs.Refusal.{refusal}
 use Rattle.pcap_records.proofs.Sizes.{front_decides_lem, allowed_is_short_lem}
+use Rattle.h2audit.specs.Account.{IsReadToEnd, Tells, given, written}
 use Rattle.h2audit.specs.Report.{IsReport}
 use Rattle.h2audit.specs.Run.{IsJudged, Leaves}
 use Rattle.h2audit.specs.declared.fault.AuditFault.{AuditFault}
 use Rattle.h2audit.specs.declared.fault.AuditFault.TheVariants as fault
-use Rattle.h2audit.specs.declared.seen.Seen.{Seen}
+use Rattle.h2audit.specs.declared.capture_reader.CaptureReader.{CaptureReader}
+use Rattle.h2audit.specs.declared.report_writer.ReportWriter.{ReportWriter}
 use Rattle.h2audit.specs.declared.verdict.Verdict.{Verdict}
 
 -- a fact of the value that entails another
@@ -29,24 +32,46 @@ report_of_front : (all front : List ℕ) (shown : Bool) (text : List ℕ) (verdi
 report_of_front all front shown text verdict is report =
     subst (λ (bytes : List ℕ). IsReport bytes shown text verdict) (front_is_whole all front is report.taken) report
 
-pub leaves_by_front : (all front : List ℕ) (shown : Bool) (old new : Option (List ℕ))
-    (answer : Result Verdict AuditFault)
-    → front ≡ take 2147483648 all → Leaves front shown old new answer → Leaves all shown old new answer
-leaves_by_front all front shown old new (Ok verdict) is left =
-    (left.0, report_of_front all front shown left.0 verdict is left.1, left.2)
-leaves_by_front all front shown old new (Err fault.Write) is left =
-    (left.0, left.1, left.2, report_of_front all front shown left.0 left.1 is left.3, left.4)
-leaves_by_front all front shown old new (Err (fault.Pcap e)) is left =
-    (sym (ap refusal is ∙ front_decides_lem all) ∙ left.0, left.1)
-leaves_by_front all front shown old new (Err fault.Read) is left = left
-leaves_by_front all front shown old new (Err fault.OutOfMemory) is left = left
-leaves_by_front all front shown old new (Err fault.Worker) is left = left
+-- nothing was appended
+pub keeps_unwritten : (old new : Option (List ℕ)) (n : ℕ) (text : List ℕ) → n ≡ 0 → Appends old new (take n text) → Keeps old new
+keeps_unwritten None new n text none appends = tt
+keeps_unwritten (Some xs) None n text none appends = absurd appends
+keeps_unwritten (Some xs) (Some ys) n text none appends =
+    (appends ∙ ap (λ (k : ℕ). xs ++ take k text) none) ∙ append-nil xs
 
-pub judged_by_front : (all front : List ℕ) (seen : Seen) (answer : Result Verdict AuditFault)
-    → front ≡ take 2147483648 all → IsJudged front seen answer → IsJudged all seen answer
-judged_by_front all front seen (Ok verdict) is judged = judged
-judged_by_front all front seen (Err fault.OutOfMemory) is judged = λ room. sym (ap refusal is ∙ front_decides_lem all) ∙ judged room
-judged_by_front all front seen (Err fault.Write) is judged = judged
-judged_by_front all front seen (Err (fault.Pcap e)) is judged = judged
-judged_by_front all front seen (Err fault.Read) is judged = judged
-judged_by_front all front seen (Err fault.Worker) is judged = judged
+module _ {R W : Type 0} where
+  -- what the accounts tell, of a reader and a writer that tell their bytes
+  pub leaves_by_account : (all : List ℕ) (reader : CaptureReader R) (writer : ReportWriter W) (shown : Bool)
+      (old new : Option (List ℕ)) (answer : Result Verdict AuditFault)
+      → (IsReadToEnd reader → given reader ≡ take 2147483648 all)
+      → Tells reader writer shown answer → Appends old new (written writer) → Leaves all shown old new answer
+  leaves_by_account all reader writer shown old new (Ok verdict) is told appends =
+      (written writer, report_of_front all (given reader) shown (written writer) verdict (is told.0) told.1, appends)
+  leaves_by_account all reader writer shown old new (Err fault.Write) is told appends = (
+    told.2.0,
+    told.2.1,
+    told.2.2,
+    report_of_front all (given reader) shown told.2.0 told.2.1 (is told.0) told.2.3,
+    subst (Appends old new) told.2.4 appends,
+  )
+  leaves_by_account all reader writer shown old new (Err (fault.Pcap e)) is told appends = (
+    sym (ap refusal (is told.0) ∙ front_decides_lem all) ∙ told.1,
+    keeps_unwritten old new writer.written writer.text.items told.2.written appends,
+  )
+  leaves_by_account all reader writer shown old new (Err fault.Read) is told appends =
+      keeps_unwritten old new writer.written writer.text.items told.1.written appends
+  leaves_by_account all reader writer shown old new (Err fault.OutOfMemory) is told appends =
+      keeps_unwritten old new writer.written writer.text.items told.2.written appends
+  leaves_by_account all reader writer shown old new (Err fault.Worker) is told appends = told
+
+  pub judged_by_account : (all : List ℕ) (reader : CaptureReader R) (writer : ReportWriter W) (shown : Bool)
+      (answer : Result Verdict AuditFault)
+      → (IsReadToEnd reader → given reader ≡ take 2147483648 all)
+      → Tells reader writer shown answer → IsJudged all reader.lacked_memory answer
+  judged_by_account all reader writer shown (Ok verdict) is told = tt
+  judged_by_account all reader writer shown (Err fault.OutOfMemory) is told =
+      λ room. sym (ap refusal (is (told.1 room).0) ∙ front_decides_lem all) ∙ (told.1 room).1
+  judged_by_account all reader writer shown (Err fault.Write) is told = tt
+  judged_by_account all reader writer shown (Err (fault.Pcap e)) is told = tt
+  judged_by_account all reader writer shown (Err fault.Read) is told = tt
+  judged_by_account all reader writer shown (Err fault.Worker) is told = tt

@@ -4,9 +4,9 @@ use Rattle.std.specs.Bool.{Decides}
 use Rattle.std.specs.Str.Parse.{IsNumeral, digits_value, without_leading_plus}
 use Rattle.clap.specs.Words.{IsAmong, Row, Text, fault_of, first_of, matches_of, one_of}
 use Rattle.clap.specs.declared.error.kind.ErrorKind.{ErrorKind}
-use Rattle.clap.specs.declared.error.kind.ErrorKind.TheVariants.{DisplayHelp}
+use Rattle.clap.specs.declared.error.kind.ErrorKind.TheVariants.{DisplayHelp, DisplayVersion}
 use Rattle.h2audit.specs.declared.words.Parsed.{Parsed}
-use Rattle.h2audit.specs.declared.words.Parsed.TheVariants.{Run, Help, Refused}
+use Rattle.h2audit.specs.declared.words.Parsed.TheVariants.{Run, Help, Refused, Version}
 use Rattle.h2audit.specs.Choices.{Choices, choices}
 use Rattle.h2audit.specs.Words.{app}
 
@@ -27,11 +27,12 @@ pub record IsFound (found : List Row) (asked : Choices) : Type 0 where
   pub frames_shown : Decides asked.frames_shown (one_of (codes "frames") found ≡ Some (codes "true"))
 
 -- what is asked for: an audit where clap finds no fault in the words, with the options and the path that it finds; help
--- where that is what they ask for; why they are refused where they have another fault
+-- or the version where that is what they ask for; why they are refused where they have another fault
 abbrev pub Asks : (words : List Text) → Parsed → Type 0
 Asks words (Run options file) = (fault_of app words ≡ [])
     × IsFound (matches_of app words) (choices options)
     × (option_map string_bytes file ≡ first_of (codes "FILE") (matches_of app words))
 Asks words (Help text) = IsAmong DisplayHelp (fault_of app words)
+Asks words (Version text) = IsAmong DisplayVersion (fault_of app words)
 Asks words (Refused text) =
-    (kind : ErrorKind) × IsAmong kind (fault_of app words) × (kind ≡ DisplayHelp → ⊥)
+    (kind : ErrorKind) × IsAmong kind (fault_of app words) × (kind ≡ DisplayHelp → ⊥) × (kind ≡ DisplayVersion → ⊥)

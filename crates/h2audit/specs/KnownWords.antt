@@ -1,7 +1,7 @@
 -- What the command line makes of words that a reader can follow by hand.
 use Rattle.std.specs.Prelude.{◌≡◌, true, false, List, [], ◌∷◌, Option, None, Some, codes}
 use Rattle.clap.specs.Words.{Text, fault_of, first_of, matches_of}
-use Rattle.clap.specs.declared.error.kind.ErrorKind.TheVariants.{DisplayHelp, UnknownArgument, ValueValidation}
+use Rattle.clap.specs.declared.error.kind.ErrorKind.TheVariants.{DisplayHelp, DisplayVersion, UnknownArgument, ValueValidation}
 use Rattle.h2audit.specs.Choices.{Choices}
 use Rattle.h2audit.specs.Asked.{IsFound}
 use Rattle.h2audit.specs.Words.{app}
@@ -20,6 +20,7 @@ pub record KnownWords : Type 0 where
       (record { workers = 64; groups = 1; block = 1048576; frames_shown = true })
       (Some (codes "capture.pcap"))
   pub help : fault_of app (codes "--help" ∷ []) ≡ DisplayHelp ∷ []
+  pub version : fault_of app (codes "--version" ∷ []) ≡ DisplayVersion ∷ []
   pub zero : fault_of app (codes "--workers" ∷ codes "0" ∷ []) ≡ ValueValidation ∷ []
   pub above : fault_of app (codes "--workers" ∷ codes "65" ∷ []) ≡ ValueValidation ∷ []
   pub unknown : fault_of app (codes "--unknown" ∷ []) ≡ UnknownArgument ∷ []

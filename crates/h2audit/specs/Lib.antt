@@ -1,7 +1,7 @@
 pub mod Options
 pub mod Choices
 pub mod Ending
-pub mod Seen
+pub mod Account
 pub mod Audited
 pub mod Report
 pub mod Run

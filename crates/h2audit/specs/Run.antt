@@ -5,7 +5,6 @@ use Rattle.pcap_records.specs.Refusal.{refusal}
 use Rattle.h2audit.specs.Report.{IsReport}
 use Rattle.h2audit.specs.declared.fault.AuditFault.{AuditFault}
 use Rattle.h2audit.specs.declared.fault.AuditFault.TheVariants as fault
-use Rattle.h2audit.specs.declared.seen.Seen.{Seen}
 use Rattle.h2audit.specs.declared.verdict.Verdict.{Verdict}
 
 -- why these bytes have no report: they are refused, by this name; or they are not, and memory was wanting
@@ -26,7 +25,7 @@ Leaves bytes shown old new (Err (fault.Pcap e)) = (refusal bytes ≡ Some e) × 
 Leaves bytes shown old new (Err fault.Worker) = ⊥
 Leaves bytes shown old new (Err _) = Keeps old new
 
--- a capture for whose bytes there was room is judged: want of memory is answered only where it is not refused
-abbrev pub IsJudged : List ℕ → Seen → Result Verdict AuditFault → Type 0
-IsJudged bytes seen (Err fault.OutOfMemory) = seen.room_refused ≡ false → refusal bytes ≡ None
-IsJudged bytes seen _ = Unit {0}
+-- a capture for whose bytes there was memory is judged: want of memory is answered only where it is not refused
+abbrev pub IsJudged : List ℕ → (lacked_memory : Bool) → Result Verdict AuditFault → Type 0
+IsJudged bytes lacked_memory (Err fault.OutOfMemory) = lacked_memory ≡ false → refusal bytes ≡ None
+IsJudged bytes lacked_memory _ = Unit {0}

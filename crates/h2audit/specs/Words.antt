@@ -24,9 +24,9 @@ frames_rule = record (new_rule (codes "frames")) { long = Some (codes "frames");
 abbrev pub file_rule : Rule
 file_rule = new_rule (codes "FILE")
 
--- the command before its arguments: the words do not begin with the program's name
+-- the command before its arguments: it has a version, and the words do not begin with the program's name
 abbrev pub command_start : App
-command_start = on_top (λ shape. record shape { no_binary_name = true }) (new_app (codes "h2audit"))
+command_start = on_top (λ shape. record shape { has_version = true; no_binary_name = true }) (new_app (codes "h2audit"))
 
 -- `h2audit [--workers N] [--groups N] [--block N] [--frames] [FILE]`
 abbrev pub app : App

@@ -1,3 +1,3 @@
-pub mod Account
+pub mod Reading
 pub mod Numbers
 pub mod Flows

@@ -48,6 +48,12 @@ fn command<'a>(alloc: Global) -> Result<Command<'a>, AllocError>
     with(command, file_word(alloc))
 }
 
+/// The version of the program and of its report.
+const VERSION: &str = "1.0.0";
+
+const BLAME: &str =
+    "Overflow lines name the victim: see \"Who is to blame\" in README.md, or \"Who broke the rule\" in h2audit(1).";
+
 const ABOUT: &str = "Audits the HTTP/2 flow control of a classic pcap capture (Ethernet, IPv4)";
 
 const WORKERS_HELP: &str = "Threads that share the work, from 1 to 64";
@@ -64,7 +70,9 @@ fn bare_command<'a>(alloc: Global) -> Command<'a>
     ensures { app_of result ≡ command_start }
 {
     Command::new(alloc, "h2audit")
+        .version(VERSION)
         .about(ABOUT)
+        .after_help(BLAME)
         .no_binary_name(true)
 }
 

@@ -36,26 +36,30 @@
 #![tactic(auto)]
 
 mod auditing;
+mod capture_reader;
 mod command;
 mod connection;
 mod fault;
 mod flow_round;
 pub mod laws;
 mod options;
+mod program;
 mod reading;
+mod report_writer;
 mod running;
-mod seen;
 mod status;
 mod verdict;
 mod words;
 mod writing;
 
 pub use auditing::audit;
+pub use capture_reader::CaptureReader;
 pub use fault::AuditFault;
 pub use job_crew::{Gate, NoGate};
 pub use options::Options;
-pub use running::{run, run_seen};
-pub use seen::Seen;
+pub use program::run_program;
+pub use report_writer::ReportWriter;
+pub use running::run;
 pub use status::ending;
 pub use verdict::Verdict;
 pub use words::{Parsed, parse};

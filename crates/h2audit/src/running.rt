@@ -1,14 +1,15 @@
-ghost use Rattle.std.specs.Prelude.{◌≡◌, ◌≢◌, ◌<◌, ◌^◌, IfErr, IfSome, length};
-ghost use Rattle.std.specs.Io.KnownBytes.{Keeps};
+ghost use Rattle.std.specs.Prelude.{◌≡◌, ◌≢◌, ◌^◌, IfErr, IfSome, take};
+ghost use Rattle.std.specs.Io.KnownBytes.{Appends, Keeps};
+ghost use Rattle.h2audit.specs.Account.{IsReadToEnd, IsUnread, IsUnwritten, Tells, given, written};
 ghost use Rattle.h2audit.specs.Choices.{choices};
 ghost use Rattle.h2audit.specs.Run.{IsJudged, Leaves};
-ghost use Rattle.h2audit.specs.Seen.{Tells};
 
 use crate::auditing::audit;
+use crate::capture_reader::CaptureReader;
 use crate::fault::AuditFault;
 use crate::options::Options;
 use crate::reading::read_capture;
-use crate::seen::Seen;
+use crate::report_writer::ReportWriter;
 use crate::verdict::Verdict;
 use crate::writing::write_report;
 use job_crew::Gate;
@@ -18,6 +19,9 @@ use std::thread::Threads;
 
 /// Reads a capture to its end, audits it, writes its report and flushes once.
 ///
+/// Of any reader and writer, also of a file or a pipe, the accounts then tell which bytes the reads gave and the
+/// writes took: the report that was written is that of the capture that was read.
+///
 /// No byte is judged before reading is over, so a failure to read comes before a refusal of the
 /// capture. After `Write` a front of the report was written, possibly all of it; after any other
 /// fault nothing was. An error of any kind from the reader or the writer is a fault: no call is
@@ -26,65 +30,31 @@ pub fn run<R: Read, W: Write>(
     rt: &(impl Threads + Sync),
     alloc: Global,
     options: &Options,
-    reader: &mut R,
-    writer: &mut W,
+    reader: &mut CaptureReader<R>,
+    writer: &mut ReportWriter<W>,
     gate: &impl Gate,
 ) -> Result<Verdict, AuditFault>
-    ensures leaves { IfSome (R.remaining reader.old) (λ bytes.
-        Leaves bytes (choices options.now).frames_shown (W.contents writer.old) (W.contents writer.new) result) }
-    ensures silent { IfErr result (λ e. e ≢ AuditFault.Write → Keeps (W.contents writer.old) (W.contents writer.new)) }
+    requires unread { IsUnread reader.old }
+    requires unwritten { IsUnwritten writer.old }
+    ensures tells { Tells reader.new writer.new (choices options.now).frames_shown result }
+    ensures given { IfSome (R.remaining reader.old.reader) (λ bytes.
+        IsReadToEnd reader.new → given reader.new ≡ take (2 ^ 31) bytes) }
+    ensures taken { Appends (W.contents writer.old.writer) (W.contents writer.new.writer) (written writer.new) }
+    ensures leaves { IfSome (R.remaining reader.old.reader) (λ bytes. Leaves bytes (choices options.now).frames_shown
+        (W.contents writer.old.writer) (W.contents writer.new.writer) result) }
+    ensures silent { IfErr result (λ e. e ≢ AuditFault.Write
+        → Keeps (W.contents writer.old.writer) (W.contents writer.new.writer)) }
+    ensures judged { IfSome (R.remaining reader.old.reader) (λ bytes. IsJudged bytes reader.new.lacked_memory result) }
 {
-    let mut seen = Seen::NOTHING;
-    run_seen(rt, alloc, options, reader, writer, gate, &mut seen)
-}
-
-/// `run`, with an account of what its reader and writer answered.
-///
-/// A refused capture is answered as such unless reading failed or there was no memory for its bytes.
-pub fn run_seen<R: Read, W: Write>(
-    rt: &(impl Threads + Sync),
-    alloc: Global,
-    options: &Options,
-    reader: &mut R,
-    writer: &mut W,
-    gate: &impl Gate,
-    seen: &mut Seen,
-) -> Result<Verdict, AuditFault>
-    requires { seen.old ≡ Seen.NOTHING }
-    ensures leaves { IfSome (R.remaining reader.old) (λ bytes.
-        Leaves bytes (choices options.now).frames_shown (W.contents writer.old) (W.contents writer.new) result) }
-    ensures silent { IfErr result (λ e. e ≢ AuditFault.Write → Keeps (W.contents writer.old) (W.contents writer.new)) }
-    ensures tells { Tells seen.new result }
-    ensures judged { IfSome (R.remaining reader.old) (λ bytes. IsJudged bytes seen.new result) }
-{
-    match read_capture(alloc, reader, seen) {
-        Ok(capture) => audit_and_write(rt, alloc, options, capture.as_slice(), writer, gate, seen),
-        Err(fault) => Err(fault),
-    }
-}
-
-/// Audits a capture that was read, writes its report and flushes once.
-fn audit_and_write<W: Write>(
-    rt: &(impl Threads + Sync),
-    alloc: Global,
-    options: &Options,
-    capture: &[u8],
-    writer: &mut W,
-    gate: &impl Gate,
-    seen: &mut Seen,
-) -> Result<Verdict, AuditFault>
-    requires { seen.old ≡ Seen.NOTHING }
-    ensures leaves { Leaves capture.now (choices options.now).frames_shown (W.contents writer.old) (W.contents writer.new) result }
-    ensures silent { IfErr result (λ e. e ≢ AuditFault.Write → Keeps (W.contents writer.old) (W.contents writer.new)) }
-    ensures not_read { result ≢ Err AuditFault.Read }
-    ensures tells { Tells seen.new result }
-    ensures judged { IsJudged capture.now seen.new result }
-{
-    match audit(rt, alloc, options, capture, gate) {
-        Ok((text, verdict)) => match write_report(writer, text.as_slice(), seen) {
-            Ok(()) => Ok(verdict),
-            Err(_) => Err(AuditFault::Write),
-        },
+    read_capture(reader)?;
+    match audit(rt, alloc, options, reader.given(), gate) {
+        Ok((text, verdict)) => {
+            writer.begin(text);
+            match write_report(writer) {
+                Ok(()) => Ok(verdict),
+                Err(_) => Err(AuditFault::Write),
+            }
+        }
         Err(fault) => Err(fault),
     }
 }

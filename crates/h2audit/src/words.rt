@@ -17,6 +17,8 @@ pub enum Parsed {
     Run(Options, Option<String>),
     /// The help text, for standard output.
     Help(String),
+    /// The program's name and version, for standard output.
+    Version(String),
     /// The words do not parse: why, for standard error.
     Refused(String),
 }
@@ -37,11 +39,11 @@ pub fn parse(alloc: Global, words: &[&str]) -> Result<Parsed, AllocError>
                 return Err(AllocError);
             }
             let text = error.to_string(alloc)?;
-            if kind == ErrorKind::DisplayHelp {
-                Ok(Parsed::Help(text))
-            } else {
-                Ok(Parsed::Refused(text))
-            }
+            Ok(match kind {
+                ErrorKind::DisplayHelp => Parsed::Help(text),
+                ErrorKind::DisplayVersion => Parsed::Version(text),
+                _ => Parsed::Refused(text),
+            })
         }
     }
 }

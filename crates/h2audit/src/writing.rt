@@ -1,28 +1,24 @@
-ghost use Rattle.std.specs.Prelude.{◌≡◌, ℕ, true, false, take, OnOk, OnErr};
+ghost use Rattle.std.specs.Prelude.{◌≡◌, ℕ, take, OnOk, OnErr};
 ghost use Rattle.std.specs.Io.KnownBytes.{Appends};
+ghost use Rattle.h2audit.specs.Account.{HasWriteFailed, IsFlushed, IsUnwritten, written};
 
-use crate::seen::{Failed, Seen, flush_once, write_once};
+use crate::capture_reader::Failed;
+use crate::report_writer::ReportWriter;
 use std::io::Write;
 
 /// Writes the whole text and flushes once. Each write is offered all that is left.
 ///
 /// After a failure a prefix of the text was written, possibly all of it.
-pub(crate) fn write_report<W: Write>(
-    writer: &mut W,
-    text: &[u8],
-    seen: &mut Seen,
-) -> Result<(), Failed>
-    requires unfailed { seen.old.write_failed ≡ false }
-    requires unflushed { seen.old.flushed ≡ false }
-    ensures ok { OnOk result (Appends (W.contents writer.old) (W.contents writer.new) text.now) }
-    ensures flushed { OnOk result (seen.new ≡ record seen.old { wrote = seen.new.wrote; flushed = true }) }
-    ensures err { OnErr result ((n : ℕ) × Appends (W.contents writer.old) (W.contents writer.new) (take n text.now)) }
-    ensures told { OnErr result (seen.new ≡ record seen.old { wrote = seen.new.wrote; write_failed = true }) }
+pub(crate) fn write_report<W: Write>(writer: &mut ReportWriter<W>) -> Result<(), Failed>
+    requires { IsUnwritten writer.old }
+    ensures bytes { Appends (W.contents writer.old.writer) (W.contents writer.new.writer) (written writer.new) }
+    ensures ok { OnOk result (written writer.new ≡ writer.old.text.items) }
+    ensures flushed { OnOk result (IsFlushed writer.new) }
+    ensures err { OnErr result ((n : ℕ) × (written writer.new ≡ take n writer.old.text.items)) }
+    ensures failed { OnErr result (HasWriteFailed writer.new) }
 {
-    let mut written = 0;
-    while written < text.len() {
-        let rest = &text[written..];
-        written += write_once(writer, rest, seen)?;
+    while !writer.is_whole() {
+        writer.write_once()?;
     }
-    flush_once(writer, seen)
+    writer.flush_once()
 }

@@ -1,6 +1,6 @@
 //! The answer of a run, and how it compares with what a row asks for.
 
-use h2audit::{NoGate, Options, ending, run};
+use h2audit::{CaptureReader, NoGate, Options, ReportWriter, ending, run};
 use std::alloc::{AllocError, Global};
 use std::thread::Threads;
 
@@ -14,10 +14,10 @@ fn answer_of(
     options: &Options,
     capture: &[u8],
 ) -> Result<String, AllocError> {
-    let mut reader = capture;
-    let mut report = Vec::new(alloc);
-    let answer = run(rt, alloc, options, &mut reader, &mut report, &NoGate);
-    let report = String::from_utf8(report).unwrap_or(String::new(alloc));
+    let mut reader = CaptureReader::new(alloc, capture);
+    let mut writer = ReportWriter::new(alloc, Vec::new(alloc));
+    let answer = run(rt, alloc, options, &mut reader, &mut writer, &NoGate);
+    let report = str::from_utf8(writer.writer().as_slice()).unwrap_or("");
     let (status, line) = ending(&answer);
     let end = if line.is_empty() { "" } else { "\n" };
     format!(in alloc; "status {status}\n{line}{end}{report}")

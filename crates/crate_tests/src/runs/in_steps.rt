@@ -1,7 +1,7 @@
-//! Runs over readers and writers that go in steps or fail: which calls they get.
+//! Runs over readers and writers that go in steps or fail: which calls they get, and what the accounts tell.
 
 use crate::runs::fakes::{Failure, Pieces, Slow};
-use h2audit::{AuditFault, NoGate, Options, Seen, Verdict, run_seen};
+use h2audit::{AuditFault, CaptureReader, NoGate, Options, ReportWriter, Verdict, run};
 use pcap_records::PcapFault;
 use std::alloc::Global;
 use std::process::Abort;
@@ -53,56 +53,48 @@ fn calls_of(reader: &Pieces, writer: &Slow) -> Calls {
     }
 }
 
-/// What a run over this reader and this writer answers, and its account.
-fn answer_of(
-    rt: &(impl AllocGlobal + Sync + Threads),
-    reader: &mut Pieces,
-    writer: &mut Slow,
-) -> Result<(Result<Verdict, AuditFault>, Seen), Fail> {
-    let options = Options::of(4, 16, 4096, false).ok_or("range")?;
-    let mut seen = Seen::NOTHING;
-    let answer = run_seen(rt, rt.alloc(), &options, reader, writer, &NoGate, &mut seen);
-    Ok((answer, seen))
-}
-
-/// A run gives this answer and account, makes these calls, and writes the first `written` bytes of the report.
+/// A run gives this answer, makes these calls, and writes the first `written` bytes of the report. The accounts tell the
+/// bytes that were read and written, and whether a flush went well.
 fn expect(
     rt: &(impl Abort + AllocGlobal + Sync + Threads),
-    mut reader: Pieces,
-    mut writer: Slow,
+    reader: Pieces,
+    writer: Slow,
     answer: Result<Verdict, AuditFault>,
-    account: Seen,
     expected: Calls,
     written: usize,
 ) -> Result<(), Fail> {
-    let (given, seen) = answer_of(rt, &mut reader, &mut writer)?;
-    let made = calls_of(&reader, &writer);
-    assert_eq!(rt; (given, seen, made), (answer, account, expected));
+    let options = Options::of(4, 16, 4096, false).ok_or("range")?;
+    let whole = reader.left;
+    let mut reader = CaptureReader::new(rt.alloc(), reader);
+    let mut writer = ReportWriter::new(rt.alloc(), writer);
+    let given = run(
+        rt,
+        rt.alloc(),
+        &options,
+        &mut reader,
+        &mut writer,
+        &NoGate,
+    );
+    let made = calls_of(reader.reader(), writer.writer());
+    assert_eq!(rt; (given, made), (answer, expected));
+    let read = whole.len() - reader.reader().left.len().min(whole.len());
+    assert_eq!(rt; reader.given(), &whole[..read]);
     let report = REPORT.as_bytes().get(..written).ok_or("written")?;
-    assert_eq!(rt; writer.taken.as_slice(), report);
+    assert_eq!(rt; writer.writer().taken.as_slice(), report);
+    assert_eq!(rt; writer.written(), report);
+    assert_eq!(rt; writer.is_flushed(), answer.is_ok());
     Ok(())
 }
-
-const WRITE_FAILED: Seen = Seen {
-    write_failed: true,
-    ..Seen::NOTHING
-};
 
 // 24 bytes in steps of 5 are five reads, and one more finds the end.
 #[test]
 fn slow_reader_and_writer(rt: HostRuntime) -> Result<(), Fail> {
-    let account = Seen {
-        wrote: true,
-        flushed: true,
-        ..Seen::NOTHING
-    };
     for (step, writes) in [(1, 82), (3, 28), (1000, 1)] {
         expect(
             &rt,
             Pieces::of(HEADER.as_slice(), 5),
             writer(rt.alloc(), step),
             Ok(Verdict::Clean),
-            account,
             counted(6, writes, 1),
             82,
         )?;
@@ -113,10 +105,6 @@ fn slow_reader_and_writer(rt: HostRuntime) -> Result<(), Fail> {
 // The read that fails is the last call: that the next would go on is not tried.
 #[test]
 fn interrupted_reader(rt: HostRuntime) -> Result<(), Fail> {
-    let account = Seen {
-        read_failed: true,
-        ..Seen::NOTHING
-    };
     for failing in 1..=6 {
         let reader = Pieces {
             interrupted_at: failing,
@@ -127,7 +115,6 @@ fn interrupted_reader(rt: HostRuntime) -> Result<(), Fail> {
             reader,
             writer(rt.alloc(), 1000),
             Err(AuditFault::Read),
-            account,
             counted(failing, 0, 0),
             0,
         )?;
@@ -148,16 +135,11 @@ fn expect_failure(
         failure,
         ..writer(rt.alloc(), step)
     };
-    let account = Seen {
-        wrote: written > 0,
-        ..WRITE_FAILED
-    };
     expect(
         rt,
         Pieces::of(HEADER.as_slice(), 24),
         slow,
         Err(AuditFault::Write),
-        account,
         counted(2, failing, 0),
         written,
     )
@@ -181,16 +163,11 @@ fn failing_flush(rt: HostRuntime) -> Result<(), Fail> {
         flush_fails: true,
         ..writer(rt.alloc(), 1000)
     };
-    let account = Seen {
-        wrote: true,
-        ..WRITE_FAILED
-    };
     expect(
         &rt,
         Pieces::of(HEADER.as_slice(), 24),
         slow,
         Err(AuditFault::Write),
-        account,
         counted(2, 1, 1),
         82,
     )
@@ -203,7 +180,6 @@ fn refused_capture_writes_nothing(rt: HostRuntime) -> Result<(), Fail> {
         Pieces::of(&HEADER[..23], 24),
         writer(rt.alloc(), 1000),
         Err(AuditFault::Pcap(PcapFault::ShortHeader)),
-        Seen::NOTHING,
         counted(2, 0, 0),
         0,
     )

@@ -37,7 +37,12 @@ Options:
       --block <N>    Frames in a block of the work, from 1 to 1048576 [default: 4096]
       --frames       Show each change of a window's credit
   -h, --help         Print help
+  -V, --version      Print version
+
+Overflow lines name the victim: see \"Who is to blame\" in README.md, or \"Who broke the rule\" in h2audit(1).
 ";
+
+const VERSION: &str = "h2audit 1.0.0\n";
 
 const ZERO_WORKERS: &str = "error: invalid value '0' for '--workers <N>': 0 is not in 1..=64
 
@@ -54,7 +59,7 @@ For more information, try '--help'.
 /// The text that the words are answered with.
 fn text_of(rt: &HostRuntime, words: &[&str]) -> Result<String, Fail> {
     match parse(rt.alloc(), words)? {
-        Parsed::Help(text) => Ok(text),
+        Parsed::Help(text) | Parsed::Version(text) => Ok(text),
         Parsed::Refused(text) => Ok(text),
         Parsed::Run(_options, _path) => Err("these words are an audit")?,
     }
@@ -62,9 +67,11 @@ fn text_of(rt: &HostRuntime, words: &[&str]) -> Result<String, Fail> {
 
 #[test]
 fn texts_of_help_and_refusals(rt: HostRuntime) -> Result<(), Fail> {
-    let table: [(&[&str], &str); 4] = [
+    let table: [(&[&str], &str); 6] = [
         (&["--help"], HELP),
         (&["-h"], HELP),
+        (&["--version"], VERSION),
+        (&["-V"], VERSION),
         (&["--workers", "0"], ZERO_WORKERS),
         (&["one.pcap", "two.pcap"], SECOND_PATH),
     ];

@@ -1,6 +1,6 @@
 use Rattle.std.proofs.Common.{refl, ◌≡◌, true, false, List, [], ◌∷◌, codes, Some, None, rules}
 use Rattle.clap.specs.Words.{Text, fault_of}
-use Rattle.clap.specs.declared.error.kind.ErrorKind.TheVariants.{DisplayHelp, UnknownArgument, ValueValidation}
+use Rattle.clap.specs.declared.error.kind.ErrorKind.TheVariants.{DisplayHelp, DisplayVersion, UnknownArgument, ValueValidation}
 use Rattle.clap.proofs.OnLiterals.{clap_on_literals}
 use Rattle.h2audit.specs.KnownWords.{AreFound}
 use Rattle.h2audit.specs.Words.{app}
@@ -40,6 +40,10 @@ help : fault_of app (codes "--help" ∷ []) ≡ DisplayHelp ∷ []
 unfolding clap_on_literals
 help = refl
 
+version : fault_of app (codes "--version" ∷ []) ≡ DisplayVersion ∷ []
+unfolding clap_on_literals
+version = refl
+
 zero_workers : fault_of app (codes "--workers" ∷ codes "0" ∷ []) ≡ ValueValidation ∷ []
 unfolding clap_on_literals
 zero_workers = refl
@@ -61,6 +65,7 @@ returns c = record {
   none = none_found;
   all = all_found;
   help = help;
+  version = version;
   zero = zero_workers;
   above = many_workers;
   unknown = unknown;

@@ -1,21 +1,41 @@
-use Rattle.std.proofs.Common.{◌≡◌, ◌∙◌, arith}
-use Rattle.h2audit.proofs.Capture.{consumes_more, consumes_none, whole_at_end, front_at_limit}
+use Rattle.std.proofs.Common.{rules, ◌≡◌, ◌≤◌, take, length, refl, sym, subst}
+use Rattle.std.specs.Io.KnownBytes.{Consumes}
+use Rattle.h2audit.specs.Account.{given}
+use Rattle.h2audit.proofs.Capture.{consumes_more, consumes_none, front_at_limit, whole_at_end}
 use Rattle.h2audit.proofs.reading.read_capture.Goals as goal
 
 pub returns-in-Ok-eq0-clause-bytes : goal.returns-in-Ok-eq0-clause-bytes
 returns-in-Ok-eq0-clause-bytes g c =
-    let before = g.R.Read.remaining c.args.reader.now in
-    let now = g.R.Read.remaining c.read_more.new.reader in
-    let filled = c.loop-filled.filled in
-    let consumed = consumes_none before (g.R.Read.remaining c.loop-filled.reader) now filled c.in-Ok-eq0.field-0 c.loop-filled.bytes.items c.read_more.new.bytes.items c.in-Ok-eq0.field-0-test c.loop-filled.invariant.3 c.read_more.ensures.front c.in-Ok-eq0.ensures.bytes in
-    whole_at_end before now filled 2147483648 c.read_more.new.bytes.items c.truncate.new.self.items consumed (c.in-Ok-eq0.ensures.end c.in-Ok-eq0.field-0-test) c.loop-filled.invariant.1 c.truncate.ensures.items
+    let before = g.R.Read.remaining c.args.reader.now.reader in
+    let roomy = c.make_room.new.self in
+    let now = c.read_once.new.self in
+    let left = g.R.Read.remaining now.reader in
+    let read : Consumes before (g.R.Read.remaining roomy.reader) (take roomy.filled roomy.bytes.items) = search rules in
+    let all = consumes_none before (g.R.Read.remaining roomy.reader) left roomy.filled c.in-Ok-eq0.field-0 roomy.bytes.items now.bytes.items c.in-Ok-eq0.field-0-test read c.read_once.ensures.front c.in-Ok-eq0.ensures.bytes in
+    let same : roomy.filled ≡ now.filled = search rules in
+    let consumed : Consumes before left (given now) =
+    subst (λ k. Consumes before left (take k now.bytes.items)) same all in
+    whole_at_end before left now.filled 2147483648 now.bytes.items (given now) consumed (search rules) c.read_once.ensures.limit refl
 
-pub loop-filled-preserved : goal.loop-filled-preserved
-loop-filled-preserved g c =
-    (c.in-Ok.ensures.fits.0, c.in-Ok.ensures.fits.1, c.in-Ok.ensures.ok ∙ c.loop-filled.invariant.2, consumes_more (g.R.Read.remaining c.args.reader.now) (g.R.Read.remaining c.loop-filled.reader) (g.R.Read.remaining c.read_more.new.reader) c.loop-filled.filled c.in-Ok.count c.loop-filled.bytes.items c.read_more.new.bytes.items c.loop-filled.invariant.3 c.read_more.ensures.front c.in-Ok.ensures.bytes)
+pub loop-reader-preserved : goal.loop-reader-preserved
+loop-reader-preserved g c =
+    let roomy = c.make_room.new.self in
+    let now = c.read_once.new.self in
+    let n = c.in-Ok.field-0 in
+    let before = g.R.Read.remaining c.args.reader.now.reader in
+    let read : Consumes before (g.R.Read.remaining roomy.reader) (take roomy.filled roomy.bytes.items) = search rules in
+    let more = consumes_more before (g.R.Read.remaining roomy.reader) (g.R.Read.remaining now.reader) roomy.filled n roomy.bytes.items now.bytes.items read c.read_once.ensures.front c.in-Ok.ensures.bytes in
+    record {
+      within = search rules;
+      limit = search rules;
+      has_ended = search rules;
+      has_failed = search rules;
+      lacked_memory = search rules;
+      read = subst (λ k. Consumes before (g.R.Read.remaining now.reader) (take k now.bytes.items)) (sym c.in-Ok.ensures.count) more;
+    }
 
 pub returns-clause-bytes : goal.returns-clause-bytes
 returns-clause-bytes g c =
-    let filled = c.loop-filled.filled in
-    let full : filled ≡ 2147483648 = omega arith in
-    front_at_limit (g.R.Read.remaining c.args.reader.now) (g.R.Read.remaining c.loop-filled.reader) filled 2147483648 c.loop-filled.bytes.items c.truncate-2.new.self.items c.loop-filled.invariant.3 full (omega (arith, c.loop-filled.bytes.ok.0)) c.truncate-2.ensures.items
+    let reader = c.loop-reader.reader in
+    let within : reader.filled ≤ length reader.bytes.items = search rules in
+    front_at_limit (g.R.Read.remaining c.args.reader.now.reader) (g.R.Read.remaining reader.reader) reader.filled 2147483648 reader.bytes.items (given reader) c.loop-reader.invariant.read (search rules) within refl

@@ -1,25 +1,26 @@
-use Rattle.std.proofs.Common.{ap, sym, ◌∙◌, true, false, take, drop, arith}
+use Rattle.std.proofs.Common.{rules, ◌≡◌, ◌+◌, take, drop}
+use Rattle.std.specs.Io.KnownBytes.{Appends}
 use Rattle.std.proofs.KnownBytes.{Appends-trans}
 use Rattle.std.proofs.Math.Seq.{take-add}
-use Rattle.std.proofs.lemmas.List.{take_rest, length-drop}
-use Rattle.h2audit.specs.declared.seen.Seen.{Seen}
 use Rattle.h2audit.proofs.writing.write_report.Goals as goal
 
-pub loop-written-preserved : goal.loop-written-preserved
-loop-written-preserved g c =
-    let text = c.args.text.now in
-    let written = c.loop-written.written in
-    let count = c.in_ok-written.field-0 in
-    let now = rw (take_rest text written) at c.in_ok-written.ensures.bytes in
-    let fits = rw (take_rest text written) at c.in_ok-written.ensures.bound.1 in
-    let entered = c.in_ok-written.ensures.ok in
+pub loop-writer-preserved : goal.loop-writer-preserved
+loop-writer-preserved g c =
+    let before = c.loop-writer.writer in
+    let now = c.write_once.new.self in
+    let count = c.in_ok-write_once.field-0 in
+    let first = g.W.Write.contents c.args.writer.now.writer in
+    let taken = Appends-trans first (g.W.Write.contents before.writer) (g.W.Write.contents now.writer)
+    (take before.written before.text.items) (take count (drop before.written before.text.items))
+    c.loop-writer.invariant.taken c.in_ok-write_once.ensures.bytes in
+    let more : Appends first (g.W.Write.contents now.writer) (take (before.written + count) before.text.items) =
+    rw (take-add before.written count before.text.items) taken in
+    let text : now.text ≡ before.text = search rules in
+    let grown : now.written ≡ before.written + count = search rules in
     record {
-      within = omega (arith, fits, length-drop written text);
-      written = rw (take-add written count text) (Appends-trans (g.W.Write.contents c.args.writer.now)
-          (g.W.Write.contents c.loop-written.writer) (g.W.Write.contents c.write_once.new.writer)
-          (take written text) (take count (drop written text)) c.loop-written.invariant.written now);
-      account = entered
-          ∙ ap (λ (s : Seen). record s { wrote = true; flushed = false }) c.loop-written.invariant.account
-          ∙ ap (λ b. record c.args.seen.now { wrote = true; flushed = b }) (sym c.requires.unflushed)
-          ∙ ap (λ b. record c.args.seen.now { wrote = b }) (sym (ap (λ (s : Seen). s.wrote) entered));
+      within = search rules;
+      text = search rules;
+      has_failed = search rules;
+      is_flushed = search rules;
+      taken = rw (grown, text) more;
     }
