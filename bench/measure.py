@@ -1,8 +1,10 @@
 #!/usr/bin/env python3
 """Measures a program: measure.py PROGRAM [--beside OTHER] [--shapes NAME,..] [MEGABYTES ..]
 
-Without MEGABYTES these are 10, 40 and 160, of shapes that a peer might make on purpose 12.5, 25, 50 and 100, and of `live`, which
-is quadratic, as many hundredths. For each shape of capture and each size, of three runs each in turn: the least processor time with one worker, the least wall time
+Without MEGABYTES these are 10, 40 and 160; 12.5, 25, 50 and 100 of the shapes that a peer might make on purpose; and 0.125, 0.25,
+0.5 and 1 of `live`, which is quadratic.
+
+For each shape of capture and each size, of three runs each in turn: the least processor time with one worker, the least wall time
 with one and with four, and the greatest peak of memory. `cat` runs beside it, and so does an older program where one is named; all
 have the capture on standard input and their output thrown away. Prints one line each, with ratios and the growth from the size
 before, since absolute times say more of the machine than of the program.

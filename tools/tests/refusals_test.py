@@ -10,6 +10,7 @@ neither does a read or a write of a single byte.
 import itertools
 import os
 import pathlib
+import shutil
 import struct
 import subprocess
 import sys
@@ -76,6 +77,8 @@ def long_connection(capture):
 class Refusals(unittest.TestCase):
     @classmethod
     def setUpClass(cls):
+        if not shutil.which("cc"):
+            raise unittest.SkipTest("there is no C compiler")
         cls.folder = tempfile.TemporaryDirectory()
         cls.addClassCleanup(cls.folder.cleanup)
         home = pathlib.Path(cls.folder.name)
