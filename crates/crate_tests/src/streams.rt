@@ -1,4 +1,3 @@
 //! What one stream of a connection shows.
 
 mod calls;
-mod test_look;

@@ -1,7 +1,7 @@
 ghost use Rattle.std.specs.Prelude.{◌≡◌, ◌<◌};
 ghost use Rattle.audit_terms.specs.Frame.{IsInRange, promised_in};
 
-use super::test_look::TestLook;
+use crate::looks::test_look::TestLook;
 use audit_terms::{Body, Change, Finding, Frame, Kind, Side};
 use std::test::Fail;
 use stream_credit::{Changes, StreamPart, stream_run};
