@@ -1,1 +1,2 @@
+pub mod StreamCuts
 pub mod WholePart

@@ -1,3 +1,4 @@
 //! What one stream of a connection shows.
 
 mod calls;
+mod crew;
