@@ -3,3 +3,4 @@ pub mod Connections
 pub mod Offsets
 pub mod Bodies
 pub mod Frames
+pub mod StreamJobs

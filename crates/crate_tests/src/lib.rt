@@ -25,6 +25,8 @@ mod flows;
 #[cfg(test)]
 mod frame_examples;
 #[cfg(test)]
+mod looks;
+#[cfg(test)]
 mod passes;
 #[cfg(test)]
 mod reports;

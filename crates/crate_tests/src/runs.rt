@@ -2,6 +2,7 @@
 
 mod endings;
 mod fakes;
+mod gates;
 mod in_steps;
 mod long_captures;
 mod words;

@@ -1,4 +1,4 @@
 //! What one stream of a connection shows.
 
 mod calls;
-mod test_look;
+mod crew;

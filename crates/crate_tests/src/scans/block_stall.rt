@@ -2,7 +2,7 @@
 ghost use Rattle.std.specs.Prelude.{◌≤◌, length};
 ghost use Rattle.audit_terms.specs.Frame.{IsOrderly};
 
-use super::test_look::TestLook;
+use crate::looks::test_look::TestLook;
 use crate::passes::scripts::{are_orderly, data, headers, promise, update};
 use audit_terms::{Finding, Frame, Kind, Side, Sides};
 use conn_scan::{Block, ConnState, block_findings, items};

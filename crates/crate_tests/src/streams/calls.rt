@@ -1,13 +1,13 @@
 ghost use Rattle.std.specs.Prelude.{◌≡◌, ◌<◌};
 ghost use Rattle.audit_terms.specs.Frame.{IsInRange, promised_in};
 
-use super::test_look::TestLook;
+use crate::looks::test_look::TestLook;
 use audit_terms::{Body, Change, Finding, Frame, Kind, Side};
 use std::test::Fail;
 use stream_credit::{Changes, StreamPart, stream_run};
 
 /// A frame without payload.
-fn frame(number: u32, side: Side, code: u8, stream: u32, body: Body) -> Frame
+pub(super) fn frame(number: u32, side: Side, code: u8, stream: u32, body: Body) -> Frame
     requires number { number < 1000 }
     requires stream { stream < 1000 }
     requires promised { promised_in body ≡ 0 }

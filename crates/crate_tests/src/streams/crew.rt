@@ -1,0 +1,92 @@
+//! A crew that goes through streams, a job for each, and stops early.
+
+ghost use Rattle.std.specs.Prelude.{[], ◌∷◌};
+ghost use Rattle.std.proofs.Props.{props};
+ghost use Rattle.audit_rounds.specs.code.JobProps.{frames-prop};
+ghost use Rattle.stream_credit.specs.Part.{IsPart};
+ghost use Rattle.crate_tests.specs.StreamJobs.{job_of};
+
+use super::calls::frame;
+use audit_terms::{Body, Finding, Kind, Look, Place, Side};
+use job_crew::{NoGate, Round, Settled, Work, settle};
+use std::alloc::{AllocError, Global};
+use std::test::Fail;
+use std::thread::Threads;
+use stream_credit::{Changes, StreamPart, stream_run};
+
+/// Two streams of one connection, to which settings bring nothing, a job for each.
+#[derive(Drop)]
+struct TwoStreams<'a> {
+    first: StreamPart<'a>,
+    second: StreamPart<'a>,
+    ghost is_first: { IsPart first } by { Prim.hlevel (props, frames-prop) },
+    ghost is_second: { IsPart second } by { Prim.hlevel (props, frames-prop) },
+}
+
+impl Round for TwoStreams<'_> {
+    type Made = ();
+
+    ghost jobs = { λ round. job_of round.first ∷ job_of round.second ∷ [] };
+
+    ghost makes = { λ round job upto made. Unit {0} };
+
+    fn count(&self) -> u32 {
+        2
+    }
+
+    fn connection(&self, _job: u32) -> usize {
+        0
+    }
+
+    fn work<L: Look>(&self, alloc: Global, job: u32, look: &mut L) -> Result<Work<()>, AllocError> {
+        let part = if job == 0 { &self.first } else { &self.second };
+        let changes = Changes::of(alloc, &[])?;
+        let run = stream_run(alloc, part, &changes, true, look)?;
+        Ok(Work {
+            findings: run.findings,
+            upto: run.upto,
+            made: (),
+        })
+    }
+}
+
+/// What one worker leaves, who does the jobs in turn.
+fn settled(
+    rt: &(impl AllocGlobal + Sync + Threads),
+    round: &TwoStreams<'_>,
+) -> Result<Settled<()>, AllocError> {
+    settle(rt, rt.alloc(), 1, &NoGate, 1, &[None], round)
+}
+
+// The first stream has an error at frame 5, and the second opens at frame 6: its job sees the stop, and finds nothing.
+#[test]
+fn later_jobs_see_the_stop(rt: HostRuntime) -> Result<(), Fail> {
+    let frames = [
+        frame(5, Side::Server, 3, 9, Body::RstStream),
+        frame(6, Side::Client, 1, 1, Body::Headers),
+    ];
+    let round = TwoStreams {
+        first: StreamPart {
+            stream: 9,
+            frames: &frames,
+            positions: &[0],
+        },
+        second: StreamPart {
+            stream: 1,
+            frames: &frames,
+            positions: &[1],
+        },
+    };
+    let Settled { parts, stops } = settled(&rt, &round)?;
+    let found: Vec<Option<Finding>> = parts
+        .iter()
+        .map(|part| part.findings.first().copied())
+        .collect(rt.alloc())?;
+    let error = Finding::at(Kind::NotOpened, 5, 9, Side::Server, 3);
+    let stop = Place::of(5, Kind::NotOpened.rank(), 9);
+    assert_eq!(rt;
+        (found.as_slice(), stops.as_slice()),
+        ([Some(error), None].as_slice(), [Some(stop)].as_slice())
+    );
+    Ok(())
+}
