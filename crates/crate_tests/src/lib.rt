@@ -8,8 +8,9 @@
 //! by proof: openings, strays and offsets that wrap; each type's payload at the lengths where its answer changes,
 //! padding, values of settings at the ends of their ranges, the preface, frame headers, capture order.
 //!
-//! What is left for tests: `assemble` beside a slow program over random segments; two passes over one desk, and runs
-//! with a stop and without; readers and writers that go in steps or fail; the texts of help and of refused words; long
+//! What is left for tests: `assemble` beside a slow program over random segments; two passes over one desk; when
+//! runs look, with a stop and without; that a later job sees the stop which an earlier one lowered, that two workers are
+//! in one round at once, and how many jobs each round has; readers and writers that go in steps or fail; the texts of help and of refused words; long
 //! captures, and every prefix of one; and calls that whole reports do not reach, once each.
 //!
 //! All tests are one crate, since a test in a library's crate proves the library once more, and each crate of tests

@@ -9,13 +9,13 @@
 //!   or want of memory. The report is `IsReport` of `specs/Report.antt`, made of the definitions of the crates below
 //!   and of none of their functions. It names neither workers nor groups nor blocks, and [`laws::one_report`] says that
 //!   there is no second one.
-//! - [`run`] reads a capture to its end, audits it, writes the report and flushes once. For a reader and a writer that
-//!   tell their bytes, what is written is the whole report; after a failed write a beginning of it; after any other
-//!   fault nothing (`Leaves` of `specs/Run.antt`). The last holds for every reader.
-//! - [`run_seen`] is `run` with an account of what reader and writer answered ([`Seen`]), and what the program calls.
-//!   For every reader and writer it tells how a run ends: after a verdict nothing failed, and a flush came last; before
-//!   any fault but a write fault nothing was written. A capture for which there was room is refused where its bytes
-//!   are.
+//! - [`run`] reads a capture to its end, audits it, writes the report and flushes once. A [`CaptureReader`] keeps account
+//!   of what the reads gave, a [`ReportWriter`] of what the writes took. For every reader and writer, also of files and
+//!   pipes, clause `tells` says of these accounts (`Tells` of `specs/Account.antt`): after a verdict the reads gave a
+//!   whole capture, and the writes took all of its report and one flush; after a failed write they took a prefix of
+//!   it; before any other fault nothing was written, and a refusal is that of the bytes that were read. Where reader
+//!   and writer themselves tell their bytes, these are the ones of the accounts (`given`, `taken`, `leaves`).
+//! - [`run_program`] is the program: words, FILE or standard input, report, line and status.
 //! - [`parse`] says what the words of a command line ask for, by `clap`'s own definition of the command, and
 //!   [`Options`] refuses numbers out of range. [`laws::known_words`] computes seven command lines. [`ending`] is status
 //!   and line.
@@ -24,13 +24,12 @@
 //! assembles both of its flows and cuts them; `audit_rounds` has the rounds after it. No answer says that a worker was
 //! not started (`IsNoReport`).
 //!
-//! The account is as honest as the code that enters it: `read_once`, `write_once` and `flush_once` make the crate's
-//! only calls of `read`, `write` and `flush`, and ask that none follows one that failed; `read_more` enters want of
-//! room. A reader sees this at once; no contract says it. Nor does that of `run` keep it from always answering a read
-//! fault: it is `run_seen` in two lines, and tests hold it.
+//! The accounts are as honest as the code that enters them: their fields are private, `read_once`, `write_once` and
+//! `flush_once` make the crate's only calls of `read`, `write` and `flush`, and ask that none follows one that failed;
+//! `make_room` enters want of memory. A reader sees this at once; no contract says it.
 //!
 //! Wrong bodies that the prover refuses: an empty report, a verdict by errors alone or forgotten, a status of 0 for
-//! faults, a write that is not told. Tested, in `crate_tests` and `whole_reports`: whole reports, the texts of help and
+//! faults, a write that is told to have taken all. Tested, in `crate_tests` and `whole_reports`: whole reports, the texts of help and
 //! of refused words, which calls readers and writers get, long captures. Trusted: that a file or a pipe gives and keeps
 //! its bytes.
 #![tactic(auto)]

@@ -5,5 +5,9 @@ use h2audit::{ReportWriter, run_program};
 use std::process::ExitCode;
 
 fn main(rt: HostRuntime) -> ExitCode {
-    run_program(&rt, rt.stdin(), &mut ReportWriter::new(rt.alloc(), rt.stdout()))
+    run_program(
+        &rt,
+        rt.stdin(),
+        &mut ReportWriter::new(rt.alloc(), rt.stdout()),
+    )
 }

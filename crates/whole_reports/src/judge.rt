@@ -4,8 +4,12 @@ use h2audit::{CaptureReader, NoGate, Options, ReportWriter, ending, run};
 use std::alloc::{AllocError, Global};
 use std::thread::Threads;
 
-/// Workers, groups and block lengths: the least of each, some between, the most that matter here.
-const MIXES: [(u32, u32, u32); 3] = [(1, 1, 1), (2, 3, 2), (64, 1024, 4096)];
+/// Numbers of workers, of groups, and of frames in a block: the least of each, one between, the most that matter here.
+const WORKERS: [u32; 3] = [1, 2, 64];
+
+const GROUPS: [u32; 3] = [1, 3, 1024];
+
+const BLOCKS: [u32; 3] = [1, 2, 4096];
 
 /// What a run leaves, line by line: its exit status, what standard error says, and the report.
 fn answer_of(
@@ -23,7 +27,7 @@ fn answer_of(
     format!(in alloc; "status {status}\n{line}{end}{report}")
 }
 
-/// Whether a run leaves this answer in each mix.
+/// Whether a run leaves this answer in each mix of workers, groups and block lengths.
 pub fn always_answers(
     rt: &(impl Sync + Threads),
     alloc: Global,
@@ -31,10 +35,14 @@ pub fn always_answers(
     frames_shown: bool,
     wanted: &str,
 ) -> Result<bool, AllocError> {
-    for (workers, groups, block) in MIXES {
-        if let Some(options) = Options::of(workers, groups, block, frames_shown) {
-            if answer_of(rt, alloc, &options, capture)?.as_str() != wanted {
-                return Ok(false);
+    for workers in WORKERS {
+        for groups in GROUPS {
+            for block in BLOCKS {
+                if let Some(options) = Options::of(workers, groups, block, frames_shown) {
+                    if answer_of(rt, alloc, &options, capture)?.as_str() != wanted {
+                        return Ok(false);
+                    }
+                }
             }
         }
     }

@@ -2,7 +2,7 @@
 //!
 //! A row is a capture as a script, one record a line, and the report that it has to give. The reports were written by
 //! hand, from the description of the report and from the rules of the audit; none was taken from the program. Each is
-//! asked for in three mixes of workers, groups and block lengths, with credit lines and without them.
+//! asked for in 27 mixes of workers, groups and block lengths, with credit lines and without them.
 //!
 //! The captures of `examples/` at the root are audited in the same way, against the reports beside them.
 //!

@@ -67,14 +67,7 @@ fn expect(
     let whole = reader.left;
     let mut reader = CaptureReader::new(rt.alloc(), reader);
     let mut writer = ReportWriter::new(rt.alloc(), writer);
-    let given = run(
-        rt,
-        rt.alloc(),
-        &options,
-        &mut reader,
-        &mut writer,
-        &NoGate,
-    );
+    let given = run(rt, rt.alloc(), &options, &mut reader, &mut writer, &NoGate);
     let made = calls_of(reader.reader(), writer.writer());
     assert_eq!(rt; (given, made), (answer, expected));
     let read = whole.len() - reader.reader().left.len().min(whole.len());
