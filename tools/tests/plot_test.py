@@ -24,8 +24,11 @@ PICTURES = TOP / "docs" / "pictures"
 # What is drawn of each report, where it is not everything.
 CHOICES = {
     "leaked_connection_credit_nginx": ["--stream", "0"],
+    "lost_segment": ["--by-frame"],
+    "negative_window": ["--by-frame"],
     "negative_window_tomcat": ["--stream", "1"],
     "stream_overrun_go": ["--by-frame"],
+    "use_after_reset": ["--by-frame"],
 }
 
 

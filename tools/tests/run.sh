@@ -1,10 +1,10 @@
 #!/usr/bin/env bash
-# Tests what stands around the program: pictures, man pages, completions, recipes and the Debian package. And what the
-# program answers where memory, threads, reads and writes are refused.
+# Tests what stands around the program: pictures, man pages, completions, recipes, the Debian package and the example of
+# the library. And what the program answers where memory, threads, reads and writes are refused.
 #
-# It proves and builds nothing. Where the program is not built, or is older than its sources, the recipes read the stored
-# reports of examples/, install and package have another program in its place, and no call of it is refused. As root it
-# installs the Debian packages that it needs and that are missing.
+# It proves nothing, and builds the library's example alone. Where the program is not built, or is older than its
+# sources, the recipes read the stored reports of examples/, install and package have another program in its place, and
+# no call of it is refused. As root it installs the Debian packages that it needs and that are missing.
 set -euo pipefail
 cd "$(dirname "$0")/../.."
 
@@ -67,6 +67,7 @@ fi
 try 'man pages and completions' tools/tests/words_test.py
 try 'recipes' tools/tests/recipes_test.py "${audits[@]}"
 try 'pictures' tools/tests/plot_test.py
+try 'library example' tools/tests/library_example_test.py
 try 'install and package' tools/tests/package_test.sh "$program"
 [[ ${#audits[@]} -eq 0 ]] || try 'refused growths, threads, reads and writes' tools/tests/refusals_test.py "$built"
 echo 'test-tools: all passed'
