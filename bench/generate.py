@@ -262,7 +262,16 @@ def colliding(capture, size):
 
 
 def live(capture, size):
+    many_moves(capture, size, Connection(capture, 40000))
+
+
+def live_early(capture, size):
     one = Connection(capture, 40000)
+    one.send(CLIENT, window_update(0, 2 ** 31 - 1))
+    many_moves(capture, size, one)
+
+
+def many_moves(capture, size, one):
     stream = 1
     while capture.size < size / 2:
         one.send(CLIENT, frame(1, 4, stream))
@@ -283,7 +292,8 @@ def next_client():
 USUAL = (bulk, small, connections, chatty, calls, streams, early)
 HOSTILE = (
     closed, strays, colliding, empty, hollow, openings, backwards, overlapping, grants, settings, waiting, crumbs, promised)
-SHAPES = {each.__name__: each for each in USUAL + HOSTILE + (live,)}
+QUADRATIC = (live, live_early)
+SHAPES = {each.__name__: each for each in USUAL + HOSTILE + QUADRATIC}
 
 
 def main():

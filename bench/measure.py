@@ -1,12 +1,12 @@
 #!/usr/bin/env python3
-"""Measures a program: measure.py PROGRAM [--beside OTHER] [--shapes NAME,..] [MEGABYTES ..]
+"""Measures a program: measure.py PROGRAM [--beside OTHER] [--shapes NAME,..] [--runs N] [MEGABYTES ..]
 
 Without MEGABYTES these are 10, 40 and 160; 12.5, 25, 50 and 100 of the shapes that a peer might make on purpose; and 0.125, 0.25,
-0.5 and 1 of `live`, which is quadratic.
+0.5 and 1 of those that are quadratic.
 
-For each shape of capture and each size, of three runs each in turn: the least processor time with one worker, the least wall time
-with one and with four, and the greatest peak of memory. `cat` runs beside it, and so does an older program where one is named; all
-have the capture on standard input and their output thrown away. Prints one line each, with ratios and the growth from the size
+For each shape of capture and each size, of N runs each in turn (3 without --runs): the least processor time with one worker, the
+least wall time with one and with four, and the greatest peak of memory. `cat` runs beside it, and so does an older program where one
+is named; all have the capture on standard input and their output thrown away. Prints one line each, with ratios and the growth from the size
 before, since absolute times say more of the machine than of the program.
 """
 import argparse
@@ -16,11 +16,10 @@ import sys
 import tempfile
 import time
 
-from generate import HOSTILE, SHAPES, USUAL, live
+from generate import HOSTILE, QUADRATIC, SHAPES, USUAL
 
 HERE = os.path.dirname(os.path.abspath(__file__))
-RUNS = 3
-SIZES = [(USUAL, (10, 40, 160)), (HOSTILE, (12.5, 25, 50, 100)), ((live,), (0.125, 0.25, 0.5, 1))]
+SIZES = [(USUAL, (10, 40, 160)), (HOSTILE, (12.5, 25, 50, 100)), (QUADRATIC, (0.125, 0.25, 0.5, 1))]
 
 
 def once(words, path):
@@ -33,19 +32,18 @@ def once(words, path):
         return time.monotonic() - start, usage.ru_utime + usage.ru_stime, usage.ru_maxrss * 1024 / 1000000
 
 
-def best(commands, path):
+def best(commands, path, runs):
     """Of each command the least times and the greatest peak, the commands in turn."""
-    found = [[once(words, path) for words in commands] for _ in range(RUNS)]
-    runs = list(zip(*found))
-    return [(min(r[0] for r in run), min(r[1] for r in run), max(r[2] for r in run)) for run in runs]
+    found = [[once(words, path) for words in commands] for _ in range(runs)]
+    return [(min(r[0] for r in each), min(r[1] for r in each), max(r[2] for r in each)) for each in zip(*found)]
 
 
-def line_of(shape, path, program, beside, before):
+def line_of(shape, path, program, beside, runs, before):
     size = os.path.getsize(path) / 1000000
     commands = [[program, "--workers", "1"], [program, "--workers", "4"], ["cat"]]
     if beside:
         commands.append([beside, "--workers", "4"])
-    one, four, cat, *other = best(commands, path)
+    one, four, cat, *other = best(commands, path, runs)
     peak = max(one[2], four[2])
     grown = (one[1] / before[0], peak / before[1]) if before else (0, 0)
     text = "%-11s %5.3g  %8.3f %5.0f %6.1f  %8.2f  %8.1f %6.2f %6.1f" % (
@@ -65,6 +63,7 @@ def main():
     words.add_argument("program")
     words.add_argument("--beside")
     words.add_argument("--shapes", default=",".join(SHAPES))
+    words.add_argument("--runs", type=int, default=3)
     words.add_argument("megabytes", nargs="*", type=float)
     asked = words.parse_intermixed_args()
     program, beside = os.path.abspath(asked.program), asked.beside and os.path.abspath(asked.beside)
@@ -76,7 +75,7 @@ def main():
             with tempfile.TemporaryDirectory() as folder:
                 path = os.path.join(folder, "capture.pcap")
                 subprocess.run([sys.executable, os.path.join(HERE, "generate.py"), shape, str(size), path], check=True)
-                before = line_of(shape, path, program, beside, before)
+                before = line_of(shape, path, program, beside, asked.runs, before)
 
 
 if __name__ == "__main__":
