@@ -18,9 +18,8 @@
 //! which parts may change places, so all findings split by machine; and a stream that has no frame and no change at a
 //! number says nothing there. From this the law on parts follows.
 //!
-//! Wrong bodies that the prover refuses: settings that count when they are sent, settings that reach open streams only,
-//! DATA on a reset stream that is not counted. Tested, in `crate_tests`: that `one_pass` succeeds where there is
-//! memory.
+//! A wrong body that the prover refuses: DATA on a reset stream that is not counted. Tested, in `crate_tests`: that
+//! `one_pass` succeeds where there is memory.
 #![tactic(auto)]
 
 pub mod laws;

@@ -14,8 +14,8 @@
 //! Each call that allocates answers `AllocError` only where memory runs out. Of these calls the program takes
 //! `carries`, and what a summary is; its blocks are summed by workers that draw them.
 //!
-//! Wrong bodies that the prover refuses: parts joined backwards, blocks dropped, the first sum added for each. Tested,
-//! in `crate_tests`: that `scan` succeeds where there is memory, for several block lengths. Trusted: the port of
+//! Wrong bodies that the prover refuses: parts joined backwards, the first sum added for each block. Tested, in
+//! `crate_tests`: that `scan` succeeds where there is memory, for several block lengths. Trusted: the port of
 //! `rayon`.
 #![tactic(auto)]
 

@@ -22,7 +22,7 @@
 //! and at once.
 //!
 //! Wrong bodies that the prover refuses: a block that starts afresh, a join that leaves out what is before, clear by
-//! the total alone, a run that looks once or ends at the look. Tested, in `crate_tests`: that the calls succeed where
+//! the total alone, a run that looks once. Tested, in `crate_tests`: that the calls succeed where
 //! there is memory, and how often a run over 1,000 frames looks.
 #![tactic(auto)]
 

@@ -21,8 +21,8 @@
 //! length are no part of a datagram; a total length of 0, which segmentation offload leaves in a capture, stands for
 //! all bytes that were captured.
 //!
-//! Wrong bodies that the prover refuses: pieces numbered afresh, a fragment judged before its end, a name with an
-//! underscore. Tested by whole reports: that `decode_all` succeeds where there is memory. Trusted: the port of `rayon`.
+//! Wrong bodies that the prover refuses: pieces numbered afresh, a fragment judged before its end. Tested by whole
+//! reports: that `decode_all` succeeds where there is memory. Trusted: the port of `rayon`.
 #![tactic(auto)]
 
 mod decoding;

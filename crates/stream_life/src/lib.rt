@@ -12,8 +12,8 @@
 //! - [`worked_examples`] are short runs of the definitions: ends of both sides, resets, promises and where they stand
 //!   wrongly.
 //!
-//! Wrong bodies that the prover refuses: a window that is live on an idle stream, or after the other side's reset, and
-//! a misplaced promise that is not said. The program takes no call of it: `stream_credit` counts by `audit_terms`,
+//! Wrong bodies that the prover refuses: a window that is live after the other side's reset, and a misplaced promise
+//! that is not said. The program takes no call of it: `stream_credit` counts by `audit_terms`,
 //! which states the same life.
 #![tactic(auto)]
 
