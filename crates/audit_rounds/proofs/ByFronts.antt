@@ -96,7 +96,7 @@ module _ (credits_shown : Bool) where
         by_test true t =
             let is : chosen_of (found_with (begun_of y, z)) ≡ y = rw t refl in
             ap (λ (list : Vec Finding Global). list.items) is ∙ early
-            ∙ whole (if nat_lt (length x.now) 131072 then 0 else length x.now / 32) x.now
+            ∙ whole (if nat_lt (length x.now) 4096 then 0 else length x.now / 32) x.now
             (sym (ap (list_any stops) early) ∙ t)
         by_test false t =
             let is : chosen_of (found_with (begun_of y, z)) ≡ z = rw t refl in

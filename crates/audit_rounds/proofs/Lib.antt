@@ -7,6 +7,7 @@ pub mod Rounds
 pub mod Whole
 pub mod PartsKept
 pub mod Fronts
+pub mod MadeReady
 pub mod Batches
 pub mod Cuts
 pub mod Layouts

@@ -1,12 +1,14 @@
 //! A batch of connections: each is made ready, then the rounds go over all of them, and what they found of each is put
 //! in order.
 
-ghost use Rattle.std.specs.Prelude.{◌≡◌, ℕ, ◌<◌, All, IfOk, length, map, slice_index_or};
+ghost use Rattle.std.specs.Prelude.{◌≡◌, ℕ, ◌<◌, ◌≤◌, All, IfOk, length, map, slice_index_or};
+ghost use Rattle.std.specs.Thread.{IsSync};
 ghost use Rattle.audit_terms.specs.Frame.{IsOrderly};
 ghost use Rattle.audit_terms.specs.Finding.{in_order, upto_stop, shown};
 ghost use Rattle.audit_terms.specs.Pass.{pass};
 ghost use Rattle.audit_rounds.specs.Settling.{frames_within};
-ghost use Rattle.audit_rounds.specs.code.Prepared.{IsPrepared, found_before};
+ghost use Rattle.audit_rounds.specs.code.MadeReady.{AreMadeReady};
+ghost use Rattle.audit_rounds.specs.code.Prepared.{IsPrepared};
 ghost use Rattle.audit_rounds.specs.code.Connections.{front_of, IsRest, AreRests};
 
 use crate::block_rounds::rounds_over_blocks;
@@ -19,7 +21,7 @@ use conn_scan::Block;
 use job_crew::Gate;
 use split_merge::merge;
 use std::alloc::{AllocError, Global};
-use std::thread::Threads;
+use std::thread::{Threads, join};
 
 /// What bounds the rest of the work on a connection.
 #[derive(Drop)]
@@ -45,7 +47,7 @@ pub(crate) fn findings_of_batch<R: Threads + Sync, G: Gate>(
     ensures { IfOk result (λ found. map (λ one. one.items) found.items
         ≡ map (λ frames. shown credits_shown (pass frames.now)) connections.now) }
 {
-    let (prepared, found) = prepare_each(rt, alloc, connections)?;
+    let (prepared, found) = prepare_each(rt, alloc, division.workers, connections)?;
     let prepared = prepared.as_slice();
     let streams = round_over_streams(rt, alloc, division, gate, credits_shown, prepared, found)?;
     let (found, fronts) = apart(alloc, streams)?;
@@ -56,24 +58,78 @@ pub(crate) fn findings_of_batch<R: Threads + Sync, G: Gate>(
 }
 
 /// Makes each connection ready, and answers what is found of each before the rounds.
-fn prepare_each<'a, R: Threads + Sync>(
+fn prepare_in_turn<'a, R: Threads + Sync>(
     rt: &R,
     alloc: Global,
+    workers: u32,
     connections: &[&'a [Frame]],
 ) -> Result<(Vec<Prepared<'a>>, Vec<Vec<Finding>>), AllocError>
+    requires workers { 0 < workers }
     requires frames { All (λ frames. IsOrderly frames.now) connections.now }
-    ensures frames { IfOk result (λ made. map (λ one. one.frames.now) made.0.items
-        ≡ map (λ frames. frames.now) connections.now) }
-    ensures prepared { IfOk result (λ made. All IsPrepared made.0.items) }
-    ensures found { IfOk result (λ made. map (λ one. one.items) made.1.items ≡ map found_before made.0.items) }
+    ensures { IfOk result (λ made. AreMadeReady connections.now made.0.items made.1.items) }
 {
     let mut prepared = Vec::with_capacity(alloc, connections.len())?;
     let mut found = Vec::with_capacity(alloc, connections.len())?;
     for frames in connections {
-        let (ready, before) = prepare(rt, alloc, *frames)?;
+        let (ready, before) = prepare(rt, alloc, workers, *frames)?;
         prepared.push(ready)?;
         found.push(before)?;
     }
+    Ok((prepared, found))
+}
+
+/// Where connections are halved: those before have about half of the frames.
+fn middle(connections: &[&[Frame]]) -> usize
+    requires { 2 ≤ length connections.now }
+    ensures some { 0 < result }
+    ensures fewer { result < length connections.now }
+{
+    let mut together = 0usize;
+    for frames in connections {
+        together = together.saturating_add(frames.len());
+    }
+    let mut before = connections[0].len();
+    let mut count = 1;
+    while count < connections.len() - 1 && before < together / 2 {
+        before = before.saturating_add(connections[count].len());
+        count += 1;
+    }
+    count
+}
+
+/// Makes each connection ready, halves of them side by side where there are workers, and answers what is found of each
+/// before the rounds.
+fn prepare_each<'a, R: Threads + Sync>(
+    rt: &R,
+    alloc: Global,
+    workers: u32,
+    connections: &[&'a [Frame]],
+) -> Result<(Vec<Prepared<'a>>, Vec<Vec<Finding>>), AllocError>
+    requires workers { 0 < workers }
+    requires frames { All (λ frames. IsOrderly frames.now) connections.now }
+    ensures { IfOk result (λ made. AreMadeReady connections.now made.0.items made.1.items) }
+{
+    if workers == 1 || connections.len() < 2 {
+        return prepare_in_turn(rt, alloc, workers, connections);
+    }
+    let (front, back) = connections.split_at(middle(connections));
+    let half = workers / 2;
+    let rest = workers - half;
+    let (one, other) = join(
+        rt,
+        || -> Result<(Vec<Prepared<'_>>, Vec<Vec<Finding>>), AllocError>
+            requires { IsSync R.row × (0 < half) × All (λ frames. IsOrderly frames.now) front.now }
+            ensures { IfOk result (λ made. AreMadeReady front.entry.now made.0.items made.1.items) }
+        { prepare_each(rt, alloc, half, front) },
+        || -> Result<(Vec<Prepared<'_>>, Vec<Vec<Finding>>), AllocError>
+            requires { IsSync R.row × (0 < rest) × All (λ frames. IsOrderly frames.now) back.now }
+            ensures { IfOk result (λ made. AreMadeReady back.entry.now made.0.items made.1.items) }
+        { prepare_each(rt, alloc, rest, back) },
+    );
+    let (mut prepared, mut found) = one?;
+    let (mut more, mut more_found) = other?;
+    prepared.append(&mut more)?;
+    found.append(&mut more_found)?;
     Ok((prepared, found))
 }
 

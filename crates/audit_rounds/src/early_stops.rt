@@ -17,7 +17,7 @@ use std::alloc::{AllocError, Global};
 use std::thread::Threads;
 
 /// Of so many frames and more a front is gone through first.
-const LONG: usize = 131_072;
+const LONG: usize = 4_096;
 
 /// How many times shorter than its connection a front is, and so what it may cost where it shows no error.
 const FRONTS: usize = 32;

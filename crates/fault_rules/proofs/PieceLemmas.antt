@@ -79,12 +79,12 @@ last_from-own side before frames back d l e =
     ∙ ap (λ i. Some (get_or frames i d)) (sym place)
 
 -- one more of those before the pieces
-pub befores-push : (frames : List Frame) (befores : List (Sides (Option Frame))) (next : Sides (Option Frame)) (n : ℕ)
-    → length befores ≡ n → next ≡ before_piece frames n
-    → ((k : ℕ) (d : Sides (Option Frame)) → k < length befores → get_or befores k d ≡ before_piece frames k)
+pub befores-push : (size : ℕ) (frames : List Frame) (befores : List (Sides (Option Frame))) (next : Sides (Option Frame)) (n : ℕ)
+    → length befores ≡ n → next ≡ before_piece size frames n
+    → ((k : ℕ) (d : Sides (Option Frame)) → k < length befores → get_or befores k d ≡ before_piece size frames k)
     → (k : ℕ) (d : Sides (Option Frame)) → k < length (befores ++ next ∷ [])
-    → get_or (befores ++ next ∷ []) k d ≡ before_piece frames k
-befores-push frames befores next n e h each k d l = grind (arith, common_steps, each k d, e, h)
+    → get_or (befores ++ next ∷ []) k d ≡ before_piece size frames k
+befores-push size frames befores next n e h each k d l = grind (arith, common_steps, each k d, e, h)
 
 -- each frame of an orderly list is in range
 orderly-in_range : (low : ℕ) (frames : List Frame) → IsOrderlyFrom low frames → AllByRecursion IsInRange frames
@@ -95,47 +95,50 @@ pub orderly-All : (low : ℕ) (frames : List Frame) → IsOrderlyFrom low frames
 orderly-All low frames h = All-from_recursion IsInRange frames (orderly-in_range low frames h)
 
 -- what comes before the next piece
-pub before_piece-next : (frames : List Frame) (n : ℕ) →
-    before_piece frames (n + 1) ≡ previous_after_all (before_piece frames n) (slice_chunk frames 4096 n)
-before_piece-next frames n =
-    let e : (n + 1) * 4096 ≡ n * 4096 + 4096 = omega arith in
+pub before_piece-next : (size : ℕ) (frames : List Frame) (n : ℕ) →
+    before_piece size frames (n + 1) ≡ previous_after_all (before_piece size frames n) (slice_chunk frames size n)
+before_piece-next size frames n =
+    let e : (n + 1) * size ≡ n * size + size = omega arith in
     ap (λ k. previous_after_all no_previous (take k frames)) e
-    ∙ ap (previous_after_all no_previous) (take-add (n * 4096) 4096 frames)
-    ∙ fold-append previous_after no_previous (take (n * 4096) frames) (take 4096 (drop (n * 4096) frames))
+    ∙ ap (previous_after_all no_previous) (take-add (n * size) size frames)
+    ∙ fold-append previous_after no_previous (take (n * size) frames) (take size (drop (n * size) frames))
 
 -- a piece and what follows it
-pub piece_run-rest : (frames : List Frame) (n : ℕ) →
-    piece_run frames n ++ local_run_from (before_piece frames (n + 1)) (drop ((n + 1) * 4096) frames)
-    ≡ local_run_from (before_piece frames n) (drop (n * 4096) frames)
-piece_run-rest frames n =
-    let e : (n + 1) * 4096 ≡ n * 4096 + 4096 = omega arith in
-    let rest = drop (n * 4096) frames in
-    let behind : drop ((n + 1) * 4096) frames ≡ drop 4096 rest =
-    ap (λ k. drop k frames) e ∙ sym (drop-drop 4096 (n * 4096) frames) in
-    let now = piece_run frames n in
-    ap (λ previous. now ++ local_run_from previous (drop ((n + 1) * 4096) frames)) (before_piece-next frames n)
-    ∙ ap (λ l. now ++ local_run_from (previous_after_all (before_piece frames n) (take 4096 rest)) l) behind
-    ∙ sym (local_run_from-append (before_piece frames n) (take 4096 rest) (drop 4096 rest))
-    ∙ ap (local_run_from (before_piece frames n)) (take-append-drop 4096 rest)
+pub piece_run-rest : (size : ℕ) (frames : List Frame) (n : ℕ) →
+    piece_run size frames n ++ local_run_from (before_piece size frames (n + 1)) (drop ((n + 1) * size) frames)
+    ≡ local_run_from (before_piece size frames n) (drop (n * size) frames)
+piece_run-rest size frames n =
+    let e : (n + 1) * size ≡ n * size + size = omega arith in
+    let rest = drop (n * size) frames in
+    let behind : drop ((n + 1) * size) frames ≡ drop size rest =
+    ap (λ k. drop k frames) e ∙ sym (drop-drop size (n * size) frames) in
+    let now = piece_run size frames n in
+    ap (λ previous. now ++ local_run_from previous (drop ((n + 1) * size) frames)) (before_piece-next size frames n)
+    ∙ ap (λ l. now ++ local_run_from (previous_after_all (before_piece size frames n) (take size rest)) l) behind
+    ∙ sym (local_run_from-append (before_piece size frames n) (take size rest) (drop size rest))
+    ∙ ap (local_run_from (before_piece size frames n)) (take-append-drop size rest)
 
-module _ {X : Type 0} (E : Type 0) (items : X → List Finding) (frames : List Frame) where
+module _ {X : Type 0} (E : Type 0) (items : X → List Finding) (size : ℕ) (frames : List Frame) where
   -- what the pieces from number n on show
-  pub pieces-from : (n count : ℕ) (pieces : List X) → length frames ≤ (n + count) * 4096
-      → AllZip (λ k (r : Result X E). IfOk r (λ piece. items piece ≡ piece_run frames k))
+  pub pieces-from : (n count : ℕ) (pieces : List X) → length frames ≤ (n + count) * size
+      → AllZip (λ k (r : Result X E). IfOk r (λ piece. items piece ≡ piece_run size frames k))
       (range_with_len n count) (map Ok pieces)
-      → flat_map items pieces ≡ local_run_from (before_piece frames n) (drop (n * 4096) frames)
+      → flat_map items pieces ≡ local_run_from (before_piece size frames n) (drop (n * size) frames)
   pieces-from n zero [] l h =
-      ap (local_run_from (before_piece frames n)) (sym (drop_all (n * 4096) frames (omega arith)))
+      ap (local_run_from (before_piece size frames n)) (sym (drop_all (n * size) frames (omega arith)))
   pieces-from n zero (piece ∷ pieces) l h = absurd h
   pieces-from n (suc count) [] l h = absurd h
   pieces-from n (suc count) (piece ∷ pieces) l h =
       ap (λ said. said ++ flat_map items pieces) h.0
-      ∙ ap (λ rest. piece_run frames n ++ rest) (pieces-from (n + 1) count pieces (omega arith) h.1)
-      ∙ piece_run-rest frames n
+      ∙ ap (λ rest. piece_run size frames n ++ rest) (pieces-from (n + 1) count pieces (omega arith) h.1)
+      ∙ piece_run-rest size frames n
 
   -- what all pieces show
-  pub pieces-all : (count : ℕ) (pieces : List X) → length frames ≤ count * 4096
-      → AllZip (λ k (r : Result X E). IfOk r (λ piece. items piece ≡ piece_run frames k))
+  pub pieces-all : (count : ℕ) (pieces : List X) → length frames ≤ count * size
+      → AllZip (λ k (r : Result X E). IfOk r (λ piece. items piece ≡ piece_run size frames k))
       (range_with_len 0 count) (map Ok pieces)
       → flat_map items pieces ≡ local_run frames
-  pieces-all count pieces l h = pieces-from 0 count pieces (omega arith) h
+  pieces-all count pieces l h =
+      let first : 0 * size ≡ 0 = omega arith in
+      pieces-from 0 count pieces (omega arith) h
+      ∙ ap (λ k. local_run_from (previous_after_all no_previous (take k frames)) (drop k frames)) first

@@ -12,29 +12,32 @@ use rayon::prelude::*;
 use std::alloc::{AllocError, Global};
 use std::thread::Threads;
 
-/// How many frames a thread reads at least.
+/// How many frames make a piece at least.
 const PIECE: usize = 4096;
 
 /// The local faults of a connection's frames, in order, each frame's in order of rank: a side that does not begin with
 /// SETTINGS, broken field blocks, frames on wrong streams, payloads that cannot be read, settings out of range and
-/// promises of the client (RFC 9113, 3.4, 4.3, 6).
+/// promises of the client (RFC 9113, 3.4, 4.3, 6). There are no more pieces than workers.
 pub fn local_faults(
     rt: &(impl Threads + Sync),
     alloc: Global,
+    workers: usize,
     frames: &[Frame],
 ) -> Result<Vec<Finding>, AllocError>
-    requires { IsOrderly frames.now }
+    requires workers { 0 < workers }
+    requires frames { IsOrderly frames.now }
     ensures { IfOk result (λ found. found.items ≡ local_run frames.now) }
 {
-    let befores = befores(alloc, frames)?;
+    let size = frames.len().div_ceil(workers).max(PIECE);
+    let befores = befores(alloc, size, frames)?;
     let befores = befores.as_slice();
     let pieces = (0..befores.len())
         .into_par_iter()
         .map(
             |n: usize| -> Result<Vec<Finding>, AllocError>
-                requires { (n < length befores.now) × All IsInRange frames.now × AreBefores frames.now befores.now }
-                ensures { IfOk result (λ said. said.items ≡ piece_run frames.entry.now n) }
-            { faults_of_piece(alloc, frames, befores, n) },
+                requires { (n < length befores.now) × All IsInRange frames.now × AreBefores size frames.now befores.now }
+                ensures { IfOk result (λ said. said.items ≡ piece_run size frames.entry.now n) }
+            { faults_of_piece(alloc, size, frames, befores, n) },
         )
         .with_min_len(1)
         .collect::<Result<Vec<_>, AllocError>>(rt, alloc)??;
@@ -42,43 +45,49 @@ pub fn local_faults(
 }
 
 /// The last frame of each side before each piece.
-fn befores(alloc: Global, frames: &[Frame]) -> Result<Vec<Sides<Option<Frame>>>, AllocError>
-    ensures { IfOk result (λ befores. AreBefores frames.now befores.items) }
+fn befores(
+    alloc: Global,
+    size: usize,
+    frames: &[Frame],
+) -> Result<Vec<Sides<Option<Frame>>>, AllocError>
+    requires { 0 < size }
+    ensures { IfOk result (λ befores. AreBefores size frames.now befores.items) }
 {
     let mut befores = Vec::new(alloc);
     let mut previous = Sides {
         client: None,
         server: None,
     };
-    for n in 0..frames.len().div_ceil(PIECE) {
+    for n in 0..frames.len().div_ceil(size) {
         befores.push(previous)?;
-        previous = previous_after_all(&previous, piece(frames, n));
+        previous = previous_after_all(&previous, piece(size, frames, n));
     }
     Ok(befores)
 }
 
-/// A piece of the frames, by its number from 0.
-fn piece(frames: &[Frame], n: usize) -> &[Frame]
-    requires { n * 4096 < length frames.now }
-    ensures { result.now ≡ slice_chunk frames.now 4096 n }
+/// A piece of so many frames at most, by its number from 0.
+fn piece(size: usize, frames: &[Frame], n: usize) -> &[Frame]
+    requires { n * size < length frames.now }
+    ensures { result.now ≡ slice_chunk frames.now size n }
 {
-    let rest = &frames[n * PIECE..];
-    &rest[..PIECE.min(rest.len())]
+    let rest = &frames[n * size..];
+    &rest[..size.min(rest.len())]
 }
 
 /// The local faults of a piece, by its number from 0.
 fn faults_of_piece(
     alloc: Global,
+    size: usize,
     frames: &[Frame],
     befores: &[Sides<Option<Frame>>],
     n: usize,
 ) -> Result<Vec<Finding>, AllocError>
     requires inside { n < length befores.now }
     requires in_range { All IsInRange frames.now }
-    requires befores { AreBefores frames.now befores.now }
-    ensures { IfOk result (λ said. said.items ≡ piece_run frames.now n) }
+    requires befores { AreBefores size frames.now befores.now }
+    ensures { IfOk result (λ said. said.items ≡ piece_run size frames.now n) }
 {
-    faults_after(alloc, befores[n], piece(frames, n))
+    faults_after(alloc, befores[n], piece(size, frames, n))
 }
 
 /// The local faults of some frames, from the last frame of each side before them.

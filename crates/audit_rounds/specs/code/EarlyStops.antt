@@ -10,7 +10,7 @@ use Rattle.audit_rounds.specs.declared.early_stops.Found.{Found}
 
 -- the frames that are gone through first
 abbrev pub front_of : List Frame → List Frame
-front_of frames = take (if nat_lt (length frames) 131072 then 0 else length frames / 32) frames
+front_of frames = take (if nat_lt (length frames) 4096 then 0 else length frames / 32) frames
 
 -- does one of them stop the connection?
 abbrev pub has_stopped : List Finding → Bool

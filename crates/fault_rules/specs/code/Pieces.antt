@@ -1,4 +1,4 @@
--- A connection's frames in pieces of 4096, and what a piece has to know of those before it.
+-- A connection's frames in pieces of one size, and what a piece has to know of those before it.
 use Rattle.std.specs.Prelude.{◌≡◌, ℕ, ◌*◌, ◌<◌, ◌≤◌, List, [], ◌∷◌, Option, Some, if◌then◌else◌, length, fold, take, slice_index_or}
 use Rattle.std.specs.Fork.{slice_chunk}
 use Rattle.audit_terms.specs.declared.sides.Side.{Side}
@@ -18,16 +18,16 @@ last_from side before [] = before
 last_from side before (frame ∷ frames) = last_from side (if is_side side frame.side then Some frame else before) frames
 
 -- the last frame of each side before piece n
-abbrev pub before_piece : List Frame → ℕ → Sides (Option Frame)
-before_piece frames n = previous_after_all no_previous (take (n * 4096) frames)
+abbrev pub before_piece : (size : ℕ) → List Frame → ℕ → Sides (Option Frame)
+before_piece size frames n = previous_after_all no_previous (take (n * size) frames)
 
 -- the local faults of piece n
-abbrev pub piece_run : List Frame → ℕ → List Finding
-piece_run frames n = local_run_from (before_piece frames n) (slice_chunk frames 4096 n)
+abbrev pub piece_run : (size : ℕ) → List Frame → ℕ → List Finding
+piece_run size frames n = local_run_from (before_piece size frames n) (slice_chunk frames size n)
 
 -- there is one of befores for each piece, and it holds the last frame of each side before that piece
-pub record AreBefores (frames : List Frame) (befores : List (Sides (Option Frame))) : Type 0 where
-  pub whole : length frames ≤ length befores * 4096
-  pub inside : (n : ℕ) → n < length befores → n * 4096 < length frames
+pub record AreBefores (size : ℕ) (frames : List Frame) (befores : List (Sides (Option Frame))) : Type 0 where
+  pub whole : length frames ≤ length befores * size
+  pub inside : (n : ℕ) → n < length befores → n * size < length frames
   pub each : (n : ℕ) (d : Sides (Option Frame)) → n < length befores →
-      slice_index_or befores n d ≡ before_piece frames n
+      slice_index_or befores n d ≡ before_piece size frames n

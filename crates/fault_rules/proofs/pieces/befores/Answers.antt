@@ -16,8 +16,8 @@ loop-n-preserved c =
     let longer = length-append old (before ∷ []) in
     record {
       previous = c.previous_after_all-previous.ensures ∙ ap (previous_after_all before) c.piece.ensures
-          ∙ ap (λ p. previous_after_all p (slice_chunk frames 4096 c.loop-n.n)) i.previous
-          ∙ sym (before_piece-next frames c.loop-n.n);
+          ∙ ap (λ p. previous_after_all p (slice_chunk frames c.args.size c.loop-n.n)) i.previous
+          ∙ sym (before_piece-next c.args.size frames c.loop-n.n);
       count = ap length grown ∙ longer ∙ ap (λ k. k + 1) i.count;
-      each = rw grown (befores-push frames old before c.loop-n.n i.count i.previous i.each);
+      each = rw grown (befores-push c.args.size frames old before c.loop-n.n i.count i.previous i.each);
     }

@@ -6,6 +6,6 @@ use Rattle.fault_rules.proofs.pieces.faults_of_piece.Goals as goal
 pub faults_after-requires : goal.faults_after-requires
 faults_after-requires c =
     let frames = c.args.frames.now in
-    let start = c.args.n * 4096 in
+    let start = c.args.n * c.args.size in
     subst (All IsInRange) (sym c.piece.ensures)
-    (All-take IsInRange 4096 (drop start frames) (All-drop IsInRange start frames c.requires.in_range))
+    (All-take IsInRange c.args.size (drop start frames) (All-drop IsInRange start frames c.requires.in_range))

@@ -12,11 +12,12 @@ pub collect-requires-clause-ready : goal.collect-requires-clause-ready
 collect-requires-clause-ready g c κs within =
     let ends = c.into_par_iter.ensures in
     let frames = c.args.frames.now in
+    let size = c.max-size.result in
     let befores = c.as_slice-befores.result.now in
-    let are : AreBefores frames befores =
-    subst (AreBefores frames) (sym c.as_slice-befores.ensures.value) c.in_ok-befores.ensures in
-    let inside = nat_range-All (λ n. (n < length befores) × All IsInRange frames × AreBefores frames befores)
-    0 (length befores) (λ n low high. (high, orderly-All 0 frames c.requires, are)) in
+    let are : AreBefores size frames befores =
+    subst (AreBefores size frames) (sym c.as_slice-befores.ensures.value) c.in_ok-befores.ensures in
+    let inside = nat_range-All (λ n. (n < length befores) × All IsInRange frames × AreBefores size frames befores)
+    0 (length befores) (λ n low high. (high, orderly-All 0 frames c.requires.frames, are)) in
     rw (c.with_min_len.ensures.base, c.map.ensures.base, c.map.ensures.f, ends.0, ends.1)
     (λ k d lt. (inside k d lt, λ y p. tt))
 
@@ -24,9 +25,10 @@ pub returns : goal.returns
 returns g c =
     let ends = c.into_par_iter.ensures in
     let frames = c.args.frames.now in
+    let size = c.max-size.result in
     let befores = c.as_slice-befores.result.now in
-    let are : AreBefores frames befores =
-    subst (AreBefores frames) (sym c.as_slice-befores.ensures.value) c.in_ok-befores.ensures in
+    let are : AreBefores size frames befores =
+    subst (AreBefores size frames) (sym c.as_slice-befores.ensures.value) c.in_ok-befores.ensures in
     let n = length befores in
     let whole : n - 0 ≡ n = omega arith in
     let h = c.in_ok-collect.ensures in
@@ -36,4 +38,4 @@ returns g c =
     let zipped = rw (places, got.1) at chain.2 in
     IfOk-then c.joined.result _ _ c.joined.ensures (λ v joined.
     joined ∙ ap (flat_map (λ piece. piece.items)) (c.as_slice.ensures.value ∙ got.2)
-    ∙ pieces-all _ (λ piece. piece.items) frames n got.0 are.whole zipped)
+    ∙ pieces-all _ (λ piece. piece.items) size frames n got.0 are.whole zipped)

@@ -5,8 +5,8 @@ use Rattle.fault_rules.proofs.pieces.piece.Goals as goal
 pub returns : goal.returns
 returns c =
     let frames = c.args.frames.now in
-    let start = c.args.n * 4096 in
+    let start = c.args.n * c.args.size in
     let rest = drop start frames in
     let whole : take (length frames - start) rest ≡ rest = take_all _ rest (omega (arith, length-drop start frames)) in
-    let size : c.min.result ≡ min 4096 (length rest) = c.min.ensures ∙ ap (λ l. min 4096 (length l)) whole in
-    ap (take c.min.result) whole ∙ ap (λ k. take k rest) size ∙ take_min 4096 rest
+    let size : c.min.result ≡ min c.args.size (length rest) = c.min.ensures ∙ ap (λ l. min c.args.size (length l)) whole in
+    ap (take c.min.result) whole ∙ ap (λ k. take k rest) size ∙ take_min c.args.size rest

@@ -2,7 +2,7 @@ use Rattle.std.proofs.Common.{All, sym, subst, arith}
 use Rattle.std.proofs.lemmas.List.Elements.{All-push}
 use Rattle.audit_rounds.specs.code.Prepared.{IsPrepared}
 use Rattle.audit_rounds.proofs.Fronts.{ready-more, before-more}
-use Rattle.audit_rounds.proofs.connections.prepare_each.Goals as goal
+use Rattle.audit_rounds.proofs.connections.prepare_in_turn.Goals as goal
 
 pub loop-frames-preserved : goal.loop-frames-preserved
 loop-frames-preserved g c =

@@ -1,6 +1,6 @@
 use Rattle.std.proofs.Common.{◌≡◌, ◌≤◌, All, map, take, length}
 use Rattle.audit_rounds.specs.code.Prepared.{IsPrepared, found_before}
-use Rattle.audit_rounds.proofs.connections.prepare_each.Given as goal
+use Rattle.audit_rounds.proofs.connections.prepare_in_turn.Given as goal
 
 -- the connections so far are ready
 abbrev pub invariant-loop-frames : goal.invariant-loop-frames
