@@ -222,7 +222,7 @@ module _ {L : Type 0} (answers : L → List Finding → Option ℕ → L → Typ
 
   -- what a run of a row's stream leaves
   pub row-work : {E : Type 0} (r : Result StreamRun E) → IsRow streams row → positions ≡ part_of streams.split.now row
-      → IfOk r (λ run. IsRun answers before after (step_numbers frames streams.changes.now) whole run.findings.items
+      → IfOk r (λ run. IsRun answers before after (step_numbers row.stream frames streams.changes.now) whole run.findings.items
       run.upto run.last_look run.looks)
       → IfOk r (λ run. run.opened_at ≡ opened_up_to run.upto opening)
       → IfOk r (λ run. All (λ (found : Finding). place_number found.place ≤ 2 ^ 28 - 2) run.findings.items)
@@ -235,7 +235,7 @@ module _ {L : Type 0} (answers : L → List Finding → Option ℕ → L → Typ
       (shown credits_shown (stream_run row.stream (frames_at streams.frames.now l) streams.changes.now))
       (option_to_list (stream_at_end row.stream (frames_at streams.frames.now l) streams.changes.now).life.opened)
       run.upto run.findings.items (option_to_list run.opened_at)) e
-      (work-of_run answers before after (step_numbers frames streams.changes.now) whole run.findings.items run.upto
+      (work-of_run answers before after (step_numbers row.stream frames streams.changes.now) whole run.findings.items run.upto
       run.last_look run.looks opening run.opened_at
       (shown-ordered row.stream is_row.in_range credits_shown frames streams.changes.now orderly) h k n)
 

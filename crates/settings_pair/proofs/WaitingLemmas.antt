@@ -1,20 +1,84 @@
 -- What an acknowledgement takes from the queues is what it takes by position.
-use Rattle.std.proofs.Common.{◌≡◌, ℕ, suc, zero, ◌+◌, ◌≤◌, Bool, true, false, ◌&&◌, if◌then◌else◌, List, [], ◌∷◌, ◌++◌, length, drop, slice_get, Option, Some, None, is_some, is_none, pos, refl, sym, ap, ◌∙◌, add-zero, arith}
-use Rattle.std.proofs.lemmas.List.{append-nil, drop-drop}
+use Rattle.std.proofs.Common.{◌≡◌, ℕ, suc, zero, ◌+◌, ◌<◌, ◌≤◌, Bool, true, false, ◌&&◌, if◌then◌else◌, List, [], ◌∷◌, ◌++◌, length, drop, slice_get, get_or, append_assoc, Option, Some, None, is_some, is_none, pos, refl, sym, ap, ◌∙◌, add-zero, length-append, arith}
+use Rattle.std.specs.Option.{option_to_list}
+use Rattle.std.proofs.lemmas.List.{append-nil, drop-drop, drop_all, drop-append-le, at_drop_more}
 use Rattle.std.proofs.lemmas.Option.{slice_get_within}
 use Rattle.audit_terms.specs.declared.sides.Side.{Side}
 use Rattle.audit_terms.specs.declared.sides.Side.TheVariants.{Client, Server}
 use Rattle.audit_terms.specs.declared.frames.Settings.{Settings}
-use Rattle.audit_terms.specs.declared.frames.Body.TheVariants.{SettingsAck}
+use Rattle.audit_terms.specs.declared.frames.Body.{Body}
+use Rattle.audit_terms.specs.declared.frames.Body.TheVariants.{Settings as SettingsBody, SettingsAck, Content, Headers, Priority, RstStream, PushPromise, Ping, GoAway, WindowUpdate, Continuation, Unknown, Unreadable}
 use Rattle.audit_terms.specs.declared.frames.Frame.{Frame}
 use Rattle.audit_terms.specs.Side.{other, is_side}
 use Rattle.audit_terms.specs.Sides.{side_of}
-use Rattle.audit_terms.specs.Frame.{settings_in}
+use Rattle.audit_terms.specs.Frame.{is_ack, settings_in}
 use Rattle.audit_terms.specs.declared.kinds.Kind.TheVariants.{UnmatchedAck}
 use Rattle.audit_terms.specs.Finding.{finding_at, say}
 use Rattle.audit_terms.specs.InForce.{InForce, initial_in_force, taken, change_taking, change_of, in_force_after, settings_said}
 use Rattle.settings_pair.specs.declared.waiting.Waiting.{Waiting}
-use Rattle.settings_pair.specs.code.Waiting.{waiting_of, IsWaiting}
+use Rattle.settings_pair.specs.code.Waiting.{sent_of, sent_by, waiting_of, IsWaiting}
+
+-- ---- the settings of one side, frame by frame
+
+pub sent-at : (d : Side) (seen : List Frame) (at : ℕ) (frame : Frame) → at < length seen → frame ≡ get_or seen at frame
+    → sent_by d (drop at seen) ≡ sent_of d frame ++ sent_by d (drop (at + 1) seen)
+sent-at d seen at frame within is =
+    at_drop_more (sent_by d) seen at frame within ∙ ap (λ (one : Frame). sent_of d one ++ sent_by d (drop (at + 1) seen)) (sym is)
+
+module _ (d : Side) (seen : List Frame) (from at : ℕ) (frame : Frame) (sent : Option Settings) (within : at < length seen)
+    (is : frame ≡ get_or seen at frame) (e : option_to_list sent ≡ sent_of d frame)
+    (left : sent_by d (drop at seen) ≡ sent_by d (drop from seen)) where
+  from-here : option_to_list sent ++ sent_by d (drop (at + 1) seen) ≡ sent_by d (drop from seen)
+  from-here = ap (λ l. l ++ sent_by d (drop (at + 1) seen)) e ∙ sym (sent-at d seen at frame within is) ∙ left
+
+  pub sent-first : is_some sent ≡ true → sent ≡ slice_get (sent_by d (drop from seen)) 0
+  sent-first some = by_sent sent some from-here where
+    by_sent : (one : Option Settings) → is_some one ≡ true
+        → option_to_list one ++ sent_by d (drop (at + 1) seen) ≡ sent_by d (drop from seen)
+        → one ≡ slice_get (sent_by d (drop from seen)) 0
+    by_sent None h k = cc
+    by_sent (Some settings) h k = ap (λ l. slice_get l 0) k
+
+  pub sent-rest : is_some sent ≡ true → sent_by d (drop (at + 1) seen) ≡ drop 1 (sent_by d (drop from seen))
+  sent-rest some = by_sent sent some from-here where
+    by_sent : (one : Option Settings) → is_some one ≡ true
+        → option_to_list one ++ sent_by d (drop (at + 1) seen) ≡ sent_by d (drop from seen)
+        → sent_by d (drop (at + 1) seen) ≡ drop 1 (sent_by d (drop from seen))
+    by_sent None h k = cc
+    by_sent (Some settings) h k = ap (drop 1) k
+
+  pub sent-none : is_some sent ≡ false → sent_by d (drop (at + 1) seen) ≡ sent_by d (drop from seen)
+  sent-none none = by_sent sent none from-here where
+    by_sent : (one : Option Settings) → is_some one ≡ false
+        → option_to_list one ++ sent_by d (drop (at + 1) seen) ≡ sent_by d (drop from seen)
+        → sent_by d (drop (at + 1) seen) ≡ sent_by d (drop from seen)
+    by_sent None h k = k
+    by_sent (Some settings) h k = cc
+
+none-left_by : (d : Side) (seen : List Frame) (from at : ℕ) → sent_by d (drop at seen) ≡ sent_by d (drop from seen) → length seen ≤ at
+    → sent_by d (drop from seen) ≡ []
+none-left_by d seen from at left past = sym left ∙ ap (sent_by d) (drop_all at seen past)
+
+pub none-sent_by : (d : Side) (seen : List Frame) (from at : ℕ) → sent_by d (drop at seen) ≡ sent_by d (drop from seen)
+    → length seen ≤ at → None ≡ slice_get (sent_by d (drop from seen)) 0
+none-sent_by d seen from at left past = ap (λ l. slice_get l 0) (sym (none-left_by d seen from at left past))
+
+pub none-rest : (d : Side) (seen : List Frame) (from at : ℕ) → sent_by d (drop at seen) ≡ sent_by d (drop from seen)
+    → length seen ≤ at → sent_by d (drop at seen) ≡ drop 1 (sent_by d (drop from seen))
+none-rest d seen from at left past =
+    let none = none-left_by d seen from at left past in left ∙ none ∙ ap (drop 1) (sym none)
+
+-- what waits grows by the settings of a frame more
+waiting-on : (d : Side) (from : ℕ) (seen : List Frame) (frame : Frame) → from ≤ length seen
+    → sent_by d (drop from (seen ++ frame ∷ [])) ≡ sent_by d (drop from seen) ++ sent_of d frame
+waiting-on d zero [] frame within = append-nil (sent_of d frame)
+waiting-on d (suc from) [] frame within = absurd (omega arith)
+waiting-on d (suc from) (one ∷ seen) frame within = waiting-on d from seen frame (omega arith)
+waiting-on d zero (one ∷ seen) frame within =
+    ap (λ l. sent_of d one ++ l) (waiting-on d zero seen frame (omega arith))
+    ∙ sym (append_assoc (sent_of d one) (sent_by d seen) (sent_of d frame))
+
+-- ---- sides
 
 pub other-other : (d : Side) → other (other d) ≡ d
 other-other Client = refl
@@ -68,61 +132,119 @@ queue-after false xs k t low h = (omega arith, rw add-zero refl)
 queue-after true xs k None low h = (omega arith, none-left xs k (sym (h refl)))
 queue-after true xs k (Some s) low h = (omega (arith, slice_get_within xs k s (sym (h refl))), drop-drop 1 k xs)
 
--- what an acknowledgement takes is the first that waits of the other side
-pub taken-ack : (now : InForce) (frame : Frame) (waiting : Waiting) → frame.body ≡ SettingsAck → IsWaiting now waiting
-    → taken now frame ≡ slice_get (waiting_of (other frame.side) waiting) 0
-taken-ack now frame waiting e h =
-    let at : waiting_of (other frame.side) waiting ≡ drop (side_of (other (other frame.side)) now.paired) (side_of (other frame.side) now.sent) = h.queued (other frame.side) in
-    rw (e, at, other-other) (sym (slice_get-drop (side_of frame.side now.paired) (side_of (other frame.side) now.sent)))
+ack-sends : (body : Body) → is_ack body ≡ true → settings_in body ≡ []
+ack-sends (SettingsBody settings) e = cc
+ack-sends SettingsAck e = refl
+ack-sends Content e = refl
+ack-sends Headers e = refl
+ack-sends Priority e = refl
+ack-sends RstStream e = refl
+ack-sends (PushPromise stream) e = refl
+ack-sends Ping e = refl
+ack-sends GoAway e = refl
+ack-sends (WindowUpdate amount) e = refl
+ack-sends Continuation e = refl
+ack-sends Unknown e = refl
+ack-sends (Unreadable kind value) e = refl
 
--- for one side
-pub queue-after_ack : (now : InForce) (frame : Frame) (old new : Waiting) → frame.body ≡ SettingsAck → IsWaiting now old
-    → ((d : Side) → waiting_of d new ≡ (if is_side d (other frame.side) then drop 1 (waiting_of d old) else waiting_of d old))
-    → (d : Side)
-    → (side_of (other d) (in_force_after now frame).paired ≤ length (side_of d (in_force_after now frame).sent))
-    × (waiting_of d new ≡ drop (side_of (other d) (in_force_after now frame).paired) (side_of d (in_force_after now frame).sent))
-queue-after_ack now frame old new e h takes d =
-    let chosen : is_side (other d) frame.side ≡ true → taken now frame ≡ slice_get (side_of d now.sent) (side_of (other d) now.paired) =
-    λ same. let at : other d ≡ frame.side = is_side-same (other d) frame.side same in
-    rw (e, ← at, other-other) refl in
-    let after = queue-after (is_side (other d) frame.side) (side_of d now.sent) (side_of (other d) now.paired) (taken now frame) (h.taken d) chosen in
-    let sent : side_of d (in_force_after now frame).sent ≡ side_of d now.sent =
-    sent-after now frame d ∙ ap (λ added. side_of d now.sent ++ added) (nothing_chosen (is_side d frame.side) (settings_in frame.body) (rw e refl)) ∙ append-nil _ in
-    rw (sent, paired-after now frame (other d)) (after.0, rw (takes d, is_side-other d frame.side, h.queued d) after.1)
+-- ---- an acknowledgement
 
-pub waiting-after_ack : (now : InForce) (frame : Frame) (old new : Waiting) → frame.body ≡ SettingsAck → IsWaiting now old
-    → ((d : Side) → waiting_of d new ≡ (if is_side d (other frame.side) then drop 1 (waiting_of d old) else waiting_of d old))
-    → IsWaiting (in_force_after now frame) new
-waiting-after_ack now frame old new e h takes = record {
-  taken = λ d. (queue-after_ack now frame old new e h takes d).0;
-  queued = λ d. (queue-after_ack now frame old new e h takes d).1;
-}
+module _ (now : InForce) (seen : List Frame) (frame : Frame) (old : Waiting) (ack : is_ack frame.body ≡ true) (h : IsWaiting now seen old) where
+  sends-nothing : (d : Side) → sent_of d frame ≡ []
+  sends-nothing d = nothing_chosen (is_side d frame.side) (settings_in frame.body) (ack-sends frame.body ack)
 
--- what an acknowledgement brings and shows, by what it took from the queue
-pub change_of-ack : (now : InForce) (frame : Frame) (waiting : Waiting) (t : Option Settings) (of : Side) → frame.body ≡ SettingsAck
-    → of ≡ other frame.side → t ≡ slice_get (waiting_of of waiting) 0 → IsWaiting now waiting
-    → change_of now frame ≡ change_taking frame t
-change_of-ack now frame waiting t of e s o h = ap (change_taking frame) (taken-ack now frame waiting e h ∙ rw (o, s) refl)
+  -- what it takes is the first that waits of the other side
+  taken-ack : taken now frame ≡ slice_get (waiting_of (other frame.side) seen old) 0
+  taken-ack =
+      rw (ack, h.queued (other frame.side), other-other) (sym (slice_get-drop (side_of frame.side now.paired) (side_of (other frame.side) now.sent)))
 
-pub settings_said-ack : (now : InForce) (frame : Frame) (waiting : Waiting) (t : Option Settings) (of : Side) → frame.body ≡ SettingsAck
-    → of ≡ other frame.side → t ≡ slice_get (waiting_of of waiting) 0 → IsWaiting now waiting
-    → settings_said now frame ≡ say (is_none t) (finding_at UnmatchedAck frame.number frame.stream frame.side (pos 0))
-settings_said-ack now frame waiting t of e s o h =
-    let took : taken now frame ≡ t = taken-ack now frame waiting e h ∙ rw (o, s) refl in
-    rw (took, e) refl
+  module _ (new : Waiting) (of : Side) (s : of ≡ other frame.side)
+      (takes : (d : Side) → waiting_of d seen new ≡ (if is_side d of then drop 1 (waiting_of d seen old) else waiting_of d seen old))
+      (fits : (d : Side) → side_of d old.taken ≤ length seen → side_of d new.taken ≤ length seen) where
+    -- for one side
+    queue-after_ack : (d : Side)
+        → (side_of (other d) (in_force_after now frame).paired ≤ length (side_of d (in_force_after now frame).sent))
+        × (waiting_of d seen new ≡ drop (side_of (other d) (in_force_after now frame).paired) (side_of d (in_force_after now frame).sent))
+    queue-after_ack d =
+        let chosen : is_side (other d) frame.side ≡ true → taken now frame ≡ slice_get (side_of d now.sent) (side_of (other d) now.paired) =
+        λ same. let at : other d ≡ frame.side = is_side-same (other d) frame.side same in
+        rw (ack, ← at, other-other) refl in
+        let after = queue-after (is_side (other d) frame.side) (side_of d now.sent) (side_of (other d) now.paired) (taken now frame) (h.taken d) chosen in
+        let sent : side_of d (in_force_after now frame).sent ≡ side_of d now.sent =
+        sent-after now frame d ∙ ap (λ added. side_of d now.sent ++ added) (sends-nothing d) ∙ append-nil _ in
+        rw (sent, paired-after now frame (other d)) (after.0, rw (takes d, s, is_side-other d frame.side, h.queued d) after.1)
 
-pub still-waiting-after_ack : (now : InForce) (frame : Frame) (old new : Waiting) (of : Side) → frame.body ≡ SettingsAck
-    → of ≡ other frame.side
-    → ((d : Side) → waiting_of d new ≡ (if is_side d of then drop 1 (waiting_of d old) else waiting_of d old))
-    → IsWaiting now old → IsWaiting (in_force_after now frame) new
-still-waiting-after_ack now frame old new of e s takes h = waiting-after_ack now frame old new e h (λ d. takes d ∙ rw s refl)
+    pub waiting-after_ack : IsWaiting (in_force_after now frame) (seen ++ frame ∷ []) new
+    waiting-after_ack =
+        let inside : (d : Side) → side_of d new.taken ≤ length seen = λ d. fits d (h.within d) in
+        record {
+          taken = λ d. (queue-after_ack d).0;
+          queued = λ d. waiting-on d (side_of d new.taken) seen frame (inside d)
+              ∙ ap (λ l. waiting_of d seen new ++ l) (sends-nothing d) ∙ append-nil _ ∙ (queue-after_ack d).1;
+          within = λ d. let low = inside d in let more = length-append seen (frame ∷ []) in omega arith;
+        }
 
-pub waiting-at_start : (waiting : Waiting) → ((d : Side) → waiting_of d waiting ≡ []) → IsWaiting initial_in_force waiting
-waiting-at_start waiting none = record { taken = at_start_taken; queued = at_start_queued } where
+  -- what it brings and shows, by what it took
+  module _ (t : Option Settings) (of : Side) (s : of ≡ other frame.side) (o : t ≡ slice_get (waiting_of of seen old) 0) where
+    took : taken now frame ≡ t
+    took = taken-ack ∙ rw (o, s) refl
+
+    pub change_of-ack : change_of now frame ≡ change_taking frame t
+    change_of-ack = ap (change_taking frame) took
+
+    pub settings_said-ack : settings_said now frame ≡ say (is_none t) (finding_at UnmatchedAck frame.number frame.stream frame.side (pos 0))
+    settings_said-ack = rw (took, ack) refl
+
+-- ---- any other frame
+
+module _ (now : InForce) (seen : List Frame) (frame : Frame) (waiting : Waiting) (other_frame : is_ack frame.body ≡ false)
+    (h : IsWaiting now seen waiting) where
+  takes-nothing : taken now frame ≡ None
+  takes-nothing = rw (other_frame) refl
+
+  still-paired : (d : Side) → side_of d (in_force_after now frame).paired ≡ side_of d now.paired
+  still-paired d =
+      paired-after now frame d
+      ∙ ap (λ (t : Option Settings). side_of d now.paired + (if is_side d frame.side && is_some t then 1 else 0)) takes-nothing
+      ∙ none-added (is_side d frame.side) (side_of d now.paired)
+    where
+      none-added : (b : Bool) (n : ℕ) → n + (if b && false then 1 else 0) ≡ n
+      none-added true n = omega arith
+      none-added false n = omega arith
+
+  pub waiting-after : IsWaiting (in_force_after now frame) (seen ++ frame ∷ []) waiting
+  waiting-after = record {
+    taken = λ d.
+        let low = h.taken d in
+        let sent : length (side_of d (in_force_after now frame).sent) ≡ length (side_of d now.sent) + length (sent_of d frame) =
+        ap length (sent-after now frame d) ∙ length-append (side_of d now.sent) (sent_of d frame) in
+        let same = still-paired (other d) in
+        omega arith;
+    queued = λ d.
+        waiting-on d (side_of d waiting.taken) seen frame (h.within d)
+        ∙ ap (λ l. l ++ sent_of d frame) (h.queued d)
+        ∙ sym (drop-append-le (side_of (other d) now.paired) (side_of d now.sent) (sent_of d frame) (h.taken d))
+        ∙ ap (drop (side_of (other d) now.paired)) (sym (sent-after now frame d))
+        ∙ ap (λ n. drop n (side_of d (in_force_after now frame).sent)) (sym (still-paired (other d)));
+    within = λ d. let low = h.within d in let more = length-append seen (frame ∷ []) in omega arith;
+  }
+
+  pub change_of-other : option_to_list (change_of now frame) ≡ []
+  change_of-other = rw (takes-nothing) refl
+
+  pub settings_said-other : settings_said now frame ≡ []
+  settings_said-other = rw (other_frame) refl
+
+pub waiting-at_start : (waiting : Waiting) → ((d : Side) → side_of d waiting.taken ≡ 0) → IsWaiting initial_in_force [] waiting
+waiting-at_start waiting none = record {
+  taken = at_start_taken;
+  queued = at_start_queued;
+  within = λ d. let low = none d in omega arith;
+} where
   at_start_taken : (d : Side) → side_of (other d) initial_in_force.paired ≤ length (side_of d initial_in_force.sent)
   at_start_taken Client = omega arith
   at_start_taken Server = omega arith
 
-  at_start_queued : (d : Side) → waiting_of d waiting ≡ drop (side_of (other d) initial_in_force.paired) (side_of d initial_in_force.sent)
-  at_start_queued Client = none Client
-  at_start_queued Server = none Server
+  at_start_queued : (d : Side) → waiting_of d [] waiting ≡ drop (side_of (other d) initial_in_force.paired) (side_of d initial_in_force.sent)
+  at_start_queued Client = ap (λ n. sent_by Client (drop n [])) (none Client)
+  at_start_queued Server = ap (λ n. sent_by Server (drop n [])) (none Server)

@@ -4,8 +4,9 @@
 //! Values count from the acknowledgement, for the frames of the side that acknowledges. [`pair`] gives one [`Change`]
 //! for each acknowledgement that has something to answer, and a finding of kind `UnmatchedAck` for each that has not:
 //! exactly `changes_of` and `settings_run` of `audit_terms`. The definition counts positions in the lists of all
-//! SETTINGS sent, and the code keeps a queue of waiting ones for each side, so the two share nothing. SETTINGS and
-//! acknowledgements go by the body alone: on a stream other than 0 they wait and pair all the same.
+//! SETTINGS sent, and the code goes through the frames once for each side, so the two share nothing. SETTINGS that wait
+//! take no memory. SETTINGS and acknowledgements go by the body alone: on a stream other than 0 they wait and pair all
+//! the same.
 //!
 //! For those who go on from the changes: their numbers rise, and the frame of each is an acknowledgement.
 //! [`worked_examples`] are short runs of the definitions: the oldest SETTINGS are taken first, and nothing that is sent

@@ -1,4 +1,4 @@
-ghost use Rattle.std.specs.Prelude.{◌≡◌, ◌++◌, pos, IfOk, OnOk};
+ghost use Rattle.std.specs.Prelude.{◌≡◌, [], ◌∷◌, ◌++◌, pos, IfOk, OnOk};
 ghost use Rattle.std.specs.Option.{option_to_list};
 ghost use Rattle.audit_terms.specs.Frame.{IsInRange, IsOrderly};
 ghost use Rattle.audit_terms.specs.Change.{change_by};
@@ -8,7 +8,7 @@ ghost use Rattle.settings_pair.specs.Changes.{AreOrderly, AreAcknowledged};
 ghost use Rattle.settings_pair.specs.code.Waiting.{IsWaiting};
 
 use crate::waiting::Waiting;
-use audit_terms::{Body, Change, Finding, Frame, Kind, Settings};
+use audit_terms::{Change, Finding, Frame, Kind, Settings};
 use std::alloc::{AllocError, Global};
 
 /// What the acknowledgements of a connection's frames bring into force, and which of them answer nothing.
@@ -28,34 +28,38 @@ pub fn pair(alloc: Global, frames: &[Frame]) -> Result<Pairs, AllocError>
     ensures orderly { IfOk result (λ pairs. AreOrderly pairs.changes.items) }
     ensures acknowledged { IfOk result (λ pairs. AreAcknowledged frames.now pairs.changes.items) }
 {
-    let mut waiting = Waiting::new(alloc);
+    let mut waiting = Waiting::new();
     let mut pairs = Pairs {
         changes: Vec::new(alloc),
         findings: Vec::new(alloc),
     };
-    for frame in frames {
-        meet(&mut waiting, &mut pairs, frame)?;
+    for (at, frame) in frames.iter().enumerate() {
+        meet(&mut waiting, &mut pairs, &frames[..at], frame)?;
     }
     Ok(pairs)
 }
 
-/// One frame: SETTINGS wait from here on, and an acknowledgement takes what waits longest.
-fn meet(waiting: &mut Waiting, pairs: &mut Pairs, frame: &Frame) -> Result<(), AllocError>
+/// The next frame after those seen: an acknowledgement takes what waits longest of the SETTINGS seen.
+fn meet(
+    waiting: &mut Waiting,
+    pairs: &mut Pairs,
+    seen: &[Frame],
+    frame: &Frame,
+) -> Result<(), AllocError>
     requires { IsInRange frame.now }
-    ensures waiting { OnOk result ((now : InForce) → IsWaiting now waiting.old
-        → IsWaiting (in_force_after now frame.now) waiting.new) }
-    ensures changes { OnOk result ((now : InForce) → IsWaiting now waiting.old
+    ensures waiting { OnOk result ((now : InForce) → IsWaiting now seen.now waiting.old
+        → IsWaiting (in_force_after now frame.now) (seen.now ++ frame.now ∷ []) waiting.new) }
+    ensures changes { OnOk result ((now : InForce) → IsWaiting now seen.now waiting.old
         → pairs.new.changes.items ≡ pairs.old.changes.items ++ option_to_list (change_of now frame.now)) }
-    ensures findings { OnOk result ((now : InForce) → IsWaiting now waiting.old
+    ensures findings { OnOk result ((now : InForce) → IsWaiting now seen.now waiting.old
         → pairs.new.findings.items ≡ pairs.old.findings.items ++ settings_said now frame.now) }
 {
-    match frame.body {
-        Body::Settings(settings) => waiting.push(frame.side, settings)?,
-        Body::SettingsAck => match waiting.take(frame.side.other()) {
-            Some(settings) => pairs.changes.push(change_by(frame, settings))?,
-            None => pairs.findings.push(unmatched(frame))?,
-        },
-        _ => {}
+    if !frame.body.is_ack() {
+        return Ok(());
+    }
+    match waiting.take(seen, frame.side.other()) {
+        Some(settings) => pairs.changes.push(change_by(frame, settings))?,
+        None => pairs.findings.push(unmatched(frame))?,
     }
     Ok(())
 }

@@ -1,5 +1,5 @@
 -- A walk meets a frame and the changes before it, and all frames and changes of a part.
-use Rattle.std.proofs.Common.{◌≡◌, ℕ, ◌+◌, ◌^◌, ◌<◌, Bool, true, false, List, [], ◌∷◌, ◌++◌, append_assoc, map, drop, length, slice_index_or, Option, Some, Result, Ok, Err, IfOk, refl, sym, ap, ◌∙◌, subst, arith}
+use Rattle.std.proofs.Common.{◌≡◌, ℕ, ◌+◌, ◌^◌, ◌<◌, Bool, true, false, List, [], ◌∷◌, ◌++◌, map, drop, length, slice_index_or, Option, Some, Result, Ok, Err, IfOk, refl, sym, ap, ◌∙◌, subst, arith}
 use Rattle.std.specs.Bool.{OnTrue, OnFalse}
 use Rattle.std.specs.Option.{ForSome}
 use Rattle.std.proofs.lemmas.List.{append-nil, drop_more}
@@ -19,11 +19,10 @@ use Rattle.stream_credit.specs.declared.walks.Walk.{Walk}
 use Rattle.stream_credit.specs.Part.{frames_at}
 use Rattle.stream_credit.specs.code.Left.{after_changes, passed, left_from, change_at, left_after, IsInForce}
 use Rattle.stream_credit.specs.code.Merged.{merged}
-use Rattle.stream_credit.specs.code.Stride.{change_numbers}
 use Rattle.stream_credit.specs.code.Walk.{numbers_of, WholeRun, IsAt, IsAtChanges, IsSound}
 use Rattle.stream_credit.proofs.MergedLemmas.{frame_with, merged_at-passed, merged_at-own}
 use Rattle.stream_credit.proofs.LeftLemmas.{passed-before, orderly-before, orderly-left_from, orderly-left_after, acknowledge-left_from, acknowledge-left_after, own-acknowledged}
-use Rattle.stream_credit.proofs.WalkLemmas.{fall-from, numbers-changes}
+use Rattle.stream_credit.proofs.WalkLemmas.{fall-from, change_numbers, numbers-changes}
 
 -- ---- a last call that answers whether the run goes on
 
@@ -83,12 +82,9 @@ module _ {L : Type 0} (answers : L → List Finding → Option ℕ → L → Typ
         low = h.low;
         order = h.orderly.0;
         before = passed-before h.low frame.number left.changes.now h.changes;
-        later = fall-from 0 (at.met ++ change_numbers (passed frame.number left.changes.now)) frame.number
+        later = fall-from 0 (change_numbers (passed frame.number left.changes.now)) frame.number
             (numbers_of (merged frames (later_changes frame left.changes.now)))
-            (subst (NeverFallFrom 0)
-            (ap (λ l. at.met ++ l) (numbers-changes (passed frame.number left.changes.now) rest_after)
-            ∙ sym (append_assoc at.met (change_numbers (passed frame.number left.changes.now)) (numbers_of rest_after)))
-            at.watches.rise);
+            (subst (NeverFallFrom 0) (numbers-changes (passed frame.number left.changes.now) rest_after) at.rise);
         at = at;
       })
 

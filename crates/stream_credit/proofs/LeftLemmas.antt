@@ -13,7 +13,7 @@ use Rattle.audit_terms.specs.Stream.{initial_after}
 use Rattle.settings_pair.specs.Changes.{AreOrderlyFrom}
 use Rattle.stream_credit.specs.code.Left.{after_changes, after_each, passed, left_from, change_at, left_after}
 use Rattle.stream_credit.specs.code.Merged.{AcknowledgesAt, Acknowledge}
-use Rattle.stream_credit.specs.code.Stride.{AreBefore}
+use Rattle.stream_credit.specs.code.Walk.{AreBefore}
 use Rattle.stream_credit.proofs.MergedLemmas.{below_from_test, below_test}
 
 -- ---- what is in force

@@ -1,6 +1,5 @@
 pub mod MergedLemmas
 pub mod LeftLemmas
-pub mod StrideLemmas
 pub mod SaidNumbers
 pub mod WalkLemmas
 pub mod FrameLemmas

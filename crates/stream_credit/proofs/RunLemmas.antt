@@ -23,11 +23,12 @@ use Rattle.audit_terms.proofs.Watching.{ends, is-cut}
 use Rattle.settings_pair.specs.Changes.{AreOrderlyFrom, AreOrderly, AreAcknowledged}
 use Rattle.stream_credit.specs.declared.left.Left.{Left}
 use Rattle.stream_credit.specs.declared.walks.Walk.{Walk}
-use Rattle.stream_credit.specs.Looks.{step_numbers, opened_up_to}
+use Rattle.stream_credit.specs.Looks.{met_from, step_numbers, opened_up_to}
 use Rattle.stream_credit.specs.code.Left.{after_each}
 use Rattle.stream_credit.specs.code.Merged.{joined_step, merged_at, merged}
 use Rattle.stream_credit.specs.code.Walk.{numbers_of, IsNumbered, HasRoomAt, WholeRun, IsAt, IsSound, HasEnded, HasStopped}
 use Rattle.stream_credit.proofs.MergedLemmas.{steps_of-merged, acknowledge-all}
+use Rattle.stream_credit.proofs.WalkLemmas.{fall-met}
 use Rattle.stream_credit.proofs.SaidNumbers.{AreNumbered, numbered-filter, run-numbered, shown-numbered}
 
 -- ---- the numbers of the steps rise
@@ -125,7 +126,7 @@ abbrev pub whole_run : {L : Type 0} → L → (stream : ℕ) → (credits_shown 
 whole_run start stream credits_shown frames changes = record {
   start = start;
   found = shown credits_shown (stream_run stream frames changes);
-  numbers = step_numbers frames changes;
+  numbers = step_numbers stream frames changes;
   entry = stream_at_end stream frames changes;
 }
 
@@ -138,6 +139,7 @@ pub run-starts : {L : Type 0} (answers : L → List Finding → Option ℕ → L
     → IsSound answers (whole_run start stream credits_shown frames changes) now walk left frames
 run-starts answers start now stream credits_shown frames changes walk left range h k acks l w s c e i f begun =
     let steps = steps_of-merged 0 frames changes k in
+    let rises = rise-fall 0 (numbers_of (merged frames changes)) (rise-merged 0 frames changes h k) in
     record {
       low = 0;
       orderly = h;
@@ -154,10 +156,12 @@ run-starts answers start now stream credits_shown frames changes walk left range
             entry = rw (s, e, i) (ap (stream_after_all stream initial_in_force.initial idle_stream) (sym steps));
             met = [];
             count = omega arith;
-            numbers = ap numbers_of (sym steps);
+            numbers = rw (s, e, i) (ap (met_from stream initial_in_force.initial idle_stream) (sym steps));
+            rise = rises;
             own = own-merged frames changes;
-            watches = begun (shown credits_shown (stream_run stream frames changes)) (numbers_of (merged frames changes))
-                (rise-fall 0 (numbers_of (merged frames changes)) (rise-merged 0 frames changes h k));
+            watches = begun (shown credits_shown (stream_run stream frames changes))
+                (met_from walk.stream walk.initial walk.entry (merged frames changes))
+                (fall-met 0 walk.stream walk.initial walk.entry (merged frames changes) rises);
           });
     }
 
@@ -180,8 +184,8 @@ module _ {L : Type 0} (answers : L → List Finding → Option ℕ → L → Typ
   stopped : HasStopped answers run now walk → (kept : List Finding) → kept ≡ up_to walk.watch.stop walk.found.items
       → IsRun answers run.start now run.numbers run.found kept walk.watch.stop walk.watch.stop walk.watch.looks
   stopped h kept e =
-      is-cut answers run.start run.found now run.numbers h.at.number walk.watch kept h.at.stopped
-      (e ∙ ap (up_to walk.watch.stop) h.at.found)
+      is-cut answers run.start run.found now run.numbers h.number walk.watch kept h.stopped
+      (e ∙ ap (up_to walk.watch.stop) h.found)
 
   pub run-ends : (kept : List Finding) → kept ≡ up_to upto walk.found.items
       → IsRun answers run.start now run.numbers run.found kept upto walk.watch.stop walk.watch.looks

@@ -24,10 +24,9 @@ use Rattle.audit_terms.specs.Stream.{initial_after, stream_after, stream_said, s
 use Rattle.audit_terms.specs.code.Room.{WindowHasRoom}
 use Rattle.audit_terms.specs.code.Watch.{Watches, IsStopped, NeverFallFrom}
 use Rattle.stream_credit.specs.declared.walks.Walk.{Walk}
-use Rattle.stream_credit.specs.Looks.{opened_up_to}
+use Rattle.stream_credit.specs.Looks.{is_live, is_met, met_from, opened_up_to}
 use Rattle.stream_credit.specs.code.Left.{after_changes}
-use Rattle.stream_credit.specs.code.Stride.{change_numbers, AreBefore, IsBeforeChanges, IsStoppedAt}
-use Rattle.stream_credit.specs.code.Walk.{found_with, entry_after, numbers_of, IsNumbered, IsCounted, HasRoomAt, WholeRun, IsAt, IsAtChanges, HasStopped}
+use Rattle.stream_credit.specs.code.Walk.{found_with, entry_after, met_by, numbers_of, IsNumbered, IsCounted, HasRoomAt, WholeRun, IsAt, IsAtChanges, HasStopped}
 use Rattle.stream_credit.proofs.SaidNumbers.{AreNumbered, numbered-append, numbered-more, said-numbered, run-numbered, shown-numbered, before-parts}
 
 -- ---- room
@@ -59,7 +58,14 @@ counted-found old new step rest h =
 counted-entry : (old new : Walk) (step : Step) (rest : List Step) → IsCounted old step new → entry_after new rest ≡ entry_after old (step ∷ rest)
 counted-entry old new step rest h = rw (h.stream, h.entry, h.initial) refl
 
+counted-met : (old new : Walk) (step : Step) (rest : List Step) → IsCounted old step new → is_met old.entry step ≡ true
+    → met_by old (step ∷ rest) ≡ step.number ∷ met_by new rest
+counted-met old new step rest h met = rw (h.stream, h.entry, h.initial, met) refl
+
 -- ---- numbers that never fall
+
+abbrev pub change_numbers : List Change → List ℕ
+change_numbers changes = map (λ (change : Change). change.number) changes
 
 abbrev From : (low : ℕ) → List ℕ → Type 0
 From low numbers = AllByRecursion (λ n. low ≤ n) numbers
@@ -71,6 +77,30 @@ from-lower low least (n ∷ ns) order h = (omega (arith, h.0), from-lower low le
 fall-all : (low : ℕ) (numbers : List ℕ) → NeverFallFrom low numbers → From low numbers
 fall-all low [] h = tt
 fall-all low (n ∷ ns) h = (h.0, from-lower n low ns h.0 (fall-all n ns h.1))
+
+fall-lower : (low least : ℕ) (numbers : List ℕ) → least ≤ low → NeverFallFrom low numbers → NeverFallFrom least numbers
+fall-lower low least [] order h = tt
+fall-lower low least (n ∷ ns) order h = (omega (arith, h.0), h.1)
+
+fall-after : (low : ℕ) (met left : List ℕ) → NeverFallFrom low (met ++ left) → NeverFallFrom low left
+fall-after low [] left h = h
+fall-after low (n ∷ ns) left h = fall-lower n low left h.0 (fall-after n ns left h.1)
+
+-- of numbers that never fall some are met
+pub fall-met : (low stream : ℕ) (initial : Sides ℕ) (entry : Stream) (steps : List Step) → NeverFallFrom low (numbers_of steps)
+    → NeverFallFrom low (met_from stream initial entry steps)
+fall-met low stream initial entry [] h = tt
+fall-met low stream initial entry (step ∷ steps) h =
+    by_test (is_met entry step)
+    (fall-met step.number stream (initial_after step.change initial) (stream_after stream initial entry step) steps h.1)
+  where
+    by_test : (met : Bool)
+        → NeverFallFrom step.number (met_from stream (initial_after step.change initial) (stream_after stream initial entry step) steps)
+        → NeverFallFrom low (if met
+        then step.number ∷ met_from stream (initial_after step.change initial) (stream_after stream initial entry step) steps
+        else met_from stream (initial_after step.change initial) (stream_after stream initial entry step) steps)
+    by_test true later = (h.0, later)
+    by_test false later = fall-lower step.number low _ h.0 later
 
 pub fall-from : (low : ℕ) (met : List ℕ) (n : ℕ) (ns : List ℕ) → NeverFallFrom low (met ++ n ∷ ns) → From n (n ∷ ns)
 fall-from low [] n ns h = (omega arith, fall-all n ns h.1)
@@ -114,15 +144,10 @@ past-quiet stop number [] past h = tt
 past-quiet stop number (step ∷ steps) past h =
     (inr (past-higher stop number step.number h.0 past), past-quiet stop number steps past h.1)
 
-changes-quiet : (stop : Option ℕ) (changes : List Change) (steps : List Step) → AllByRecursion (IsQuiet stop) steps
-    → AllByRecursion (IsQuiet stop) (map change_step changes ++ steps)
-changes-quiet stop [] steps h = h
-changes-quiet stop (change ∷ changes) steps h = (inl refl, changes-quiet stop changes steps h)
-
 -- ---- changes that find no live window
 
 abbrev IsDead : Walk → Type 0
-IsDead walk = (is_some walk.entry.window.client || is_some walk.entry.window.server) ≡ false
+IsDead walk = is_live walk.entry ≡ false
 
 abbrev gone : StreamLife → Stream
 gone life = record { life = life; window = each_side (λ _. None) }
@@ -145,6 +170,12 @@ entry-passes : (stream : ℕ) (initial : Sides ℕ) (life : StreamLife) (changes
 entry-passes stream initial life [] rest = refl
 entry-passes stream initial life (change ∷ changes) rest = entry-passes stream (initial_after (Some change) initial) life changes rest
 
+met-passes : (stream : ℕ) (initial : Sides ℕ) (life : StreamLife) (changes : List Change) (rest : List Step)
+    → met_from stream initial (gone life) (map change_step changes ++ rest)
+    ≡ met_from stream (after_changes initial changes) (gone life) rest
+met-passes stream initial life [] rest = refl
+met-passes stream initial life (change ∷ changes) rest = met-passes stream (initial_after (Some change) initial) life changes rest
+
 module _ (walk : Walk) (changes : List Change) (dead : IsDead walk) (rest : List Step) where
   at-gone : walk.entry ≡ gone walk.entry.life
   at-gone = gone-by walk.entry.life walk.entry.window.client walk.entry.window.server dead
@@ -163,15 +194,30 @@ module _ (walk : Walk) (changes : List Change) (dead : IsDead walk) (rest : List
       ∙ entry-passes walk.stream walk.initial walk.entry.life changes rest
       ∙ ap (λ entry. stream_after_all walk.stream (after_changes walk.initial changes) entry rest) (sym at-gone)
 
+  met-passed : met_from walk.stream walk.initial walk.entry (map change_step changes ++ rest)
+      ≡ met_from walk.stream (after_changes walk.initial changes) walk.entry rest
+  met-passed =
+      ap (λ entry. met_from walk.stream walk.initial entry (map change_step changes ++ rest)) at-gone
+      ∙ met-passes walk.stream walk.initial walk.entry.life changes rest
+      ∙ ap (λ entry. met_from walk.stream (after_changes walk.initial changes) entry rest) (sym at-gone)
+
+-- a change ends no window
+pub live-on : (stream : ℕ) (initial : Sides ℕ) (entry : Stream) (change : Change)
+    → is_live (stream_after stream initial entry (change_step change)) ≡ is_live entry
+live-on stream initial entry change = by_windows entry.window.client entry.window.server where
+  by_windows : (client server : Option ℤ)
+      → is_live (stream_after stream initial (record { life = entry.life; window = record { client = client; server = server } })
+      (change_step change))
+      ≡ is_live (record { life = entry.life; window = record { client = client; server = server } })
+  by_windows None None = refl
+  by_windows None (Some server) = refl
+  by_windows (Some client) None = refl
+  by_windows (Some client) (Some server) = refl
+
 pub numbers-changes : (changes : List Change) (rest : List Step)
     → numbers_of (map change_step changes ++ rest) ≡ change_numbers changes ++ numbers_of rest
 numbers-changes [] rest = refl
 numbers-changes (change ∷ changes) rest = ap (λ l. change.number ∷ l) (numbers-changes changes rest)
-
-before-count : (low number : ℕ) (changes : List Change) → low ≤ number → AreBefore low number changes → low + length changes ≤ number
-before-count low number [] order h = omega arith
-before-count low number (change ∷ changes) order h =
-    let more = before-count (change.number + 1) number changes (omega (arith, h.1)) h.3 in omega (arith, h.0)
 
 own-after : (changes : List Change) (rest : List Step)
     → AllByRecursion (λ (step : Step). IsNumbered step.number step.frame) (map change_step changes ++ rest)
@@ -191,6 +237,7 @@ module _ {L : Type 0} (answers : L → List Finding → Option ℕ → L → Typ
     met = h.met;
     count = omega arith;
     numbers = h.numbers;
+    rise = h.rise;
     own = h.own;
     watches = h.watches;
   }
@@ -210,7 +257,7 @@ module _ {L : Type 0} (answers : L → List Finding → Option ℕ → L → Typ
       → walk.found.items ≡ found_before step.number run.found
   at-next now walk step rest h =
       so-far now walk step.number (step ∷ rest) h step.number (omega arith)
-      (fall-from 0 h.met step.number (numbers_of rest) h.watches.rise)
+      (fall-from 0 [] step.number (numbers_of rest) h.rise)
 
   -- ---- a step
 
@@ -222,9 +269,10 @@ module _ {L : Type 0} (answers : L → List Finding → Option ℕ → L → Typ
       → ((start : L) (whole : List Finding) (met left : List ℕ) → old.found.items ≡ found_before step.number whole
       → Watches answers start before whole met (step.number ∷ left) old.watch
       → Watches answers start now whole (met ++ step.number ∷ []) left watch)
-      → IsCounted (record old { watch = watch }) step new → HasRoomAt (step.number + 1) new.entry
+      → IsCounted (record old { watch = watch }) step new → HasRoomAt (step.number + 1) new.entry → is_met old.entry step ≡ true
       → (rest : List Step) → IsAt answers run before old step.number (step ∷ rest) → IsAt answers run now new (step.number + 1) rest
-  step-on before now old new watch step goes counted room rest h =
+  step-on before now old new watch step goes counted room met rest h =
+      let met_on = counted-met (record old { watch = watch }) new step rest counted met in
       let one = length-append h.met (step.number ∷ []) in
       let count = h.count in
       record {
@@ -240,40 +288,36 @@ module _ {L : Type 0} (answers : L → List Finding → Option ℕ → L → Typ
         entry = counted-entry (record old { watch = watch }) new step rest counted ∙ h.entry;
         met = h.met ++ step.number ∷ [];
         count = omega arith;
-        numbers = append_assoc h.met (step.number ∷ []) (numbers_of rest) ∙ h.numbers;
+        numbers = append_assoc h.met (step.number ∷ []) (met_by new rest) ∙ ap (λ l. h.met ++ l) (sym met_on) ∙ h.numbers;
+        rise = fall-lower step.number 0 (numbers_of rest) (omega arith) h.rise.1;
         own = h.own.1;
-        watches = subst (Watches answers run.start now run.found (h.met ++ step.number ∷ []) (numbers_of rest)) (sym counted.watch)
-            (goes run.start run.found h.met (numbers_of rest) (at-next before old step rest h) h.watches);
+        watches = subst (Watches answers run.start now run.found (h.met ++ step.number ∷ []) (met_by new rest)) (sym counted.watch)
+            (goes run.start run.found h.met (met_by new rest) (at-next before old step rest h)
+            (subst (λ l. Watches answers run.start before run.found h.met l old.watch) met_on h.watches));
       }
-
-  stop-at : (before now : L) (old : Walk) (watch : Watch) (low high : ℕ) (steps : List Step) → IsAt answers run before old low steps
-      → IsStoppedAt answers run.start now run.found old.found.items high run.numbers watch
-      → AllByRecursion (IsQuiet watch.stop) steps
-      → HasStopped answers run now (record old { watch = watch })
-  stop-at before now old watch low high steps h at quiet = record {
-    high = high;
-    at = at;
-    opened = sym (opened-later watch.stop old.stream old.initial old.entry steps h.own quiet)
-        ∙ ap (λ (entry : Stream). opened_up_to watch.stop entry.life.opened) h.entry;
-  }
 
   pub step-stops : (before now : L) (old : Walk) (watch : Watch) (step : Step)
       → ((start : L) (whole : List Finding) (met left : List ℕ) → old.found.items ≡ found_before step.number whole
       → Watches answers start before whole met (step.number ∷ left) old.watch
       → IsStopped answers start now whole (met ++ step.number ∷ left) step.number watch)
-      → (rest : List Step) → IsAt answers run before old step.number (step ∷ rest)
+      → is_met old.entry step ≡ true → (rest : List Step) → IsAt answers run before old step.number (step ∷ rest)
       → HasStopped answers run now (record old { watch = watch })
-  step-stops before now old watch step stop rest h =
-      let stopped = stop run.start run.found h.met (numbers_of rest) (at-next before old step rest h) h.watches in
-      stop-at before now old watch step.number (step.number + 1) (step ∷ rest) h
-      (record {
+  step-stops before now old watch step stop met rest h =
+      let left = met_from old.stream (initial_after step.change old.initial) (stream_after old.stream old.initial old.entry step) rest in
+      let met_on : met_by old (step ∷ rest) ≡ step.number ∷ left = rw (met) refl in
+      let at = at-next before old step rest h in
+      let stopped = stop run.start run.found h.met left at
+      (subst (λ l. Watches answers run.start before run.found h.met l old.watch) met_on h.watches) in
+      let quiet = past-quiet watch.stop step.number (step ∷ rest) stopped.past
+      (fall-from 0 [] step.number (numbers_of rest) h.rise) in
+      record {
         number = step.number;
-        order = omega arith;
-        found = at-next before old step rest h;
-        stopped = subst (λ l. IsStopped answers run.start now run.found l step.number watch) h.numbers stopped;
-      })
-      (past-quiet watch.stop step.number (step ∷ rest) stopped.past
-      (fall-from 0 h.met step.number (numbers_of rest) h.watches.rise))
+        found = at;
+        stopped = subst (λ l. IsStopped answers run.start now run.found l step.number watch)
+            (ap (λ l. h.met ++ l) (sym met_on) ∙ h.numbers) stopped;
+        opened = sym (opened-later watch.stop old.stream old.initial old.entry (step ∷ rest) h.own quiet)
+            ∙ ap (λ (entry : Stream). opened_up_to watch.stop entry.life.opened) h.entry;
+      }
 
   -- ---- changes one by one
 
@@ -319,98 +363,31 @@ module _ {L : Type 0} (answers : L → List Finding → Option ℕ → L → Typ
     found-passed : found_with (record old { initial = after_changes old.initial changes }) rest ≡ run.found
     found-passed = ap (λ later. old.found.items ++ shown old.credits_shown later) (sym (run-passed old changes dead rest)) ∙ h.at.found
 
-    found-at : (n : ℕ) → h.low ≤ n → From n (numbers_of rest) → old.found.items ≡ found_before n run.found
-    found-at n order later =
-        before-parts n old.found.items
-        (shown old.credits_shown (stream_run_from old.stream (after_changes old.initial changes) old.entry rest))
-        (numbered-more (λ m. m < h.low) (λ m. m < n) (λ m p. omega arith) old.found.items h.at.below)
-        (shown-numbered (λ m. n ≤ m) old.credits_shown (stream_run_from old.stream (after_changes old.initial changes) old.entry rest)
-        (run-numbered (λ m. n ≤ m) old.stream (after_changes old.initial changes) old.entry rest h.at.streamed later))
-        ∙ ap (found_before n) found-passed
-
-    found-each : (low : ℕ) (cs : List Change) → h.low ≤ low → AreBefore low number cs
-        → AllByRecursion (λ (change : Change). old.found.items ≡ found_before change.number run.found) cs
-    found-each low [] order b = tt
-    found-each low (change ∷ cs) order b = (
-      found-at change.number (omega (arith, b.0)) (from-lower number change.number (numbers_of rest) (omega (arith, b.1)) h.later),
-      found-each (change.number + 1) cs (omega (arith, b.0)) b.3,
-    )
-
-    changes-before : IsBeforeChanges answers run.start before run.found old.found.items number h.at.met changes (numbers_of rest) old.watch
-    changes-before = record {
-      low = h.low;
-      count = h.at.count;
-      before = h.before;
-      found = found-each h.low changes (omega arith) h.before;
-      watches = subst (λ l. Watches answers run.start before run.found h.at.met l old.watch) (numbers-changes changes rest) h.at.watches;
-    }
-
-    changes-passed : (now : L) (watch : Watch) (initial : Sides ℕ) → initial ≡ after_changes old.initial changes
-        → Watches answers run.start now run.found (h.at.met ++ change_numbers changes) (numbers_of rest) watch
-        → IsAt answers run now (record old { watch = watch; initial = initial }) number rest
-    changes-passed now watch initial e w =
-        let size = length-append h.at.met (change_numbers changes) in
-        let each = length-numbers changes in
-        let count = h.at.count in
-        let fits = before-count h.low number changes h.order h.before in
-        record {
-          streamed = h.at.streamed;
-          room = HasRoomAt-later h.low number old.entry h.order h.at.room;
-          below = numbered-more (λ n. n < h.low) (λ n. n < number) (λ n p. let order = h.order in omega arith) old.found.items h.at.below;
-          found = rw e found-passed;
-          entry = rw e (sym (entry-passed old changes dead rest) ∙ h.at.entry);
-          met = h.at.met ++ change_numbers changes;
-          count = omega arith;
-          numbers = append_assoc h.at.met (change_numbers changes) (numbers_of rest)
-              ∙ ap (λ l. h.at.met ++ l) (sym (numbers-changes changes rest)) ∙ h.at.numbers;
-          own = own-after changes rest h.at.own;
-          watches = w;
-        }
+    pub changes-passed : (now : L) (new : Walk) → now ≡ before → new ≡ record old { initial = after_changes old.initial changes }
+        → IsAt answers run now new number rest
+    changes-passed now new same is =
+        subst (λ walk. IsAt answers run now walk number rest) (sym is)
+        (subst (λ at. IsAt answers run at (record old { initial = after_changes old.initial changes }) number rest) (sym same) passed)
       where
-        length-numbers : (cs : List Change) → length (change_numbers cs) ≡ length cs
-        length-numbers [] = refl
-        length-numbers (c ∷ cs) = let more = length-numbers cs in omega arith
-
-    changes-stop : (now : L) (watch : Watch)
-        → IsStoppedAt answers run.start now run.found old.found.items number
-        (h.at.met ++ (change_numbers changes ++ numbers_of rest)) watch
-        → HasStopped answers run now (record old { watch = watch })
-    changes-stop now watch at =
-        let all = ap (λ l. h.at.met ++ l) (sym (numbers-changes changes rest)) ∙ h.at.numbers in
-        stop-at before now old watch h.low number (map change_step changes ++ rest) h.at
-        (subst (λ l. IsStoppedAt answers run.start now run.found old.found.items number l watch) all at)
-        (changes-quiet watch.stop changes rest
-        (past-quiet watch.stop at.number rest at.stopped.past
-        (from-lower number at.number (numbers_of rest) (let order = at.order in omega arith) h.later)))
-
-    -- where the walk's findings are lent as a list
-    module _ (lent : List Finding) (same : lent ≡ old.found.items) where
-      lent-before : IsBeforeChanges answers run.start before run.found lent number h.at.met changes (numbers_of rest) old.watch
-      lent-before =
-          subst (λ l. IsBeforeChanges answers run.start before run.found l number h.at.met changes (numbers_of rest) old.watch) (sym same)
-          changes-before
-
-      pub pass-requires : (start : L) × (whole : List Finding) × (high : ℕ) × (met : List ℕ) × (left : List ℕ)
-          × IsBeforeChanges answers start before whole lent high met changes left old.watch
-      pass-requires = (run.start, run.found, number, h.at.met, numbers_of rest, lent-before)
-
-      pub pass-goes_on : (now : L) (watch : Watch) (initial : Sides ℕ) → initial ≡ after_changes old.initial changes
-          → ((start : L) (whole : List Finding) (high : ℕ) (met left : List ℕ)
-          → IsBeforeChanges answers start before whole lent high met changes left old.watch
-          → Watches answers start now whole (met ++ change_numbers changes) left watch)
-          → IsAt answers run now (record old { watch = watch; initial = initial }) number rest
-      pass-goes_on now watch initial e goes =
-          changes-passed now watch initial e (goes run.start run.found number h.at.met (numbers_of rest) lent-before)
-
-      pub pass-stops : (now : L) (watch : Watch)
-          → ((start : L) (whole : List Finding) (high : ℕ) (met left : List ℕ)
-          → IsBeforeChanges answers start before whole lent high met changes left old.watch
-          → IsStoppedAt answers start now whole lent high (met ++ (change_numbers changes ++ left)) watch)
-          → HasStopped answers run now (record old { watch = watch })
-      pass-stops now watch stop =
-          changes-stop now watch
-          (subst (λ l. IsStoppedAt answers run.start now run.found l number (h.at.met ++ (change_numbers changes ++ numbers_of rest)) watch) same
-          (stop run.start run.found number h.at.met (numbers_of rest) lent-before))
+        passed : IsAt answers run before (record old { initial = after_changes old.initial changes }) number rest
+        passed =
+            let count = h.at.count in
+            let order = h.order in
+            record {
+              streamed = h.at.streamed;
+              room = HasRoomAt-later h.low number old.entry h.order h.at.room;
+              below = numbered-more (λ n. n < h.low) (λ n. n < number) (λ n p. omega arith) old.found.items h.at.below;
+              found = found-passed;
+              entry = sym (entry-passed old changes dead rest) ∙ h.at.entry;
+              met = h.at.met;
+              count = omega arith;
+              numbers = ap (λ l. h.at.met ++ l) (sym (met-passed old changes dead rest)) ∙ h.at.numbers;
+              rise = fall-after 0 (change_numbers changes) (numbers_of rest)
+                  (subst (NeverFallFrom 0) (numbers-changes changes rest) h.at.rise);
+              own = own-after changes rest h.at.own;
+              watches = subst (λ l. Watches answers run.start before run.found h.at.met l old.watch)
+                  (met-passed old changes dead rest) h.at.watches;
+            }
 
 -- a walk before some changes comes to be before those that are left
 abbrev pub MeetsChanges : {L : Type 0} → (L → List Finding → Option ℕ → L → Type 0) → (before : L) → Walk → List Change
@@ -425,3 +402,8 @@ pub next-initial : (old new end : Sides ℕ) (changes : List Change) (i : ℕ) (
 next-initial old new end changes i d step e within met kept =
     ap (λ now. after_changes now (drop (i + 1) changes)) (met ∙ ap (λ (s : Step). initial_after s.change old) e)
     ∙ ap (after_changes old) (sym (drop_more changes i d within)) ∙ kept
+
+-- a step of a change leaves the windows as live as they were
+pub next-live : (old new : Stream) (stream : ℕ) (initial : Sides ℕ) (change : Change) (step : Step) → step ≡ change_step change
+    → new ≡ stream_after stream initial old step → is_live old ≡ true → is_live new ≡ true
+next-live old new stream initial change step e met live = rw (met, e) (live-on stream initial old change ∙ live)

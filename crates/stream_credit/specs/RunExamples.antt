@@ -154,8 +154,13 @@ KeptUpToStop =
     × (opened_up_to (Some (place_of 5 0 0)) (Some 5) ≡ Some 5)
     × (opened_up_to (Some (place_of 4 26 7)) (Some 5) ≡ None)
 
--- the steps of the frames and of the changes, a number that both have being one step
+-- the steps of a run are its frames, and the changes between the opening and the end of both windows; a change with a
+-- frame's number is no step of its own
 abbrev pub StepNumbers : Type 0
 StepNumbers =
-    step_numbers (headers_frame 5 Client 1 ∷ sized_data 8 Client 1 100 ∷ []) (brings 3 Client 0 ∷ brings 8 Server 1 ∷ [])
-    ≡ 3 ∷ 5 ∷ 8 ∷ []
+    (step_numbers 1 (headers_frame 5 Client 1 ∷ sized_data 8 Client 1 100 ∷ []) (brings 3 Client 0 ∷ brings 8 Server 1 ∷ [])
+    ≡ 5 ∷ 8 ∷ [])
+    × (step_numbers 1 (headers_frame 9 Client 1 ∷ reset_frame 12 Server 1 ∷ sized_data 14 Server 1 4 ∷ []) many_changes
+    ≡ 9 ∷ 10 ∷ 12 ∷ 14 ∷ [])
+    × (step_numbers 3 (update_frame 9 3 4 ∷ []) many_changes ≡ 9 ∷ [])
+    × (step_numbers 5 [] many_changes ≡ [])

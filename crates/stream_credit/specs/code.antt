@@ -1,4 +1,3 @@
 pub mod Left
 pub mod Merged
-pub mod Stride
 pub mod Walk

@@ -3,16 +3,16 @@
 //!
 //! A [`StreamPart`] points at the frames that one stream meets: those on it, and the server's promises of it. Settings
 //! change the windows of every stream, so [`stream_run`] takes all [`Changes`] of the connection beside them (RFC 9113,
-//! 6.9.2); its steps are the frames and the changes, joined by their numbers.
+//! 6.9.2); a frame and a change of one number are one step.
 //!
 //! - The findings are the run of the stream as `audit_terms` defines it, in order, credits only where they are shown,
 //!   up to the place at which its [`audit_terms::Look`] has it end; with it the opening, if that does not lie past the
 //!   place.
+//! - The steps of a run are the frames of its stream, and the changes that find a live window of it. Changes before its
+//!   opening and after its ends change none: they are no steps, and cost a search by halving.
 //! - The looks are made in time, so many and no other (`IsRun`): before the first step, and then before each 256th
 //!   more. A run that meets all its steps says that it is whole, and keeps all. One that ends early keeps what lies up
 //!   to its last answer; it cuts once, since a later answer may be lower than what was found before it.
-//! - Changes that find no live window of the stream, before its opening and after its ends, are steps at which nothing
-//!   happens. They are passed over by strides from look to look, each at a 256th of a step; the contract speaks of all.
 //! - No sum wraps, for any increments and settings that a frame can hold: 2^28 steps of less than 2^32 fit a signed
 //!   word.
 //! - [`worked_examples`] are short runs of the definitions: windows below zero, settings that reach open and later
@@ -31,7 +31,6 @@ mod ends;
 mod left;
 mod parts;
 mod runs;
-mod strides;
 mod walks;
 pub mod worked_examples;
 

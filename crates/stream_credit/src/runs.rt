@@ -45,10 +45,10 @@ fn meet_all<L: Look>(
 /// The findings of one stream, from its frames and all changes of its connection, and its opening.
 ///
 /// The kinds are `NotOpened`, `SettingOverflow`, `AfterEnd`, `StreamOverrun`, `ZeroStreamGrant`, `StreamOverflow`, the
-/// stalls of the stream's windows and, where credits are shown, `StreamCredit`. The run looks where its connection
-/// stops before its first step and then before each 256th more; it stops before a step past the last answer, and leaves
-/// out what lies past it. Nothing else stops it: what follows a connection error of its own is there too. Credits, in
-/// bytes, stay below 2^60 in size.
+/// stalls of the stream's windows and, where credits are shown, `StreamCredit`. The run's steps are the frames, and the
+/// changes that find a live window. It looks where its connection stops before its first step and then before each
+/// 256th more; it stops before a step past the last answer, and leaves out what lies past it. Nothing else stops it:
+/// what follows a connection error of its own is there too. Credits, in bytes, stay below 2^60 in size.
 pub fn stream_run<L: Look>(
     alloc: Global,
     part: &StreamPart<'_>,
@@ -60,7 +60,7 @@ pub fn stream_run<L: Look>(
     requires changes { AreOrderly changes.now }
     requires acknowledged { AreAcknowledged (part_frames part.now) changes.now }
     ensures run { IfOk result (λ run. IsRun L.answers look.old look.new
-        (step_numbers (part_frames part.now) changes.now)
+        (step_numbers part.now.stream (part_frames part.now) changes.now)
         (shown credits_shown (stream_run part.now.stream (part_frames part.now) changes.now))
         run.findings.items run.upto run.last_look run.looks) }
     ensures opened { IfOk result (λ run. run.opened_at ≡ opened_up_to run.upto

@@ -1,18 +1,18 @@
-ghost use Rattle.std.specs.Prelude.{◌≡◌, ℕ, ◌+◌, ◌-◌, ◌^◌, ◌<◌, ◌≤◌, [], ◌∷◌, ◌||◌, false, List, is_some, OnOk, IfOk};
+ghost use Rattle.std.specs.Prelude.{◌≡◌, ℕ, ◌+◌, ◌-◌, ◌^◌, ◌<◌, ◌≤◌, [], ◌∷◌, true, List, OnOk, IfOk};
 ghost use Rattle.std.specs.Bool.{OnTrue, OnFalse};
 ghost use Rattle.audit_terms.specs.declared.frames.Frame.{Frame};
 ghost use Rattle.audit_terms.specs.declared.items.Step.{Step};
 ghost use Rattle.audit_terms.specs.declared.findings.Finding.{Finding as FindingTerm};
 ghost use Rattle.audit_terms.specs.InForce.{initial_in_force};
 ghost use Rattle.audit_terms.specs.Run.{change_step};
-ghost use Rattle.audit_terms.specs.Stream.{IsAcknowledged, idle_stream, initial_after};
+ghost use Rattle.audit_terms.specs.Stream.{IsAcknowledged, idle_stream, initial_after, stream_after};
 ghost use Rattle.audit_terms.specs.code.Watch.{Watches, NeverFallFrom};
+ghost use Rattle.stream_credit.specs.Looks.{is_live, is_met};
 ghost use Rattle.stream_credit.specs.code.Left.{after_changes, IsInForce};
 ghost use Rattle.stream_credit.specs.code.Walk.{IsCounted, HasRoomAt, WholeRun, IsAt, IsAtChanges, IsSound, HasStopped};
 
 use crate::changes::FIRST_WINDOWS;
 use crate::left::Left;
-use crate::strides::pass_over;
 use audit_terms::{
     Change, Finding, Frame, Look, Sides, Step, Stream, Watch, initial_after, keep_shown,
     put_in_order,
@@ -63,7 +63,7 @@ impl Walk {
 
     /// Does a window of the stream live?
     fn is_live(&self) -> bool
-        ensures { result ≡ (is_some self.now.entry.window.client || is_some self.now.entry.window.server) }
+        ensures { result ≡ is_live self.now.entry }
     {
         self.entry.window.client.is_some() || self.entry.window.server.is_some()
     }
@@ -91,6 +91,7 @@ impl Walk {
     fn meet<L: Look>(&mut self, look: &mut L, step: &Step) -> Result<bool, AllocError>
         requires numbered { step.now.number ≤ 2 ^ 28 - 2 }
         requires acknowledged { IsAcknowledged step.now }
+        requires met { is_met self.old.entry step.now ≡ true }
         requires at { (run : WholeRun L) × (rest : List Step)
             × IsAt L.answers run look.old self.old step.now.number (step.now ∷ rest) }
         ensures goes_on { IfOk result (λ goes_on. OnTrue goes_on ((run : WholeRun L) (rest : List Step)
@@ -101,6 +102,8 @@ impl Walk {
             → HasStopped L.answers run look.new self.new)) }
         ensures initial { IfOk result (λ goes_on. OnTrue goes_on
             (self.new.initial ≡ initial_after step.now.change self.old.initial)) }
+        ensures entry { IfOk result (λ goes_on. OnTrue goes_on
+            (self.new.entry ≡ stream_after self.old.stream self.old.initial self.old.entry step.now)) }
     {
         let found = self.found.as_slice();
         if !self.watch.goes_on(look, found, step.number) {
@@ -110,8 +113,8 @@ impl Walk {
         Ok(true)
     }
 
-    /// Meets changes whose frames are on other streams, and answers whether it met them all. Where no window lives they
-    /// change none, and only what they leave in force counts.
+    /// Meets changes whose frames are on other streams, and answers whether it met them all. Where no window lives it
+    /// has none of them to meet.
     pub(crate) fn meet_changes<L: Look>(
         &mut self,
         look: &mut L,
@@ -130,15 +133,16 @@ impl Walk {
             (self.new.initial ≡ after_changes self.old.initial passed.entry.changes.now)) }
     {
         if self.is_live() {
-            self.meet_each(look, passed.changes)
-        } else {
-            Ok(self.pass_each(look, passed))
+            return self.meet_each(look, passed.changes);
         }
+        self.pass(&passed);
+        Ok(true)
     }
 
     /// Meets changes one by one.
     fn meet_each<L: Look>(&mut self, look: &mut L, changes: &[Change]) -> Result<bool, AllocError>
-        requires { (run : WholeRun L) × (number : ℕ) × (rest : List Step)
+        requires live { is_live self.old.entry ≡ true }
+        requires at { (run : WholeRun L) × (number : ℕ) × (rest : List Step)
             × IsAtChanges L.answers run look.old self.old number changes.now rest }
         ensures goes_on { IfOk result (λ goes_on. OnTrue goes_on ((run : WholeRun L) (number : ℕ) (rest : List Step)
             → IsAtChanges L.answers run look.old self.old number changes.now rest
@@ -157,28 +161,14 @@ impl Walk {
         Ok(true)
     }
 
-    /// Passes over changes where no window lives.
-    fn pass_each<L: Look>(&mut self, look: &mut L, passed: Left<'_>) -> bool
-        requires dead { (is_some self.old.entry.window.client || is_some self.old.entry.window.server) ≡ false }
-        requires at { (run : WholeRun L) × (number : ℕ) × (rest : List Step)
-            × IsAtChanges L.answers run look.old self.old number passed.changes.now rest }
-        requires in_force { IsInForce self.old.initial passed }
-        ensures goes_on { OnTrue result ((run : WholeRun L) (number : ℕ) (rest : List Step)
-            → IsAtChanges L.answers run look.old self.old number passed.entry.changes.now rest
-            → IsAt L.answers run look.new self.new number rest) }
-        ensures stops { OnFalse result ((run : WholeRun L) (number : ℕ) (rest : List Step)
-            → IsAtChanges L.answers run look.old self.old number passed.entry.changes.now rest
-            → HasStopped L.answers run look.new self.new) }
-        ensures initial { OnTrue result (self.new.initial ≡ after_changes self.old.initial passed.entry.changes.now) }
+    /// Passes over changes: only what they leave in force counts.
+    fn pass(&mut self, passed: &Left<'_>)
+        requires { IsInForce self.old.initial passed.now }
+        ensures { self.new ≡ record self.old { initial = after_changes self.old.initial passed.now.changes.now } }
     {
-        let found = self.found.as_slice();
-        if !pass_over(&mut self.watch, look, found, passed.changes) {
-            return false;
-        }
         if let Some(initial) = passed.in_force.last() {
             self.initial = *initial;
         }
-        true
     }
 
     /// Meets the next frame of the stream, and the changes before it, and answers whether it met them all.

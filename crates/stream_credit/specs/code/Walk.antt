@@ -1,5 +1,5 @@
 -- A stream's run between two of its steps.
-use Rattle.std.specs.Prelude.{◌≡◌, ℕ, ◌*◌, ◌^◌, ◌<◌, ◌≤◌, List, [], ◌++◌, length, map, Option, None, Some}
+use Rattle.std.specs.Prelude.{◌≡◌, ℕ, ◌+◌, ◌-◌, ◌*◌, ◌^◌, ◌<◌, ◌≤◌, List, [], ◌∷◌, ◌++◌, length, map, Option, None, Some}
 use Rattle.std.specs.List.{AllByRecursion}
 use Rattle.audit_terms.specs.declared.sides.Side.{Side}
 use Rattle.audit_terms.specs.declared.frames.Frame.{Frame}
@@ -11,17 +11,17 @@ use Rattle.audit_terms.specs.Sides.{side_of}
 use Rattle.audit_terms.specs.Frame.{IsOrderlyFrom}
 use Rattle.audit_terms.specs.Place.{place_number}
 use Rattle.audit_terms.specs.Finding.{in_order, shown}
+use Rattle.audit_terms.specs.Look.{found_before}
 use Rattle.audit_terms.specs.Run.{change_step}
 use Rattle.audit_terms.specs.Stream.{initial_after, stream_said, stream_after, stream_run_from, stream_after_all}
 use Rattle.audit_terms.specs.code.Room.{WindowHasRoom}
-use Rattle.audit_terms.specs.code.Watch.{Watches}
+use Rattle.audit_terms.specs.code.Watch.{Watches, IsStopped, NeverFallFrom}
 use Rattle.settings_pair.specs.Changes.{AreOrderlyFrom}
 use Rattle.stream_credit.specs.declared.left.Left.{Left}
 use Rattle.stream_credit.specs.declared.walks.Walk.{Walk}
-use Rattle.stream_credit.specs.Looks.{opened_up_to}
+use Rattle.stream_credit.specs.Looks.{met_from, opened_up_to}
 use Rattle.stream_credit.specs.code.Left.{IsInForce}
 use Rattle.stream_credit.specs.code.Merged.{merged, Acknowledge}
-use Rattle.stream_credit.specs.code.Stride.{AreBefore, IsStoppedAt}
 
 -- what was found, with what some steps from here on show
 abbrev pub found_with : Walk → List Step → List Finding
@@ -31,6 +31,10 @@ found_with walk steps =
 -- the stream after some steps from here on
 abbrev pub entry_after : Walk → List Step → Stream
 entry_after walk steps = stream_after_all walk.stream walk.initial walk.entry steps
+
+-- the numbers of those of some steps that it meets from here on
+abbrev pub met_by : Walk → List Step → List ℕ
+met_by walk steps = met_from walk.stream walk.initial walk.entry steps
 
 abbrev pub numbers_of : List Step → List ℕ
 numbers_of steps = map (λ (step : Step). step.number) steps
@@ -54,7 +58,8 @@ pub record IsCounted (old : Walk) (step : Step) (new : Walk) : Type 0 where
 abbrev pub HasRoomAt : (number : ℕ) → Stream → Type 0
 HasRoomAt number entry = (d : Side) → WindowHasRoom (number * 2 ^ 32) (side_of d entry.window)
 
--- a run of a stream as a whole: its looker before it, what all its steps show, their numbers, the stream after them
+-- a run of a stream as a whole: its looker before it, what all steps show, the numbers of those that it meets, the
+-- stream after all
 pub record WholeRun (L : Type 0) : Type 0 where
   pub start : L
   pub found : List Finding
@@ -71,9 +76,17 @@ pub record IsAt {L : Type 0} (answers : L → List Finding → Option ℕ → L 
   pub entry : entry_after walk steps ≡ run.entry
   pub met : List ℕ
   pub count : length met ≤ low
-  pub numbers : met ++ numbers_of steps ≡ run.numbers
+  pub numbers : met ++ met_by walk steps ≡ run.numbers
+  pub rise : NeverFallFrom 0 (numbers_of steps)
   pub own : AllByRecursion (λ (step : Step). IsNumbered step.number step.frame) steps
-  pub watches : Watches answers run.start now run.found met (numbers_of steps) walk.watch
+  pub watches : Watches answers run.start now run.found met (met_by walk steps) walk.watch
+
+-- changes in range and in order, the first numbered `low` or above, all before a number
+abbrev pub AreBefore : (low number : ℕ) → List Change → Type 0
+AreBefore low number [] = Unit {0}
+AreBefore low number (change ∷ changes) =
+    (low ≤ change.number) × (change.number < number) × (change.number < 2 ^ 28 - 1)
+    × AreBefore (change.number + 1) number changes
 
 -- the same with the steps of some changes to come, all before a number, and then the others, from that number on
 pub record IsAtChanges {L : Type 0} (answers : L → List Finding → Option ℕ → L → Type 0) (run : WholeRun L) (now : L)
@@ -101,6 +114,7 @@ HasEnded answers run now walk = (low : ℕ) × IsAt answers run now walk low []
 -- a walk that has stopped before one of them
 pub record HasStopped {L : Type 0} (answers : L → List Finding → Option ℕ → L → Type 0) (run : WholeRun L) (now : L)
     (walk : Walk) : Type 0 where
-  pub high : ℕ
-  pub at : IsStoppedAt answers run.start now run.found walk.found.items high run.numbers walk.watch
+  pub number : ℕ
+  pub found : walk.found.items ≡ found_before number run.found
+  pub stopped : IsStopped answers run.start now run.found run.numbers number walk.watch
   pub opened : opened_up_to walk.watch.stop walk.entry.life.opened ≡ opened_up_to walk.watch.stop run.entry.life.opened

@@ -4,8 +4,8 @@ use Rattle.settings_pair.proofs.WaitingLemmas.{waiting-at_start}
 use Rattle.settings_pair.proofs.OrderLemmas.{found-orderly, found-acknowledged}
 use Rattle.settings_pair.proofs.pairing.pair.Goals as goal
 
-pub loop-frame-init : goal.loop-frame-init
-loop-frame-init c = record {
+pub loop-at-init : goal.loop-at-init
+loop-at-init c = record {
   now = initial_in_force;
   low = 0;
   waiting = waiting-at_start _ c.new-waiting.ensures;
@@ -16,10 +16,10 @@ loop-frame-init c = record {
 
 pub returns-clause-orderly : goal.returns-clause-orderly
 returns-clause-orderly c =
-    let i = c.loop-frame.invariant in
-    found-orderly i.now c.loop-frame.pairs.changes.items c.args.frames.now c.loop-frame.frame-index c.requires (omega arith) i.changes
+    let i = c.loop-at.invariant in
+    found-orderly i.now c.loop-at.pairs.changes.items c.args.frames.now c.loop-at.at c.requires (omega arith) i.changes
 
 pub returns-clause-acknowledged : goal.returns-clause-acknowledged
 returns-clause-acknowledged c =
-    let i = c.loop-frame.invariant in
-    found-acknowledged i.now c.loop-frame.pairs.changes.items c.args.frames.now c.loop-frame.frame-index c.requires (omega arith) i.changes
+    let i = c.loop-at.invariant in
+    found-acknowledged i.now c.loop-at.pairs.changes.items c.args.frames.now c.loop-at.at c.requires (omega arith) i.changes

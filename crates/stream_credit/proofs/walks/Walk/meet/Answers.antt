@@ -6,9 +6,10 @@ pub returns-then-not-goes_on-clause-stops : goal.returns-then-not-goes_on-clause
 returns-then-not-goes_on-clause-stops g c = λ run.
     step-stops g.L.Look.answers run c.args.look.now c.goes_on.new.look c.args.self.now c.goes_on.new.self c.args.step.now
     (λ start whole met left found. c.if-not-goes_on.ensures.stops start whole met left (c.as_slice-found.ensures.value ∙ found))
+    c.requires.met
 
 pub returns-clause-goes_on : goal.returns-clause-goes_on
 returns-clause-goes_on g c = λ run.
     step-on g.L.Look.answers run c.args.look.now c.goes_on.new.look c.args.self.now c.count.new.self c.goes_on.new.self c.args.step.now
     (λ start whole met left found. c.if-not-goes_on.ensures.goes_on start whole met left (c.as_slice-found.ensures.value ∙ found))
-    c.in_ok-count.ensures.counted c.in_ok-count.ensures.room
+    c.in_ok-count.ensures.counted c.in_ok-count.ensures.room c.requires.met
