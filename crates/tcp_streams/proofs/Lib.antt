@@ -1,5 +1,6 @@
 pub mod CaptureFits
 pub mod FlowLemmas
+pub mod InOrder
 pub mod IntervalLemmas
 pub mod Lists
 pub mod Numbered
@@ -8,6 +9,7 @@ pub mod PieceLemmas
 pub mod Elements
 pub mod RunLemmas
 pub mod Past
+pub mod Sides
 pub mod Steps
 pub mod Turns
 pub mod UniqueFlow

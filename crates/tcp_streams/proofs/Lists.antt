@@ -68,6 +68,6 @@ pub if_ok : {A E : Type 0} (r : Result A E) (P Q : A → Type 0) → ((x : A) �
 if_ok (Ok x) P Q f h = f x h
 if_ok (Err e) P Q f h = tt
 
-pub if_ok_3 : {A E : Type 0} (r : Result A E) (P Q R W : A → Type 0) → ((x : A) → P x → Q x → R x → W x) → IfOk r P → IfOk r Q → IfOk r R → IfOk r W
-if_ok_3 (Ok x) P Q R W f p q h = f x p q h
-if_ok_3 (Err e) P Q R W f p q h = tt
+pub if_ok_4 : {A E : Type 0} (r : Result A E) (P Q R S W : A → Type 0) → ((x : A) → P x → Q x → R x → S x → W x) → IfOk r P → IfOk r Q → IfOk r R → IfOk r S → IfOk r W
+if_ok_4 (Ok x) P Q R S W f p q h k = f x p q h k
+if_ok_4 (Err e) P Q R S W f p q h k = tt

@@ -304,6 +304,22 @@ found-at packets m s h = by (slice_get packets (m - 1)) h
     by (Some (Skipped k)) e = absurd (let no : None ≡ Some s = e in cc)
     by (Some (Refused k)) e = absurd (let no : None ≡ Some s = e in cc)
 
+-- its payload stands in the capture
+pub stands-found : (packets : List Packet) (size : ℕ) → PayloadsRise 0 size packets → (m : ℕ) (s : Segment)
+    → segment_of packets m ≡ Some s → StandsIn size s
+stands-found packets size rise m s h = stands-at 0 packets (m - 1) rise (found-at packets m s h)
+  where
+    stands-at : (from : ℕ) (list : List Packet) (i : ℕ) → PayloadsRise from size list → slice_get list i ≡ Some (Carried s) → StandsIn size s
+    stands-at from [] i p at' = absurd (let e : None ≡ Some (Carried s) = at' in cc)
+    stands-at from (Carried x ∷ rest) zero p at' =
+        let same : x ≡ s = let e : Some (Carried x) ≡ Some (Carried s) = at' in cc in
+        subst (λ (y : Segment). StandsIn size y) same (record { ordered = p.1; within = PayloadsRise-end x.hi size rest p.2 })
+    stands-at from (Skipped k ∷ rest) zero p at' = absurd (let e : Some (Skipped k) ≡ Some (Carried s) = at' in cc)
+    stands-at from (Refused k ∷ rest) zero p at' = absurd (let e : Some (Refused k) ≡ Some (Carried s) = at' in cc)
+    stands-at from (Carried x ∷ rest) (suc i) p at' = stands-at x.hi rest i p.2 at'
+    stands-at from (Skipped k ∷ rest) (suc i) p at' = stands-at from rest i p at'
+    stands-at from (Refused k ∷ rest) (suc i) p at' = stands-at from rest i p at'
+
 module _ (packets : List Packet) (size : ℕ) (rise : PayloadsRise 0 size packets) (times : TimesFit packets) (numbered : AreNumberedFrom 1 packets) where
   sound-found : (m : ℕ) (s : Segment) → 0 < m → segment_of packets m ≡ Some s → SoundAt size m s
   sound-found m s pos h =

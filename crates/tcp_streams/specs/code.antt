@@ -1,3 +1,4 @@
+pub mod Assembled
 pub mod Interval
 pub mod Pairs
 pub mod Standings

@@ -4,7 +4,9 @@ ghost use Rattle.tcp_streams.specs.Arrivals.{IsOrderly};
 ghost use Rattle.tcp_streams.specs.Flow.{IsFlow};
 ghost use Rattle.tcp_streams.specs.Members.{AreMembers, initial_of, payload_sum, side_segments};
 ghost use Rattle.tcp_streams.specs.Sequence.{source};
+ghost use Rattle.tcp_streams.specs.code.Assembled.{IsAssembled};
 
+use crate::in_order::flow_in_order;
 use crate::layout::lay_out;
 use crate::members::Connection;
 use crate::overlay::settle;
@@ -55,10 +57,39 @@ pub fn assemble(
 {
     match connection.initial_of(side) {
         Some(initial_number) => {
-            let pieces = pieces_of(alloc, initial_number, packets, connection, side)?;
-            let intervals = settle(alloc, pieces)?;
-            lay_out(alloc, capture, &intervals)
+            match flow_in_order(alloc, capture, packets, connection, side, initial_number)? {
+                Some(flow) => Ok(flow),
+                None => flow_in_any_order(
+                    alloc,
+                    capture,
+                    packets,
+                    connection,
+                    side,
+                    initial_number,
+                ),
+            }
         }
         None => Ok(Flow::unknown(alloc)),
     }
+}
+
+/// The flow of a side whose segments may come in any order, overlap and leave holes.
+fn flow_in_any_order(
+    alloc: Global,
+    capture: &[u8],
+    packets: &[Packet],
+    connection: &Connection,
+    side: Side,
+    initial_number: u32,
+) -> Result<Flow, AllocError>
+    requires size { length capture.now < 2 ^ 31 }
+    requires numbered { AreNumberedFrom 1 packets.now }
+    requires payloads { PayloadsRise 0 (length capture.now) packets.now }
+    requires times { TimesFit packets.now }
+    requires members { AreMembers 0 packets.now connection.now.members.items }
+    ensures { IfOk result (IsAssembled capture.now packets.now connection.now side initial_number) }
+{
+    let pieces = pieces_of(alloc, initial_number, packets, connection, side)?;
+    let intervals = settle(alloc, pieces)?;
+    lay_out(alloc, capture, &intervals)
 }

@@ -88,7 +88,7 @@ fn arrivals_in(alloc: Global, run: &[Interval]) -> Result<Vec<Arrival>, AllocErr
 }
 
 /// The interval's bytes arrive with its record.
-fn arrival_with(x: &Interval) -> Arrival
+pub fn arrival_with(x: &Interval) -> Arrival
     ensures { result ≡ arrival_with x.now }
 {
     Arrival {

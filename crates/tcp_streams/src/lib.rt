@@ -12,10 +12,10 @@
 //! - [`laws`]: there is one flow for a source; each payload byte is brought to the offset that the RFC's arithmetic
 //!   gives it; all flows together fit in the capture.
 //!
-//! The code lays disjoint intervals over one another: the first half of the segments is settled, then the second, which
-//! gives only the offsets that the first leaves free; so it takes n log n steps in whichever order segments come. Pairs
-//! are kept in an ordered map: the hashes at hand have a fixed seed, and a capture could be made whose pairs all
-//! collide.
+//! Segments that come in order are laid out as they come. For any others the code lays disjoint intervals over one
+//! another: the first half of the segments is settled, then the second, which gives only the offsets that the first
+//! leaves free; so it takes n log n steps in whichever order segments come. Pairs are kept in an ordered map: the hashes
+//! at hand have a fixed seed, and a capture could be made whose pairs all collide.
 //!
 //! Wrong bodies that the prover refuses: the last retransmission wins, a SYN of any number opens again. Worked examples
 //! of openings, strays and offsets are proved in `crate_tests`. Tested there: random segments beside a slow program
@@ -23,6 +23,7 @@
 #![tactic(auto)]
 
 mod assembly;
+mod in_order;
 mod interval;
 pub mod laws;
 mod layout;

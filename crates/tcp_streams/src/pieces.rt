@@ -36,7 +36,7 @@ pub fn pieces_of(
 }
 
 /// The piece of a member, if it is the side's.
-fn piece_of_member(
+pub fn piece_of_member(
     initial_number: u32,
     packets: &[Packet],
     connection: &Connection,
