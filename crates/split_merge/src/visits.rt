@@ -39,7 +39,7 @@ impl Visits {
         let mut table = Visits {
             rows: Vec::new(alloc),
             index: BTreeMap::new(alloc),
-            visits: Vec::new(alloc),
+            visits: Vec::with_capacity(alloc, frames.len())?,
             last: 0,
         };
         let mut position = 0;
