@@ -8,6 +8,7 @@ pub mod Whole
 pub mod PartsKept
 pub mod Fronts
 pub mod MadeReady
+pub mod BothHalves
 pub mod Batches
 pub mod Cuts
 pub mod Layouts

@@ -79,7 +79,7 @@ fn prepare_in_turn<'a, R: Threads + Sync>(
 }
 
 /// Where connections are halved: those before have about half of the frames.
-fn middle(connections: &[&[Frame]]) -> usize
+pub(crate) fn middle(connections: &[&[Frame]]) -> usize
     requires { 2 ≤ length connections.now }
     ensures some { 0 < result }
     ensures fewer { result < length connections.now }

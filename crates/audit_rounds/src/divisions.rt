@@ -3,7 +3,7 @@ ghost use Rattle.audit_terms.specs.Frame.{IsOrderly};
 ghost use Rattle.audit_terms.specs.Finding.{shown};
 ghost use Rattle.audit_terms.specs.Pass.{pass};
 
-use crate::early_stops::findings_by_fronts;
+use crate::halves::findings_by_halves;
 use audit_terms::{Finding, Frame};
 use job_crew::Gate;
 use std::alloc::{AllocError, Global};
@@ -77,7 +77,7 @@ pub fn findings_of_each<R: Threads + Sync, G: Gate>(
     while done < connections.len() {
         let (_, rest) = connections.split_at(done);
         let (batch, _) = rest.split_at(batch_length(rest));
-        let mut found = findings_by_fronts(rt, alloc, &division, gate, credits_shown, batch)?;
+        let mut found = findings_by_halves(rt, alloc, &division, gate, credits_shown, batch)?;
         all.append(&mut found)?;
         done += batch.len();
     }

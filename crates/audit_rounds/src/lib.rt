@@ -16,7 +16,7 @@
 //! too many frames together: it bounds what the rounds need beside the frames, and lets threads start once for many
 //! small connections. Jobs have numbers of 32 bits; a plan with more would be answered as want of memory.
 //! Of a long connection a front goes through the rounds first: what an early error ends is then neither split nor gone
-//! through.
+//! through. Many connections go in halves of as many frames, side by side, each with half of the workers.
 //!
 //! - [`laws::rounds_make_the_pass`]: local faults, unmatched acknowledgements, what is shown of the streams and of the
 //!   blocks make what is shown of the pass, for every cut of the frames into blocks. Credits that no line shows are
@@ -30,7 +30,7 @@
 //! - [`laws::openings_are_found`] and [`laws::items_are_found`]: the numbers that streams tell, and the changes, make
 //!   the items of the pass.
 //!
-//! Wrong bodies that the prover refuses: openings not handed on, a block that starts from the connection's start, a
+//! Wrong bodies that the prover refuses: openings not handed on, the first block gone through in place of each, a
 //! clear block left out though credits are shown, the greatest place of several runs. Tested by whole reports, in
 //! many mixes of workers, groups and block lengths: that the call succeeds where there is memory.
 #![tactic(auto)]
@@ -44,6 +44,7 @@ mod connections;
 mod divisions;
 mod early_stops;
 mod gathering;
+mod halves;
 pub mod laws;
 mod opened;
 mod prepared;

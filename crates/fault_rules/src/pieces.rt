@@ -1,9 +1,10 @@
 //! Pieces of a connection's frames.
 
-ghost use Rattle.std.specs.Prelude.{◌≡◌, ◌*◌, ◌<◌, length, All, IfOk, flat_map};
+ghost use Rattle.std.specs.Prelude.{◌≡◌, ◌*◌, ◌<◌, ◌++◌, length, All, IfOk, OnOk, flat_map};
 ghost use Rattle.std.specs.Fork.{slice_chunk};
 ghost use Rattle.audit_terms.specs.Frame.{IsInRange, IsOrderly};
-ghost use Rattle.audit_terms.specs.LocalFault.{local_run_from, local_run};
+ghost use Rattle.audit_terms.specs.Finding.{in_order};
+ghost use Rattle.audit_terms.specs.LocalFault.{local_said, local_run_from, local_run, no_previous};
 ghost use Rattle.fault_rules.specs.code.Pieces.{piece_run, AreBefores};
 
 use crate::previous::{meet, previous_after_all};
@@ -29,6 +30,9 @@ pub fn local_faults(
     ensures { IfOk result (λ found. found.items ≡ local_run frames.now) }
 {
     let size = frames.len().div_ceil(workers).max(PIECE);
+    if frames.len() <= size {
+        return faults_after(alloc, none_before(), frames);
+    }
     let befores = befores(alloc, size, frames)?;
     let befores = befores.as_slice();
     let pieces = (0..befores.len())
@@ -44,6 +48,16 @@ pub fn local_faults(
     joined(alloc, pieces.as_slice())
 }
 
+/// No frame of either side.
+fn none_before() -> Sides<Option<Frame>>
+    ensures { result ≡ no_previous }
+{
+    Sides {
+        client: None,
+        server: None,
+    }
+}
+
 /// The last frame of each side before each piece.
 fn befores(
     alloc: Global,
@@ -54,10 +68,7 @@ fn befores(
     ensures { IfOk result (λ befores. AreBefores size frames.now befores.items) }
 {
     let mut befores = Vec::new(alloc);
-    let mut previous = Sides {
-        client: None,
-        server: None,
-    };
+    let mut previous = none_before();
     for n in 0..frames.len().div_ceil(size) {
         befores.push(previous)?;
         previous = previous_after_all(&previous, piece(size, frames, n));
@@ -102,13 +113,30 @@ fn faults_after(
     let mut found = Vec::new(alloc);
     let mut said = Vec::new(alloc);
     for frame in frames {
-        said.clear();
-        say_local(&mut said, &previous.of(frame.side), frame)?;
-        put_in_order(&mut said)?;
-        found.extend_from_slice(said.as_slice())?;
+        add_faults(&mut found, &mut said, &previous.of(frame.side), frame)?;
         meet(&mut previous, frame);
     }
     Ok(found)
+}
+
+/// Adds the faults of a frame, in order. What `said` holds is of no account: it is kept for its memory.
+fn add_faults(
+    found: &mut Vec<Finding>,
+    said: &mut Vec<Finding>,
+    previous: &Option<Frame>,
+    frame: &Frame,
+) -> Result<(), AllocError>
+    requires { IsInRange frame.now }
+    ensures { OnOk result (found.new.items ≡ found.old.items ++ in_order (local_said previous.now frame.now)) }
+{
+    said.clear();
+    say_local(said, previous, frame)?;
+    // Most frames have none.
+    if said.is_empty() {
+        return Ok(());
+    }
+    put_in_order(said)?;
+    found.extend_from_slice(said.as_slice())
 }
 
 /// What the pieces show, one after the other.

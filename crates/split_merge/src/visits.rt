@@ -1,5 +1,7 @@
 ghost use Rattle.std.specs.Prelude.{◌≡◌, ◌≢◌, ℕ, ◌*◌, ◌+◌, ◌^◌, ◌<◌, ◌++◌, List, IfOk, OnOk, Some, length, slice_get};
 ghost use Rattle.std.specs.Bool.{OnTrue};
+ghost use Rattle.std.specs.BTreeMap.{get};
+ghost use Rattle.std.specs.Ordering.{nat_cmp};
 ghost use Rattle.audit_terms.specs.Pass.{streams_of};
 ghost use Rattle.split_merge.specs.code.Visits.{HasAtMost, IsIndex, IsTableOf, counted, noted, notes_from, streams_in, with_row, with_stream};
 
@@ -39,7 +41,7 @@ impl Visits {
         let mut table = Visits {
             rows: Vec::new(alloc),
             index: BTreeMap::new(alloc),
-            visits: Vec::new(alloc),
+            visits: Vec::with_capacity(alloc, frames.len())?,
             last: 0,
         };
         let mut position = 0;
@@ -84,8 +86,8 @@ impl Visits {
         if is_row_of(self.rows.as_slice(), self.last, stream) {
             return Ok(self.last);
         }
-        if let Some(row) = self.index.get(&stream) {
-            return Ok(*row);
+        if let Some(row) = row_in(&self.index, stream) {
+            return Ok(row);
         }
         let row = self.rows.len() as u32;
         self.index.insert(stream, row)?;
@@ -95,6 +97,17 @@ impl Visits {
             to: 0,
         })?;
         Ok(row)
+    }
+}
+
+/// The index of a stream's row in the map, if it has one. Streams mostly come in rising order, and the last key is found
+/// without a search.
+fn row_in(index: &BTreeMap<u32, u32>, stream: u32) -> Option<u32>
+    ensures { result ≡ get nat_cmp index.now stream }
+{
+    match index.last_key_value() {
+        Some((last, _)) if *last < stream => None,
+        _ => index.get(&stream).copied(),
     }
 }
 

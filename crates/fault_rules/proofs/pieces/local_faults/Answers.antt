@@ -39,3 +39,6 @@ returns g c =
     IfOk-then c.joined.result _ _ c.joined.ensures (λ v joined.
     joined ∙ ap (flat_map (λ piece. piece.items)) (c.as_slice.ensures.value ∙ got.2)
     ∙ pieces-all _ (λ piece. piece.items) size frames n got.0 are.whole zipped)
+
+pub faults_after-requires : goal.faults_after-requires
+faults_after-requires g c = orderly-All 0 c.args.frames.now c.requires.frames

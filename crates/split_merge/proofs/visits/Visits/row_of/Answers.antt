@@ -16,14 +16,14 @@ pub returns-in-Some-clause-rows : goal.returns-in-Some-clause-rows
 returns-in-Some-clause-rows c =
     with_row-seen c.args.stream c.args.self.now.rows.items
     (among-from_map (streams_in c.args.self.now.rows.items) c.args.self.now.index c.requires.index c.args.stream _
-    (sym c.in-Some.ensures.value) refl)
+    (sym c.in-Some.ensures) refl)
 
 pub returns-clause-index : goal.returns-clause-index
 returns-clause-index c =
     let rows = c.args.self.now.rows.items in
     let new : NotAmong c.args.stream (streams_in c.args.self.now.rows.items) =
     absent-from_map (streams_in c.args.self.now.rows.items) c.args.self.now.index c.requires.index c.args.stream _
-    (sym c.in_default.ensures.value) refl in
+    (sym c.in_default.ensures) refl in
     let place : c.len-row.result ≡ length (streams_in c.args.self.now.rows.items) =
     omega (arith, length-streams_in c.args.self.now.rows.items) in
     subst (λ l. IsIndex l c.insert.new.self)
@@ -46,5 +46,5 @@ pub returns-clause-rows : goal.returns-clause-rows
 returns-clause-rows c =
     let new : NotAmong c.args.stream (streams_in c.args.self.now.rows.items) =
     absent-from_map (streams_in c.args.self.now.rows.items) c.args.self.now.index c.requires.index c.args.stream _
-    (sym c.in_default.ensures.value) refl in
+    (sym c.in_default.ensures) refl in
     c.in_ok-push.ensures.items ∙ with_row-new c.args.stream c.args.self.now.rows.items new
