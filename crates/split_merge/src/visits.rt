@@ -36,10 +36,12 @@ impl Visits {
         ensures table { IfOk result (IsTableOf (notes_from 0 frames.now)) }
         ensures room { IfOk result (HasAtMost (2 * length frames.now)) }
     {
+        // Few frames have no visit, and few have two.
+        let visits = Vec::with_capacity(alloc, frames.len())?;
         let mut table = Visits {
             rows: Vec::new(alloc),
             index: BTreeMap::new(alloc),
-            visits: Vec::new(alloc),
+            visits,
             last: 0,
         };
         let mut position = 0;

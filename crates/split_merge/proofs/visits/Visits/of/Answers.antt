@@ -15,7 +15,7 @@ loop-frame-init c =
       position = refl;
       table = record {
         index = rw none (index-empty c.new-2.result c.new-2.ensures.empty);
-        listed = listed-none c.new.result.items c.new-3.result.items none c.new-3.ensures.items;
+        listed = listed-none c.new.result.items c.in_ok-visits.visits.items none c.in_ok-visits.ensures.items;
       };
       named = rw none (named-first (streams_of c.args.frames.now));
       room = record {
