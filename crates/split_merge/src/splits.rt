@@ -41,6 +41,8 @@ pub fn split(alloc: Global, frames: &[Frame]) -> Result<SplitFrames, AllocError>
 {
     let table = Visits::of(alloc, frames)?;
     let mut rows = table.rows;
+    // The map is as large as the rows: it goes before the positions are made.
+    drop(table.index);
     let total = lay_out(&mut rows);
     let positions = place(alloc, &mut rows, &table.visits, total)?;
     Ok(SplitFrames { rows, positions })
