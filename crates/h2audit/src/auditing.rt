@@ -57,7 +57,7 @@ fn audit_records(
     ensures { IfOk result (λ r. IsReportOn capture.now found.now (choices options.now).frames_shown
         r.0.items r.1) }
 {
-    let packets = decode_all(rt, alloc, found, capture)?;
+    let packets = decode_all(alloc, found, capture)?;
     let connections = connections(alloc, packets.as_slice())?;
     let audited = audit_each(
         rt,

@@ -72,7 +72,10 @@ fn cut_each(
 {
     let mut stops: Vec<Option<Place>> = Vec::new(alloc);
     stops.resize(opened.len(), None)?;
+    let workers = options.division().workers as usize;
     let round = FlowRound {
+        rt,
+        by_two: opened.len() <= workers / 2,
         capture,
         packets,
         opened,

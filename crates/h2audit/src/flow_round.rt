@@ -1,10 +1,9 @@
 //! The first round: both flows of each connection, and what they hold.
 
-ghost use Rattle.std.specs.Prelude.{◌≡◌, ◌<◌, ◌≤◌, ◌^◌, IfOk, length, vec_len};
-ghost use Rattle.packet_heads.specs.Order.{AreNumberedFrom, PayloadsRise, TimesFit};
-ghost use Rattle.tcp_streams.specs.Arrivals.{IsOrderly};
-ghost use Rattle.tcp_streams.specs.Members.{AreMembers, payload_sum, side_segments};
-ghost use Rattle.h2audit.specs.Audited.{IsFlowOf, IsConnectionCut};
+ghost use Rattle.std.specs.Prelude.{◌≡◌, IfOk};
+ghost use Rattle.audit_terms.specs.declared.sides.Side.TheVariants.{Client, Server};
+ghost use Rattle.h2audit.specs.Audited.{IsConnectionCut};
+ghost use Rattle.h2audit.specs.code.Flows.{AreFlows, AreSources, IsSideFlow};
 
 use audit_report::Extent;
 use audit_terms::{Look, Side, Sides};
@@ -13,6 +12,7 @@ use job_crew::{Round, Work};
 use packet_heads::Packet;
 use std::alloc::{AllocError, Global};
 use std::marker::Model;
+use std::thread::{Threads, join};
 use tcp_streams::{Connection, Flow, assemble};
 
 /// What the two flows of a connection hold, and how far they reach.
@@ -24,13 +24,16 @@ pub(crate) struct ConnectionCut {
 
 /// The connections of a capture: a job for each.
 #[derive(Drop)]
-pub(crate) struct FlowRound<'a> {
+pub(crate) struct FlowRound<'a, R: Threads + Sync> {
+    pub(crate) rt: &'a R,
+    /// Are the flows of a connection made on two threads?
+    pub(crate) by_two: bool,
     pub(crate) capture: &'a [u8],
     pub(crate) packets: &'a [Packet],
     pub(crate) opened: &'a [Connection],
 }
 
-impl<'a> Model for FlowRound<'a> {
+impl<'a, R: Threads + Sync> Model for FlowRound<'a, R> {
     ghost use Rattle.h2audit.specs.code.Flows.{FlowView, IsFlowView};
 
     ghost Value = { FlowView };
@@ -44,7 +47,7 @@ impl<'a> Model for FlowRound<'a> {
     }) };
 }
 
-impl Round for FlowRound<'_> {
+impl<R: Threads + Sync> Round for FlowRound<'_, R> {
     type Made = ConnectionCut;
 
     ghost use Rattle.std.specs.Prelude.{◌≡◌, slice_get, Some};
@@ -72,7 +75,14 @@ impl Round for FlowRound<'_> {
         _look: &mut L,
     ) -> Result<Work<ConnectionCut>, AllocError> {
         let connection = &self.opened[job as usize];
-        let made = cut_connection(alloc, self.capture, self.packets, connection)?;
+        let made = cut_connection(
+            self.rt,
+            alloc,
+            self.by_two,
+            self.capture,
+            self.packets,
+            connection,
+        )?;
         Ok(Work {
             findings: Vec::new(alloc),
             upto: None,
@@ -82,27 +92,85 @@ impl Round for FlowRound<'_> {
 }
 
 /// What the flows of one connection hold.
-fn cut_connection(
+fn cut_connection<R: Threads>(
+    rt: &R,
     alloc: Global,
+    by_two: bool,
     capture: &[u8],
     packets: &[Packet],
     connection: &Connection,
 ) -> Result<ConnectionCut, AllocError>
-    requires size { length capture.now < 2 ^ 31 }
-    requires numbered { AreNumberedFrom 1 packets.now }
-    requires payloads { PayloadsRise 0 (length capture.now) packets.now }
-    requires times { TimesFit packets.now }
-    requires members { AreMembers 0 packets.now connection.now.members.items }
+    requires { AreSources capture.now packets.now connection.now }
     ensures { IfOk result (IsConnectionCut capture.now packets.now connection.now) }
 {
-    let client = flow_of(alloc, capture, packets, connection, Side::Client)?;
-    let server = flow_of(alloc, capture, packets, connection, Side::Server)?;
+    let (client, server) = flows_of(rt, alloc, by_two, capture, packets, connection)?;
     let cut = cut(alloc, &client, &server)?;
     // Of the flows the report needs their extents alone.
     Ok(ConnectionCut {
         extents: Extent::of_both(&client, &server),
         cut,
     })
+}
+
+/// The flows of both sides.
+fn flows_of<R: Threads>(
+    rt: &R,
+    alloc: Global,
+    by_two: bool,
+    capture: &[u8],
+    packets: &[Packet],
+    connection: &Connection,
+) -> Result<(Flow, Flow), AllocError>
+    requires { AreSources capture.now packets.now connection.now }
+    ensures { IfOk result (AreFlows capture.now packets.now connection.now) }
+{
+    if by_two {
+        flows_by_two(rt, alloc, capture, packets, connection)
+    } else {
+        flows_in_turn(alloc, capture, packets, connection)
+    }
+}
+
+/// The flows of both sides, made one after the other.
+fn flows_in_turn(
+    alloc: Global,
+    capture: &[u8],
+    packets: &[Packet],
+    connection: &Connection,
+) -> Result<(Flow, Flow), AllocError>
+    requires { AreSources capture.now packets.now connection.now }
+    ensures { IfOk result (AreFlows capture.now packets.now connection.now) }
+{
+    let client = flow_of(alloc, capture, packets, connection, Side::Client)?;
+    let server = flow_of(alloc, capture, packets, connection, Side::Server)?;
+    Ok((client, server))
+}
+
+/// The flows of both sides, the server's on a thread of its own where one can be had.
+fn flows_by_two<R: Threads>(
+    rt: &R,
+    alloc: Global,
+    capture: &[u8],
+    packets: &[Packet],
+    connection: &Connection,
+) -> Result<(Flow, Flow), AllocError>
+    requires { AreSources capture.now packets.now connection.now }
+    ensures { IfOk result (AreFlows capture.now packets.now connection.now) }
+{
+    let (server, client) = join(
+        rt,
+        || -> Result<Flow, AllocError>
+            requires { AreSources capture.now packets.now connection.now }
+            ensures { IfOk result (IsSideFlow capture.entry.now packets.entry.now connection.entry.now Server) }
+        { flow_of(alloc, capture, packets, connection, Side::Server) },
+        || -> Result<Flow, AllocError>
+            requires { AreSources capture.now packets.now connection.now }
+            ensures { IfOk result (IsSideFlow capture.entry.now packets.entry.now connection.entry.now Client) }
+        { flow_of(alloc, capture, packets, connection, Side::Client) },
+    );
+    let client = client?;
+    let server = server?;
+    Ok((client, server))
 }
 
 /// The flow of one side.
@@ -113,14 +181,8 @@ fn flow_of(
     connection: &Connection,
     side: Side,
 ) -> Result<Flow, AllocError>
-    requires size { length capture.now < 2 ^ 31 }
-    requires numbered { AreNumberedFrom 1 packets.now }
-    requires payloads { PayloadsRise 0 (length capture.now) packets.now }
-    requires times { TimesFit packets.now }
-    requires members { AreMembers 0 packets.now connection.now.members.items }
-    ensures flow { IfOk result (IsFlowOf capture.now packets.now connection.now side) }
-    ensures within { IfOk result (λ f. vec_len f.bytes ≤ payload_sum (side_segments packets.now connection.now side)) }
-    ensures orderly { IfOk result IsOrderly }
+    requires { AreSources capture.now packets.now connection.now }
+    ensures { IfOk result (IsSideFlow capture.now packets.now connection.now side) }
 {
     assemble(alloc, capture, packets, connection, side)
 }

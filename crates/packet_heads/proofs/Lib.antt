@@ -1,6 +1,5 @@
 mod Bits
 mod Headers
-mod Pieces
 mod Placing
 mod Progress
 mod Rows

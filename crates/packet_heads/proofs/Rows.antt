@@ -1,12 +1,13 @@
 -- Where the packets of rows stand, from where the rows do.
 use Rattle.std.proofs.Common.{◌≡◌, ℕ, zero, suc, ◌+◌, ◌^◌, ◌<◌, ◌≤◌, List, [], ◌∷◌, length, refl, ap, get_or, arith}
+use Rattle.std.specs.Prelude.{All}
 use Rattle.std.specs.List.{AllByRecursion}
 use Rattle.pcap_records.specs.declared.capture.Record.{Record}
-use Rattle.pcap_records.specs.Place.{RiseFrom}
+use Rattle.pcap_records.specs.Place.{AreWithin, RiseFrom}
 use Rattle.packet_heads.specs.declared.packets.Packet.{Packet}
 use Rattle.packet_heads.specs.declared.packets.Packet.TheVariants.{Segment, Skipped, Refused}
 use Rattle.packet_heads.specs.Order.{AreNumberedFrom, PayloadsRise, TimesFit}
-use Rattle.packet_heads.specs.code.Standing.{AllStand}
+use Rattle.packet_heads.specs.code.Standing.{AllStand, EndsWithin}
 
 -- rows that rise from a place to the end have it before the end
 pub RiseFrom-le : (from size : ℕ) (rows : List Record) → RiseFrom from size rows → from ≤ size
@@ -20,6 +21,10 @@ pub RiseFrom-at : (from size : ℕ) (rows : List Record) (k : ℕ) (d : Record) 
 RiseFrom-at from size [] k d h below = absurd (omega arith)
 RiseFrom-at from size (row ∷ rows) zero d h below = RiseFrom-le (row.start + row.length) size rows h.1
 RiseFrom-at from size (row ∷ rows) (suc k) d h below = RiseFrom-at (row.start + row.length) size rows k d h.1 (omega arith)
+
+-- the records of a capture end within it
+pub ends-within : (size : ℕ) (rows : List Record) → AreWithin size rows → All (EndsWithin size) rows
+ends-within size rows h k d below = RiseFrom-at 24 size rows k d h.1 below
 
 -- as many packets as rows
 pub AllStand-length : (number : ℕ) (rows : List Record) (packets : List Packet) → AllStand number rows packets → length packets ≡ length rows

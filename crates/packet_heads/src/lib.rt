@@ -1,9 +1,8 @@
 //! What the records of a capture hold: IPv4 and TCP headers (RFC 791, RFC 9293), in Ethernet frames with one VLAN tag
 //! or none (RFC 894, IEEE 802.1Q) or in raw IP, as the link type of the capture says.
 //!
-//! [`decode`] answers for one record, [`decode_all`] for each record of a capture in order, by as many threads as there
-//! are processors. A record holds a TCP segment, or something that is passed over and named ([`Skip`]), or a packet
-//! that cannot be read ([`Refusal`]). Twelve lines in a fixed order decide, of which the first that applies counts;
+//! [`decode`] answers for one record, [`decode_all`] for each record of a capture in order. A record holds a TCP segment,
+//! or something that is passed over and named ([`Skip`]), or a packet that cannot be read ([`Refusal`]). Twelve lines in a fixed order decide, of which the first that applies counts;
 //! they stand in `specs/Link.antt` and `specs/Ethernet.antt` (lines 1 and 2), `specs/Ipv4.antt` (RFC 791, 3.1: lines 3
 //! to 9) and `specs/Tcp.antt` (RFC 9293, 3.1: lines 10 and 11), and `specs/Decision.antt` joins them and says what a
 //! segment is (line 12). The contracts say that each answer is exactly this decision, field by field;
@@ -13,16 +12,16 @@
 //! - Packet n is record n's, there are fewer than 2^32 of them, and times are below 2^63 nanoseconds.
 //! - Payloads lie in the capture in order and apart. `decode` says of each only that it lies in its record, which is
 //!   bookkeeping (`specs/code/Standing.antt`); the order is proved from it.
-//! - Up to 4,096 records are decided by a plain loop, more in pieces of 4,096 that `rayon` deals out to threads; the
-//!   contract knows no pieces.
+//! - A plain loop decides, on one thread: it makes as many packets as there are records, in memory of that size, and
+//!   pieces that several threads made would be copied into it once more.
 //!
 //! Checksums have no effect, since a sender's own capture has them unfilled where the network card computes them. FIN,
 //! RST, windows, options and urgent pointers have none, since sequence numbers alone tell a flow. Bytes past the total
 //! length are no part of a datagram; a total length of 0, which segmentation offload leaves in a capture, stands for
 //! all bytes that were captured.
 //!
-//! Wrong bodies that the prover refuses: pieces numbered afresh, a fragment judged before its end. Tested by whole
-//! reports: that `decode_all` succeeds where there is memory. Trusted: the port of `rayon`.
+//! Wrong bodies that the prover refuses: records numbered from 0, a fragment judged before its end. Tested by whole
+//! reports: that `decode_all` succeeds where there is memory.
 #![tactic(auto)]
 
 mod decoding;

@@ -16,6 +16,9 @@ use audit_terms::Side;
 use packet_heads::Packet;
 use std::alloc::{AllocError, Global};
 
+/// How many bytes there is room for at first: those of a short flow, which is the most usual one.
+const FIRST_ROOM: usize = 2048;
+
 /// What is laid out of a flow so far.
 #[derive(Drop)]
 struct Laid {
@@ -59,7 +62,7 @@ pub fn flow_in_order(
         (IsAssembled capture.now packets.now connection.now side initial_number)) }
 {
     let mut laid = Laid {
-        bytes: Vec::new(alloc),
+        bytes: Vec::with_capacity(alloc, FIRST_ROOM)?,
         arrivals: Vec::with_capacity(alloc, connection.members.len())?,
     };
     for member in &connection.members {

@@ -9,23 +9,18 @@ use pcap_records::records;
 use std::alloc::Global;
 use std::process::Abort;
 use std::test::Fail;
-use std::thread::Threads;
 use tcp_streams::{Arrival, Connections, Flow, assemble, connections};
 
 /// The connections and strays of a capture.
-pub fn connections_of(
-    rt: &(impl Abort + Threads + Sync),
-    alloc: Global,
-    capture: &[u8],
-) -> Result<Connections, Fail> {
+pub fn connections_of(alloc: Global, capture: &[u8]) -> Result<Connections, Fail> {
     let found = records(alloc, capture)?;
-    let packets = decode_all(rt, alloc, &found, capture)?;
+    let packets = decode_all(alloc, &found, capture)?;
     Ok(connections(alloc, &packets)?)
 }
 
 /// The flow of a side of the connection with this index.
 pub fn flow_of(
-    rt: &(impl Abort + Threads + Sync),
+    rt: &impl Abort,
     alloc: Global,
     capture: &[u8],
     index: usize,
@@ -34,7 +29,7 @@ pub fn flow_of(
     ensures { IfOk result IsOrderly }
 {
     let found = records(alloc, capture)?;
-    let packets = decode_all(rt, alloc, &found, capture)?;
+    let packets = decode_all(alloc, &found, capture)?;
     let streams = connections(alloc, &packets)?;
     assert!(rt; index < streams.opened.len(), "connection {index}");
     assert!(rt; capture.len() < 0x8000_0000);
@@ -44,14 +39,14 @@ pub fn flow_of(
 
 /// The same by the plain program.
 pub fn plain_flow_of(
-    rt: &(impl Abort + Threads + Sync),
+    rt: &impl Abort,
     alloc: Global,
     capture: &[u8],
     index: usize,
     side: Side,
 ) -> Result<Flow, Fail> {
     let found = records(alloc, capture)?;
-    let packets = decode_all(rt, alloc, &found, capture)?;
+    let packets = decode_all(alloc, &found, capture)?;
     let streams = connections(alloc, &packets)?;
     assert!(rt; index < streams.opened.len(), "connection {index}");
     Ok(plain::assemble(alloc, capture, &packets, &streams.opened[index], side)?)

@@ -5,7 +5,6 @@ use audit_terms::Side;
 use std::alloc::{AllocError, Global};
 use std::process::Abort;
 use std::test::Fail;
-use std::thread::Threads;
 use tcp_streams::{Arrival, Flow};
 use test_captures::{CLIENT, Capture, PLAIN, SERVER, SYN, Segment};
 
@@ -49,7 +48,7 @@ fn flow(
 
 /// The client's flow in the capture of these segments is this one, by the plain program too.
 fn assert_flow(
-    rt: &(impl Abort + Threads + Sync),
+    rt: &impl Abort,
     alloc: Global,
     initial_number: u32,
     segments: &[(u32, &[u8])],
@@ -161,7 +160,7 @@ fn two_pairs(alloc: Global) -> Result<Capture, AllocError> {
 fn interleaved_connections(rt: HostRuntime) -> Result<(), Fail> {
     let alloc = rt.alloc();
     let capture = two_pairs(alloc)?;
-    let found = connections_of(&rt, alloc, capture.as_slice())?;
+    let found = connections_of(alloc, capture.as_slice())?;
     let openings: Vec<u32> = found.opened.iter().map(|c| c.rec).collect(alloc)?;
     let counts: Vec<u32> = found.strays.iter().map(|s| s.segments).collect(alloc)?;
     assert_eq!(rt;

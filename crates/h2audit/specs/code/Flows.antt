@@ -1,5 +1,5 @@
 -- The jobs of the first round: one for each connection, which finds nothing.
-use Rattle.std.specs.Prelude.{ℕ, ◌+◌, ◌^◌, ◌<◌, Bool, List, [], ◌∷◌, map, length, All}
+use Rattle.std.specs.Prelude.{ℕ, ◌+◌, ◌^◌, ◌<◌, ◌≤◌, vec_len, Bool, List, [], ◌∷◌, map, length, All}
 use Rattle.std.specs.List.{zip}
 use Rattle.std.specs.declared.vec.Vec.{Vec}
 use Rattle.std.specs.declared.alloc.Global.{Global}
@@ -13,9 +13,34 @@ use Rattle.h2_frames.specs.declared.connections.Cut.TheVariants.{Http2}
 use Rattle.job_crew.specs.declared.parts.Part.{Part}
 use Rattle.audit_report.specs.declared.audited.Audited.{Audited}
 use Rattle.h2audit.specs.declared.flow_round.ConnectionCut.{ConnectionCut}
-use Rattle.h2audit.specs.Audited.{IsConnectionCut, findings_of}
+use Rattle.h2audit.specs.Audited.{IsConnectionCut, IsFlowOf, findings_of}
+use Rattle.audit_terms.specs.declared.sides.Side.{Side}
+use Rattle.audit_terms.specs.declared.sides.Side.TheVariants.{Client, Server}
+use Rattle.tcp_streams.specs.declared.streams.Flow.{Flow}
+use Rattle.tcp_streams.specs.Arrivals.{IsOrderly}
+use Rattle.tcp_streams.specs.Members.{payload_sum, side_segments}
 use Rattle.tcp_streams.specs.declared.members.Connection.{Connection}
 use Rattle.split_merge.specs.Board.{Job}
+
+-- a connection of a capture, with the capture's packets
+pub record AreSources (capture : List ℕ) (packets : List Packet) (connection : Connection) : Type 0 where
+  pub size : length capture < 2 ^ 31
+  pub numbered : AreNumberedFrom 1 packets
+  pub payloads : PayloadsRise 0 (length capture) packets
+  pub times : TimesFit packets
+  pub members : AreMembers 0 packets connection.members.items
+
+-- the flow of a side, as its assembly leaves it
+pub record IsSideFlow (capture : List ℕ) (packets : List Packet) (connection : Connection) (side : Side) (flow : Flow)
+    : Type 0 where
+  pub is : IsFlowOf capture packets connection side flow
+  pub within : vec_len flow.bytes ≤ payload_sum (side_segments packets connection side)
+  pub orderly : IsOrderly flow
+
+-- the flows of the client and of the server
+abbrev pub AreFlows : List ℕ → List Packet → Connection → Flow × Flow → Type 0
+AreFlows capture packets connection flows =
+    IsSideFlow capture packets connection Client flows.0 × IsSideFlow capture packets connection Server flows.1
 
 abbrev pub flow_jobs : (first : ℕ) → List Connection → List Job
 flow_jobs first [] = []

@@ -1,6 +1,4 @@
-use Rattle.std.proofs.Common.{length}
-use Rattle.packet_heads.proofs.Pieces.{ends-within}
 use Rattle.packet_heads.proofs.decoding.decode_rows.Goals as goal
 
-pub decode_from-requires-clause-inside : goal.decode_from-requires-clause-inside
-decode_from-requires-clause-inside g c = ends-within (length c.args.capture.now) c.args.rows.now c.requires.within
+pub decode-requires-clause-inside : goal.decode-requires-clause-inside
+decode-requires-clause-inside c = c.requires.inside c.loop-index.index _ c.loop-index-test.true

@@ -1,14 +1,12 @@
-use Rattle.std.proofs.Common.{◌≡◌, ◌<◌, ◌≤◌, ℕ, List, [], ◌∷◌, ◌++◌, ◌+◌, ◌-◌, length, take, get_or, map, Option, None, Some, refl, sym, ap, subst, ◌∙◌, IsSome, true, arith}
+use Rattle.std.proofs.Common.{◌≡◌, ◌<◌, ◌≤◌, ℕ, List, [], ◌∷◌, ◌++◌, ◌+◌, length, take, get_or, Option, None, Some, refl, sym, ap, subst, ◌∙◌, IsSome, true, arith}
 use Rattle.std.specs.Prelude.{IfSome}
 use Rattle.std.specs.List.{filter_map}
 use Rattle.std.specs.Option.{option_to_list}
 use Rattle.std.proofs.lemmas.List.{take_all, take_more}
 use Rattle.tcp_streams.specs.declared.interval.Interval.{Interval}
 use Rattle.tcp_streams.specs.declared.streams.Arrival.{Arrival}
-use Rattle.tcp_streams.specs.declared.streams.Flow.{Flow}
 use Rattle.tcp_streams.specs.Packets.{segment_of}
-use Rattle.tcp_streams.specs.Flow.{IsFlow}
-use Rattle.tcp_streams.specs.code.Interval.{AreCaptured, arrivals_in, at, bytes_in, member_piece}
+use Rattle.tcp_streams.specs.code.Interval.{member_piece}
 use Rattle.tcp_streams.proofs.InOrder.{IsInside, IsLaid, IsLaid-more, laid-assembled, member-inside}
 use Rattle.tcp_streams.proofs.PieceLemmas.{PayloadsFit-from, filter_map-push, member-at, none_of}
 use Rattle.tcp_streams.proofs.in_order.flow_in_order.Goals as goal

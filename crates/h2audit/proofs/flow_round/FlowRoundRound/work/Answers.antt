@@ -17,12 +17,18 @@ pub returns-clause-cut : goal.returns-clause-cut
 returns-clause-cut g c = λ one is. rw (c.new.ensures.items)
     (nothing-cut one (flow_jobs-at 0 c.args.self.now.opened c.args.job one is).1)
 
-pub cut_connection-requires-clause-members : goal.cut_connection-requires-clause-members
-cut_connection-requires-clause-members g c =
-    All-get_or (λ (one : Connection). AreMembers 0 c.self.inside.packets.now one.members.items)
-    c.self.inside.opened.now c.args.job c.index-self-job.result
-    (subst (λ n. c.args.job < n) (flow_jobs-length 0 c.args.self.now.opened
-    ∙ sym (ap (λ (v : FlowView). length v.opened) c.self.view_is)) c.requires) c.self.invariant.members
+pub cut_connection-requires : goal.cut_connection-requires
+cut_connection-requires g c = record {
+  size = c.self.invariant.size;
+  numbered = c.self.invariant.numbered;
+  payloads = c.self.invariant.payloads;
+  times = c.self.invariant.times;
+  members =
+      All-get_or (λ (one : Connection). AreMembers 0 c.self.inside.packets.now one.members.items)
+      c.self.inside.opened.now c.args.job c.index-self-job.result
+      (subst (λ n. c.args.job < n) (flow_jobs-length 0 c.args.self.now.opened
+      ∙ sym (ap (λ (v : FlowView). length v.opened) c.self.view_is)) c.requires) c.self.invariant.members;
+}
 
 pub returns-clause-made : goal.returns-clause-made
 returns-clause-made g c = λ connection is.
