@@ -1,5 +1,5 @@
-//! Many connections go through the rounds in halves, side by side: of short ones no part of the work is then left to
-//! one thread, and threads start once.
+//! Many short connections go through the rounds in halves, side by side: no part of the work is then left to one thread,
+//! and threads start once.
 
 ghost use Rattle.std.specs.Prelude.{◌≡◌, ◌<◌, ◌≤◌, All, IfOk, map};
 ghost use Rattle.std.specs.Thread.{IsSync};
@@ -17,6 +17,19 @@ use std::thread::{Threads, join};
 
 /// So many connections and more are halved: then halves of as many frames are about as much work.
 const MANY: usize = 64;
+
+/// Is each connection short beside what a worker goes through? Else jobs that are drawn divide the work better.
+fn are_short(workers: u32, connections: &[&[Frame]]) -> bool
+    requires { 0 < workers }
+{
+    let mut together = 0usize;
+    let mut longest = 0;
+    for frames in connections {
+        together = together.saturating_add(frames.len());
+        longest = longest.max(frames.len());
+    }
+    longest <= together / workers as usize / 4
+}
 
 /// The same division for each of two halves, which share the workers.
 fn halved(division: &Division) -> (Division, Division)
@@ -54,7 +67,8 @@ pub(crate) fn findings_by_halves<R: Threads + Sync, G: Gate>(
     ensures { IfOk result (λ found. map (λ one. one.items) found.items
         ≡ map (λ frames. shown credits_shown (pass frames.now)) connections.now) }
 {
-    if division.workers == 1 || connections.len() < MANY {
+    let workers = division.workers;
+    if workers == 1 || connections.len() < MANY || !are_short(workers, connections) {
         return findings_by_fronts(rt, alloc, division, gate, credits_shown, connections);
     }
     let (front, back) = connections.split_at(middle(connections));

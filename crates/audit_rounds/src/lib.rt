@@ -16,7 +16,7 @@
 //! too many frames together: it bounds what the rounds need beside the frames, and lets threads start once for many
 //! small connections. Jobs have numbers of 32 bits; a plan with more would be answered as want of memory.
 //! Of a long connection a front goes through the rounds first: what an early error ends is then neither split nor gone
-//! through. Many connections go in halves of as many frames, side by side, each with half of the workers.
+//! through. Many short connections go in halves of as many frames, side by side, each with half of the workers.
 //!
 //! - [`laws::rounds_make_the_pass`]: local faults, unmatched acknowledgements, what is shown of the streams and of the
 //!   blocks make what is shown of the pass, for every cut of the frames into blocks. Credits that no line shows are
