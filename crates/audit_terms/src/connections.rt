@@ -13,7 +13,7 @@ use std::alloc::AllocError;
 pub const FIRST_LIMIT: u32 = 16_384;
 
 /// A connection between two frames (RFC 9113, 4.2, 5.1.1, 6.9).
-#[derive(Clone, Copy, Debug, PartialEq, Eq)]
+#[derive(Clone, Copy)]
 pub struct ConnectionState {
     /// The credit in bytes of each side's connection window.
     pub credit: Sides<i64>,

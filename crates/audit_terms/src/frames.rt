@@ -31,7 +31,7 @@ pub const END_HEADERS: u8 = 0x4;
 
 /// The values of one SETTINGS frame that matter here (RFC 9113, 6.5.2): the last value of each identifier, and the
 /// identifier of the first pair whose value is out of range.
-#[derive(Clone, Copy, Debug, PartialEq, Eq)]
+#[derive(Clone, Copy)]
 pub struct Settings {
     /// SETTINGS_ENABLE_PUSH (2).
     pub push: Option<u32>,
@@ -44,7 +44,7 @@ pub struct Settings {
 }
 
 /// What a frame carries, by its type (RFC 9113, 6.1 to 6.10).
-#[derive(Clone, Copy, Debug, PartialEq, Eq)]
+#[derive(Clone, Copy)]
 pub enum Body {
     /// DATA: flow-controlled content, padding included.
     Content,
@@ -134,7 +134,7 @@ impl Body {
 }
 
 /// A frame of one connection, in capture order. The single bytes stand last, so that it takes 64 bytes.
-#[derive(Clone, Copy, Debug, PartialEq, Eq)]
+#[derive(Clone, Copy)]
 pub struct Frame {
     /// Its number in the connection, from 1.
     pub number: u32,

@@ -4,7 +4,7 @@ use crate::frames::Frame;
 use crate::sides::Side;
 
 /// What an acknowledgement of settings brings into force for the side that acknowledges (RFC 9113, 6.5.3).
-#[derive(Clone, Copy, Debug, PartialEq, Eq)]
+#[derive(Clone, Copy)]
 pub struct Change {
     /// The number of the acknowledging frame.
     pub number: u32,
@@ -16,7 +16,7 @@ pub struct Change {
 }
 
 /// A frame with what the audit of the connection needs beside it.
-#[derive(Clone, Copy, Debug, PartialEq, Eq)]
+#[derive(Clone, Copy)]
 pub struct Item {
     pub frame: Frame,
     /// Does the frame open its stream?
@@ -26,7 +26,7 @@ pub struct Item {
 }
 
 /// What one stream meets at a frame's number: a frame on it, a change of settings, or both.
-#[derive(Clone, Copy, Debug, PartialEq, Eq)]
+#[derive(Clone, Copy)]
 pub struct Step {
     /// The number of the frame, or of the acknowledging frame.
     pub number: u32,

@@ -4,7 +4,7 @@ use crate::frames::Frame;
 use crate::sides::{Side, Sides};
 
 /// What the frames that a stream met have made of it (RFC 9113, 5.1).
-#[derive(Clone, Copy, Debug, PartialEq, Eq)]
+#[derive(Clone, Copy)]
 pub struct StreamLife {
     /// The number of the frame that opened it.
     pub opened: Option<u32>,

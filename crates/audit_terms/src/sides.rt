@@ -1,7 +1,7 @@
 ghost use Rattle.std.specs.Prelude.{◌≡◌};
 
 /// An endpoint of a connection (RFC 9113, 2.2): the client opened it.
-#[derive(Clone, Copy, Debug, PartialEq, Eq, PartialOrd, Ord)]
+#[derive(Clone, Copy, Debug, PartialEq, Eq, PartialOrd)]
 pub enum Side {
     Client,
     Server,
@@ -39,7 +39,7 @@ impl Side {
 }
 
 /// A value for each endpoint.
-#[derive(Clone, Copy, Debug, PartialEq, Eq)]
+#[derive(Clone, Copy)]
 pub struct Sides<T> {
     pub client: T,
     pub server: T,

@@ -10,7 +10,7 @@ use crate::windows::say_window;
 use std::alloc::AllocError;
 
 /// One stream between two frames (RFC 9113, 5.1 and 6.9).
-#[derive(Clone, Copy, Debug, PartialEq, Eq)]
+#[derive(Clone, Copy)]
 pub struct Stream {
     /// Its opening and its ends.
     pub life: StreamLife,

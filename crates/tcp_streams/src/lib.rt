@@ -19,7 +19,7 @@
 //!
 //! Wrong bodies that the prover refuses: the last retransmission wins, a SYN of any number opens again. Worked examples
 //! of openings, strays and offsets are proved in `crate_tests`. Tested there: random segments beside a slow program
-//! that keeps a plain list of offsets, and interleaved connections.
+//! that keeps a plain list of offsets. Tested by whole reports: interleaved connections.
 #![tactic(auto)]
 
 mod assembly;
