@@ -1,6 +1,7 @@
 pub mod MergedLemmas
 pub mod LeftLemmas
 pub mod SaidNumbers
+pub mod SilentLemmas
 pub mod WalkLemmas
 pub mod FrameLemmas
 pub mod RunLemmas

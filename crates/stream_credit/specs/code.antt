@@ -1,3 +1,4 @@
 pub mod Left
 pub mod Merged
+pub mod Silent
 pub mod Walk

@@ -31,6 +31,7 @@ mod ends;
 mod left;
 mod parts;
 mod runs;
+mod silent;
 mod walks;
 pub mod worked_examples;
 

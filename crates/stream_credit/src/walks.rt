@@ -13,6 +13,7 @@ ghost use Rattle.stream_credit.specs.code.Walk.{IsCounted, HasRoomAt, WholeRun, 
 
 use crate::changes::FIRST_WINDOWS;
 use crate::left::Left;
+use crate::silent::{is_silent, moved};
 use audit_terms::{
     Change, Finding, Frame, Look, Sides, Step, Stream, Watch, initial_after, keep_shown,
     put_in_order,
@@ -70,6 +71,47 @@ impl Walk {
 
     /// Counts one step in the stream, and adds what it shows.
     fn count(&mut self, step: &Step) -> Result<(), AllocError>
+        requires numbered { step.now.number ≤ 2 ^ 28 - 2 }
+        requires streamed { self.old.stream < 2 ^ 31 }
+        requires acknowledged { IsAcknowledged step.now }
+        requires room { HasRoomAt step.now.number self.old.entry }
+        ensures counted { OnOk result (IsCounted self.old step.now self.new) }
+        ensures room { OnOk result (HasRoomAt (step.now.number + 1) self.new.entry) }
+    {
+        if self.count_silent(step) {
+            return Ok(());
+        }
+        self.count_shown(step)
+    }
+
+    /// Counts a change of which nothing is shown, if the step is one, and answers whether it is.
+    fn count_silent(&mut self, step: &Step) -> bool
+        requires numbered { step.now.number ≤ 2 ^ 28 - 2 }
+        requires room { HasRoomAt step.now.number self.old.entry }
+        ensures counted { OnTrue result (IsCounted self.old step.now self.new) }
+        ensures room { OnTrue result (HasRoomAt (step.now.number + 1) self.new.entry) }
+        ensures otherwise { OnFalse result (self.new ≡ self.old) }
+    {
+        if self.credits_shown || step.frame.is_some() {
+            return false;
+        }
+        let initial = initial_after(&step.change, &self.initial);
+        let Sides { client, server } = self.entry.window;
+        let next_client = moved(&client, self.initial.client, initial.client);
+        let next_server = moved(&server, self.initial.server, initial.server);
+        if !is_silent(&client, &next_client) || !is_silent(&server, &next_server) {
+            return false;
+        }
+        self.entry.window = Sides {
+            client: next_client,
+            server: next_server,
+        };
+        self.initial = initial;
+        true
+    }
+
+    /// Counts a step that may show something.
+    fn count_shown(&mut self, step: &Step) -> Result<(), AllocError>
         requires numbered { step.now.number ≤ 2 ^ 28 - 2 }
         requires streamed { self.old.stream < 2 ^ 31 }
         requires acknowledged { IsAcknowledged step.now }

@@ -1,17 +1,10 @@
-use Rattle.std.proofs.Common.{arith}
-use Rattle.audit_terms.specs.declared.sides.Side.TheVariants.{Client, Server}
-use Rattle.stream_credit.proofs.WalkLemmas.{room-wide, HasRoomAt-next}
+use Rattle.std.proofs.Common.{sym, subst}
+use Rattle.std.proofs.lemmas.Bool.{OnFalse_at}
+use Rattle.stream_credit.specs.declared.walks.Walk.{Walk}
+use Rattle.stream_credit.specs.code.Walk.{HasRoomAt}
 use Rattle.stream_credit.proofs.walks.Walk.count.Goals as goal
 
-pub meet-requires-clause-client : goal.meet-requires-clause-client
-meet-requires-clause-client c =
-    room-wide c.args.step.now.number c.args.self.now.entry.window.client (omega arith) (c.requires.room Client)
-
-pub meet-requires-clause-server : goal.meet-requires-clause-server
-meet-requires-clause-server c =
-    room-wide c.args.step.now.number c.args.self.now.entry.window.server (omega arith) (c.requires.room Server)
-
-pub returns-clause-room : goal.returns-clause-room
-returns-clause-room c =
-    HasRoomAt-next c.args.step.now.number c.meet.new.self (c.in_ok-meet.ensures.client _ (c.requires.room Client))
-    (c.in_ok-meet.ensures.server _ (c.requires.room Server))
+pub count_shown-requires-clause-room : goal.count_shown-requires-clause-room
+count_shown-requires-clause-room c =
+    subst (λ (now : Walk). HasRoomAt c.args.step.now.number now.entry)
+    (sym (OnFalse_at c.if-count_silent.false c.count_silent.ensures.otherwise)) c.requires.room
