@@ -10,6 +10,7 @@ neither does a read or a write of a single byte.
 import itertools
 import os
 import pathlib
+import resource
 import shutil
 import struct
 import subprocess
@@ -27,6 +28,8 @@ HEADERS, PADDED, END_HEADERS = 1, 8, 4
 OUT_OF_MEMORY = (5, b"", b"h2audit: out of memory\n")
 READ_FAILED = (4, b"", b"h2audit: read failed\n")
 WRITE_FAILED = (4, b"h2audit: write failed\n")
+WORDS_REFUSED = b"error: invalid value '0' for '--workers <N>': 0 is not in 1..=64\n\nFor more information, try '--help'.\n"
+BAD_MAGIC = b"h2audit: capture refused: bad-magic\n"
 
 
 def one_frame(one, side, data):
@@ -95,12 +98,14 @@ class Refusals(unittest.TestCase):
             cls.captures[name] = home / name
             cls.captures[name].write_bytes(data)
 
-    def run_program(self, words, refused="none 0", source=None):
+    def run_program(self, words, refused="none 0", source=None, most_memory=None):
         """Status and both outputs, and whether the refused call was made."""
         self.met.unlink(missing_ok=True)
+        bound = most_memory and (lambda: resource.setrlimit(resource.RLIMIT_AS, (most_memory, most_memory)))
         surroundings = dict(os.environ, LD_PRELOAD=str(self.shim), REFUSE=refused, MET=str(self.met))
         with open(source or os.devnull, "rb") as given:
-            ended = subprocess.run([PROGRAM, *words], stdin=given, capture_output=True, env=surroundings, timeout=60)
+            ended = subprocess.run([PROGRAM, *words], stdin=given, capture_output=True, env=surroundings, timeout=60,
+                                   preexec_fn=bound)
         return (ended.returncode, ended.stdout, ended.stderr), self.met.exists()
 
     def each_refused(self, kind, words, source=None):
@@ -120,6 +125,28 @@ class Refusals(unittest.TestCase):
         self.assertEqual(answers[:1], [OUT_OF_MEMORY])
         for number, answer in enumerate(answers, 1):
             self.assertIn(answer, (whole, OUT_OF_MEMORY), f"growth {number}")
+
+    def test_endings(self):
+        for words, status, starts, said in (
+            (["--help"], 0, b"Audits the HTTP/2 flow control", b""),
+            ([str(self.captures["padded_stall"])], 0, b"capture records ", b""),
+            ([str(self.captures["first_error_below_overflow"])], 1, b"capture records ", b""),
+            (["--workers", "0"], 2, b"", WORDS_REFUSED),
+            ([str(self.captures["pcapng"])], 3, b"", BAD_MAGIC),
+            (["/nothing/there"], 4, b"", b"h2audit: read failed\n"),
+        ):
+            with self.subTest(words):
+                (ended, text, line), _ = self.run_program(words)
+                self.assertEqual((ended, text[:len(starts)], line), (status, starts, said))
+                self.assertEqual(text == b"", starts == b"")
+
+    def test_refused_header_is_all_that_is_kept(self):
+        path = pathlib.Path(self.folder.name) / "long"
+        with open(path, "wb") as file:
+            file.write(b"\n\r\r\n")
+            file.truncate(3 << 30)
+        answer, _ = self.run_program([str(path)], most_memory=64 << 20)
+        self.assertEqual(answer, (3, b"", BAD_MAGIC))
 
     def test_growths(self):
         for name, workers, status in (

@@ -5,4 +5,5 @@ mod fakes;
 mod gates;
 mod in_steps;
 mod long_captures;
+mod program;
 mod words;

@@ -1,39 +1,26 @@
-use Rattle.std.proofs.Common.{◌≡◌, ◌∙◌, ℕ, ◌+◌, ◌≤◌, List, ◌++◌, length, take, drop, Option, Some, None, IfSome, sym, ap, subst, arith}
+-- What is read of a capture, read by read.
+use Rattle.std.proofs.Common.{◌≡◌, ◌∙◌, ℕ, ◌^◌, ◌<◌, ◌≤◌, List, [], ◌++◌, length, take, Option, Some, None, IfSome, inl, inr, refl, sym, ap, subst, arith}
 use Rattle.std.specs.Io.KnownBytes.{Consumes, IsAtEnd}
-use Rattle.std.proofs.KnownBytes.{Consumes-trans}
-use Rattle.std.proofs.Math.Seq.{take-add, take-append_seam}
-use Rattle.std.proofs.lemmas.List.{take_all, length-take, append-nil}
+use Rattle.std.proofs.Math.Seq.{take-append_seam}
+use Rattle.std.proofs.lemmas.Bool.{cases_lt}
+use Rattle.std.proofs.lemmas.List.{take_all, append-nil}
 
--- one read more, behind what was read before
-pub consumes_more : (a b c : Option (List ℕ)) (filled n : ℕ) (old new : List ℕ) → Consumes a b (take filled old)
-    → take filled new ≡ take filled old → Consumes b c (take n (drop filled new)) → Consumes a c (take (filled + n) new)
-consumes_more a b c filled n old new before front now =
-    rw (take-add filled n new, front) (Consumes-trans a b c (take filled old) (take n (drop filled new)) before now)
+-- nothing was read yet
+pub consumes_nothing : (a : Option (List ℕ)) → Consumes a a []
+consumes_nothing None = tt
+consumes_nothing (Some all) = refl
 
--- a read that gave nothing
-pub consumes_none : (a b c : Option (List ℕ)) (filled n : ℕ) (old new : List ℕ) → n ≡ 0 → Consumes a b (take filled old)
-    → take filled new ≡ take filled old → Consumes b c (take n (drop filled new)) → Consumes a c (take filled new)
-consumes_none a b c filled n old new none before front now =
-    let same : filled + n ≡ filled = omega arith in
-    subst (λ (k : ℕ). Consumes a c (take k new)) same (consumes_more a b c filled n old new before front now)
-
--- at the end of the reader everything was read
-pub whole_at_end : (a b : Option (List ℕ)) (filled limit : ℕ) (bytes read : List ℕ) → Consumes a b (take filled bytes)
-    → IsAtEnd b → filled ≤ limit → read ≡ take filled bytes → IfSome a (λ all. read ≡ take limit all)
-whole_at_end None b filled limit bytes read before end fits is = tt
-whole_at_end (Some all) None filled limit bytes read before end fits is = absurd before
-whole_at_end (Some all) (Some rest) filled limit bytes read before end fits is =
-    let whole : all ≡ take filled bytes = before ∙ ap (λ r. take filled bytes ++ r) end ∙ append-nil (take filled bytes) in
-    let short : length all ≤ limit = omega (arith, ap length whole, length-take filled bytes) in
-    is ∙ sym whole ∙ sym (take_all limit all short)
-
--- at the limit that many bytes of the reader's were read
-pub front_at_limit : (a b : Option (List ℕ)) (filled limit : ℕ) (bytes read : List ℕ) → Consumes a b (take filled bytes)
-    → filled ≡ limit → filled ≤ length bytes → read ≡ take filled bytes → IfSome a (λ all. read ≡ take limit all)
-front_at_limit None b filled limit bytes read before full fits is = tt
-front_at_limit (Some all) None filled limit bytes read before full fits is = absurd before
-front_at_limit (Some all) (Some rest) filled limit bytes read before full fits is =
-    let size : length (take filled bytes) ≡ filled = omega (arith, length-take filled bytes) in
-    let seam : take filled (take filled bytes ++ rest) ≡ take filled bytes =
-    subst (λ (n : ℕ). take n (take filled bytes ++ rest) ≡ take filled bytes) size (take-append_seam (take filled bytes) rest) in
-    is ∙ sym seam ∙ ap (take filled) (sym before) ∙ ap (λ (n : ℕ). take n all) full
+-- what was read stands at the front of the reader's bytes, and is all of it or 2^31 bytes
+pub front_read : (a b : Option (List ℕ)) (read : List ℕ) → Consumes a b read → length read ≤ 2 ^ 31
+    → (length read < 2 ^ 31 → IsAtEnd b) → IfSome a (λ all. read ≡ take (2 ^ 31) all)
+front_read None b read given fits ends = tt
+front_read (Some all) None read given fits ends = absurd given
+front_read (Some all) (Some rest) read given fits ends = elim (cases_lt (length read) (2 ^ 31)) [
+  | inl short ↦
+      let whole : all ≡ read = given ∙ ap (λ r. read ++ r) (ends short) ∙ append-nil read in
+      sym (ap (take (2 ^ 31)) whole ∙ take_all (2 ^ 31) read fits)
+  | inr long ↦
+      let size : length read ≡ 2 ^ 31 = omega (arith, long, fits) in
+      let seam : take (2 ^ 31) (read ++ rest) ≡ read = subst (λ (n : ℕ). take n (read ++ rest) ≡ read) size (take-append_seam read rest) in
+      sym (ap (take (2 ^ 31)) given ∙ seam)
+]

@@ -1,4 +1,5 @@
 mod Capture
+mod Kept
 mod Leaving
 mod Audits
 mod OneReport

@@ -1,8 +1,6 @@
-use Rattle.std.specs.Prelude.{◌≡◌, ◌⊎◌, ℕ, List, Result, Ok, Err, codes}
+use Rattle.std.specs.Prelude.{ℕ, List, Result, Ok, Err, codes}
 use Rattle.pcap_records.specs.declared.faults.PcapFault.{PcapFault}
 use Rattle.pcap_records.specs.declared.faults.PcapFault.TheVariants.{ShortHeader, BadMagic, BadVersion, LinkType, TooLarge, OutOfMemory}
-use Rattle.h2audit.specs.Account.{HasWriteFailed, IsFlushed, IsUnwritten}
-use Rattle.h2audit.specs.declared.report_writer.ReportWriter.{ReportWriter}
 use Rattle.h2audit.specs.declared.fault.AuditFault.{AuditFault}
 use Rattle.h2audit.specs.declared.fault.AuditFault.TheVariants as fault
 use Rattle.h2audit.specs.declared.verdict.Verdict.{Verdict}
@@ -39,15 +37,3 @@ line_of (Err fault.Read) = codes "h2audit: read failed"
 line_of (Err fault.Write) = codes "h2audit: write failed"
 line_of (Err fault.OutOfMemory) = codes "h2audit: out of memory"
 line_of (Err fault.Worker) = codes "h2audit: worker not started"
-
--- standard output at the end of the program: the whole text and one flush, a failed write, or else nothing
-abbrev pub IsLeft : {W : Type 0} → ReportWriter W → Result Verdict AuditFault → Type 0
-IsLeft output (Ok _) = IsFlushed output
-IsLeft output (Err fault.Write) = HasWriteFailed output
-IsLeft output (Err _) = IsUnwritten output
-
--- the end of the program: its words do not parse, and the status is 2; or it has an answer, and the status is that of it
-abbrev pub Ends : {W : Type 0} → ReportWriter W → (status : ℕ) → Type 0
-Ends output status =
-    ((status ≡ 2) × IsUnwritten output)
-    ⊎ ((answer : Result Verdict AuditFault) × (status ≡ status_of answer) × IsLeft output answer)

@@ -2,6 +2,7 @@ pub mod Options
 pub mod Choices
 pub mod Ending
 pub mod Account
+pub mod Program
 pub mod Audited
 pub mod Report
 pub mod Run

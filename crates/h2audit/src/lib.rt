@@ -14,24 +14,28 @@
 //!   pipes, clause `tells` says of these accounts (`Tells` of `specs/Account.antt`): after a verdict the reads gave a
 //!   whole capture, and the writes took all of its report and one flush; after a failed write they took a prefix of
 //!   it; before any other fault nothing was written, and a refusal is that of the bytes that were read. Where reader
-//!   and writer themselves tell their bytes, these are the ones of the accounts (`given`, `taken`, `leaves`).
-//! - [`run_program`] is the program: words, FILE or standard input, report, line and status.
+//!   and writer themselves tell their bytes, these are the ones of the accounts (`given`, `taken`, `leaves`). Of bytes
+//!   that are read and not kept the account has the number, and the clauses hold whatever they are.
+//! - [`run_program`] is the program, over words, a way to open FILE and a way to say a line: it does what the words ask for
+//!   (`Ends` of `specs/Program.antt`), and status and line are those of the answer. [`program_words`] reads the words.
 //! - [`parse`] says what the words of a command line ask for, by `clap`'s own definition of the command, and
 //!   [`Options`] refuses numbers out of range. [`laws::known_words`] computes seven command lines. [`ending`] is status
 //!   and line.
 //!
-//! Reading stops at 2^31 bytes, which are refused as the whole is. Round 0 has a job for each connection, which
-//! assembles both of its flows and cuts them; `audit_rounds` has the rounds after it. No answer says that a worker was
-//! not started (`IsNoReport`).
+//! Reading stops at 2^31 bytes, which are refused as the whole is. Where the file header refuses a capture, it alone is
+//! kept (`brief`), since what follows changes no answer (`pcap_records::laws::header_refuses`). Round 0 has a job for each
+//! connection, which assembles both of its flows and cuts them; `audit_rounds` has the rounds after it. No answer says
+//! that a worker was not started (`IsNoReport`).
 //!
-//! The accounts are as honest as the code that enters them: their fields are private, `read_once`, `write_once` and
-//! `flush_once` make the crate's only calls of `read`, `write` and `flush`, and ask that none follows one that failed;
-//! `make_room` enters want of memory. A reader sees this at once; no contract says it.
+//! The accounts are as honest as the code that enters them: their fields are private, `read_once`, `pass_once`,
+//! `write_once` and `flush_once` make the crate's only calls of `read`, `write` and `flush`, and ask that none follows
+//! one that failed; `make_room` enters want of memory. A reader sees this at once; no contract says it.
 //!
-//! Wrong bodies that the prover refuses: an empty report, a verdict by errors alone or forgotten, a status of 0 for
-//! faults, a write that is told to have taken all. Tested, in `crate_tests` and `whole_reports`: whole reports, the texts of help and
-//! of refused words, which calls readers and writers get, long captures. Trusted: that a file or a pipe gives and keeps
-//! its bytes.
+//! Wrong bodies that the prover refuses: an empty report, a verdict by errors alone, words always refused, options not
+//! heeded, a status of 0 for faults, a read or a write that is told to have filled or taken all, a file header that is
+//! taken for the capture. Tested, in `crate_tests` and `whole_reports`: whole reports, the texts of help and of refused
+//! words, which calls readers and writers get, a run of the program for each status, long captures. Trusted: that a file
+//! or a pipe gives and keeps its bytes.
 #![tactic(auto)]
 
 mod auditing;
@@ -56,7 +60,7 @@ pub use capture_reader::CaptureReader;
 pub use fault::AuditFault;
 pub use job_crew::{Gate, NoGate};
 pub use options::Options;
-pub use program::run_program;
+pub use program::{program_words, run_program};
 pub use report_writer::ReportWriter;
 pub use running::run;
 pub use status::ending;

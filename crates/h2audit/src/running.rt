@@ -1,6 +1,6 @@
 ghost use Rattle.std.specs.Prelude.{◌≡◌, ◌≢◌, ◌^◌, IfErr, IfSome, take};
 ghost use Rattle.std.specs.Io.KnownBytes.{Appends, Keeps};
-ghost use Rattle.h2audit.specs.Account.{IsReadToEnd, IsUnread, IsUnwritten, Tells, given, written};
+ghost use Rattle.h2audit.specs.Account.{HaveGiven, IsBrief, IsReadToEnd, IsUnread, IsUnwritten, Tells, written};
 ghost use Rattle.h2audit.specs.Choices.{choices};
 ghost use Rattle.h2audit.specs.Run.{IsJudged, Leaves};
 
@@ -20,7 +20,8 @@ use std::thread::Threads;
 /// Reads a capture to its end, audits it, writes its report and flushes once.
 ///
 /// Of any reader and writer, also of a file or a pipe, the accounts then tell which bytes the reads gave and the
-/// writes took: the report that was written is that of the capture that was read.
+/// writes took: the report that was written is that of the capture that was read. Of a capture that its file header
+/// refuses the account keeps that header, and the number of bytes after it, which are read and passed over.
 ///
 /// No byte is judged before reading is over, so a failure to read comes before a refusal of the
 /// capture. After `Write` a front of the report was written, possibly all of it; after any other
@@ -38,7 +39,8 @@ pub fn run<R: Read, W: Write>(
     requires unwritten { IsUnwritten writer.old }
     ensures tells { Tells reader.new writer.new (choices options.now).frames_shown result }
     ensures given { IfSome (R.remaining reader.old.reader) (λ bytes.
-        IsReadToEnd reader.new → given reader.new ≡ take (2 ^ 31) bytes) }
+        IsReadToEnd reader.new → HaveGiven reader.new (take (2 ^ 31) bytes)) }
+    ensures brief { IsReadToEnd reader.new → IsBrief reader.new }
     ensures taken { Appends (W.contents writer.old.writer) (W.contents writer.new.writer) (written writer.new) }
     ensures leaves { IfSome (R.remaining reader.old.reader) (λ bytes. Leaves bytes (choices options.now).frames_shown
         (W.contents writer.old.writer) (W.contents writer.new.writer) result) }
@@ -47,7 +49,7 @@ pub fn run<R: Read, W: Write>(
     ensures judged { IfSome (R.remaining reader.old.reader) (λ bytes. IsJudged bytes reader.new.lacked_memory result) }
 {
     read_capture(reader)?;
-    match audit(rt, alloc, options, reader.given(), gate) {
+    match audit(rt, alloc, options, reader.kept(), gate) {
         Ok((text, verdict)) => {
             writer.begin(text);
             match write_report(writer) {

@@ -1,9 +1,10 @@
 -- What the refusal knows of the length.
-use Rattle.std.proofs.Common.{◌≡◌, ◌≤◌, ◌-◌, ◌^◌, ℕ, List, Bool, true, Option, Some, None, length, take, not, nat_lt, if◌then◌else◌, refl, sym, ap, ◌∙◌, arith, inl, inr}
+use Rattle.std.proofs.Common.{◌≡◌, ◌≤◌, ◌-◌, ◌^◌, ℕ, List, Bool, true, ◌++◌, Option, Some, None, length, take, subst, not, nat_lt, if◌then◌else◌, refl, sym, ap, ◌∙◌, arith, inl, inr}
 use Rattle.std.proofs.lemmas.Bool.{cases_lt, cond-false, le-ltb, lt-ltb}
-use Rattle.std.proofs.lemmas.List.{length-take-le, take-take, take_all}
+use Rattle.std.proofs.lemmas.List.{length-take-le, take-take, take_all, length-append}
+use Rattle.std.proofs.Math.Seq.{take-append_seam}
 use Rattle.pcap_records.specs.FileHeader.{ByteOrder, number_of, header_of, format_of, is_version, link_of}
-use Rattle.pcap_records.specs.Laws.{FrontDecides, AllowedIsShort, LargestIsTaken}
+use Rattle.pcap_records.specs.Laws.{FrontDecides, AllowedIsShort, HeaderRefuses, LargestIsTaken}
 use Rattle.pcap_records.specs.LinkType.{is_read}
 use Rattle.pcap_records.specs.Refusal.{refusal, refusal_in, refusal_by}
 use Rattle.pcap_records.specs.declared.faults.PcapFault.{PcapFault}
@@ -77,3 +78,27 @@ largest_is_taken_lem capture size large =
     refusal_by-largest (format_of (header_of capture)) (header_of capture)
     (ap (λ (n : ℕ). refusal_by (format_of (header_of capture)) (header_of capture) n) (sym size)
     ∙ sym (refusal-long capture (omega (arith, size))) ∙ large)
+
+-- what is refused without being too large is refused at every size
+refusal_in-header : (number : ByteOrder) (header : List ℕ) (size : ℕ) (e : PcapFault) → refusal_in number header 24 ≡ Some e → refusal_in number header size ≡ Some e
+refusal_in-header number header size e refused = grind (arith, refused)
+
+-- the same whatever the magic told
+refusal_by-header : (told : Option Format) (header : List ℕ) (size : ℕ) (e : PcapFault) → refusal_by told header 24 ≡ Some e → refusal_by told header size ≡ Some e
+refusal_by-header None header size e refused = refused
+refusal_by-header (Some f) header size e refused = refusal_in-header (number_of f.endian) header size e refused
+
+-- a header that is refused by itself is refused alike whatever follows
+pub header_refuses_lem : HeaderRefuses
+header_refuses_lem header rest e size refused =
+    let whole : List ℕ = header ++ rest in
+    let alone : header_of header ≡ header = take_all 24 header (omega (arith, size)) in
+    let front : header_of whole ≡ header = subst (λ (n : ℕ). take n (header ++ rest) ≡ header) size (take-append_seam header rest) in
+    let long : 24 ≤ length whole = omega (arith, size, length-append header rest) in
+    let judged : refusal_by (format_of header) header 24 ≡ Some e =
+    sym (refusal-long header (omega (arith, size))
+    ∙ ap (λ (h : List ℕ). refusal_by (format_of h) h (length header)) alone
+    ∙ ap (λ (n : ℕ). refusal_by (format_of header) header n) size) ∙ refused in
+    refusal-long whole long
+    ∙ ap (λ (h : List ℕ). refusal_by (format_of h) h (length whole)) front
+    ∙ refusal_by-header (format_of header) header (length whole) e judged

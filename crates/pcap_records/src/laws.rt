@@ -1,6 +1,6 @@
 //! Laws of the definitions. The functions do nothing; their contracts are the laws.
 
-ghost use Rattle.pcap_records.specs.Laws.{OneReading, FrontDecides, AllowedIsShort, LargestIsTaken};
+ghost use Rattle.pcap_records.specs.Laws.{OneReading, FrontDecides, AllowedIsShort, HeaderRefuses, LargestIsTaken};
 
 /// A capture has one reading: link type, records and cut record are the same in any two.
 pub fn one_reading()
@@ -20,4 +20,9 @@ pub fn allowed_is_short()
 /// A capture of 2^31 - 1 bytes is not too large.
 pub fn largest_is_taken()
     ensures { LargestIsTaken }
+{}
+
+/// A file header that is refused by itself is refused alike, whatever follows it.
+pub fn header_refuses()
+    ensures { HeaderRefuses }
 {}

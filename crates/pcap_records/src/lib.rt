@@ -15,7 +15,8 @@
 //!   is one of the two that are read, and the capture has fewer than 2^31 bytes. So lengths and offsets fit 31 bits and
 //!   frame numbers 28, and a place is one word.
 //! - [`laws`]: a capture has one reading; its first 2^31 bytes are refused exactly as the whole, so that a program may
-//!   stop reading there; a capture of 2^31 - 1 bytes is not too large, which no test could afford.
+//!   stop reading there; a header that is refused by itself is refused alike whatever follows it, so that a program need
+//!   not keep that; a capture of 2^31 - 1 bytes is not too large, which no test could afford.
 //! - [`worked_examples`]: the four magics, each refusal at the value that decides, their order, times in both units,
 //!   cut records.
 //!
@@ -34,4 +35,4 @@ pub mod worked_examples;
 
 pub use capture::{ETHERNET, RAW_IP, Record, Records};
 pub use faults::PcapFault;
-pub use reading::records;
+pub use reading::{records, refusal};

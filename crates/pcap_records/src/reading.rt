@@ -47,6 +47,23 @@ fn read_in<T: ByteOrder>(alloc: Global, capture: &[u8], unit: u64) -> Result<Rec
     }
 }
 
+/// Why a capture with these bytes is refused, if it is: by its header and its length alone.
+pub fn refusal(capture: &[u8]) -> Option<PcapFault>
+    ensures { result ≡ refusal capture.now }
+{
+    if capture.len() < FILE_HEADER {
+        return Some(PcapFault::ShortHeader);
+    }
+    let header = &capture[..FILE_HEADER];
+    match format_of_magic(header) {
+        None => Some(PcapFault::BadMagic),
+        Some(format) => match format.endian {
+            Endian::Big => late_fault::<BigEndian>(header, capture.len()),
+            Endian::Little => late_fault::<LittleEndian>(header, capture.len()),
+        },
+    }
+}
+
 /// The records of a capture (file format version 2.4), or the first refusal that applies.
 ///
 /// Refusals are tested in the order of their numbers, from the header and the length alone. A capture

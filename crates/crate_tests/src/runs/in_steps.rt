@@ -17,6 +17,9 @@ const HEADER: [u8; 24] = [
 const REPORT: &str =
     "capture records 0 segments 0 snapped 0 not-ipv4 0 fragments 0 not-tcp 0 refused 0\n";
 
+/// The answer to a capture that its file header refuses.
+const BAD_MAGIC: Result<Verdict, AuditFault> = Err(AuditFault::Pcap(PcapFault::BadMagic));
+
 /// The calls that a run made, and the reads and writes that it should not have made.
 #[derive(Clone, Copy, Debug, PartialEq, Eq)]
 struct Calls {
@@ -54,7 +57,8 @@ fn calls_of(reader: &Pieces, writer: &Slow) -> Calls {
 }
 
 /// A run gives this answer, makes these calls, and writes the first `written` bytes of the report. The accounts tell the
-/// bytes that were read and written, and whether a flush went well.
+/// bytes that were read and written, and whether a flush went well: of those that were read the front that is kept, and
+/// how many came after it.
 fn expect(
     rt: &(impl Abort + AllocGlobal + Sync + Threads),
     reader: Pieces,
@@ -71,7 +75,15 @@ fn expect(
     let made = calls_of(reader.reader(), writer.writer());
     assert_eq!(rt; (given, made), (answer, expected));
     let read = whole.len() - reader.reader().left.len().min(whole.len());
-    assert_eq!(rt; reader.given(), &whole[..read]);
+    let kept = if answer == BAD_MAGIC {
+        read.min(24)
+    } else {
+        read
+    };
+    assert_eq!(rt;
+        (reader.kept(), reader.passed()),
+        (&whole[..kept], read - kept)
+    );
     let report = REPORT.as_bytes().get(..written).ok_or("written")?;
     assert_eq!(rt; writer.writer().taken.as_slice(), report);
     assert_eq!(rt; writer.written(), report);
@@ -174,6 +186,21 @@ fn refused_capture_writes_nothing(rt: HostRuntime) -> Result<(), Fail> {
         writer(rt.alloc(), 1000),
         Err(AuditFault::Pcap(PcapFault::ShortHeader)),
         counted(2, 0, 0),
+        0,
+    )
+}
+
+// Of 100,000 bytes in steps of 9 the first 24 take three reads and are kept; the rest is read and passed over.
+#[test]
+fn refused_header_is_all_that_is_kept(rt: HostRuntime) -> Result<(), Fail> {
+    let mut capture: Vec<u8> = Vec::new(rt.alloc());
+    capture.resize(100_000, 7)?;
+    expect(
+        &rt,
+        Pieces::of(capture.as_slice(), 9),
+        writer(rt.alloc(), 1000),
+        BAD_MAGIC,
+        counted(11_113, 0, 0),
         0,
     )
 }

@@ -24,7 +24,7 @@ fn each_word_has_its_effect(rt: HostRuntime) -> Result<(), Fail> {
     Ok(())
 }
 
-const HELP: &str = "Audits the HTTP/2 flow control of a classic pcap capture (Ethernet, IPv4)
+pub const HELP: &str = "Audits the HTTP/2 flow control of a classic pcap capture (Ethernet, IPv4)
 
 Usage: h2audit [OPTIONS] [FILE]
 

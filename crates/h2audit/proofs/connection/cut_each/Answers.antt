@@ -1,4 +1,4 @@
-use Rattle.std.proofs.Common.{◌≡◌, ◌+◌, ◌<◌, ◌≤◌, List, length, sym, ap, ◌∙◌, subst, All, arith}
+use Rattle.std.proofs.Common.{◌≡◌, ◌<◌, length, sym, ◌∙◌, subst, All, arith}
 use Rattle.split_merge.specs.Board.{Job}
 use Rattle.h2audit.specs.code.Flows.{flow_jobs}
 use Rattle.h2audit.proofs.Flows.{flow_jobs-within, flow_jobs-length, are-cuts}

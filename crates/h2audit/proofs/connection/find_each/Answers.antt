@@ -1,4 +1,4 @@
-use Rattle.std.proofs.Common.{◌≡◌, Bor, List, map, take, sym, ap, ◌∙◌, subst, All}
+use Rattle.std.proofs.Common.{Bor, List, map, sym, ap, ◌∙◌, subst, All}
 use Rattle.std.proofs.lemmas.List.{take_all}
 use Rattle.audit_terms.specs.declared.frames.Frame.{Frame}
 use Rattle.audit_terms.specs.Frame.{IsOrderly}

@@ -1,6 +1,4 @@
-use Rattle.std.proofs.Common.{◌≡◌, List, map, take}
-use Rattle.std.specs.Borrow.{Bor}
-use Rattle.audit_terms.specs.declared.frames.Frame.{Frame}
+use Rattle.std.proofs.Common.{◌≡◌, map, take}
 use Rattle.h2audit.specs.code.Flows.{frames_each}
 use Rattle.h2audit.proofs.connection.find_each.Given as goal
 

@@ -1,41 +1,50 @@
-use Rattle.std.proofs.Common.{rules, ◌≡◌, ◌≤◌, take, length, refl, sym, subst}
-use Rattle.std.specs.Io.KnownBytes.{Consumes}
-use Rattle.h2audit.specs.Account.{given}
-use Rattle.h2audit.proofs.Capture.{consumes_more, consumes_none, front_at_limit, whole_at_end}
+use Rattle.std.proofs.Common.{rules, ◌≡◌, ◌≤◌, ◌∙◌, length, sym, ap, arith, vec_len, None}
+use Rattle.std.proofs.lemmas.List.{length-take-le}
+use Rattle.pcap_records.specs.Refusal.{refusal}
+use Rattle.h2audit.specs.Account.{kept}
+use Rattle.h2audit.proofs.Kept.{consumed_none, gave_front, header_answers, header_stays}
 use Rattle.h2audit.proofs.reading.read_capture.Goals as goal
 
-pub returns-in-Ok-eq0-clause-bytes : goal.returns-in-Ok-eq0-clause-bytes
-returns-in-Ok-eq0-clause-bytes g c =
-    let before = g.R.Read.remaining c.args.reader.now.reader in
-    let roomy = c.make_room.new.self in
-    let now = c.read_once.new.self in
-    let left = g.R.Read.remaining now.reader in
-    let read : Consumes before (g.R.Read.remaining roomy.reader) (take roomy.filled roomy.bytes.items) = search rules in
-    let all = consumes_none before (g.R.Read.remaining roomy.reader) left roomy.filled c.in-Ok-eq0.field-0 roomy.bytes.items now.bytes.items c.in-Ok-eq0.field-0-test read c.read_once.ensures.front c.in-Ok-eq0.ensures.bytes in
-    let same : roomy.filled ≡ now.filled = search rules in
-    let consumed : Consumes before left (given now) =
-    subst (λ k. Consumes before left (take k now.bytes.items)) same all in
-    whole_at_end before left now.filled 2147483648 now.bytes.items (given now) consumed (search rules) c.read_once.ensures.limit refl
+pub returns-then-has_ended-clause-bytes : goal.returns-then-has_ended-clause-bytes
+returns-then-has_ended-clause-bytes g c =
+    let first = c.args.reader.now in
+    let before = g.R.Read.remaining first.reader in
+    let now = c.keep_up_to.new.reader in
+    let read = c.in_ok-keep_up_to.ensures.bytes before (consumed_none before first c.requires.filled c.requires.passed) in
+    gave_front before (g.R.Read.remaining now.reader) now c.in_ok-keep_up_to.ensures.sound.filled c.in_ok-keep_up_to.ensures.sound.limit (λ short. search rules) read
 
-pub loop-reader-preserved : goal.loop-reader-preserved
-loop-reader-preserved g c =
-    let roomy = c.make_room.new.self in
-    let now = c.read_once.new.self in
-    let n = c.in-Ok.field-0 in
-    let before = g.R.Read.remaining c.args.reader.now.reader in
-    let read : Consumes before (g.R.Read.remaining roomy.reader) (take roomy.filled roomy.bytes.items) = search rules in
-    let more = consumes_more before (g.R.Read.remaining roomy.reader) (g.R.Read.remaining now.reader) roomy.filled n roomy.bytes.items now.bytes.items read c.read_once.ensures.front c.in-Ok.ensures.bytes in
-    record {
-      within = search rules;
-      limit = search rules;
-      has_ended = search rules;
-      has_failed = search rules;
-      lacked_memory = search rules;
-      read = subst (λ k. Consumes before (g.R.Read.remaining now.reader) (take k now.bytes.items)) (sym c.in-Ok.ensures.count) more;
-    }
+pub returns-in_ok-pass_over-in-Some-clause-bytes : goal.returns-in_ok-pass_over-in-Some-clause-bytes
+returns-in_ok-pass_over-in-Some-clause-bytes g c =
+    let first = c.args.reader.now in
+    let before = g.R.Read.remaining first.reader in
+    let now = c.pass_over.new.reader in
+    let header = c.in_ok-keep_up_to.ensures.bytes before (consumed_none before first c.requires.filled c.requires.passed) in
+    let read = c.in_ok-pass_over-in-Some.ensures.bytes before header in
+    gave_front before (g.R.Read.remaining now.reader) now c.in_ok-pass_over-in-Some.ensures.sound.filled c.in_ok-pass_over-in-Some.ensures.sound.limit (λ short. search rules) read
 
-pub returns-clause-bytes : goal.returns-clause-bytes
-returns-clause-bytes g c =
-    let reader = c.loop-reader.reader in
-    let within : reader.filled ≤ length reader.bytes.items = search rules in
-    front_at_limit (g.R.Read.remaining c.args.reader.now.reader) (g.R.Read.remaining reader.reader) reader.filled 2147483648 reader.bytes.items (given reader) c.loop-reader.invariant.read (search rules) within refl
+pub returns-in_ok-pass_over-in-Some-clause-answers : goal.returns-in_ok-pass_over-in-Some-clause-answers
+returns-in_ok-pass_over-in-Some-clause-answers g c =
+    let header = c.keep_up_to.new.reader in
+    let now = c.pass_over.new.reader in
+    let filled : header.filled ≡ 24 = search rules in
+    let within : header.filled ≤ vec_len header.bytes = search rules in
+    let same : kept now ≡ kept header = search rules in
+    let size : length (kept now) ≡ 24 = ap length same ∙ length-take-le header.filled header.bytes.items (omega (arith, within, header.bytes.ok.0)) ∙ filled in
+    header_answers now c.in-Some.field-0 size (ap refusal (same ∙ sym c.kept.ensures) ∙ sym c.refusal.ensures ∙ c.in-Some.is)
+
+pub returns-in_ok-keep_up_to-in-None-clause-bytes : goal.returns-in_ok-keep_up_to-in-None-clause-bytes
+returns-in_ok-keep_up_to-in-None-clause-bytes g c =
+    let first = c.args.reader.now in
+    let before = g.R.Read.remaining first.reader in
+    let now = c.keep_up_to-in-None.new.reader in
+    let header = c.in_ok-keep_up_to.ensures.bytes before (consumed_none before first c.requires.filled c.requires.passed) in
+    let read = c.in_ok-keep_up_to-in-None.ensures.bytes before header in
+    gave_front before (g.R.Read.remaining now.reader) now c.in_ok-keep_up_to-in-None.ensures.sound.filled c.in_ok-keep_up_to-in-None.ensures.sound.limit (λ short. search rules) read
+
+pub returns-in_ok-keep_up_to-in-None-clause-brief : goal.returns-in_ok-keep_up_to-in-None-clause-brief
+returns-in_ok-keep_up_to-in-None-clause-brief g c = λ refused.
+    let header = c.keep_up_to.new.reader in
+    let now = c.keep_up_to-in-None.new.reader in
+    let filled : header.filled ≡ 24 = search rules in
+    let taken : refusal (kept header) ≡ None = ap refusal (sym c.kept.ensures) ∙ sym c.refusal.ensures ∙ c.in-None.is in
+    absurd (refused (header_stays header now filled c.keep_up_to-in-None.ensures.grown c.keep_up_to-in-None.ensures.front taken))

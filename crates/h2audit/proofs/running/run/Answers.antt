@@ -1,24 +1,54 @@
-use Rattle.std.proofs.Common.{rules, Ok, Err}
-use Rattle.h2audit.specs.Account.{Tells}
+use Rattle.std.proofs.Common.{rules, ◌≡◌, ℕ, take, Ok, Err}
+use Rattle.h2audit.specs.Account.{IsFlushed, IsUnwritten, HasWriteFailed, Tells, kept, written}
+use Rattle.h2audit.specs.Report.{IsReport}
+use Rattle.h2audit.specs.Run.{IsNoReport}
 use Rattle.h2audit.specs.declared.fault.AuditFault.TheVariants as fault
-use Rattle.h2audit.proofs.Leaving.{IfSome-weaker, judged_by_account, leaves_by_account}
+use Rattle.h2audit.proofs.Leaving.{IfSome-weaker, appends_none, judged_by_account, leaves_by_account, report_of_given, tells_no_report}
 use Rattle.h2audit.proofs.running.run.Goals as goal
+
+pub returns-in-Ok-write_report-clause-tells : goal.returns-in-Ok-write_report-clause-tells
+returns-in-Ok-write_report-clause-tells g c =
+    let reader = c.read_capture.new.reader in
+    let writer = c.write_report.new.writer in
+    let shown = c.args.options.now.frames_shown in
+    let report : IsReport (kept reader) shown (written writer) c.in-Ok.verdict = search rules in
+    let flushed : IsFlushed writer = search rules in
+    (c.in_ok-read_capture.ensures.ok, report_of_given reader shown (written writer) c.in-Ok.verdict c.in_ok-read_capture.ensures.answers report, flushed)
 
 pub returns-in-Ok-write_report-clause-leaves : goal.returns-in-Ok-write_report-clause-leaves
 returns-in-Ok-write_report-clause-leaves g c =
     let reader = c.read_capture.new.reader in
     let writer = c.write_report.new.writer in
     let shown = c.args.options.now.frames_shown in
-    let told : Tells reader writer shown (Ok c.in-Ok.verdict) = search rules in
+    let told : Tells reader writer shown (Ok c.in-Ok.verdict) = returns-in-Ok-write_report-clause-tells g c in
     IfSome-weaker (g.R.Read.remaining c.args.reader.now.reader) _ _ (λ all is. leaves_by_account all reader writer shown (g.W.Write.contents c.args.writer.now.writer) (g.W.Write.contents writer.writer) (Ok c.in-Ok.verdict) (λ _. is) told (search rules)) c.in_ok-read_capture.ensures.bytes
+
+pub returns-in-Err-write_report-clause-tells : goal.returns-in-Err-write_report-clause-tells
+returns-in-Err-write_report-clause-tells g c =
+    let reader = c.read_capture.new.reader in
+    let writer = c.write_report.new.writer in
+    let shown = c.args.options.now.frames_shown in
+    let text = c.in-Ok.text.items in
+    let report : IsReport (kept reader) shown text c.in-Ok.verdict = search rules in
+    let failed : HasWriteFailed writer = search rules in
+    let front : (n : ℕ) × (written writer ≡ take n text) = search rules in
+    (c.in_ok-read_capture.ensures.ok, failed, (text, c.in-Ok.verdict, front.0, report_of_given reader shown text c.in-Ok.verdict c.in_ok-read_capture.ensures.answers report, front.1))
 
 pub returns-in-Err-write_report-clause-leaves : goal.returns-in-Err-write_report-clause-leaves
 returns-in-Err-write_report-clause-leaves g c =
     let reader = c.read_capture.new.reader in
     let writer = c.write_report.new.writer in
     let shown = c.args.options.now.frames_shown in
-    let told : Tells reader writer shown (Err fault.Write) = search rules in
+    let told : Tells reader writer shown (Err fault.Write) = returns-in-Err-write_report-clause-tells g c in
     IfSome-weaker (g.R.Read.remaining c.args.reader.now.reader) _ _ (λ all is. leaves_by_account all reader writer shown (g.W.Write.contents c.args.writer.now.writer) (g.W.Write.contents writer.writer) (Err fault.Write) (λ _. is) told (search rules)) c.in_ok-read_capture.ensures.bytes
+
+pub returns-in-Err-clause-tells : goal.returns-in-Err-clause-tells
+returns-in-Err-clause-tells g c =
+    let reader = c.read_capture.new.reader in
+    let writer = c.args.writer.now in
+    let none : IsNoReport (kept reader) c.in-Err.fault = search rules in
+    let unwritten : IsUnwritten writer = search rules in
+    tells_no_report reader writer c.args.options.now.frames_shown c.in-Err.fault c.in_ok-read_capture.ensures.ok c.in_ok-read_capture.ensures.answers unwritten none
 
 pub returns-in-Err-clause-leaves : goal.returns-in-Err-clause-leaves
 returns-in-Err-clause-leaves g c =
@@ -26,13 +56,14 @@ returns-in-Err-clause-leaves g c =
     let writer = c.args.writer.now in
     let shown = c.args.options.now.frames_shown in
     let contents = g.W.Write.contents writer.writer in
-    let told : Tells reader writer shown (Err c.in-Err.fault) = search rules in
-    IfSome-weaker (g.R.Read.remaining c.args.reader.now.reader) _ _ (λ all is. leaves_by_account all reader writer shown contents contents (Err c.in-Err.fault) (λ _. is) told (search rules)) c.in_ok-read_capture.ensures.bytes
+    let none : writer.written ≡ 0 = search rules in
+    let told : Tells reader writer shown (Err c.in-Err.fault) = returns-in-Err-clause-tells g c in
+    IfSome-weaker (g.R.Read.remaining c.args.reader.now.reader) _ _ (λ all is. leaves_by_account all reader writer shown contents contents (Err c.in-Err.fault) (λ _. is) told (appends_none contents writer.written writer.text.items none)) c.in_ok-read_capture.ensures.bytes
 
 pub returns-in-Err-clause-judged : goal.returns-in-Err-clause-judged
 returns-in-Err-clause-judged g c =
     let reader = c.read_capture.new.reader in
     let writer = c.args.writer.now in
     let shown = c.args.options.now.frames_shown in
-    let told : Tells reader writer shown (Err c.in-Err.fault) = search rules in
+    let told : Tells reader writer shown (Err c.in-Err.fault) = returns-in-Err-clause-tells g c in
     IfSome-weaker (g.R.Read.remaining c.args.reader.now.reader) _ _ (λ all is. judged_by_account all reader writer shown (Err c.in-Err.fault) (λ _. is) told) c.in_ok-read_capture.ensures.bytes

@@ -1,4 +1,4 @@
-use Rattle.std.proofs.Common.{sym, ◌+◌, arith}
+use Rattle.std.proofs.Common.{arith}
 use Rattle.h2audit.proofs.Flows.{flow_jobs-at}
 use Rattle.h2audit.proofs.flow_round.FlowRoundRound.connection.Goals as goal
 
