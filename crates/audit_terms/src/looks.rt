@@ -1,6 +1,6 @@
 //! When a run looks for the stop of its connection.
 
-ghost use Rattle.std.specs.Prelude.{◌≡◌, ℕ, ◌+◌, ◌-◌, ◌*◌, ◌≤◌, List, [], ◌∷◌, ◌++◌, Option};
+ghost use Rattle.std.specs.Prelude.{◌≡◌, ℕ, ◌+◌, ◌*◌, ◌≤◌, List, [], ◌∷◌, ◌++◌, Option};
 ghost use Rattle.std.specs.Bool.{OnTrue, OnFalse};
 ghost use Rattle.audit_terms.specs.declared.findings.Finding.{Finding as FindingTerm};
 ghost use Rattle.audit_terms.specs.Look.{is_past, steps_between, found_before};
@@ -85,13 +85,5 @@ impl Watch {
         }
         self.left -= 1;
         true
-    }
-
-    /// Passes over so many steps, at which nothing is found.
-    pub fn passes_over(&mut self, count: u32)
-        requires { count ≤ self.old.left }
-        ensures { self.new ≡ record self.old { left = self.old.left - count } }
-    {
-        self.left -= count;
     }
 }
