@@ -1,5 +1,4 @@
-//! Connections and flows of captures, and the flows by a plain program beside them.
+//! Flows of captures, and the flows by a plain program beside them.
 
-mod captured;
-mod members;
 mod plain;
+mod segments;

@@ -10,8 +10,9 @@
 //!
 //! What is left for tests: `assemble` beside a slow program over random segments; two passes over one desk; when
 //! runs look, with a stop and without; that a later job sees the stop which an earlier one lowered, that two workers are
-//! in one round at once, and how many jobs each round has; readers and writers that go in steps or fail; the texts of help and of refused words; long
-//! captures, and every prefix of one; and calls that whole reports do not reach, once each.
+//! in one round at once, and how many jobs each round has; readers and writers that go in steps or fail; the texts of
+//! help and of refused words; long captures, and every prefix of one; the bytes that scripts of captures spell; and calls
+//! that whole reports do not reach, once each.
 //!
 //! All tests are one crate, since a test in a library's crate proves the library once more, and each crate of tests
 //! takes the libraries below it anew.

@@ -1,5 +1,4 @@
-//! The plain pass over short scripts of frames, each compared as a whole with lines that were written by hand.
+//! The plain pass over a short script of frames.
 
-mod lines;
 pub mod scripts;
 mod shown;

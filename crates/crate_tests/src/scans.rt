@@ -1,4 +1,4 @@
-//! The scan, and what a block shows of its connection.
+//! The scan, and the items that it goes over.
 
-mod block_stall;
+mod marks;
 mod scan_sums;

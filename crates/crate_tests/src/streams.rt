@@ -1,4 +1,3 @@
-//! What one stream of a connection shows.
+//! What the streams of a connection show.
 
-mod calls;
 mod crew;

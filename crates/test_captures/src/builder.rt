@@ -1,5 +1,5 @@
-use crate::file::FileHeader;
 use crate::frames::{Frame, PREFACE, settings, settings_ack};
+use crate::lengths::capped_32;
 use crate::segments::{CLIENT, HEADERS, PLAIN, SERVER, SYN, SYN_ACK, Segment};
 use std::alloc::{AllocError, Global};
 
@@ -8,6 +8,11 @@ const CLIENT_ISN: u32 = 1000;
 /// The server's initial sequence number.
 const SERVER_ISN: u32 = 5000;
 
+/// The file header: little-endian numbers, microseconds, version 2.4, a snapshot length of 262,144, Ethernet.
+const FILE_HEADER: [u8; 24] = [
+    0xd4, 0xc3, 0xb2, 0xa1, 2, 0, 4, 0, 0, 0, 0, 0, 0, 0, 0, 0, 0, 0, 4, 0, 1, 0, 0, 0,
+];
+
 /// A capture that grows record by record.
 ///
 /// The sides are those of one connection, from [`CLIENT`] to [`SERVER`], and each keeps the sequence
@@ -15,7 +20,6 @@ const SERVER_ISN: u32 = 5000;
 #[derive(Drop)]
 pub struct Capture {
     alloc: Global,
-    file: FileHeader,
     bytes: Vec<u8>,
     records: u32,
     last: usize,
@@ -24,22 +28,14 @@ pub struct Capture {
 }
 
 impl Capture {
-    /// A capture with no record: the file header of [`FileHeader::PLAIN`].
+    /// A capture with no record.
     pub fn new(alloc: Global) -> Result<Capture, AllocError> {
-        Capture::with_header(alloc, FileHeader::PLAIN)
-    }
-
-    /// A capture with this file header and no record.
-    pub fn with_header(alloc: Global, file: FileHeader) -> Result<Capture, AllocError> {
-        let mut bytes = Vec::new(alloc);
-        file.push_to(&mut bytes)?;
-        let last = bytes.len();
+        let bytes = Vec::from_slice(alloc, &FILE_HEADER)?;
         Ok(Capture {
             alloc,
-            file,
+            last: bytes.len(),
             bytes,
             records: 0,
-            last,
             client_next: CLIENT_ISN.wrapping_add(1),
             server_next: SERVER_ISN.wrapping_add(1),
         })
@@ -64,29 +60,19 @@ impl Capture {
         Ok(capture)
     }
 
-    /// A record at any time whose packet had any length.
-    pub fn record_at(
-        &mut self,
-        seconds: u32,
-        fraction: u32,
-        original: u32,
-        captured: &[u8],
-    ) -> Result<(), AllocError> {
-        let magic = self.file.magic;
-        magic.push_u32(&mut self.bytes, seconds)?;
-        magic.push_u32(&mut self.bytes, fraction)?;
-        magic.push_u32(&mut self.bytes, capped_32(captured.len()))?;
-        magic.push_u32(&mut self.bytes, original)?;
-        self.last = self.bytes.len();
-        self.bytes.extend_from_slice(captured)?;
-        self.records = self.records.saturating_add(1);
-        Ok(())
-    }
-
-    /// The next record, its fraction being its number, of a packet that had this length.
+    /// The next record, whose time in microseconds is its number, of a packet that had this length.
     pub fn record(&mut self, original: usize, captured: &[u8]) -> Result<(), AllocError> {
-        let number = self.records.saturating_add(1);
-        self.record_at(0, number, capped_32(original), captured)
+        self.records = self.records.saturating_add(1);
+        for number in [
+            0,
+            self.records,
+            capped_32(captured.len()),
+            capped_32(original),
+        ] {
+            self.bytes.extend_from_slice(&number.to_le_bytes())?;
+        }
+        self.last = self.bytes.len();
+        self.bytes.extend_from_slice(captured)
     }
 
     /// A record of a whole segment.
@@ -211,28 +197,8 @@ impl Capture {
         }
     }
 
-    /// How many records there are.
-    pub fn records(&self) -> u32 {
-        self.records
-    }
-
-    /// The sequence number of the client's next byte.
-    pub fn client_next(&self) -> u32 {
-        self.client_next
-    }
-
-    /// The sequence number of the server's next byte.
-    pub fn server_next(&self) -> u32 {
-        self.server_next
-    }
-
     /// The bytes of the capture.
     pub fn as_slice(&self) -> &[u8] {
         self.bytes.as_slice()
     }
-}
-
-/// The number, or the largest of 32 bits.
-fn capped_32(n: usize) -> u32 {
-    u32::try_from(n).unwrap_or(u32::MAX)
 }

@@ -1,3 +1,4 @@
+use crate::lengths::capped_32;
 use std::alloc::AllocError;
 
 /// The 24 bytes that a client begins with.
@@ -6,13 +7,11 @@ pub const PREFACE: [u8; 24] = *b"PRI * HTTP/2.0\r\n\r\nSM\r\n\r\n";
 /// The flag of a DATA or HEADERS frame that is the last of its side on the stream.
 pub const END_STREAM: u8 = 1;
 /// The flag of a SETTINGS frame that acknowledges one.
-pub const ACK: u8 = 1;
+const ACK: u8 = 1;
 /// The flag of a frame that ends a block of headers.
 pub const END_HEADERS: u8 = 4;
 /// The flag of a frame whose payload begins with a pad length.
-pub const PADDED: u8 = 8;
-/// The flag of a HEADERS frame that has five bytes of priority.
-pub const PRIORITY: u8 = 0x20;
+const PADDED: u8 = 8;
 
 /// The payload of a frame.
 #[derive(Clone, Copy)]
@@ -25,8 +24,6 @@ pub enum Payload<'a> {
     Number(u32),
     /// Identifiers and values of settings.
     Settings(&'a [(u16, u32)]),
-    /// These bytes.
-    Bytes(&'a [u8]),
 }
 
 /// A frame of HTTP/2 (RFC 9113, 4.1), its length being that of its payload.
@@ -133,16 +130,6 @@ pub fn ping() -> Frame<'static> {
     }
 }
 
-/// GOAWAY that names stream 0 and no error.
-pub fn goaway() -> Frame<'static> {
-    Frame {
-        code: 7,
-        flags: 0,
-        stream: 0,
-        payload: Payload::Zeros(8),
-    }
-}
-
 /// WINDOW_UPDATE of this increment.
 pub fn window_update(stream: u32, increment: u32) -> Frame<'static> {
     Frame {
@@ -150,26 +137,6 @@ pub fn window_update(stream: u32, increment: u32) -> Frame<'static> {
         flags: 0,
         stream,
         payload: Payload::Number(increment),
-    }
-}
-
-/// CONTINUATION of length 0 that ends its block.
-pub fn continuation(stream: u32) -> Frame<'static> {
-    Frame {
-        code: 9,
-        flags: END_HEADERS,
-        stream,
-        payload: Payload::Zeros(0),
-    }
-}
-
-/// Any frame.
-pub fn raw(code: u8, flags: u8, stream: u32, payload: &[u8]) -> Frame<'_> {
-    Frame {
-        code,
-        flags,
-        stream,
-        payload: Payload::Bytes(payload),
     }
 }
 
@@ -185,8 +152,7 @@ impl<'a> Frame<'a> {
             Payload::Zeros(length) => length,
             Payload::Padded { pad: _, length } => length.max(1),
             Payload::Number(_) => 4,
-            Payload::Settings(pairs) => low_32(pairs.len()).wrapping_mul(6),
-            Payload::Bytes(bytes) => low_32(bytes.len()),
+            Payload::Settings(pairs) => capped_32(pairs.len()).saturating_mul(6),
         }
     }
 
@@ -203,13 +169,8 @@ impl<'a> Frame<'a> {
             }
             Payload::Number(n) => out.extend_from_slice(&n.to_be_bytes()),
             Payload::Settings(pairs) => push_pairs(out, pairs),
-            Payload::Bytes(bytes) => out.extend_from_slice(bytes),
         }
     }
-}
-
-fn low_32(n: usize) -> u32 {
-    (n & 0xffff_ffff) as u32
 }
 
 fn push_zeros(out: &mut Vec<u8>, count: u32) -> Result<(), AllocError> {

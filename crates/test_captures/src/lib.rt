@@ -14,23 +14,19 @@
 //! ```
 //!
 //! It stands on no other crate of the repository, so the tests of each of them may use it. Every call is safe and
-//! total, for every argument. The bytes of a file header and of a packet are exactly those of `specs/FileBytes.antt`
-//! and `specs/PacketBytes.antt`. Frames and whole captures have no contract beyond safety: tests in `crate_tests`
-//! compare them with bytes that were written out by hand. A packet longer than an IPv4 total length can say has total
-//! length 0, as captures with segmentation offload have; [`Capture::set_byte`] changes any byte of the last packet.
+//! total, for every argument, and has no other contract: tests in `crate_tests` compare what it spells with bytes that
+//! were written out by hand. A packet longer than an IPv4 total length can say has total length 0, as captures with
+//! segmentation offload have; [`Capture::set_byte`] changes any byte of the last packet.
 #![tactic(auto)]
 
 mod builder;
-mod bytes;
-mod file;
 mod frames;
+mod lengths;
 mod segments;
 
 pub use builder::Capture;
-pub use file::{FileHeader, Magic};
 pub use frames::{
-    ACK, END_HEADERS, END_STREAM, Frame, PADDED, PREFACE, PRIORITY, Payload, continuation, data,
-    goaway, headers, headers_of, padded_data, ping, priority, push_promise, raw, rst_stream,
-    settings, settings_ack, window_update,
+    END_HEADERS, END_STREAM, Frame, PREFACE, Payload, data, headers, headers_of, padded_data, ping,
+    priority, push_promise, rst_stream, settings, settings_ack, window_update,
 };
 pub use segments::{CLIENT, Endpoint, PLAIN, SERVER, SYN, SYN_ACK, Segment};

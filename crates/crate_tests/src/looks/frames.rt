@@ -13,15 +13,9 @@ pub const FRAMES: u32 = 1000;
 /// HEADERS, and then DATA of one byte each.
 fn listed(alloc: Global) -> Result<Vec<Frame>, AllocError> {
     let mut frames = Vec::new(alloc);
-    frames.push(Frame {
-        number: 1,
-        ..headers(Side::Client, 1)
-    })?;
+    frames.push(headers(1, Side::Client, 1))?;
     for number in 2..=FRAMES {
-        frames.push(Frame {
-            number,
-            ..data(Side::Client, 1, 1)
-        })?;
+        frames.push(data(number, Side::Client, 1, 1))?;
     }
     Ok(frames)
 }

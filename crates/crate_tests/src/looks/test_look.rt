@@ -15,11 +15,6 @@ pub struct TestLook {
 }
 
 impl TestLook {
-    /// A look that answers none.
-    pub fn of_none() -> Self {
-        TestLook::after(0, None)
-    }
-
     /// A look that answers the place after so many calls.
     pub fn after(before: u32, stop: Option<Place>) -> Self {
         TestLook {

@@ -5,72 +5,50 @@ ghost use Rattle.audit_terms.specs.Frame.{IsInRange, IsOrderly, promised_in};
 
 use audit_core::{Body, Frame, Settings, Side};
 
-const PADDED: u8 = 8;
-
+/// END_HEADERS of HEADERS.
 const END_HEADERS: u8 = 4;
 
-/// A frame of a script, whose number is given later.
-fn frame(side: Side, code: u8, flags: u8, stream: u32, length: u32, body: Body) -> Frame {
+/// A frame of a script, without flags.
+fn frame(number: u32, side: Side, code: u8, stream: u32, length: u32, body: Body) -> Frame {
     Frame {
-        number: 0,
+        number,
         side,
         rec: 0,
         nanos: 0,
         code,
-        flags,
+        flags: 0,
         stream,
         length,
         body,
     }
 }
 
-pub fn headers(side: Side, stream: u32) -> Frame {
-    frame(side, 1, END_HEADERS, stream, 0, Body::Headers)
+/// HEADERS that end their block.
+pub fn headers(number: u32, side: Side, stream: u32) -> Frame {
+    Frame {
+        flags: END_HEADERS,
+        ..frame(number, side, 1, stream, 0, Body::Headers)
+    }
 }
 
 /// DATA of some bytes.
-pub fn data(side: Side, stream: u32, length: u32) -> Frame {
-    frame(side, 0, 0, stream, length, Body::Content)
+pub fn data(number: u32, side: Side, stream: u32, length: u32) -> Frame {
+    frame(number, side, 0, stream, length, Body::Content)
 }
 
-/// DATA with PADDED, whose length holds the padding.
-pub fn padded_data(side: Side, stream: u32, length: u32) -> Frame {
-    frame(side, 0, PADDED, stream, length, Body::Content)
-}
-
-/// WINDOW_UPDATE.
-pub fn update(side: Side, stream: u32, increment: u32) -> Frame {
-    frame(side, 8, 0, stream, 4, Body::WindowUpdate(increment))
-}
-
-pub fn reset(side: Side, stream: u32) -> Frame {
-    frame(side, 3, 0, stream, 4, Body::RstStream)
-}
-
-pub fn promise(stream: u32, promised: u32) -> Frame {
-    frame(
-        Side::Server,
-        5,
-        END_HEADERS,
-        stream,
-        4,
-        Body::PushPromise(promised),
-    )
-}
-
-/// SETTINGS with an initial window, or with nothing.
-pub fn settings(side: Side, initial: Option<u32>) -> Frame {
+/// SETTINGS with nothing.
+pub fn settings(number: u32, side: Side) -> Frame {
     let values = Settings {
         push: None,
-        initial,
+        initial: None,
         max_frame: None,
         bad: None,
     };
-    frame(side, 4, 0, 0, 0, Body::Settings(values))
+    frame(number, side, 4, 0, 0, Body::Settings(values))
 }
 
-pub fn acknowledgement(side: Side) -> Frame {
-    frame(side, 4, 1, 0, 0, Body::SettingsAck)
+pub fn acknowledgement(number: u32, side: Side) -> Frame {
+    frame(number, side, 4, 0, 0, Body::SettingsAck)
 }
 
 /// Is the promised stream of the body below 2^31?

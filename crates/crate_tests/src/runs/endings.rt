@@ -2,6 +2,7 @@
 
 use h2audit::{AuditFault, ending};
 use pcap_records::PcapFault;
+use std::alloc::{AllocError, Global};
 use std::test::Fail;
 
 const FAULTS: [(AuditFault, &str); 10] = [
@@ -41,12 +42,16 @@ const FAULTS: [(AuditFault, &str); 10] = [
     ),
 ];
 
+/// What a fault prints as, the exit status that it has and its line.
+fn shown(alloc: Global, fault: AuditFault) -> Result<String, AllocError> {
+    let (status, line) = ending(&Err(fault));
+    format!(in alloc; "{fault} status {status} {line}")
+}
+
 #[test]
 fn each_fault_has_its_number_and_line(rt: HostRuntime) -> Result<(), Fail> {
     for (fault, wanted) in FAULTS {
-        let (status, line) = ending(&Err(fault));
-        let text = format!(in rt.alloc(); "{fault} status {status} {line}")?;
-        assert_eq!(rt; text.as_str(), wanted);
+        assert_eq!(rt; shown(rt.alloc(), fault)?.as_str(), wanted);
     }
     Ok(())
 }

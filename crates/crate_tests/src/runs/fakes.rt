@@ -48,7 +48,7 @@ impl Read for Pieces<'_> {
 }
 
 /// How a writer fails.
-#[derive(Clone, Copy, Debug, PartialEq, Eq)]
+#[derive(Clone, Copy)]
 pub enum Failure {
     /// It says that it was interrupted.
     Interrupted,

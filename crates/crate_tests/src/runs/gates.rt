@@ -90,8 +90,8 @@ fn assert_jobs(
         let options = Options::of(workers, groups, block, credits_shown).ok_or("range")?;
         let gate = CountingGate::new();
         let answer = audit(rt, rt.alloc(), &options, capture.as_slice(), &gate);
-        let counts = answer.ok().map(|_| gate.counts());
-        assert_eq!(rt; counts, Some(want));
+        assert!(rt; answer.is_ok());
+        assert_eq!(rt; gate.counts(), want);
     }
     Ok(())
 }
@@ -141,7 +141,8 @@ fn assert_two_at_once(
     };
     let answer = audit(rt, rt.alloc(), &options, capture.as_slice(), &gate);
     let bits = [&gate.entered, &gate.given_up].map(|bits| bits.load(Ordering::SeqCst));
-    assert_eq!(rt; answer.ok().map(|_| bits), Some([rounds, 0]));
+    assert!(rt; answer.is_ok());
+    assert_eq!(rt; bits, [rounds, 0]);
     Ok(())
 }
 

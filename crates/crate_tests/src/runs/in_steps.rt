@@ -56,9 +56,25 @@ fn calls_of(reader: &Pieces, writer: &Slow) -> Calls {
     }
 }
 
-/// A run gives this answer, makes these calls, and writes the first `written` bytes of the report. The accounts tell the
-/// bytes that were read and written, and whether a flush went well: of those that were read the front that is kept, and
-/// how many came after it.
+/// Of these bytes as many as the reader gave are in its account: the front that is kept, of these many at most, and how
+/// many came after it.
+fn assert_read(rt: &impl Abort, reader: &CaptureReader<Pieces>, whole: &[u8], at_most: usize) {
+    let read = whole.len() - reader.reader().left.len().min(whole.len());
+    let kept = read.min(at_most);
+    assert_eq!(rt;
+        (reader.kept(), reader.passed()),
+        (&whole[..kept], read - kept)
+    );
+}
+
+/// The writer took this text, and so says its account, which tells too whether a flush went well.
+fn assert_written(rt: &impl Abort, writer: &ReportWriter<Slow>, text: &[u8], is_flushed: bool) {
+    assert_eq!(rt; writer.writer().taken.as_slice(), text);
+    assert_eq!(rt; writer.written(), text);
+    assert_eq!(rt; writer.is_flushed(), is_flushed);
+}
+
+/// A run gives this answer, makes these calls, and writes the first `written` bytes of the report.
 fn expect(
     rt: &(impl Abort + AllocGlobal + Sync + Threads),
     reader: Pieces,
@@ -74,20 +90,10 @@ fn expect(
     let given = run(rt, rt.alloc(), &options, &mut reader, &mut writer, &NoGate);
     let made = calls_of(reader.reader(), writer.writer());
     assert_eq!(rt; (given, made), (answer, expected));
-    let read = whole.len() - reader.reader().left.len().min(whole.len());
-    let kept = if answer == BAD_MAGIC {
-        read.min(24)
-    } else {
-        read
-    };
-    assert_eq!(rt;
-        (reader.kept(), reader.passed()),
-        (&whole[..kept], read - kept)
-    );
+    let at_most = if answer == BAD_MAGIC { 24 } else { usize::MAX };
+    assert_read(rt, &reader, whole, at_most);
     let report = REPORT.as_bytes().get(..written).ok_or("written")?;
-    assert_eq!(rt; writer.writer().taken.as_slice(), report);
-    assert_eq!(rt; writer.written(), report);
-    assert_eq!(rt; writer.is_flushed(), answer.is_ok());
+    assert_written(rt, &writer, report, answer.is_ok());
     Ok(())
 }
 

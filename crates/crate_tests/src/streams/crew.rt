@@ -1,18 +1,40 @@
 //! A crew that goes through streams, a job for each, and stops early.
 
-ghost use Rattle.std.specs.Prelude.{[], ◌∷◌};
+ghost use Rattle.std.specs.Prelude.{◌≡◌, ◌<◌, [], ◌∷◌};
 ghost use Rattle.std.proofs.Props.{props};
+ghost use Rattle.audit_terms.specs.Frame.{IsInRange, promised_in};
 ghost use Rattle.audit_rounds.specs.code.JobProps.{frames-prop};
 ghost use Rattle.stream_credit.specs.Part.{IsPart};
 ghost use Rattle.crate_tests.specs.StreamJobs.{job_of};
 
-use super::calls::frame;
-use audit_terms::{Body, Finding, Kind, Look, Place, Side};
+use audit_terms::{Body, Finding, Frame, Kind, Look, Place, Side};
 use job_crew::{NoGate, Round, Settled, Work, settle};
 use std::alloc::{AllocError, Global};
 use std::test::Fail;
 use std::thread::Threads;
 use stream_credit::{Changes, StreamPart, stream_run};
+
+/// A frame without payload.
+fn frame(number: u32, side: Side, code: u8, stream: u32, body: Body) -> Frame
+    requires number { number < 1000 }
+    requires stream { stream < 1000 }
+    requires promised { promised_in body ≡ 0 }
+    ensures number { result.number ≡ number }
+    ensures stream { result.stream ≡ stream }
+    ensures in_range { IsInRange result }
+{
+    Frame {
+        number,
+        side,
+        rec: number,
+        nanos: 0,
+        code,
+        flags: 0,
+        stream,
+        length: 0,
+        body,
+    }
+}
 
 /// Two streams of one connection, to which settings bring nothing, a job for each.
 #[derive(Drop)]

@@ -1,2 +1,0 @@
-pub mod FileBytes
-pub mod PacketBytes
