@@ -8,8 +8,12 @@ use std::test::Fail;
 use std::thread::Threads;
 use test_captures::{Capture, data, headers, settings, settings_ack, window_update};
 
-/// Workers, groups and block lengths.
-const MIXES: [(u32, u32, u32); 3] = [(1, 1024, 4096), (2, 1024, 2), (64, 1024, 4096)];
+/// Numbers of workers, of groups, and lengths of blocks: a capture is audited with each of the 27 mixes.
+const WORKERS: [u32; 3] = [1, 2, 64];
+
+const GROUPS: [u32; 3] = [1, 3, 1024];
+
+const BLOCKS: [u32; 3] = [1, 2, 4096];
 
 /// The exit status on these bytes, and the report.
 fn report_of(
@@ -35,9 +39,15 @@ fn expect(
     status: u8,
     report: &str,
 ) -> Result<(), Fail> {
-    for mix in MIXES {
-        let (given, text) = report_of(rt, rt.alloc(), mix, capture.as_slice(), frames_shown)?;
-        assert_eq!(rt; (given, text.as_str()), (status, report));
+    let capture = capture.as_slice();
+    for workers in WORKERS {
+        for groups in GROUPS {
+            for block in BLOCKS {
+                let mix = (workers, groups, block);
+                let (given, text) = report_of(rt, rt.alloc(), mix, capture, frames_shown)?;
+                assert_eq!(rt; (given, text.as_str()), (status, report));
+            }
+        }
     }
     Ok(())
 }
