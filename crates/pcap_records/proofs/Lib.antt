@@ -1,4 +1,4 @@
-pub mod Magic
+pub mod Rests
 pub mod Sizes
 pub mod Unique
 pub mod Walk

@@ -1,67 +1,70 @@
-ghost use Rattle.std.specs.Prelude.{◌≡◌, ◌<◌, ◌≤◌, ◌^◌, ◌⊎◌, IfOk, IfErr, IfSome, IsTrue, OnOk, length};
-ghost use Rattle.pcap_records.specs.FileHeader.{header_of};
+ghost use Rattle.std.specs.Prelude.{◌≡◌, ◌<◌, ◌≤◌, ◌^◌, ◌⊎◌, IfOk, IfErr, IfSome, IsTrue, None, OnOk, Some, length};
+ghost use Rattle.pcap_records.specs.FileHeader.{format_of, header_of, link_of, number_of};
 ghost use Rattle.pcap_records.specs.LinkType.{is_read};
 ghost use Rattle.pcap_records.specs.Place.{AreWithin, AreTimely};
 ghost use Rattle.pcap_records.specs.Reading.{IsReading, IsReadingBy};
-ghost use Rattle.pcap_records.specs.Refusal.{refusal, refusal_in};
+ghost use Rattle.pcap_records.specs.Refusal.{refusal};
 
 use crate::capture::Records;
 use crate::faults::PcapFault;
-use crate::format::{Endian, format_of_magic};
+use crate::format::{Endian, Format, format_of_magic};
 use crate::header::{FILE_HEADER, late_fault, link_type};
 use crate::rows::rows_of;
 use byteorder::{BigEndian, ByteOrder, LittleEndian};
-use std::alloc::Global;
+use std::alloc::{AllocError, Global};
 
-/// What a capture holds whose magic told the order of bytes and the nanoseconds in a unit.
-fn read_in<T: ByteOrder>(alloc: Global, capture: &[u8], unit: u64) -> Result<Records, PcapFault>
+/// The format of a capture that is not refused, or the first refusal that applies: by its header and its length alone.
+fn format_or_refusal(capture: &[u8]) -> Result<Format, PcapFault>
+    ensures known { IfOk result (λ format. format_of (header_of capture.now) ≡ Some format) }
+    ensures taken { OnOk result (refusal capture.now ≡ None) }
+    ensures whole { OnOk result (24 ≤ length capture.now) }
+    ensures short { OnOk result (length capture.now < 2 ^ 31) }
+    ensures unit { IfOk result (λ format. format.unit ≤ 1000) }
+    ensures linked { IfOk result (λ format. IsTrue (is_read (link_of (number_of format.endian) (header_of capture.now)))) }
+    ensures refused { IfErr result (λ fault. refusal capture.now ≡ Some fault) }
+{
+    if capture.len() < FILE_HEADER {
+        return Err(PcapFault::ShortHeader);
+    }
+    let header = &capture[..FILE_HEADER];
+    let format = match format_of_magic(header) {
+        Some(format) => format,
+        None => return Err(PcapFault::BadMagic),
+    };
+    let late = match format.endian {
+        Endian::Big => late_fault::<BigEndian>(header, capture.len()),
+        Endian::Little => late_fault::<LittleEndian>(header, capture.len()),
+    };
+    match late {
+        Some(fault) => Err(fault),
+        None => Ok(format),
+    }
+}
+
+/// What a capture that is not refused holds, with this order of bytes and so many nanoseconds in a unit.
+fn read_in<T: ByteOrder>(alloc: Global, capture: &[u8], unit: u64) -> Result<Records, AllocError>
     requires header { 24 ≤ length capture.now }
+    requires short { length capture.now < 2 ^ 31 }
     requires unit { unit ≤ 1000 }
-    ensures ok { IfOk result (λ found.
-        (refusal_in T.number_of (header_of capture.now) (length capture.now) ≡ None)
-        × IsReadingBy T.number_of unit capture.now found) }
-    ensures refused { IfSome (refusal_in T.number_of (header_of capture.now) (length capture.now))
-        (λ e. result ≡ Err e) }
-    ensures err { IfErr result (λ e. (e ≡ PcapFault.OutOfMemory)
-        ⊎ (refusal_in T.number_of (header_of capture.now) (length capture.now) ≡ Some e)) }
+    ensures reading { IfOk result (IsReadingBy T.number_of unit capture.now) }
     ensures placed { IfOk result (λ found. AreWithin (length capture.now) found.rows.items) }
     ensures timely { IfOk result (λ found. AreTimely found.rows.items) }
-    ensures linked { IfOk result (λ found. IsTrue (is_read found.link)) }
-    ensures short { OnOk result (length capture.now < 2 ^ 31) }
 {
-    let header = &capture[..FILE_HEADER];
-    if let Some(fault) = late_fault::<T>(header, capture.len()) {
-        return Err(fault);
-    }
-    match rows_of::<T>(alloc, capture, unit) {
-        Err(_) => Err(PcapFault::OutOfMemory),
-        Ok((rows, at)) => {
-            let next = rows.len() as u32 + 1;
-            let cut = if at < capture.len() { Some(next) } else { None };
-            Ok(Records {
-                link: link_type::<T>(header),
-                rows,
-                cut,
-            })
-        }
-    }
+    let (rows, at) = rows_of::<T>(alloc, capture, unit)?;
+    let next = rows.len() as u32 + 1;
+    let cut = if at < capture.len() { Some(next) } else { None };
+    Ok(Records {
+        link: link_type::<T>(&capture[..FILE_HEADER]),
+        rows,
+        cut,
+    })
 }
 
 /// Why a capture with these bytes is refused, if it is: by its header and its length alone.
 pub fn refusal(capture: &[u8]) -> Option<PcapFault>
     ensures { result ≡ refusal capture.now }
 {
-    if capture.len() < FILE_HEADER {
-        return Some(PcapFault::ShortHeader);
-    }
-    let header = &capture[..FILE_HEADER];
-    match format_of_magic(header) {
-        None => Some(PcapFault::BadMagic),
-        Some(format) => match format.endian {
-            Endian::Big => late_fault::<BigEndian>(header, capture.len()),
-            Endian::Little => late_fault::<LittleEndian>(header, capture.len()),
-        },
-    }
+    format_or_refusal(capture).err()
 }
 
 /// The records of a capture (file format version 2.4), or the first refusal that applies.
@@ -85,14 +88,13 @@ pub fn records(alloc: Global, capture: &[u8]) -> Result<Records, PcapFault>
     ensures linked { IfOk result (λ found. IsTrue (is_read found.link)) }
     ensures short { OnOk result (length capture.now < 2 ^ 31) }
 {
-    if capture.len() < FILE_HEADER {
-        return Err(PcapFault::ShortHeader);
-    }
-    match format_of_magic(&capture[..FILE_HEADER]) {
-        None => Err(PcapFault::BadMagic),
-        Some(format) => match format.endian {
-            Endian::Big => read_in::<BigEndian>(alloc, capture, format.unit),
-            Endian::Little => read_in::<LittleEndian>(alloc, capture, format.unit),
-        },
+    let format = format_or_refusal(capture)?;
+    let read = match format.endian {
+        Endian::Big => read_in::<BigEndian>(alloc, capture, format.unit),
+        Endian::Little => read_in::<LittleEndian>(alloc, capture, format.unit),
+    };
+    match read {
+        Ok(found) => Ok(found),
+        Err(_) => Err(PcapFault::OutOfMemory),
     }
 }
