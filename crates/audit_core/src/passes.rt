@@ -28,14 +28,7 @@ pub fn one_pass(alloc: Global, frames: &[Frame]) -> Result<Vec<Finding>, AllocEr
         say_local(&mut found, &previous.of(frame.side), frame)?;
         let initial = settings.initial();
         let change = settings.meet(frame)?;
-        let ack = Finding::at(
-            Kind::UnmatchedAck,
-            frame.number,
-            frame.stream,
-            frame.side,
-            0,
-        );
-        say_if(&mut found, takes_nothing(frame, &change), ack)?;
+        say_unmatched(&mut found, frame, &change)?;
         let opens = streams.opens(frame);
         let item = Item {
             frame: *frame,
@@ -51,12 +44,27 @@ pub fn one_pass(alloc: Global, frames: &[Frame]) -> Result<Vec<Finding>, AllocEr
     Ok(found)
 }
 
-ghost use Rattle.std.specs.Prelude.{◌&&◌, is_none};
-ghost use Rattle.audit_terms.specs.Frame.{is_ack};
+ghost use Rattle.std.specs.Prelude.{◌++◌, ◌&&◌, is_none, pos, OnOk};
+ghost use Rattle.audit_terms.specs.Frame.{IsInRange, is_ack};
+ghost use Rattle.audit_terms.specs.Finding.{finding_at, say};
 
-/// Is the frame an acknowledgement that brings no change (RFC 9113, 6.5.3)?
-fn takes_nothing(frame: &Frame, change: &Option<Change>) -> bool
-    ensures { result ≡ (is_ack frame.now.body && is_none change.now) }
+/// Adds an acknowledgement that brings no change (RFC 9113, 6.5.3).
+fn say_unmatched(
+    found: &mut Vec<Finding>,
+    frame: &Frame,
+    change: &Option<Change>,
+) -> Result<(), AllocError>
+    requires { IsInRange frame.now }
+    ensures { OnOk result (found.new.items ≡ found.old.items
+        ++ say (is_ack frame.now.body && is_none change.now)
+        (finding_at Kind.UnmatchedAck frame.now.number frame.now.stream frame.now.side (pos 0))) }
 {
-    frame.body.is_ack() && change.is_none()
+    let ack = Finding::at(
+        Kind::UnmatchedAck,
+        frame.number,
+        frame.stream,
+        frame.side,
+        0,
+    );
+    say_if(found, frame.body.is_ack() && change.is_none(), ack)
 }

@@ -142,21 +142,33 @@ impl ConnectionState {
         ensures client { (n : ℕ) → HasRoom n self.old.credit.client → HasRoom (n + 2 ^ 32) self.new.credit.client }
         ensures server { (n : ℕ) → HasRoom n self.old.credit.server → HasRoom (n + 2 ^ 32) self.new.credit.server }
     {
+        self.say_item(found, item)?;
+        let opened = self.opened_after(item);
+        let promised = self.promised_after(&item.frame);
+        self.meet_windows(found, &item.frame)?;
+        self.opened = opened;
+        self.promised = promised;
+        self.push = new_push(&item.change, self.push);
+        self.limit = limit_after(&item.change, &self.limit);
+        Ok(())
+    }
+
+    /// Adds what an item shows of the connection beside its windows.
+    fn say_item(&self, found: &mut Vec<Finding>, item: &Item) -> Result<(), AllocError>
+        requires { IsInRange item.now.frame }
+        ensures { OnOk result (found.new.items ≡ found.old.items
+            ++ length_said (new_limit item.now.change item.now.frame.side
+            (side_of item.now.frame.side self.now.limit)) item.now.frame
+            ++ push_said self.now.push item.now.frame
+            ++ opening_order_said self.now.opened item.now
+            ++ promise_order_said self.now.promised item.now.frame) }
+    {
         let frame = &item.frame;
         let limit = new_limit(&item.change, frame.side, self.limit.of(frame.side));
         say_length(found, limit, frame)?;
         say_push(found, self.push, frame)?;
         say_opening_order(found, self.opened, item)?;
-        say_promise_order(found, self.promised, frame)?;
-        let opened = self.opened_after(item);
-        let promised = self.promised_after(frame);
-        let push = new_push(&item.change, self.push);
-        self.meet_windows(found, frame)?;
-        self.opened = opened;
-        self.promised = promised;
-        self.push = push;
-        self.limit = limit_after(&item.change, &self.limit);
-        Ok(())
+        say_promise_order(found, self.promised, frame)
     }
 
     /// The greatest stream that the client opened so far, after an item.

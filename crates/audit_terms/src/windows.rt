@@ -1,4 +1,4 @@
-ghost use Rattle.std.specs.Prelude.{◌≡◌, ℕ, ◌+◌, ◌-◌, ◌^◌, ◌<◌, ◌≤◌, ◌++◌, pos, neg_ℤ, ◌≤ℤ◌, if◌then◌else◌, IfOk, OnOk};
+ghost use Rattle.std.specs.Prelude.{◌≡◌, ℕ, ◌+◌, ◌-◌, ◌^◌, ◌<◌, ◌≤◌, ◌++◌, pos, neg_ℤ, ◌≤ℤ◌, ◌+ℤ◌, ◌-ℤ◌, if◌then◌else◌, IfOk, OnOk};
 ghost use Rattle.std.specs.Option.{ForSome};
 ghost use Rattle.audit_terms.specs.Sides.{side_of};
 ghost use Rattle.audit_terms.specs.Change.{new_initial};
@@ -261,7 +261,15 @@ fn count(side: Side, stream: u32, initial: &Sides<u32>, step: &Step, before: &i6
     let new = new_initial(&step.change, side, old);
     Count {
         before: *before,
-        after: *before + i64::from(granted) - i64::from(content) + i64::from(new) - i64::from(old),
+        after: *before + moved(granted, content, new, old),
         content,
     }
+}
+
+/// What a step moves a live window by, in bytes: what is granted, less what is sent, and the new initial window minus
+/// the old.
+fn moved(granted: u32, content: u32, new: u32, old: u32) -> i64
+    ensures { result ≡ (pos granted -ℤ pos content) +ℤ (pos new -ℤ pos old) }
+{
+    i64::from(granted) - i64::from(content) + (i64::from(new) - i64::from(old))
 }

@@ -1,2 +1,3 @@
 pub mod WaitingLemmas
 pub mod OrderLemmas
+pub mod FrameByFrame

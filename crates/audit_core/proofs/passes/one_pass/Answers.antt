@@ -1,9 +1,8 @@
-use Rattle.std.proofs.Common.{◌≡◌, pos, ◌+◌, ◌-◌, ◌*◌, ◌^◌, ◌++◌, drop, get_or, refl, sym, ap, ◌∙◌, subst, arith, Option}
+use Rattle.std.proofs.Common.{◌≡◌, pos, ◌+◌, ◌-◌, ◌*◌, ◌^◌, drop, get_or, refl, sym, ap, ◌∙◌, subst, arith, Option}
 use Rattle.std.specs.List.{list_any}
 use Rattle.std.proofs.lemmas.List.{drop_all}
 use Rattle.std.proofs.lemmas.Int.{ints}
 use Rattle.audit_terms.specs.declared.sides.Sides.{Sides}
-use Rattle.audit_terms.specs.declared.kinds.Kind.TheVariants.{UnmatchedAck}
 use Rattle.audit_terms.specs.declared.frames.Frame.{Frame}
 use Rattle.audit_terms.specs.declared.items.Item.{Item}
 use Rattle.audit_terms.specs.declared.connections.ConnectionState.{ConnectionState}
@@ -14,9 +13,9 @@ use Rattle.audit_terms.specs.InForce.{InForce, in_force_after, change_of}
 use Rattle.audit_terms.specs.Connection.{connection_after}
 use Rattle.audit_core.specs.code.StreamTable.{IsOfAcknowledgement, RowsFit, row_opens}
 use Rattle.audit_core.proofs.Acknowledgements.{change_of-acknowledged}
-use Rattle.audit_terms.specs.Finding.{finding_at, say, upto_stop}
+use Rattle.audit_terms.specs.Finding.{upto_stop}
 use Rattle.audit_terms.specs.Pass.{pass_start, next, streams_of, item_of}
-use Rattle.audit_core.proofs.OrderlyRest.{in_range-get_or, number-get_or, stream-get_or, length-orderly, drop-next}
+use Rattle.audit_core.proofs.OrderlyRest.{in_range-get_or, number-get_or, length-orderly, drop-next}
 use Rattle.audit_terms.proofs.Bounds.{room-wider}
 use Rattle.audit_core.proofs.OneRow.{all_fit-wider}
 use Rattle.audit_core.proofs.PassOrder.{streams-streams_of}
@@ -52,11 +51,8 @@ loop-frame-init c =
 pub say_local-requires : goal.say_local-requires
 say_local-requires c = in_range-get_or 0 c.args.frames.now c.loop-frame.frame-index _ c.requires c.loop-frame-test.true
 
-pub at-ack-requires-clause-numbered : goal.at-ack-requires-clause-numbered
-at-ack-requires-clause-numbered c = number-get_or 0 c.args.frames.now c.loop-frame.frame-index _ c.requires c.loop-frame-test.true
-
-pub at-ack-requires-clause-streamed : goal.at-ack-requires-clause-streamed
-at-ack-requires-clause-streamed c = stream-get_or 0 c.args.frames.now c.loop-frame.frame-index _ c.requires c.loop-frame-test.true
+pub say_unmatched-requires : goal.say_unmatched-requires
+say_unmatched-requires c = in_range-get_or 0 c.args.frames.now c.loop-frame.frame-index _ c.requires c.loop-frame-test.true
 
 pub meet-requires-in-loop-frame-clause-frame : goal.meet-requires-in-loop-frame-clause-frame
 meet-requires-in-loop-frame-clause-frame c = in_range-get_or 0 c.args.frames.now c.loop-frame.frame-index _ c.requires c.loop-frame-test.true
@@ -117,13 +113,10 @@ loop-frame-preserved c =
           (parts-more old.state frame names c.initial-initial.result c.in_ok-change.change rows initial change old.table
           c.of-in-loop-frame.result c.loop-frame.connection met
           (c.of-in-loop-frame.ensures ∙ ap (λ (p : Sides (Option Frame)). side_of frame.side p) old.previous) old.connection item
-          c.loop-frame.found.items c.say_local.new.found.items c.say_if.new.found.items c.meet-in-loop-frame.new.found.items
+          c.loop-frame.found.items c.say_local.new.found.items c.say_unmatched.new.found.items c.meet-in-loop-frame.new.found.items
           c.meet-in-loop-frame-2.new.found.items
           c.in_ok-say_local.ensures
-          (c.in_ok-say_if.ensures.ok
-          ∙ ap (λ x. c.say_local.new.found.items ++ say c.takes_nothing.result x) c.at-ack.ensures
-          ∙ ap (λ b. c.say_local.new.found.items ++ say b (finding_at UnmatchedAck frame.number frame.stream frame.side (pos 0)))
-          c.takes_nothing.ensures)
+          c.in_ok-say_unmatched.ensures
           c.in_ok-meet.ensures.said c.in_ok-meet-2.ensures.said)
           old.rows;
       client_paired = c.in_ok-change.ensures.client;
