@@ -9,7 +9,7 @@ use Rattle.audit_terms.specs.declared.sides.Side.TheVariants.{Client, Server}
 use Rattle.audit_terms.specs.declared.sides.Sides.{Sides}
 use Rattle.audit_terms.specs.declared.kinds.Kind.TheVariants.{NotOpened, AfterEnd, ZeroStreamGrant, SettingOverflow, StreamOverrun, StreamOverflow, StreamStallEnd, StreamStallBegin, StreamCredit}
 use Rattle.audit_terms.specs.declared.frames.Body.{Body}
-use Rattle.audit_terms.specs.declared.frames.Body.TheVariants.{Content, WindowUpdate}
+use Rattle.audit_terms.specs.declared.frames.Body.TheVariants.{Content, Headers, WindowUpdate}
 use Rattle.audit_terms.specs.declared.frames.Frame.{Frame}
 use Rattle.audit_terms.specs.declared.items.Change.{Change}
 use Rattle.audit_terms.specs.declared.items.Step.{Step}
@@ -80,7 +80,7 @@ module _ (stream : ℕ) (frame : Frame) where
 
   content-moves : (side : Side) (opened : Option ℕ) (client server : Bool) → is_some opened ≡ true
       → is_after_end (life_of opened client server) (content side) ≡ false → sends_end side (content side) ≡ false
-      → HasRoom (2 ^ 32) (pos 0 -ℤ pos frame.length) → IsMove stream (life_of opened client server) (content side) (sent (content side))
+      → HasRoom (2 ^ 32) (sent (content side)).amount → IsMove stream (life_of opened client server) (content side) (sent (content side))
   content-moves side None client server some late end small = cc
   content-moves Client (Some n) client server some late end small = record {
     opens = refl;
@@ -104,6 +104,46 @@ module _ (stream : ℕ) (frame : Frame) where
     goes_on = λ d. content-goes_on Server d end;
     amount = refl;
     within = λ before left. no-overrun before frame.length left;
+    other_grant = same-if (frame.stream == stream);
+    other_content = refl;
+    small = small;
+  }
+
+  abbrev headers : Side → Frame
+  headers side = record frame { side = side; body = Headers }
+
+  headers-goes_on : (side d : Side) → sends_end side (headers side) ≡ false → ends_window d (headers side) ≡ false
+  headers-goes_on Client Client e = or-false _ ∙ e
+  headers-goes_on Client Server e = refl
+  headers-goes_on Server Client e = refl
+  headers-goes_on Server Server e = or-false _ ∙ e
+
+  headers-moves : (side : Side) (opened : Option ℕ) (client server : Bool) → is_some opened ≡ true
+      → is_after_end (life_of opened client server) (headers side) ≡ false → sends_end side (headers side) ≡ false
+      → HasRoom (2 ^ 32) (sent (headers side)).amount → IsMove stream (life_of opened client server) (headers side) (sent (headers side))
+  headers-moves side None client server some late end small = cc
+  headers-moves Client (Some n) client server some late end small = record {
+    opens = refl;
+    kept = kept-by n client server _ _ (or-false _ ∙ or-false _ ∙ end) refl;
+    opened = refl;
+    in_time = late;
+    grants = refl;
+    goes_on = λ d. headers-goes_on Client d end;
+    amount = refl;
+    within = λ before left. refl;
+    other_grant = same-if (frame.stream == stream);
+    other_content = refl;
+    small = small;
+  }
+  headers-moves Server (Some n) client server some late end small = record {
+    opens = refl;
+    kept = kept-by n client server _ _ refl (or-false _ ∙ or-false _ ∙ end);
+    opened = refl;
+    in_time = late;
+    grants = refl;
+    goes_on = λ d. headers-goes_on Server d end;
+    amount = refl;
+    within = λ before left. refl;
     other_grant = same-if (frame.stream == stream);
     other_content = refl;
     small = small;
@@ -161,7 +201,21 @@ content-move stream life frame one b some late end is small =
     (content-moves stream frame frame.side life.opened life.ended.client life.ended.server some
     (subst (λ (f : Frame). is_after_end life f ≡ false) same late)
     (subst (λ (f : Frame). sends_end f.side f ≡ false) same end)
-    (subst (λ (m : Move). HasRoom (2 ^ 32) m.amount) is small)))
+    (subst (λ (f : Frame). HasRoom (2 ^ 32) (sent f).amount) same
+    (subst (λ (m : Move). HasRoom (2 ^ 32) m.amount) is small))))
+
+pub headers-move : (stream : ℕ) (life : StreamLife) (frame : Frame) (one : Move) → frame.body ≡ Headers
+    → is_some life.opened ≡ true → is_after_end life frame ≡ false → sends_end frame.side frame ≡ false → one ≡ sent frame
+    → HasRoom (2 ^ 32) one.amount → IsMove stream life frame one
+headers-move stream life frame one b some late end is small =
+    let same : frame ≡ record frame { body = Headers } = ap (λ (body : Body). record frame { body = body }) b in
+    subst (IsMove stream life frame) (sym is)
+    (subst (λ (f : Frame). IsMove stream life f (sent f)) (sym same)
+    (headers-moves stream frame frame.side life.opened life.ended.client life.ended.server some
+    (subst (λ (f : Frame). is_after_end life f ≡ false) same late)
+    (subst (λ (f : Frame). sends_end f.side f ≡ false) same end)
+    (subst (λ (f : Frame). HasRoom (2 ^ 32) (sent f).amount) same
+    (subst (λ (m : Move). HasRoom (2 ^ 32) m.amount) is small))))
 
 pub update-move : (stream : ℕ) (life : StreamLife) (frame : Frame) (one : Move) (increment : ℕ) → frame.body ≡ WindowUpdate increment
     → is_some life.opened ≡ true → frame.stream ≡ stream → 0 < increment → one ≡ granted frame increment

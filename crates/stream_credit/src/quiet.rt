@@ -1,5 +1,5 @@
-//! Frames that show nothing of a stream where credits are not shown: DATA and grants that move one window of an open
-//! stream, and no more. Most frames are of this kind, so a run meets them without a step.
+//! Frames that show nothing of a stream where credits are not shown: DATA, HEADERS and grants that move one window of
+//! an open stream, and no more. Most frames are of this kind, so a run meets them without a step.
 
 ghost use Rattle.std.specs.Prelude.{◌≡◌, ℕ, ◌^◌, ◌<◌, false};
 ghost use Rattle.std.specs.Option.{ForSome};
@@ -20,7 +20,7 @@ pub(crate) struct Move {
     amount: i64,
 }
 
-/// What a frame moves, if it is DATA or a grant that does nothing else to an open stream.
+/// What a frame moves, if it is DATA, HEADERS or a grant that does nothing else to an open stream.
 pub(crate) fn move_of(stream: u32, life: &StreamLife, frame: &Frame) -> Option<Move>
     ensures { ForSome result (IsMove stream life.now frame.now) }
 {
@@ -29,12 +29,13 @@ pub(crate) fn move_of(stream: u32, life: &StreamLife, frame: &Frame) -> Option<M
     }
     match frame.body {
         Body::Content => sent(life, frame),
+        Body::Headers => sent(life, frame),
         Body::WindowUpdate(increment) => granted(stream, frame, increment),
         _ => None,
     }
 }
 
-/// What DATA moves, unless it is its side's last or comes after that (RFC 9113, 5.1).
+/// What DATA moves, and HEADERS by 0, unless it is its side's last or comes after that (RFC 9113, 5.1).
 fn sent(life: &StreamLife, frame: &Frame) -> Option<Move>
     ensures moves { ForSome result (λ one. one ≡ sent frame.now) }
     ensures small { ForSome result (λ one. HasRoom (2 ^ 32) one.amount) }
@@ -46,7 +47,7 @@ fn sent(life: &StreamLife, frame: &Frame) -> Option<Move>
     }
     Some(Move {
         side: frame.side,
-        amount: -i64::from(frame.length),
+        amount: -i64::from(frame.content_by(frame.side)),
     })
 }
 

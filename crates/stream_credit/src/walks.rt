@@ -176,6 +176,9 @@ impl Walk {
         ensures initial { IfOk result (λ goes_on. OnTrue goes_on
             (self.new.initial ≡ after_changes self.old.initial passed.entry.changes.now)) }
     {
+        if passed.changes.is_empty() {
+            return Ok(true);
+        }
         if self.is_live() {
             return self.meet_each(look, passed.changes);
         }

@@ -12,9 +12,9 @@ use Rattle.audit_terms.specs.Window.{is_used_up, overflows, overruns}
 use Rattle.audit_terms.specs.code.Room.{HasRoom}
 use Rattle.stream_credit.specs.declared.quiet.Move.{Move}
 
--- what DATA moves
+-- what DATA moves, and HEADERS by 0
 abbrev pub sent : Frame → Move
-sent frame = record { side = frame.side; amount = pos 0 -ℤ pos frame.length }
+sent frame = record { side = frame.side; amount = pos 0 -ℤ pos (content_by frame.side frame) }
 
 -- what a WINDOW_UPDATE moves
 abbrev pub granted : Frame → (increment : ℕ) → Move
