@@ -18,9 +18,9 @@ use Rattle.stream_credit.specs.declared.left.Left.{Left}
 use Rattle.stream_credit.specs.declared.walks.Walk.{Walk}
 use Rattle.stream_credit.specs.Part.{frames_at}
 use Rattle.stream_credit.specs.code.Left.{after_changes, passed, left_from, change_at, left_after, IsInForce}
-use Rattle.stream_credit.specs.code.Merged.{merged}
+use Rattle.stream_credit.specs.code.Merged.{merged, frame_with}
 use Rattle.stream_credit.specs.code.Walk.{numbers_of, WholeRun, IsAt, IsAtChanges, IsSound}
-use Rattle.stream_credit.proofs.MergedLemmas.{frame_with, merged_at-passed, merged_at-own}
+use Rattle.stream_credit.proofs.MergedLemmas.{merged_at-passed, merged_at-own}
 use Rattle.stream_credit.proofs.LeftLemmas.{passed-before, orderly-before, orderly-left_from, orderly-left_after, acknowledge-left_from, acknowledge-left_after, own-acknowledged}
 use Rattle.stream_credit.proofs.WalkLemmas.{fall-from, change_numbers, numbers-changes}
 

@@ -3,5 +3,6 @@ pub mod LeftLemmas
 pub mod SaidNumbers
 pub mod SilentLemmas
 pub mod WalkLemmas
+pub mod QuietLemmas
 pub mod FrameLemmas
 pub mod RunLemmas

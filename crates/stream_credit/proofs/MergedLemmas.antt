@@ -1,5 +1,5 @@
 -- The forward walk gives the steps of the definition; it takes out the changes before a frame, then the frame.
-use Rattle.std.proofs.Common.{◌≡◌, ℕ, ◌+◌, ◌<◌, ◌≤◌, All, Bool, true, false, nat_lt, nat_eq, ◌==◌, if◌then◌else◌, List, [], ◌∷◌, ◌++◌, map, Option, Some, refl, sym, ap, ◌∙◌, ◌⊎◌, inl, inr, arith}
+use Rattle.std.proofs.Common.{◌≡◌, ℕ, ◌+◌, ◌<◌, ◌≤◌, All, Bool, true, false, nat_lt, nat_eq, ◌==◌, if◌then◌else◌, List, [], ◌∷◌, ◌++◌, map, refl, sym, ap, ◌∙◌, ◌⊎◌, inl, inr, arith}
 use Rattle.std.specs.List.{AllByRecursion}
 use Rattle.std.proofs.lemmas.List.Elements.{recursion_from_All}
 use Rattle.std.proofs.lemmas.Bool.{cases_order}
@@ -10,7 +10,7 @@ use Rattle.audit_terms.specs.declared.items.Step.{Step}
 use Rattle.audit_terms.specs.Run.{frame_step, change_step, with_change, steps_of}
 use Rattle.settings_pair.specs.Changes.{AreOrderlyFrom, AreAcknowledged}
 use Rattle.stream_credit.specs.code.Left.{passed, left_from, change_at, left_after}
-use Rattle.stream_credit.specs.code.Merged.{joined_step, merged_at, merged, AcknowledgesAt, Acknowledge}
+use Rattle.stream_credit.specs.code.Merged.{joined_step, frame_with, merged_at, merged, AcknowledgesAt, Acknowledge}
 
 -- ---- the tests on two numbers, by their order
 
@@ -113,10 +113,6 @@ merged_at-passed frame after (change ∷ changes) =
           rw (e, unequal_test frame.number change.number (λ same. absurd (omega (arith, under, same))))
           (ap (λ steps. change_step change ∷ steps) others)
       by_test false e others = rw (e, e) refl
-
--- a frame with what it brings
-abbrev pub frame_with : Frame → Option Change → Step
-frame_with frame change = record { number = frame.number; frame = Some frame; change = change }
 
 pub merged_at-own : (frame : Frame) (after : List Change → List Step) (changes : List Change) → AreOrderlyFrom frame.number changes
     → merged_at frame after changes

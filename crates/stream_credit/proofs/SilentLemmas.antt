@@ -25,29 +25,29 @@ use Rattle.stream_credit.specs.code.Walk.{IsCounted}
 
 -- ---- findings that are not shown
 
-abbrev IsUnshown : Finding → Type 0
+abbrev pub IsUnshown : Finding → Type 0
 IsUnshown found = is_shown false found ≡ false
 
-abbrev AreUnshown : List Finding → Type 0
+abbrev pub AreUnshown : List Finding → Type 0
 AreUnshown found = AllByRecursion IsUnshown found
 
-both : (xs ys : List Finding) → AreUnshown xs → AreUnshown ys → AreUnshown (xs ++ ys)
+pub both : (xs ys : List Finding) → AreUnshown xs → AreUnshown ys → AreUnshown (xs ++ ys)
 both xs ys p q = each-append IsUnshown xs ys p q
 
-parts : (a b c d e f : List Finding) → AreUnshown a → AreUnshown b → AreUnshown c → AreUnshown d → AreUnshown e → AreUnshown f
+pub parts : (a b c d e f : List Finding) → AreUnshown a → AreUnshown b → AreUnshown c → AreUnshown d → AreUnshown e → AreUnshown f
     → AreUnshown (((((a ++ b) ++ c) ++ d) ++ e) ++ f)
 parts a b c d e f pa pb pc pd pe pf =
     both ((((a ++ b) ++ c) ++ d) ++ e) f (both (((a ++ b) ++ c) ++ d) e (both ((a ++ b) ++ c) d (both (a ++ b) c (both a b pa pb) pc) pd) pe) pf
 
-unsaid : (holds : Bool) (found : Finding) → holds ≡ false → AreUnshown (say holds found)
+pub unsaid : (holds : Bool) (found : Finding) → holds ≡ false → AreUnshown (say holds found)
 unsaid true found h = cc
 unsaid false found h = tt
 
-said-unshown : (holds : Bool) (found : Finding) → IsUnshown found → AreUnshown (say holds found)
+pub said-unshown : (holds : Bool) (found : Finding) → IsUnshown found → AreUnshown (say holds found)
 said-unshown true found h = (h, tt)
 said-unshown false found h = tt
 
-none-shown : (found : List Finding) → AreUnshown found → shown false found ≡ []
+pub none-shown : (found : List Finding) → AreUnshown found → shown false found ≡ []
 none-shown [] h = refl
 none-shown (x ∷ xs) h = rw (h.0) (none-shown xs h.1)
 
@@ -62,17 +62,17 @@ moved_to d initial change credit = moved (side_of d initial) (new_initial change
 nothing-added : (credit : ℤ) (before after : ℕ) → credit +ℤ ((pos 0 -ℤ pos 0) +ℤ (pos after -ℤ pos before)) ≡ moved before after credit
 nothing-added credit before after = omega (arith, ints)
 
-never-both : (a b : Bool) → a ≡ b → (a && not b) ≡ false
+pub never-both : (a b : Bool) → a ≡ b → (a && not b) ≡ false
 never-both true true e = refl
 never-both true false e = cc
 never-both false b e = refl
 
-never-other : (a b : Bool) → a ≡ b → (not a && b) ≡ false
+pub never-other : (a b : Bool) → a ≡ b → (not a && b) ≡ false
 never-other true b e = refl
 never-other false true e = cc
 never-other false false e = refl
 
-and-false : (a b : Bool) → b ≡ false → (a && b) ≡ false
+pub and-false : (a b : Bool) → b ≡ false → (a && b) ≡ false
 and-false true b e = e
 and-false false b e = refl
 

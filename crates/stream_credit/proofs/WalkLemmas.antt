@@ -1,7 +1,8 @@
 -- A walk meets steps as the definition does, looks between them, and stops before one that lies past.
-use Rattle.std.proofs.Common.{◌≡◌, ℕ, ℤ, ◌+◌, ◌-◌, ◌*◌, ◌^◌, ◌<◌, ◌≤◌, ◌⊎◌, inl, inr, Bool, true, false, ◌&&◌, ◌||◌, if◌then◌else◌, List, [], ◌∷◌, ◌++◌, append_assoc, length-append, map, drop, length, slice_index_or, Option, Some, None, is_some, is_none, refl, sym, ap, ◌∙◌, subst, arith}
+use Rattle.std.proofs.Common.{◌≡◌, ℕ, ℤ, ◌+◌, ◌-◌, ◌*◌, ◌^◌, ◌<◌, ◌≤◌, ◌⊎◌, inl, inr, Bool, true, false, ◌==◌, ◌&&◌, ◌||◌, if◌then◌else◌, List, [], ◌∷◌, ◌++◌, append_assoc, length-append, map, drop, length, slice_index_or, Option, Some, None, is_some, is_none, refl, sym, ap, ◌∙◌, subst, arith}
 use Rattle.std.specs.List.{AllByRecursion}
 use Rattle.std.specs.Option.{option_map_or}
+use Rattle.std.proofs.lemmas.Bool.{eqb-true}
 use Rattle.std.proofs.lemmas.Bool.Decides.{nat_tests}
 use Rattle.std.proofs.lemmas.Int.{ints}
 use Rattle.std.proofs.lemmas.List.{drop_more}
@@ -388,6 +389,12 @@ module _ {L : Type 0} (answers : L → List Finding → Option ℕ → L → Typ
               watches = subst (λ l. Watches answers run.start before run.found h.at.met l old.watch)
                   (met-passed old changes dead rest) h.at.watches;
             }
+
+pub nothing-left : (changes : List Change) → true ≡ (length changes == 0) → changes ≡ []
+nothing-left [] e = refl
+nothing-left (change ∷ changes) e =
+    let none : length (change ∷ changes) ≡ 0 = eqb-true (length (change ∷ changes)) 0 (sym e) in
+    absurd (omega (arith, none))
 
 -- a walk before some changes comes to be before those that are left
 abbrev pub MeetsChanges : {L : Type 0} → (L → List Finding → Option ℕ → L → Type 0) → (before : L) → Walk → List Change

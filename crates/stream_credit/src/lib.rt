@@ -13,6 +13,8 @@
 //! - The looks are made in time, so many and no other (`IsRun`): before the first step, and then before each 256th
 //!   more. A run that meets all its steps says that it is whole, and keeps all. One that ends early keeps what lies up
 //!   to its last answer; it cuts once, since a later answer may be lower than what was found before it.
+//! - Where credits are not shown, frames and changes that only move windows, without a stall or an overflow, are
+//!   counted without a list of findings.
 //! - No sum wraps, for any increments and settings that a frame can hold: 2^28 steps of less than 2^32 fit a signed
 //!   word.
 //! - [`worked_examples`] are short runs of the definitions: windows below zero, settings that reach open and later
@@ -22,14 +24,15 @@
 //! `settings_pair` gives them.
 //!
 //! Wrong bodies that the prover refuses: settings that reach open streams only, a run that never looks, looks once or
-//! looks ahead of its work, one that leaves out all once it is stopped. Tested, in `crate_tests`: that `stream_run`
-//! succeeds where there is memory.
+//! looks ahead of its work, one that leaves out all once it is stopped, one that counts a side's last DATA as any
+//! other. Tested, in `crate_tests`: that `stream_run` succeeds where there is memory.
 #![tactic(auto)]
 
 mod changes;
 mod ends;
 mod left;
 mod parts;
+mod quiet;
 mod runs;
 mod silent;
 mod walks;

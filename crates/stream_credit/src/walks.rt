@@ -8,11 +8,13 @@ ghost use Rattle.audit_terms.specs.Run.{change_step};
 ghost use Rattle.audit_terms.specs.Stream.{IsAcknowledged, idle_stream, initial_after, stream_after};
 ghost use Rattle.audit_terms.specs.code.Watch.{Watches, NeverFallFrom};
 ghost use Rattle.stream_credit.specs.Looks.{is_live, is_met};
+ghost use Rattle.stream_credit.specs.code.Merged.{frame_with};
 ghost use Rattle.stream_credit.specs.code.Left.{after_changes, IsInForce};
 ghost use Rattle.stream_credit.specs.code.Walk.{IsCounted, HasRoomAt, WholeRun, IsAt, IsAtChanges, IsSound, HasStopped};
 
 use crate::changes::FIRST_WINDOWS;
 use crate::left::Left;
+use crate::quiet::{move_of, moved_quietly};
 use crate::silent::{is_silent, moved};
 use audit_terms::{
     Change, Finding, Frame, Look, Sides, Step, Stream, Watch, initial_after, keep_shown,
@@ -174,6 +176,9 @@ impl Walk {
         ensures initial { IfOk result (λ goes_on. OnTrue goes_on
             (self.new.initial ≡ after_changes self.old.initial passed.entry.changes.now)) }
     {
+        if passed.changes.is_empty() {
+            return Ok(true);
+        }
         if self.is_live() {
             return self.meet_each(look, passed.changes);
         }
@@ -234,14 +239,75 @@ impl Walk {
             return Ok(false);
         }
         let change = left.take(frame.number);
-        self.meet(
-            look,
-            &Step {
-                number: frame.number,
-                frame: Some(*frame),
-                change,
-            },
-        )
+        self.meet_with(look, frame, &change)
+    }
+
+    /// Meets a frame and the change that it brings, if it brings one, under the same conditions as any step.
+    fn meet_with<L: Look>(
+        &mut self,
+        look: &mut L,
+        frame: &Frame,
+        change: &Option<Change>,
+    ) -> Result<bool, AllocError>
+        requires numbered { frame.now.number ≤ 2 ^ 28 - 2 }
+        requires acknowledged { IsAcknowledged (frame_with frame.now change.now) }
+        requires at { (run : WholeRun L) × (rest : List Step)
+            × IsAt L.answers run look.old self.old frame.now.number (frame_with frame.now change.now ∷ rest) }
+        ensures goes_on { IfOk result (λ goes_on. OnTrue goes_on ((run : WholeRun L) (rest : List Step)
+            → IsAt L.answers run look.old self.old frame.now.number (frame_with frame.now change.now ∷ rest)
+            → IsAt L.answers run look.new self.new (frame.now.number + 1) rest)) }
+        ensures stops { IfOk result (λ goes_on. OnFalse goes_on ((run : WholeRun L) (rest : List Step)
+            → IsAt L.answers run look.old self.old frame.now.number (frame_with frame.now change.now ∷ rest)
+            → HasStopped L.answers run look.new self.new)) }
+        ensures initial { IfOk result (λ goes_on. OnTrue goes_on
+            (self.new.initial ≡ initial_after change.now self.old.initial)) }
+    {
+        let found = self.found.as_slice();
+        if !self.watch.goes_on(look, found, frame.number) {
+            return Ok(false);
+        }
+        self.count_frame(frame, change)?;
+        Ok(true)
+    }
+
+    /// Counts a frame and the change that it brings, if it brings one, and adds what they show.
+    fn count_frame(&mut self, frame: &Frame, change: &Option<Change>) -> Result<(), AllocError>
+        requires numbered { frame.now.number ≤ 2 ^ 28 - 2 }
+        requires streamed { self.old.stream < 2 ^ 31 }
+        requires acknowledged { IsAcknowledged (frame_with frame.now change.now) }
+        requires room { HasRoomAt frame.now.number self.old.entry }
+        ensures counted { OnOk result (IsCounted self.old (frame_with frame.now change.now) self.new) }
+        ensures room { OnOk result (HasRoomAt (frame.now.number + 1) self.new.entry) }
+    {
+        if self.count_quiet(frame, change) {
+            return Ok(());
+        }
+        self.count_shown(&Step {
+            number: frame.number,
+            frame: Some(*frame),
+            change: *change,
+        })
+    }
+
+    /// Counts a frame of which nothing is shown and that brings no change, if it is one, and answers whether it is.
+    fn count_quiet(&mut self, frame: &Frame, change: &Option<Change>) -> bool
+        requires numbered { frame.now.number ≤ 2 ^ 28 - 2 }
+        requires room { HasRoomAt frame.now.number self.old.entry }
+        ensures counted { OnTrue result (IsCounted self.old (frame_with frame.now change.now) self.new) }
+        ensures room { OnTrue result (HasRoomAt (frame.now.number + 1) self.new.entry) }
+        ensures otherwise { OnFalse result (self.new ≡ self.old) }
+    {
+        if self.credits_shown || change.is_some() {
+            return false;
+        }
+        let Some(one) = move_of(self.stream, &self.entry.life, frame) else {
+            return false;
+        };
+        let Some(windows) = moved_quietly(&self.entry.window, &one) else {
+            return false;
+        };
+        self.entry.window = windows;
+        true
     }
 }
 

@@ -1,5 +1,5 @@
 -- The steps of a stream by one forward walk over its frames and the connection's changes.
-use Rattle.std.specs.Prelude.{◌≡◌, true, ◌==◌, nat_lt, if◌then◌else◌, List, [], ◌∷◌, map, Some}
+use Rattle.std.specs.Prelude.{◌≡◌, true, ◌==◌, nat_lt, if◌then◌else◌, List, [], ◌∷◌, map, Option, Some}
 use Rattle.std.specs.List.{AllByRecursion}
 use Rattle.audit_terms.specs.declared.frames.Frame.{Frame}
 use Rattle.audit_terms.specs.declared.items.Change.{Change}
@@ -10,6 +10,10 @@ use Rattle.audit_terms.specs.Run.{frame_step, change_step}
 -- a frame with the change that it brings
 abbrev pub joined_step : Frame → Change → Step
 joined_step frame change = record { number = frame.number; frame = Some frame; change = Some change }
+
+-- a frame with the change that it brings, if it brings one
+abbrev pub frame_with : Frame → Option Change → Step
+frame_with frame change = record { number = frame.number; frame = Some frame; change = change }
 
 -- the steps of a frame, of those after it and of some changes, where `after` gives the steps of those after it
 abbrev pub merged_at : Frame → (after : List Change → List Step) → List Change → List Step

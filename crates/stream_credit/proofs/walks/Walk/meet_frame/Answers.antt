@@ -15,14 +15,14 @@ returns-then-not-branch-clause-stops g c = λ run frames h.
     (frame-changes g.L.Look.answers run c.args.look.now c.args.self.now c.args.left.now c.args.frame.now frames h
     c.pass-passed.result.changes.now c.pass-passed.ensures.passed)
 
-pub meet-requires-clause-acknowledged : goal.meet-requires-clause-acknowledged
-meet-requires-clause-acknowledged g c =
+pub meet_with-requires-clause-acknowledged : goal.meet_with-requires-clause-acknowledged
+meet_with-requires-clause-acknowledged g c =
     let r = c.requires in
     frame-acknowledged g.L.Look.answers r.0 c.args.look.now c.args.self.now c.args.left.now c.args.frame.now r.1 r.2
     c.pass-passed.new.self.changes.now c.take-change.result c.pass-passed.ensures.left c.take-change.ensures.change
 
-pub meet-requires-clause-at : goal.meet-requires-clause-at
-meet-requires-clause-at g c =
+pub meet_with-requires-clause-at : goal.meet_with-requires-clause-at
+meet_with-requires-clause-at g c =
     let r = c.requires in
     frame-meets g.L.Look.answers r.0 c.args.look.now c.args.self.now c.args.left.now c.args.frame.now r.1 r.2
     c.meet_changes.new.look c.meet_changes.new.self c.pass-passed.new.self.changes.now c.take-change.result
@@ -33,12 +33,12 @@ meet-requires-clause-at g c =
 
 pub returns-clause-goes_on : goal.returns-clause-goes_on
 returns-clause-goes_on g c =
-    goes-tail_both c.meet.result _ _ _
+    goes-tail_both c.meet_with.result _ _ _
     (λ goes initial. λ run frames h.
     frame-sound g.L.Look.answers run c.args.look.now c.args.self.now c.args.left.now c.args.frame.now frames h
-    c.meet.new.look c.meet.new.self c.take-change.new.self c.pass-passed.new.self.changes.now
+    c.meet_with.new.look c.meet_with.new.self c.take-change.new.self c.pass-passed.new.self.changes.now
     c.pass-passed.ensures.left c.take-change.ensures.left
-    (frame-in_force c.args.self.now.initial c.meet_changes.new.self.initial c.meet.new.self.initial
+    (frame-in_force c.args.self.now.initial c.meet_changes.new.self.initial c.meet_with.new.self.initial
     c.pass-passed.result.changes.now c.take-change.result c.take-change.new.self
     (OnTrue_at c.if-not-branch.false c.in_ok-meet_changes.ensures.initial) initial
     (c.take-change.ensures.in_force _ (c.pass-passed.ensures.in_force_after c.args.self.now.initial h.in_force)))
@@ -49,11 +49,11 @@ returns-clause-goes_on g c =
     (OnTrue_at c.if-not-branch.false c.in_ok-meet_changes.ensures.goes_on run c.args.frame.now.number _
     (frame-changes g.L.Look.answers run c.args.look.now c.args.self.now c.args.left.now c.args.frame.now frames h
     c.pass-passed.result.changes.now c.pass-passed.ensures.passed)))))
-    c.meet.ensures.goes_on c.meet.ensures.initial
+    c.meet_with.ensures.goes_on c.meet_with.ensures.initial
 
 pub returns-clause-stops : goal.returns-clause-stops
 returns-clause-stops g c =
-    stops-tail c.meet.result _ _
+    stops-tail c.meet_with.result _ _
     (λ stops. λ run frames h.
     stops run (merged frames (later_changes c.args.frame.now c.args.left.now.changes.now))
     (frame-at g.L.Look.answers run c.args.look.now c.args.self.now c.args.left.now c.args.frame.now frames h
@@ -62,4 +62,4 @@ returns-clause-stops g c =
     (OnTrue_at c.if-not-branch.false c.in_ok-meet_changes.ensures.goes_on run c.args.frame.now.number _
     (frame-changes g.L.Look.answers run c.args.look.now c.args.self.now c.args.left.now c.args.frame.now frames h
     c.pass-passed.result.changes.now c.pass-passed.ensures.passed))))
-    c.meet.ensures.stops
+    c.meet_with.ensures.stops
