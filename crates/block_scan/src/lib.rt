@@ -14,9 +14,9 @@
 //! Each call that allocates answers `AllocError` only where memory runs out. Of these calls the program takes
 //! `carries`, and what a summary is; its blocks are summed by workers that draw them.
 //!
-//! Wrong bodies that the prover refuses: parts joined backwards, the first sum added for each block. Tested, in
-//! `crate_tests`: that `scan` succeeds where there is memory, for several block lengths. Trusted: the port of
-//! `rayon`.
+//! Wrong bodies that the prover refuses: the sum of one item or the state before one block left out, an item of which
+//! only one of two summaries hears. Tested, in `crate_tests`: that `scan` succeeds where there is memory, for several
+//! block lengths. Trusted: the port of `rayon`.
 #![tactic(auto)]
 
 mod blocks;

@@ -31,7 +31,7 @@ pub struct CaptureReader<R> {
 }
 
 /// A read, a write or a flush that failed, or memory for a capture's bytes that was not to be had.
-#[derive(Clone, Copy, Debug, PartialEq, Eq)]
+#[derive(Clone, Copy)]
 pub(crate) struct Failed;
 
 impl<R> CaptureReader<R> {
