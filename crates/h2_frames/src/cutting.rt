@@ -1,9 +1,10 @@
-ghost use Rattle.std.specs.Prelude.{◌≡◌, ℕ, ◌+◌, ◌<◌, ◌^◌, List, vec_len, IsTrue, IfOk, OnErr};
+ghost use Rattle.std.specs.Prelude.{◌≡◌, ℕ, ◌+◌, ◌<◌, ◌^◌, List, length, IsTrue, IfOk, OnErr};
 ghost use Rattle.tcp_streams.specs.Arrivals.{IsOrderly};
+ghost use Rattle.tcp_streams.specs.Bytes.{bytes_of};
 ghost use Rattle.h2_frames.specs.Cut.{HasOrderlyFrames, IsCut, IsHttp2Cut, IsSameCut};
 ghost use Rattle.h2_frames.specs.declared.connections.Cut.{Cut};
 ghost use Rattle.h2_frames.specs.Preface.{BeginsWithPreface};
-ghost use Rattle.h2_frames.specs.code.Pieces.{bytes_of, IsCounted};
+ghost use Rattle.h2_frames.specs.code.Pieces.{bytes_of as bytes_left, IsCounted};
 
 use crate::beginning::{Beginning, PREFACE, beginning_of};
 use crate::connections::Cut;
@@ -17,10 +18,10 @@ use tcp_streams::Flow;
 /// The frames of both sides in capture order, where `rest` follows the client's preface.
 fn http2(alloc: Global, rest: Pieces<'_>, client: &Flow, server: &Flow) -> Result<Cut, AllocError>
     requires counted { IsCounted rest }
-    requires begins { BeginsWithPreface client.now.bytes.items (bytes_of rest) }
+    requires begins { BeginsWithPreface (bytes_of client.now) (bytes_left rest) }
     requires client { IsOrderly client.now }
     requires server { IsOrderly server.now }
-    requires together { vec_len client.now.bytes + vec_len server.now.bytes < 2 ^ 31 }
+    requires together { length (bytes_of client.now) + length (bytes_of server.now) < 2 ^ 31 }
     ensures is { IfOk result (IsHttp2Cut client.now server.now) }
     ensures orderly { IfOk result HasOrderlyFrames }
 {
@@ -28,8 +29,7 @@ fn http2(alloc: Global, rest: Pieces<'_>, client: &Flow, server: &Flow) -> Resul
     let arrivals = client.arrivals.as_slice();
     let mut sent = Unread::of(alloc, Side::Client, rest, offset, arrivals)?;
     let arrivals = server.arrivals.as_slice();
-    let pieces = [server.bytes.as_slice()];
-    let answers = Pieces::of(&pieces);
+    let answers = Pieces::of(server.pieces.as_slice());
     let mut answered = Unread::of(alloc, Side::Server, answers, 0, arrivals)?;
     let frames = in_capture_order(alloc, &mut sent, &mut answered)?;
     let tails = Sides {
@@ -50,7 +50,7 @@ fn http2(alloc: Global, rest: Pieces<'_>, client: &Flow, server: &Flow) -> Resul
 pub fn cut(alloc: Global, client: &Flow, server: &Flow) -> Result<Cut, AllocError>
     requires client { IsOrderly client.now }
     requires server { IsOrderly server.now }
-    requires together { vec_len client.now.bytes + vec_len server.now.bytes < 2 ^ 31 }
+    requires together { length (bytes_of client.now) + length (bytes_of server.now) < 2 ^ 31 }
 
     // It is the cut of the two flows, and there is no other.
     ensures is { IfOk result (IsCut client.now server.now) }
@@ -61,13 +61,12 @@ pub fn cut(alloc: Global, client: &Flow, server: &Flow) -> Result<Cut, AllocErro
 
     // Memory can be wanting only where there are bytes to cut into frames.
     ensures memory { OnErr result (IsTrue server.now.started × (rest : List ℕ)
-        × BeginsWithPreface client.now.bytes.items rest) }
+        × BeginsWithPreface (bytes_of client.now) rest) }
 {
     if !server.started {
         return Ok(Cut::NoHandshake);
     }
-    let pieces = [client.bytes.as_slice()];
-    let bytes = Pieces::of(&pieces);
+    let bytes = Pieces::of(client.pieces.as_slice());
     match beginning_of(bytes) {
         Beginning::CutShort => Ok(Cut::NoPreface),
         Beginning::Other => Ok(Cut::NotHttp2),

@@ -53,7 +53,8 @@ pub fn assemble<'a>(
     // Its empty flow takes no memory, so none is wanting.
     ensures answered { initial_of connection.now side ≡ None → IsOk result }
 
-    ensures within { IfOk result (λ f. length (bytes_of f) ≤ payload_sum (side_segments packets.now connection.now side)) }
+    ensures within { IfOk result (λ f.
+        length (bytes_of f) ≤ payload_sum (side_segments packets.now connection.now side)) }
     ensures orderly { IfOk result IsOrderly }
 {
     match connection.initial_of(side) {
