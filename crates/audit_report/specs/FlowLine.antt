@@ -7,10 +7,11 @@ use Rattle.audit_terms.specs.Side.{side_name}
 use Rattle.audit_terms.specs.declared.sides.Sides.{Sides}
 use Rattle.audit_report.specs.declared.extents.Extent.{Extent}
 use Rattle.tcp_streams.specs.declared.streams.Flow.{Flow}
+use Rattle.tcp_streams.specs.Bytes.{bytes_of}
 
 -- how many bytes a flow has, and where bytes are missing, if later ones were captured
 abbrev pub extent_of : Flow → Extent
-extent_of flow = record { size = length flow.bytes.items; gap = flow.gap }
+extent_of flow = record { size = length (bytes_of flow); gap = flow.gap }
 
 -- the extents of both sides' flows
 abbrev pub extents_of : (client server : Flow) → Sides Extent

@@ -6,6 +6,7 @@ ghost use Rattle.audit_report.specs.ConnectionLine.{contents_text, roles_text, h
 ghost use Rattle.audit_report.specs.Contents.{contents_of, tail_of};
 ghost use Rattle.audit_report.specs.FlowLine.{extents_of, gap_text, flow_line};
 ghost use Rattle.audit_report.specs.Section.{connection_text};
+ghost use Rattle.tcp_streams.specs.Arrivals.{IsOrderly};
 
 use crate::endpoints::push_endpoint;
 use crate::extents::Extent;
@@ -25,6 +26,8 @@ pub fn connection_lines(
     server: &Flow,
     cut: &Cut,
 ) -> Result<Vec<u8>, AllocError>
+    requires client { IsOrderly client.now }
+    requires server { IsOrderly server.now }
     ensures { IfOk result (λ text. text.items ≡ connection_text k connection.now.client connection.now.server
         connection.now.rec (extents_of client.now server.now) (contents_of cut.now)) }
 {

@@ -14,19 +14,23 @@ pub struct Extent {
 
 impl Extent {
     ghost use Rattle.audit_report.specs.FlowLine.{extent_of, extents_of};
+    ghost use Rattle.tcp_streams.specs.Arrivals.{IsOrderly};
 
     /// The extent of one flow.
     fn of(flow: &Flow) -> Extent
+        requires { IsOrderly flow.now }
         ensures { result ≡ extent_of flow.now }
     {
         Extent {
-            size: flow.bytes.len() as u64,
+            size: flow.length(),
             gap: flow.gap,
         }
     }
 
     /// The extents of a connection's flows, which need no longer be kept for the report.
     pub fn of_both(client: &Flow, server: &Flow) -> Sides<Extent>
+        requires client { IsOrderly client.now }
+        requires server { IsOrderly server.now }
         ensures { result ≡ extents_of client.now server.now }
     {
         Sides {

@@ -1,6 +1,7 @@
 -- The frames of both sides make an HTTP/2 connection's cut.
-use Rattle.std.proofs.Common.{◌≡◌, ℕ, ◌+◌, List, length, vec_len, ap, ap₂, ◌∙◌, arith, length-append}
+use Rattle.std.proofs.Common.{◌≡◌, ℕ, ◌+◌, List, length, ap, ap₂, ◌∙◌, arith, length-append}
 use Rattle.tcp_streams.specs.declared.streams.Flow.{Flow}
+use Rattle.tcp_streams.specs.Bytes.{bytes_of}
 use Rattle.tcp_streams.specs.Arrivals.{IsOrderly}
 use Rattle.audit_terms.specs.declared.sides.Side.TheVariants.{Client, Server}
 use Rattle.audit_terms.specs.declared.sides.Sides.{Sides}
@@ -17,19 +18,17 @@ tails_of client server = record { client = client; server = server }
 
 pub http2-is : (client server : Flow) (rest : List ℕ) (sent answered all frames : List Frame)
     (sent_tail answered_tail : List ℕ) (sent_length answered_length : ℕ) →
-    BeginsWithPreface client.bytes.items rest → IsOrderly client → IsOrderly server →
+    BeginsWithPreface (bytes_of client) rest → IsOrderly client → IsOrderly server →
     AreAhead Client client.arrivals.items 1 24 rest sent sent_tail →
-    AreAhead Server server.arrivals.items 1 0 server.bytes.items answered answered_tail →
+    AreAhead Server server.arrivals.items 1 0 (bytes_of server) answered answered_tail →
     all ≡ merged sent answered → frames ≡ numbered 1 all →
     sent_length ≡ length sent_tail → answered_length ≡ length answered_tail →
     IsHttp2 client server frames (tails_of sent_length answered_length)
 http2-is client server rest sent answered all frames sent_tail answered_tail sent_length answered_length
     begins client_flow server_flow first second all_are frames_are sent_size answered_size =
-    let size : length client.bytes.items ≡ 24 + length rest = ap length begins ∙ length-append preface rest in
-    let client_length = client.bytes.ok.0 in
-    let server_length = server.bytes.ok.0 in
-    let sent_order = captured-in_order Client client.arrivals.items (vec_len client.bytes) client_flow.rises 24 first.0 rest sent_tail first.1 (omega arith) in
-    let answered_order = captured-in_order Server server.arrivals.items (vec_len server.bytes) server_flow.rises 0 second.0 server.bytes.items answered_tail second.1 (omega arith) in
+    let size : length (bytes_of client) ≡ 24 + length rest = ap length begins ∙ length-append preface rest in
+    let sent_order = captured-in_order Client client.arrivals.items (length (bytes_of client)) client_flow.rises 24 first.0 rest sent_tail first.1 (omega arith) in
+    let answered_order = captured-in_order Server server.arrivals.items (length (bytes_of server)) server_flow.rises 0 second.0 (bytes_of server) answered_tail second.1 (omega arith) in
     record {
       after_preface = rest;
       client_frames = first.0;

@@ -9,6 +9,7 @@ use Rattle.h2_frames.specs.declared.spelling.Spelled.{Spelled}
 use Rattle.h2_frames.specs.declared.unread.Unread.{Unread}
 use Rattle.h2_frames.specs.Spelling.{Makes}
 use Rattle.h2_frames.specs.CaptureOrder.{byte_arrival, captured, captured_from}
+use Rattle.h2_frames.specs.code.Pieces.{bytes_of, IsCounted}
 use Rattle.h2_frames.specs.code.Steps.{arrivals_from, IsReadable}
 use Rattle.h2_frames.specs.code.Unread.{AreAhead, IsPlaced}
 use Rattle.h2_frames.proofs.Arriving.{captured_from-from, get_or-arrivals_from, arrivals_from-not_empty, arrivals_from-rise, arrivals_from-timely, first_timely}
@@ -24,28 +25,29 @@ split_length bytes header payload later s split makes =
 
 -- the first whole frame ahead has an arrival
 pub frame_arrives : (unread : Unread) → IsPlaced unread →
-    (s : Spelled) (header payload later : List ℕ) → unread.bytes.now ≡ header ++ payload ++ later → Makes header payload s →
+    (s : Spelled) (header payload later : List ℕ) → bytes_of unread.bytes ≡ header ++ payload ++ later → Makes header payload s →
     (last : ℕ) → last ≡ unread.offset + (9 + s.header.length) - 1 → 0 < length (arrivals_from last unread.arrivals.now)
 frame_arrives unread placed s header payload later split makes last last_is =
-    let size = split_length unread.bytes.now header payload later s split makes in
+    let size = split_length (bytes_of unread.bytes) header payload later s split makes in
     let before = placed.before in
     arrivals_from-not_empty placed.low placed.rec _ last unread.arrivals.now placed.rises (omega arith) (omega arith)
 
 -- past that frame
 pub placed_after : (unread after : Unread) → IsPlaced unread →
-    (s : Spelled) (header payload later : List ℕ) → unread.bytes.now ≡ header ++ payload ++ later → Makes header payload s →
-    after.bytes.now ≡ later → after.offset ≡ unread.offset + (9 + s.header.length) →
+    (s : Spelled) (header payload later : List ℕ) → bytes_of unread.bytes ≡ header ++ payload ++ later → Makes header payload s →
+    bytes_of after.bytes ≡ later → IsCounted after.bytes → after.offset ≡ unread.offset + (9 + s.header.length) →
     after.arrivals.now ≡ arrivals_from (after.offset - 1) unread.arrivals.now → IsPlaced after
-placed_after unread after placed s header payload later split makes bytes_are offset_is arrivals_are =
-    let size = split_length unread.bytes.now header payload later s split makes in
-    let rest : length after.bytes.now ≡ length later = ap length bytes_are in
+placed_after unread after placed s header payload later split makes bytes_are counted offset_is arrivals_are =
+    let size = split_length (bytes_of unread.bytes) header payload later s split makes in
+    let rest : length (bytes_of after.bytes) ≡ length later = ap length bytes_are in
     let before = placed.before in
     let short = placed.short in
-    let rise = arrivals_from-rise placed.low placed.rec (unread.offset + length unread.bytes.now) (after.offset - 1)
+    let rise = arrivals_from-rise placed.low placed.rec (unread.offset + length (bytes_of unread.bytes)) (after.offset - 1)
     unread.arrivals.now placed.rises (omega arith) in
     let low_before : rise.0 ≤ after.offset - 1 = rise.2 in
-    let high : unread.offset + length unread.bytes.now ≡ after.offset + length after.bytes.now = omega arith in
+    let high : unread.offset + length (bytes_of unread.bytes) ≡ after.offset + length (bytes_of after.bytes) = omega arith in
     record {
+      counted = counted;
       low = rise.0;
       rec = rise.1;
       before = omega arith;

@@ -6,6 +6,7 @@ use Rattle.audit_terms.specs.declared.frames.Frame.{Frame}
 use Rattle.h2_frames.specs.declared.unread.Unread.{Unread}
 use Rattle.h2_frames.specs.CaptureOrder.{numbered}
 use Rattle.h2_frames.specs.code.Merge.{is_server_first, merged}
+use Rattle.h2_frames.specs.code.Pieces.{bytes_of}
 use Rattle.h2_frames.specs.code.Steps.{IsReadable}
 use Rattle.h2_frames.proofs.Merging.{length-numbered, numbered-orderly}
 use Rattle.audit_terms.specs.Frame.{IsOrderly}
@@ -49,13 +50,13 @@ server_taken f client server server' frames tail other next first left all = rec
       ∙ server_first f client.next client _ _ tail (rw next at first) all.client_left;
 }
 
-nothing_left : (next : Option Frame) (unread : Unread) → next ≡ None → IsNext next unread → AreLeftAfter next unread [] unread.bytes.now
+nothing_left : (next : Option Frame) (unread : Unread) → next ≡ None → IsNext next unread → AreLeftAfter next unread [] (bytes_of unread.bytes)
 nothing_left None unread e none = (refl, (refl, none))
 nothing_left (Some f) unread e none = absurd (cc)
 
 -- where the server would be first and has no frame, neither side has one
 pub none_taken : (client server : Unread) → server.next ≡ None → is_server_first client.next server.next ≡ true →
-    IsReady client → IsReady server → AreMerged client server [] client.bytes.now server.bytes.now
+    IsReady client → IsReady server → AreMerged client server [] (bytes_of client.bytes) (bytes_of server.bytes)
 none_taken client server next first client_ready server_ready =
     let over : client.next ≡ None = neither client.next server.next next first in
     record {
@@ -71,18 +72,12 @@ none_taken client server next first client_ready server_ready =
     neither (Some f) None e h = absurd (cc)
     neither (Some f) (Some g) e h = absurd (cc)
 
-same_left : (next other : Option Frame) (unread : Unread) (frames : List Frame) (tail : List ℕ) →
-    AreLeftAfter next (record unread { next = other }) frames tail → AreLeftAfter next unread frames tail
-same_left None other unread frames tail left = left
-same_left (Some f) other unread frames tail left = left
-
 -- what is left after a frame was taken was left after it
-pub left_before : (frame : Frame) (before after : Unread) (next : Option Frame) → before.next ≡ Some frame →
-    ((frames : List Frame) (tail : List ℕ) → AreLeftAfter next after frames tail →
-    AreAhead before.side before.arrivals.now (frame.number + 1) before.offset before.bytes.now frames tail) →
-    (frames : List Frame) (tail : List ℕ) → AreLeft (record after { next = next }) frames tail → AreLeft before (frame ∷ frames) tail
-left_before frame before after next is left frames tail later =
-    rw is (frames, refl, left frames tail (same_left next next after frames tail later))
+pub left_before : (frame : Frame) (before after : Unread) → before.next ≡ Some frame →
+    ((frames : List Frame) (tail : List ℕ) → AreLeft after frames tail →
+    AreAhead before.side before.arrivals.now (frame.number + 1) before.offset (bytes_of before.bytes) frames tail) →
+    (frames : List Frame) (tail : List ℕ) → AreLeft after frames tail → AreLeft before (frame ∷ frames) tail
+left_before frame before after is left frames tail later = rw is (frames, refl, left frames tail later)
 
 -- these frames were taken so far, and have their numbers
 pub record IsPartlyMerged (client server client_now server_now : Unread) (frames : List Frame) : Type 0 where

@@ -7,6 +7,7 @@ use Rattle.std.proofs.lemmas.Bool.{false≢true}
 use Rattle.std.proofs.lemmas.List.{append_cancel_left, take_at, drop_at}
 use Rattle.tcp_streams.specs.declared.streams.Arrival.{Arrival}
 use Rattle.tcp_streams.specs.declared.streams.Flow.{Flow}
+use Rattle.tcp_streams.specs.Bytes.{bytes_of}
 use Rattle.audit_terms.specs.declared.frames.Body.{Body}
 use Rattle.audit_terms.specs.declared.frames.Frame.{Frame}
 use Rattle.audit_terms.specs.declared.sides.Side.TheVariants.{Client, Server}
@@ -119,7 +120,7 @@ same_http2 client server other_client other_server frames others tails other_tai
     append_cancel_left preface _ _ (sym first.client_begins ∙ same_client.bytes ∙ second.client_begins) in
     let clients = spelling-unique first.after_preface first.client_frames second.client_frames first.client_tail second.client_tail
     first.client_spells (subst (λ (r : List ℕ). Spells r second.client_frames second.client_tail) (sym rests) second.client_spells) in
-    let servers = spelling-unique server.bytes.items first.server_frames second.server_frames first.server_tail second.server_tail
+    let servers = spelling-unique (bytes_of server) first.server_frames second.server_frames first.server_tail second.server_tail
     first.server_spells (subst (λ (r : List ℕ). Spells r second.server_frames second.server_tail) (sym same_server.bytes) second.server_spells) in (
       first.in_order
           ∙ ap (λ (fs : List Spelled). capture_order (captured_from Client client.arrivals.items 1 24 fs) (captured_from Server server.arrivals.items 1 0 first.server_frames)) clients.0
@@ -144,14 +145,14 @@ cut-unique client server other_client other_server NoPreface NoPreface c s first
 cut-unique client server other_client other_server NoPreface NotHttp2 c s first second =
     absurd (second.1 (short_along _ _ c.bytes first.1))
 cut-unique client server other_client other_server NoPreface (Http2 frames tails) c s first second =
-    absurd (not_both other_client.bytes.items second.1.after_preface (short_along _ _ c.bytes first.1) second.1.client_begins)
+    absurd (not_both (bytes_of other_client) second.1.after_preface (short_along _ _ c.bytes first.1) second.1.client_begins)
 cut-unique client server other_client other_server NotHttp2 NoPreface c s first second =
     absurd (first.1 (short_along _ _ (sym c.bytes) second.1))
 cut-unique client server other_client other_server NotHttp2 NotHttp2 c s first second = tt
 cut-unique client server other_client other_server NotHttp2 (Http2 frames tails) c s first second =
     absurd (first.2 second.1.after_preface (c.bytes ∙ second.1.client_begins))
 cut-unique client server other_client other_server (Http2 frames tails) NoPreface c s first second =
-    absurd (not_both client.bytes.items first.1.after_preface (short_along _ _ (sym c.bytes) second.1) first.1.client_begins)
+    absurd (not_both (bytes_of client) first.1.after_preface (short_along _ _ (sym c.bytes) second.1) first.1.client_begins)
 cut-unique client server other_client other_server (Http2 frames tails) NotHttp2 c s first second =
     absurd (second.2 first.1.after_preface (sym c.bytes ∙ first.1.client_begins))
 cut-unique client server other_client other_server (Http2 frames tails) (Http2 others other_tails) c s first second =

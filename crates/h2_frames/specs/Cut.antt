@@ -2,6 +2,7 @@
 -- this order: no handshake, no preface, not HTTP/2, HTTP/2.
 use Rattle.std.specs.Prelude.{◌≡◌, ℕ, List, length, IsTrue, IsFalse}
 use Rattle.tcp_streams.specs.declared.streams.Flow.{Flow}
+use Rattle.tcp_streams.specs.Bytes.{bytes_of}
 use Rattle.audit_terms.specs.declared.sides.Side.TheVariants.{Client, Server}
 use Rattle.audit_terms.specs.declared.sides.Sides.{Sides}
 use Rattle.audit_terms.specs.declared.frames.Frame.{Frame}
@@ -21,9 +22,9 @@ pub record IsHttp2 (client server : Flow) (frames : List Frame) (tails : Sides �
   pub client_tail : List ℕ
   pub server_frames : List Spelled
   pub server_tail : List ℕ
-  pub client_begins : BeginsWithPreface client.bytes.items after_preface
+  pub client_begins : BeginsWithPreface (bytes_of client) after_preface
   pub client_spells : Spells after_preface client_frames client_tail
-  pub server_spells : Spells server.bytes.items server_frames server_tail
+  pub server_spells : Spells (bytes_of server) server_frames server_tail
   pub in_order : frames ≡ capture_order
       (captured_from Client client.arrivals.items 1 (length preface) client_frames)
       (captured_from Server server.arrivals.items 1 0 server_frames)
@@ -38,10 +39,10 @@ IsHttp2Cut client server _ = ⊥
 -- both are cut into frames
 abbrev pub IsCut : (client server : Flow) → Cut → Type 0
 IsCut client server NoHandshake = IsFalse server.started
-IsCut client server NoPreface = IsTrue server.started × IsPrefaceCutShort client.bytes.items
+IsCut client server NoPreface = IsTrue server.started × IsPrefaceCutShort (bytes_of client)
 IsCut client server NotHttp2 =
-    IsTrue server.started × ¬ IsPrefaceCutShort client.bytes.items
-    × ((rest : List ℕ) → ¬ BeginsWithPreface client.bytes.items rest)
+    IsTrue server.started × ¬ IsPrefaceCutShort (bytes_of client)
+    × ((rest : List ℕ) → ¬ BeginsWithPreface (bytes_of client) rest)
 IsCut client server (Http2 frames tails) = IsTrue server.started × IsHttp2 client server frames.items tails
 
 -- the frames, where there are some, are in range and numbered upwards

@@ -1,6 +1,7 @@
 -- Laws of the definitions.
 use Rattle.std.specs.Prelude.{◌≡◌, ℕ, List}
 use Rattle.tcp_streams.specs.declared.streams.Flow.{Flow}
+use Rattle.tcp_streams.specs.Bytes.{bytes_of}
 use Rattle.h2_frames.specs.declared.connections.Cut.{Cut}
 use Rattle.h2_frames.specs.declared.spelling.Spelled.{Spelled}
 use Rattle.h2_frames.specs.Spelling.{Spells}
@@ -15,7 +16,7 @@ SpellingIsUnique =
 -- what decides a cut: is the flow started, its bytes and their arrivals
 pub record IsSameFlow (flow other : Flow) : Type 0 where
   pub started : flow.started ≡ other.started
-  pub bytes : flow.bytes.items ≡ other.bytes.items
+  pub bytes : bytes_of flow ≡ bytes_of other
   pub arrivals : flow.arrivals.items ≡ other.arrivals.items
 
 -- two flows have one cut

@@ -1,3 +1,4 @@
+pub mod Pieces
 pub mod Beginning
 pub mod Steps
 pub mod Merge

@@ -1,6 +1,9 @@
 ghost use Rattle.std.specs.Prelude.{◌≡◌, ℕ, List};
 ghost use Rattle.h2_frames.specs.Preface.{BeginsWithPreface, IsPrefaceCutShort, preface};
 ghost use Rattle.h2_frames.specs.code.Beginning.{IsBeginning};
+ghost use Rattle.h2_frames.specs.code.Pieces.{bytes_of, IsCounted};
+
+use crate::pieces::Pieces;
 
 /// The connection preface of a client (RFC 9113, 3.4).
 pub(crate) const PREFACE: [u8; 24] = *b"PRI * HTTP/2.0\r\n\r\nSM\r\n\r\n";
@@ -12,17 +15,20 @@ pub(crate) enum Beginning<'a> {
     /// Otherwise than with the preface.
     Other,
     /// With the preface, and then these.
-    Preface(&'a [u8]),
+    Preface(Pieces<'a>),
 }
 
-pub(crate) fn beginning_of(bytes: &[u8]) -> Beginning<'_>
-    ensures { IsBeginning bytes.now result }
+pub(crate) fn beginning_of(bytes: Pieces<'_>) -> Beginning<'_>
+    requires { IsCounted bytes }
+    ensures { IsBeginning (bytes_of bytes.entry) result }
 {
-    if bytes.len() < PREFACE.len() && PREFACE.starts_with(bytes) {
-        return Beginning::CutShort;
+    let mut rest = bytes;
+    for expected in &PREFACE {
+        match rest.take_byte() {
+            None => return Beginning::CutShort,
+            Some(byte) if byte != *expected => return Beginning::Other,
+            Some(_) => {}
+        }
     }
-    match bytes.strip_prefix(&PREFACE) {
-        Some(rest) => Beginning::Preface(rest),
-        None => Beginning::Other,
-    }
+    Beginning::Preface(rest)
 }

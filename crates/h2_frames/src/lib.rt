@@ -18,7 +18,8 @@
 //!
 //! The definition of a spelling is a grammar by cases on the list of frames, and the order an insertion sort. The code
 //! follows neither: it reads both flows through cursors, each with its next frame read ahead, and the frame that stands
-//! first goes into the one list.
+//! first goes into the one list. A cursor takes bytes that lie in pieces; a frame within one piece is read in place,
+//! another is put together in a buffer first.
 //!
 //! Wrong bodies that the prover refuses: padding as long as the payload, an order by first bytes. Worked examples of
 //! bodies, headers and order are proved in `crate_tests`. Tested by whole reports: that `cut` succeeds where there is
@@ -32,6 +33,7 @@ mod cutting;
 mod headers;
 pub mod laws;
 mod order;
+mod pieces;
 mod settings;
 mod spelling;
 mod unread;

@@ -3,6 +3,7 @@ ghost use Rattle.audit_terms.specs.Frame.{IsOrderly};
 ghost use Rattle.audit_terms.specs.declared.frames.Frame.{Frame};
 ghost use Rattle.h2_frames.specs.CaptureOrder.{comes_after, numbered};
 ghost use Rattle.h2_frames.specs.code.Merge.{is_server_first};
+ghost use Rattle.h2_frames.specs.code.Pieces.{bytes_of};
 ghost use Rattle.h2_frames.specs.code.Steps.{IsReadable};
 ghost use Rattle.h2_frames.specs.code.Unread.{AreMerged, IsReady, weight};
 
@@ -29,20 +30,22 @@ fn is_server_first(client: &Option<Frame>, server: &Option<Frame>) -> bool
 }
 
 /// Takes the frame out that comes first of both sides.
-fn take_first(client: &mut Unread<'_>, server: &mut Unread<'_>) -> Option<Frame>
+fn take_first(client: &mut Unread<'_>, server: &mut Unread<'_>) -> Result<Option<Frame>, AllocError>
     requires client { IsReady client.old }
     requires server { IsReady server.old }
-    ensures client { IsReady client.new }
-    ensures server { IsReady server.new }
-    ensures readable { IfSome result IsReadable }
-    ensures first { IfSome result (λ frame. (frames : List Frame) → (tail other : List ℕ) →
+    ensures client { IfOk result (λ taken. IsReady client.new) }
+    ensures server { IfOk result (λ taken. IsReady server.new) }
+    ensures readable { IfOk result (λ taken. IfSome taken IsReadable) }
+    ensures first { IfOk result (λ taken. IfSome taken (λ frame.
+        (frames : List Frame) → (tail other : List ℕ) →
         AreMerged client.new server.new frames tail other →
-        AreMerged client.old server.old (frame ∷ frames) tail other) }
-    ensures over { IfNone result (AreMerged client.new server.new [] client.new.bytes.now server.new.bytes.now) }
-    ensures same_client { IfNone result (client.new ≡ client.old) }
-    ensures same_server { IfNone result (server.new ≡ server.old) }
-    ensures weight { IfSome result (λ frame.
-        weight client.new + weight server.new + 9 ≤ weight client.old + weight server.old) }
+        AreMerged client.old server.old (frame ∷ frames) tail other)) }
+    ensures over { IfOk result (λ taken. IfNone taken
+        (AreMerged client.new server.new [] (bytes_of client.new.bytes) (bytes_of server.new.bytes))) }
+    ensures same_client { IfOk result (λ taken. IfNone taken (client.new ≡ client.old)) }
+    ensures same_server { IfOk result (λ taken. IfNone taken (server.new ≡ server.old)) }
+    ensures weight { IfOk result (λ taken. IfSome taken (λ frame.
+        weight client.new + weight server.new + 9 ≤ weight client.old + weight server.old)) }
 {
     if is_server_first(&client.next, &server.next) {
         server.take_next()
@@ -61,13 +64,13 @@ pub(crate) fn in_capture_order(
     requires server { IsReady server.old }
     requires few { weight client.old + weight server.old < 2 ^ 31 }
     ensures frames { IfOk result (λ frames. (all : List Frame) × (frames.items ≡ numbered 1 all)
-        × AreMerged client.old server.old all client.new.bytes.now server.new.bytes.now) }
+        × AreMerged client.old server.old all (bytes_of client.new.bytes) (bytes_of server.new.bytes)) }
     ensures orderly { IfOk result (λ frames. IsOrderly frames.items) }
-    ensures client { IsReady client.new }
-    ensures server { IsReady server.new }
+    ensures client { IfOk result (λ frames. IsReady client.new) }
+    ensures server { IfOk result (λ frames. IsReady server.new) }
 {
     let mut frames = Vec::new(alloc);
-    while let Some(mut frame) = take_first(client, server) {
+    while let Some(mut frame) = take_first(client, server)? {
         frame.number = frames.len() as u32 + 1;
         frames.push(frame)?;
     }

@@ -1,12 +1,15 @@
-ghost use Rattle.std.specs.Prelude.{◌≡◌, ◌+◌, ◌-◌, ◌*◌, ◌<◌, ◌≤◌, ◌^◌, ℕ, List, ◌∷◌, length, Some, None, IfSome, IfNone};
+ghost use Rattle.std.specs.Prelude.{◌≡◌, ◌+◌, ◌-◌, ◌*◌, ◌<◌, ◌≤◌, ◌^◌, ℕ, List, ◌∷◌, length, IfOk, IfSome, IfNone};
 ghost use Rattle.tcp_streams.specs.Arrivals.{AreTimely, Rises};
 ghost use Rattle.audit_terms.specs.declared.frames.Frame.{Frame};
 ghost use Rattle.h2_frames.specs.CaptureOrder.{captured};
+ghost use Rattle.h2_frames.specs.code.Pieces.{bytes_of, IsCounted};
 ghost use Rattle.h2_frames.specs.code.Steps.{arrivals_from};
 
 use crate::headers::HEADER_LENGTH;
-use crate::spelling::{Spelled, first_frame};
+use crate::pieces::Pieces;
+use crate::spelling::Spelled;
 use audit_terms::{Frame, Side};
+use std::alloc::{AllocError, Global};
 use tcp_streams::Arrival;
 
 /// The arrivals from the one on at which the byte at this offset arrives.
@@ -58,25 +61,34 @@ pub(crate) struct Unread<'a> {
     /// The next frame, numbered within the side; none where the bytes hold no further one.
     pub next: Option<Frame>,
     /// The bytes after it.
-    pub bytes: &'a [u8],
+    pub bytes: Pieces<'a>,
     /// Their offset in the side's flow.
     pub offset: u64,
     /// The flow's arrivals, without those that are over before it.
     pub arrivals: &'a [Arrival],
+    /// Where a frame that lies in several pieces is put together.
+    pub gathered: Vec<u8>,
 }
 
 impl<'a> Unread<'a> {
-    ghost use Rattle.h2_frames.specs.code.Unread.{AreAhead, AreLeft, AreLeftAfter, IsNext, IsPlaced, IsReady, weight, weight_after};
+    ghost use Rattle.h2_frames.specs.code.Unread.{AreAhead, AreLeft, IsPlaced, IsReady, weight};
 
     /// A side's bytes from this offset of its flow on, and the flow's arrivals.
-    pub fn of(side: Side, bytes: &'a [u8], offset: u64, arrivals: &'a [Arrival]) -> Unread<'a>
-        requires short { offset + length bytes.now < 2 ^ 31 }
-        requires rises { Rises 0 0 arrivals.now (offset + length bytes.now) }
+    pub fn of(
+        alloc: Global,
+        side: Side,
+        bytes: Pieces<'a>,
+        offset: u64,
+        arrivals: &'a [Arrival],
+    ) -> Result<Unread<'a>, AllocError>
+        requires counted { IsCounted bytes }
+        requires short { offset + length (bytes_of bytes) < 2 ^ 31 }
+        requires rises { Rises 0 0 arrivals.now (offset + length (bytes_of bytes)) }
         requires timely { AreTimely arrivals.now }
-        ensures ready { IsReady result }
-        ensures left { (frames : List Frame) → (tail : List ℕ) →
-            AreLeft result frames tail → AreAhead side arrivals.now 1 offset bytes.now frames tail }
-        ensures weight { weight result ≤ length bytes.now }
+        ensures ready { IfOk result IsReady }
+        ensures left { IfOk result (λ unread. (frames : List Frame) → (tail : List ℕ) →
+            AreLeft unread frames tail → AreAhead side arrivals.now 1 offset (bytes_of bytes.entry) frames tail) }
+        ensures weight { IfOk result (λ unread. weight unread ≤ length (bytes_of bytes.entry)) }
     {
         let mut unread = Unread {
             side,
@@ -84,50 +96,55 @@ impl<'a> Unread<'a> {
             bytes,
             offset,
             arrivals,
+            gathered: Vec::new(alloc),
         };
-        unread.next = unread.read(1);
-        unread
+        unread.read(1)?;
+        Ok(unread)
     }
 
-    /// Reads the frame that the bytes begin with, which gets this number within the side.
-    fn read(&mut self, number: u32) -> Option<Frame>
+    /// Reads the frame ahead that the bytes begin with, which gets this number within the side.
+    fn read(&mut self, number: u32) -> Result<(), AllocError>
         requires placed { IsPlaced self.old }
         requires number { 9 * number ≤ self.old.offset + 9 }
-        ensures placed { IsPlaced self.new }
-        ensures next { IsNext result self.new }
-        ensures left { (frames : List Frame) → (tail : List ℕ) → AreLeftAfter result self.new frames tail →
-            AreAhead self.old.side self.old.arrivals.now number self.old.offset self.old.bytes.now frames tail }
-        ensures weight { weight_after result self.new ≤ length self.old.bytes.now }
+        ensures ready { IfOk result (λ done. IsReady self.new) }
+        ensures left { IfOk result (λ done. (frames : List Frame) → (tail : List ℕ) → AreLeft self.new frames tail →
+            AreAhead self.old.side self.old.arrivals.now number self.old.offset (bytes_of self.old.bytes)
+            frames tail) }
+        ensures weight { IfOk result (λ done. weight self.new ≤ length (bytes_of self.old.bytes)) }
     {
-        let (spelled, later) = first_frame(self.bytes)?;
+        let Some(spelled) = self.bytes.take_frame(&mut self.gathered)? else {
+            self.next = None;
+            return Ok(());
+        };
         let length = HEADER_LENGTH as u64 + spelled.header.length as u64;
         let to_come = arrivals_of_frame(self.arrivals, self.offset, length);
-        let frame = spelled.captured(self.side, number, to_come[0]);
-        self.bytes = later;
+        self.next = Some(spelled.captured(self.side, number, to_come[0]));
         self.offset += length;
         self.arrivals = to_come;
-        Some(frame)
+        Ok(())
     }
 
     /// Takes the next frame out.
-    pub fn take_next(&mut self) -> Option<Frame>
+    pub fn take_next(&mut self) -> Result<Option<Frame>, AllocError>
         requires { IsReady self.old }
-        ensures ready { IsReady self.new }
-        ensures next { result ≡ self.old.next }
-        ensures none { IfNone result (self.new ≡ self.old) }
-        ensures left { IfSome result (λ frame. (frames : List Frame) → (tail : List ℕ) →
-            AreLeft self.new frames tail → AreLeft self.old (frame ∷ frames) tail) }
-        ensures weight { IfSome result (λ frame. weight self.new + 9 ≤ weight self.old) }
+        ensures ready { IfOk result (λ taken. IsReady self.new) }
+        ensures next { IfOk result (λ taken. taken ≡ self.old.next) }
+        ensures none { IfOk result (λ taken. IfNone taken (self.new ≡ self.old)) }
+        ensures left { IfOk result (λ taken. IfSome taken (λ frame. (frames : List Frame) → (tail : List ℕ) →
+            AreLeft self.new frames tail → AreLeft self.old (frame ∷ frames) tail)) }
+        ensures weight { IfOk result (λ taken. IfSome taken (λ frame. weight self.new + 9 ≤ weight self.old)) }
     {
-        let taken = self.next?;
-        self.next = self.read(taken.number + 1);
-        Some(taken)
+        let Some(taken) = self.next else {
+            return Ok(None);
+        };
+        self.read(taken.number + 1)?;
+        Ok(Some(taken))
     }
 
     /// How many bytes follow the last frame, once all frames are taken.
     pub fn tail(&self) -> u32
         requires { IsReady self.now }
-        ensures { result ≡ length self.now.bytes.now }
+        ensures { result ≡ length (bytes_of self.now.bytes) }
     {
         self.bytes.len() as u32
     }

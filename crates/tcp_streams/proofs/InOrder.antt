@@ -12,6 +12,7 @@ use Rattle.tcp_streams.specs.declared.members.Connection.{Connection}
 use Rattle.tcp_streams.specs.declared.streams.Arrival.{Arrival}
 use Rattle.tcp_streams.specs.declared.streams.Flow.{Flow}
 use Rattle.tcp_streams.specs.Arrivals.{AreTimely}
+use Rattle.tcp_streams.specs.Bytes.{bytes_of}
 use Rattle.tcp_streams.specs.Flow.{IsFlow}
 use Rattle.tcp_streams.specs.code.Assembled.{IsAssembled}
 use Rattle.tcp_streams.specs.code.Interval.{AreCaptured, IsInterval, at, size_of, arrival_with, arrivals_after, arrivals_in, bytes_in, member_piece, piece, stretch, width}
@@ -132,9 +133,9 @@ module _ (size : ℕ) (small : size < 2 ^ 31) where
       by (x ∷ xs) r = Rising-after (arrival_with x) xs r.1
 
 -- what is laid out of pieces that follow each other from offset 0
-pub record IsLaid (capture : List ℕ) (pieces : List Interval) (bytes : List ℕ) (arrivals : List Arrival) : Type 0 where
+pub record IsLaid (capture : List ℕ) (pieces : List Interval) (bytes : List ℕ) (arrivals : List Arrival) (end : ℕ) : Type 0 where
   pub follows : Follows 0 pieces
-  pub reach : run_end 0 pieces ≡ length bytes
+  pub reach : run_end 0 pieces ≡ end
   pub bytes_are : bytes ≡ bytes_in capture pieces
   pub arrivals_are : arrivals ≡ map arrival_with pieces
 
@@ -148,16 +149,13 @@ Follows-push low [] x f e is = (e, is, tt)
 Follows-push low (y ∷ xs) x f e is = (f.0, f.1, Follows-push y.upto xs x f.2 e is)
 
 -- one more piece
-pub IsLaid-more : (capture : List ℕ) (pieces : List Interval) (bytes : List ℕ) (arrivals : List Arrival) (x : Interval)
-    → IsLaid capture pieces bytes arrivals → x.from ≡ length bytes → IsInside (length capture) x
-    → IsLaid capture (pieces ++ x ∷ []) (bytes ++ slice_range capture x.index (x.index + width x)) (arrivals ++ arrival_with x ∷ [])
-IsLaid-more capture pieces bytes arrivals x h at-end is =
-    let part : length (slice_range capture x.index (x.index + width x)) ≡ x.index + width x - x.index =
-    length-slice_range capture x.index (x.index + width x) (omega arith) is.within in
+pub IsLaid-more : (capture : List ℕ) (pieces : List Interval) (bytes : List ℕ) (arrivals : List Arrival) (end : ℕ) (x : Interval)
+    → IsLaid capture pieces bytes arrivals end → x.from ≡ end → IsInside (length capture) x
+    → IsLaid capture (pieces ++ x ∷ []) (bytes ++ slice_range capture x.index (x.index + width x)) (arrivals ++ arrival_with x ∷ []) x.upto
+IsLaid-more capture pieces bytes arrivals end x h at-end is =
     record {
       follows = Follows-push 0 pieces x h.follows (at-end ∙ sym h.reach) is.interval;
-      reach = run_end-push 0 pieces x
-          ∙ omega (arith, at-end, is.interval.some, part, length-append bytes (slice_range capture x.index (x.index + width x)));
+      reach = run_end-push 0 pieces x;
       bytes_are = ap (λ l. l ++ slice_range capture x.index (x.index + width x)) h.bytes_are ∙ sym (bytes_in-push capture pieces x);
       arrivals_are = ap (λ l. l ++ arrival_with x ∷ []) h.arrivals_are ∙ sym (map-append arrival_with pieces (x ∷ []));
     }
@@ -190,7 +188,7 @@ module _ (initial_number : ℕ) (capture : List ℕ) (packets : List Packet) (co
       (side-is_sound initial_number capture packets connection side small numbered rise times members pieces are)
       ∙ ap (map arrival_with) (sym is)
 
-  module _ (f : Flow) (laid : IsLaid capture pieces f.bytes.items f.arrivals.items) where
+  module _ (f : Flow) (end : ℕ) (laid : IsLaid capture pieces (bytes_of f) f.arrivals.items end) where
     run : IsRunOf 0 pieces []
     run = record {
       follows = laid.follows;
@@ -201,9 +199,9 @@ module _ (initial_number : ℕ) (capture : List ℕ) (packets : List Packet) (co
     arrivals-same : arrivals_in pieces ≡ f.arrivals.items
     arrivals-same = arrivals-are ∙ sym laid.arrivals_are
 
-    laid-flow : f.gap ≡ None → IsFlow capture (at pieces) f.bytes.items f.arrivals.items f.gap
+    laid-flow : f.gap ≡ None → IsFlow capture (at pieces) (bytes_of f) f.arrivals.items f.gap
     laid-flow none =
-        subst (λ (g : Option ℕ). IsFlow capture (at pieces) f.bytes.items f.arrivals.items g) (sym none)
+        subst (λ (g : Option ℕ). IsFlow capture (at pieces) (bytes_of f) f.arrivals.items g) (sym none)
         (subst (λ (l : List ℕ). IsFlow capture (at pieces) l f.arrivals.items None) (sym laid.bytes_are)
         (subst (λ (l : List Arrival). IsFlow capture (at pieces) (bytes_in capture pieces) l None) arrivals-same
         (subst (λ (l : List Interval). IsFlow capture (at l) (bytes_in capture pieces) (arrivals_in pieces) None) (append-none pieces)

@@ -2,6 +2,7 @@ pub mod CaptureFits
 pub mod FlowLemmas
 pub mod InOrder
 pub mod IntervalLemmas
+pub mod Joined
 pub mod Lists
 pub mod Numbered
 pub mod Pairs

@@ -10,6 +10,7 @@ use Rattle.tcp_streams.specs.declared.interval.Interval.{Interval}
 use Rattle.tcp_streams.specs.declared.members.Connection.{Connection}
 use Rattle.tcp_streams.specs.declared.streams.Flow.{Flow}
 use Rattle.tcp_streams.specs.Arrivals.{AreTimely, Rises}
+use Rattle.tcp_streams.specs.Bytes.{bytes_of}
 use Rattle.tcp_streams.specs.Flow.{IsFlow}
 use Rattle.tcp_streams.specs.code.Assembled.{IsAssembled}
 use Rattle.tcp_streams.specs.code.Interval.{AreCaptured, IsInterval, IsCaptured, IsSame, at, member_piece, piece, size_of}
@@ -51,18 +52,17 @@ module _ (initial_number : ℕ) (capture : List ℕ) (packets : List Packet) (co
     intervals-within = omega (arith, size, ap size_of side-pieces, pieces-size initial_number segments)
 
     -- a flow of the intervals is the side's
-    pub assembled : (f : Flow) → IsTrue f.started → length f.bytes.items ≤ size_of intervals
-        → IsFlow capture (at intervals) f.bytes.items f.arrivals.items f.gap → AreTimely f.arrivals.items
+    pub assembled : (f : Flow) → IsTrue f.started → length (bytes_of f) ≤ size_of intervals
+        → IsFlow capture (at intervals) (bytes_of f) f.arrivals.items f.gap → AreTimely f.arrivals.items
         → IsAssembled capture packets connection side initial_number f
     assembled f started within flow timely =
-        let len : vec_len f.bytes ≡ length f.bytes.items = f.bytes.ok.0 in
         record {
           started = started;
-          is_flow = IsFlow-same capture _ _ f.bytes.items f.arrivals.items f.gap sources-same flow;
-          within = omega (arith, len, within, intervals-within);
+          is_flow = IsFlow-same capture _ _ (bytes_of f) f.arrivals.items f.gap sources-same flow;
+          within = omega (arith, within, intervals-within);
           orderly = record {
-            short = omega (arith, len, within, intervals-within, side-fits packets (length capture) connection side rise members, small);
-            rises = subst (λ n. Rises 0 0 f.arrivals.items n) (sym len) flow.rises;
+            short = omega (arith, within, intervals-within, side-fits packets (length capture) connection side rise members, small);
+            rises = flow.rises;
             timely = timely;
           };
         }

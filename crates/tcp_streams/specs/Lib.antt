@@ -1,4 +1,5 @@
 pub mod Arrivals
+pub mod Bytes
 pub mod Flow
 pub mod Laws
 pub mod Members

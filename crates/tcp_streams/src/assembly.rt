@@ -1,6 +1,7 @@
-ghost use Rattle.std.specs.Prelude.{◌≡◌, ◌<◌, ◌≤◌, ◌^◌, None, [], false, length, vec_len, IsTrue, IfOk, IsOk, IfSome};
+ghost use Rattle.std.specs.Prelude.{◌≡◌, ◌<◌, ◌≤◌, ◌^◌, None, [], false, length, IsTrue, IfOk, IsOk, IfSome};
 ghost use Rattle.packet_heads.specs.Order.{AreNumberedFrom, PayloadsRise, TimesFit};
 ghost use Rattle.tcp_streams.specs.Arrivals.{IsOrderly};
+ghost use Rattle.tcp_streams.specs.Bytes.{bytes_of};
 ghost use Rattle.tcp_streams.specs.Flow.{IsFlow};
 ghost use Rattle.tcp_streams.specs.Members.{AreMembers, initial_of, payload_sum, side_segments};
 ghost use Rattle.tcp_streams.specs.Sequence.{source};
@@ -27,13 +28,13 @@ use std::alloc::{AllocError, Global};
 /// `pcap_records::records` does not refuse; `connection` is to be one of theirs, as [`connections`] gives it.
 ///
 /// [`connections`]: crate::connections
-pub fn assemble(
+pub fn assemble<'a>(
     alloc: Global,
-    capture: &[u8],
+    capture: &'a [u8],
     packets: &[Packet],
     connection: &Connection,
     side: Side,
-) -> Result<Flow, AllocError>
+) -> Result<Flow<'a>, AllocError>
     requires size { length capture.now < 2 ^ 31 }
     requires numbered { AreNumberedFrom 1 packets.now }
     requires payloads { PayloadsRise 0 (length capture.now) packets.now }
@@ -44,15 +45,16 @@ pub fn assemble(
     ensures started { IfSome (initial_of connection.now side) (λ _. IfOk result (λ f. IsTrue f.started)) }
     ensures flow { IfSome (initial_of connection.now side) (λ initial_number. IfOk result (λ f.
         IsFlow capture.now (source initial_number (side_segments packets.now connection.now side))
-        f.bytes.items f.arrivals.items f.gap)) }
+        (bytes_of f) f.arrivals.items f.gap)) }
 
     // Any other.
     ensures unknown { initial_of connection.now side ≡ None → IfOk result (λ f.
-        (f.started ≡ false) × (f.bytes.items ≡ []) × (f.arrivals.items ≡ []) × (f.gap ≡ None)) }
+        (f.started ≡ false) × (f.pieces.items ≡ []) × (f.arrivals.items ≡ []) × (f.gap ≡ None)) }
     // Its empty flow takes no memory, so none is wanting.
     ensures answered { initial_of connection.now side ≡ None → IsOk result }
 
-    ensures within { IfOk result (λ f. vec_len f.bytes ≤ payload_sum (side_segments packets.now connection.now side)) }
+    ensures within { IfOk result (λ f.
+        length (bytes_of f) ≤ payload_sum (side_segments packets.now connection.now side)) }
     ensures orderly { IfOk result IsOrderly }
 {
     match connection.initial_of(side) {
@@ -74,14 +76,14 @@ pub fn assemble(
 }
 
 /// The flow of a side whose segments may come in any order, overlap and leave holes.
-fn flow_in_any_order(
+fn flow_in_any_order<'a>(
     alloc: Global,
-    capture: &[u8],
+    capture: &'a [u8],
     packets: &[Packet],
     connection: &Connection,
     side: Side,
     initial_number: u32,
-) -> Result<Flow, AllocError>
+) -> Result<Flow<'a>, AllocError>
     requires size { length capture.now < 2 ^ 31 }
     requires numbered { AreNumberedFrom 1 packets.now }
     requires payloads { PayloadsRise 0 (length capture.now) packets.now }

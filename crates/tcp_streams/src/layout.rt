@@ -1,34 +1,39 @@
 ghost use Rattle.std.specs.Prelude.{◌≡◌, ◌+◌, ◌-◌, ◌<◌, ◌≤◌, ◌^◌, true, length, All, IfOk};
 ghost use Rattle.tcp_streams.specs.Arrivals.{AreTimely};
+ghost use Rattle.tcp_streams.specs.Bytes.{bytes_of, joined};
 ghost use Rattle.tcp_streams.specs.Flow.{IsFlow};
 ghost use Rattle.tcp_streams.specs.code.Interval.{AreCaptured, IsInterval, Spans, arrival_with, arrivals_in, at, bytes_in, run_length, size_of};
 ghost use Rattle.tcp_streams.specs.declared.interval.Interval.{Interval as Held};
 
 use crate::interval::Interval;
-use crate::streams::{Arrival, Flow};
+use crate::streams::{Arrival, Flow, end_of};
 use std::alloc::{AllocError, Global};
 
 /// Lays out the bytes of intervals in order of offset, as far as they follow each other from 0.
-pub fn lay_out(alloc: Global, capture: &[u8], intervals: &[Interval]) -> Result<Flow, AllocError>
+pub fn lay_out<'a>(
+    alloc: Global,
+    capture: &'a [u8],
+    intervals: &[Interval],
+) -> Result<Flow<'a>, AllocError>
     requires spans { Spans 0 intervals.now (2 ^ 31) }
     requires captured { AreCaptured (length capture.now) (at intervals.now) }
-    ensures flow { IfOk result (λ f. IsFlow capture.now (at intervals.now) f.bytes.items f.arrivals.items f.gap) }
+    ensures flow { IfOk result (λ f. IsFlow capture.now (at intervals.now) (bytes_of f) f.arrivals.items f.gap) }
     ensures started { IfOk result (λ f. f.started ≡ true) }
-    ensures size { IfOk result (λ f. length f.bytes.items ≤ size_of intervals.now) }
+    ensures size { IfOk result (λ f. length (bytes_of f) ≤ size_of intervals.now) }
     ensures timely { IfOk result (λ f. AreTimely f.arrivals.items) }
 {
     let count = run_length(intervals);
     let run = &intervals[..count];
-    let bytes = bytes_in(alloc, capture, run)?;
+    let pieces = pieces_in(alloc, capture, run)?;
     let arrivals = arrivals_in(alloc, run)?;
     let gap = if count < intervals.len() {
-        Some(bytes.len() as u64)
+        Some(end_of(&arrivals))
     } else {
         None
     };
     Ok(Flow {
         started: true,
-        bytes,
+        pieces,
         arrivals,
         gap,
     })
@@ -48,22 +53,22 @@ fn run_length(intervals: &[Interval]) -> usize
     count
 }
 
-/// The bytes of the intervals, one after the other. In a run from offset 0 the last one's end is how many there are.
-fn bytes_in(alloc: Global, capture: &[u8], run: &[Interval]) -> Result<Vec<u8>, AllocError>
+/// The pieces of the capture that the intervals name.
+fn pieces_in<'a>(
+    alloc: Global,
+    capture: &'a [u8],
+    run: &[Interval],
+) -> Result<Vec<&'a [u8]>, AllocError>
     requires intervals { All IsInterval run.now }
     requires captured { All (λ (x : Held). x.index + (x.upto - x.from) ≤ length capture.now) run.now }
-    ensures { IfOk result (λ v. v.items ≡ bytes_in capture.now run.now) }
+    ensures { IfOk result (λ v. joined v.items ≡ bytes_in capture.now run.now) }
 {
-    let size = match run.last() {
-        Some(last) => last.upto as usize,
-        None => 0,
-    };
-    let mut bytes = Vec::with_capacity(alloc, size)?;
+    let mut pieces = Vec::with_capacity(alloc, run.len())?;
     for x in run {
         let width = (x.upto - x.from) as usize;
-        bytes.extend_from_slice(&capture[x.index..x.index + width])?;
+        pieces.extend_from_slice(&[&capture[x.index..x.index + width]])?;
     }
-    Ok(bytes)
+    Ok(pieces)
 }
 
 /// When the bytes of the intervals arrived: one arrival for each record that is later than all before it.

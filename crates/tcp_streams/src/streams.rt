@@ -1,3 +1,6 @@
+ghost use Rattle.std.specs.Prelude.{◌≡◌, ℕ};
+ghost use Rattle.tcp_streams.specs.Arrivals.{Rises};
+
 use std::alloc::Global;
 
 /// When bytes of a flow were there: each byte arrives with the first of its flow's arrivals whose `upto` is above its
@@ -14,30 +17,51 @@ pub struct Arrival {
 
 /// What one side of a connection sent, as far as the capture shows it without a hole.
 #[derive(Drop)]
-pub struct Flow {
+pub struct Flow<'a> {
     /// Is the side's initial sequence number known?
     pub started: bool,
-    pub bytes: Vec<u8>,
+    /// Its bytes, as they lie in the capture: one piece after the other.
+    pub pieces: Vec<&'a [u8]>,
     pub arrivals: Vec<Arrival>,
     /// The offset at which bytes are missing, where later ones were captured.
     pub gap: Option<u64>,
 }
 
-impl Flow {
-    ghost use Rattle.std.specs.Prelude.{◌≡◌, [], None, false};
+impl<'a> Flow<'a> {
+    ghost use Rattle.std.specs.Prelude.{◌≡◌, [], None, false, length};
+    ghost use Rattle.tcp_streams.specs.Arrivals.{IsOrderly};
+    ghost use Rattle.tcp_streams.specs.Bytes.{bytes_of};
 
     /// The flow of a side whose initial sequence number is not known.
-    pub(crate) fn unknown(alloc: Global) -> Flow
+    pub(crate) fn unknown(alloc: Global) -> Flow<'a>
         ensures started { result.started ≡ false }
-        ensures bytes { result.bytes.items ≡ [] }
+        ensures pieces { result.pieces.items ≡ [] }
         ensures arrivals { result.arrivals.items ≡ [] }
         ensures gap { result.gap ≡ None }
     {
         Flow {
             started: false,
-            bytes: Vec::new(alloc),
+            pieces: Vec::new(alloc),
             arrivals: Vec::new(alloc),
             gap: None,
         }
+    }
+
+    /// How many bytes the flow has.
+    pub fn length(&self) -> u64
+        requires { IsOrderly self.now }
+        ensures { result ≡ length (bytes_of self.now) }
+    {
+        end_of(&self.arrivals)
+    }
+}
+
+/// The offset at which arrivals end.
+pub(crate) fn end_of(arrivals: &[Arrival]) -> u64
+    ensures { (high : ℕ) → Rises 0 0 arrivals.now high → result ≡ high }
+{
+    match arrivals.last() {
+        Some(last) => last.upto,
+        None => 0,
     }
 }

@@ -1,5 +1,6 @@
 use Rattle.std.proofs.Common.{List, ◌≤◌, length, sym, subst}
 use Rattle.tcp_streams.specs.declared.interval.Interval.{Interval}
+use Rattle.tcp_streams.specs.Bytes.{bytes_of}
 use Rattle.tcp_streams.specs.Flow.{IsFlow}
 use Rattle.tcp_streams.specs.code.Interval.{AreCaptured, at, size_of}
 use Rattle.tcp_streams.proofs.Lists.{if_ok_4}
@@ -28,7 +29,7 @@ returns c =
     assembled c.args.initial_number c.args.capture.now c.args.packets.now c.args.connection.now c.args.side c.requires.size c.requires.numbered c.requires.payloads c.requires.times c.requires.members
     c.in_ok-pieces.pieces.items c.in_ok-pieces.ensures c.in_ok-intervals.intervals.items c.in_ok-intervals.ensures.same c.in_ok-intervals.ensures.size f
     started
-    (subst (λ (l : List Interval). length f.bytes.items ≤ size_of l) c.deref.ensures.value size)
-    (subst (λ (l : List Interval). IsFlow c.args.capture.now (at l) f.bytes.items f.arrivals.items f.gap) c.deref.ensures.value flow)
+    (subst (λ (l : List Interval). length (bytes_of f) ≤ size_of l) c.deref.ensures.value size)
+    (subst (λ (l : List Interval). IsFlow c.args.capture.now (at l) (bytes_of f) f.arrivals.items f.gap) c.deref.ensures.value flow)
     timely)
     c.lay_out.ensures.started c.lay_out.ensures.size c.lay_out.ensures.flow c.lay_out.ensures.timely

@@ -5,12 +5,13 @@ use Rattle.std.specs.Option.{option_to_list}
 use Rattle.std.proofs.lemmas.List.{take_all, take_more}
 use Rattle.tcp_streams.specs.declared.interval.Interval.{Interval}
 use Rattle.tcp_streams.specs.declared.streams.Arrival.{Arrival}
+use Rattle.tcp_streams.specs.Bytes.{joined}
 use Rattle.tcp_streams.specs.Packets.{segment_of}
 use Rattle.tcp_streams.specs.code.Interval.{member_piece}
 use Rattle.tcp_streams.proofs.InOrder.{IsInside, IsLaid, IsLaid-more, laid-assembled, member-inside}
 use Rattle.tcp_streams.proofs.PieceLemmas.{PayloadsFit-from, filter_map-push, member-at, none_of}
 use Rattle.tcp_streams.proofs.in_order.flow_in_order.Goals as goal
-use Rattle.tcp_streams.proofs.in_order.flow_in_order.Goals.{in-Some+else-piece-len+in_ok-add, in_default}
+use Rattle.tcp_streams.proofs.in_order.flow_in_order.Goals.{in-Some+else-piece-laid+in_ok-add, in_default}
 
 pub piece_of_member-requires-clause-payloads : goal.piece_of_member-requires-clause-payloads
 piece_of_member-requires-clause-payloads c = PayloadsFit-from 0 (length c.args.capture.now) c.args.packets.now c.requires.size c.requires.payloads
@@ -40,11 +41,12 @@ append-none : (l : List Interval) → l ++ [] ≡ l
 append-none [] = refl
 append-none (x ∷ l) = ap (λ r. x ∷ r) (append-none l)
 
-laid-as : (capture : List ℕ) (p q : List Interval) (b b' : List ℕ) (a a' : List Arrival) → p ≡ q → b' ≡ b → a' ≡ a
-    → IsLaid capture p b a → IsLaid capture q b' a'
-laid-as capture p q b b' a a' e f g h =
-    subst (λ (l : List Interval). IsLaid capture l b' a') e
-    (subst (λ (l : List ℕ). IsLaid capture p l a') (sym f) (subst (λ (l : List Arrival). IsLaid capture p b l) (sym g) h))
+laid-as : (capture : List ℕ) (p q : List Interval) (b b' : List ℕ) (a a' : List Arrival) (n n' : ℕ) → p ≡ q → b' ≡ b → a' ≡ a → n' ≡ n
+    → IsLaid capture p b a n → IsLaid capture q b' a' n'
+laid-as capture p q b b' a a' n n' e f g k h =
+    subst (λ (l : List Interval). IsLaid capture l b' a' n') e
+    (subst (λ (l : List ℕ). IsLaid capture p l a' n') (sym f)
+    (subst (λ (l : List Arrival). IsLaid capture p b l n') (sym g) (subst (λ (m : ℕ). IsLaid capture p b a m) (sym k) h)))
 
 pub add-requires : goal.add-requires
 add-requires c =
@@ -61,23 +63,26 @@ loop-member-preserved c =
     let f = member_piece c.args.initial_number c.args.packets.now c.args.connection.now c.args.side in
     let lt : k < length members = subst (λ (l : List ℕ). k < length l) c.deref-member-items.ensures.value c.loop-member-test.true in
     elim c.match-piece_of_member.branch [
-      | in-Some+else-piece-len+in_ok-add w ↦
+      | in-Some+else-piece-laid+in_ok-add w ↦
           let x = w.in-Some.piece in
           let is = subst (λ (p : Option Interval). IfSome p (IsInside (length capture))) (sym w.in-Some.ensures)
           (member-inside (length capture) c.requires.size c.args.initial_number c.args.packets.now c.args.connection.now c.args.side _ c.requires.payloads) in
-          laid-as capture _ _ _ _ _ _
+          laid-as capture _ _ _ _ _ _ _ _
           (step f members shown k (Some x) c.deref-member-items.ensures.value lt w.in-Some.ensures)
-          (ap (λ l. l.bytes.items) w.laid-is ∙ w.in_ok-add.ensures.bytes)
+          (ap (λ l. joined l.pieces.items) w.laid-is ∙ w.in_ok-add.ensures.bytes)
           (ap (λ l. l.arrivals.items) w.laid-is ∙ w.in_ok-add.ensures.arrivals)
-          (IsLaid-more capture (filter_map f (take k members)) c.loop-member.laid.bytes.items c.loop-member.laid.arrivals.items x
+          (ap (λ l. l.end) w.laid-is ∙ w.in_ok-add.ensures.end)
+          (IsLaid-more capture (filter_map f (take k members)) (joined c.loop-member.laid.pieces.items) c.loop-member.laid.arrivals.items
+          c.loop-member.laid.end x
           c.loop-member.invariant
-          (omega (arith, w.if-piece-len.false, w.len-in-Some.ensures, c.loop-member.laid.bytes.ok.0)) is)
+          (omega (arith, w.if-piece-laid.false)) is)
       | in_default w ↦
-          laid-as capture _ _ _ _ _ _
+          laid-as capture _ _ _ _ _ _ _ _
           (sym (append-none (filter_map f (take k members)))
           ∙ step f members shown k None c.deref-member-items.ensures.value lt
           (sym (none_of c.piece_of_member.result w.in_default.not-Some) ∙ c.piece_of_member.ensures))
-          (ap (λ l. l.bytes.items) w.laid-is) (ap (λ l. l.arrivals.items) w.laid-is) c.loop-member.invariant
+          (ap (λ l. joined l.pieces.items) w.laid-is) (ap (λ l. l.arrivals.items) w.laid-is)
+          (ap (λ l. l.end) w.laid-is) c.loop-member.invariant
     ]
 
 pub returns : goal.returns
@@ -87,10 +92,10 @@ returns c =
     let k = c.loop-member.member-index in
     let f = member_piece c.args.initial_number c.args.packets.now c.args.connection.now c.args.side in
     let over : length members ≤ k = subst (λ (l : List ℕ). length l ≤ k) c.deref-member-items.ensures.value c.loop-member-test.false in
-    let laid = subst (λ (l : List ℕ). IsLaid capture (filter_map f l) c.loop-member.laid.bytes.items c.loop-member.laid.arrivals.items)
+    let laid = subst (λ (l : List ℕ). IsLaid capture (filter_map f l) (joined c.loop-member.laid.pieces.items) c.loop-member.laid.arrivals.items c.loop-member.laid.end)
     (take_all k members over) c.loop-member.invariant in
     laid-assembled c.args.initial_number capture c.args.packets.now c.args.connection.now c.args.side
     c.requires.size c.requires.numbered c.requires.payloads c.requires.times c.requires.members
     (filter_map f members) refl
-    (record { started = true; bytes = c.loop-member.laid.bytes; arrivals = c.loop-member.laid.arrivals; gap = None })
-    laid refl refl
+    (record { started = true; pieces = c.loop-member.laid.pieces; arrivals = c.loop-member.laid.arrivals; gap = None })
+    c.loop-member.laid.end laid refl refl

@@ -1,5 +1,6 @@
 use Rattle.std.proofs.Common.{take}
 use Rattle.std.specs.List.{filter_map}
+use Rattle.tcp_streams.specs.Bytes.{joined}
 use Rattle.tcp_streams.specs.code.Interval.{member_piece}
 use Rattle.tcp_streams.proofs.InOrder.{IsLaid}
 use Rattle.tcp_streams.proofs.in_order.flow_in_order.Given as goal
@@ -8,4 +9,4 @@ abbrev pub invariant-loop-member : goal.invariant-loop-member
 invariant-loop-member l =
     IsLaid l.capture
     (filter_map (member_piece l.initial_number l.packets l.connection l.side) (take l.member-index l.connection.members.items))
-    l.laid.bytes.items l.laid.arrivals.items
+    (joined l.laid.pieces.items) l.laid.arrivals.items l.laid.end

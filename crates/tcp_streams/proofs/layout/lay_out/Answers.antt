@@ -4,7 +4,8 @@ use Rattle.std.proofs.lemmas.List.Elements.{All-cons, All-nil}
 use Rattle.std.proofs.lemmas.List.{take-append-drop}
 use Rattle.tcp_streams.specs.declared.interval.Interval.{Interval}
 use Rattle.tcp_streams.specs.declared.streams.Arrival.{Arrival}
-use Rattle.tcp_streams.specs.Arrivals.{AreTimely}
+use Rattle.tcp_streams.specs.Arrivals.{AreTimely, Rises}
+use Rattle.tcp_streams.specs.Bytes.{joined}
 use Rattle.tcp_streams.specs.Flow.{IsFlow}
 use Rattle.tcp_streams.specs.code.Interval.{AreCaptured, IsInterval, Spans, arrivals_in, at, bytes_in, run_length, size_of}
 use Rattle.tcp_streams.proofs.RunLemmas.{Follows, IsRunOf, arrivals-timely, gap_of, gap_of-none, gap_of-some, run-flow, run-in_capture, run-is, run-size, run-timely}
@@ -30,38 +31,39 @@ all-follow : (low : ℕ) (run : List Interval) → Follows low run → All IsInt
 all-follow low [] f = All-nil IsInterval
 all-follow low (x ∷ xs) f = All-cons IsInterval x xs f.1 (all-follow x.upto xs f.2)
 
-pub bytes_in-requires-clause-intervals : goal.bytes_in-requires-clause-intervals
-bytes_in-requires-clause-intervals c =
+pub pieces_in-requires-clause-intervals : goal.pieces_in-requires-clause-intervals
+pieces_in-requires-clause-intervals c =
     all-follow 0 (take c.run_length-count.result c.args.intervals.now)
     (run-of c.args.capture.now c.args.intervals.now c.run_length-count.result c.run_length-count.ensures.run c.requires.spans c.requires.captured).follows
 
-pub bytes_in-requires-clause-captured : goal.bytes_in-requires-clause-captured
-bytes_in-requires-clause-captured c =
+pub pieces_in-requires-clause-captured : goal.pieces_in-requires-clause-captured
+pieces_in-requires-clause-captured c =
     run-in_capture c.args.capture.now (take c.run_length-count.result c.args.intervals.now) (drop c.run_length-count.result c.args.intervals.now)
     (run-of c.args.capture.now c.args.intervals.now c.run_length-count.result c.run_length-count.ensures.run c.requires.spans c.requires.captured)
     (captured-parts c.args.capture.now c.args.intervals.now c.run_length-count.result c.run_length-count.ensures.run c.requires.spans c.requires.captured)
 
 pub returns-clause-flow : goal.returns-clause-flow
 returns-clause-flow c =
-    let bytes : bytes_in c.args.capture.now (take c.run_length-count.result c.args.intervals.now) ≡ c.in_ok-bytes.bytes.items = sym c.in_ok-bytes.ensures in
-    let size : length (bytes_in c.args.capture.now (take c.run_length-count.result c.args.intervals.now)) ≡ vec_len c.in_ok-bytes.bytes = ap length bytes ∙ sym c.in_ok-bytes.bytes.ok.0 in
+    let bytes : bytes_in c.args.capture.now (take c.run_length-count.result c.args.intervals.now) ≡ joined c.in_ok-pieces.pieces.items = sym c.in_ok-pieces.ensures in
+    let flow = flow-of c.args.capture.now c.args.intervals.now c.run_length-count.result c.run_length-count.ensures.run c.requires.spans c.requires.captured in
+    let rises = subst (λ (l : List Arrival). Rises 0 0 l (length (bytes_in c.args.capture.now (take c.run_length-count.result c.args.intervals.now)))) (sym c.in_ok-arrivals.ensures) flow.rises in
     let gap : gap_of (drop c.run_length-count.result c.args.intervals.now) (length (bytes_in c.args.capture.now (take c.run_length-count.result c.args.intervals.now))) ≡ c.if-count-intervals.gap =
     elim c.if-count-intervals.branch [
-      | then-count-intervals w ↦ gap_of-some c.args.intervals.now c.run_length-count.result _ w.if-count-intervals.true ∙ ap Some (size ∙ sym w.len.ensures) ∙ sym w.gap-is
+      | then-count-intervals w ↦ gap_of-some c.args.intervals.now c.run_length-count.result _ w.if-count-intervals.true ∙ ap Some (sym (w.end_of.ensures _ (subst (λ (l : List Arrival). Rises 0 0 l (length (bytes_in c.args.capture.now (take c.run_length-count.result c.args.intervals.now)))) (sym w.deref.ensures.value) rises))) ∙ sym w.gap-is
       | else-count-intervals w ↦ gap_of-none c.args.intervals.now c.run_length-count.result _ w.if-count-intervals.false ∙ sym w.gap-is
     ] in
-    subst (λ (g : Option ℕ). IsFlow c.args.capture.now (at c.args.intervals.now) c.in_ok-bytes.bytes.items c.in_ok-arrivals.arrivals.items g) gap
-    (subst (λ (l : List Arrival). IsFlow c.args.capture.now (at c.args.intervals.now) c.in_ok-bytes.bytes.items l (gap_of (drop c.run_length-count.result c.args.intervals.now) (length (bytes_in c.args.capture.now (take c.run_length-count.result c.args.intervals.now)))))
+    subst (λ (g : Option ℕ). IsFlow c.args.capture.now (at c.args.intervals.now) (joined c.in_ok-pieces.pieces.items) c.in_ok-arrivals.arrivals.items g) gap
+    (subst (λ (l : List Arrival). IsFlow c.args.capture.now (at c.args.intervals.now) (joined c.in_ok-pieces.pieces.items) l (gap_of (drop c.run_length-count.result c.args.intervals.now) (length (bytes_in c.args.capture.now (take c.run_length-count.result c.args.intervals.now)))))
     (sym c.in_ok-arrivals.ensures)
     (subst (λ (l : List ℕ). IsFlow c.args.capture.now (at c.args.intervals.now) l (arrivals_in (take c.run_length-count.result c.args.intervals.now)) (gap_of (drop c.run_length-count.result c.args.intervals.now) (length (bytes_in c.args.capture.now (take c.run_length-count.result c.args.intervals.now)))))
-    bytes (flow-of c.args.capture.now c.args.intervals.now c.run_length-count.result c.run_length-count.ensures.run c.requires.spans c.requires.captured)))
+    bytes flow))
 
 pub returns-clause-size : goal.returns-clause-size
 returns-clause-size c =
     let size = run-size c.args.capture.now (take c.run_length-count.result c.args.intervals.now) (drop c.run_length-count.result c.args.intervals.now)
     (run-of c.args.capture.now c.args.intervals.now c.run_length-count.result c.run_length-count.ensures.run c.requires.spans c.requires.captured)
     (captured-parts c.args.capture.now c.args.intervals.now c.run_length-count.result c.run_length-count.ensures.run c.requires.spans c.requires.captured) in
-    omega (arith, size, ap length c.in_ok-bytes.ensures, ap size_of (whole c.args.capture.now c.args.intervals.now c.run_length-count.result c.run_length-count.ensures.run c.requires.spans c.requires.captured))
+    omega (arith, size, ap length c.in_ok-pieces.ensures, ap size_of (whole c.args.capture.now c.args.intervals.now c.run_length-count.result c.run_length-count.ensures.run c.requires.spans c.requires.captured))
 
 pub returns-clause-timely : goal.returns-clause-timely
 returns-clause-timely c =

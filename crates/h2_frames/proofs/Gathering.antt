@@ -1,0 +1,44 @@
+-- Going on in bytes that lie in pieces.
+use Rattle.std.proofs.Common.{◌≡◌, ℕ, zero, suc, ◌+◌, ◌-◌, ◌<◌, ◌≤◌, List, [], ◌∷◌, ◌++◌, length, get_or, take, drop, refl, ap, sym, ◌∙◌, arith, add-one, length-append, length-drop, drop-cons}
+use Rattle.std.proofs.Math.Seq.{take-length}
+use Rattle.std.specs.Borrow.{Bor}
+use Rattle.h2_frames.specs.declared.pieces.Pieces.{Pieces}
+use Rattle.h2_frames.specs.code.Pieces.{bytes_of, joined, IsCounted}
+
+none_before : (xs ys : List ℕ) → length xs ≡ 0 → xs ++ ys ≡ ys
+none_before [] ys h = refl
+none_before (x ∷ xs) ys h = absurd (omega arith)
+
+-- one piece, and then the others
+pub joined-from : (pieces : List (Bor (List ℕ))) (i : ℕ) (d : Bor (List ℕ)) → i < length pieces →
+    joined (drop i pieces) ≡ (get_or pieces i d).now ++ joined (drop (i + 1) pieces)
+joined-from pieces i d h = rw (add-one, drop-cons pieces i d h) refl
+
+pub length-from : (pieces : List (Bor (List ℕ))) (i : ℕ) (d : Bor (List ℕ)) → i < length pieces →
+    length (joined (drop i pieces)) ≡ length (get_or pieces i d).now + length (joined (drop (i + 1) pieces))
+length-from pieces i d h =
+    ap length (joined-from pieces i d h) ∙ length-append (get_or pieces i d).now (joined (drop (i + 1) pieces))
+
+pub joined-over : (pieces : List (Bor (List ℕ))) (i : ℕ) → length pieces ≤ i → length (joined (drop i pieces)) ≡ 0
+joined-over [] zero h = refl
+joined-over [] (suc i) h = refl
+joined-over (p ∷ ps) zero h = absurd (omega arith)
+joined-over (p ∷ ps) (suc i) h = joined-over ps i (omega arith)
+
+-- past a piece that is over the bytes are the same
+pub gone_on : (first : List ℕ) (later rest : List (Bor (List ℕ))) (d : Bor (List ℕ)) → length first ≡ 0 → 0 < length later →
+    rest ≡ take (length later - 1) (drop 1 later) → (get_or later 0 d).now ++ joined rest ≡ first ++ joined later
+gone_on first later rest d over more rest_is =
+    let from = joined-from later 0 d more in
+    let size : length later - 1 ≡ length (drop 1 later) = sym (length-drop 1 later) in
+    let whole : rest ≡ drop 1 later = rest_is ∙ ap (λ (n : ℕ). take n (drop 1 later)) size ∙ take-length (drop 1 later) in
+    rw whole (sym from ∙ sym (none_before first (joined later) over))
+
+-- some of the bytes were taken, and so many are still wanted
+pub record IsPartlyTaken (count wanted : ℕ) (old new : Pieces) (before gathered : List ℕ) : Type 0 where
+  pub front : List ℕ
+  pub size : length front + wanted ≡ count
+  pub bytes : bytes_of old ≡ front ++ bytes_of new
+  pub gathered_are : gathered ≡ before ++ front
+  pub counted : IsCounted new
+  pub there : wanted ≤ length (bytes_of new)

@@ -1,0 +1,9 @@
+use Rattle.h2_frames.proofs.Gathering.{IsPartlyTaken}
+use Rattle.h2_frames.proofs.pieces.Pieces.gather.Given as goal
+
+abbrev pub invariant-loop-wanted : goal.invariant-loop-wanted
+invariant-loop-wanted l =
+    IsPartlyTaken l.count l.wanted l.initial.self l.self l.initial.gathered.items l.gathered.items
+
+abbrev pub decreases-loop-wanted : goal.decreases-loop-wanted
+decreases-loop-wanted l = l.wanted

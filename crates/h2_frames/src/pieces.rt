@@ -1,0 +1,139 @@
+ghost use Rattle.std.specs.Prelude.{◌≡◌, ◌<◌, ◌≤◌, ◌^◌, ◌++◌, ◌∷◌, ℕ, List, length, IfOk, IfSome, IfNone};
+ghost use Rattle.h2_frames.specs.code.Pieces.{bytes_of, joined, IsCounted, IsFrameTaken, IsTaken};
+
+use crate::bodies::body_of;
+use crate::headers::{HEADER_LENGTH, Header};
+use crate::spelling::{Spelled, first_frame};
+use std::alloc::AllocError;
+
+/// How many bytes the pieces have.
+fn length_of(pieces: &[&[u8]]) -> usize
+    requires { length (joined pieces.now) < 2 ^ 31 }
+    ensures { result ≡ length (joined pieces.now) }
+{
+    let mut length = 0;
+    for piece in pieces {
+        length += piece.len();
+    }
+    length
+}
+
+/// Bytes that lie in pieces, as far as they are not read yet.
+#[derive(Clone, Copy)]
+pub(crate) struct Pieces<'a> {
+    /// What is left of the piece that is being read.
+    first: &'a [u8],
+    /// The pieces after it.
+    later: &'a [&'a [u8]],
+    /// How many bytes they all have.
+    length: usize,
+}
+
+impl<'a> Pieces<'a> {
+    pub fn of(pieces: &'a [&'a [u8]]) -> Pieces<'a>
+        requires { length (joined pieces.now) < 2 ^ 31 }
+        ensures bytes { bytes_of result ≡ joined pieces.now }
+        ensures counted { IsCounted result }
+    {
+        Pieces {
+            first: &[],
+            later: pieces,
+            length: length_of(pieces),
+        }
+    }
+
+    /// How many bytes are not read yet.
+    pub fn len(&self) -> usize
+        requires { IsCounted self.now }
+        ensures { result ≡ length (bytes_of self.now) }
+    {
+        self.length
+    }
+
+    /// Goes on to the next piece that has bytes, where the first has none.
+    fn go_on(&mut self)
+        requires { IsCounted self.old }
+        ensures bytes { bytes_of self.new ≡ bytes_of self.old }
+        ensures counted { IsCounted self.new }
+        ensures some { 0 < length (bytes_of self.new) → 0 < length self.new.first.now }
+    {
+        while self.first.is_empty() && !self.later.is_empty() {
+            self.first = self.later[0];
+            self.later = &self.later[1..];
+        }
+    }
+
+    /// Takes the first byte out.
+    pub fn take_byte(&mut self) -> Option<u8>
+        requires { IsCounted self.old }
+        ensures some { IfSome result (λ byte. bytes_of self.old ≡ byte ∷ bytes_of self.new) }
+        ensures none { IfNone result (length (bytes_of self.old) ≡ 0) }
+        ensures counted { IsCounted self.new }
+    {
+        self.go_on();
+        let (byte, later) = self.first.split_first()?;
+        self.first = later;
+        self.length -= 1;
+        Some(*byte)
+    }
+
+    /// Takes this many bytes out and puts them behind those gathered.
+    fn gather(&mut self, count: usize, gathered: &mut Vec<u8>) -> Result<(), AllocError>
+        requires counted { IsCounted self.old }
+        requires there { count ≤ length (bytes_of self.old) }
+        ensures { IfOk result (λ done. (front : List ℕ) × IsTaken count self.old self.new front
+            × (gathered.new.items ≡ gathered.old.items ++ front)) }
+    {
+        let mut wanted = count;
+        while wanted > 0 {
+            self.go_on();
+            let (front, later) = self.first.split_at(wanted.min(self.first.len()));
+            gathered.extend_from_slice(front)?;
+            self.first = later;
+            self.length -= front.len();
+            wanted -= front.len();
+        }
+        Ok(())
+    }
+
+    /// Takes the frame out that the bytes begin with, its header and then its payload gathered first, where they hold the
+    /// whole of it.
+    fn take_gathered(&mut self, gathered: &mut Vec<u8>) -> Result<Option<Spelled>, AllocError>
+        requires { IsCounted self.old }
+        ensures { IfOk result (λ found. IsFrameTaken found self.old self.new) }
+    {
+        if self.length < HEADER_LENGTH {
+            return Ok(None);
+        }
+        let mut rest = *self;
+        gathered.clear();
+        rest.gather(HEADER_LENGTH, gathered)?;
+        let header = Header::read(gathered.as_slice());
+        let length = header.length as usize;
+        if rest.length < length {
+            return Ok(None);
+        }
+        gathered.clear();
+        rest.gather(length, gathered)?;
+        let body = body_of(header.code, header.flags, gathered.as_slice());
+        *self = rest;
+        Ok(Some(Spelled { header, body }))
+    }
+
+    /// Takes the frame out that the bytes begin with, where they hold the whole of it: a frame in one piece is read in
+    /// place, another is gathered first.
+    pub fn take_frame(&mut self, gathered: &mut Vec<u8>) -> Result<Option<Spelled>, AllocError>
+        requires { IsCounted self.old }
+        ensures { IfOk result (λ found. IsFrameTaken found self.old self.new) }
+    {
+        self.go_on();
+        match first_frame(self.first) {
+            Some((spelled, later)) => {
+                self.length -= self.first.len() - later.len();
+                self.first = later;
+                Ok(Some(spelled))
+            }
+            None => self.take_gathered(gathered),
+        }
+    }
+}

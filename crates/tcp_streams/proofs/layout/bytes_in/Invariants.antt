@@ -1,6 +1,0 @@
-use Rattle.std.proofs.Common.{◌≡◌, take}
-use Rattle.tcp_streams.specs.code.Interval.{bytes_in}
-use Rattle.tcp_streams.proofs.layout.bytes_in.Given as goal
-
-abbrev pub invariant-loop-x : goal.invariant-loop-x
-invariant-loop-x l = l.bytes.items ≡ bytes_in l.capture (take l.x-index l.run)

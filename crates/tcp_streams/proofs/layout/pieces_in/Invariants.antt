@@ -1,0 +1,7 @@
+use Rattle.std.proofs.Common.{◌≡◌, take}
+use Rattle.tcp_streams.specs.Bytes.{joined}
+use Rattle.tcp_streams.specs.code.Interval.{bytes_in}
+use Rattle.tcp_streams.proofs.layout.pieces_in.Given as goal
+
+abbrev pub invariant-loop-x : goal.invariant-loop-x
+invariant-loop-x l = joined l.pieces.items ≡ bytes_in l.capture (take l.x-index l.run)
