@@ -27,6 +27,7 @@ use Rattle.pcap_records.specs.declared.capture.Record.{Record}
 use Rattle.pcap_records.proofs.Unique.{one_reading_lem}
 use Rattle.tcp_streams.specs.declared.members.Connection.{Connection}
 use Rattle.tcp_streams.specs.declared.streams.Flow.{Flow}
+use Rattle.tcp_streams.specs.Bytes.{bytes_of, joined}
 use Rattle.tcp_streams.specs.Members.{segments_of}
 use Rattle.tcp_streams.specs.Membership.{Membership, connections_of, membership, strays_of}
 use Rattle.tcp_streams.specs.Packets.{past_of}
@@ -48,11 +49,11 @@ record IsOneFlow (f g : Flow) : Type 0 where
 one_flow : (isn : Option ℕ) (capture : List ℕ) (segments : List Segment) (f g : Flow)
     → IsFlowFrom isn capture segments f → IsFlowFrom isn capture segments g → IsOneFlow f g
 one_flow None capture segments f g h k = record {
-  same = record { started = h.0 ∙ sym k.0; bytes = h.1 ∙ sym k.1; arrivals = h.2 ∙ sym k.2 };
+  same = record { started = h.0 ∙ sym k.0; bytes = ap joined (h.1 ∙ sym k.1); arrivals = h.2 ∙ sym k.2 };
   gap = h.3 ∙ sym k.3;
 }
 one_flow (Some isn) capture segments f g h k =
-    let parts = IsFlow-unique capture (source isn segments) f.bytes.items g.bytes.items f.arrivals.items g.arrivals.items f.gap g.gap h.1 k.1 in
+    let parts = IsFlow-unique capture (source isn segments) (bytes_of f) (bytes_of g) f.arrivals.items g.arrivals.items f.gap g.gap h.1 k.1 in
     record {
       same = record { started = h.0 ∙ sym k.0; bytes = parts.0; arrivals = parts.1 };
       gap = parts.2;

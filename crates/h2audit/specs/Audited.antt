@@ -11,6 +11,7 @@ use Rattle.packet_heads.specs.declared.packets.Packet.{Packet}
 use Rattle.packet_heads.specs.declared.packets.Segment.{Segment}
 use Rattle.tcp_streams.specs.declared.members.Connection.{Connection}
 use Rattle.tcp_streams.specs.declared.streams.Flow.{Flow}
+use Rattle.tcp_streams.specs.Bytes.{bytes_of}
 use Rattle.tcp_streams.specs.Flow.{IsFlow}
 use Rattle.tcp_streams.specs.Members.{initial_of, side_segments}
 use Rattle.tcp_streams.specs.Sequence.{source}
@@ -27,9 +28,9 @@ use Rattle.h2audit.specs.declared.verdict.Verdict.TheVariants.{Clean, Faults}
 -- the flow of segments, from the initial sequence number on; without such a number it is empty and not started
 abbrev pub IsFlowFrom : Option ℕ → List ℕ → List Segment → Flow → Type 0
 IsFlowFrom (Some isn) capture segments flow =
-    IsTrue flow.started × IsFlow capture (source isn segments) flow.bytes.items flow.arrivals.items flow.gap
+    IsTrue flow.started × IsFlow capture (source isn segments) (bytes_of flow) flow.arrivals.items flow.gap
 IsFlowFrom None capture segments flow =
-    (flow.started ≡ false) × (flow.bytes.items ≡ []) × (flow.arrivals.items ≡ []) × (flow.gap ≡ None)
+    (flow.started ≡ false) × (flow.pieces.items ≡ []) × (flow.arrivals.items ≡ []) × (flow.gap ≡ None)
 
 -- the flow of a side of a connection
 abbrev pub IsFlowOf : List ℕ → List Packet → Connection → Side → Flow → Type 0

@@ -113,14 +113,14 @@ fn cut_connection<R: Threads>(
 }
 
 /// The flows of both sides.
-fn flows_of<R: Threads>(
+fn flows_of<'a, R: Threads>(
     rt: &R,
     alloc: Global,
     by_two: bool,
-    capture: &[u8],
+    capture: &'a [u8],
     packets: &[Packet],
     connection: &Connection,
-) -> Result<(Flow, Flow), AllocError>
+) -> Result<(Flow<'a>, Flow<'a>), AllocError>
     requires { AreSources capture.now packets.now connection.now }
     ensures { IfOk result (AreFlows capture.now packets.now connection.now) }
 {
@@ -132,12 +132,12 @@ fn flows_of<R: Threads>(
 }
 
 /// The flows of both sides, made one after the other.
-fn flows_in_turn(
+fn flows_in_turn<'a>(
     alloc: Global,
-    capture: &[u8],
+    capture: &'a [u8],
     packets: &[Packet],
     connection: &Connection,
-) -> Result<(Flow, Flow), AllocError>
+) -> Result<(Flow<'a>, Flow<'a>), AllocError>
     requires { AreSources capture.now packets.now connection.now }
     ensures { IfOk result (AreFlows capture.now packets.now connection.now) }
 {
@@ -147,23 +147,23 @@ fn flows_in_turn(
 }
 
 /// The flows of both sides, the server's on a thread of its own where one can be had.
-fn flows_by_two<R: Threads>(
+fn flows_by_two<'a, R: Threads>(
     rt: &R,
     alloc: Global,
-    capture: &[u8],
+    capture: &'a [u8],
     packets: &[Packet],
     connection: &Connection,
-) -> Result<(Flow, Flow), AllocError>
+) -> Result<(Flow<'a>, Flow<'a>), AllocError>
     requires { AreSources capture.now packets.now connection.now }
     ensures { IfOk result (AreFlows capture.now packets.now connection.now) }
 {
     let (server, client) = join(
         rt,
-        || -> Result<Flow, AllocError>
+        || -> Result<Flow<'_>, AllocError>
             requires { AreSources capture.now packets.now connection.now }
             ensures { IfOk result (IsSideFlow capture.entry.now packets.entry.now connection.entry.now Server) }
         { flow_of(alloc, capture, packets, connection, Side::Server) },
-        || -> Result<Flow, AllocError>
+        || -> Result<Flow<'_>, AllocError>
             requires { AreSources capture.now packets.now connection.now }
             ensures { IfOk result (IsSideFlow capture.entry.now packets.entry.now connection.entry.now Client) }
         { flow_of(alloc, capture, packets, connection, Side::Client) },
@@ -174,13 +174,13 @@ fn flows_by_two<R: Threads>(
 }
 
 /// The flow of one side.
-fn flow_of(
+fn flow_of<'a>(
     alloc: Global,
-    capture: &[u8],
+    capture: &'a [u8],
     packets: &[Packet],
     connection: &Connection,
     side: Side,
-) -> Result<Flow, AllocError>
+) -> Result<Flow<'a>, AllocError>
     requires { AreSources capture.now packets.now connection.now }
     ensures { IfOk result (IsSideFlow capture.now packets.now connection.now side) }
 {

@@ -1,5 +1,5 @@
 -- The jobs of the first round: one for each connection, which finds nothing.
-use Rattle.std.specs.Prelude.{ℕ, ◌+◌, ◌^◌, ◌<◌, ◌≤◌, vec_len, Bool, List, [], ◌∷◌, map, length, All}
+use Rattle.std.specs.Prelude.{ℕ, ◌+◌, ◌^◌, ◌<◌, ◌≤◌, Bool, List, [], ◌∷◌, map, length, All}
 use Rattle.std.specs.List.{zip}
 use Rattle.std.specs.declared.vec.Vec.{Vec}
 use Rattle.std.specs.declared.alloc.Global.{Global}
@@ -18,6 +18,7 @@ use Rattle.audit_terms.specs.declared.sides.Side.{Side}
 use Rattle.audit_terms.specs.declared.sides.Side.TheVariants.{Client, Server}
 use Rattle.tcp_streams.specs.declared.streams.Flow.{Flow}
 use Rattle.tcp_streams.specs.Arrivals.{IsOrderly}
+use Rattle.tcp_streams.specs.Bytes.{bytes_of}
 use Rattle.tcp_streams.specs.Members.{payload_sum, side_segments}
 use Rattle.tcp_streams.specs.declared.members.Connection.{Connection}
 use Rattle.split_merge.specs.Board.{Job}
@@ -34,7 +35,7 @@ pub record AreSources (capture : List ℕ) (packets : List Packet) (connection :
 pub record IsSideFlow (capture : List ℕ) (packets : List Packet) (connection : Connection) (side : Side) (flow : Flow)
     : Type 0 where
   pub is : IsFlowOf capture packets connection side flow
-  pub within : vec_len flow.bytes ≤ payload_sum (side_segments packets connection side)
+  pub within : length (bytes_of flow) ≤ payload_sum (side_segments packets connection side)
   pub orderly : IsOrderly flow
 
 -- the flows of the client and of the server

@@ -13,6 +13,12 @@ cut-requires g c =
       together = omega (arith, fit, client.within, server.within, c.requires.size);
     }
 
+pub of_both-requires : goal.of_both-requires
+of_both-requires g c = record {
+  client = c.in_ok-client.ensures.0.orderly;
+  server = c.in_ok-client.ensures.1.orderly;
+}
+
 pub returns : goal.returns
 returns g c = record {
   flows = record { client = c.in_ok-client.client; server = c.in_ok-client.server };
