@@ -1,5 +1,5 @@
 -- Going on in bytes that lie in pieces.
-use Rattle.std.proofs.Common.{◌≡◌, ℕ, zero, suc, ◌+◌, ◌-◌, ◌<◌, ◌≤◌, List, [], ◌∷◌, ◌++◌, length, get_or, take, drop, refl, ap, sym, ◌∙◌, arith, add-one, length-append, length-drop, drop-cons}
+use Rattle.std.proofs.Common.{◌≡◌, ℕ, zero, suc, ◌+◌, ◌-◌, ◌<◌, ◌≤◌, List, [], ◌∷◌, ◌++◌, length, get_or, take, drop, refl, ap, sym, ◌∙◌, arith, append_assoc, add-one, length-append, length-drop, drop-cons}
 use Rattle.std.proofs.Math.Seq.{take-length}
 use Rattle.std.specs.Borrow.{Bor}
 use Rattle.h2_frames.specs.declared.pieces.Pieces.{Pieces}
@@ -35,10 +35,27 @@ gone_on first later rest d over more rest_is =
     rw whole (sym from ∙ sym (none_before first (joined later) over))
 
 -- some of the bytes were taken, and so many are still wanted
-pub record IsPartlyTaken (count wanted : ℕ) (old new : Pieces) (before gathered : List ℕ) : Type 0 where
+pub record IsPartlyTaken (count wanted : ℕ) (old new : Pieces) : Type 0 where
   pub front : List ℕ
   pub size : length front + wanted ≡ count
   pub bytes : bytes_of old ≡ front ++ bytes_of new
-  pub gathered_are : gathered ≡ before ++ front
   pub counted : IsCounted new
   pub there : wanted ≤ length (bytes_of new)
+
+-- one part more
+abbrev pub partly_taken-turn : (count wanted : ℕ) (old now next : Pieces) (part : List ℕ) → IsPartlyTaken count wanted old now →
+    bytes_of now ≡ part ++ bytes_of next → length part ≤ wanted → IsCounted next →
+    IsPartlyTaken count (wanted - length part) old next
+partly_taken-turn count wanted old now next part taken part_is fits counted =
+    let size : length (bytes_of now) ≡ length part + length (bytes_of next) =
+    ap length part_is ∙ length-append part (bytes_of next) in
+    let before : length taken.front + wanted ≡ count = taken.size in
+    let there : wanted ≤ length (bytes_of now) = taken.there in
+    record {
+      front = taken.front ++ part;
+      size = omega (arith, length-append taken.front part);
+      bytes = taken.bytes ∙ ap (λ (xs : List ℕ). taken.front ++ xs) part_is
+          ∙ sym (append_assoc taken.front part (bytes_of next));
+      counted = counted;
+      there = omega arith;
+    }

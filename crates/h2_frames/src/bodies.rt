@@ -1,4 +1,5 @@
-ghost use Rattle.std.specs.Prelude.{◌≡◌, ◌+◌, ◌-◌, ◌<◌, ◌≤◌, ◌^◌, length};
+ghost use Rattle.std.specs.Prelude.{◌≡◌, ℕ, ◌+◌, ◌-◌, ◌<◌, ◌≤◌, ◌^◌, List, length, IsTrue};
+ghost use Rattle.audit_terms.specs.declared.frames.Body.TheVariants.{Content};
 ghost use Rattle.audit_terms.specs.Frame.{promised_in};
 ghost use Rattle.audit_terms.specs.FrameType.{has_flag};
 ghost use Rattle.h2_frames.specs.Body.{body_of, data_body, field_block_body, go_away_body, headers_body, of_length, priority_body, push_promise_body, settings_body, window_update_body, wrong_size};
@@ -181,6 +182,13 @@ fn window_update_body(payload: &[u8]) -> Body
     } else {
         wrong_size(payload)
     }
+}
+
+/// Is the payload content, whatever its bytes are?
+pub(crate) fn is_content(code: u8, flags: u8) -> bool
+    ensures { IsTrue result → (payload : List ℕ) → body_of code flags payload ≡ Content }
+{
+    code == DATA && !has_flag(flags, PADDED_FLAG)
 }
 
 /// What the payload says, by the frame's type and flags.

@@ -45,8 +45,8 @@ fn http2(alloc: Global, rest: Pieces<'_>, client: &Flow, server: &Flow) -> Resul
 /// flows of one connection `tcp_streams::laws::sides_fit`, with `assemble`'s clause `within`, gives this. Where the
 /// server's flow is not started the answer is [`Cut::NoHandshake`]; else the client's bytes decide, by the connection
 /// preface (RFC 9113, 3.4): [`Cut::NoPreface`] where they end within it, [`Cut::NotHttp2`] where they do not begin with
-/// it. The frames of [`Cut::Http2`] are numbered from 1 in capture order. One pass over each flow; a frame is copied only
-/// where it lies in several pieces, into a buffer that the next one uses again.
+/// it. The frames of [`Cut::Http2`] are numbered from 1 in capture order. One pass over each flow; a frame is
+/// copied only where it lies in several pieces and its payload matters, into a buffer that the next one uses again.
 pub fn cut(alloc: Global, client: &Flow, server: &Flow) -> Result<Cut, AllocError>
     requires client { IsOrderly client.now }
     requires server { IsOrderly server.now }

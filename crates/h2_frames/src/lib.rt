@@ -18,11 +18,13 @@
 //!
 //! The definition of a spelling is a grammar by cases on the list of frames, and the order an insertion sort. The code
 //! follows neither: it reads both flows through cursors, each with its next frame read ahead, and the frame that stands
-//! first goes into the one list. A cursor takes bytes that lie in pieces; a frame within one piece is read in place,
-//! another is put together in a buffer first.
+//! first goes into the one list. A cursor takes bytes that lie in pieces; a frame within one piece is read in place;
+//! another's header and payload are put together in a buffer first, but for data with no padding, whose payload no one
+//! looks at.
 //!
-//! Wrong bodies that the prover refuses: padding as long as the payload, an order by first bytes. Worked examples of
-//! bodies, headers and order are proved in `crate_tests`. Tested by whole reports: that `cut` succeeds where there is
+//! Wrong bodies that the prover refuses: padding as long as the payload, an order by first bytes, a last payload taken
+//! for cut short, padded data taken for content unseen. Worked examples of bodies, headers and order are proved in
+//! `crate_tests`. Tested by whole reports: that `cut` succeeds where there is
 //! memory, on connections of each of the four kinds.
 #![tactic(auto)]
 

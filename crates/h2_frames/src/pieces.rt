@@ -1,9 +1,12 @@
 ghost use Rattle.std.specs.Prelude.{◌≡◌, ◌<◌, ◌≤◌, ◌^◌, ◌++◌, ◌∷◌, ℕ, List, length, IfOk, IfSome, IfNone};
+ghost use Rattle.audit_terms.specs.Frame.{promised_in};
+ghost use Rattle.h2_frames.specs.Body.{body_of};
 ghost use Rattle.h2_frames.specs.code.Pieces.{bytes_of, joined, IsCounted, IsFrameTaken, IsTaken};
 
-use crate::bodies::body_of;
+use crate::bodies::{body_of, is_content};
 use crate::headers::{HEADER_LENGTH, Header};
 use crate::spelling::{Spelled, first_frame};
+use audit_terms::Body;
 use std::alloc::AllocError;
 
 /// How many bytes the pieces have.
@@ -77,6 +80,23 @@ impl<'a> Pieces<'a> {
         Some(*byte)
     }
 
+    /// Takes bytes out that lie together, as many as are wanted if the piece has them.
+    fn take_part(&mut self, wanted: usize) -> &'a [u8]
+        requires counted { IsCounted self.old }
+        requires some { 0 < wanted }
+        requires there { wanted ≤ length (bytes_of self.old) }
+        ensures bytes { bytes_of self.old ≡ result.now ++ bytes_of self.new }
+        ensures some { 0 < length result.now }
+        ensures fits { length result.now ≤ wanted }
+        ensures counted { IsCounted self.new }
+    {
+        self.go_on();
+        let (part, later) = self.first.split_at(wanted.min(self.first.len()));
+        self.first = later;
+        self.length -= part.len();
+        part
+    }
+
     /// Takes this many bytes out and puts them behind those gathered.
     fn gather(&mut self, count: usize, gathered: &mut Vec<u8>) -> Result<(), AllocError>
         requires counted { IsCounted self.old }
@@ -86,19 +106,46 @@ impl<'a> Pieces<'a> {
     {
         let mut wanted = count;
         while wanted > 0 {
-            self.go_on();
-            let (front, later) = self.first.split_at(wanted.min(self.first.len()));
-            gathered.extend_from_slice(front)?;
-            self.first = later;
-            self.length -= front.len();
-            wanted -= front.len();
+            let part = self.take_part(wanted);
+            gathered.extend_from_slice(part)?;
+            wanted -= part.len();
         }
         Ok(())
     }
 
-    /// Takes the frame out that the bytes begin with, its header and then its payload gathered first, where they hold the
-    /// whole of it.
-    fn take_gathered(&mut self, gathered: &mut Vec<u8>) -> Result<Option<Spelled>, AllocError>
+    /// Takes this many bytes out without a look at them.
+    fn skip(&mut self, count: usize)
+        requires counted { IsCounted self.old }
+        requires there { count ≤ length (bytes_of self.old) }
+        ensures { (front : List ℕ) × IsTaken count self.old self.new front }
+    {
+        let mut wanted = count;
+        while wanted > 0 {
+            wanted -= self.take_part(wanted).len();
+        }
+    }
+
+    /// Takes a payload out, and says what it says.
+    fn take_payload(&mut self, header: Header, gathered: &mut Vec<u8>) -> Result<Body, AllocError>
+        requires counted { IsCounted self.old }
+        requires short { header.length < 2 ^ 24 }
+        requires there { header.length ≤ length (bytes_of self.old) }
+        ensures body { IfOk result (λ body. (payload : List ℕ) × IsTaken header.length self.old self.new payload
+            × (body ≡ body_of header.code header.flags payload)) }
+        ensures promised { IfOk result (λ body. promised_in body < 2 ^ 31) }
+    {
+        let length = header.length as usize;
+        if is_content(header.code, header.flags) {
+            self.skip(length);
+            return Ok(Body::Content);
+        }
+        gathered.clear();
+        self.gather(length, gathered)?;
+        Ok(body_of(header.code, header.flags, gathered.as_slice()))
+    }
+
+    /// Takes the frame out that the bytes begin with, where they hold the whole of it and it lies in several pieces.
+    fn take_scattered(&mut self, gathered: &mut Vec<u8>) -> Result<Option<Spelled>, AllocError>
         requires { IsCounted self.old }
         ensures { IfOk result (λ found. IsFrameTaken found self.old self.new) }
     {
@@ -109,19 +156,16 @@ impl<'a> Pieces<'a> {
         gathered.clear();
         rest.gather(HEADER_LENGTH, gathered)?;
         let header = Header::read(gathered.as_slice());
-        let length = header.length as usize;
-        if rest.length < length {
+        if rest.length < header.length as usize {
             return Ok(None);
         }
-        gathered.clear();
-        rest.gather(length, gathered)?;
-        let body = body_of(header.code, header.flags, gathered.as_slice());
+        let body = rest.take_payload(header, gathered)?;
         *self = rest;
         Ok(Some(Spelled { header, body }))
     }
 
     /// Takes the frame out that the bytes begin with, where they hold the whole of it: a frame in one piece is read in
-    /// place, another is gathered first.
+    /// place.
     pub fn take_frame(&mut self, gathered: &mut Vec<u8>) -> Result<Option<Spelled>, AllocError>
         requires { IsCounted self.old }
         ensures { IfOk result (λ found. IsFrameTaken found self.old self.new) }
@@ -133,7 +177,7 @@ impl<'a> Pieces<'a> {
                 self.first = later;
                 Ok(Some(spelled))
             }
-            None => self.take_gathered(gathered),
+            None => self.take_scattered(gathered),
         }
     }
 }

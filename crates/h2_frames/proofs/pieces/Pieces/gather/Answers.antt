@@ -1,0 +1,23 @@
+use Rattle.std.proofs.Common.{List, [], ◌++◌, refl, ap, sym, ◌∙◌, append_assoc, arith}
+use Rattle.std.specs.Prelude.{ℕ}
+use Rattle.std.proofs.lemmas.List.{append-nil}
+use Rattle.h2_frames.proofs.Gathering.{partly_taken-turn}
+use Rattle.h2_frames.proofs.pieces.Pieces.gather.Goals as goal
+
+pub loop-wanted-init : goal.loop-wanted-init
+loop-wanted-init c = record {
+  taken = record { front = []; size = omega arith; bytes = refl; counted = c.requires.counted; there = c.requires.there };
+  gathered_are = sym (append-nil c.args.gathered.now.items);
+}
+
+pub loop-wanted-preserved : goal.loop-wanted-preserved
+loop-wanted-preserved c =
+    let part = c.take_part-part in
+    let before = c.loop-wanted.invariant in
+    record {
+      taken = partly_taken-turn c.args.count c.loop-wanted.wanted c.args.self.now c.loop-wanted.self part.new.self part.result.now
+          before.taken part.ensures.bytes part.ensures.fits part.ensures.counted;
+      gathered_are = c.in_ok-extend_from_slice.ensures.items
+          ∙ ap (λ (xs : List ℕ). xs ++ part.result.now) before.gathered_are
+          ∙ append_assoc c.args.gathered.now.items before.taken.front part.result.now;
+    }
