@@ -3,7 +3,16 @@
 use audit_terms::Side;
 use packet_heads::{Packet, Segment};
 use std::alloc::{AllocError, Global};
-use tcp_streams::{Arrival, Connection, Flow};
+use tcp_streams::{Arrival, Connection};
+
+/// A flow with bytes of its own.
+#[derive(Drop)]
+pub struct PlainFlow {
+    pub started: bool,
+    pub bytes: Vec<u8>,
+    pub arrivals: Vec<Arrival>,
+    pub gap: Option<u64>,
+}
 
 /// A byte at an offset that counts.
 #[derive(Clone, Copy)]
@@ -21,9 +30,9 @@ pub fn assemble(
     packets: &[Packet],
     connection: &Connection,
     side: Side,
-) -> Result<Flow, AllocError> {
+) -> Result<PlainFlow, AllocError> {
     let Some(initial_number) = connection.initial_of(side) else {
-        return Ok(Flow {
+        return Ok(PlainFlow {
             started: false,
             bytes: Vec::new(alloc),
             arrivals: Vec::new(alloc),
@@ -79,7 +88,7 @@ fn is_covered(covered: &[Covered], offset: u64) -> bool {
 }
 
 /// Takes the bytes at offset 0, 1 and so on, as far as they are covered.
-fn lay_out(alloc: Global, covered: &[Covered]) -> Result<Flow, AllocError> {
+fn lay_out(alloc: Global, covered: &[Covered]) -> Result<PlainFlow, AllocError> {
     let mut bytes = Vec::new(alloc);
     let mut arrivals = Vec::new(alloc);
     for _ in covered {
@@ -98,7 +107,7 @@ fn lay_out(alloc: Global, covered: &[Covered]) -> Result<Flow, AllocError> {
             gap = Some(length);
         }
     }
-    Ok(Flow {
+    Ok(PlainFlow {
         started: true,
         bytes,
         arrivals,

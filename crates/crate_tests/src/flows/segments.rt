@@ -1,6 +1,6 @@
 //! The client's flow of segments that overlap, by the calls and by the plain program.
 
-use super::plain;
+use super::plain::{self, PlainFlow};
 use audit_terms::Side;
 use packet_heads::decode_all;
 use pcap_records::records;
@@ -25,8 +25,24 @@ fn capture_of(
     Ok(capture)
 }
 
+/// The flow with its bytes in one piece.
+fn gathered(alloc: Global, flow: &Flow) -> Result<PlainFlow, AllocError> {
+    let mut bytes = Vec::new(alloc);
+    for piece in &flow.pieces {
+        bytes.extend_from_slice(*piece)?;
+    }
+    let mut arrivals = Vec::new(alloc);
+    arrivals.extend_from_slice(flow.arrivals.as_slice())?;
+    Ok(PlainFlow {
+        started: flow.started,
+        bytes,
+        arrivals,
+        gap: flow.gap,
+    })
+}
+
 /// What of a flow is compared.
-fn fields(flow: &Flow) -> (bool, &[u8], &[Arrival], Option<u64>) {
+fn fields(flow: &PlainFlow) -> (bool, &[u8], &[Arrival], Option<u64>) {
     (
         flow.started,
         flow.bytes.as_slice(),
@@ -36,13 +52,16 @@ fn fields(flow: &Flow) -> (bool, &[u8], &[Arrival], Option<u64>) {
 }
 
 /// The client's flow in the first connection, which the plain program finds too.
-fn flow_of(rt: &impl Abort, alloc: Global, capture: &[u8]) -> Result<Flow, Fail> {
+fn flow_of(rt: &impl Abort, alloc: Global, capture: &[u8]) -> Result<PlainFlow, Fail> {
     let found = records(alloc, capture)?;
     let packets = decode_all(alloc, &found, capture)?;
     let streams = connections(alloc, &packets)?;
     assert!(rt; !streams.opened.is_empty() && capture.len() < 0x8000_0000);
     let connection = &streams.opened[0];
-    let flow = assemble(alloc, capture, &packets, connection, Side::Client)?;
+    let flow = gathered(
+        alloc,
+        &assemble(alloc, capture, &packets, connection, Side::Client)?,
+    )?;
     let plain = plain::assemble(alloc, capture, &packets, connection, Side::Client)?;
     assert_eq!(rt; fields(&flow), fields(&plain));
     Ok(flow)

@@ -1,7 +1,8 @@
 //! The calls that answer some lines of a report.
 
-ghost use Rattle.std.specs.Prelude.{◌≡◌, ◌+◌, ◌*◌, ◌<◌, ◌^◌};
+ghost use Rattle.std.specs.Prelude.{◌≡◌, ◌+◌, ◌*◌, ◌<◌, ◌^◌, length, IfOk};
 ghost use Rattle.audit_terms.specs.Frame.{IsInRange};
+ghost use Rattle.tcp_streams.specs.Arrivals.{IsOrderly};
 
 use audit_report::{capture_lines, connection_lines, finding_line};
 use audit_terms::{Body, Finding, Frame, Kind, Place, Side, Sides};
@@ -10,7 +11,7 @@ use packet_heads::{Endpoint, Packet, Refusal, Segment, Skip};
 use pcap_records::{Record, Records};
 use std::alloc::{AllocError, Global};
 use std::test::Fail;
-use tcp_streams::{Connection, Flow, Stray};
+use tcp_streams::{Arrival, Connection, Flow, Stray};
 
 const CLIENT: Endpoint = Endpoint {
     address: 0x0a000001,
@@ -95,11 +96,23 @@ fn each_kind_of_packet(rt: HostRuntime) -> Result<(), Fail> {
     Ok(())
 }
 
-fn flow(alloc: Global, size: usize, gap: Option<u64>) -> Result<Flow, AllocError> {
+// A flow of these bytes, which one record brought.
+fn flow<'a>(alloc: Global, bytes: &'a [u8], gap: Option<u64>) -> Result<Flow<'a>, AllocError>
+    requires { (0 < length bytes.now) × (length bytes.now < 2 ^ 31) }
+    ensures { IfOk result IsOrderly }
+{
+    let mut pieces = Vec::new(alloc);
+    pieces.extend_from_slice(&[bytes])?;
+    let mut arrivals = Vec::new(alloc);
+    arrivals.push(Arrival {
+        upto: bytes.len() as u64,
+        rec: 1,
+        nanos: 0,
+    })?;
     Ok(Flow {
-        started: size > 0,
-        bytes: vec![in alloc; 0; size]?,
-        arrivals: Vec::new(alloc),
+        started: true,
+        pieces,
+        arrivals,
         gap,
     })
 }
@@ -147,8 +160,8 @@ fn snapped_gap(rt: HostRuntime) -> Result<(), Fail> {
         server_isn: None,
         members: Vec::new(alloc),
     };
-    let client = flow(alloc, 110, Some(110))?;
-    let server = flow(alloc, 18, None)?;
+    let client = flow(alloc, &[0; 110], Some(110))?;
+    let server = flow(alloc, &[0; 18], None)?;
     let text = connection_lines(alloc, 1, &connection, &client, &server, &cut)?;
     assert_eq!(rt; text.as_slice(), CONNECTION_LINES.as_bytes());
     Ok(())
