@@ -192,6 +192,8 @@ pub(crate) fn is_content(code: u8, flags: u8) -> bool
 }
 
 /// What the payload says, by the frame's type and flags.
+// Called once for each frame that lies in one piece, and from one other place.
+#[inline(always)]
 pub(crate) fn body_of(code: u8, flags: u8, payload: &[u8]) -> Body
     requires { length payload.now < 2 ^ 24 }
     ensures exact { result ≡ body_of code flags payload.now }
