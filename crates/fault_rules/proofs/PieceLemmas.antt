@@ -94,6 +94,12 @@ orderly-in_range low (frame ∷ frames) h = (h.1, orderly-in_range (frame.number
 pub orderly-All : (low : ℕ) (frames : List Frame) → IsOrderlyFrom low frames → All IsInRange frames
 orderly-All low frames h = All-from_recursion IsInRange frames (orderly-in_range low frames h)
 
+-- nothing comes before the first piece
+pub before_piece-first : (size : ℕ) (frames : List Frame) → before_piece size frames 0 ≡ no_previous
+before_piece-first size frames =
+    let first : 0 * size ≡ 0 = omega arith in
+    ap (λ k. previous_after_all no_previous (take k frames)) first
+
 -- what comes before the next piece
 pub before_piece-next : (size : ℕ) (frames : List Frame) (n : ℕ) →
     before_piece size frames (n + 1) ≡ previous_after_all (before_piece size frames n) (slice_chunk frames size n)

@@ -1,8 +1,10 @@
-use Rattle.std.proofs.Common.{◌≡◌, ◌+◌, ◌++◌, ◌∷◌, [], length, refl, sym, ap, ◌∙◌, length-append}
+use Rattle.std.proofs.Common.{◌≡◌, ◌+◌, ◌++◌, ◌∷◌, [], length, refl, sym, ap, ◌∙◌, length-append, ◌*◌, ◌/◌, ◌%◌, ◌<◌, ◌≤◌, min, arith}
 use Rattle.std.specs.Fork.{slice_chunk}
 use Rattle.std.proofs.lemmas.Slice.{pushed}
+use Rattle.std.proofs.Math.Nat.{mul-le-mul_right}
+use Rattle.std.proofs.lemmas.Grind.{div_ceil_times}
 use Rattle.fault_rules.specs.code.Pieces.{previous_after_all}
-use Rattle.fault_rules.proofs.PieceLemmas.{before_piece-next, befores-push}
+use Rattle.fault_rules.proofs.PieceLemmas.{before_piece-first, before_piece-next, befores-push}
 use Rattle.fault_rules.proofs.pieces.befores.Goals as goal
 
 pub loop-n-preserved : goal.loop-n-preserved
@@ -20,4 +22,32 @@ loop-n-preserved c =
           ∙ sym (before_piece-next c.args.size frames c.loop-n.n);
       count = ap length grown ∙ longer ∙ ap (λ k. k + 1) i.count;
       each = rw grown (befores-push c.args.size frames old before c.loop-n.n i.count i.previous i.each);
+    }
+
+pub loop-n-init : goal.loop-n-init
+loop-n-init c =
+    let start : c.new-befores.result.items ≡ [] = c.new-befores.ensures.items in
+    record {
+      previous = c.none_before-previous.ensures ∙ sym (before_piece-first c.args.size c.args.frames.now);
+      count = ap length start;
+      each = λ k d l. absurd (omega (arith, l, ap length start));
+    }
+
+pub returns : goal.returns
+returns c =
+    let all = length c.args.frames.now in
+    let size = c.args.size in
+    let i = c.loop-n.invariant in
+    let bounds = div_ceil_times all size c.requires in
+    let count : length c.loop-n.befores.items ≡ all / size + min 1 (all % size) =
+    omega (arith, i.count, c.div_ceil-n-end.ensures, c.loop-n-test.false, c.loop-n.auto.n-end) in
+    record {
+      whole = rw count bounds.0;
+      inside = λ n l.
+          let here : n + 1 ≤ length c.loop-n.befores.items = omega (arith, l) in
+          let next = mul-le-mul_right size here in
+          let e : (n + 1) * size ≡ n * size + size = omega arith in
+          let last : length c.loop-n.befores.items * size < all + size = rw count bounds.1 in
+          omega (arith, next, e, last);
+      each = λ n d l. i.each n d l;
     }
