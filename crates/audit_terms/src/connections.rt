@@ -1,7 +1,7 @@
 ghost use Rattle.std.specs.Prelude.{◌≡◌, ℕ, ℤ, pos, ◌+◌, ◌-◌, ◌^◌, ◌<◌, ◌++◌, OnOk, OnErr};
 
 use crate::counts::Count;
-use crate::findings::{Finding, say_if};
+use crate::findings::{Finding, say_at};
 use crate::frames::{CONTINUATION, Frame, HEADERS, PUSH_PROMISE, SETTINGS};
 use crate::items::{Change, Item};
 use crate::kinds::Kind;
@@ -84,18 +84,19 @@ impl ConnectionState {
     {
         let count = self.count(side, frame);
         let number = frame.number;
-        let zero = Finding::at(Kind::ZeroConnectionGrant, number, 0, side.other(), 0);
-        say_if(found, frame.grants_nothing(side, 0), zero)?;
-        let overflow = count.finding(Kind::ConnectionOverflow, number, 0, side);
-        say_if(found, count.overflows(), overflow)?;
-        let overrun = count.finding(Kind::ConnectionOverrun, number, 0, side);
-        say_if(found, count.overruns(), overrun)?;
-        let end = count.finding(Kind::ConnectionStallEnd, number, 0, side);
-        say_if(found, count.stall_ends(), end)?;
-        let begin = count.finding(Kind::ConnectionStallBegin, number, 0, side);
-        say_if(found, count.stall_begins(), begin)?;
-        let credit = count.finding(Kind::ConnectionCredit, number, 0, side);
-        say_if(found, count.moves(), credit)
+        let is_zero = frame.grants_nothing(side, 0);
+        let kind = Kind::ZeroConnectionGrant;
+        say_at(found, is_zero, kind, number, 0, side.other(), 0)?;
+        let kind = Kind::ConnectionOverflow;
+        count.say(found, count.overflows(), kind, number, 0, side)?;
+        let kind = Kind::ConnectionOverrun;
+        count.say(found, count.overruns(), kind, number, 0, side)?;
+        let kind = Kind::ConnectionStallEnd;
+        count.say(found, count.stall_ends(), kind, number, 0, side)?;
+        let kind = Kind::ConnectionStallBegin;
+        count.say(found, count.stall_begins(), kind, number, 0, side)?;
+        let kind = Kind::ConnectionCredit;
+        count.say(found, count.moves(), kind, number, 0, side)
     }
 
     /// Adds what a frame shows of both connection windows, and counts it in them (RFC 9113, 6.9.1). Without memory
@@ -260,8 +261,16 @@ fn say_length(found: &mut Vec<Finding>, limit: u32, frame: &Frame) -> Result<(),
     } else {
         Kind::LongFrame
     };
-    let long = Finding::at(kind, frame.number, frame.stream, frame.side, frame.length);
-    say_if(found, limit < frame.length, long)
+    let long = limit < frame.length;
+    say_at(
+        found,
+        long,
+        kind,
+        frame.number,
+        frame.stream,
+        frame.side,
+        frame.length,
+    )
 }
 
 /// Adds a promise of the server while the client takes none (8.4).
@@ -269,8 +278,16 @@ fn say_push(found: &mut Vec<Finding>, push: u32, frame: &Frame) -> Result<(), Al
     requires { IsInRange frame.now }
     ensures { OnOk result (found.new.items ≡ found.old.items ++ push_said push frame.now) }
 {
-    let push_at_all = Finding::at(Kind::Push, frame.number, frame.stream, frame.side, 0);
-    say_if(found, frame.is_server_promise() && push == 0, push_at_all)
+    let push_at_all = frame.is_server_promise() && push == 0;
+    say_at(
+        found,
+        push_at_all,
+        Kind::Push,
+        frame.number,
+        frame.stream,
+        frame.side,
+        0,
+    )
 }
 
 /// Adds a stream that the client opens, where it is not above each one that it opened before (5.1.1).
@@ -279,17 +296,15 @@ fn say_opening_order(found: &mut Vec<Finding>, opened: u32, item: &Item) -> Resu
     ensures { OnOk result (found.new.items ≡ found.old.items ++ opening_order_said opened item.now) }
 {
     let frame = &item.frame;
-    let out_of_order = Finding::at(
+    let out_of_order = is_opened_by_headers(item) && frame.stream <= opened;
+    say_at(
+        found,
+        out_of_order,
         Kind::IdNotGreater,
         frame.number,
         frame.stream,
         frame.side,
         opened,
-    );
-    say_if(
-        found,
-        is_opened_by_headers(item) && frame.stream <= opened,
-        out_of_order,
     )
 }
 
@@ -303,16 +318,14 @@ fn say_promise_order(
     ensures { OnOk result (found.new.items ≡ found.old.items ++ promise_order_said promised frame.now) }
 {
     let stream = frame.body.promised();
-    let out_of_order = Finding::at(
+    let out_of_order = frame.is_server_promise() && (stream % 2 == 1 || stream <= promised);
+    say_at(
+        found,
+        out_of_order,
         Kind::IdNotGreater,
         frame.number,
         stream,
         frame.side,
         promised,
-    );
-    say_if(
-        found,
-        frame.is_server_promise() && (stream % 2 == 1 || stream <= promised),
-        out_of_order,
     )
 }

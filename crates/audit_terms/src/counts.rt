@@ -1,9 +1,10 @@
-ghost use Rattle.std.specs.Prelude.{◌≡◌, ℕ, ◌-◌, ◌^◌, ◌<◌, ◌≤◌, not};
+ghost use Rattle.std.specs.Prelude.{◌≡◌, ℕ, ◌-◌, ◌^◌, ◌<◌, ◌≤◌, ◌++◌, not, OnOk};
 
-use crate::findings::Finding;
+use crate::findings::{Finding, say_if};
 use crate::kinds::Kind;
 use crate::places::Place;
 use crate::sides::Side;
+use std::alloc::AllocError;
 
 /// The largest credit that a window may have (RFC 9113, 6.9.1).
 pub const LARGEST_WINDOW: u32 = 0x7fff_ffff;
@@ -22,7 +23,7 @@ pub struct Count {
 impl Count {
     ghost use Rattle.std.specs.Ordering.{int_eq};
     ghost use Rattle.audit_terms.specs.Window.{is_used_up, overflows, overruns, stall_begins, stall_ends};
-    ghost use Rattle.audit_terms.specs.Finding.{finding_at};
+    ghost use Rattle.audit_terms.specs.Finding.{finding_at, say};
 
     /// Does the credit rise above the largest window, 2^31 - 1?
     pub fn overflows(&self) -> bool
@@ -71,5 +72,23 @@ impl Count {
             kind,
             value: self.after,
         }
+    }
+
+    /// Adds the finding of a kind with the credit after the step, where a test holds.
+    pub(crate) fn say(
+        &self,
+        found: &mut Vec<Finding>,
+        holds: bool,
+        kind: Kind,
+        number: u32,
+        stream: u32,
+        side: Side,
+    ) -> Result<(), AllocError>
+        requires numbered { number ≤ 2 ^ 28 - 2 }
+        requires streamed { stream < 2 ^ 31 }
+        ensures { OnOk result (found.new.items
+            ≡ found.old.items ++ say holds (finding_at kind number stream side self.now.after)) }
+    {
+        say_if(found, holds, self.finding(kind, number, stream, side))
     }
 }

@@ -60,7 +60,7 @@ impl Finding {
     }
 }
 
-ghost use Rattle.audit_terms.specs.Finding.{say, stops, in_order, upto_stop, is_shown, shown};
+ghost use Rattle.audit_terms.specs.Finding.{finding_at, say, stops, in_order, upto_stop, is_shown, shown};
 ghost use Rattle.audit_terms.specs.Look.{up_to};
 ghost use Rattle.std.specs.Prelude.{position};
 
@@ -73,6 +73,23 @@ pub fn say_if(found: &mut Vec<Finding>, holds: bool, finding: Finding) -> Result
         found.push(finding)?;
     }
     Ok(())
+}
+
+/// Adds the finding of a kind at a frame's number and a stream, of a side, where a test holds.
+pub(crate) fn say_at(
+    found: &mut Vec<Finding>,
+    holds: bool,
+    kind: Kind,
+    number: u32,
+    stream: u32,
+    side: Side,
+    value: u32,
+) -> Result<(), AllocError>
+    requires numbered { number ≤ 2 ^ 28 - 2 }
+    requires streamed { stream < 2 ^ 31 }
+    ensures { OnOk result (found.new.items ≡ found.old.items ++ say holds (finding_at kind number stream side (pos value))) }
+{
+    say_if(found, holds, Finding::at(kind, number, stream, side, value))
 }
 
 /// Puts findings in order, in n log n steps.

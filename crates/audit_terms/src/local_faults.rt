@@ -24,14 +24,14 @@ pub fn say_local(
 {
     let code = u32::from(frame.code);
     let bad_preface = previous.is_none() && !is_settings(frame);
-    say_if(found, bad_preface, fault(Kind::BadPreface, frame, code))?;
+    say_fault(found, bad_preface, Kind::BadPreface, frame, code)?;
     let broken_block = breaks_block(previous, frame);
-    say_if(found, broken_block, fault(Kind::BrokenBlock, frame, code))?;
+    say_fault(found, broken_block, Kind::BrokenBlock, frame, code)?;
     let wrong_stream = is_on_wrong_stream(frame);
-    say_if(found, wrong_stream, fault(Kind::WrongStream, frame, code))?;
+    say_fault(found, wrong_stream, Kind::WrongStream, frame, code)?;
     say_body(found, frame)?;
     let client_push = frame.code == PUSH_PROMISE && Side::Client == frame.side;
-    say_if(found, client_push, fault(Kind::Push, frame, 0))
+    say_fault(found, client_push, Kind::Push, frame, 0)
 }
 
 /// The last frame of each side after a frame.
@@ -52,6 +52,7 @@ pub fn previous_after(previous: &Sides<Option<Frame>>, frame: &Frame) -> Sides<O
 
 ghost use Rattle.std.specs.Prelude.{pos};
 ghost use Rattle.audit_terms.specs.LocalFault.{fault};
+ghost use Rattle.audit_terms.specs.Finding.{say};
 
 /// A fault of the frame's sender.
 fn fault(kind: Kind, frame: &Frame, value: u32) -> Finding
@@ -59,6 +60,20 @@ fn fault(kind: Kind, frame: &Frame, value: u32) -> Finding
     ensures { result ≡ fault kind frame.now value }
 {
     Finding::at(kind, frame.number, frame.stream, frame.side, value)
+}
+
+/// Adds a fault of the frame's sender where a test holds.
+fn say_fault(
+    found: &mut Vec<Finding>,
+    holds: bool,
+    kind: Kind,
+    frame: &Frame,
+    value: u32,
+) -> Result<(), AllocError>
+    requires { IsInRange frame.now }
+    ensures { OnOk result (found.new.items ≡ found.old.items ++ say holds (fault kind frame.now value)) }
+{
+    say_if(found, holds, fault(kind, frame, value))
 }
 
 /// Is it a SETTINGS frame that is no acknowledgement?
@@ -148,5 +163,5 @@ fn say_unreadable(
     ensures { OnOk result (found.new.items ≡ found.old.items ++ reading_fault kind frame.now value) }
 {
     let is_reading_fault = matches!(kind, Kind::WrongSize | Kind::BadPadding | Kind::BadPriority);
-    say_if(found, is_reading_fault, fault(kind, frame, value))
+    say_fault(found, is_reading_fault, kind, frame, value)
 }

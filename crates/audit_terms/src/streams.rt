@@ -1,6 +1,6 @@
 ghost use Rattle.std.specs.Prelude.{◌≡◌, ℕ, ◌+◌, ◌-◌, ◌^◌, ◌<◌, ◌≤◌, ◌++◌, OnOk};
 
-use crate::findings::{Finding, say_if};
+use crate::findings::{Finding, say_at};
 use crate::frames::Frame;
 use crate::items::Step;
 use crate::kinds::Kind;
@@ -69,13 +69,21 @@ impl Stream {
     {
         let number = step.number;
         let code = u32::from(frame.code);
-        let not_opened = Finding::at(Kind::NotOpened, number, stream, frame.side, code);
-        say_if(found, self.life.is_not_opened(stream, frame), not_opened)?;
-        let after_end = Finding::at(Kind::AfterEnd, number, stream, frame.side, code);
-        say_if(found, self.life.is_after_end(frame), after_end)?;
+        let side = frame.side;
+        let early = self.life.is_not_opened(stream, frame);
+        say_at(found, early, Kind::NotOpened, number, stream, side, code)?;
+        let late = self.life.is_after_end(frame);
+        say_at(found, late, Kind::AfterEnd, number, stream, side, code)?;
         let is_zero = frame.body.is_zero_grant() && self.life.opened.is_some();
-        let zero = Finding::at(Kind::ZeroStreamGrant, number, stream, frame.side, 0);
-        say_if(found, is_zero, zero)
+        say_at(
+            found,
+            is_zero,
+            Kind::ZeroStreamGrant,
+            number,
+            stream,
+            side,
+            0,
+        )
     }
 
     /// Adds what a step shows of the stream, and brings the stream to its state after the step; `initial` are the

@@ -9,7 +9,7 @@ ghost use Rattle.audit_terms.specs.code.Room.{HasRoom, WindowHasRoom};
 ghost use Rattle.audit_terms.specs.Window.{is_used_up};
 
 use crate::counts::Count;
-use crate::findings::{Finding, say_if};
+use crate::findings::Finding;
 use crate::items::{Change, Step};
 use crate::kinds::Kind;
 use crate::sides::{Side, Sides};
@@ -106,8 +106,15 @@ fn say_opened(
         after: credit,
         content: 0,
     };
-    let begins = count.finding(Kind::StreamStallBegin, step.number, stream, side);
-    say_if(found, is_used_up(&credit), begins)?;
+    let begins = is_used_up(&credit);
+    count.say(
+        found,
+        begins,
+        Kind::StreamStallBegin,
+        step.number,
+        stream,
+        side,
+    )?;
     found.push(count.finding(Kind::StreamCredit, step.number, stream, side))?;
     Ok(())
 }
@@ -139,29 +146,8 @@ fn say_live(
     ensures room { IfOk result (λ after. (bound : ℕ) → HasRoom bound before.now → WindowHasRoom (bound + 2 ^ 32) after) }
 {
     let live = LiveStep::of(side, stream, initial, step, before);
-    let number = step.number;
-    let overflow = live
-        .count
-        .finding(Kind::SettingOverflow, number, stream, side);
-    say_if(found, live.overflows_by_setting(step), overflow)?;
-    let overrun = live
-        .count
-        .finding(Kind::StreamOverrun, number, stream, side);
-    say_if(found, live.count.overruns(), overrun)?;
-    let overflow = live
-        .count
-        .finding(Kind::StreamOverflow, number, stream, side);
-    say_if(found, live.is_overflowing, overflow)?;
-    let end = live
-        .last
-        .finding(Kind::StreamStallEnd, number, stream, side);
-    say_if(found, live.stall_ends(), end)?;
-    let begin = live
-        .last
-        .finding(Kind::StreamStallBegin, number, stream, side);
-    say_if(found, live.stall_begins(), begin)?;
-    let credit = live.last.finding(Kind::StreamCredit, number, stream, side);
-    say_if(found, live.last.moves(), credit)?;
+    live.say_faults(found, side, stream, step)?;
+    live.say_stalls(found, side, stream, step.number)?;
     Ok(live.after)
 }
 
@@ -182,7 +168,11 @@ impl LiveStep {
     ghost use Rattle.audit_terms.specs.Stream.{step_amount, counted, is_overflowing_grant, last_credit, window_after, live_window_said, is_stalled};
     ghost use Rattle.std.specs.Prelude.{◌&&◌, not, is_some};
     ghost use Rattle.audit_terms.specs.Frame.{content_by, grant_to};
-    ghost use Rattle.audit_terms.specs.Window.{overflows};
+    ghost use Rattle.audit_terms.specs.Window.{overflows, overruns};
+    ghost use Rattle.audit_terms.specs.Finding.{finding_at, say};
+    ghost use Rattle.audit_terms.specs.Stream.{stream_finding};
+    ghost use Rattle.audit_terms.specs.declared.kinds.Kind.TheVariants.{SettingOverflow, StreamOverrun, StreamOverflow, StreamStallEnd, StreamStallBegin, StreamCredit};
+    ghost use Rattle.std.specs.Ordering.{int_eq};
 
     fn of(side: Side, stream: u32, initial: &Sides<u32>, step: &Step, before: &i64) -> Self
         requires acknowledged { IsAcknowledged step.now }
@@ -215,11 +205,95 @@ impl LiveStep {
         }
     }
 
-    /// Does an acknowledgement bring the window above the largest?
-    fn overflows_by_setting(&self, step: &Step) -> bool
-        ensures { result ≡ (is_some step.now.change && overflows self.now.count.before self.now.count.after) }
+    /// Says which rules the step breaks.
+    fn say_faults(
+        &self,
+        found: &mut Vec<Finding>,
+        side: Side,
+        stream: u32,
+        step: &Step,
+    ) -> Result<(), AllocError>
+        requires numbered { step.now.number ≤ 2 ^ 28 - 2 }
+        requires streamed { stream < 2 ^ 31 }
+        ensures { OnOk result (found.new.items ≡ found.old.items
+            ++ say (is_some step.now.change && overflows self.now.count.before self.now.count.after)
+            (stream_finding SettingOverflow stream step.now side self.now.count.after)
+            ++ say (overruns self.now.count.before self.now.count.content)
+            (stream_finding StreamOverrun stream step.now side self.now.count.after)
+            ++ say self.now.is_overflowing (stream_finding StreamOverflow stream step.now side self.now.count.after)) }
     {
-        step.change.is_some() && self.count.overflows()
+        let count = self.count;
+        let number = step.number;
+        let by_setting = step.change.is_some() && count.overflows();
+        count.say(
+            found,
+            by_setting,
+            Kind::SettingOverflow,
+            number,
+            stream,
+            side,
+        )?;
+        count.say(
+            found,
+            count.overruns(),
+            Kind::StreamOverrun,
+            number,
+            stream,
+            side,
+        )?;
+        count.say(
+            found,
+            self.is_overflowing,
+            Kind::StreamOverflow,
+            number,
+            stream,
+            side,
+        )
+    }
+
+    /// Says whether the credit is used up, or there again, and what it becomes.
+    fn say_stalls(
+        &self,
+        found: &mut Vec<Finding>,
+        side: Side,
+        stream: u32,
+        number: u32,
+    ) -> Result<(), AllocError>
+        requires numbered { number ≤ 2 ^ 28 - 2 }
+        requires streamed { stream < 2 ^ 31 }
+        ensures { OnOk result (found.new.items ≡ found.old.items
+            ++ say (is_used_up self.now.count.before && not (is_stalled self.now.after))
+            (finding_at StreamStallEnd number stream side self.now.last.after)
+            ++ say (not (is_used_up self.now.count.before) && is_stalled self.now.after)
+            (finding_at StreamStallBegin number stream side self.now.last.after)
+            ++ say (not (int_eq self.now.last.before self.now.last.after))
+            (finding_at StreamCredit number stream side self.now.last.after)) }
+    {
+        let last = self.last;
+        last.say(
+            found,
+            self.stall_ends(),
+            Kind::StreamStallEnd,
+            number,
+            stream,
+            side,
+        )?;
+        last.say(
+            found,
+            self.stall_begins(),
+            Kind::StreamStallBegin,
+            number,
+            stream,
+            side,
+        )?;
+        last.say(
+            found,
+            last.moves(),
+            Kind::StreamCredit,
+            number,
+            stream,
+            side,
+        )
     }
 
     /// Is the window live and its credit used up after the step?
