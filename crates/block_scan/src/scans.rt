@@ -119,6 +119,17 @@ where
         .collect::<Result<Vec<_>, AllocError>>(rt, alloc)?
 }
 
+/// So many items of some parts, one part after the other.
+fn joined<T: Drop>(alloc: Global, count: usize, parts: Vec<Vec<T>>) -> Result<Vec<T>, AllocError>
+    ensures { IfOk result (λ v. v.items ≡ items_of (map (λ part. part.items) parts.items)) }
+{
+    let mut all = Vec::with_capacity(alloc, count)?;
+    for mut part in parts {
+        all.append(&mut part)?;
+    }
+    Ok(all)
+}
+
 /// The state after each item.
 pub fn scan<S: Summary + Drop + Send>(
     rt: &(impl Threads + Sync),
@@ -138,9 +149,5 @@ where
     let sums = sums::<S>(rt, alloc, &blocks)?;
     let carries = carries(alloc, start, &sums)?;
     let parts = scan_blocks::<S>(rt, alloc, &carries, &blocks)?;
-    let mut states = Vec::with_capacity(alloc, items.len())?;
-    for mut part in parts {
-        states.append(&mut part)?;
-    }
-    Ok(states)
+    joined(alloc, items.len(), parts)
 }

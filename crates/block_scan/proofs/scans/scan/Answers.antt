@@ -1,8 +1,8 @@
-use Rattle.std.proofs.Common.{◌++◌, List, Bor, map, sym, ap, subst, ◌∙◌}
+use Rattle.std.proofs.Common.{List, Bor, map, sym, ap, subst, ◌∙◌}
+use Rattle.rayon.proofs.ListFacts.{IfOk-then}
 use Rattle.block_scan.specs.Laws.{summary_of}
 use Rattle.block_scan.specs.List.{items_of, states_after, states_before}
-use Rattle.block_scan.specs.code.Shown.{append_nil}
-use Rattle.block_scan.proofs.Folds.{none_left, map-now}
+use Rattle.block_scan.proofs.Folds.{map-now}
 use Rattle.block_scan.proofs.scans.scan.Goals as goal
 
 pub carries-requires : goal.carries-requires
@@ -42,12 +42,7 @@ returns g c =
     ∙ ap (map (λ (b : Bor (List g.row.S-Item.Denot)). sum b.now)) c.deref.ensures.value ∙ map-now sum blocks in
     let before = c.deref-3.ensures.value ∙ c.in_ok-carries.ensures all fit sums
     ∙ ap (λ l. states_before m.step start (map (λ b. b.now) l)) (sym c.deref-4.ensures.value) in
-    let rest = c.loop-part.part-iterator.rest in
-    let none = none_left rest.items (sym rest.ok.0 ∙ c.in-None.ensures.steps.0) in
-    sym (append_nil c.loop-part.states.items)
-    ∙ ap (λ l. c.loop-part.states.items ++ items_of (map (λ part. part.items) l)) (sym none)
-    ∙ sym c.loop-part.invariant
-    ∙ ap (λ l. items_of (map (λ part. part.items) l)) c.into_iter-part-iterator.ensures.into_iter_gives.0
+    IfOk-then c.joined.result _ _ c.joined.ensures (λ v all_of. all_of
     ∙ c.in_ok-parts.ensures start before
     ∙ ap (λ l. states_after m.step start (items_of (map (λ b. b.now) l))) c.deref-4.ensures.value
-    ∙ ap (states_after m.step start) c.in_ok-blocks.ensures
+    ∙ ap (states_after m.step start) c.in_ok-blocks.ensures)

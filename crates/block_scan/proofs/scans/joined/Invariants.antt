@@ -1,8 +1,8 @@
 use Rattle.std.proofs.Common.{◌≡◌, ◌++◌, map}
 use Rattle.block_scan.specs.List.{items_of}
-use Rattle.block_scan.proofs.scans.scan.Given as goal
+use Rattle.block_scan.proofs.scans.joined.Given as goal
 
 abbrev pub invariant-loop-part : goal.invariant-loop-part
 invariant-loop-part g l =
     items_of (map (λ part. part.items) l.initial.part-iterator.rest.items)
-    ≡ l.states.items ++ items_of (map (λ part. part.items) l.part-iterator.rest.items)
+    ≡ l.all.items ++ items_of (map (λ part. part.items) l.part-iterator.rest.items)
