@@ -1,6 +1,6 @@
 //! Workers on threads of their own, over one desk.
 
-ghost use Rattle.std.specs.Prelude.{◌≡◌, ◌+◌, ◌-◌, ◌*◌, ◌<◌, [], All, IfOk, length};
+ghost use Rattle.std.specs.Prelude.{◌≡◌, ◌+◌, ◌-◌, ◌*◌, ◌<◌, [], ◌++◌, All, IfOk, length};
 ghost use Rattle.std.specs.Thread.{IsSend, IsSync};
 ghost use Rattle.stop_desk.specs.Desk.{pass_of, all_draws, IsConnection};
 ghost use Rattle.split_merge.specs.Board.{Job};
@@ -24,6 +24,24 @@ fn divide(desk: &Desk, pass: Pass, workers: u32, given: u32) -> (Pass, Pass)
     ensures given { result.1 ≡ pass_of desk.now.id (given * (desk.now.jobs + 1)) [] [] [] }
 {
     pass.split(desk, u64::from(given) * (u64::from(desk.jobs()) + 1))
+}
+
+/// Makes one of what two groups of workers laid down, and of their passes.
+fn together<M: Drop>(
+    desk: &Desk,
+    mine: (Vec<Part<M>>, Pass),
+    theirs: (Vec<Part<M>>, Pass),
+) -> Result<(Vec<Part<M>>, Pass), AllocError>
+    requires mine { mine.1.desk ≡ desk.now.id }
+    requires theirs { theirs.1.desk ≡ desk.now.id }
+    ensures { IfOk result (λ r. (r.0.items ≡ mine.0.items ++ theirs.0.items)
+        × (r.1 ≡ pass_of mine.1.desk (mine.1.allowance + theirs.1.allowance) (mine.1.drawn ++ theirs.1.drawn)
+        (mine.1.seen ++ theirs.1.seen) (mine.1.lowered ++ theirs.1.lowered))) }
+{
+    let (mut parts, pass) = mine;
+    let (mut more, other) = theirs;
+    parts.append(&mut more)?;
+    Ok((parts, pass.join(other, desk)))
 }
 
 /// Has workers do all jobs, each half of them on a thread of its own.
@@ -62,10 +80,9 @@ fn fork<R: Threads + Sync, G: Gate, P: Round>(
                 r.0.items r.1) }
         { fork(rt, alloc, rest, shift, kept) },
     );
-    let (mut parts, mine) = one?;
-    let (mut more, theirs) = other?;
-    parts.append(&mut more)?;
-    Ok((parts, mine.join(theirs, shift.desk)))
+    let mine = one?;
+    let theirs = other?;
+    together(shift.desk, mine, theirs)
 }
 
 /// Has workers do all jobs of a round, and closes the desk. `Err` only where memory runs out.

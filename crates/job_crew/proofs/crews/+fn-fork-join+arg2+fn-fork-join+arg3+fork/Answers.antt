@@ -1,5 +1,6 @@
-use Rattle.std.proofs.Common.{◌≡◌, ℕ, ◌+◌, ◌-◌, ◌*◌, ◌/◌, ◌≤◌, ap, sym, arith}
-use Rattle.std.proofs.lemmas.Result.{IfOk-at_ok}
+use Rattle.std.proofs.Common.{◌≡◌, ℕ, ◌+◌, ◌-◌, ◌*◌, ◌/◌, ◌≤◌, ◌++◌, ap, sym, arith}
+use Rattle.std.proofs.lemmas.Result.{IfOk-at_ok, IfOk-weaker}
+use Rattle.stop_desk.specs.Desk.{pass_of}
 use Rattle.job_crew.specs.code.Worked.{IsAllWorked}
 use Rattle.job_crew.proofs.Draws.{worked-both}
 use Rattle.job_crew.proofs.crews.+fn-fork-join+arg2+fn-fork-join+arg3+fork.Goals as goal
@@ -11,6 +12,28 @@ both-groups half workers each le =
     let whole = ap (λ n. n * each) all in
     omega arith
 
+pub together-requires-clause-mine : goal.together-requires-clause-mine
+together-requires-clause-mine g t c =
+    let shift = c.args.shift.now in
+    let makes = g.P.Round.makes shift.plan.now in
+    let jobs = g.P.Round.jobs shift.plan.now in
+    let half = c.args.workers / 2 in
+    let first
+    = IfOk-at_ok (λ r. IsAllWorked makes jobs shift.desk.now.id shift.round (half * (shift.desk.now.jobs + 1)) r.0.items r.1)
+    c.in_ok-mine.was c.join-one.ensures.first in
+    first.0.desk_is
+
+pub together-requires-clause-theirs : goal.together-requires-clause-theirs
+together-requires-clause-theirs g t c =
+    let shift = c.args.shift.now in
+    let makes = g.P.Round.makes shift.plan.now in
+    let jobs = g.P.Round.jobs shift.plan.now in
+    let rest = c.args.workers - c.args.workers / 2 in
+    let second
+    = IfOk-at_ok (λ r. IsAllWorked makes jobs shift.desk.now.id shift.round (rest * (shift.desk.now.jobs + 1)) r.0.items r.1)
+    c.in_ok-theirs.was c.join-one.ensures.second in
+    second.0.desk_is
+
 pub returns : goal.returns
 returns g t c =
     let shift = c.args.shift.now in
@@ -20,14 +43,20 @@ returns g t c =
     let each = shift.desk.now.jobs + 1 in
     let half = c.args.workers / 2 in
     let rest = c.args.workers - half in
-    let one = c.in_ok-parts in
-    let other = c.in_ok-more in
     let first
-    = IfOk-at_ok (λ r. IsAllWorked makes jobs desk shift.round (half * each) r.0.items r.1) one.was
+    = IfOk-at_ok (λ r. IsAllWorked makes jobs desk shift.round (half * each) r.0.items r.1) c.in_ok-mine.was
     c.join-one.ensures.first in
     let second
-    = IfOk-at_ok (λ r. IsAllWorked makes jobs desk shift.round (rest * each) r.0.items r.1) other.was
+    = IfOk-at_ok (λ r. IsAllWorked makes jobs desk shift.round (rest * each) r.0.items r.1) c.in_ok-theirs.was
     c.join-one.ensures.second in
-    rw (sym (both-groups half c.args.workers each (omega arith)), c.in_ok-append.ensures.items)
-    (worked-both makes jobs shift.round desk (half * each) (rest * each) one.parts.items other.more.items one.mine
-    other.theirs c.join.result first second c.join.ensures)
+    let mine = c.in_ok-mine.mine in
+    let theirs = c.in_ok-theirs.theirs in
+    IfOk-weaker c.together.result
+    (λ r. (r.0.items ≡ mine.0.items ++ theirs.0.items)
+    × (r.1 ≡ pass_of mine.1.desk (mine.1.allowance + theirs.1.allowance) (mine.1.drawn ++ theirs.1.drawn)
+    (mine.1.seen ++ theirs.1.seen) (mine.1.lowered ++ theirs.1.lowered)))
+    (λ r. IsAllWorked makes jobs desk shift.round (c.args.workers * each) r.0.items r.1)
+    (λ r is. rw (sym (both-groups half c.args.workers each (omega arith)), is.0)
+    (worked-both makes jobs shift.round desk (half * each) (rest * each) mine.0.items theirs.0.items mine.1 theirs.1 r.1
+    first second is.1))
+    c.together.ensures
