@@ -87,7 +87,8 @@ pub(crate) fn say_at(
 ) -> Result<(), AllocError>
     requires numbered { number ≤ 2 ^ 28 - 2 }
     requires streamed { stream < 2 ^ 31 }
-    ensures { OnOk result (found.new.items ≡ found.old.items ++ say holds (finding_at kind number stream side (pos value))) }
+    ensures { OnOk result (found.new.items
+        ≡ found.old.items ++ say holds (finding_at kind number stream side (pos value))) }
 {
     say_if(found, holds, Finding::at(kind, number, stream, side, value))
 }
