@@ -14,7 +14,7 @@ import pathlib
 import re
 import sys
 
-ROOTS = ["h2audit.Report", "h2audit.Run", "h2audit.Account", "h2audit.Program", "h2audit.Asked"]
+ROOTS = ["h2audit.Report", "h2audit.Run", "h2audit.Account", "h2audit.Program", "command_line.Asked"]
 TOP = pathlib.Path(__file__).resolve().parent.parent
 CRATES = TOP / "crates"
 IMPORT = re.compile(r"^[ \t]*(?:pub[ \t]+)?use[ \t]+Rattle\.(\w+)\.specs\.(\w+(?:\.\w+)*)(?:[ \t]+as[ \t]+\w+)?(?:\.?\{[^}]*\})?", re.M)

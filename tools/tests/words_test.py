@@ -39,7 +39,7 @@ PROGRAMS = {name: options_of(name) for name in ("h2audit", "h2audit-plot")}
 class Version(unittest.TestCase):
     def test_package(self):
         """The package has the version that the program prints."""
-        source = (TOP / "crates" / "h2audit" / "src" / "command.rt").read_text()
+        source = (TOP / "crates" / "command_line" / "src" / "command.rt").read_text()
         version = re.search(r'const VERSION: &str = "(.*)";', source)[1]
         changelog = (TOP / "tools" / "package" / "changelog").read_text()
         self.assertTrue(changelog.startswith(f"h2audit ({version}) "))

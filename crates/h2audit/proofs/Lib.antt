@@ -3,7 +3,5 @@ mod Kept
 mod Leaving
 mod Audits
 mod OneReport
-mod Numbers
-mod OptionReads
 mod Flows
 mod Opened

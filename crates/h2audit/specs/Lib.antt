@@ -1,13 +1,8 @@
-pub mod Options
-pub mod Choices
 pub mod Ending
 pub mod Account
 pub mod Program
 pub mod Audited
 pub mod Report
 pub mod Run
-pub mod Words
-pub mod Asked
-pub mod KnownWords
 pub mod Laws
 pub mod code

@@ -6,7 +6,7 @@ use Rattle.std.specs.declared.io.Error.{Error}
 use Rattle.std.specs.declared.io.ErrorKind.{ErrorKind}
 use Rattle.std.specs.declared.io.ErrorKind.TheVariants.{OutOfMemory}
 use Rattle.h2audit.specs.Account.{HasWriteFailed, HaveGiven, IsFlushed, IsReadToEnd, IsUnwritten, Tells, written}
-use Rattle.h2audit.specs.Choices.{choices}
+use Rattle.command_line.specs.Choices.{choices}
 use Rattle.h2audit.specs.Ending.{line_of, status_of}
 use Rattle.h2audit.specs.declared.capture_reader.CaptureReader.{CaptureReader}
 use Rattle.h2audit.specs.declared.report_writer.ReportWriter.{ReportWriter}
@@ -14,8 +14,8 @@ use Rattle.h2audit.specs.declared.fault.AuditFault.{AuditFault}
 use Rattle.h2audit.specs.declared.fault.AuditFault.TheVariants as fault
 use Rattle.h2audit.specs.declared.verdict.Verdict.{Verdict}
 use Rattle.h2audit.specs.declared.verdict.Verdict.TheVariants.{Clean}
-use Rattle.h2audit.specs.declared.words.Parsed.{Parsed}
-use Rattle.h2audit.specs.declared.words.Parsed.TheVariants.{Run, Help, Refused, Version}
+use Rattle.command_line.specs.declared.words.Parsed.{Parsed}
+use Rattle.command_line.specs.declared.words.Parsed.TheVariants.{Run, Help, Refused, Version}
 
 module _ {W : Type 0} where
   -- a run on an input with these bytes left, where they are known: an account of its reads and that of the writes tell

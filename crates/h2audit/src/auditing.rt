@@ -1,15 +1,15 @@
 ghost use Rattle.std.specs.Prelude.{◌≡◌, ◌<◌, ◌^◌, IfOk, IfErr, IsTrue, length};
 ghost use Rattle.pcap_records.specs.LinkType.{is_read};
 ghost use Rattle.pcap_records.specs.Place.{AreTimely, AreWithin};
-ghost use Rattle.h2audit.specs.Choices.{choices};
+ghost use Rattle.command_line.specs.Choices.{choices};
 ghost use Rattle.h2audit.specs.Report.{IsReport, IsReportOn};
 ghost use Rattle.h2audit.specs.Run.{IsNoReport};
 
 use crate::connection::{audit_each, verdict_on};
 use crate::fault::AuditFault;
-use crate::options::Options;
 use crate::verdict::Verdict;
 use audit_report::report;
+use command_line::Options;
 use job_crew::Gate;
 use packet_heads::decode_all;
 use pcap_records::{PcapFault, Records, records};

@@ -7,18 +7,19 @@ ghost use Rattle.tcp_streams.specs.declared.members.Connection.{Connection};
 ghost use Rattle.audit_report.specs.declared.audited.Audited.{Audited};
 ghost use Rattle.h2_frames.specs.Cut.{HasOrderlyFrames};
 ghost use Rattle.h2audit.specs.Audited.{AreAudited, findings_of, has_fault, verdict_of};
-ghost use Rattle.h2audit.specs.Choices.{choices};
+ghost use Rattle.command_line.specs.Choices.{choices};
 ghost use Rattle.h2audit.specs.code.Flows.{AreConnectionCuts, frames_in, found_in, audit_with, audits_of};
 ghost use Rattle.audit_terms.specs.declared.findings.Finding.{Finding};
 ghost use Rattle.audit_terms.specs.Kind.{is_fault};
 ghost use Rattle.std.specs.List.{list_any};
 
+use crate::division::division;
 use crate::flow_round::{ConnectionCut, FlowRound};
-use crate::options::Options;
 use crate::verdict::Verdict;
 use audit_report::Audited;
 use audit_rounds::findings_of_each;
 use audit_terms::{Finding, Frame, Place};
+use command_line::Options;
 use h2_frames::Cut;
 use job_crew::{Gate, Part, settle};
 use packet_heads::Packet;
@@ -72,7 +73,7 @@ fn cut_each(
 {
     let mut stops: Vec<Option<Place>> = Vec::new(alloc);
     stops.resize(opened.len(), None)?;
-    let workers = options.division().workers as usize;
+    let workers = division(options).workers as usize;
     let round = FlowRound {
         rt,
         by_two: opened.len() <= workers / 2,
@@ -83,7 +84,7 @@ fn cut_each(
     let settled = settle(
         rt,
         alloc,
-        options.division().workers,
+        division(options).workers,
         gate,
         FLOWS,
         stops.as_slice(),
@@ -115,7 +116,7 @@ fn find_each(
     let found = findings_of_each(
         rt,
         alloc,
-        &options.division(),
+        &division(options),
         gate,
         credits_shown,
         frames.as_slice(),

@@ -19,8 +19,8 @@
 //! - [`run_program`] is the program, over words, a way to open FILE and a way to say a line: it does what the words ask for
 //!   (`Ends` of `specs/Program.antt`), and status and line are those of the answer. [`program_words`] reads the words.
 //! - [`parse`] says what the words of a command line ask for, by `clap`'s own definition of the command, and
-//!   [`Options`] refuses numbers out of range. [`laws::known_words`] computes seven command lines. [`ending`] is status
-//!   and line.
+//!   [`Options`] refuses numbers out of range; both are `command_line`'s. [`laws::known_words`] computes seven command
+//!   lines. [`ending`] is status and line.
 //!
 //! Reading stops at 2^31 bytes, which are refused as the whole is. Where the file header refuses a capture, it alone is
 //! kept (`brief`), since what follows changes no answer (`pcap_records::laws::header_refuses`). Round 0 has a job for each
@@ -40,29 +40,26 @@
 
 mod auditing;
 mod capture_reader;
-mod command;
 mod connection;
+mod division;
 mod fault;
 mod flow_round;
 pub mod laws;
-mod options;
 mod program;
 mod reading;
 mod report_writer;
 mod running;
 mod status;
 mod verdict;
-mod words;
 mod writing;
 
 pub use auditing::audit;
 pub use capture_reader::CaptureReader;
+pub use command_line::{Options, Parsed, parse};
 pub use fault::AuditFault;
 pub use job_crew::{Gate, NoGate};
-pub use options::Options;
 pub use program::{program_words, run_program};
 pub use report_writer::ReportWriter;
 pub use running::run;
 pub use status::ending;
 pub use verdict::Verdict;
-pub use words::{Parsed, parse};

@@ -1,17 +1,17 @@
 ghost use Rattle.std.specs.Prelude.{◌≡◌, ◌≢◌, ◌^◌, IfErr, IfSome, take};
 ghost use Rattle.std.specs.Io.KnownBytes.{Appends, Keeps};
 ghost use Rattle.h2audit.specs.Account.{HaveGiven, IsBrief, IsReadToEnd, IsUnread, IsUnwritten, Tells, written};
-ghost use Rattle.h2audit.specs.Choices.{choices};
+ghost use Rattle.command_line.specs.Choices.{choices};
 ghost use Rattle.h2audit.specs.Run.{IsJudged, Leaves};
 
 use crate::auditing::audit;
 use crate::capture_reader::CaptureReader;
 use crate::fault::AuditFault;
-use crate::options::Options;
 use crate::reading::read_capture;
 use crate::report_writer::ReportWriter;
 use crate::verdict::Verdict;
 use crate::writing::write_report;
+use command_line::Options;
 use job_crew::Gate;
 use std::alloc::Global;
 use std::io::{Read, Write};

@@ -8,7 +8,7 @@ use Rattle.tcp_streams.specs.declared.members.Stray.{Stray}
 use Rattle.tcp_streams.specs.Membership.{connections_of, strays_of}
 use Rattle.tcp_streams.specs.Packets.{past_of}
 use Rattle.h2audit.specs.Audited.{AreAudited, verdict_of}
-use Rattle.h2audit.specs.Choices.{choices}
+use Rattle.command_line.specs.Choices.{choices}
 use Rattle.h2audit.specs.Report.{packets_of}
 use Rattle.h2audit.proofs.Opened.{opened-few}
 use Rattle.h2audit.proofs.Audits.{AreAudited-length}

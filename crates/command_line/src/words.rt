@@ -1,8 +1,8 @@
 ghost use Rattle.std.specs.Prelude.{IfOk, codes, map, option_map, string_bytes, ◌≡◌};
 ghost use Rattle.clap.specs.Words.{first_of, found_of, rows_of};
-ghost use Rattle.h2audit.specs.Asked.{Asks, IsFound};
-ghost use Rattle.h2audit.specs.Choices.{choices};
-ghost use Rattle.h2audit.specs.code.Numbers.{HasNumbers};
+ghost use Rattle.command_line.specs.Asked.{Asks, IsFound};
+ghost use Rattle.command_line.specs.Choices.{choices};
+ghost use Rattle.command_line.specs.code.Numbers.{HasNumbers};
 
 use crate::command::{BLOCK, FILE, FRAMES, GROUPS, WORKERS, matches};
 use crate::options::Options;

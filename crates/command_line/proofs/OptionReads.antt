@@ -8,10 +8,10 @@ use Rattle.clap.specs.Words.{ReadsOne, Text, one_of, one_text, rows_of, without_
 use Rattle.clap.specs.declared.parser.matches.Found.{Found}
 use Rattle.clap.proofs.CallerReads.{signed_reads}
 use Rattle.clap.proofs.WalkLemmas.{one_text-rows}
-use Rattle.h2audit.specs.declared.options.Options.{Options}
-use Rattle.h2audit.specs.Asked.{IsNumberOf}
-use Rattle.h2audit.specs.Choices.{Choices, choices}
-use Rattle.h2audit.specs.code.Numbers.{HasNumber}
+use Rattle.command_line.specs.declared.options.Options.{Options}
+use Rattle.command_line.specs.Asked.{IsNumberOf}
+use Rattle.command_line.specs.Choices.{Choices, choices}
+use Rattle.command_line.specs.code.Numbers.{HasNumber}
 
 -- what `u32` reads in a text
 abbrev ReadsU32 : List ℕ → Result ℕ ParseIntError → Type 0

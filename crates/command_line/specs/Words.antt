@@ -28,12 +28,14 @@ file_rule = new_rule (codes "FILE")
 abbrev pub command_start : App
 command_start = on_top (λ shape. record shape { has_version = true; no_binary_name = true }) (new_app (codes "h2audit"))
 
--- `h2audit [--workers N] [--groups N] [--block N] [--frames] [FILE]`
-abbrev pub app : App
-app =
-    with_rule (with_rule (with_rule (with_rule (with_rule command_start
+-- the command with the arguments that are numbers
+abbrev pub command_with_numbers : App
+command_with_numbers =
+    with_rule (with_rule (with_rule command_start
     (number_rule (codes "workers") 64 (codes "4")))
     (number_rule (codes "groups") 1024 (codes "16")))
-    (number_rule (codes "block") 1048576 (codes "4096")))
-    frames_rule)
-    file_rule
+    (number_rule (codes "block") 1048576 (codes "4096"))
+
+-- `h2audit [--workers N] [--groups N] [--block N] [--frames] [FILE]`
+abbrev pub app : App
+app = with_rule (with_rule command_with_numbers frames_rule) file_rule

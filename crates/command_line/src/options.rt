@@ -1,7 +1,5 @@
 ghost use Rattle.std.specs.Prelude.{◌≡◌, ◌<◌, SomeIff, option_map};
-ghost use Rattle.h2audit.specs.Options.{AreInRange};
-
-use audit_rounds::Division;
+ghost use Rattle.command_line.specs.Options.{AreInRange};
 
 /// How a capture is audited and what its report shows.
 ///
@@ -16,7 +14,7 @@ pub struct Options {
 }
 
 impl Options {
-    ghost use Rattle.h2audit.specs.Choices.{choices};
+    ghost use Rattle.command_line.specs.Choices.{choices};
 
     /// The greatest number of worker threads.
     pub const MOST_WORKERS: u32 = 64;
@@ -49,19 +47,30 @@ impl Options {
         }
     }
 
-    /// How the work is divided.
-    pub(crate) fn division(&self) -> Division
-        ensures { 0 < result.workers }
+    /// The number of worker threads.
+    pub fn workers(&self) -> u32
+        ensures value { result ≡ (choices self.now).workers }
+        ensures some { 0 < result }
     {
-        Division {
-            workers: self.workers,
-            groups: self.groups,
-            block: self.block,
-        }
+        self.workers
+    }
+
+    /// The number of groups that a connection's streams are dealt to.
+    pub fn groups(&self) -> u32
+        ensures { result ≡ (choices self.now).groups }
+    {
+        self.groups
+    }
+
+    /// The number of frames in a block.
+    pub fn block(&self) -> u32
+        ensures { result ≡ (choices self.now).block }
+    {
+        self.block
     }
 
     /// Whether the report has the credit lines.
-    pub(crate) fn frames_shown(&self) -> bool
+    pub fn frames_shown(&self) -> bool
         ensures { result ≡ (choices self.now).frames_shown }
     {
         self.frames_shown

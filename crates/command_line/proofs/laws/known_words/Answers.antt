@@ -2,9 +2,9 @@ use Rattle.std.proofs.Common.{refl, ◌≡◌, true, false, List, [], ◌∷◌,
 use Rattle.clap.specs.Words.{Text, fault_of}
 use Rattle.clap.specs.declared.error.kind.ErrorKind.TheVariants.{DisplayHelp, DisplayVersion, UnknownArgument, ValueValidation}
 use Rattle.clap.proofs.OnLiterals.{clap_on_literals}
-use Rattle.h2audit.specs.KnownWords.{AreFound}
-use Rattle.h2audit.specs.Words.{app}
-use Rattle.h2audit.proofs.laws.known_words.Goals as goal
+use Rattle.command_line.specs.KnownWords.{AreFound}
+use Rattle.command_line.specs.Words.{app}
+use Rattle.command_line.proofs.laws.known_words.Goals as goal
 
 abbrev all : List Text
 all = codes "--workers" ∷ codes "64" ∷ codes "--groups=1" ∷ codes "capture.pcap" ∷ codes "--frames"

@@ -1,11 +1,13 @@
 ghost use Rattle.std.specs.Prelude.{◌≡◌, IfOk, Some, false, map, pos};
 ghost use Rattle.clap.specs.Words.{app_of, fault_of, found_of, matches_of, new_app, rows_of, rule_of, with_rule, FailsBy};
-ghost use Rattle.h2audit.specs.code.Numbers.{HasNumbers};
+ghost use Rattle.command_line.specs.code.Numbers.{HasNumbers};
 ghost use Rattle.clap.specs.declared.builder.value_parser.ValueParser.{ValueParser};
-ghost use Rattle.h2audit.specs.Words.{app, command_start, file_rule, frames_rule, number_rule, option_rule};
+ghost use Rattle.command_line.specs.Words.{app, command_start, command_with_numbers};
+ghost use Rattle.command_line.specs.Words.{file_rule, frames_rule, number_rule, option_rule};
 
 use crate::options::Options;
-use clap::{Arg, ArgAction, ArgMatches, Command, Error, value_parser};
+use clap::builder::ValueParser;
+use clap::{Arg, ArgAction, ArgMatches, Command, Error};
 use std::alloc::{AllocError, Global};
 
 /// The names of the arguments.
@@ -32,20 +34,20 @@ pub(crate) fn matches<'a>(alloc: Global, words: &'a [&'a str]) -> Result<ArgMatc
 fn command<'a>(alloc: Global) -> Result<Command<'a>, AllocError>
     ensures { IfOk result (λ c. app_of c ≡ app) }
 {
-    let command = with(
-        bare_command(alloc),
-        numbered(alloc, WORKERS, Options::MOST_WORKERS, "4", WORKERS_HELP),
-    )?;
-    let command = with(
-        command,
-        numbered(alloc, GROUPS, Options::MOST_GROUPS, "16", GROUPS_HELP),
-    )?;
-    let command = with(
-        command,
-        numbered(alloc, BLOCK, Options::LONGEST_BLOCK, "4096", BLOCK_HELP),
-    )?;
-    let command = with(command, frames_flag(alloc))?;
+    let command = with(with_numbers(alloc)?, frames_flag(alloc))?;
     with(command, file_word(alloc))
+}
+
+/// The command with the arguments that are numbers.
+fn with_numbers<'a>(alloc: Global) -> Result<Command<'a>, AllocError>
+    ensures { IfOk result (λ c. app_of c ≡ command_with_numbers) }
+{
+    let workers = numbered(alloc, WORKERS, Options::MOST_WORKERS, "4", WORKERS_HELP);
+    let command = with(bare_command(alloc), workers)?;
+    let groups = numbered(alloc, GROUPS, Options::MOST_GROUPS, "16", GROUPS_HELP);
+    let command = with(command, groups)?;
+    let block = numbered(alloc, BLOCK, Options::LONGEST_BLOCK, "4096", BLOCK_HELP);
+    with(command, block)
 }
 
 /// The version of the program and of its report.
@@ -108,7 +110,7 @@ fn option<'a>(alloc: Global, name: &'a str) -> Arg<'a>
 fn in_range<'a>(arg: Arg<'a>, most: u32) -> Arg<'a>
     ensures { result ≡ record arg.entry { value_parser = Some (ValueParser.Signed (pos 1) (pos most)) } }
 {
-    arg.value_parser(value_parser!(u32).range(1..=i64::from(most)))
+    arg.value_parser(ValueParser::signed(1, i64::from(most)))
 }
 
 fn frames_flag<'a>(alloc: Global) -> Arg<'a>

@@ -1,5 +1,5 @@
 use Rattle.std.specs.Prelude.{ℕ, Bool}
-use Rattle.h2audit.specs.declared.options.Options.{Options}
+use Rattle.command_line.specs.declared.options.Options.{Options}
 
 -- what a run is asked for
 pub record Choices : Type 0 where

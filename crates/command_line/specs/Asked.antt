@@ -5,10 +5,10 @@ use Rattle.std.specs.Str.Parse.{IsNumeral, digits_value, without_leading_plus}
 use Rattle.clap.specs.Words.{IsAmong, Row, Text, fault_of, first_of, matches_of, one_of}
 use Rattle.clap.specs.declared.error.kind.ErrorKind.{ErrorKind}
 use Rattle.clap.specs.declared.error.kind.ErrorKind.TheVariants.{DisplayHelp, DisplayVersion}
-use Rattle.h2audit.specs.declared.words.Parsed.{Parsed}
-use Rattle.h2audit.specs.declared.words.Parsed.TheVariants.{Run, Help, Refused, Version}
-use Rattle.h2audit.specs.Choices.{Choices, choices}
-use Rattle.h2audit.specs.Words.{app}
+use Rattle.command_line.specs.declared.words.Parsed.{Parsed}
+use Rattle.command_line.specs.declared.words.Parsed.TheVariants.{Run, Help, Refused, Version}
+use Rattle.command_line.specs.Choices.{Choices, choices}
+use Rattle.command_line.specs.Words.{app}
 
 -- the word is the number in decimal digits, with a plus sign before it or none
 abbrev pub Spells : Text → ℕ → Type 0

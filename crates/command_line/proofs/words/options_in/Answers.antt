@@ -1,9 +1,9 @@
 use Rattle.std.proofs.Common.{sym, subst, arith, codes}
 use Rattle.clap.specs.Words.{found_of, rows_of}
-use Rattle.h2audit.specs.Asked.{IsFound}
-use Rattle.h2audit.specs.Choices.{Choices}
-use Rattle.h2audit.proofs.OptionReads.{number_some, number_is, flag_read, options_some}
-use Rattle.h2audit.proofs.words.options_in.Goals as goal
+use Rattle.command_line.specs.Asked.{IsFound}
+use Rattle.command_line.specs.Choices.{Choices}
+use Rattle.command_line.proofs.OptionReads.{number_some, number_is, flag_read, options_some}
+use Rattle.command_line.proofs.words.options_in.Goals as goal
 
 pub unwrap-workers-requires : goal.unwrap-workers-requires
 unwrap-workers-requires c =

@@ -2,9 +2,9 @@
 use Rattle.std.specs.Prelude.{◌≡◌, true, false, List, [], ◌∷◌, Option, None, Some, codes}
 use Rattle.clap.specs.Words.{Text, fault_of, first_of, matches_of}
 use Rattle.clap.specs.declared.error.kind.ErrorKind.TheVariants.{DisplayHelp, DisplayVersion, UnknownArgument, ValueValidation}
-use Rattle.h2audit.specs.Choices.{Choices}
-use Rattle.h2audit.specs.Asked.{IsFound}
-use Rattle.h2audit.specs.Words.{app}
+use Rattle.command_line.specs.Choices.{Choices}
+use Rattle.command_line.specs.Asked.{IsFound}
+use Rattle.command_line.specs.Words.{app}
 
 -- clap finds no fault in the words, these options and this path
 abbrev pub AreFound : (words : List Text) → Choices → (path : Option Text) → Type 0

@@ -23,8 +23,8 @@ use Rattle.clap.specs.declared.parser.matches.ArgMatches.{ArgMatches}
 use Rattle.clap.specs.declared.parser.matches.Found.{Found}
 use Rattle.clap.specs.declared.parser.matches.MatchedArg.{MatchedArg}
 use Rattle.clap.proofs.CallerLemmas.{default_present, entry_by_id, same_rules_by_id}
-use Rattle.h2audit.specs.code.Numbers.{HasNumber, HasNumbers}
-use Rattle.h2audit.specs.Words.{app, number_rule}
+use Rattle.command_line.specs.code.Numbers.{HasNumber, HasNumbers}
+use Rattle.command_line.specs.Words.{app, number_rule}
 
 -- ---- tests and lists
 
