@@ -2,7 +2,7 @@ use Rattle.std.proofs.Common.{rules, ◌≡◌, ◌≤◌, ◌∙◌, length, sy
 use Rattle.std.proofs.lemmas.List.{length-take-le}
 use Rattle.pcap_records.specs.Refusal.{refusal}
 use Rattle.h2audit.specs.Account.{kept}
-use Rattle.h2audit.proofs.Kept.{consumed_none, gave_front, header_answers, header_stays}
+use Rattle.h2audit.proofs.Kept.{consumed_none, gave_all, gave_front, header_answers, header_stays, whole_answers}
 use Rattle.h2audit.proofs.reading.read_capture.Goals as goal
 
 pub returns-then-has_ended-clause-bytes : goal.returns-then-has_ended-clause-bytes
@@ -48,3 +48,19 @@ returns-in_ok-keep_up_to-in-None-clause-brief g c = λ refused.
     let filled : header.filled ≡ 24 = search rules in
     let taken : refusal (kept header) ≡ None = ap refusal (sym c.kept.ensures) ∙ sym c.refusal.ensures ∙ c.in-None.is in
     absurd (refused (header_stays header now filled c.keep_up_to-in-None.ensures.grown c.keep_up_to-in-None.ensures.front taken))
+
+pub returns-then-has_ended-clause-answers : goal.returns-then-has_ended-clause-answers
+returns-then-has_ended-clause-answers g c = whole_answers c.keep_up_to.new.reader c.keep_up_to.ensures.unpassed
+
+pub returns-in_ok-keep_up_to-in-None-clause-answers : goal.returns-in_ok-keep_up_to-in-None-clause-answers
+returns-in_ok-keep_up_to-in-None-clause-answers g c =
+    whole_answers c.keep_up_to-in-None.new.reader c.keep_up_to-in-None.ensures.unpassed
+
+pub returns-in_ok-pass_over-in-Some-clause-ok : goal.returns-in_ok-pass_over-in-Some-clause-ok
+returns-in_ok-pass_over-in-Some-clause-ok g c =
+    let read = c.in_ok-pass_over-in-Some.ensures in
+    record {
+      whole = λ unended. gave_all c.pass_over.new.reader read.sound.filled (read.whole unended);
+      has_failed = read.sound.has_failed;
+      lacked_memory = read.sound.lacked_memory;
+    }

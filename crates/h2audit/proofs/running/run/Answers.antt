@@ -67,3 +67,32 @@ returns-in-Err-clause-judged g c =
     let shown = c.args.options.now.frames_shown in
     let told : Tells reader writer shown (Err c.in-Err.fault) = returns-in-Err-clause-tells g c in
     IfSome-weaker (g.R.Read.remaining c.args.reader.now.reader) _ _ (λ all is. judged_by_account all reader writer shown (Err c.in-Err.fault) (λ _. is) told) c.in_ok-read_capture.ensures.bytes
+
+pub returns-in-Ok-write_report-clause-given : goal.returns-in-Ok-write_report-clause-given
+returns-in-Ok-write_report-clause-given g c =
+    IfSome-weaker (g.R.Read.remaining c.args.reader.now.reader) _ _ (λ all is read. is) c.in_ok-read_capture.ensures.bytes
+
+pub returns-in-Ok-write_report-clause-brief : goal.returns-in-Ok-write_report-clause-brief
+returns-in-Ok-write_report-clause-brief g c = λ read. c.in_ok-read_capture.ensures.brief
+
+pub returns-in-Err-write_report-clause-given : goal.returns-in-Err-write_report-clause-given
+returns-in-Err-write_report-clause-given g c =
+    IfSome-weaker (g.R.Read.remaining c.args.reader.now.reader) _ _ (λ all is read. is) c.in_ok-read_capture.ensures.bytes
+
+pub returns-in-Err-write_report-clause-brief : goal.returns-in-Err-write_report-clause-brief
+returns-in-Err-write_report-clause-brief g c = λ read. c.in_ok-read_capture.ensures.brief
+
+pub returns-in-Err-clause-given : goal.returns-in-Err-clause-given
+returns-in-Err-clause-given g c =
+    IfSome-weaker (g.R.Read.remaining c.args.reader.now.reader) _ _ (λ all is read. is) c.in_ok-read_capture.ensures.bytes
+
+pub returns-in-Err-clause-brief : goal.returns-in-Err-clause-brief
+returns-in-Err-clause-brief g c = λ read. c.in_ok-read_capture.ensures.brief
+
+pub returns-in-Ok-write_report-clause-judged : goal.returns-in-Ok-write_report-clause-judged
+returns-in-Ok-write_report-clause-judged g c =
+    IfSome-weaker (g.R.Read.remaining c.args.reader.now.reader) _ _ (λ all is. tt) c.in_ok-read_capture.ensures.bytes
+
+pub returns-in-Err-write_report-clause-judged : goal.returns-in-Err-write_report-clause-judged
+returns-in-Err-write_report-clause-judged g c =
+    IfSome-weaker (g.R.Read.remaining c.args.reader.now.reader) _ _ (λ all is. tt) c.in_ok-read_capture.ensures.bytes
