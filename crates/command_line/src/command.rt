@@ -6,8 +6,7 @@ ghost use Rattle.command_line.specs.Words.{app, command_start, command_with_numb
 ghost use Rattle.command_line.specs.Words.{file_rule, frames_rule, number_rule, option_rule};
 
 use crate::options::Options;
-use clap::builder::ValueParser;
-use clap::{Arg, ArgAction, ArgMatches, Command, Error};
+use clap::{Arg, ArgAction, ArgMatches, Command, Error, value_parser};
 use std::alloc::{AllocError, Global};
 
 /// The names of the arguments.
@@ -110,7 +109,7 @@ fn option<'a>(alloc: Global, name: &'a str) -> Arg<'a>
 fn in_range<'a>(arg: Arg<'a>, most: u32) -> Arg<'a>
     ensures { result ≡ record arg.entry { value_parser = Some (ValueParser.Signed (pos 1) (pos most)) } }
 {
-    arg.value_parser(ValueParser::signed(1, i64::from(most)))
+    arg.value_parser(value_parser!(u32).range(1..=i64::from(most)))
 }
 
 fn frames_flag<'a>(alloc: Global) -> Arg<'a>
