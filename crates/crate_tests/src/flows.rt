@@ -2,3 +2,14 @@
 
 mod plain;
 mod segments;
+
+use crate::answer::Answer;
+use segments::{overlaps_and_gap, random_segments};
+use std::alloc::Global;
+
+pub fn answers(alloc: Global) -> [(&'static str, Answer); 2] {
+    [
+        ("overlaps_and_gap", overlaps_and_gap(alloc)),
+        ("random_segments", random_segments(alloc)),
+    ]
+}

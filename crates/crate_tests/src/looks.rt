@@ -3,4 +3,17 @@
 mod blocks;
 mod frames;
 mod streams;
-pub mod test_look;
+mod test_look;
+
+use crate::answer::Answer;
+use blocks::looks_of_a_block;
+use std::alloc::Global;
+use streams::{looks_at_no_change, looks_of_a_stream};
+
+pub fn answers(alloc: Global) -> [(&'static str, Answer); 3] {
+    [
+        ("looks_of_a_block", Ok(looks_of_a_block(alloc))),
+        ("looks_of_a_stream", looks_of_a_stream(alloc)),
+        ("looks_at_no_change", Ok(looks_at_no_change(alloc))),
+    ]
+}

@@ -1,11 +1,11 @@
 //! Two passes draw each job once, and each sees the lesser of the places that the two lowered.
-ghost use Rattle.std.specs.Prelude.{◌≡◌, IfOk};
+ghost use Rattle.std.specs.Prelude.{◌≡◌, ◌+◌, IfOk};
 ghost use Rattle.stop_desk.specs.Desk.{pass_draws};
 
+use crate::answer::Answer;
 use audit_terms::Place;
 use std::alloc::{AllocError, Global};
-use std::test::Fail;
-use std::thread::join;
+use std::thread::{Threads, join};
 use stop_desk::{Claim, Desk, Pass};
 
 // How many numbers each pass of the desk of five jobs and two workers may draw.
@@ -26,50 +26,62 @@ fn drawn_jobs(alloc: Global, desk: &Desk, mut pass: Pass) -> Result<(Pass, Vec<u
     Ok((pass, jobs))
 }
 
-#[test]
-fn without_jobs_a_claim_is_done_and_then_spent(rt: HostRuntime) -> Result<(), Fail> {
-    let (desk, mut pass) = Desk::make(rt.alloc(), 0, &[], 1)?;
+/// Without jobs a claim is done, and then spent.
+pub fn claims_without_jobs(alloc: Global) -> Answer {
+    let (desk, mut pass) = Desk::make(alloc, 0, &[], 1)?;
     let first = pass.claim(&desk);
     let second = pass.claim(&desk);
-    assert_eq!(rt; (first, second), (Claim::Done, Claim::Spent));
-    Ok(())
+    Ok((first, second) == (Claim::Done, Claim::Spent))
 }
 
-#[test]
-fn desk_draws_and_stops(rt: HostRuntime) -> Result<(), Fail> {
-    let alloc = rt.alloc();
+/// What two passes draw in a thread each, and the pass that they join to.
+fn drawn_by_two(
+    rt: &(impl Sync + Threads),
+    alloc: Global,
+    desk: &Desk,
+    one: Pass,
+    other: Pass,
+) -> Result<(Pass, Vec<u32>), AllocError>
+    requires one { one.desk ≡ desk.now.id }
+    requires other { other.desk ≡ desk.now.id }
+    ensures desk { IfOk result (λ r. r.0.desk ≡ one.desk) }
+    ensures count { IfOk result (λ r. pass_draws r.0 ≡ pass_draws one + pass_draws other) }
+{
+    let (first, second) = join(
+        rt,
+        || -> Result<(Pass, Vec<u32>), AllocError>
+            requires { one.desk ≡ desk.now.id }
+            ensures desk { IfOk result (λ r. r.0.desk ≡ one.desk) }
+            ensures count { IfOk result (λ r. pass_draws r.0 ≡ pass_draws one) }
+        { drawn_jobs(alloc, desk, one) },
+        || -> Result<(Pass, Vec<u32>), AllocError>
+            requires { other.desk ≡ desk.now.id }
+            ensures desk { IfOk result (λ r. r.0.desk ≡ other.desk) }
+            ensures count { IfOk result (λ r. pass_draws r.0 ≡ pass_draws other) }
+        { drawn_jobs(alloc, desk, other) },
+    );
+    let (one, mut jobs) = first?;
+    let (other, mut more) = second?;
+    jobs.append(&mut more)?;
+    Ok((one.join(other, desk), jobs))
+}
+
+pub fn two_passes_of_a_desk(rt: &(impl Sync + Threads), alloc: Global) -> Answer {
     let (desk, all) = Desk::make(alloc, 5, &[None], 2)?;
-    assert_eq!(rt; all.allowance(), 2 * SHARE);
+    let allowance = all.allowance();
     let (mut one, mut other) = all.split(&desk, SHARE);
     let far = Place::of(7, 3, 1);
     let near = Place::of(4, 9, 0);
     one.lower(&desk, 0, far);
     other.lower(&desk, 0, near);
-    let seen = (one.look(&desk, 0), other.look(&desk, 0));
-    assert_eq!(rt; seen, (Some(near), Some(near)));
-
-    let (first, second) = join(
-        &rt,
-        || -> Result<(Pass, Vec<u32>), AllocError>
-            requires { one.desk ≡ desk.id }
-            ensures desk { IfOk result (λ r. r.0.desk ≡ one.desk) }
-            ensures count { IfOk result (λ r. pass_draws r.0 ≡ pass_draws one) }
-        { drawn_jobs(alloc, &desk, one) },
-        || -> Result<(Pass, Vec<u32>), AllocError>
-            requires { other.desk ≡ desk.id }
-            ensures desk { IfOk result (λ r. r.0.desk ≡ other.desk) }
-            ensures count { IfOk result (λ r. pass_draws r.0 ≡ pass_draws other) }
-        { drawn_jobs(alloc, &desk, other) },
-    );
-    let (one, mut jobs) = first?;
-    let (other, mut more) = second?;
-    jobs.append(&mut more)?;
+    let seen = [one.look(&desk, 0), other.look(&desk, 0)];
+    let (last, mut jobs) = drawn_by_two(rt, alloc, &desk, one, other)?;
     jobs.sort()?;
-    assert_eq!(rt; jobs.as_slice(), [0, 1, 2, 3, 4].as_slice());
-
-    let last = one.join(other, &desk);
     let closed = desk.close(last);
-    assert_eq!(rt; closed.drawn(), 2 * SHARE);
-    assert_eq!(rt; closed.stop(0), Some(near));
-    Ok(())
+    let drawn = [allowance, closed.drawn()];
+    Ok(
+        drawn == [2 * SHARE; 2]
+            && jobs.as_slice() == [0, 1, 2, 3, 4].as_slice()
+            && [seen[0], seen[1], closed.stop(0)] == [Some(near); 3],
+    )
 }

@@ -1,88 +1,75 @@
 //! The client's flow of segments that overlap, by the calls and by the plain program.
 
 use super::plain::{self, PlainFlow};
+use crate::answer::Answer;
+use crate::script::capture_of;
 use audit_terms::Side;
 use packet_heads::decode_all;
 use pcap_records::records;
 use std::alloc::{AllocError, Global};
-use std::process::Abort;
-use std::test::Fail;
 use tcp_streams::{Arrival, Flow, assemble, connections};
 use test_captures::Capture;
 
-/// After a SYN with this sequence number and the server's answer, segments of the client from record 3 on.
-fn capture_of(
-    alloc: Global,
-    initial_number: u32,
-    segments: &[(u32, &[u8])],
-) -> Result<Capture, AllocError> {
-    let mut capture = Capture::new(alloc)?;
-    capture.syn(initial_number)?;
-    capture.syn_ack(5000)?;
-    for (seq, payload) in segments {
-        capture.client_at(*seq, payload)?;
-    }
-    Ok(capture)
-}
-
-/// The flow with its bytes in one piece.
-fn gathered(alloc: Global, flow: &Flow) -> Result<PlainFlow, AllocError> {
+/// The bytes of a flow in one piece.
+fn bytes_of(alloc: Global, flow: &Flow) -> Result<Vec<u8>, AllocError> {
     let mut bytes = Vec::new(alloc);
     for piece in &flow.pieces {
         bytes.extend_from_slice(*piece)?;
     }
-    let mut arrivals = Vec::new(alloc);
-    arrivals.extend_from_slice(flow.arrivals.as_slice())?;
-    Ok(PlainFlow {
-        started: flow.started,
-        bytes,
-        arrivals,
-        gap: flow.gap,
-    })
+    Ok(bytes)
 }
 
-/// What of a flow is compared.
-fn fields(flow: &PlainFlow) -> (bool, &[u8], &[Arrival], Option<u64>) {
-    (
-        flow.started,
-        flow.bytes.as_slice(),
-        flow.arrivals.as_slice(),
-        flow.gap,
+/// Whether a flow is that of the plain program.
+fn is_plain(alloc: Global, flow: &Flow, plain: &PlainFlow) -> Result<bool, AllocError> {
+    let bytes = bytes_of(alloc, flow)?;
+    Ok(
+        flow.started == plain.started
+            && bytes.as_slice() == plain.bytes.as_slice()
+            && flow.arrivals.as_slice() == plain.arrivals.as_slice()
+            && flow.gap == plain.gap,
     )
 }
 
-/// The client's flow in the first connection, which the plain program finds too.
-fn flow_of(rt: &impl Abort, alloc: Global, capture: &[u8]) -> Result<PlainFlow, Fail> {
-    let found = records(alloc, capture)?;
+/// The client's flow in the first connection, where the plain program finds the same.
+fn flow_of(alloc: Global, capture: &[u8]) -> Result<Option<PlainFlow>, AllocError> {
+    let Ok(found) = records(alloc, capture) else {
+        return Ok(None);
+    };
     let packets = decode_all(alloc, &found, capture)?;
     let streams = connections(alloc, &packets)?;
-    assert!(rt; !streams.opened.is_empty() && capture.len() < 0x8000_0000);
+    if streams.opened.is_empty() || capture.len() >= 0x8000_0000 {
+        return Ok(None);
+    }
     let connection = &streams.opened[0];
-    let flow = gathered(
-        alloc,
-        &assemble(alloc, capture, &packets, connection, Side::Client)?,
-    )?;
+    let flow = assemble(alloc, capture, &packets, connection, Side::Client)?;
     let plain = plain::assemble(alloc, capture, &packets, connection, Side::Client)?;
-    assert_eq!(rt; fields(&flow), fields(&plain));
-    Ok(flow)
+    let same = is_plain(alloc, &flow, &plain)?;
+    Ok(if same { Some(plain) } else { None })
 }
 
-// Record 6 comes after a gap.
-#[test]
-fn overlaps_and_gap(rt: HostRuntime) -> Result<(), Fail> {
-    let segments: [(u32, &[u8]); 4] = [
-        (1003, b"CD"),
-        (1001, b"abcdef"),
-        (1005, b"XYZ"),
-        (1010, b"k"),
-    ];
-    let capture = capture_of(rt.alloc(), 1000, &segments)?;
-    let flow = flow_of(&rt, rt.alloc(), capture.as_slice())?;
+/// Segments CD, abcdef and XYZ that overlap, and k after a gap.
+const OVERLAPS: &str = "empty
+SYN 1000
+SYN_ACK 5000
+C AT 1003 HEX 4344
+C AT 1001 HEX 616263646566
+C AT 1005 HEX 58595a
+C AT 1010 HEX 6b
+";
+
+pub fn overlaps_and_gap(alloc: Global) -> Answer {
+    let capture = capture_of(alloc, OVERLAPS)?;
+    let Some(flow) = flow_of(alloc, capture.as_slice())? else {
+        return Ok(false);
+    };
     let arrival = |upto: u64, rec: u32, nanos: u64| Arrival { upto, rec, nanos };
     let arrivals = [arrival(6, 4, 4000), arrival(7, 5, 5000)];
-    let want = (true, b"abCDefZ".as_slice(), arrivals.as_slice(), Some(7));
-    assert_eq!(rt; fields(&flow), want);
-    Ok(())
+    Ok(
+        flow.started
+            && flow.bytes.as_slice() == b"abCDefZ".as_slice()
+            && flow.arrivals.as_slice() == arrivals.as_slice()
+            && flow.gap == Some(7),
+    )
 }
 
 /// The next number of a linear congruential generator (Knuth's MMIX constants).
@@ -97,7 +84,9 @@ fn next(state: &mut u64) -> u32 {
 /// its own letter.
 fn random_capture(alloc: Global, state: &mut u64) -> Result<Capture, AllocError> {
     let initial_number = next(state).wrapping_sub(8);
-    let mut capture = capture_of(alloc, initial_number, &[])?;
+    let mut capture = Capture::new(alloc)?;
+    capture.syn(initial_number)?;
+    capture.syn_ack(5000)?;
     for letter in b'a'..=b'p' {
         let seq = initial_number
             .wrapping_sub(4)
@@ -108,12 +97,13 @@ fn random_capture(alloc: Global, state: &mut u64) -> Result<Capture, AllocError>
     Ok(capture)
 }
 
-#[test]
-fn random_segments(rt: HostRuntime) -> Result<(), Fail> {
+pub fn random_segments(alloc: Global) -> Answer {
     let mut state = 1;
     for _ in 0..60 {
-        let capture = random_capture(rt.alloc(), &mut state)?;
-        flow_of(&rt, rt.alloc(), capture.as_slice())?;
+        let capture = random_capture(alloc, &mut state)?;
+        if flow_of(alloc, capture.as_slice())?.is_none() {
+            return Ok(false);
+        }
     }
-    Ok(())
+    Ok(true)
 }

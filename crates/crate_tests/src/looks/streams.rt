@@ -6,9 +6,9 @@ ghost use Rattle.settings_pair.specs.Changes.{AreOrderly};
 
 use super::frames::{FRAMES, frames};
 use super::test_look::{Looked, TestLook};
+use crate::answer::{Answer, NoAnswer};
 use audit_terms::{Change, Finding, Kind, Place, Side};
 use std::alloc::{AllocError, Global};
-use std::test::Fail;
 use stream_credit::{Changes, StreamPart, StreamRun, stream_run};
 
 /// The first numbers.
@@ -69,18 +69,15 @@ fn credits(alloc: Global) -> Result<Vec<Finding>, AllocError> {
     Ok(credits)
 }
 
-// A stop at frame 300 is answered before frame 257, and one at frame 0 before the opening.
-#[test]
-fn looks_before_each_256th_frame(rt: HostRuntime) -> Result<(), Fail> {
-    let credits = credits(rt.alloc())?;
+/// A stop at frame 300 is answered before frame 257, and one at frame 0 before the opening.
+pub fn looks_of_a_stream(alloc: Global) -> Answer {
+    let credits = credits(alloc)?;
     for (before, number, handed, looks, found, opened_at) in [
         (4, 0, [0, 257, 513, 769], 4, 1001, Some(1)),
         (1, 300, [0, 257, 0, 0], 2, 300, Some(1)),
         (0, 0, [0; 4], 1, 0, None),
     ] {
         let stop = Place::of(number, 4, 0);
-        let mut look = TestLook::after(before, Some(stop));
-        let run = run_of_frames(rt.alloc(), &mut look).ok_or("memory")?;
         let upto = if before < looks { Some(stop) } else { None };
         let last_look = upto;
         let want = Looked {
@@ -91,16 +88,18 @@ fn looks_before_each_256th_frame(rt: HostRuntime) -> Result<(), Fail> {
             last_look,
             found,
         };
-        assert_eq!(rt;
-            (
-                looked(&look, &run),
-                run.opened_at,
-                Some(run.findings.as_slice())
-            ),
-            (want, opened_at, credits.get(..found))
-        );
+        let mut look = TestLook::after(before, Some(stop));
+        let Some(run) = run_of_frames(alloc, &mut look) else {
+            return Err(NoAnswer::OutOfMemory);
+        };
+        if looked(&look, &run) != want
+            || run.opened_at != opened_at
+            || Some(run.findings.as_slice()) != credits.get(..found)
+        {
+            return Ok(false);
+        }
     }
-    Ok(())
+    Ok(true)
 }
 
 /// What an acknowledgement by the client brings.
@@ -144,9 +143,8 @@ fn looked_among_changes(alloc: Global, mut look: TestLook) -> Option<Looked> {
     Some(looked(&look, &run))
 }
 
-// A change is no step of a stream that has no window: so the run looks once, and nothing lies past the stop.
-#[test]
-fn looks_at_no_change_without_a_window(rt: HostRuntime) {
+/// A change is no step of a stream that has no window: so the run looks once, and nothing lies past the stop.
+pub fn looks_at_no_change(alloc: Global) -> bool {
     for before in [0, 1] {
         let stop = Place::of(1, 4, 0);
         let last_look = if before == 0 { Some(stop) } else { None };
@@ -158,9 +156,9 @@ fn looks_at_no_change_without_a_window(rt: HostRuntime) {
             last_look,
             found: 0,
         };
-        assert_eq!(rt;
-            looked_among_changes(rt.alloc(), TestLook::after(before, Some(stop))),
-            Some(want)
-        );
+        if looked_among_changes(alloc, TestLook::after(before, Some(stop))) != Some(want) {
+            return false;
+        }
     }
+    true
 }

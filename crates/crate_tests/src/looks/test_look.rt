@@ -42,7 +42,7 @@ impl Look for TestLook {
 }
 
 /// What a look and a run with it come to.
-#[derive(Clone, Copy, Debug, PartialEq, Eq)]
+#[derive(Clone, Copy, PartialEq, Eq)]
 pub struct Looked {
     /// How often the look was asked.
     pub calls: u32,

@@ -4,13 +4,13 @@ ghost use Rattle.std.specs.Prelude.{◌≡◌, ◌+◌, ◌*◌, ◌<◌, ◌^�
 ghost use Rattle.audit_terms.specs.Frame.{IsInRange};
 ghost use Rattle.tcp_streams.specs.Arrivals.{IsOrderly};
 
+use crate::answer::Answer;
 use audit_report::{capture_lines, connection_lines, finding_line};
 use audit_terms::{Body, Finding, Frame, Kind, Place, Side, Sides};
 use h2_frames::Cut;
 use packet_heads::{Endpoint, Packet, Refusal, Segment, Skip};
 use pcap_records::{Record, Records};
 use std::alloc::{AllocError, Global};
-use std::test::Fail;
 use tcp_streams::{Arrival, Connection, Flow, Stray};
 
 const CLIENT: Endpoint = Endpoint {
@@ -23,7 +23,7 @@ const SERVER: Endpoint = Endpoint {
     port: 80,
 };
 
-// A segment of the server with no payload.
+/// A segment of the server with no payload.
 fn segment(rec: u32, snapped: bool) -> Packet {
     Packet::Segment(Segment {
         rec,
@@ -54,9 +54,8 @@ record 14 cut
 unopened 10.0.0.2:80 10.0.0.1:40000 segments 2
 ";
 
-// One packet of each kind, in record order: which are counted where, and which have a line of their own.
-#[test]
-fn each_kind_of_packet(rt: HostRuntime) -> Result<(), Fail> {
+/// One packet of each kind, in record order: which are counted where, and which have a line of their own.
+pub fn each_kind_of_packet(alloc: Global) -> Answer {
     let packets = [
         Packet::Refused(Refusal::ShortEthernet),
         Packet::Skipped(Skip::NotIpv4),
@@ -72,7 +71,7 @@ fn each_kind_of_packet(rt: HostRuntime) -> Result<(), Fail> {
         Packet::Refused(Refusal::BadDataOffset),
         segment(13, false),
     ];
-    let mut rows = Vec::new(rt.alloc());
+    let mut rows = Vec::new(alloc);
     for _ in 0..13 {
         rows.push(Record {
             nanos: 0,
@@ -91,12 +90,11 @@ fn each_kind_of_packet(rt: HostRuntime) -> Result<(), Fail> {
         to: CLIENT,
         segments: 2,
     }];
-    let text = capture_lines(rt.alloc(), &records, &packets, &strays)?;
-    assert_eq!(rt; text.as_slice(), CAPTURE_LINES.as_bytes());
-    Ok(())
+    let text = capture_lines(alloc, &records, &packets, &strays)?;
+    Ok(text.as_slice() == CAPTURE_LINES.as_bytes())
 }
 
-// A flow of these bytes, which one record brought.
+/// A flow of these bytes, which one record brought.
 fn flow<'a>(alloc: Global, bytes: &'a [u8], gap: Option<u64>) -> Result<Flow<'a>, AllocError>
     requires { (0 < length bytes.now) × (length bytes.now < 2 ^ 31) }
     ensures { IfOk result IsOrderly }
@@ -117,7 +115,7 @@ fn flow<'a>(alloc: Global, bytes: &'a [u8], gap: Option<u64>) -> Result<Flow<'a>
     })
 }
 
-// A WINDOW_UPDATE of the server, two records after its number, at a thousand nanoseconds a record.
+/// A WINDOW_UPDATE of the server, two records after its number, at a thousand nanoseconds a record.
 fn frame(number: u32) -> Frame
     requires { number < 2 ^ 20 }
     ensures number { result.number ≡ number }
@@ -142,9 +140,7 @@ flow client bytes 110 gap 110 tail 59
 flow server bytes 18 gap none tail 3
 ";
 
-#[test]
-fn snapped_gap(rt: HostRuntime) -> Result<(), Fail> {
-    let alloc = rt.alloc();
+pub fn snapped_gap(alloc: Global) -> Answer {
     let cut = Cut::Http2 {
         frames: vec![in alloc; frame(1), frame(2)]?,
         tails: Sides {
@@ -163,15 +159,13 @@ fn snapped_gap(rt: HostRuntime) -> Result<(), Fail> {
     let client = flow(alloc, &[0; 110], Some(110))?;
     let server = flow(alloc, &[0; 18], None)?;
     let text = connection_lines(alloc, 1, &connection, &client, &server, &cut)?;
-    assert_eq!(rt; text.as_slice(), CONNECTION_LINES.as_bytes());
-    Ok(())
+    Ok(text.as_slice() == CONNECTION_LINES.as_bytes())
 }
 
 const FINDING_LINE: &str =
     "frame 8 record 10 time 10000 client stream-stall-begin stream 1 value -100\n";
 
-#[test]
-fn negative_window(rt: HostRuntime) -> Result<(), Fail> {
+pub fn line_of_a_stall(alloc: Global) -> Answer {
     let kind = Kind::StreamStallBegin;
     let finding = Finding {
         place: Place::of(8, kind.rank(), 1),
@@ -179,7 +173,6 @@ fn negative_window(rt: HostRuntime) -> Result<(), Fail> {
         kind,
         value: -100,
     };
-    let text = finding_line(rt.alloc(), &finding, &[frame(7), frame(8), frame(9)])?;
-    assert_eq!(rt; text.as_slice(), FINDING_LINE.as_bytes());
-    Ok(())
+    let text = finding_line(alloc, &finding, &[frame(7), frame(8), frame(9)])?;
+    Ok(text.as_slice() == FINDING_LINE.as_bytes())
 }

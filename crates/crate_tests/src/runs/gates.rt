@@ -1,11 +1,11 @@
 //! What gates see of the rounds: how many jobs each has, and that two workers are in one at once.
 
+use crate::answer::Answer;
+use crate::script::capture_of;
 use h2audit::{Gate, Options, audit};
-use std::process::Abort;
+use std::alloc::Global;
 use std::sync::atomic::{AtomicU32, Ordering};
-use std::test::Fail;
 use std::thread::{Threads, yield_now};
-use test_captures::{Capture, data, headers, padded_data, ping, window_update};
 
 /// Counts the jobs of each round.
 #[derive(Drop)]
@@ -28,9 +28,12 @@ impl CountingGate {
 
     /// How many jobs each round had.
     fn counts(&self) -> [u32; 4] {
-        [&self.flows, &self.streams, &self.sums, &self.blocks].map(|count| count.load(
-            Ordering::SeqCst,
-        ))
+        [
+            self.flows.load(Ordering::SeqCst),
+            self.streams.load(Ordering::SeqCst),
+            self.sums.load(Ordering::SeqCst),
+            self.blocks.load(Ordering::SeqCst),
+        ]
     }
 }
 
@@ -79,87 +82,118 @@ impl Gate for HoldingGate {
     }
 }
 
-/// An audit by each of these numbers of workers has so many jobs in each round.
-fn assert_jobs(
-    rt: &(impl Abort + AllocGlobal + Sync + Threads),
-    (groups, block, credits_shown): (u32, u32, bool),
-    capture: &Capture,
-    want: [u32; 4],
-) -> Result<(), Fail> {
-    for workers in [1, 2, 64] {
-        let options = Options::of(workers, groups, block, credits_shown).ok_or("range")?;
-        let gate = CountingGate::new();
-        let answer = audit(rt, rt.alloc(), &options, capture.as_slice(), &gate);
-        assert!(rt; answer.is_ok());
-        assert_eq!(rt; gate.counts(), want);
+/// How many jobs each round of an audit had.
+fn jobs_of(
+    rt: &(impl Sync + Threads),
+    alloc: Global,
+    options: &Options,
+    capture: &[u8],
+) -> Option<[u32; 4]> {
+    let gate = CountingGate::new();
+    match audit(rt, alloc, options, capture, &gate) {
+        Ok(_) => Some(gate.counts()),
+        Err(_) => None,
     }
-    Ok(())
+}
+
+/// Whether an audit by each of these numbers of workers has so many jobs in each round.
+fn have_jobs(
+    rt: &(impl Sync + Threads),
+    alloc: Global,
+    (groups, block, credits_shown): (u32, u32, bool),
+    capture: &[u8],
+    want: [u32; 4],
+) -> bool {
+    for workers in [1, 2, 64] {
+        let Some(options) = Options::of(workers, groups, block, credits_shown) else {
+            return false;
+        };
+        if jobs_of(rt, alloc, &options, capture) != Some(want) {
+            return false;
+        }
+    }
+    true
 }
 
 /// A stream that uses up its credit and that of its connection, at frame 9.
-fn stalled(rt: &impl AllocGlobal) -> Result<Capture, Fail> {
-    let mut capture = Capture::opened(rt.alloc())?;
-    capture.client(headers(1))?;
-    for _ in 0..3 {
-        capture.client(data(1, 16_384))?;
-    }
-    capture.client(padded_data(1, 16_383, 10))?;
-    Ok(capture)
+const STALLED: &str = "opened
+C HEADERS 1
+C DATA 1 16384
+C DATA 1 16384
+C DATA 1 16384
+C PADDED 1 16383 10
+";
+
+/// Of nine blocks the last alone is not clear. A block that is clear has no job, unless credits are shown.
+pub fn jobs_of_blocks(rt: &(impl Sync + Threads), alloc: Global) -> Answer {
+    let capture = capture_of(alloc, STALLED)?;
+    let capture = capture.as_slice();
+    Ok(
+        have_jobs(rt, alloc, (3, 1, false), capture, [1, 1, 9, 1])
+            && have_jobs(rt, alloc, (3, 1, true), capture, [1, 1, 9, 9]),
+    )
 }
 
-// Of nine blocks the last alone is not clear. A block that is clear has no job, unless credits are shown.
-#[test]
-fn jobs_of_blocks_that_are_not_clear(rt: HostRuntime) -> Result<(), Fail> {
-    let capture = stalled(&rt)?;
-    assert_jobs(&rt, (3, 1, false), &capture, [1, 1, 9, 1])?;
-    assert_jobs(&rt, (3, 1, true), &capture, [1, 1, 9, 9])
+/// The same stream, and an error at frame 10.
+const STOPPED: &str = "opened
+C HEADERS 1
+C DATA 1 16384
+C DATA 1 16384
+C DATA 1 16384
+C PADDED 1 16383 10
+C DATA 7 5
+S WINDOW_UPDATE 0 10
+C DATA 1 1
+";
+
+/// The connection stops at frame 10: of its twelve frames the last two are in no block.
+pub fn jobs_up_to_the_stop(rt: &(impl Sync + Threads), alloc: Global) -> Answer {
+    let capture = capture_of(alloc, STOPPED)?;
+    let capture = capture.as_slice();
+    Ok(
+        have_jobs(rt, alloc, (1, 1, true), capture, [1, 1, 10, 10])
+            && have_jobs(rt, alloc, (3, 1, false), capture, [1, 2, 10, 2])
+            && have_jobs(rt, alloc, (3, 4, true), capture, [1, 2, 3, 3]),
+    )
 }
 
-// The connection stops at frame 10: of its twelve frames the last two are in no block.
-#[test]
-fn jobs_up_to_the_stop(rt: HostRuntime) -> Result<(), Fail> {
-    let mut capture = stalled(&rt)?;
-    capture.client(data(7, 5))?;
-    capture.server(window_update(0, 10))?;
-    capture.client(data(1, 1))?;
-    assert_jobs(&rt, (1, 1, true), &capture, [1, 1, 10, 10])?;
-    assert_jobs(&rt, (3, 1, false), &capture, [1, 2, 10, 2])?;
-    assert_jobs(&rt, (3, 4, true), &capture, [1, 2, 3, 3])
-}
-
-/// With two workers, job 1 of each of these rounds is entered, and while job 0 is held.
-fn assert_two_at_once(
-    rt: &(impl Abort + AllocGlobal + Sync + Threads),
-    rounds: u32,
-    capture: &Capture,
-) -> Result<(), Fail> {
-    let options = Options::of(2, 2, 4, true).ok_or("range")?;
+/// Whether with two workers job 1 of each of these rounds is entered, and while job 0 is held.
+fn are_two_at_once(rt: &(impl Sync + Threads), alloc: Global, rounds: u32, capture: &[u8]) -> bool {
+    let Some(options) = Options::of(2, 2, 4, true) else {
+        return false;
+    };
     let gate = HoldingGate {
         rounds,
         entered: AtomicU32::new(0),
         given_up: AtomicU32::new(0),
     };
-    let answer = audit(rt, rt.alloc(), &options, capture.as_slice(), &gate);
-    let bits = [&gate.entered, &gate.given_up].map(|bits| bits.load(Ordering::SeqCst));
-    assert!(rt; answer.is_ok());
-    assert_eq!(rt; bits, [rounds, 0]);
-    Ok(())
+    let answer = audit(rt, alloc, &options, capture, &gate);
+    answer.is_ok()
+        && gate.entered.load(Ordering::SeqCst) == rounds
+        && gate.given_up.load(Ordering::SeqCst) == 0
 }
 
-// Over two connections, and over one with two groups of streams and two blocks.
-#[test]
-fn held_gate(rt: HostRuntime) -> Result<(), Fail> {
-    let mut connections = Capture::opened(rt.alloc())?;
-    connections.client(headers(1))?;
-    connections.snapped_client(data(1, 100), 59)?;
-    connections.client(ping())?;
-    connections.syn(9000)?;
-    assert_two_at_once(&rt, 0b0001, &connections)?;
-    let mut streams = Capture::opened(rt.alloc())?;
-    streams.client(headers(1))?;
-    streams.client(headers(3))?;
-    streams.server(window_update(9, 1))?;
-    streams.server(window_update(0, 2_147_418_113))?;
-    streams.client(data(11, 0))?;
-    assert_two_at_once(&rt, 0b1110, &streams)
+const CONNECTIONS: &str = "opened
+C HEADERS 1
+C SNAPPED 59 DATA 1 100
+C PING
+SYN 9000
+";
+
+const STREAMS: &str = "opened
+C HEADERS 1
+C HEADERS 3
+S WINDOW_UPDATE 9 1
+S WINDOW_UPDATE 0 2147418113
+C DATA 11 0
+";
+
+/// Over two connections, and over one with two groups of streams and two blocks.
+pub fn two_at_once(rt: &(impl Sync + Threads), alloc: Global) -> Answer {
+    let connections = capture_of(alloc, CONNECTIONS)?;
+    let streams = capture_of(alloc, STREAMS)?;
+    Ok(
+        are_two_at_once(rt, alloc, 0b0001, connections.as_slice())
+            && are_two_at_once(rt, alloc, 0b1110, streams.as_slice()),
+    )
 }

@@ -1,11 +1,10 @@
 //! Runs over readers and writers that go in steps or fail: which calls they get, and what the accounts tell.
 
+use crate::answer::Answer;
 use crate::runs::fakes::{Failure, Pieces, Slow};
 use h2audit::{AuditFault, CaptureReader, NoGate, Options, ReportWriter, Verdict, run};
 use pcap_records::PcapFault;
 use std::alloc::Global;
-use std::process::Abort;
-use std::test::Fail;
 use std::thread::Threads;
 
 /// A little-endian header: magic, version 2.4, time zone, accuracy, snapshot length, Ethernet.
@@ -21,7 +20,7 @@ const REPORT: &str =
 const BAD_MAGIC: Result<Verdict, AuditFault> = Err(AuditFault::Pcap(PcapFault::BadMagic));
 
 /// The calls that a run made, and the reads and writes that it should not have made.
-#[derive(Clone, Copy, Debug, PartialEq, Eq)]
+#[derive(Clone, Copy, PartialEq, Eq)]
 struct Calls {
     reads: u32,
     reads_past_end: u32,
@@ -56,157 +55,140 @@ fn calls_of(reader: &Pieces, writer: &Slow) -> Calls {
     }
 }
 
-/// Of these bytes as many as the reader gave are in its account: the front that is kept, of these many at most, and how
-/// many came after it.
-fn assert_read(rt: &impl Abort, reader: &CaptureReader<Pieces>, whole: &[u8], at_most: usize) {
+/// Whether, of these bytes, as many as the reader gave are in its account: the front that is kept, of these many at
+/// most, and how many came after it.
+fn is_read(reader: &CaptureReader<Pieces>, whole: &[u8], at_most: usize) -> bool {
     let read = whole.len() - reader.reader().left.len().min(whole.len());
     let kept = read.min(at_most);
-    assert_eq!(rt;
-        (reader.kept(), reader.passed()),
-        (&whole[..kept], read - kept)
-    );
+    reader.kept() == &whole[..kept] && reader.passed() == read - kept
 }
 
-/// The writer took this text, and so says its account, which tells too whether a flush went well.
-fn assert_written(rt: &impl Abort, writer: &ReportWriter<Slow>, text: &[u8], is_flushed: bool) {
-    assert_eq!(rt; writer.writer().taken.as_slice(), text);
-    assert_eq!(rt; writer.written(), text);
-    assert_eq!(rt; writer.is_flushed(), is_flushed);
+/// Whether the writer took this text, and its account says so, and tells too whether a flush went well.
+fn is_written(writer: &ReportWriter<Slow>, text: &[u8], is_flushed: bool) -> bool {
+    writer.writer().taken.as_slice() == text
+        && writer.written() == text
+        && writer.is_flushed() == is_flushed
 }
 
-/// A run gives this answer, makes these calls, and writes the first `written` bytes of the report.
-fn expect(
-    rt: &(impl Abort + AllocGlobal + Sync + Threads),
+/// Whether a run gives this answer, makes these calls, and writes the first `written` bytes of the report.
+fn goes_so(
+    rt: &(impl Sync + Threads),
+    alloc: Global,
     reader: Pieces,
     writer: Slow,
     answer: Result<Verdict, AuditFault>,
-    expected: Calls,
-    written: usize,
-) -> Result<(), Fail> {
-    let options = Options::of(4, 16, 4096, false).ok_or("range")?;
+    (expected, written): (Calls, usize),
+) -> bool {
+    let Some(options) = Options::of(4, 16, 4096, false) else {
+        return false;
+    };
     let whole = reader.left;
-    let mut reader = CaptureReader::new(rt.alloc(), reader);
-    let mut writer = ReportWriter::new(rt.alloc(), writer);
-    let given = run(rt, rt.alloc(), &options, &mut reader, &mut writer, &NoGate);
+    let mut reader = CaptureReader::new(alloc, reader);
+    let mut writer = ReportWriter::new(alloc, writer);
+    let given = run(rt, alloc, &options, &mut reader, &mut writer, &NoGate);
     let made = calls_of(reader.reader(), writer.writer());
-    assert_eq!(rt; (given, made), (answer, expected));
     let at_most = if answer == BAD_MAGIC { 24 } else { usize::MAX };
-    assert_read(rt, &reader, whole, at_most);
-    let report = REPORT.as_bytes().get(..written).ok_or("written")?;
-    assert_written(rt, &writer, report, answer.is_ok());
-    Ok(())
+    let report = &REPORT.as_bytes()[..written.min(REPORT.len())];
+    given == answer
+        && made == expected
+        && is_read(&reader, whole, at_most)
+        && is_written(&writer, report, answer.is_ok())
 }
 
-// 24 bytes in steps of 5 are five reads, and one more finds the end.
-#[test]
-fn slow_reader_and_writer(rt: HostRuntime) -> Result<(), Fail> {
+/// 24 bytes in steps of 5 are five reads, and one more finds the end.
+pub fn slow_steps(rt: &(impl Sync + Threads), alloc: Global) -> Answer {
     for (step, writes) in [(1, 82), (3, 28), (1000, 1)] {
-        expect(
-            &rt,
-            Pieces::of(HEADER.as_slice(), 5),
-            writer(rt.alloc(), step),
+        let reader = Pieces::of(HEADER.as_slice(), 5);
+        let wanted = (counted(6, writes, 1), 82);
+        if !goes_so(
+            rt,
+            alloc,
+            reader,
+            writer(alloc, step),
             Ok(Verdict::Clean),
-            counted(6, writes, 1),
-            82,
-        )?;
+            wanted,
+        ) {
+            return Ok(false);
+        }
     }
-    Ok(())
+    Ok(true)
 }
 
-// The read that fails is the last call: that the next would go on is not tried.
-#[test]
-fn interrupted_reader(rt: HostRuntime) -> Result<(), Fail> {
+/// The read that fails is the last call: that the next would go on is not tried.
+pub fn interrupted_reader(rt: &(impl Sync + Threads), alloc: Global) -> Answer {
     for failing in 1..=6 {
         let reader = Pieces {
             interrupted_at: failing,
             ..Pieces::of(HEADER.as_slice(), 5)
         };
-        expect(
-            &rt,
+        let wanted = (counted(failing, 0, 0), 0);
+        if !goes_so(
+            rt,
+            alloc,
             reader,
-            writer(rt.alloc(), 1000),
+            writer(alloc, 1000),
             Err(AuditFault::Read),
-            counted(failing, 0, 0),
-            0,
-        )?;
+            wanted,
+        ) {
+            return Ok(false);
+        }
     }
-    Ok(())
+    Ok(true)
 }
 
-/// A writer that takes this many bytes at a time and fails once gets no call after that.
-fn expect_failure(
-    rt: &(impl Abort + AllocGlobal + Sync + Threads),
+/// Whether a writer that takes this many bytes at a time and fails once gets no call after that.
+fn ends_at_failure(
+    rt: &(impl Sync + Threads),
+    alloc: Global,
     step: usize,
-    failing: u32,
-    failure: Failure,
+    (failing, failure): (u32, Failure),
     written: usize,
-) -> Result<(), Fail> {
+) -> bool {
     let slow = Slow {
         fails_at: failing,
         failure,
-        ..writer(rt.alloc(), step)
+        ..writer(alloc, step)
     };
-    expect(
-        rt,
-        Pieces::of(HEADER.as_slice(), 24),
-        slow,
-        Err(AuditFault::Write),
-        counted(2, failing, 0),
-        written,
-    )
+    let reader = Pieces::of(HEADER.as_slice(), 24);
+    let wanted = (counted(2, failing, 0), written);
+    goes_so(rt, alloc, reader, slow, Err(AuditFault::Write), wanted)
 }
 
-// Neither a write that was interrupted nor one that took no byte is tried again, and nothing is flushed.
-#[test]
-fn failing_writer(rt: HostRuntime) -> Result<(), Fail> {
-    expect_failure(&rt, 10, 2, Failure::Interrupted, 10)?;
+/// Neither a write that was interrupted nor one that took no byte is tried again, and nothing is flushed.
+pub fn failing_writer(rt: &(impl Sync + Threads), alloc: Global) -> Answer {
     for failing in 1..=28u32 {
         let written = 3 * (failing as usize - 1);
-        expect_failure(&rt, 3, failing, Failure::Interrupted, written)?;
-        expect_failure(&rt, 3, failing, Failure::TakesNone, written)?;
+        for failure in [Failure::Interrupted, Failure::TakesNone] {
+            if !ends_at_failure(rt, alloc, 3, (failing, failure), written) {
+                return Ok(false);
+            }
+        }
     }
-    Ok(())
+    Ok(ends_at_failure(rt, alloc, 10, (2, Failure::Interrupted), 10))
 }
 
-#[test]
-fn failing_flush(rt: HostRuntime) -> Result<(), Fail> {
+pub fn failing_flush(rt: &(impl Sync + Threads), alloc: Global) -> Answer {
     let slow = Slow {
         flush_fails: true,
-        ..writer(rt.alloc(), 1000)
+        ..writer(alloc, 1000)
     };
-    expect(
-        &rt,
-        Pieces::of(HEADER.as_slice(), 24),
-        slow,
-        Err(AuditFault::Write),
-        counted(2, 1, 1),
-        82,
-    )
+    let reader = Pieces::of(HEADER.as_slice(), 24);
+    let wanted = (counted(2, 1, 1), 82);
+    Ok(goes_so(rt, alloc, reader, slow, Err(AuditFault::Write), wanted))
 }
 
-#[test]
-fn refused_capture_writes_nothing(rt: HostRuntime) -> Result<(), Fail> {
-    expect(
-        &rt,
-        Pieces::of(&HEADER[..23], 24),
-        writer(rt.alloc(), 1000),
-        Err(AuditFault::Pcap(PcapFault::ShortHeader)),
-        counted(2, 0, 0),
-        0,
-    )
+pub fn refused_capture(rt: &(impl Sync + Threads), alloc: Global) -> Answer {
+    let reader = Pieces::of(&HEADER[..23], 24);
+    let refused = Err(AuditFault::Pcap(PcapFault::ShortHeader));
+    let wanted = (counted(2, 0, 0), 0);
+    Ok(goes_so(rt, alloc, reader, writer(alloc, 1000), refused, wanted))
 }
 
-// Of 100,000 bytes in steps of 9 the first 24 take three reads and are kept; the rest is read and passed over.
-#[test]
-fn refused_header_is_all_that_is_kept(rt: HostRuntime) -> Result<(), Fail> {
-    let mut capture: Vec<u8> = Vec::new(rt.alloc());
+/// Of 100,000 bytes in steps of 9 the first 24 take three reads and are kept; the rest is read and passed over.
+pub fn refused_header(rt: &(impl Sync + Threads), alloc: Global) -> Answer {
+    let mut capture: Vec<u8> = Vec::new(alloc);
     capture.resize(100_000, 7)?;
-    expect(
-        &rt,
-        Pieces::of(capture.as_slice(), 9),
-        writer(rt.alloc(), 1000),
-        BAD_MAGIC,
-        counted(11_113, 0, 0),
-        0,
-    )
+    let reader = Pieces::of(capture.as_slice(), 9);
+    let wanted = (counted(11_113, 0, 0), 0);
+    Ok(goes_so(rt, alloc, reader, writer(alloc, 1000), BAD_MAGIC, wanted))
 }

@@ -1,11 +1,12 @@
 //! The program: its status, standard output and standard error, by its words.
 
+use crate::answer::Answer;
 use crate::runs::words::HELP;
 use h2audit::{ReportWriter, run_program};
+use std::alloc::Global;
 use std::io;
 use std::io::ErrorKind;
-use std::process::{Abort, ExitCode};
-use std::test::Fail;
+use std::process::ExitCode;
 use std::thread::Threads;
 
 /// A big-endian header: magic, version 2.4, time zone, accuracy, snapshot length, Ethernet.
@@ -25,50 +26,49 @@ fn open_file(path: &str) -> io::Result<&'static [u8]> {
     }
 }
 
-/// The program, with these words and this standard input, ends so.
-fn expect(
-    rt: &(impl Abort + AllocGlobal + Sync + Threads),
+/// Whether the program, with these words and this standard input, ends so.
+fn ends_so(
+    rt: &(impl AllocGlobal + Sync + Threads),
+    alloc: Global,
     words: &[&str],
     input: &[u8],
     status: u8,
-    output: &str,
-    said: &str,
-) -> Result<(), Fail> {
-    let mut strings = Vec::new(rt.alloc());
+    (output, said): (&str, &str),
+) -> Answer {
+    let mut strings = Vec::new(alloc);
     for word in words {
-        strings.push(String::from_str(rt.alloc(), word)?)?;
+        strings.push(String::from_str(alloc, word)?)?;
     }
-    let mut writer = ReportWriter::new(rt.alloc(), Vec::new(rt.alloc()));
-    let mut line = String::new(rt.alloc());
+    let mut writer = ReportWriter::new(alloc, Vec::new(alloc));
+    let mut line = Ok(String::new(alloc));
     let ended = run_program(rt, Ok(strings), open_file, input, &mut writer, |text| {
-        let _ = line.push_str(text);
+        line = String::from_str(alloc, text);
     });
-    let written = writer.writer().as_slice();
-    assert_eq!(rt;
-        (ended, written),
-        (ExitCode::from(status), output.as_bytes())
-    );
-    assert_eq!(rt; line.as_str(), said);
-    Ok(())
+    Ok(
+        ended == ExitCode::from(status)
+            && writer.writer().as_slice() == output.as_bytes()
+            && line?.as_str() == said,
+    )
 }
 
-#[test]
-fn each_status_but_one_for_faults(rt: HostRuntime) -> Result<(), Fail> {
-    let zero =
-        "error: invalid value '0' for '--workers <N>': 0 is not in 1..=64\n\nFor more information, try '--help'.";
-    let bad_magic = "h2audit: capture refused: bad-magic";
-    expect(&rt, &["--help"], &[], 0, HELP, "")?;
-    expect(&rt, &["no_record.pcap"], &[], 0, REPORT, "")?;
-    expect(&rt, &["--frames"], &HEADER, 0, REPORT, "")?;
-    expect(&rt, &["--workers", "0"], &HEADER, 2, "", zero)?;
-    expect(&rt, &["notes.txt"], &HEADER, 3, "", bad_magic)?;
-    expect(
-        &rt,
-        &["missing.pcap"],
-        &HEADER,
-        4,
-        "",
-        "h2audit: read failed",
-    )?;
-    Ok(())
+const ZERO: &str =
+    "error: invalid value '0' for '--workers <N>': 0 is not in 1..=64\n\nFor more information, try '--help'.";
+
+const BAD_MAGIC: &str = "h2audit: capture refused: bad-magic";
+
+pub fn each_status(rt: &(impl AllocGlobal + Sync + Threads), alloc: Global) -> Answer {
+    let runs: [(&[&str], &[u8], u8, (&str, &str)); 6] = [
+        (&["--help"], &[], 0, (HELP, "")),
+        (&["no_record.pcap"], &[], 0, (REPORT, "")),
+        (&["--frames"], &HEADER, 0, (REPORT, "")),
+        (&["--workers", "0"], &HEADER, 2, ("", ZERO)),
+        (&["notes.txt"], &HEADER, 3, ("", BAD_MAGIC)),
+        (&["missing.pcap"], &HEADER, 4, ("", "h2audit: read failed")),
+    ];
+    for (words, input, status, said) in runs {
+        if !ends_so(rt, alloc, words, input, status, said)? {
+            return Ok(false);
+        }
+    }
+    Ok(true)
 }

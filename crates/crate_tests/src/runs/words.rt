@@ -1,10 +1,10 @@
 //! The words of the command line: an audit once, and the texts of help and of refusals.
 
+use crate::answer::Answer;
 use h2audit::{Options, Parsed, parse};
-use std::test::Fail;
+use std::alloc::{AllocError, Global};
 
-#[test]
-fn each_word_has_its_effect(rt: HostRuntime) -> Result<(), Fail> {
+pub fn each_word(alloc: Global) -> Answer {
     let words = [
         "--workers",
         "64",
@@ -14,14 +14,13 @@ fn each_word_has_its_effect(rt: HostRuntime) -> Result<(), Fail> {
         "--block",
         "1048576",
     ];
-    match parse(rt.alloc(), words.as_slice())? {
+    match parse(alloc, words.as_slice())? {
         Parsed::Run(options, Some(path)) => {
             let wanted = Options::of(64, 1, 1_048_576, true);
-            assert_eq!(rt; (Some(options), path.as_str()), (wanted, "capture.pcap"));
+            Ok(Some(options) == wanted && path.as_str() == "capture.pcap")
         }
-        _ => panic!(rt; "these words are an audit of a file"),
+        _ => Ok(false),
     }
-    Ok(())
 }
 
 pub const HELP: &str = "Audits the HTTP/2 flow control of a classic pcap capture (Ethernet, IPv4)
@@ -56,17 +55,16 @@ Usage: h2audit [OPTIONS] [FILE]
 For more information, try '--help'.
 ";
 
-/// The text that the words are answered with.
-fn text_of(rt: &HostRuntime, words: &[&str]) -> Result<String, Fail> {
-    match parse(rt.alloc(), words)? {
-        Parsed::Help(text) | Parsed::Version(text) => Ok(text),
-        Parsed::Refused(text) => Ok(text),
-        Parsed::Run(_options, _path) => Err("these words are an audit")?,
+/// The text that words are answered with, where they are not an audit.
+fn text_of(alloc: Global, words: &[&str]) -> Result<Option<String>, AllocError> {
+    match parse(alloc, words)? {
+        Parsed::Help(text) | Parsed::Version(text) => Ok(Some(text)),
+        Parsed::Refused(text) => Ok(Some(text)),
+        Parsed::Run(_options, _path) => Ok(None),
     }
 }
 
-#[test]
-fn texts_of_help_and_refusals(rt: HostRuntime) -> Result<(), Fail> {
+pub fn help_and_refusals(alloc: Global) -> Answer {
     let table: [(&[&str], &str); 6] = [
         (&["--help"], HELP),
         (&["-h"], HELP),
@@ -76,14 +74,15 @@ fn texts_of_help_and_refusals(rt: HostRuntime) -> Result<(), Fail> {
         (&["one.pcap", "two.pcap"], SECOND_PATH),
     ];
     for (words, wanted) in table {
-        let text = text_of(&rt, words)?;
-        assert_eq!(rt; text.as_str(), wanted);
+        match text_of(alloc, words)? {
+            Some(text) if text.as_str() == wanted => {}
+            _ => return Ok(false),
+        }
     }
-    Ok(())
+    Ok(true)
 }
 
-#[test]
-fn words_that_do_not_parse(rt: HostRuntime) -> Result<(), Fail> {
+pub fn refused_words(alloc: Global) -> Answer {
     let lines: [&[&str]; 7] = [
         &["--workers", "65"],
         &["--groups", "1025"],
@@ -94,8 +93,10 @@ fn words_that_do_not_parse(rt: HostRuntime) -> Result<(), Fail> {
         &["--frames", "--frames"],
     ];
     for words in lines {
-        let text = text_of(&rt, words)?;
-        assert!(rt; text.as_str().starts_with("error: "));
+        match text_of(alloc, words)? {
+            Some(text) if text.as_str().starts_with("error: ") => {}
+            _ => return Ok(false),
+        }
     }
-    Ok(())
+    Ok(true)
 }

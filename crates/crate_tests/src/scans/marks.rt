@@ -1,16 +1,19 @@
 //! The items of a block: a mark of an opening counts on HEADERS alone.
 
+use crate::answer::Answer;
 use crate::passes::scripts::{are_orderly, data, headers};
 use audit_terms::Side;
 use conn_scan::items;
-use std::test::Fail;
+use std::alloc::Global;
 
-#[test]
-fn a_mark_counts_on_headers(rt: HostRuntime) -> Result<(), Fail> {
+pub fn marks_of_openings(alloc: Global) -> Answer {
     let frames = [headers(5, Side::Client, 1), data(6, Side::Client, 1, 1)];
-    assert!(rt; are_orderly(&frames));
-    let list = items(rt.alloc(), &frames, [5, 6].as_slice(), &[])?;
-    let opens: Vec<bool> = list.iter().map(|item| item.opens).collect(rt.alloc())?;
-    assert_eq!(rt; opens.as_slice(), [true, false].as_slice());
-    Ok(())
+    if !are_orderly(&frames) {
+        return Ok(false);
+    }
+    let list = items(alloc, &frames, [5, 6].as_slice(), &[])?;
+    match list.as_slice() {
+        [first, second] => Ok(first.opens && !second.opens),
+        _ => Ok(false),
+    }
 }

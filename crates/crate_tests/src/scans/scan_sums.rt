@@ -1,10 +1,10 @@
 //! Credits over blocks of changes: 65,535 bytes used up, one granted, one sent.
 ghost use Rattle.std.specs.Prelude.{◌<◌};
 
+use crate::answer::Answer;
 use block_scan::scan;
 use conn_scan::Credit;
 use std::alloc::{AllocError, Global};
-use std::test::Fail;
 use std::thread::Threads;
 
 const START: i64 = 65_535;
@@ -17,11 +17,12 @@ fn states(rt: &(impl Threads + Sync), alloc: Global, block: usize) -> Result<Vec
     scan::<Credit>(rt, alloc, START, changes.as_slice(), block)
 }
 
-#[test]
-fn states_for_each_block_length(rt: HostRuntime) -> Result<(), Fail> {
+pub fn scan_by_blocks(rt: &(impl Sync + Threads), alloc: Global) -> Answer {
     for block in [1, 2, 4096] {
-        let states = states(&rt, rt.alloc(), block)?;
-        assert_eq!(rt; states.as_slice(), [0, 1, 0].as_slice());
+        let states = states(rt, alloc, block)?;
+        if states.as_slice() != [0, 1, 0].as_slice() {
+            return Ok(false);
+        }
     }
-    Ok(())
+    Ok(true)
 }

@@ -7,10 +7,10 @@ ghost use Rattle.audit_rounds.specs.code.JobProps.{frames-prop};
 ghost use Rattle.stream_credit.specs.Part.{IsPart};
 ghost use Rattle.crate_tests.specs.StreamJobs.{job_of};
 
+use crate::answer::Answer;
 use audit_terms::{Body, Finding, Frame, Kind, Look, Place, Side};
 use job_crew::{NoGate, Round, Settled, Work, settle};
 use std::alloc::{AllocError, Global};
-use std::test::Fail;
 use std::thread::Threads;
 use stream_credit::{Changes, StreamPart, stream_run};
 
@@ -74,15 +74,15 @@ impl Round for TwoStreams<'_> {
 
 /// What one worker leaves, who does the jobs in turn.
 fn settled(
-    rt: &(impl AllocGlobal + Sync + Threads),
+    rt: &(impl Sync + Threads),
+    alloc: Global,
     round: &TwoStreams<'_>,
 ) -> Result<Settled<()>, AllocError> {
-    settle(rt, rt.alloc(), 1, &NoGate, 1, &[None], round)
+    settle(rt, alloc, 1, &NoGate, 1, &[None], round)
 }
 
-// The first stream has an error at frame 5, and the second opens at frame 6: its job sees the stop, and finds nothing.
-#[test]
-fn later_jobs_see_the_stop(rt: HostRuntime) -> Result<(), Fail> {
+/// The first stream has an error at frame 5, and the second opens at frame 6: its job sees the stop, and finds nothing.
+pub fn later_jobs_stop(rt: &(impl Sync + Threads), alloc: Global) -> Answer {
     let frames = [
         frame(5, Side::Server, 3, 9, Body::RstStream),
         frame(6, Side::Client, 1, 1, Body::Headers),
@@ -99,16 +99,15 @@ fn later_jobs_see_the_stop(rt: HostRuntime) -> Result<(), Fail> {
             positions: &[1],
         },
     };
-    let Settled { parts, stops } = settled(&rt, &round)?;
-    let found: Vec<Option<Finding>> = parts
-        .iter()
-        .map(|part| part.findings.first().copied())
-        .collect(rt.alloc())?;
+    let Settled { parts, stops } = settled(rt, alloc, &round)?;
     let error = Finding::at(Kind::NotOpened, 5, 9, Side::Server, 3);
     let stop = Place::of(5, Kind::NotOpened.rank(), 9);
-    assert_eq!(rt;
-        (found.as_slice(), stops.as_slice()),
-        ([Some(error), None].as_slice(), [Some(stop)].as_slice())
-    );
-    Ok(())
+    match parts.as_slice() {
+        [first, second] => Ok(
+            first.findings.as_slice() == [error].as_slice()
+                && second.findings.is_empty()
+                && stops.as_slice() == [Some(stop)].as_slice(),
+        ),
+        _ => Ok(false),
+    }
 }

@@ -15,44 +15,22 @@
 //! A payload is a frame, as `DATA 1 16384`, or `PREFACE` and a frame, or `HEX` and bytes. After `bytes` each line is
 //! hex.
 
-use std::alloc::{AllocError, Global};
-use std::num::ParseIntError;
+use crate::answer::NoAnswer;
+use std::alloc::Global;
 use test_captures::{
     Capture, END_HEADERS, END_STREAM, Endpoint, Frame, PREFACE, Segment, data, headers, headers_of,
     padded_data, ping, priority, push_promise, rst_stream, settings, settings_ack, window_update,
 };
-use thiserror::Error;
-
-/// Why a script gives no capture.
-#[derive(Clone, Copy, Debug, Error)]
-pub enum ScriptError {
-    #[error("is not understood")]
-    NotUnderstood,
-    #[error("has no memory")]
-    OutOfMemory,
-}
-
-impl From<AllocError> for ScriptError {
-    fn from(_error: AllocError) -> ScriptError {
-        ScriptError::OutOfMemory
-    }
-}
-
-impl From<ParseIntError> for ScriptError {
-    fn from(_error: ParseIntError) -> ScriptError {
-        ScriptError::NotUnderstood
-    }
-}
 
 /// The bytes of the capture that a script spells.
-pub fn capture_of(alloc: Global, script: &str) -> Result<Vec<u8>, ScriptError> {
+pub fn capture_of(alloc: Global, script: &str) -> Result<Vec<u8>, NoAnswer> {
     let (first, steps) = script.split_once('\n').unwrap_or((script, ""));
     let mut capture = match first {
         "bytes" => return hex_lines(alloc, steps),
         "empty" => Capture::new(alloc)?,
         "handshake" => Capture::handshake(alloc)?,
         "opened" => Capture::opened(alloc)?,
-        _ => return Err(ScriptError::NotUnderstood),
+        _ => return Err(NoAnswer::NotUnderstood),
     };
     for step in steps.lines() {
         let words: Vec<&str> = step.split_whitespace().collect(alloc)?;
@@ -61,7 +39,7 @@ pub fn capture_of(alloc: Global, script: &str) -> Result<Vec<u8>, ScriptError> {
     Ok(Vec::from_slice(alloc, capture.as_slice())?)
 }
 
-fn hex_lines(alloc: Global, lines: &str) -> Result<Vec<u8>, ScriptError> {
+fn hex_lines(alloc: Global, lines: &str) -> Result<Vec<u8>, NoAnswer> {
     let mut bytes = Vec::new(alloc);
     for word in lines.split_whitespace() {
         push_hex(alloc, word, &mut bytes)?;
@@ -69,15 +47,15 @@ fn hex_lines(alloc: Global, lines: &str) -> Result<Vec<u8>, ScriptError> {
     Ok(bytes)
 }
 
-fn push_hex(alloc: Global, digits: &str, out: &mut Vec<u8>) -> Result<(), ScriptError> {
+fn push_hex(alloc: Global, digits: &str, out: &mut Vec<u8>) -> Result<(), NoAnswer> {
     match hex::decode(alloc, digits) {
         Ok(bytes) => Ok(out.extend_from_slice(bytes.as_slice())?),
-        Err(_) => Err(ScriptError::NotUnderstood),
+        Err(_) => Err(NoAnswer::NotUnderstood),
     }
 }
 
 /// Takes one line of a script.
-fn take_step(alloc: Global, capture: &mut Capture, words: &[&str]) -> Result<(), ScriptError> {
+fn take_step(alloc: Global, capture: &mut Capture, words: &[&str]) -> Result<(), NoAnswer> {
     match *words {
         ["C", ..] | ["S", ..] => side_step(alloc, capture, words),
         ["SEGMENT", ..] => segment_step(alloc, capture, words),
@@ -93,12 +71,12 @@ fn take_step(alloc: Global, capture: &mut Capture, words: &[&str]) -> Result<(),
             Ok(())
         }
         [] => Ok(()),
-        _ => Err(ScriptError::NotUnderstood),
+        _ => Err(NoAnswer::NotUnderstood),
     }
 }
 
 /// A record of the client or of the server.
-fn side_step(alloc: Global, capture: &mut Capture, words: &[&str]) -> Result<(), ScriptError> {
+fn side_step(alloc: Global, capture: &mut Capture, words: &[&str]) -> Result<(), NoAnswer> {
     match words {
         ["C", "AT", seq, payload @ ..] => {
             let bytes = payload_of(alloc, payload)?;
@@ -119,12 +97,12 @@ fn side_step(alloc: Global, capture: &mut Capture, words: &[&str]) -> Result<(),
             let bytes = payload_of(alloc, payload)?;
             Ok(capture.server_bytes(bytes.as_slice())?)
         }
-        _ => Err(ScriptError::NotUnderstood),
+        _ => Err(NoAnswer::NotUnderstood),
     }
 }
 
 /// A record of a segment of any endpoints.
-fn segment_step(alloc: Global, capture: &mut Capture, words: &[&str]) -> Result<(), ScriptError> {
+fn segment_step(alloc: Global, capture: &mut Capture, words: &[&str]) -> Result<(), NoAnswer> {
     match words {
         [
             "SEGMENT",
@@ -152,12 +130,12 @@ fn segment_step(alloc: Global, capture: &mut Capture, words: &[&str]) -> Result<
             };
             Ok(capture.segment(segment)?)
         }
-        _ => Err(ScriptError::NotUnderstood),
+        _ => Err(NoAnswer::NotUnderstood),
     }
 }
 
 /// The bytes of a payload.
-fn payload_of(alloc: Global, words: &[&str]) -> Result<Vec<u8>, ScriptError> {
+fn payload_of(alloc: Global, words: &[&str]) -> Result<Vec<u8>, NoAnswer> {
     let mut bytes = Vec::new(alloc);
     match words {
         [] => {}
@@ -176,7 +154,7 @@ fn payload_of(alloc: Global, words: &[&str]) -> Result<Vec<u8>, ScriptError> {
 }
 
 /// Puts the bytes of a frame at the end.
-fn push_frame(words: &[&str], out: &mut Vec<u8>) -> Result<(), ScriptError> {
+fn push_frame(words: &[&str], out: &mut Vec<u8>) -> Result<(), NoAnswer> {
     match *words {
         ["SETTINGS", identifier, value] => {
             let pairs = [(identifier.parse()?, value.parse()?)];
@@ -187,7 +165,7 @@ fn push_frame(words: &[&str], out: &mut Vec<u8>) -> Result<(), ScriptError> {
 }
 
 /// A frame of numbers and flags alone.
-fn frame_of(words: &[&str]) -> Result<Frame<'static>, ScriptError> {
+fn frame_of(words: &[&str]) -> Result<Frame<'static>, NoAnswer> {
     match *words {
         [name] => bare_frame(name),
         [name, stream] => stream_frame(name, stream.parse()?),
@@ -204,34 +182,34 @@ fn frame_of(words: &[&str]) -> Result<Frame<'static>, ScriptError> {
             END_HEADERS | END_STREAM,
         )),
         [name, stream, number] => number_frame(name, stream.parse()?, number.parse()?),
-        _ => Err(ScriptError::NotUnderstood),
+        _ => Err(NoAnswer::NotUnderstood),
     }
 }
 
-fn bare_frame(name: &str) -> Result<Frame<'static>, ScriptError> {
+fn bare_frame(name: &str) -> Result<Frame<'static>, NoAnswer> {
     match name {
         "SETTINGS" => Ok(settings(&[])),
         "ACK" => Ok(settings_ack()),
         "PING" => Ok(ping()),
-        _ => Err(ScriptError::NotUnderstood),
+        _ => Err(NoAnswer::NotUnderstood),
     }
 }
 
-fn stream_frame(name: &str, stream: u32) -> Result<Frame<'static>, ScriptError> {
+fn stream_frame(name: &str, stream: u32) -> Result<Frame<'static>, NoAnswer> {
     match name {
         "HEADERS" => Ok(headers(stream)),
         "RST_STREAM" => Ok(rst_stream(stream)),
-        _ => Err(ScriptError::NotUnderstood),
+        _ => Err(NoAnswer::NotUnderstood),
     }
 }
 
-fn number_frame(name: &str, stream: u32, number: u32) -> Result<Frame<'static>, ScriptError> {
+fn number_frame(name: &str, stream: u32, number: u32) -> Result<Frame<'static>, NoAnswer> {
     match name {
         "DATA" => Ok(data(stream, number)),
         "WINDOW_UPDATE" => Ok(window_update(stream, number)),
         "HEADERS_OF" => Ok(headers_of(stream, number)),
         "PRIORITY" => Ok(priority(stream, number)),
         "PUSH_PROMISE" => Ok(push_promise(stream, number)),
-        _ => Err(ScriptError::NotUnderstood),
+        _ => Err(NoAnswer::NotUnderstood),
     }
 }

@@ -3,6 +3,7 @@
 //! The report of `NAME.pcap` is `NAME.report`, and with credit lines `NAME.frames.report`. Where there is `NAME.script`,
 //! the capture has the bytes that this script spells.
 
+use crate::answer::word_of;
 use crate::judge::always_answers;
 use crate::script::capture_of;
 use std::rt::Files;
@@ -82,8 +83,4 @@ fn has_report(
         wanted.as_str(),
     )?;
     Ok(same)
-}
-
-fn word_of(same: bool) -> &'static str {
-    if same { "same" } else { "differs" }
 }

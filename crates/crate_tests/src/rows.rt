@@ -5,33 +5,30 @@
 //! `-- findings`, the row has the report without credit lines alone. Empty lines and those that begin with `#` say
 //! nothing.
 
+use crate::answer::{Answer, NoAnswer, print_answer};
 use crate::judge::always_answers;
-use crate::script::{ScriptError, capture_of};
+use crate::script::capture_of;
 use std::alloc::{AllocError, Global};
 use std::rt::Files;
 use std::thread::Threads;
 use std::{fs, io};
 
 /// Prints a line for each row of the file: its name, and `same` where its answer is what it asks for.
-pub fn print_answers(
+pub fn print_rows(
     rt: &(impl AllocGlobal + Files + Print + Sync + Threads),
     file: &str,
 ) -> io::Result<()> {
     let text = fs::read_to_string(rt, file)?;
     for row in text.as_str().split("== ").skip(1) {
         let (name, row) = row.split_once('\n').unwrap_or((row, ""));
-        match answer(rt, rt.alloc(), row) {
-            Ok(true) => println!(rt; "{name} same")?,
-            Ok(false) => println!(rt; "{name} differs")?,
-            Err(error) => println!(rt; "{name} {error}")?,
-        }
+        print_answer(rt, name, answer(rt, rt.alloc(), row))?;
     }
     Ok(())
 }
 
 /// Whether the capture of a row has the answer that the row asks for.
-fn answer(rt: &(impl Sync + Threads), alloc: Global, row: &str) -> Result<bool, ScriptError> {
-    let (script, wanted) = row.split_once("-- ").ok_or(ScriptError::NotUnderstood)?;
+fn answer(rt: &(impl Sync + Threads), alloc: Global, row: &str) -> Answer {
+    let (script, wanted) = row.split_once("-- ").ok_or(NoAnswer::NotUnderstood)?;
     let capture = capture_of(alloc, script)?;
     let (credits, wanted) = match wanted.strip_prefix("findings ") {
         Some(findings) => (false, findings),

@@ -12,7 +12,7 @@ const GROUPS: [u32; 3] = [1, 3, 1024];
 const BLOCKS: [u32; 3] = [1, 2, 4096];
 
 /// What a run leaves, line by line: its exit status, what standard error says, and the report.
-fn answer_of(
+pub fn answer_of(
     rt: &(impl Sync + Threads),
     alloc: Global,
     options: &Options,
