@@ -13,12 +13,13 @@ use Rattle.audit_terms.specs.declared.kinds.Kind.{Kind}
 use Rattle.audit_terms.specs.declared.kinds.Kind.TheVariants.{TooLong, WrongSize, BadPadding, BadSetting, LongFrame, BadPriority, ZeroConnectionGrant, ConnectionOverflow, SettingOverflow, StreamOverrun, StreamOverflow, StreamStallEnd, StreamStallBegin, StreamCredit}
 use Rattle.audit_terms.specs.declared.frames.Body.{Body}
 use Rattle.audit_terms.specs.declared.frames.Body.TheVariants.{Content, Headers, Priority, RstStream, Settings as SettingsBody, SettingsAck, PushPromise, Ping, GoAway, WindowUpdate, Continuation, Unknown, Unreadable}
-use Rattle.audit_terms.specs.declared.frames.Settings.{Settings}
+use Rattle.audit_terms.specs.declared.settings.Settings.{Settings}
 use Rattle.audit_terms.specs.declared.frames.Frame.{Frame}
 use Rattle.audit_terms.specs.declared.items.Item.{Item}
 use Rattle.audit_terms.specs.declared.connections.ConnectionState.{ConnectionState}
 use Rattle.audit_terms.specs.declared.streams.Stream.{Stream}
 use Rattle.audit_terms.specs.declared.findings.Finding.{Finding}
+use Rattle.audit_terms.specs.Settings.{unpacked}
 use Rattle.audit_terms.specs.Side.{other, is_side}
 use Rattle.audit_terms.specs.Sides.{side_of}
 use Rattle.audit_terms.specs.Kind.{rank_of}
@@ -129,8 +130,8 @@ module _ (frame : Frame) (h : frame.stream < 2 ^ 31) where
 
   of-body : (body : Body) → AreOf frame.side (body_said frame body)
   of-body (Unreadable kind value) = of-reading_fault kind value
-  of-body (SettingsBody settings) =
-      of-say_of frame.side (λ identifier. fault BadSetting frame identifier ∷ []) settings.bad
+  of-body (SettingsBody words) =
+      of-say_of frame.side (λ identifier. fault BadSetting frame identifier ∷ []) (unpacked words).bad
       (λ identifier. of-sender frame.side BadSetting frame.number frame.stream (pos identifier) true h refl)
   of-body _ = of-nil frame.side
 
@@ -192,7 +193,7 @@ ack-only Content e = cc
 ack-only Headers e = cc
 ack-only Priority e = cc
 ack-only RstStream e = cc
-ack-only (SettingsBody settings) e = cc
+ack-only (SettingsBody words) e = cc
 ack-only (PushPromise stream) e = cc
 ack-only Ping e = cc
 ack-only GoAway e = cc

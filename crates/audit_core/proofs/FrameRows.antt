@@ -15,6 +15,7 @@ use Rattle.audit_terms.specs.declared.items.Step.{Step}
 use Rattle.audit_terms.specs.declared.connections.ConnectionState.{ConnectionState}
 use Rattle.audit_terms.specs.declared.streams.Stream.{Stream}
 use Rattle.audit_terms.specs.declared.findings.Finding.{Finding}
+use Rattle.audit_terms.specs.Settings.{unpacked}
 use Rattle.audit_terms.specs.Side.{is_side}
 use Rattle.audit_terms.specs.Sides.{side_of}
 use Rattle.audit_terms.specs.Kind.{rank_of}
@@ -57,8 +58,8 @@ module _ (frame : Frame) (h : frame.stream < 2 ^ 31) where
 
   rows-body : (body : Body) → AreRows (Only frame.stream) 3 4 (body_said frame body)
   rows-body (Unreadable kind value) = rows-reading_fault kind value
-  rows-body (SettingsBody settings) =
-      rows-say_of (Only frame.stream) 3 4 (λ identifier. fault BadSetting frame identifier ∷ []) settings.bad
+  rows-body (SettingsBody words) =
+      rows-say_of (Only frame.stream) 3 4 (λ identifier. fault BadSetting frame identifier ∷ []) (unpacked words).bad
       (λ identifier. said BadSetting (pos identifier) true 3 refl refl)
   rows-body _ = rows-nil _ 3 4
 
@@ -135,7 +136,7 @@ headers-promise (PushPromise stream) e = cc
 headers-promise Content e = refl
 headers-promise Priority e = refl
 headers-promise RstStream e = refl
-headers-promise (SettingsBody settings) e = refl
+headers-promise (SettingsBody words) e = refl
 headers-promise SettingsAck e = refl
 headers-promise Ping e = refl
 headers-promise GoAway e = refl

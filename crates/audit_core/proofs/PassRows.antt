@@ -14,7 +14,7 @@ use Rattle.audit_terms.specs.InForce.{InForce, settings_said}
 use Rattle.audit_terms.specs.Connection.{connection_said}
 use Rattle.audit_terms.specs.Stream.{stream_said}
 use Rattle.audit_terms.specs.Pass.{PassState, pass_start, said, full_from, full, next, streams_of, streams_said, step_of, item_of, opens_stream}
-use Rattle.audit_terms.specs.declared.frames.Settings.{Settings}
+use Rattle.audit_terms.specs.declared.settings.Settings.{Settings}
 use Rattle.audit_core.specs.declared.tables.StreamRow.{StreamRow}
 use Rattle.audit_terms.specs.InForce.{change_of, change_taking, taken}
 use Rattle.audit_terms.specs.Frame.{is_ack}

@@ -6,7 +6,8 @@ use Rattle.audit_terms.specs.declared.frames.Body.TheVariants.{Settings as Setti
 use Rattle.audit_terms.specs.Finding.{finding_at}
 use Rattle.audit_terms.specs.FrameType.{data_type, headers_type, priority_type, rst_stream_type, settings_type, push_promise_type, ping_type, ack_flag, end_stream_flag, end_headers_flag, padded_flag}
 use Rattle.audit_terms.specs.Pass.{pass}
-use Rattle.audit_core.specs.Script.{scripted, data_frame, headers_frame, open_headers_frame, continuation_frame, priority_frame, reset_frame, update_frame, promise_frame, ping_frame, goaway_frame, unknown_frame, no_settings, settings_frame, max_frame_size_frame, ack_frame, unreadable_frame, without_credits, audit_of, all_of, all_with_credits_of}
+use Rattle.audit_terms.specs.Settings.{packed, no_settings}
+use Rattle.audit_core.specs.Script.{scripted, data_frame, headers_frame, open_headers_frame, continuation_frame, priority_frame, reset_frame, update_frame, promise_frame, ping_frame, goaway_frame, unknown_frame, settings_frame, max_frame_size_frame, ack_frame, unreadable_frame, without_credits, audit_of, all_of, all_with_credits_of}
 
 -- a first frame that acknowledges is no SETTINGS of its side's preface; one of wrong size is SETTINGS all the same
 abbrev pub FirstFrameAcknowledges : Type 0
@@ -54,7 +55,7 @@ WrongStreams =
     all_of (
     data_frame 5 Client 0 0 ∷ headers_frame 6 Client 0 ∷ priority_frame 7 Client 0 ∷ reset_frame 8 Client 0
     ∷ promise_frame 9 Server 0 2 ∷ continuation_frame 10 Client 0 0
-    ∷ scripted 11 Server settings_type 0 1 0 (SettingsBody no_settings)
+    ∷ scripted 11 Server settings_type 0 1 0 (SettingsBody (packed no_settings))
     ∷ scripted 12 Client settings_type ack_flag 1 0 SettingsAck
     ∷ scripted 13 Client ping_type 0 1 8 Ping ∷ goaway_frame 14 Server 1 8
     ∷ update_frame 15 Server 0 1 ∷ unknown_frame 16 Client 0 1 ∷ unknown_frame 17 Client 1 1 ∷ [])
@@ -71,7 +72,7 @@ TooLongFrames =
     all_of (
     open_headers_frame 5 Client 1 16385 ∷ continuation_frame 6 Client 1 16385
     ∷ scripted 7 Server push_promise_type end_headers_flag 1 16385 (PushPromise 2)
-    ∷ scripted 8 Client settings_type 0 0 16386 (SettingsBody no_settings)
+    ∷ scripted 8 Client settings_type 0 0 16386 (SettingsBody (packed no_settings))
     ∷ goaway_frame 9 Server 0 16385 ∷ unknown_frame 10 Client 0 16385
     ∷ unreadable_frame 11 Server ping_type 0 0 16385 WrongSize 16385 ∷ [])
     ≡ finding_at TooLong 5 1 Client (pos 16385) ∷ finding_at TooLong 6 1 Client (pos 16385)

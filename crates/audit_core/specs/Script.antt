@@ -2,12 +2,13 @@
 use Rattle.std.specs.Prelude.{ℕ, ◌+◌, ◌*◌, nat_le, List, [], ◌∷◌, ◌++◌, filter, Some, None}
 use Rattle.audit_terms.specs.declared.sides.Side.{Side}
 use Rattle.audit_terms.specs.declared.sides.Side.TheVariants.{Client, Server}
-use Rattle.audit_terms.specs.declared.frames.Settings.{Settings}
+use Rattle.audit_terms.specs.declared.settings.Settings.{Settings}
 use Rattle.audit_terms.specs.declared.frames.Body.{Body}
 use Rattle.audit_terms.specs.declared.frames.Body.TheVariants.{Content, Headers, Priority, RstStream, Settings as SettingsBody, SettingsAck, PushPromise, Ping, GoAway, WindowUpdate, Continuation, Unknown, Unreadable}
 use Rattle.audit_terms.specs.declared.frames.Frame.{Frame}
 use Rattle.audit_terms.specs.declared.kinds.Kind.{Kind}
 use Rattle.audit_terms.specs.declared.findings.Finding.{Finding}
+use Rattle.audit_terms.specs.Settings.{packed, no_settings}
 use Rattle.audit_terms.specs.Kind.{rank_of}
 use Rattle.audit_terms.specs.FrameType.{data_type, headers_type, priority_type, rst_stream_type, settings_type, push_promise_type, ping_type, goaway_type, window_update_type, continuation_type, end_stream_flag, ack_flag, end_headers_flag, padded_flag}
 use Rattle.audit_terms.specs.Pass.{full, pass}
@@ -85,17 +86,13 @@ promise_frame number side stream promised =
 abbrev pub ping_frame : ℕ → Side → Frame
 ping_frame number side = scripted number side ping_type 0 0 8 Ping
 
--- SETTINGS of no pair
-abbrev pub no_settings : Settings
-no_settings = record { push = None; initial = None; max_frame = None; bad = None }
-
 -- an empty SETTINGS
 abbrev pub settings_frame : ℕ → Side → Frame
-settings_frame number side = scripted number side settings_type 0 0 0 (SettingsBody no_settings)
+settings_frame number side = scripted number side settings_type 0 0 0 (SettingsBody (packed no_settings))
 
 -- SETTINGS of one pair
 abbrev pub setting_frame : ℕ → Side → Settings → Frame
-setting_frame number side settings = scripted number side settings_type 0 0 6 (SettingsBody settings)
+setting_frame number side settings = scripted number side settings_type 0 0 6 (SettingsBody (packed settings))
 
 -- the pair is an initial window
 abbrev pub initial_window_frame : ℕ → Side → (initial : ℕ) → Frame

@@ -5,7 +5,8 @@ use Rattle.audit_terms.specs.declared.frames.Frame.{Frame}
 use Rattle.audit_terms.specs.declared.findings.Finding.{Finding}
 use Rattle.audit_terms.specs.declared.kinds.Kind.TheVariants.{ConnectionStallBegin, ConnectionStallEnd, StreamStallBegin, StreamStallEnd, ConnectionCredit, StreamCredit, StreamOverrun, ConnectionOverflow, SettingOverflow, ZeroStreamGrant, ZeroConnectionGrant, WrongSize}
 use Rattle.audit_terms.specs.Finding.{finding_at}
-use Rattle.audit_core.specs.Script.{headers_frame, data_frame, padded_data_frame, update_frame, initial_window_frame, ack_frame, unreadable_frame, no_settings, opening_frames, audit_of, audit_with_credits_of}
+use Rattle.audit_terms.specs.Settings.{no_settings}
+use Rattle.audit_core.specs.Script.{headers_frame, data_frame, padded_data_frame, update_frame, initial_window_frame, ack_frame, unreadable_frame, opening_frames, audit_of, audit_with_credits_of}
 use Rattle.audit_terms.specs.FrameType.{window_update_type}
 use Rattle.audit_terms.specs.Change.{change_by}
 use Rattle.audit_terms.specs.InForce.{changes_of}

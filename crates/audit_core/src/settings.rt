@@ -72,7 +72,8 @@ impl SettingsSoFar {
     {
         let taken = self.taken(frame);
         let change = change_taking(frame, &taken);
-        if let Body::Settings(settings) = frame.body {
+        if let Body::Settings(words) = frame.body {
+            let settings = words.settings();
             match frame.side {
                 Side::Client => self.sent.client.push(settings)?,
                 Side::Server => self.sent.server.push(settings)?,

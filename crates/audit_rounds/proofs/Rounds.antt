@@ -9,6 +9,7 @@ use Rattle.audit_terms.specs.declared.frames.Body.TheVariants.{Settings as Setti
 use Rattle.audit_terms.specs.declared.frames.Frame.{Frame}
 use Rattle.audit_terms.specs.declared.findings.Finding.{Finding}
 use Rattle.audit_terms.specs.declared.sides.Side.TheVariants.{Client}
+use Rattle.audit_terms.specs.Settings.{unpacked}
 use Rattle.audit_terms.specs.Side.{is_side}
 use Rattle.audit_terms.specs.Sides.{side_of}
 use Rattle.audit_terms.specs.Frame.{is_ack}
@@ -61,7 +62,7 @@ module _ (c : Bool) where
 
   whole-body : (frame : Frame) (body : Body) → Whole (body_said frame body)
   whole-body frame (Unreadable kind value) = whole-reading kind frame value
-  whole-body frame (SettingsBody settings) = whole-bad frame settings.bad
+  whole-body frame (SettingsBody words) = whole-bad frame (unpacked words).bad
   whole-body frame _ = refl
 
   whole-local_said : (previous : Option Frame) (frame : Frame) → Whole (local_said previous frame)

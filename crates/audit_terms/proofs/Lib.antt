@@ -7,3 +7,4 @@ pub mod Acknowledged
 pub mod Watching
 pub mod FindingLists
 pub mod SaidPlaces
+pub mod Packing

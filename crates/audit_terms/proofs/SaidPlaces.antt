@@ -16,6 +16,7 @@ use Rattle.audit_terms.specs.declared.items.Step.{Step}
 use Rattle.audit_terms.specs.declared.connections.ConnectionState.{ConnectionState}
 use Rattle.audit_terms.specs.declared.streams.Stream.{Stream}
 use Rattle.audit_terms.specs.declared.findings.Finding.{Finding}
+use Rattle.audit_terms.specs.Settings.{unpacked}
 use Rattle.audit_terms.specs.Kind.{rank_of}
 use Rattle.audit_terms.specs.Order.{put_by}
 use Rattle.audit_terms.specs.Finding.{finding_at, say, say_of, comes_after, in_order}
@@ -135,8 +136,8 @@ module _ (frame : Frame) (h : frame.stream < 2 ^ 31) where
 
   at-body : (body : Body) → AreAt frame.number (body_said frame body)
   at-body (Unreadable kind value) = at-reading_fault kind value
-  at-body (SettingsBody settings) =
-      at-say_of frame.number (λ identifier. fault BadSetting frame identifier ∷ []) settings.bad
+  at-body (SettingsBody words) =
+      at-say_of frame.number (λ identifier. fault BadSetting frame identifier ∷ []) (unpacked words).bad
       (λ identifier. at-finding BadSetting frame.number frame.stream frame.side (pos identifier) [] h (at-nil _))
   at-body _ = at-nil _
 

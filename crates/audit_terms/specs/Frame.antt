@@ -3,11 +3,12 @@
 use Rattle.std.specs.Prelude.{ℕ, ◌+◌, ◌-◌, ◌%◌, ◌^◌, ◌<◌, ◌≤◌, Bool, true, false, ◌==◌, ◌&&◌, ◌||◌, not, if◌then◌else◌, List, [], ◌∷◌}
 use Rattle.audit_terms.specs.declared.sides.Side.{Side}
 use Rattle.audit_terms.specs.declared.sides.Side.TheVariants.{Client, Server}
-use Rattle.audit_terms.specs.declared.frames.Settings.{Settings}
+use Rattle.audit_terms.specs.declared.settings.Settings.{Settings}
 use Rattle.audit_terms.specs.declared.frames.Body.{Body}
 use Rattle.audit_terms.specs.declared.frames.Body.TheVariants.{Content, Headers, RstStream, Settings as SettingsBody, SettingsAck, PushPromise, WindowUpdate}
 use Rattle.audit_terms.specs.declared.frames.Frame.{Frame}
 use Rattle.audit_terms.specs.Side.{other, is_side}
+use Rattle.audit_terms.specs.Settings.{unpacked}
 use Rattle.audit_terms.specs.FrameType.{has_flag, end_stream_flag}
 
 -- DATA (6.1)
@@ -46,7 +47,7 @@ is_zero_grant body = is_update body && (increment body == 0)
 
 -- the settings of a SETTINGS frame (6.5), none of any other
 abbrev pub settings_in : Body → List Settings
-settings_in (SettingsBody settings) = settings ∷ []
+settings_in (SettingsBody words) = unpacked words ∷ []
 settings_in _ = []
 
 -- the promised stream of a PUSH_PROMISE (6.6), 0 of any other

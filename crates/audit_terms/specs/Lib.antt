@@ -5,6 +5,7 @@ pub mod Place
 pub mod Order
 pub mod Finding
 pub mod FrameType
+pub mod Settings
 pub mod Frame
 pub mod Life
 pub mod Window

@@ -12,6 +12,7 @@ use Rattle.audit_terms.specs.declared.findings.Finding.{Finding}
 use Rattle.audit_terms.specs.Side.{is_side}
 use Rattle.audit_terms.specs.Sides.{side_of, each_side}
 use Rattle.audit_terms.specs.FrameType.{data_type, headers_type, priority_type, rst_stream_type, settings_type, push_promise_type, ping_type, goaway_type, continuation_type, ack_flag, end_headers_flag, has_flag}
+use Rattle.audit_terms.specs.Settings.{unpacked}
 use Rattle.audit_terms.specs.Finding.{finding_at, say, say_of, in_order}
 
 -- a SETTINGS frame that is no acknowledgement, as each side's first frame is to be (3.4)
@@ -60,7 +61,7 @@ reading_fault _ frame value = []
 -- what the body shows: a payload that cannot be read, or a setting out of range (6.5.2)
 abbrev pub body_said : Frame → Body → List Finding
 body_said frame (Unreadable kind value) = reading_fault kind frame value
-body_said frame (SettingsBody settings) = say_of (λ identifier. fault BadSetting frame identifier ∷ []) settings.bad
+body_said frame (SettingsBody words) = say_of (λ identifier. fault BadSetting frame identifier ∷ []) (unpacked words).bad
 body_said frame _ = []
 
 -- the findings of a frame, given the frame of its side just before it; a client promises nothing (8.4)

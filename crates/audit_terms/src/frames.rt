@@ -1,6 +1,7 @@
 ghost use Rattle.std.specs.Prelude.{◌≡◌, ℕ};
 
 use crate::kinds::Kind;
+use crate::settings::PackedSettings;
 use crate::sides::Side;
 
 /// The type bytes that rules of an audit name (RFC 9113, 6).
@@ -29,20 +30,6 @@ pub const ACK: u8 = 0x1;
 /// END_HEADERS, of HEADERS, PUSH_PROMISE and CONTINUATION (6.2, 6.6, 6.10).
 pub const END_HEADERS: u8 = 0x4;
 
-/// The values of one SETTINGS frame that matter here (RFC 9113, 6.5.2): the last value of each identifier, and the
-/// identifier of the first pair whose value is out of range.
-#[derive(Clone, Copy)]
-pub struct Settings {
-    /// SETTINGS_ENABLE_PUSH (2).
-    pub push: Option<u32>,
-    /// SETTINGS_INITIAL_WINDOW_SIZE (4), in bytes.
-    pub initial: Option<u32>,
-    /// SETTINGS_MAX_FRAME_SIZE (5), in bytes.
-    pub max_frame: Option<u32>,
-    /// The identifier of the first pair out of range.
-    pub bad: Option<u16>,
-}
-
 /// What a frame carries, by its type (RFC 9113, 6.1 to 6.10).
 #[derive(Clone, Copy)]
 pub enum Body {
@@ -51,7 +38,7 @@ pub enum Body {
     Headers,
     Priority,
     RstStream,
-    Settings(Settings),
+    Settings(PackedSettings),
     SettingsAck,
     /// PUSH_PROMISE, with the promised stream.
     PushPromise(u32),
@@ -133,7 +120,7 @@ impl Body {
     }
 }
 
-/// A frame of one connection, in capture order. The single bytes stand last, so that it takes 64 bytes.
+/// A frame of one connection, in capture order. The single bytes stand last, so that it takes 40 bytes.
 #[derive(Clone, Copy)]
 pub struct Frame {
     /// Its number in the connection, from 1.

@@ -141,7 +141,7 @@ fn say_body(found: &mut Vec<Finding>, frame: &Frame) -> Result<(), AllocError>
 {
     match frame.body {
         Body::Unreadable(kind, value) => say_unreadable(found, kind, frame, value),
-        Body::Settings(settings) => match settings.bad {
+        Body::Settings(settings) => match settings.bad() {
             Some(identifier) => {
                 found.push(fault(Kind::BadSetting, frame, u32::from(identifier)))?;
                 Ok(())

@@ -3,7 +3,7 @@ use Rattle.std.specs.Prelude.{◌≡◌, ℕ, ◌+◌, ◌*◌, pos, Bool, true,
 use Rattle.audit_terms.specs.declared.sides.Side.{Side}
 use Rattle.audit_terms.specs.declared.sides.Side.TheVariants.{Client, Server}
 use Rattle.audit_terms.specs.declared.kinds.Kind.TheVariants.{ConnectionStallBegin, ConnectionStallEnd}
-use Rattle.audit_terms.specs.declared.frames.Settings.{Settings}
+use Rattle.audit_terms.specs.Settings.{packed, no_settings}
 use Rattle.audit_terms.specs.declared.frames.Body.{Body}
 use Rattle.audit_terms.specs.declared.frames.Body.TheVariants.{Content, Headers, Settings as SettingsBody, SettingsAck, WindowUpdate}
 use Rattle.audit_terms.specs.declared.frames.Frame.{Frame}
@@ -31,17 +31,14 @@ scripted number side code stream length body = record {
   body = body;
 }
 
-abbrev pub no_settings : Settings
-no_settings = record { push = None; initial = None; max_frame = None; bad = None }
-
 abbrev pub data_frame : (number length : ℕ) → Frame
 data_frame number length = scripted number Client data_type 1 length Content
 
 -- both sides send empty settings and acknowledge them; frames 5 to 9 use up the credit
 abbrev pub stall_script : List Frame
 stall_script =
-    scripted 1 Client settings_type 0 0 (SettingsBody no_settings)
-    ∷ scripted 2 Server settings_type 0 0 (SettingsBody no_settings)
+    scripted 1 Client settings_type 0 0 (SettingsBody (packed no_settings))
+    ∷ scripted 2 Server settings_type 0 0 (SettingsBody (packed no_settings))
     ∷ scripted 3 Client settings_type 0 0 SettingsAck ∷ scripted 4 Server settings_type 0 0 SettingsAck
     ∷ scripted 5 Client headers_type 1 0 Headers
     ∷ data_frame 6 16384 ∷ data_frame 7 16384 ∷ data_frame 8 16384 ∷ data_frame 9 16383

@@ -1,4 +1,5 @@
 pub mod SettingsRead
+pub mod SettingsRanges
 pub mod Arriving
 pub mod Reading
 pub mod Gathering

@@ -2,7 +2,7 @@
 use Rattle.std.proofs.Common.{◌≡◌, ℕ, ◌≤◌, ◌+◌, Bool, true, false, cond, not, ◌&&◌, List, [], ◌∷◌, length, take, drop, Option, None, Some, refl, ap, arith, sym, ◌∙◌}
 use Rattle.std.specs.Prelude.{option_map, find, is_none, if◌then◌else◌, ◌==◌}
 use Rattle.std.specs.Option.{option_or}
-use Rattle.audit_terms.specs.declared.frames.Settings.{Settings}
+use Rattle.audit_terms.specs.declared.settings.Settings.{Settings}
 use Rattle.h2_frames.specs.declared.settings.Setting.{Setting}
 use Rattle.h2_frames.specs.Settings.{setting_at, settings_in, is_in_range, last_value, first_bad}
 use Rattle.h2_frames.specs.code.Steps.{with_setting}
@@ -30,7 +30,7 @@ bad_step None false identifier later = refl
 bad_step (Some x) true identifier later = refl
 bad_step (Some x) false identifier later = refl
 
-bad_cons : (s : Setting) (later : List Setting) →
+pub bad_cons : (s : Setting) (later : List Setting) →
     first_bad (s ∷ later) ≡ (if not (is_in_range s) then Some s.identifier else first_bad later)
 bad_cons s later = by (is_in_range s)
   where
@@ -44,9 +44,9 @@ bad_cons s later = by (is_in_range s)
 pub with_later-step : (settings : Settings) (s : Setting) (later : List Setting) →
     with_later (with_setting settings s) later ≡ with_later settings (s ∷ later)
 with_later-step settings s later =
-    let push = value_step (last_value 2 later) (s.identifier == 2) s.value settings.push in
-    let initial = value_step (last_value 4 later) (s.identifier == 4) s.value settings.initial in
-    let max_frame = value_step (last_value 5 later) (s.identifier == 5) s.value settings.max_frame in
+    let push = value_step (last_value 2 later) ((s.identifier == 2) && is_in_range s) s.value settings.push in
+    let initial = value_step (last_value 4 later) ((s.identifier == 4) && is_in_range s) s.value settings.initial in
+    let max_frame = value_step (last_value 5 later) ((s.identifier == 5) && is_in_range s) s.value settings.max_frame in
     let bad = bad_step settings.bad (is_in_range s) s.identifier (first_bad later)
     ∙ ap (option_or settings.bad) (sym (bad_cons s later)) in
     same push initial max_frame bad

@@ -2,7 +2,7 @@
 use Rattle.std.specs.Prelude.{ℕ, ◌-◌, ◌^◌, ◌&&◌, drop, Bool, true, not, ◌==◌, nat_le, if◌then◌else◌, List, [], ◌∷◌, Option, None, Some, option_map, find}
 use Rattle.std.specs.Option.{option_or}
 use Rattle.byteorder.specs.Endian.{big_number}
-use Rattle.audit_terms.specs.declared.frames.Settings.{Settings}
+use Rattle.audit_terms.specs.declared.settings.Settings.{Settings}
 use Rattle.h2_frames.specs.declared.settings.Setting.{Setting}
 
 -- an identifier of 16 bits and a value of 32
@@ -23,11 +23,11 @@ is_in_range s =
     else if s.identifier == 5 then nat_le (2 ^ 14) s.value && nat_le s.value (2 ^ 24 - 1)
     else true
 
--- the value of the last pair of the identifier, in range or not
+-- the value of the last pair of the identifier that is in range
 abbrev pub last_value : ℕ → List Setting → Option ℕ
 last_value identifier [] = None
 last_value identifier (s ∷ later) =
-    option_or (last_value identifier later) (if s.identifier == identifier then Some s.value else None)
+    option_or (last_value identifier later) (if (s.identifier == identifier) && is_in_range s then Some s.value else None)
 
 -- the identifier of the first pair that is out of range
 abbrev pub first_bad : List Setting → Option ℕ

@@ -6,7 +6,7 @@ ghost use Rattle.h2_frames.specs.Body.{body_of, data_body, field_block_body, go_
 
 use crate::headers::number_of_31_bits;
 use crate::settings::{SETTING_LENGTH, settings_of};
-use audit_terms::{Body, Kind};
+use audit_terms::{Body, Kind, PackedSettings};
 
 // The types of frames (RFC 9113, 6.1 to 6.10).
 const DATA: u8 = 0;
@@ -138,7 +138,7 @@ fn settings_body(flags: u8, payload: &[u8]) -> Body
     if has_flag(flags, ACK_FLAG) {
         of_length(0, payload, Body::SettingsAck)
     } else if payload.len() % SETTING_LENGTH == 0 {
-        Body::Settings(settings_of(payload))
+        Body::Settings(PackedSettings::of(&settings_of(payload)))
     } else {
         wrong_size(payload)
     }

@@ -55,8 +55,9 @@ fn with_setting(settings: Settings, setting: Setting) -> Settings
     ensures { result ≡ with_setting settings setting }
 {
     let mut settings = settings;
-    if settings.bad.is_none() && !setting.is_in_range() {
-        settings.bad = Some(setting.identifier);
+    if !setting.is_in_range() {
+        settings.bad = settings.bad.or(Some(setting.identifier));
+        return settings;
     }
     match setting.identifier {
         ENABLE_PUSH => settings.push = Some(setting.value),
@@ -71,12 +72,7 @@ fn with_setting(settings: Settings, setting: Setting) -> Settings
 pub(crate) fn settings_of(payload: &[u8]) -> Settings
     ensures { result ≡ settings_of payload.now }
 {
-    let mut settings = Settings {
-        push: None,
-        initial: None,
-        max_frame: None,
-        bad: None,
-    };
+    let mut settings = Settings::none();
     let mut rest = payload;
     while let Some((pair, later)) = rest.split_first_chunk::<SETTING_LENGTH>() {
         settings = with_setting(settings, Setting::read(pair));

@@ -70,7 +70,7 @@ fn settings_of(frame: &Frame, sender: Side) -> Option<Settings>
     ensures { option_to_list result ≡ sent_of sender frame.now }
 {
     match frame.body {
-        Body::Settings(settings) if frame.side == sender => Some(settings),
+        Body::Settings(words) if frame.side == sender => Some(words.settings()),
         _ => None,
     }
 }

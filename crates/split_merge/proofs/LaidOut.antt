@@ -1,14 +1,17 @@
 -- The ranges of rows, one after the other, and what they hold as positions come in.
-use Rattle.std.proofs.Common.{◌≡◌, ◌≢◌, ℕ, zero, suc, ◌+◌, ◌-◌, ◌<◌, ◌≤◌, ◌==◌, ◌⊎◌, inl, inr, Bool, true, false, List, [], ◌∷◌, ◌++◌, length, get_or, set, take, drop, refl, sym, ap, ◌∙◌, subst, arith, true≢false}
+use Rattle.std.proofs.Common.{◌≡◌, ◌≢◌, ℕ, zero, suc, ◌+◌, ◌-◌, ◌<◌, ◌≤◌, ◌==◌, ◌⊎◌, inl, inr, Bool, true, false, List, [], ◌∷◌, ◌++◌, length, get_or, slice_get, set, take, drop, Option, Some, None, refl, sym, ap, ◌∙◌, subst, arith, true≢false}
 use Rattle.std.specs.List.{between}
-use Rattle.std.proofs.lemmas.List.{length-append, length-set, get_or-set_same, get_or-set_other, take_more, take-append-drop, drop-set-lt, take-set-le, take-set, get_or_default}
+use Rattle.std.proofs.lemmas.List.{length-append, length-set, get_or-set_same, get_or-set_other, drop-set-lt, take-set-le, take-set, get_or_default, get_or-map, same_lists}
 use Rattle.std.proofs.lemmas.List.Edits.{between_more, between_none}
 use Rattle.std.proofs.lemmas.Slice.{between_is}
 use borrow.Author.Tests.{eqb-true, eq-eqb}
 use Rattle.split_merge.specs.declared.splits.StreamRow.{StreamRow}
-use Rattle.split_merge.specs.declared.visits.Visit.{Visit}
-use Rattle.split_merge.specs.code.Visits.{streams_in, row_positions, total_of, counted, laid_out, grown, HasRoomFor, IsFilled}
-use Rattle.split_merge.proofs.Visited.{row_positions-append, row_positions-one, where_so, append-none, three}
+use Rattle.std.specs.BTreeMap.{BTreeMap, get}
+use Rattle.std.specs.Ordering.{nat_cmp}
+use Rattle.std.specs.Prelude.{MatchOption}
+use Rattle.split_merge.specs.code.Visits.{streams_in, row_positions, noted, noted_positions, total_of, counted, laid_out, grown, NotAmong, AreDistinct, IsIndex, HasRoomFor, HasPlaceFor, IsFilled, IsPut}
+use Rattle.split_merge.proofs.NamedStreams.{length-streams_in}
+use Rattle.split_merge.proofs.Visited.{noted_positions-append, noted_positions-one, where_so, append-none, three, get-from_slice_get, within-from_slice_get, not_among-at, row-within, positions-here, positions-there, noted-one}
 
 -- ---- the ranges
 
@@ -44,22 +47,26 @@ laid-apart at (row ∷ rows) r zero d p l = absurd (omega arith)
 laid-apart at (row ∷ rows) zero (suc s) d p l = laid-from (at + row.to) rows s d (omega arith)
 laid-apart at (row ∷ rows) (suc r) (suc s) d p l = laid-apart (at + row.to) rows r s d (omega arith) (omega arith)
 
-pub room-laid : (rows : List StreamRow) (visits : List Visit)
-    → ((r : ℕ) (d : StreamRow) → r < length rows → (get_or rows r d).to ≡ length (row_positions r visits))
-    → HasRoomFor (laid_out 0 rows) visits (total_of rows)
-room-laid rows visits counts = record {
+laid-positions : (rows : List StreamRow) (notes : List (ℕ × ℕ)) (r : ℕ) →
+    row_positions r (laid_out 0 rows) notes ≡ row_positions r rows notes
+laid-positions rows notes r = ap (λ l. noted_positions (get_or l r 0) notes) (laid-streams 0 rows)
+
+pub room-laid : (rows : List StreamRow) (notes : List (ℕ × ℕ))
+    → ((r : ℕ) (d : StreamRow) → r < length rows → (get_or rows r d).to ≡ length (row_positions r rows notes))
+    → HasRoomFor (laid_out 0 rows) notes (total_of rows)
+room-laid rows notes counts = record {
   empty = λ r d l. let n = laid-length 0 rows in laid-empty 0 rows r d (omega (arith, l, n));
   apart = λ r s d p l.
       let n = laid-length 0 rows in
       let m : s < length rows = omega (arith, l, n) in
       let h = laid-apart 0 rows r s d p m in
-      let c = counts r d (omega (arith, p, m)) in
+      let c = counts r d (omega (arith, p, m)) ∙ ap length (sym (laid-positions rows notes r)) in
       omega (arith, h, c);
   within = λ r d l.
       let n = laid-length 0 rows in
       let m : r < length rows = omega (arith, l, n) in
       let h = laid-within 0 rows r d m in
-      let c = counts r d m in
+      let c = counts r d m ∙ ap length (sym (laid-positions rows notes r)) in
       omega (arith, h, c);
 }
 
@@ -81,122 +88,119 @@ between-below xs from to at position h =
 between-above : (xs : List ℕ) (from to at position : ℕ) → at < from → between from to (set xs at position) ≡ between from to xs
 between-above xs from to at position h = ap (take (to - from)) (drop-set-lt from xs at position h)
 
-module _ (empty : List StreamRow) (visits : List Visit) (total : ℕ) (room : HasRoomFor empty visits total)
-    (i : ℕ) (visit : Visit) (within : i < length visits) (is : visit ≡ get_or visits i visit)
-    (known : visit.row < length empty) (rows : List StreamRow) (positions : List ℕ) (long : length positions ≡ total)
-    (filled : IsFilled empty (take i visits) rows positions) (e : StreamRow) where
-  abbrev came : List Visit
-  came = take i visits
+module _ (empty : List StreamRow) (all came later : List (ℕ × ℕ)) (total : ℕ) (room : HasRoomFor empty all total)
+    (index stream position : ℕ) (distinct : AreDistinct (streams_in empty))
+    (at : slice_get (streams_in empty) index ≡ Some stream) (above : stream ≢ 0)
+    (parts : (came ++ (stream, position) ∷ []) ++ later ≡ all)
+    (rows : List StreamRow) (positions : List ℕ) (long : length positions ≡ total)
+    (filled : IsFilled empty came rows positions) (e : StreamRow) where
+  abbrev noted_now : List (ℕ × ℕ)
+  noted_now = came ++ (stream, position) ∷ []
 
   abbrev row : StreamRow
-  row = get_or rows visit.row e
+  row = get_or rows index e
 
-  came-more : take (i + 1) visits ≡ came ++ visit ∷ []
-  came-more = take_more visits i visit within ∙ ap (λ v. came ++ v ∷ []) (sym is)
+  known : index < length empty
+  known = row-within empty index stream distinct at above
 
-  positions-more : (r : ℕ) → row_positions r (take (i + 1) visits) ≡ row_positions r came ++ where_so (visit.row == r) visit.position
-  positions-more r =
-      ap (row_positions r) came-more ∙ row_positions-append r came (visit ∷ [])
-      ∙ ap (λ l. row_positions r came ++ l) (row_positions-one r visit)
-
-  positions-all : (r : ℕ) → length (row_positions r (take (i + 1) visits)) ≤ length (row_positions r visits)
+  positions-all : (r : ℕ) → length (row_positions r empty noted_now) ≤ length (row_positions r empty all)
   positions-all r =
-      let parts = sym (row_positions-append r (take (i + 1) visits) (drop (i + 1) visits))
-      ∙ ap (row_positions r) (take-append-drop (i + 1) visits) in
-      let n = sym (length-append (row_positions r (take (i + 1) visits)) (row_positions r (drop (i + 1) visits))) ∙ ap length parts in
+      let split = sym (noted_positions-append (get_or (streams_in empty) r 0) noted_now later)
+      ∙ ap (row_positions r empty) parts in
+      let n = sym (length-append (row_positions r empty noted_now) (row_positions r empty later)) ∙ ap length split in
       omega (arith, n)
 
-  more-here : row_positions visit.row (take (i + 1) visits) ≡ row_positions visit.row came ++ visit.position ∷ []
-  more-here = positions-more visit.row ∙ ap (λ b. row_positions visit.row came ++ where_so b visit.position) (eq-eqb visit.row visit.row refl)
+  more-here : row_positions index empty noted_now ≡ row_positions index empty came ++ position ∷ []
+  more-here = positions-here empty index stream distinct at above came position
 
-  more-there : (r : ℕ) → (visit.row == r) ≡ false → row_positions r (take (i + 1) visits) ≡ row_positions r came
-  more-there r t = positions-more r ∙ ap (λ b. row_positions r came ++ where_so b visit.position) t ∙ append-none (row_positions r came)
+  more-there : (r : ℕ) → (index == r) ≡ false → row_positions r empty noted_now ≡ row_positions r empty came
+  more-there r t = positions-there empty index stream distinct at above came position r t
 
-  length-here : length (row_positions visit.row (take (i + 1) visits)) ≡ length (row_positions visit.row came) + 1
-  length-here = ap length more-here ∙ length-append (row_positions visit.row came) (visit.position ∷ [])
+  length-here : length (row_positions index empty noted_now) ≡ length (row_positions index empty came) + 1
+  length-here = ap length more-here ∙ length-append (row_positions index empty came) (position ∷ [])
 
-  place-is : row.to ≡ (get_or empty visit.row e).from + length (row_positions visit.row came)
-  place-is = ap (λ (x : StreamRow). x.to) (filled.ranges visit.row e known)
+  place-is : row.to ≡ (get_or empty index e).from + length (row_positions index empty came)
+  place-is = ap (λ (x : StreamRow). x.to) (filled.ranges index e known)
 
   pub place-within : row.to < length positions
   place-within =
       let here = length-here in
-      let all = positions-all visit.row in
-      let end = room.within visit.row e known in
+      let all = positions-all index in
+      let end = room.within index e known in
       omega (arith, here, all, end, place-is, long)
 
   ranges-more : (r : ℕ) (d : StreamRow) → r < length empty →
-      get_or (set rows visit.row (counted row)) r d ≡ grown (get_or empty r d) (length (row_positions r (take (i + 1) visits)))
+      get_or (set rows index (counted row)) r d ≡ grown (get_or empty r d) (length (row_positions r empty noted_now))
   ranges-more r d l = by_test _ refl where
-    by_test : (b : Bool) → (visit.row == r) ≡ b →
-        get_or (set rows visit.row (counted row)) r d ≡ grown (get_or empty r d) (length (row_positions r (take (i + 1) visits)))
+    by_test : (b : Bool) → (index == r) ≡ b →
+        get_or (set rows index (counted row)) r d ≡ grown (get_or empty r d) (length (row_positions r empty noted_now))
     by_test true t =
-        let same = eqb-true visit.row r t in
-        let k : visit.row < length rows = omega (arith, known, filled.long) in
-        let sum : (get_or empty visit.row e).from + length (row_positions visit.row came) + 1
-        ≡ (get_or empty visit.row e).from + length (row_positions visit.row (take (i + 1) visits)) =
+        let same = eqb-true index r t in
+        let k : index < length rows = omega (arith, known, filled.long) in
+        let sum : (get_or empty index e).from + length (row_positions index empty came) + 1
+        ≡ (get_or empty index e).from + length (row_positions index empty noted_now) =
         omega (arith, length-here) in
-        let here : get_or (set rows visit.row (counted row)) visit.row d
-        ≡ grown (get_or empty visit.row d) (length (row_positions visit.row (take (i + 1) visits))) =
-        get_or-set_same rows visit.row (counted row) d k
-        ∙ ap counted (filled.ranges visit.row e known)
-        ∙ ap (λ n. record { stream = (get_or empty visit.row e).stream; from = (get_or empty visit.row e).from; to = n }) sum
-        ∙ ap (λ x. grown x (length (row_positions visit.row (take (i + 1) visits)))) (get_or_default empty visit.row e d known) in
-        subst (λ r. get_or (set rows visit.row (counted row)) r d
-        ≡ grown (get_or empty r d) (length (row_positions r (take (i + 1) visits)))) same here
+        let here : get_or (set rows index (counted row)) index d
+        ≡ grown (get_or empty index d) (length (row_positions index empty noted_now)) =
+        get_or-set_same rows index (counted row) d k
+        ∙ ap counted (filled.ranges index e known)
+        ∙ ap (λ n. record { stream = (get_or empty index e).stream; from = (get_or empty index e).from; to = n }) sum
+        ∙ ap (λ x. grown x (length (row_positions index empty noted_now))) (get_or_default empty index e d known) in
+        subst (λ r. get_or (set rows index (counted row)) r d
+        ≡ grown (get_or empty r d) (length (row_positions r empty noted_now))) same here
     by_test false t =
-        let apart : r ≢ visit.row = λ p. true≢false (sym (eq-eqb visit.row r (sym p)) ∙ t) in
-        get_or-set_other rows visit.row r (counted row) d apart ∙ filled.ranges r d l
+        let apart : r ≢ index = λ p. true≢false (sym (eq-eqb index r (sym p)) ∙ t) in
+        get_or-set_other rows index r (counted row) d apart ∙ filled.ranges r d l
         ∙ ap (λ p. grown (get_or empty r d) (length p)) (sym (more-there r t))
 
-  filled-here : between (get_or empty visit.row e).from
-      ((get_or empty visit.row e).from + length (row_positions visit.row (take (i + 1) visits)))
-      (set positions row.to visit.position)
-      ≡ row_positions visit.row (take (i + 1) visits)
+  filled-here : between (get_or empty index e).from
+      ((get_or empty index e).from + length (row_positions index empty noted_now))
+      (set positions row.to position)
+      ≡ row_positions index empty noted_now
   filled-here =
-      let from = (get_or empty visit.row e).from in
-      let end : (get_or empty visit.row e).from + length (row_positions visit.row (take (i + 1) visits)) ≡ row.to + 1 =
+      let from = (get_or empty index e).from in
+      let end : (get_or empty index e).from + length (row_positions index empty noted_now) ≡ row.to + 1 =
       omega (arith, length-here, place-is) in
-      let was : between (get_or empty visit.row e).from row.to positions ≡ row_positions visit.row came =
-      ap (λ n. between from n positions) place-is ∙ filled.filled visit.row e known in
-      ap (λ n. between from n (set positions row.to visit.position)) end
-      ∙ between-put positions from row.to visit.position (omega (arith, place-is)) place-within
-      ∙ ap (λ l. l ++ visit.position ∷ []) was ∙ sym more-here
+      let was : between (get_or empty index e).from row.to positions ≡ row_positions index empty came =
+      ap (λ n. between from n positions) place-is ∙ filled.filled index e known in
+      ap (λ n. between from n (set positions row.to position)) end
+      ∙ between-put positions from row.to position (omega (arith, place-is)) place-within
+      ∙ ap (λ l. l ++ position ∷ []) was ∙ sym more-here
 
-  others-stay : (r : ℕ) → r < length empty → (r < visit.row) ⊎ ((r ≡ visit.row) ⊎ (visit.row < r)) → (visit.row == r) ≡ false →
-      between (get_or empty r e).from ((get_or empty r e).from + length (row_positions r came)) (set positions row.to visit.position)
-      ≡ between (get_or empty r e).from ((get_or empty r e).from + length (row_positions r came)) positions
+  others-stay : (r : ℕ) → r < length empty → (r < index) ⊎ ((r ≡ index) ⊎ (index < r)) → (index == r) ≡ false →
+      between (get_or empty r e).from ((get_or empty r e).from + length (row_positions r empty came)) (set positions row.to position)
+      ≡ between (get_or empty r e).from ((get_or empty r e).from + length (row_positions r empty came)) positions
   others-stay r l (inl p) t =
-      let a = room.apart r visit.row e p known in
+      let a = room.apart r index e p known in
       let all = positions-all r in
       let same = ap length (more-there r t) in
-      between-below positions _ _ row.to visit.position (omega (arith, a, all, same, place-is))
-  others-stay r l (inr (inl p)) t = absurd (true≢false (sym (eq-eqb visit.row r (sym p)) ∙ t))
+      between-below positions _ _ row.to position (omega (arith, a, all, same, place-is))
+  others-stay r l (inr (inl p)) t = absurd (true≢false (sym (eq-eqb index r (sym p)) ∙ t))
   others-stay r l (inr (inr p)) t =
-      let a = room.apart visit.row r e p l in
-      let all = positions-all visit.row in
-      between-above positions _ _ row.to visit.position (omega (arith, a, all, length-here, place-is))
+      let a = room.apart index r e p l in
+      let all = positions-all index in
+      between-above positions _ _ row.to position (omega (arith, a, all, length-here, place-is))
 
   filled-more : (r : ℕ) → r < length empty →
-      between (get_or empty r e).from ((get_or empty r e).from + length (row_positions r (take (i + 1) visits)))
-      (set positions row.to visit.position) ≡ row_positions r (take (i + 1) visits)
+      between (get_or empty r e).from ((get_or empty r e).from + length (row_positions r empty noted_now))
+      (set positions row.to position) ≡ row_positions r empty noted_now
   filled-more r l = by_test _ refl where
-    by_test : (b : Bool) → (visit.row == r) ≡ b →
-        between (get_or empty r e).from ((get_or empty r e).from + length (row_positions r (take (i + 1) visits)))
-        (set positions row.to visit.position) ≡ row_positions r (take (i + 1) visits)
+    by_test : (b : Bool) → (index == r) ≡ b →
+        between (get_or empty r e).from ((get_or empty r e).from + length (row_positions r empty noted_now))
+        (set positions row.to position) ≡ row_positions r empty noted_now
     by_test true t =
-        subst (λ r. between (get_or empty r e).from ((get_or empty r e).from + length (row_positions r (take (i + 1) visits)))
-        (set positions row.to visit.position) ≡ row_positions r (take (i + 1) visits)) (eqb-true visit.row r t) filled-here
+        subst (λ r. between (get_or empty r e).from ((get_or empty r e).from + length (row_positions r empty noted_now))
+        (set positions row.to position) ≡ row_positions r empty noted_now) (eqb-true index r t) filled-here
     by_test false t =
-        ap (λ p. between (get_or empty r e).from ((get_or empty r e).from + length p) (set positions row.to visit.position)) (more-there r t)
-        ∙ others-stay r l (three r visit.row) t ∙ filled.filled r e l ∙ sym (more-there r t)
+        ap (λ p. between (get_or empty r e).from ((get_or empty r e).from + length p) (set positions row.to position)) (more-there r t)
+        ∙ others-stay r l (three r index) t ∙ filled.filled r e l ∙ sym (more-there r t)
 
-  pub placed-more : IsFilled empty (take (i + 1) visits) (set rows visit.row (counted row)) (set positions row.to visit.position)
+  pub placed-more : IsFilled empty noted_now (set rows index (counted row)) (set positions row.to position)
   placed-more = record {
-    long = length-set rows visit.row (counted row) ∙ filled.long;
+    long = length-set rows index (counted row) ∙ filled.long;
     ranges = ranges-more;
     filled = λ r d l.
-        ap (λ x. between x.from (x.from + length (row_positions r (take (i + 1) visits))) (set positions row.to visit.position))
+        ap (λ x. between x.from (x.from + length (row_positions r empty noted_now)) (set positions row.to position))
         (get_or_default empty r d e l) ∙ filled-more r l;
   }
 
@@ -210,12 +214,103 @@ same-row row e =
     ap (made row.stream row.from) z
 
 -- no position is there yet
-pub placed-none : (empty : List StreamRow) (visits : List Visit) (total : ℕ) (positions : List ℕ) → HasRoomFor empty visits total →
+pub placed-none : (empty : List StreamRow) (all : List (ℕ × ℕ)) (total : ℕ) (positions : List ℕ) → HasRoomFor empty all total →
     IsFilled empty [] empty positions
-placed-none empty visits total positions room = record {
+placed-none empty all total positions room = record {
   long = refl;
   ranges = λ r d l. same-row (get_or empty r d) (room.empty r d l);
   filled = λ r d l.
       let z : (get_or empty r d).from + 0 ≡ (get_or empty r d).from = omega arith in
       ap (λ n. between (get_or empty r d).from n positions) z ∙ between_none positions (get_or empty r d).from;
 }
+
+pub filled-streams : (empty rows : List StreamRow) (notes : List (ℕ × ℕ)) (positions : List ℕ) → IsFilled empty notes rows positions →
+    streams_in rows ≡ streams_in empty
+filled-streams empty rows notes positions filled =
+    same_lists (streams_in rows) (streams_in empty)
+    (length-streams_in rows ∙ filled.long ∙ sym (length-streams_in empty))
+    (λ k d l.
+    let n = length-streams_in rows in
+    let m : k < length empty = omega (arith, l, n, filled.long) in
+    let e : StreamRow = record { stream = 0; from = 0; to = 0 } in
+    get_or-map (λ (row : StreamRow). row.stream) rows k e d (omega (arith, l, n))
+    ∙ ap (λ (row : StreamRow). row.stream) (filled.ranges k e m)
+    ∙ sym (get_or-map (λ (row : StreamRow). row.stream) empty k e d m))
+
+-- ---- a visit
+
+module _ (empty : List StreamRow) (all came later : List (ℕ × ℕ)) (total : ℕ) (room : HasRoomFor empty all total)
+    (map : BTreeMap ℕ ℕ) (index : IsIndex (streams_in empty) map)
+    (absent : (q : ℕ) → NotAmong q (streams_in empty) → noted_positions q all ≡ [])
+    (stream position : ℕ) (parts : (came ++ noted stream position) ++ later ≡ all)
+    (rows : List StreamRow) (positions : List ℕ) (long : length positions ≡ total)
+    (filled : IsFilled empty came rows positions) where
+  same-streams : streams_in rows ≡ streams_in empty
+  same-streams = filled-streams empty rows came positions filled
+
+  one-part : stream ≢ 0 → (came ++ (stream, position) ∷ []) ++ later ≡ all
+  one-part above = ap (λ l. (came ++ l) ++ later) (sym (noted-one stream position above)) ∙ parts
+
+  is-above : (r : ℕ) → slice_get (streams_in empty) r ≡ Some stream → stream ≢ 0
+  is-above r at e =
+      not_among-at 0 (streams_in empty) r index.above (within-from_slice_get (streams_in empty) r stream at)
+      (get-from_slice_get (streams_in empty) r stream at ∙ e)
+
+  pub place-for : HasPlaceFor stream rows (length positions)
+  place-for r d at =
+      let there : slice_get (streams_in empty) r ≡ Some stream = ap (λ l. slice_get l r) (sym same-streams) ∙ at in
+      let above = is-above r there in
+      place-within empty all came later total room r stream position index.distinct there above (one-part above)
+      rows positions long filled d
+
+  -- a stream that is noted has a row
+  not-absent : stream ≢ 0 → NotAmong stream (streams_in empty) → ⊥
+  not-absent above out =
+      let front = noted_positions-append stream (came ++ (stream, position) ∷ []) later in
+      let own = noted_positions-append stream came ((stream, position) ∷ []) in
+      let here = noted_positions-one stream stream position ∙ ap (λ b. where_so b position) (eq-eqb stream stream refl) in
+      let none = sym front ∙ ap (noted_positions stream) (one-part above) ∙ absent stream out in
+      let n = ap length none in
+      let a = length-append (noted_positions stream (came ++ (stream, position) ∷ [])) (noted_positions stream later) in
+      let b = ap length own ∙ length-append (noted_positions stream came) (noted_positions stream ((stream, position) ∷ [])) in
+      let c = ap length here in
+      omega (arith, n, a, b, c)
+
+  module _ (rows' : List StreamRow) (positions' : List ℕ) (put : IsPut stream position rows positions rows' positions') where
+    abbrev Done : Type 0
+    Done = (length positions' ≡ total) × IsFilled empty (came ++ noted stream position) rows' positions'
+
+    stays : NotAmong stream (streams_in empty) → noted stream position ≡ [] → Done
+    stays out none =
+        let same = put.missed (subst (NotAmong stream) (sym same-streams) out) in (
+          ap length same.1 ∙ long,
+          subst (λ l. IsFilled empty l rows' positions') (sym (ap (λ l. came ++ l) none ∙ append-none came))
+              (subst (λ r. IsFilled empty came r positions') (sym same.0)
+              (subst (λ p. IsFilled empty came rows p) (sym same.1) filled)),
+        )
+
+    grows : (r : ℕ) → slice_get (streams_in empty) r ≡ Some stream → Done
+    grows r at =
+        let d : StreamRow = record { stream = 0; from = 0; to = 0 } in
+        let above = is-above r at in
+        let same = put.found r d (ap (λ l. slice_get l r) same-streams ∙ at) in
+        let one = placed-more empty all came later total room r stream position index.distinct at above (one-part above)
+        rows positions long filled d in (
+          ap length same.1 ∙ length-set positions (get_or rows r d).to position ∙ long,
+          subst (λ l. IsFilled empty (came ++ l) rows' positions') (sym (noted-one stream position above))
+              (subst (λ r. IsFilled empty (came ++ (stream, position) ∷ []) r positions') (sym same.0)
+              (subst (λ p. IsFilled empty (came ++ (stream, position) ∷ []) (set rows r (counted (get_or rows r d))) p) (sym same.1) one)),
+        )
+
+    pub filled-visit : Done
+    filled-visit = by_stream _ refl where
+      by_row : stream ≢ 0 → (o : Option ℕ) →
+          MatchOption o (NotAmong stream (streams_in empty)) (λ row. slice_get (streams_in empty) row ≡ Some stream) → Done
+      by_row above None out = absurd (not-absent above out)
+      by_row above (Some r) at = grows r at
+
+      by_stream : (b : Bool) → (stream == 0) ≡ b → Done
+      by_stream true e =
+          stays (subst (λ s. NotAmong s (streams_in empty)) (sym (eqb-true stream 0 e)) index.above) (rw e refl)
+      by_stream false e =
+          by_row (λ z. true≢false (sym (eq-eqb stream 0 z) ∙ e)) (get nat_cmp map stream) (index.placed stream)

@@ -1,44 +1,30 @@
 -- The table of all visits, laid out, is the split.
 use Rattle.std.proofs.Common.{◌≡◌, ◌≢◌, ℕ, ◌<◌, List, length, get_or, refl, sym, ap, ◌∙◌, subst, arith}
-use Rattle.std.proofs.lemmas.List.{get_or-map, same_lists}
+use Rattle.std.proofs.lemmas.List.{get_or-map}
 use Rattle.audit_terms.specs.declared.frames.Frame.{Frame}
 use Rattle.audit_terms.specs.Pass.{streams_of}
 use Rattle.split_merge.specs.declared.splits.StreamRow.{StreamRow}
 use Rattle.split_merge.specs.declared.splits.SplitFrames.{SplitFrames}
-use Rattle.split_merge.specs.declared.visits.Visit.{Visit}
 use Rattle.split_merge.specs.declared.visits.Visits.{Visits}
 use Rattle.split_merge.specs.Split.{positions_of, IsRange, IsPartOf, IsSplit, part_of}
-use Rattle.split_merge.specs.code.Visits.{streams_in, notes_from, total_of, laid_out, IsTableOf, HasRoomFor, IsFilled}
+use Rattle.split_merge.specs.code.Visits.{streams_in, notes_from, noted_positions, total_of, laid_out, IsTableOf, HasRoomFor, IsFilled}
 use Rattle.split_merge.proofs.NamedStreams.{length-streams_in}
 use Rattle.split_merge.proofs.Visited.{not_among-at}
 use Rattle.split_merge.proofs.Positions.{noted-positions, frames_at-positions, positions-within}
-use Rattle.split_merge.proofs.LaidOut.{laid-streams, room-laid}
-
-filled-streams : (empty rows : List StreamRow) (visits : List Visit) (positions : List ℕ) → IsFilled empty visits rows positions →
-    streams_in rows ≡ streams_in empty
-filled-streams empty rows visits positions filled =
-    same_lists (streams_in rows) (streams_in empty)
-    (length-streams_in rows ∙ filled.long ∙ sym (length-streams_in empty))
-    (λ k d l.
-    let n = length-streams_in rows in
-    let m : k < length empty = omega (arith, l, n, filled.long) in
-    let e : StreamRow = record { stream = 0; from = 0; to = 0 } in
-    get_or-map (λ (row : StreamRow). row.stream) rows k e d (omega (arith, l, n))
-    ∙ ap (λ (row : StreamRow). row.stream) (filled.ranges k e m)
-    ∙ sym (get_or-map (λ (row : StreamRow). row.stream) empty k e d m))
+use Rattle.split_merge.proofs.LaidOut.{laid-streams, room-laid, filled-streams}
 
 module _ (frames : List Frame) (table : Visits) (split : SplitFrames)
     (streams : streams_in table.rows.items ≡ streams_of frames) (told : IsTableOf (notes_from 0 frames) table)
-    (filled : IsFilled (laid_out 0 table.rows.items) table.visits.items split.rows.items split.positions.items)
+    (filled : IsFilled (laid_out 0 table.rows.items) (notes_from 0 frames) split.rows.items split.positions.items)
     (long : length split.positions.items ≡ total_of table.rows.items) where
   abbrev empty : List StreamRow
   empty = laid_out 0 table.rows.items
 
-  room : HasRoomFor (laid_out 0 table.rows.items) table.visits.items (total_of table.rows.items)
-  room = room-laid table.rows.items table.visits.items told.listed.counts
+  room : HasRoomFor (laid_out 0 table.rows.items) (notes_from 0 frames) (total_of table.rows.items)
+  room = room-laid table.rows.items (notes_from 0 frames) told.listed.counts
 
   same-streams : streams_in split.rows.items ≡ streams_in table.rows.items
-  same-streams = filled-streams empty split.rows.items table.visits.items split.positions.items filled ∙ laid-streams 0 table.rows.items
+  same-streams = filled-streams empty split.rows.items (notes_from 0 frames) split.positions.items filled ∙ laid-streams 0 table.rows.items
 
   range-at : (k : ℕ) (d : StreamRow) → k < length split.rows.items → IsRange split (get_or split.rows.items k d)
   range-at k d l =
@@ -64,7 +50,8 @@ module _ (frames : List Frame) (table : Visits) (split : SplitFrames)
       part_of split (get_or split.rows.items k d) ≡ positions_of (get_or split.rows.items k d).stream frames
   part-is k d l =
       let m : k < length (laid_out 0 table.rows.items) = omega (arith, l, filled.long) in
-      ap (part_of split) (filled.ranges k d m) ∙ filled.filled k d m ∙ told.listed.places k
+      ap (part_of split) (filled.ranges k d m) ∙ filled.filled k d m
+      ∙ ap (λ l. noted_positions (get_or l k 0) (notes_from 0 frames)) (laid-streams 0 table.rows.items)
       ∙ noted-positions (get_or (streams_in table.rows.items) k 0) (stream-above k l) 0 frames
       ∙ ap (λ s. positions_of s frames) (sym (row-stream k d l))
 

@@ -1,10 +1,9 @@
 -- What the table of streams says after one more visit.
 use Rattle.std.proofs.Common.{◌≡◌, ◌≢◌, ℕ, zero, suc, ◌+◌, ◌<◌, ◌≤◌, ◌==◌, ◌⊎◌, inl, inr, Bool, true, false, if◌then◌else◌, List, [], ◌∷◌, ◌++◌, length, get_or, set, map, filter, slice_get, Some, refl, sym, ap, ◌∙◌, subst, arith, true≢false, ltb}
 use borrow.Author.Tests.{ltb-true, ltb-false}
-use Rattle.std.proofs.lemmas.List.{map-append, length-append, length-set, get_or-set_same, get_or-set_other, get_or_append_left, get_or_at, get_or_past}
+use Rattle.std.proofs.lemmas.List.{map-append, length-append, length-set, get_or-set_same, get_or-set_other, get_or_append_left, get_or_at}
 use borrow.Author.Tests.{eqb-true, eq-eqb}
 use Rattle.split_merge.specs.declared.splits.StreamRow.{StreamRow}
-use Rattle.split_merge.specs.declared.visits.Visit.{Visit}
 use Rattle.split_merge.specs.code.Visits.{streams_in, row_positions, noted_positions, total_of, counted, with_row, with_stream, noted, NotAmong, AreDistinct, is_among, IsListed}
 use Rattle.split_merge.proofs.NamedStreams.{streams_in-push, length-streams_in, none-from_test, none_among}
 
@@ -16,11 +15,6 @@ filter-append p (x ∷ xs) ys = by_test _ refl (filter-append p xs ys) where
   by_test true e ih = rw e (ap (λ l. x ∷ l) ih)
   by_test false e ih = rw e ih
 
-pub row_positions-append : (r : ℕ) (xs ys : List Visit) → row_positions r (xs ++ ys) ≡ row_positions r xs ++ row_positions r ys
-row_positions-append r xs ys =
-    ap (map (λ (v : Visit). v.position)) (filter-append (λ (v : Visit). v.row == r) xs ys)
-    ∙ map-append (λ (v : Visit). v.position) _ _
-
 pub noted_positions-append : (s : ℕ) (xs ys : List (ℕ × ℕ)) →
     noted_positions s (xs ++ ys) ≡ noted_positions s xs ++ noted_positions s ys
 noted_positions-append s xs ys =
@@ -30,12 +24,6 @@ noted_positions-append s xs ys =
 -- a position, where a test holds
 abbrev pub where_so : Bool → ℕ → List ℕ
 where_so holds position = if holds then position ∷ [] else []
-
-pub row_positions-one : (r : ℕ) (v : Visit) → row_positions r (v ∷ []) ≡ where_so (v.row == r) v.position
-row_positions-one r v = by_test _ refl where
-  by_test : (b : Bool) → (v.row == r) ≡ b → row_positions r (v ∷ []) ≡ where_so (v.row == r) v.position
-  by_test true e = rw e refl
-  by_test false e = rw e refl
 
 pub noted_positions-one : (s t p : ℕ) → noted_positions s ((t, p) ∷ []) ≡ where_so (t == s) p
 noted_positions-one s t p = by_test _ refl where
@@ -100,55 +88,45 @@ three r n = by_test (two r n) where
     at (inl m) = inr (inr m)
     at (inr m) = inr (inl (omega arith))
 
-module _ (notes : List (ℕ × ℕ)) (rows : List StreamRow) (visits : List Visit) (listed : IsListed notes rows visits)
-    (stream : ℕ) where
+module _ (notes : List (ℕ × ℕ)) (rows : List StreamRow) (listed : IsListed notes rows) (stream : ℕ) where
   abbrev new_row : StreamRow
   new_row = record { stream = stream; from = 0; to = 0 }
 
-  past-none : (r : ℕ) → length rows ≤ r → row_positions r visits ≡ []
-  past-none r h =
-      let l = length-streams_in rows in
-      listed.places r ∙ ap (λ s. noted_positions s notes) (get_or_past (streams_in rows) r 0 (omega arith)) ∙ listed.none
-
-  row-visits : NotAmong stream (streams_in rows) → (r : ℕ) → (r < length rows) ⊎ ((r ≡ length rows) ⊎ (length rows < r)) →
-      row_positions r visits ≡ noted_positions (get_or (streams_in rows ++ stream ∷ []) r 0) notes
-  row-visits new r (inl l) =
+  stream-front : (r : ℕ) → r < length rows → get_or (streams_in (rows ++ new_row ∷ [])) r 0 ≡ get_or (streams_in rows) r 0
+  stream-front r l =
       let n = length-streams_in rows in
-      listed.places r ∙ ap (λ s. noted_positions s notes) (sym (get_or_append_left (streams_in rows) (stream ∷ []) 0 r (omega arith)))
-  row-visits new r (inr (inl e)) =
-      let n : length (streams_in rows) ≡ r = length-streams_in rows ∙ sym e in
-      past-none r (omega arith) ∙ sym (listed.absent stream new)
-      ∙ ap (λ s. noted_positions s notes) (sym (get_or_at (streams_in rows) stream [] 0 r n))
-  row-visits new r (inr (inr l)) =
-      let n = length-streams_in rows in
-      let m = length-append (streams_in rows) (stream ∷ []) in
-      past-none r (omega arith) ∙ sym listed.none
-      ∙ ap (λ s. noted_positions s notes) (sym (get_or_past (streams_in rows ++ stream ∷ []) r 0 (omega arith)))
+      ap (λ l. get_or l r 0) (streams_in-push rows new_row)
+      ∙ get_or_append_left (streams_in rows) (stream ∷ []) 0 r (omega (arith, l, n))
 
-  row-counts : (r : ℕ) (d : StreamRow) → r < length (rows ++ new_row ∷ []) → (r < length rows) ⊎ (length rows ≤ r) →
-      (get_or (rows ++ new_row ∷ []) r d).to ≡ length (row_positions r visits)
-  row-counts r d h (inl l) =
+  stream-end : (r : ℕ) → length rows ≡ r → get_or (streams_in (rows ++ new_row ∷ [])) r 0 ≡ stream
+  stream-end r e =
+      ap (λ l. get_or l r 0) (streams_in-push rows new_row)
+      ∙ get_or_at (streams_in rows) stream [] 0 r (length-streams_in rows ∙ e)
+
+  row-counts : NotAmong stream (streams_in rows) → (r : ℕ) (d : StreamRow) → r < length (rows ++ new_row ∷ []) →
+      (r < length rows) ⊎ (length rows ≤ r) →
+      (get_or (rows ++ new_row ∷ []) r d).to ≡ length (row_positions r (rows ++ new_row ∷ []) notes)
+  row-counts new r d h (inl l) =
       ap (λ (x : StreamRow). x.to) (get_or_append_left rows (new_row ∷ []) d r l) ∙ listed.counts r d l
-  row-counts r d h (inr l) =
+      ∙ ap (λ s. length (noted_positions s notes)) (sym (stream-front r l))
+  row-counts new r d h (inr l) =
       let m = length-append rows (new_row ∷ []) in
       let e : length rows ≡ r = omega (arith, h, m) in
       ap (λ (x : StreamRow). x.to) (get_or_at rows new_row [] d r e)
-      ∙ sym (ap length (past-none r l))
+      ∙ sym (ap length (listed.absent stream new))
+      ∙ ap (λ s. length (noted_positions s notes)) (sym (stream-end r e))
 
-  pub listed-new : NotAmong stream (streams_in rows) → IsListed notes (rows ++ new_row ∷ []) visits
+  pub listed-new : NotAmong stream (streams_in rows) → IsListed notes (rows ++ new_row ∷ [])
   listed-new new = record {
-    places = λ r. row-visits new r (three r (length rows))
-        ∙ ap (λ l. noted_positions (get_or l r 0) notes) (sym (streams_in-push rows new_row));
-    counts = λ r d h. row-counts r d h (two r (length rows));
-    within = λ k d h. let l = listed.within k d h in let m = length-append rows (new_row ∷ []) in omega (arith, l, m);
+    counts = λ r d h. row-counts new r d h (two r (length rows));
     none = listed.none;
     absent = λ q h. listed.absent q
         (not_among-front q stream (streams_in rows) (subst (NotAmong q) (streams_in-push rows new_row) h)).0;
   }
 
-  pub listed-row : IsListed notes (with_row stream rows) visits
+  pub listed-row : IsListed notes (with_row stream rows)
   listed-row = by_test _ refl where
-    by_test : (b : Bool) → is_among stream (streams_in rows) ≡ b → IsListed notes (with_row stream rows) visits
+    by_test : (b : Bool) → is_among stream (streams_in rows) ≡ b → IsListed notes (with_row stream rows)
     by_test true e = rw e listed
     by_test false e = rw e (listed-new (none-from_test stream (streams_in rows) e))
 
@@ -166,91 +144,85 @@ streams-counted [] i d = refl
 streams-counted (x ∷ rows) zero d = refl
 streams-counted (x ∷ rows) (suc i) d = ap (λ l. x.stream ∷ l) (streams-counted rows i d)
 
-module _ (notes : List (ℕ × ℕ)) (rows : List StreamRow) (visits : List Visit) (listed : IsListed notes rows visits)
-    (row stream position : ℕ) (d : StreamRow) (distinct : AreDistinct (streams_in rows))
+-- which row is a stream's
+module _ (rows : List StreamRow) (row stream : ℕ) (distinct : AreDistinct (streams_in rows))
     (at : slice_get (streams_in rows) row ≡ Some stream) (above : stream ≢ 0) where
-  abbrev visit : Visit
-  visit = record { row = row; position = position }
-
-  abbrev after : List StreamRow
-  after = set rows row (counted (get_or rows row d))
-
-  row-within : row < length rows
+  pub row-within : row < length rows
   row-within = let l = within-from_slice_get (streams_in rows) row stream at in
       let n = length-streams_in rows in omega (arith, l, n)
 
-  same-test : (r : ℕ) → (row == r) ≡ (stream == get_or (streams_in rows) r 0)
+  pub same-test : (r : ℕ) → (stream == get_or (streams_in rows) r 0) ≡ (row == r)
   same-test r = by_tests _ _ refl refl where
     by_tests : (a b : Bool) → (row == r) ≡ a → (stream == get_or (streams_in rows) r 0) ≡ b →
-        (row == r) ≡ (stream == get_or (streams_in rows) r 0)
+        (stream == get_or (streams_in rows) r 0) ≡ (row == r)
     by_tests true b e f =
         let g : get_or (streams_in rows) r 0 ≡ stream =
         ap (λ i. get_or (streams_in rows) i 0) (sym (eqb-true row r e)) ∙ get-from_slice_get (streams_in rows) row stream at in
-        e ∙ sym (eq-eqb stream (get_or (streams_in rows) r 0) (sym g))
+        eq-eqb stream (get_or (streams_in rows) r 0) (sym g) ∙ sym e
     by_tests false true e f =
         let same : row ≡ r = one_index (streams_in rows) row r stream distinct
         (get-from_slice_get (streams_in rows) row stream at) (sym (eqb-true stream _ f)) above in
         absurd (true≢false (sym (eq-eqb row r same) ∙ e))
-    by_tests false false e f = e ∙ sym f
+    by_tests false false e f = f ∙ sym e
 
-  visit-places : (r : ℕ) → row_positions r (visits ++ visit ∷ [])
-      ≡ noted_positions (get_or (streams_in after) r 0) (notes ++ (stream, position) ∷ [])
-  visit-places r =
+  -- one more is noted
+  pub positions-push : (notes : List (ℕ × ℕ)) (position r : ℕ) →
+      row_positions r rows (notes ++ (stream, position) ∷ []) ≡ row_positions r rows notes ++ where_so (row == r) position
+  positions-push notes position r =
       let s = get_or (streams_in rows) r 0 in
-      row_positions-append r visits (visit ∷ [])
-      ∙ ap (λ l. l ++ row_positions r (visit ∷ [])) (listed.places r)
+      noted_positions-append s notes ((stream, position) ∷ [])
       ∙ ap (λ l. noted_positions s notes ++ l)
-      (row_positions-one r visit ∙ ap (λ b. where_so b position) (same-test r) ∙ sym (noted_positions-one s stream position))
-      ∙ sym (noted_positions-append s notes ((stream, position) ∷ []))
-      ∙ ap (λ l. noted_positions (get_or l r 0) (notes ++ (stream, position) ∷ [])) (sym (streams-counted rows row d))
+      (noted_positions-one s stream position ∙ ap (λ b. where_so b position) (same-test r))
 
-  positions-here : row_positions row (visits ++ visit ∷ []) ≡ row_positions row visits ++ position ∷ []
-  positions-here =
-      row_positions-append row visits (visit ∷ [])
-      ∙ ap (λ l. row_positions row visits ++ l)
-      (row_positions-one row visit ∙ ap (λ b. where_so b position) (eq-eqb row row refl))
+  pub positions-here : (notes : List (ℕ × ℕ)) (position : ℕ) →
+      row_positions row rows (notes ++ (stream, position) ∷ []) ≡ row_positions row rows notes ++ position ∷ []
+  positions-here notes position =
+      positions-push notes position row
+      ∙ ap (λ b. row_positions row rows notes ++ where_so b position) (eq-eqb row row refl)
 
-  positions-there : (r : ℕ) → (row == r) ≡ false → row_positions r (visits ++ visit ∷ []) ≡ row_positions r visits
-  positions-there r e =
-      row_positions-append r visits (visit ∷ [])
-      ∙ ap (λ l. row_positions r visits ++ l) (row_positions-one r visit ∙ ap (λ b. where_so b position) e)
-      ∙ append-none (row_positions r visits)
+  pub positions-there : (notes : List (ℕ × ℕ)) (position r : ℕ) → (row == r) ≡ false →
+      row_positions r rows (notes ++ (stream, position) ∷ []) ≡ row_positions r rows notes
+  positions-there notes position r e =
+      positions-push notes position r
+      ∙ ap (λ b. row_positions r rows notes ++ where_so b position) e
+      ∙ append-none (row_positions r rows notes)
 
-  visit-counts : (r : ℕ) (e : StreamRow) → r < length after → (get_or after r e).to ≡ length (row_positions r (visits ++ visit ∷ []))
-  visit-counts r e l = by_test _ refl where
+module _ (notes : List (ℕ × ℕ)) (rows : List StreamRow) (listed : IsListed notes rows)
+    (row stream position : ℕ) (d : StreamRow) (distinct : AreDistinct (streams_in rows))
+    (at : slice_get (streams_in rows) row ≡ Some stream) (above : stream ≢ 0) where
+  abbrev after : List StreamRow
+  after = set rows row (counted (get_or rows row d))
+
+  abbrev more : List (ℕ × ℕ)
+  more = notes ++ (stream, position) ∷ []
+
+  counts-now : (r : ℕ) (e : StreamRow) → r < length after → (get_or after r e).to ≡ length (row_positions r rows more)
+  counts-now r e l = by_test _ refl where
     n : length after ≡ length rows
     n = length-set rows row (counted (get_or rows row d))
 
-    by_test : (b : Bool) → (row == r) ≡ b → (get_or after r e).to ≡ length (row_positions r (visits ++ visit ∷ []))
+    by_test : (b : Bool) → (row == r) ≡ b → (get_or after r e).to ≡ length (row_positions r rows more)
     by_test true t =
         let same = eqb-true row r t in
-        let here : get_or after row e ≡ counted (get_or rows row d) = get_or-set_same rows row (counted (get_or rows row d)) e row-within in
-        let count = listed.counts row d row-within in
-        let more = ap length positions-here ∙ length-append (row_positions row visits) (position ∷ []) in
-        let k : (get_or after row e).to ≡ length (row_positions row (visits ++ visit ∷ [])) =
-        ap (λ (x : StreamRow). x.to) here ∙ omega (arith, count, more) in
-        subst (λ i. (get_or after i e).to ≡ length (row_positions i (visits ++ visit ∷ []))) same k
+        let inside = row-within rows row stream distinct at above in
+        let here : get_or after row e ≡ counted (get_or rows row d) = get_or-set_same rows row (counted (get_or rows row d)) e inside in
+        let count = listed.counts row d inside in
+        let long = ap length (positions-here rows row stream distinct at above notes position)
+        ∙ length-append (row_positions row rows notes) (position ∷ []) in
+        let k : (get_or after row e).to ≡ length (row_positions row rows more) =
+        ap (λ (x : StreamRow). x.to) here ∙ omega (arith, count, long) in
+        subst (λ i. (get_or after i e).to ≡ length (row_positions i rows more)) same k
     by_test false t =
         let m : r < length rows = omega (arith, n, l) in
         let apart : r ≢ row = λ p. true≢false (sym (eq-eqb row r (sym p)) ∙ t) in
         ap (λ (x : StreamRow). x.to) (get_or-set_other rows row r (counted (get_or rows row d)) e apart)
-        ∙ listed.counts r e m ∙ ap length (sym (positions-there r t))
+        ∙ listed.counts r e m ∙ ap length (sym (positions-there rows row stream distinct at above notes position r t))
 
-  visit-within : (k : ℕ) (e : Visit) → k < length (visits ++ visit ∷ []) → (get_or (visits ++ visit ∷ []) k e).row < length after
-  visit-within k e l = by_test (two k (length visits)) where
-    n : length after ≡ length rows
-    n = length-set rows row (counted (get_or rows row d))
+  visit-counts : (r : ℕ) (e : StreamRow) → r < length after → (get_or after r e).to ≡ length (row_positions r after more)
+  visit-counts r e l =
+      counts-now r e l ∙ ap (λ l. length (noted_positions (get_or l r 0) more)) (sym (streams-counted rows row d))
 
-    by_test : (k < length visits) ⊎ (length visits ≤ k) → (get_or (visits ++ visit ∷ []) k e).row < length after
-    by_test (inl m) =
-        let p = listed.within k e m in
-        rw (get_or_append_left visits (visit ∷ []) e k m) omega (arith, p, n)
-    by_test (inr m) =
-        let a = length-append visits (visit ∷ []) in
-        let same : length visits ≡ k = omega (arith, l, a, m) in
-        rw (get_or_at visits visit [] e k same) omega (arith, row-within, n)
-
-  visit-absent : (q : ℕ) → NotAmong q (streams_in after) → noted_positions q (notes ++ (stream, position) ∷ []) ≡ []
+  visit-absent : (q : ℕ) → NotAmong q (streams_in after) → noted_positions q more ≡ []
   visit-absent q h =
       let out : NotAmong q (streams_in rows) = subst (NotAmong q) (streams-counted rows row d) h in
       let l = within-from_slice_get (streams_in rows) row stream at in
@@ -263,7 +235,7 @@ module _ (notes : List (ℕ × ℕ)) (rows : List StreamRow) (visits : List Visi
         by_test true e n = absurd (n (eqb-true stream q e))
         by_test false e n = e
 
-  visit-none : noted_positions 0 (notes ++ (stream, position) ∷ []) ≡ []
+  visit-none : noted_positions 0 more ≡ []
   visit-none =
       let apart : (stream == 0) ≡ false = by_test _ refl in
       noted_positions-append 0 notes ((stream, position) ∷ [])
@@ -273,11 +245,9 @@ module _ (notes : List (ℕ × ℕ)) (rows : List StreamRow) (visits : List Visi
         by_test true e = absurd (above (eqb-true stream 0 e))
         by_test false e = e
 
-  pub listed-visit : IsListed (notes ++ (stream, position) ∷ []) after (visits ++ visit ∷ [])
+  pub listed-visit : IsListed more after
   listed-visit = record {
-    places = visit-places;
     counts = visit-counts;
-    within = visit-within;
     none = visit-none;
     absent = visit-absent;
   }
@@ -329,27 +299,22 @@ named-row stream rows n = by_test _ refl where
   by_test true e = rw (z, e) refl
   by_test false e = rw (z, e) (streams_in-push rows (record { stream = stream; from = 0; to = 0 }))
 
-pub noted-listed : (notes : List (ℕ × ℕ)) (rows rows' : List StreamRow) (visits visits' visits'' : List Visit)
-    (stream position row : ℕ) (d : StreamRow) → stream ≢ 0 → IsListed notes rows visits →
-    rows' ≡ with_row stream rows → visits' ≡ visits → AreDistinct (streams_in rows') →
+pub noted-one : (stream position : ℕ) → stream ≢ 0 → noted stream position ≡ (stream, position) ∷ []
+noted-one stream position n = rw (zero-test stream _ n refl) refl
+
+pub noted-listed : (notes : List (ℕ × ℕ)) (rows rows' : List StreamRow) (stream position row : ℕ) (d : StreamRow) →
+    stream ≢ 0 → IsListed notes rows → rows' ≡ with_row stream rows → AreDistinct (streams_in rows') →
     slice_get (streams_in rows') row ≡ Some stream →
-    visits'' ≡ visits' ++ record { row = row; position = position } ∷ [] →
-    IsListed (notes ++ noted stream position) (set rows' row (counted (get_or rows' row d))) visits''
-noted-listed notes rows rows' visits visits' visits'' stream position row d n listed e f distinct at g =
-    let one : noted stream position ≡ (stream, position) ∷ [] = rw (zero-test stream _ n refl) refl in
-    let before : IsListed notes rows' visits' =
-    subst (λ l. IsListed notes l visits') (sym e)
-    (subst (λ l. IsListed notes (with_row stream rows) l) (sym f) (listed-row notes rows visits listed stream)) in
-    subst (λ l. IsListed (notes ++ l) (set rows' row (counted (get_or rows' row d))) visits'') (sym one)
-    (subst (λ l. IsListed (notes ++ (stream, position) ∷ []) (set rows' row (counted (get_or rows' row d))) l) (sym g)
-    (listed-visit notes rows' visits' before row stream position d distinct at n))
+    IsListed (notes ++ noted stream position) (set rows' row (counted (get_or rows' row d)))
+noted-listed notes rows rows' stream position row d n listed e distinct at =
+    let before : IsListed notes rows' = subst (λ l. IsListed notes l) (sym e) (listed-row notes rows listed stream) in
+    subst (λ l. IsListed (notes ++ l) (set rows' row (counted (get_or rows' row d)))) (sym (noted-one stream position n))
+    (listed-visit notes rows' before row stream position d distinct at n)
 
 -- nothing is noted yet
-pub listed-none : (rows : List StreamRow) (visits : List Visit) → rows ≡ [] → visits ≡ [] → IsListed [] rows visits
-listed-none rows visits e f = rw (e, f) record {
-  places = λ r. refl;
+pub listed-none : (rows : List StreamRow) → rows ≡ [] → IsListed [] rows
+listed-none rows e = rw e record {
   counts = λ r d l. absurd (omega arith);
-  within = λ k d l. absurd (omega arith);
   none = refl;
   absent = λ s h. refl;
 }

@@ -1,11 +1,12 @@
-ghost use Rattle.std.specs.Prelude.{◌≡◌, ◌+◌, ◌^◌, ◌<◌, ◌≤◌, IfOk, length, set};
+ghost use Rattle.std.specs.Prelude.{◌≡◌, ℕ, ◌+◌, ◌^◌, ◌<◌, ◌≤◌, [], IfOk, length, set};
 ghost use Rattle.std.specs.List.{All};
 ghost use Rattle.split_merge.specs.Split.{IsRange, IsSplit, part_of};
-ghost use Rattle.split_merge.specs.code.Visits.{HasRoomFor, IsFilled, counted, laid_out, total_of};
+ghost use Rattle.split_merge.specs.code.Visits.{HasPlaceFor, HasRoomFor, IsFilled, IsIndex, IsPut, NotAmong, counted, laid_out, noted_positions, notes_from, streams_in, total_of};
 
-use crate::visits::{Visit, Visits};
+use crate::visits::{Visits, known_row};
 use audit_terms::Frame;
 use std::alloc::{AllocError, Global};
+use std::collections::BTreeMap;
 
 /// A stream, and the range of its frames' positions in the list of a split.
 #[derive(Clone, Copy)]
@@ -41,10 +42,8 @@ pub fn split(alloc: Global, frames: &[Frame]) -> Result<SplitFrames, AllocError>
 {
     let table = Visits::of(alloc, frames)?;
     let mut rows = table.rows;
-    // The map is as large as the rows: it goes before the positions are made.
-    drop(table.index);
     let total = lay_out(&mut rows);
-    let positions = place(alloc, &mut rows, &table.visits, total)?;
+    let positions = place(alloc, &mut rows, &table.index, frames, total)?;
     Ok(SplitFrames { rows, positions })
 }
 
@@ -64,24 +63,60 @@ fn lay_out(rows: &mut [StreamRow]) -> u32
     total
 }
 
-/// The positions of all visits, each at the end of its row's range, which grows by it.
+/// The positions of the frames that the streams of the rows meet, each at the end of its row's range, which grows by it.
+/// The frames are gone over a second time, so that no list of their visits is kept.
 fn place(
     alloc: Global,
     rows: &mut [StreamRow],
-    visits: &[Visit],
+    index: &BTreeMap<u32, u32>,
+    frames: &[Frame],
     total: u32,
 ) -> Result<Vec<u32>, AllocError>
-    requires room { HasRoomFor rows.old visits.now total }
-    requires rows { All (λ visit. visit.row < length rows.old) visits.now }
+    requires short { length frames.now < 2 ^ 28 }
+    requires index { IsIndex (streams_in rows.old) index.now }
+    requires absent { (stream : ℕ) → NotAmong stream (streams_in rows.old)
+        → noted_positions stream (notes_from 0 frames.now) ≡ [] }
+    requires room { HasRoomFor rows.old (notes_from 0 frames.now) total }
     ensures long { IfOk result (λ positions. length positions.items ≡ total) }
-    ensures filled { IfOk result (λ positions. IsFilled rows.old visits.now rows.new positions.items) }
+    ensures filled { IfOk result (λ positions. IsFilled rows.old (notes_from 0 frames.now) rows.new positions.items) }
 {
     let mut positions = vec![in alloc; 0; total as usize]?;
-    for visit in visits {
-        let row = &mut rows[visit.row as usize];
-        put(&mut positions, row, visit.position);
+    let mut last = 0;
+    let mut position = 0;
+    for frame in frames {
+        last = put_visit(&mut positions, rows, index, last, frame.stream, position);
+        last = put_visit(
+            &mut positions,
+            rows,
+            index,
+            last,
+            frame.promised_by(),
+            position,
+        );
+        position += 1;
     }
     Ok(positions)
+}
+
+/// Puts a position at the end of the range of a stream's row, if it has one, and answers the row; else the one before.
+fn put_visit(
+    positions: &mut Vec<u32>,
+    rows: &mut [StreamRow],
+    index: &BTreeMap<u32, u32>,
+    last: u32,
+    stream: u32,
+    position: u32,
+) -> u32
+    requires index { IsIndex (streams_in rows.old) index.now }
+    requires place { HasPlaceFor stream rows.old (length positions.old.items) }
+    requires short { length positions.old.items < 2 ^ 32 }
+    ensures { IsPut stream position rows.old positions.old.items rows.new positions.new.items }
+{
+    let Some(row) = known_row(rows, index, last, stream) else {
+        return last;
+    };
+    put(positions, &mut rows[row as usize], position);
+    row
 }
 
 /// Puts a position at the end of a row's range.

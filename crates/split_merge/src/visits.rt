@@ -1,21 +1,14 @@
-ghost use Rattle.std.specs.Prelude.{◌≡◌, ◌≢◌, ℕ, ◌*◌, ◌+◌, ◌^◌, ◌<◌, ◌++◌, List, IfOk, OnOk, Some, length, slice_get};
+ghost use Rattle.std.specs.Prelude.{◌≡◌, ◌≢◌, ℕ, ◌*◌, ◌+◌, ◌^◌, ◌<◌, ◌++◌, List, IfOk, MatchOption, OnOk, Some, length, slice_get};
 ghost use Rattle.std.specs.Bool.{OnTrue};
 ghost use Rattle.std.specs.BTreeMap.{get};
 ghost use Rattle.std.specs.Ordering.{nat_cmp};
 ghost use Rattle.audit_terms.specs.Pass.{streams_of};
-ghost use Rattle.split_merge.specs.code.Visits.{HasAtMost, IsIndex, IsTableOf, counted, noted, notes_from, streams_in, with_row, with_stream};
+ghost use Rattle.split_merge.specs.code.Visits.{HasAtMost, IsIndex, IsTableOf, NotAmong, counted, noted, notes_from, streams_in, with_row, with_stream};
 
 use crate::splits::StreamRow;
 use audit_terms::Frame;
 use std::alloc::{AllocError, Global};
 use std::collections::BTreeMap;
-
-/// A stream meets a frame: the index of the stream's row, and the frame's position.
-#[derive(Clone, Copy)]
-pub struct Visit {
-    pub row: u32,
-    pub position: u32,
-}
 
 /// The streams that meet the frames seen so far. An ordered map, since a capture could choose streams that collide in
 /// a hash.
@@ -25,7 +18,6 @@ pub struct Visits {
     pub rows: Vec<StreamRow>,
     /// The index of each stream's row.
     pub index: BTreeMap<u32, u32>,
-    pub visits: Vec<Visit>,
     /// The row sought last: often the next one too, since frames of one stream follow one another.
     pub last: u32,
 }
@@ -41,25 +33,22 @@ impl Visits {
         let mut table = Visits {
             rows: Vec::new(alloc),
             index: BTreeMap::new(alloc),
-            visits: Vec::with_capacity(alloc, frames.len())?,
             last: 0,
         };
-        let mut position = 0;
         for frame in frames {
-            table.note(frame.stream, position)?;
-            table.note(frame.promised_by(), position)?;
-            position += 1;
+            table.note(frame.stream)?;
+            table.note(frame.promised_by())?;
         }
         Ok(table)
     }
 
-    /// Notes that a stream, unless it is 0, meets the frame at a position.
-    fn note(&mut self, stream: u32, position: u32) -> Result<(), AllocError>
+    /// Notes that a stream, unless it is 0, meets one frame more.
+    fn note(&mut self, stream: u32) -> Result<(), AllocError>
         requires index { IsIndex (streams_in self.old.rows.items) self.old.index }
         requires room { HasAtMost (2 ^ 30) self.old }
         ensures named { OnOk result (streams_in self.new.rows.items
             ≡ with_stream stream (streams_in self.old.rows.items)) }
-        ensures table { OnOk result ((notes : List (ℕ × ℕ)) → IsTableOf notes self.old
+        ensures table { OnOk result ((notes : List (ℕ × ℕ)) (position : ℕ) → IsTableOf notes self.old
             → IsTableOf (notes ++ noted stream position) self.new) }
         ensures room { OnOk result ((many : ℕ) → HasAtMost many self.old → HasAtMost (many + 1) self.new) }
     {
@@ -69,7 +58,6 @@ impl Visits {
         let row = self.row_of(stream)?;
         self.last = row;
         count(&mut self.rows[row as usize]);
-        self.visits.push(Visit { row, position })?;
         Ok(())
     }
 
@@ -81,7 +69,6 @@ impl Visits {
         ensures index { OnOk result (IsIndex (streams_in self.new.rows.items) self.new.index) }
         ensures row { IfOk result (λ row. slice_get (streams_in self.new.rows.items) row ≡ Some stream) }
         ensures rows { OnOk result (self.new.rows.items ≡ with_row stream self.old.rows.items) }
-        ensures visits { OnOk result (self.new.visits.items ≡ self.old.visits.items) }
     {
         if is_row_of(self.rows.as_slice(), self.last, stream) {
             return Ok(self.last);
@@ -109,6 +96,31 @@ fn row_in(index: &BTreeMap<u32, u32>, stream: u32) -> Option<u32>
         Some((last, _)) if *last < stream => None,
         _ => index.get(&stream).copied(),
     }
+}
+
+/// The index of a stream's row, if it has one: often that of the row before or the one after it, since rows stand in the
+/// order of the streams' first frames.
+pub fn known_row(
+    rows: &[StreamRow],
+    index: &BTreeMap<u32, u32>,
+    last: u32,
+    stream: u32,
+) -> Option<u32>
+    requires { IsIndex (streams_in rows.now) index.now }
+    ensures { MatchOption result (NotAmong stream (streams_in rows.now))
+        (λ row. slice_get (streams_in rows.now) row ≡ Some stream) }
+{
+    if stream == 0 {
+        return None;
+    }
+    if is_row_of(rows, last, stream) {
+        return Some(last);
+    }
+    let next = last.wrapping_add(1);
+    if is_row_of(rows, next, stream) {
+        return Some(next);
+    }
+    index.get(&stream).copied()
 }
 
 /// Is the row at this index the stream's?

@@ -3,7 +3,7 @@
 ghost use Rattle.std.specs.Prelude.{◌≡◌, ◌<◌, ◌^◌, true};
 ghost use Rattle.audit_terms.specs.Frame.{IsInRange, IsOrderly, promised_in};
 
-use audit_core::{Body, Frame, Settings, Side};
+use audit_core::{Body, Frame, PackedSettings, Settings, Side};
 
 /// END_HEADERS of HEADERS.
 const END_HEADERS: u8 = 4;
@@ -38,12 +38,7 @@ pub fn data(number: u32, side: Side, stream: u32, length: u32) -> Frame {
 
 /// SETTINGS with nothing.
 pub fn settings(number: u32, side: Side) -> Frame {
-    let values = Settings {
-        push: None,
-        initial: None,
-        max_frame: None,
-        bad: None,
-    };
+    let values = PackedSettings::of(&Settings::none());
     frame(number, side, 4, 0, 0, Body::Settings(values))
 }
 

@@ -1,22 +1,16 @@
 -- What the table of streams says that a split fills as it walks over the frames.
-use Rattle.std.specs.Prelude.{◌≡◌, ◌≢◌, ℕ, ◌+◌, ◌<◌, ◌≤◌, ◌==◌, ◌||◌, if◌then◌else◌, Bool, false, List, [], ◌∷◌, ◌++◌, map, filter, length, get_or, slice_get, MatchOption, Some}
-use Rattle.std.specs.List.{All, between}
+use Rattle.std.specs.Prelude.{◌≡◌, ◌≢◌, ℕ, ◌+◌, ◌<◌, ◌≤◌, ◌==◌, ◌||◌, if◌then◌else◌, Bool, false, List, [], ◌∷◌, ◌++◌, map, filter, length, get_or, set, slice_get, MatchOption, Some}
+use Rattle.std.specs.List.{between}
 use Rattle.std.specs.Ordering.{nat_cmp}
 use Rattle.std.specs.BTreeMap.{BTreeMap, get}
 use Rattle.audit_terms.specs.declared.frames.Frame.{Frame}
 use Rattle.audit_terms.specs.Frame.{promised_by}
 use Rattle.split_merge.specs.declared.splits.StreamRow.{StreamRow}
-use Rattle.split_merge.specs.declared.visits.Visit.{Visit}
 use Rattle.split_merge.specs.declared.visits.Visits.{Visits}
 
 -- the streams of the rows
 abbrev pub streams_in : List StreamRow → List ℕ
 streams_in rows = map (λ (row : StreamRow). row.stream) rows
-
--- the positions of the visits of a row
-abbrev pub row_positions : (row : ℕ) → List Visit → List ℕ
-row_positions row visits =
-    map (λ (visit : Visit). visit.position) (filter (λ (visit : Visit). visit.row == row) visits)
 
 -- a stream that meets a frame, by the frame's position, unless the stream is 0
 abbrev pub noted : (stream position : ℕ) → List (ℕ × ℕ)
@@ -31,6 +25,10 @@ notes_from position (frame ∷ frames) =
 -- the positions of a stream among these
 abbrev pub noted_positions : (stream : ℕ) → List (ℕ × ℕ) → List ℕ
 noted_positions stream notes = map (λ (n : ℕ × ℕ). n.1) (filter (λ (n : ℕ × ℕ). n.0 == stream) notes)
+
+-- the positions of a row's stream among these
+abbrev pub row_positions : (row : ℕ) → List StreamRow → List (ℕ × ℕ) → List ℕ
+row_positions row rows notes = noted_positions (get_or (streams_in rows) row 0) notes
 
 -- how many visits the rows count
 abbrev pub total_of : List StreamRow → ℕ
@@ -73,18 +71,16 @@ with_row stream rows =
 abbrev pub counted : StreamRow → StreamRow
 counted row = record { stream = row.stream; from = row.from; to = row.to + 1 }
 
--- rows and visits say what was noted: each row counts its visits from 0
-pub record IsListed (notes : List (ℕ × ℕ)) (rows : List StreamRow) (visits : List Visit) : Type 0 where
-  pub places : (r : ℕ) → row_positions r visits ≡ noted_positions (get_or (streams_in rows) r 0) notes
-  pub counts : (r : ℕ) (d : StreamRow) → r < length rows → (get_or rows r d).to ≡ length (row_positions r visits)
-  pub within : All (λ (visit : Visit). visit.row < length rows) visits
+-- rows say what was noted: each counts the visits of its stream from 0
+pub record IsListed (notes : List (ℕ × ℕ)) (rows : List StreamRow) : Type 0 where
+  pub counts : (r : ℕ) (d : StreamRow) → r < length rows → (get_or rows r d).to ≡ length (row_positions r rows notes)
   pub none : noted_positions 0 notes ≡ []
   pub absent : (stream : ℕ) → NotAmong stream (streams_in rows) → noted_positions stream notes ≡ []
 
 -- the table of what was noted
 pub record IsTableOf (notes : List (ℕ × ℕ)) (table : Visits) : Type 0 where
   pub index : IsIndex (streams_in table.rows.items) table.index
-  pub listed : IsListed notes table.rows.items table.visits.items
+  pub listed : IsListed notes table.rows.items
 
 -- the table holds at most so many rows and visits
 pub record HasAtMost (many : ℕ) (table : Visits) : Type 0 where
@@ -97,23 +93,35 @@ laid_out from [] = []
 laid_out from (row ∷ rows) =
     record { stream = row.stream; from = from; to = from } ∷ laid_out (from + row.to) rows
 
--- the ranges of the rows are empty, and have room for the visits, apart from one another
-pub record HasRoomFor (rows : List StreamRow) (visits : List Visit) (total : ℕ) : Type 0 where
+-- the ranges of the rows are empty, and have room for what was noted, apart from one another
+pub record HasRoomFor (rows : List StreamRow) (notes : List (ℕ × ℕ)) (total : ℕ) : Type 0 where
   pub empty : (r : ℕ) (d : StreamRow) → r < length rows → (get_or rows r d).to ≡ (get_or rows r d).from
   pub apart : (r s : ℕ) (d : StreamRow) → r < s → s < length rows →
-      (get_or rows r d).from + length (row_positions r visits) ≤ (get_or rows s d).from
+      (get_or rows r d).from + length (row_positions r rows notes) ≤ (get_or rows s d).from
   pub within : (r : ℕ) (d : StreamRow) → r < length rows →
-      (get_or rows r d).from + length (row_positions r visits) ≤ total
+      (get_or rows r d).from + length (row_positions r rows notes) ≤ total
 
 -- a row whose range has grown from that of an empty one by so many positions
 abbrev pub grown : StreamRow → ℕ → StreamRow
 grown row many = record { stream = row.stream; from = row.from; to = row.from + many }
 
--- the ranges have grown from those of `empty` by the positions of the visits
-pub record IsFilled (empty : List StreamRow) (visits : List Visit) (rows : List StreamRow) (positions : List ℕ) : Type 0 where
+-- the ranges have grown from those of `empty` by the positions of what was noted
+pub record IsFilled (empty : List StreamRow) (notes : List (ℕ × ℕ)) (rows : List StreamRow) (positions : List ℕ) : Type 0 where
   pub long : length rows ≡ length empty
   pub ranges : (r : ℕ) (d : StreamRow) → r < length empty →
-      get_or rows r d ≡ grown (get_or empty r d) (length (row_positions r visits))
+      get_or rows r d ≡ grown (get_or empty r d) (length (row_positions r empty notes))
   pub filled : (r : ℕ) (d : StreamRow) → r < length empty →
-      between (get_or empty r d).from ((get_or empty r d).from + length (row_positions r visits)) positions
-      ≡ row_positions r visits
+      between (get_or empty r d).from ((get_or empty r d).from + length (row_positions r empty notes)) positions
+      ≡ row_positions r empty notes
+
+-- the next position of the stream, if it has a row, stands in the list
+abbrev pub HasPlaceFor : (stream : ℕ) → List StreamRow → (total : ℕ) → Type 0
+HasPlaceFor stream rows total =
+    (r : ℕ) (d : StreamRow) → slice_get (streams_in rows) r ≡ Some stream → (get_or rows r d).to < total
+
+-- the position was put at the end of the range of the stream's row, if it has one
+pub record IsPut (stream position : ℕ) (rows : List StreamRow) (positions : List ℕ)
+    (rows' : List StreamRow) (positions' : List ℕ) : Type 0 where
+  pub found : (r : ℕ) (d : StreamRow) → slice_get (streams_in rows) r ≡ Some stream →
+      (rows' ≡ set rows r (counted (get_or rows r d))) × (positions' ≡ set positions (get_or rows r d).to position)
+  pub missed : NotAmong stream (streams_in rows) → (rows' ≡ rows) × (positions' ≡ positions)

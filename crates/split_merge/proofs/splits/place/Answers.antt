@@ -1,41 +1,93 @@
-use Rattle.std.proofs.Common.{◌+◌, length, take, get_or, set, sym, ap, ◌∙◌, subst}
-use Rattle.std.proofs.lemmas.List.{length-set, get_or_default}
-use Rattle.split_merge.specs.declared.splits.StreamRow.{StreamRow}
-use Rattle.split_merge.specs.declared.visits.Visit.{Visit}
-use Rattle.split_merge.specs.code.Visits.{IsFilled}
-use Rattle.split_merge.proofs.LaidOut.{placed-more, place-within}
+use Rattle.std.proofs.Common.{take, get_or, refl, sym, subst, arith}
+use Rattle.audit_terms.specs.Frame.{promised_by}
+use Rattle.split_merge.specs.code.Visits.{notes_from, IsIndex, IsFilled}
+use Rattle.split_merge.proofs.LaidOut.{filled-streams, place-for, filled-visit}
+use Rattle.split_merge.proofs.Placed.{first-parts, second-parts, noted-more}
 use Rattle.split_merge.proofs.splits.place.Goals as goal
 
-abbrev no_row : StreamRow
-no_row = record { stream = 0; from = 0; to = 0 }
+pub put_visit-last-requires-clause-index : goal.put_visit-last-requires-clause-index
+put_visit-last-requires-clause-index c =
+    subst (λ s. IsIndex s c.args.index.now)
+    (sym (filled-streams c.args.rows.now c.loop-frame.rows _ c.loop-frame.positions.items c.loop-frame.invariant.filled))
+    c.requires.index
 
-abbrev no_visit : Visit
-no_visit = record { row = 0; position = 0 }
+pub put_visit-last-requires-clause-place : goal.put_visit-last-requires-clause-place
+put_visit-last-requires-clause-place c =
+    let frames = c.args.frames.now in
+    let i = c.loop-frame.frame-index in
+    let frame = get_or frames i _ in
+    let parts = first-parts frames i c.loop-frame.position (promised_by frame) _ c.loop-frame-test.true
+    c.loop-frame.invariant.position refl in
+    place-for c.args.rows.now (notes_from 0 frames) (notes_from 0 (take i frames)) _ c.args.total c.requires.room
+    c.args.index.now c.requires.index c.requires.absent frame.stream c.loop-frame.position parts
+    c.loop-frame.rows c.loop-frame.positions.items c.loop-frame.invariant.long c.loop-frame.invariant.filled
 
-pub put-requires-clause-within : goal.put-requires-clause-within
-put-requires-clause-within c =
-    let visits = c.args.visits.now in
-    let i = c.loop-visit.visit-index in
-    let visit = get_or visits i no_visit in
-    place-within c.args.rows.now visits c.args.total c.requires.room i visit c.loop-visit-test.true
-    (get_or_default visits i no_visit visit c.loop-visit-test.true) (c.requires.rows i no_visit c.loop-visit-test.true)
-    c.loop-visit.rows c.loop-visit.positions.items c.loop-visit.invariant.long c.loop-visit.invariant.filled no_row
+pub put_visit-last-requires-in-loop-frame-clause-index : goal.put_visit-last-requires-in-loop-frame-clause-index
+put_visit-last-requires-in-loop-frame-clause-index c =
+    let frames = c.args.frames.now in
+    let i = c.loop-frame.frame-index in
+    let frame = get_or frames i _ in
+    let at_is = c.loop-frame.invariant.position in
+    let once = filled-visit c.args.rows.now (notes_from 0 frames) (notes_from 0 (take i frames)) _ c.args.total
+    c.requires.room c.args.index.now c.requires.index c.requires.absent frame.stream c.loop-frame.position
+    (first-parts frames i c.loop-frame.position c.promised_by.result _ c.loop-frame-test.true at_is c.promised_by.ensures)
+    c.loop-frame.rows c.loop-frame.positions.items c.loop-frame.invariant.long c.loop-frame.invariant.filled
+    c.put_visit-last.new.rows c.put_visit-last.new.positions.items c.put_visit-last.ensures in
+    subst (λ s. IsIndex s c.args.index.now)
+    (sym (filled-streams c.args.rows.now c.put_visit-last.new.rows _ c.put_visit-last.new.positions.items once.1))
+    c.requires.index
 
-pub loop-visit-preserved : goal.loop-visit-preserved
-loop-visit-preserved c =
-    let visits = c.args.visits.now in
-    let i = c.loop-visit.visit-index in
-    let visit = get_or visits i no_visit in
-    let rows = c.loop-visit.rows in
-    let at = get_or rows visit.row no_row in
+pub put_visit-last-requires-in-loop-frame-clause-place : goal.put_visit-last-requires-in-loop-frame-clause-place
+put_visit-last-requires-in-loop-frame-clause-place c =
+    let frames = c.args.frames.now in
+    let i = c.loop-frame.frame-index in
+    let frame = get_or frames i _ in
+    let at_is = c.loop-frame.invariant.position in
+    let once = filled-visit c.args.rows.now (notes_from 0 frames) (notes_from 0 (take i frames)) _ c.args.total
+    c.requires.room c.args.index.now c.requires.index c.requires.absent frame.stream c.loop-frame.position
+    (first-parts frames i c.loop-frame.position c.promised_by.result _ c.loop-frame-test.true at_is c.promised_by.ensures)
+    c.loop-frame.rows c.loop-frame.positions.items c.loop-frame.invariant.long c.loop-frame.invariant.filled
+    c.put_visit-last.new.rows c.put_visit-last.new.positions.items c.put_visit-last.ensures in
+    place-for c.args.rows.now (notes_from 0 frames) _ _ c.args.total c.requires.room c.args.index.now c.requires.index
+    c.requires.absent c.promised_by.result c.loop-frame.position
+    (second-parts frames i c.loop-frame.position c.promised_by.result _ c.loop-frame-test.true at_is c.promised_by.ensures)
+    c.put_visit-last.new.rows c.put_visit-last.new.positions.items once.0 once.1
+
+pub put_visit-last-requires-in-loop-frame-clause-short : goal.put_visit-last-requires-in-loop-frame-clause-short
+put_visit-last-requires-in-loop-frame-clause-short c =
+    let frames = c.args.frames.now in
+    let i = c.loop-frame.frame-index in
+    let frame = get_or frames i _ in
+    let at_is = c.loop-frame.invariant.position in
+    let once = filled-visit c.args.rows.now (notes_from 0 frames) (notes_from 0 (take i frames)) _ c.args.total
+    c.requires.room c.args.index.now c.requires.index c.requires.absent frame.stream c.loop-frame.position
+    (first-parts frames i c.loop-frame.position c.promised_by.result _ c.loop-frame-test.true at_is c.promised_by.ensures)
+    c.loop-frame.rows c.loop-frame.positions.items c.loop-frame.invariant.long c.loop-frame.invariant.filled
+    c.put_visit-last.new.rows c.put_visit-last.new.positions.items c.put_visit-last.ensures in
+    omega (arith, once.0, c.ranges.total.fits)
+
+pub loop-frame-preserved : goal.loop-frame-preserved
+loop-frame-preserved c =
+    let frames = c.args.frames.now in
+    let i = c.loop-frame.frame-index in
+    let frame = get_or frames i _ in
+    let at_is = c.loop-frame.invariant.position in
+    let once = filled-visit c.args.rows.now (notes_from 0 frames) (notes_from 0 (take i frames)) _ c.args.total
+    c.requires.room c.args.index.now c.requires.index c.requires.absent frame.stream c.loop-frame.position
+    (first-parts frames i c.loop-frame.position c.promised_by.result _ c.loop-frame-test.true at_is c.promised_by.ensures)
+    c.loop-frame.rows c.loop-frame.positions.items c.loop-frame.invariant.long c.loop-frame.invariant.filled
+    c.put_visit-last.new.rows c.put_visit-last.new.positions.items c.put_visit-last.ensures in
+    let twice = filled-visit c.args.rows.now (notes_from 0 frames) _ _ c.args.total c.requires.room c.args.index.now
+    c.requires.index c.requires.absent c.promised_by.result c.loop-frame.position
+    (second-parts frames i c.loop-frame.position c.promised_by.result _ c.loop-frame-test.true at_is c.promised_by.ensures)
+    c.put_visit-last.new.rows c.put_visit-last.new.positions.items once.0 once.1
+    c.put_visit-last-in-loop-frame.new.rows c.put_visit-last-in-loop-frame.new.positions.items
+    c.put_visit-last-in-loop-frame.ensures in
+    let noted_now = noted-more frames i c.loop-frame.position c.promised_by.result _ c.loop-frame-test.true at_is
+    c.promised_by.ensures in
     record {
-      long = ap length c.put.ensures.positions ∙ length-set c.loop-visit.positions.items at.to visit.position
-          ∙ c.loop-visit.invariant.long;
-      filled = subst (λ l. IsFilled c.args.rows.now (take (i + 1) visits) (set rows visit.row c.put.new.row) l)
-          (sym c.put.ensures.positions)
-          (subst (λ x. IsFilled c.args.rows.now (take (i + 1) visits) (set rows visit.row x) (set c.loop-visit.positions.items at.to visit.position))
-          (sym c.put.ensures.row)
-          (placed-more c.args.rows.now visits c.args.total c.requires.room i visit c.loop-visit-test.true
-          (get_or_default visits i no_visit visit c.loop-visit-test.true) (c.requires.rows i no_visit c.loop-visit-test.true)
-          rows c.loop-visit.positions.items c.loop-visit.invariant.long c.loop-visit.invariant.filled no_row));
+      position = omega (arith, at_is);
+      long = twice.0;
+      filled = subst (λ l. IsFilled c.args.rows.now l c.put_visit-last-in-loop-frame.new.rows
+          c.put_visit-last-in-loop-frame.new.positions.items) (sym noted_now) twice.1;
     }

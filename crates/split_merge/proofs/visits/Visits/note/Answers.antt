@@ -25,20 +25,18 @@ returns-clause-named c =
     ∙ named-row c.args.stream c.args.self.now.rows.items c.if-stream-eq0.false
 
 pub returns-clause-table : goal.returns-clause-table
-returns-clause-table c = λ notes h.
+returns-clause-table c = λ notes position h.
     let rows = c.row_of.new.self.rows.items in
     let row = c.in_ok-row.row in
     let is = c.count.ensures ∙ ap counted c.index_mut.ensures.value in
     let same = streams-counted rows row c.index_mut.result.now in
-    let listed = noted-listed notes c.args.self.now.rows.items rows c.args.self.now.visits.items
-    c.row_of.new.self.visits.items c.push.new.self.items c.args.stream c.args.position row c.index_mut.result.now
-    c.if-stream-eq0.false h.listed c.in_ok-row.ensures.rows c.in_ok-row.ensures.visits
-    c.in_ok-row.ensures.index.distinct c.in_ok-row.ensures.row c.in_ok-push.ensures.items in
+    let listed = noted-listed notes c.args.self.now.rows.items rows c.args.stream position row c.index_mut.result.now
+    c.if-stream-eq0.false h.listed c.in_ok-row.ensures.rows
+    c.in_ok-row.ensures.index.distinct c.in_ok-row.ensures.row in
     record {
       index = subst (λ x. IsIndex (streams_in (set rows row x)) c.row_of.new.self.index) (sym is)
           (subst (λ l. IsIndex l c.row_of.new.self.index) (sym same) c.in_ok-row.ensures.index);
-      listed = subst (λ x. IsListed (notes ++ noted c.args.stream c.args.position) (set rows row x) c.push.new.self.items)
-          (sym is) listed;
+      listed = subst (λ x. IsListed (notes ++ noted c.args.stream position) (set rows row x)) (sym is) listed;
     }
 
 pub returns-clause-room : goal.returns-clause-room

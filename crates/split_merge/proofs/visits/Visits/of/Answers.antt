@@ -1,4 +1,4 @@
-use Rattle.std.proofs.Common.{◌≡◌, ◌+◌, ◌*◌, ◌++◌, length, take, drop, get_or, refl, sym, ap, ◌∙◌, subst, arith}
+use Rattle.std.proofs.Common.{◌+◌, ◌*◌, ◌++◌, length, take, drop, get_or, sym, ap, ◌∙◌, subst, arith}
 use Rattle.std.proofs.lemmas.List.{take_more, drop_more, length-take-le}
 use Rattle.audit_terms.specs.Frame.{promised_by}
 use Rattle.audit_terms.specs.Pass.{first_of, streams_of}
@@ -12,11 +12,9 @@ pub loop-frame-init : goal.loop-frame-init
 loop-frame-init c =
     let none = c.new.ensures.items in
     record {
-      position = refl;
       table = record {
         index = rw none (index-empty c.new-2.result c.new-2.ensures.empty);
-        listed = listed-none c.new.result.items c.in_ok-with_capacity.field-0.items none
-            c.in_ok-with_capacity.ensures.items;
+        listed = listed-none c.new.result.items none;
       };
       named = rw none (named-first (streams_of c.args.frames.now));
       room = record {
@@ -24,6 +22,10 @@ loop-frame-init c =
         visits = let e = ap total_of none in omega (arith, e);
       };
     }
+
+pub note-requires-in-loop-frame-clause-index : goal.note-requires-in-loop-frame-clause-index
+note-requires-in-loop-frame-clause-index c =
+    (c.in_ok-note.ensures.table _ c.loop-frame.frame-index c.loop-frame.invariant.table).index
 
 pub note-requires-in-loop-frame-clause-room : goal.note-requires-in-loop-frame-clause-room
 note-requires-in-loop-frame-clause-room c =
@@ -47,16 +49,14 @@ loop-frame-preserved c =
     let once = c.in_ok-note.ensures.room (2 * i) c.loop-frame.invariant.room in
     let twice = c.in_ok-note-2.ensures.room (2 * i + 1) once in
     let front = take i frames in
-    let long : length (take c.loop-frame.frame-index c.args.frames.now) ≡ c.loop-frame.position =
-    length-take-le i frames (omega (arith, within)) ∙ sym c.loop-frame.invariant.position in
+    let long = length-take-le i frames (omega (arith, within)) in
     let notes = take_more frames i _ within in
     record {
-      position = omega (arith, c.loop-frame.invariant.position);
       table = subst (λ l. IsTableOf l c.note-in-loop-frame.new.self)
-          (ap (λ p. (notes_from 0 front ++ noted frame.stream c.loop-frame.position) ++ noted p c.loop-frame.position) c.promised_by.ensures
-          ∙ sym (notes-push 0 c.loop-frame.position front frame (omega (arith, long)))
+          (ap (λ p. (notes_from 0 front ++ noted frame.stream i) ++ noted p i) c.promised_by.ensures
+          ∙ sym (notes-push 0 i front frame (omega (arith, long)))
           ∙ ap (notes_from 0) (sym notes))
-          (c.in_ok-note-2.ensures.table _ (c.in_ok-note.ensures.table _ c.loop-frame.invariant.table));
+          (c.in_ok-note-2.ensures.table _ i (c.in_ok-note.ensures.table _ i c.loop-frame.invariant.table));
       named = ap (λ l. l ++ without l (streams_of rest)) both
           ∙ named-more (promised_by frame) own (streams_of rest)
           ∙ named-more frame.stream seen (first_of (promised_by frame) (streams_of rest))
