@@ -15,7 +15,7 @@ run:
 	@echo 'A build without proof: about a minute on four idle cores.'
 	@captures=$$(mktemp -d) && trap 'rm -r "$$captures"' EXIT && cp $(FIRST) "$$captures" && \
 		cd crates/h2audit_cli && rt try --cases "$$captures" -- {}
-	@echo 'Nothing of this build was proved. "make build" proves the program and builds it (some 25 minutes on four cores),'
+	@echo 'Nothing of this build was proved. "make build" proves the program and builds it (some 18 minutes on four cores),'
 	@echo 'and "make install" puts it in place as h2audit.'
 
 # Proves all that the program stands on, builds it, and leaves it as PROGRAM.
