@@ -1,6 +1,6 @@
 //! The answer of a run, and how it compares with what a row asks for.
 
-use h2audit::{CaptureReader, NoGate, Options, ReportWriter, ending, run};
+use h2audit::{AuditFault, CaptureReader, NoGate, Options, ReportWriter, Verdict, ending, run};
 use std::alloc::{AllocError, Global};
 use std::thread::Threads;
 
@@ -21,8 +21,17 @@ pub fn answer_of(
     let mut reader = CaptureReader::new(alloc, capture);
     let mut writer = ReportWriter::new(alloc, Vec::new(alloc));
     let answer = run(rt, alloc, options, &mut reader, &mut writer, &NoGate);
-    let report = str::from_utf8(writer.writer().as_slice()).unwrap_or("");
-    let (status, line) = ending(&answer);
+    text_of(alloc, &answer, writer.writer().as_slice())
+}
+
+/// An answer and a report as lines.
+fn text_of(
+    alloc: Global,
+    answer: &Result<Verdict, AuditFault>,
+    report: &[u8],
+) -> Result<String, AllocError> {
+    let report = str::from_utf8(report).unwrap_or("");
+    let (status, line) = ending(answer);
     let end = if line.is_empty() { "" } else { "\n" };
     format!(in alloc; "status {status}\n{line}{end}{report}")
 }

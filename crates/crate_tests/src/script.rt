@@ -40,11 +40,18 @@ pub fn capture_of(alloc: Global, script: &str) -> Result<Vec<u8>, NoAnswer> {
 }
 
 fn hex_lines(alloc: Global, lines: &str) -> Result<Vec<u8>, NoAnswer> {
+    let words: Vec<&str> = lines.split_whitespace().collect(alloc)?;
     let mut bytes = Vec::new(alloc);
-    for word in lines.split_whitespace() {
-        push_hex(alloc, word, &mut bytes)?;
-    }
+    push_words(alloc, words.as_slice(), &mut bytes)?;
     Ok(bytes)
+}
+
+/// Puts the bytes of words of hex digits at the end.
+fn push_words(alloc: Global, words: &[&str], out: &mut Vec<u8>) -> Result<(), NoAnswer> {
+    for word in words {
+        push_hex(alloc, word, out)?;
+    }
+    Ok(())
 }
 
 fn push_hex(alloc: Global, digits: &str, out: &mut Vec<u8>) -> Result<(), NoAnswer> {
@@ -57,7 +64,8 @@ fn push_hex(alloc: Global, digits: &str, out: &mut Vec<u8>) -> Result<(), NoAnsw
 /// Takes one line of a script.
 fn take_step(alloc: Global, capture: &mut Capture, words: &[&str]) -> Result<(), NoAnswer> {
     match *words {
-        ["C", ..] | ["S", ..] => side_step(alloc, capture, words),
+        ["C", ref record @ ..] => client_step(alloc, capture, record),
+        ["S", ref record @ ..] => server_step(alloc, capture, record),
         ["SEGMENT", ..] => segment_step(alloc, capture, words),
         ["SYN", seq] => Ok(capture.syn(seq.parse()?)?),
         ["SYN_ACK", seq] => Ok(capture.syn_ack(seq.parse()?)?),
@@ -75,29 +83,34 @@ fn take_step(alloc: Global, capture: &mut Capture, words: &[&str]) -> Result<(),
     }
 }
 
-/// A record of the client or of the server.
-fn side_step(alloc: Global, capture: &mut Capture, words: &[&str]) -> Result<(), NoAnswer> {
+/// A record of the client.
+fn client_step(alloc: Global, capture: &mut Capture, words: &[&str]) -> Result<(), NoAnswer> {
     match words {
-        ["C", "AT", seq, payload @ ..] => {
+        ["AT", seq, payload @ ..] => {
             let bytes = payload_of(alloc, payload)?;
             Ok(capture.client_at(seq.parse()?, bytes.as_slice())?)
         }
-        ["S", "AT", seq, payload @ ..] => {
-            let bytes = payload_of(alloc, payload)?;
-            Ok(capture.server_at(seq.parse()?, bytes.as_slice())?)
-        }
-        ["C", "SNAPPED", kept, frame @ ..] => {
+        ["SNAPPED", kept, frame @ ..] => {
             Ok(capture.snapped_client(frame_of(frame)?, kept.parse()?)?)
         }
-        ["C", payload @ ..] => {
+        payload => {
             let bytes = payload_of(alloc, payload)?;
             Ok(capture.client_bytes(bytes.as_slice())?)
         }
-        ["S", payload @ ..] => {
+    }
+}
+
+/// A record of the server.
+fn server_step(alloc: Global, capture: &mut Capture, words: &[&str]) -> Result<(), NoAnswer> {
+    match words {
+        ["AT", seq, payload @ ..] => {
+            let bytes = payload_of(alloc, payload)?;
+            Ok(capture.server_at(seq.parse()?, bytes.as_slice())?)
+        }
+        payload => {
             let bytes = payload_of(alloc, payload)?;
             Ok(capture.server_bytes(bytes.as_slice())?)
         }
-        _ => Err(NoAnswer::NotUnderstood),
     }
 }
 
@@ -139,11 +152,7 @@ fn payload_of(alloc: Global, words: &[&str]) -> Result<Vec<u8>, NoAnswer> {
     let mut bytes = Vec::new(alloc);
     match words {
         [] => {}
-        ["HEX", digits @ ..] => {
-            for word in digits {
-                push_hex(alloc, word, &mut bytes)?;
-            }
-        }
+        ["HEX", digits @ ..] => push_words(alloc, digits, &mut bytes)?,
         ["PREFACE", frame @ ..] => {
             bytes.extend_from_slice(&PREFACE)?;
             push_frame(frame, &mut bytes)?;

@@ -140,13 +140,13 @@ audit of all frames
 /// What is told of a prefix below a file header, which is refused.
 const REFUSED: &str = "status 3\nh2audit: capture refused: short-header\n";
 
-/// Whether a report is of clean flow control; whether it says that a record was cut, and that the stall is open at the end.
+/// Whether there is a report of no fault, whether it says that a record was cut, and whether that the stall is open.
 type Told = (bool, bool, bool);
 
 /// What the answer tells.
 fn told(text: &str) -> Told {
     (
-        text.starts_with("status 0\n"),
+        text.starts_with("status 0\ncapture records "),
         text.contains(" cut\n"),
         text.ends_with(STALLED),
     )
