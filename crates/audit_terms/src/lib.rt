@@ -1,11 +1,11 @@
 //! The vocabulary of an HTTP/2 flow-control audit (RFC 9113, sections 4 to 6): frames, places and findings, and the
 //! definitions that every part of the audit cites.
 //!
-//! `specs/` holds the rules, each beside its section of the RFC: what a frame shows by itself (`LocalFault`), settings
-//! in force (`InForce`, 6.5.3), the life of a stream (`Life`, 5.1), both sides' windows (`Connection` and `Stream`,
-//! 6.9), the pass over all frames of a connection and where it ends (`Pass`, 5.4.1), what a stream, a group or a block
-//! shows by itself (`Run`), credit as a closed sum (`Credit`), and when a run looks for the stop of its connection
-//! (`Look`).
+//! `specs/` holds the rules, each beside its section of the RFC: what a frame shows by itself (`LocalFault`), the values
+//! of a SETTINGS frame and how a frame keeps them (`Settings`, 6.5.2), settings in force (`InForce`, 6.5.3), the life of
+//! a stream (`Life`, 5.1), both sides' windows (`Connection` and `Stream`, 6.9), the pass over all frames of a
+//! connection and where it ends (`Pass`, 5.4.1), what a stream, a group or a block shows by itself (`Run`), credit as a
+//! closed sum (`Credit`), and when a run looks for the stop of its connection (`Look`).
 //!
 //! - [`Frame`], [`Change`], [`Item`] and [`Step`] are what an audit reads: frames, and what they bring.
 //! - [`Stream`], [`StreamLife`] and [`ConnectionState`] are a stream and a connection between two frames, and their
@@ -14,7 +14,8 @@
 //! - [`Place`], [`Kind`] and [`Finding`] say where a finding stands, what it says and whether it stops the audit;
 //!   [`put_in_order`], [`cut_at_stop`], [`keep_up_to`] and [`keep_shown`] order findings, end them and drop credits.
 //! - [`Look`] and [`Watch`]: a run asks where its connection stops before its first step and before each 256th more.
-//! - [`laws`]: places stand in the order of frame number, rank and stream, and none is all ones.
+//! - [`laws`]: places stand in the order of frame number, rank and stream, and none is all ones; settings in range are
+//!   the same after they were packed in two words.
 //!
 //! Each contract gives exactly what its definition says. The order of findings goes on from the place to side, kind and
 //! value, so it is total, and putting in order asks for no condition. A step with a change has an acknowledgement for

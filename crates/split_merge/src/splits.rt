@@ -63,8 +63,8 @@ fn lay_out(rows: &mut [StreamRow]) -> u32
     total
 }
 
-/// The positions of the frames that the streams of the rows meet, each at the end of its row's range, which grows by it.
-/// The frames are gone over a second time, so that no list of their visits is kept.
+/// The positions of the frames that the streams of the rows meet, each at the end of its row's range, which grows by
+/// it. The frames are gone over a second time, so that no list of their visits is kept.
 fn place(
     alloc: Global,
     rows: &mut [StreamRow],
