@@ -32,10 +32,9 @@
 //! one that failed; `make_room` enters want of memory. A reader sees this at once; no contract says it.
 //!
 //! Wrong bodies that the prover refuses: an empty report, a verdict by errors alone, words always refused, options not
-//! heeded, a status of 0 for faults, a read or a write that is told to have filled or taken all, a file header that is
-//! taken for the capture. Tested, in `crate_tests`: whole reports, the texts of help and of refused words, which calls
-//! readers and writers get, a run of the program for each status, long captures. Trusted: that a file or a pipe gives
-//! and keeps its bytes.
+//! heeded, a read or a write that is told to have filled or taken all. Tested, in `crate_tests`: whole reports, the texts
+//! of help and of refused words, which calls readers and writers get, a run of the program for each status, long
+//! captures. Trusted: that a file or a pipe gives and keeps its bytes.
 #![tactic(auto)]
 
 mod auditing;

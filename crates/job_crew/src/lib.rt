@@ -21,11 +21,10 @@
 //! two; closing the desk speaks of all. Each worker begins with one draw more than there are jobs, so it ends where no
 //! job is left and never for want of draws. Want of memory is the one error; after it the desk is gone.
 //!
-//! Wrong bodies that the prover refuses: parts dropped where two halves join, a part of another connection, an overrun
-//! lowered, stops handed on as the round found them, parts in no order. Tested, in `crate_tests`: that
-//! a job sees the stop that an earlier one lowered, that two workers are in one round at once, and how many jobs each
-//! round of an audit has. Trusted: std's `join`, which starts threads, and does the work on the thread at hand where
-//! none can be had. That several threads work at once is not proved.
+//! Wrong bodies that the prover refuses: parts dropped where two halves join, an overrun lowered, stops handed on as the
+//! round found them. Tested, in `crate_tests`: that a job sees the stop that an earlier one lowered, that two workers are
+//! in one round at once, and how many jobs each round of an audit has. Trusted: std's `join`, which starts threads, and
+//! does the work on the thread at hand where none can be had. That several threads work at once is not proved.
 #![tactic(auto)]
 
 mod crews;

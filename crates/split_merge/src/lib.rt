@@ -24,9 +24,9 @@
 //! They say nothing of progress, and of no thread: `job_crew` promises boards that threads leave. [`worked_examples`]
 //! and [`worked_rounds`] show splits, stalls, two workers with a stop that one sees, and steps that no worker may take.
 //!
-//! Wrong bodies that the prover refuses: a rest of streams left out, positions overwritten, an end of the other side, a
-//! withdrawn end, a cut at the first reported error. Tested by whole reports: that the calls succeed where there is
-//! memory.
+//! Wrong bodies that the prover refuses: a rest of streams left out, positions overwritten, a frame looked up by its
+//! record, a withdrawn end, a cut at the first reported error. Tested by whole reports: that the calls succeed where there
+//! is memory.
 #![tactic(auto)]
 
 mod ends;
