@@ -30,8 +30,8 @@
 //! - [`laws::openings_are_found`] and [`laws::items_are_found`]: the numbers that streams tell, and the changes, make
 //!   the items of the pass.
 //!
-//! Wrong bodies that the prover refuses: openings not handed on, a clear block left out though credits are shown. Tested
-//! by whole reports, in many mixes of workers, groups and block lengths: that the call succeeds where there is memory.
+//! A wrong body that the prover refuses: openings not handed on. Tested by whole reports, in many mixes of workers, groups
+//! and block lengths: that the call succeeds where there is memory.
 #![tactic(auto)]
 
 mod beginnings;
