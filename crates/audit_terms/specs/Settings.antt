@@ -35,7 +35,7 @@ unpacked words = record {
   bad = one_less (words.others / 2 ^ 27);
 }
 
--- the values are in range, and only the settings of such identifiers have a range
+-- the values are in range (6.5.2), and the identifier that is out of range is one of those that have a range, at most 5
 pub record AreInRange (settings : Settings) : Type 0 where
   pub push : ForSome settings.push (λ value. value ≤ 1)
   pub initial : ForSome settings.initial (λ value. value < 2 ^ 31)

@@ -4,7 +4,8 @@
 //! audit with its [`Options`], help, the version or why the words are refused. [`Options`] refuses numbers out of
 //! range. [`laws::known_words`] computes seven command lines.
 //!
-//! Tested, in `crate_tests`: the texts of help and of refused words.
+//! A wrong body that the prover refuses: words that ask for help refused. Tested, in `crate_tests`: the texts of help and
+//! of refused words.
 #![tactic(auto)]
 
 mod command;
