@@ -9,7 +9,7 @@ use Rattle.split_merge.specs.Board.{Job, IsCut}
 use Rattle.audit_rounds.specs.declared.streams.Streams.{Streams}
 use Rattle.audit_rounds.specs.declared.stream_plan.StreamJob.{StreamJob}
 use Rattle.audit_rounds.specs.code.Streams.{IsRow, AreOpenedUpTo, rows_shown, rows_opened}
-use Rattle.audit_rounds.specs.code.StreamJobs.{IsReady, IsJobOf, Makes, job_of, of_rows}
+use Rattle.audit_rounds.specs.code.StreamJobs.{IsReady, Makes, job_of, of_rows}
 use Rattle.audit_rounds.proofs.Jobs.{job-is}
 
 -- the rows of a job

@@ -1,5 +1,4 @@
-use Rattle.std.proofs.Common.{List, All, Vec, Global, map, sym, ap, ◌∙◌, subst, ◌≡◌}
-use Rattle.audit_terms.specs.declared.findings.Finding.{Finding}
+use Rattle.std.proofs.Common.{All, map, sym, ap, ◌∙◌, subst}
 use Rattle.audit_rounds.specs.declared.prepared.Prepared.{Prepared}
 use Rattle.audit_rounds.specs.code.Prepared.{IsPrepared, found_before}
 use Rattle.audit_rounds.proofs.Fronts.{passes-same}

@@ -1,4 +1,4 @@
-use Rattle.std.proofs.Common.{◌<◌, length, map, arith}
+use Rattle.std.proofs.Common.{◌<◌, length, arith}
 use Rattle.std.proofs.lemmas.List.{length-map}
 use Rattle.audit_rounds.specs.declared.stream_plan.StreamJob.{StreamJob}
 use Rattle.audit_rounds.specs.code.StreamJobs.{job_of}
