@@ -61,17 +61,27 @@ const FILES: [&str; 8] = [
     "links.rows",
 ];
 
-/// Prints a line for each test of calls.
-fn print_calls(rt: &(impl AllocGlobal + Print + Sync + Threads)) -> io::Result<()> {
+/// Prints a line for each test of calls, in groups: a long chain of calls is dear to prove.
+fn print_calls(rt: &(impl AllocGlobal + Print)) -> io::Result<()> {
     let alloc = rt.alloc();
     print_answers(rt, &captures::answers(alloc))?;
     print_answers(rt, &flows::answers(alloc))?;
     print_answers(rt, &passes::answers(alloc))?;
-    print_answers(rt, &looks::answers(alloc))?;
+    print_answers(rt, &looks::answers(alloc))
+}
+
+/// Those of calls that share work out, and of parts of a report.
+fn print_crews(rt: &(impl AllocGlobal + Print + Sync + Threads)) -> io::Result<()> {
+    let alloc = rt.alloc();
     print_answers(rt, &scans::answers(rt, alloc))?;
     print_answers(rt, &desks::answers(rt, alloc))?;
     print_answers(rt, &streams::answers(rt, alloc))?;
-    print_answers(rt, &reports::answers(alloc))?;
+    print_answers(rt, &reports::answers(alloc))
+}
+
+/// Those of runs.
+fn print_runs(rt: &(impl AllocGlobal + Print + Sync + Threads)) -> io::Result<()> {
+    let alloc = rt.alloc();
     print_answers(rt, &runs::said(rt, alloc))?;
     print_answers(rt, &runs::stepwise(rt, alloc))?;
     print_answers(rt, &runs::audits(rt, alloc))
@@ -79,6 +89,8 @@ fn print_calls(rt: &(impl AllocGlobal + Print + Sync + Threads)) -> io::Result<(
 
 fn main(rt: HostRuntime) -> io::Result<()> {
     print_calls(&rt)?;
+    print_crews(&rt)?;
+    print_runs(&rt)?;
     for file in FILES {
         print_rows(&rt, file)?;
     }
