@@ -33,4 +33,4 @@ mod tcp;
 pub mod worked_examples;
 
 pub use decoding::{decode, decode_all};
-pub use packets::{Endpoint, Packet, Refusal, Segment, Skip};
+pub use packets::{Endpoint, PACKET_PART, Packet, Packets, Refusal, Segment, Skip};

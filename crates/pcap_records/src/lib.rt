@@ -33,6 +33,6 @@ mod reading;
 mod rows;
 pub mod worked_examples;
 
-pub use capture::{ETHERNET, RAW_IP, Record, Records};
+pub use capture::{CAPTURE_PART, Capture, ETHERNET, RAW_IP, Record, Records};
 pub use faults::PcapFault;
 pub use reading::{records, refusal};
