@@ -53,12 +53,10 @@ pub fn push_end_line(out: &mut String, findings: &[Finding]) -> Result<(), Alloc
 fn push_end_line_after(out: &mut String, last: Option<Finding>) -> Result<(), AllocError>
     ensures { OnOk result (string_bytes out.new ≡ string_bytes out.old ++ end_line_after last) }
 {
-    if let Some(finding) = last {
-        if finding.stops() {
-            return push_stop_line(out, finding.place.number());
-        }
+    match last {
+        Some(finding) if finding.stops() => push_stop_line(out, finding.place.number()),
+        _ => push_word(out, "audit of all frames\n"),
     }
-    push_word(out, "audit of all frames\n")
 }
 
 #[tactic(auto, using(crate::proofs::Joins::joins))]

@@ -8,3 +8,4 @@ pub mod Watching
 pub mod FindingLists
 pub mod SaidPlaces
 pub mod Packing
+mod Pieces

@@ -1,7 +1,5 @@
 ghost use Rattle.std.specs.Prelude.{◌≡◌};
 
-use std::fmt;
-
 /// What a finding says, in order of rank. Ranks 0 to 12 are connection errors, which stop the audit of a connection;
 /// 13 to 20 are other faults; 21 to 24 tell of stalls, 25 and 26 of credit.
 #[derive(Clone, Copy, PartialEq, Eq)]
@@ -113,12 +111,5 @@ impl Kind {
             Kind::ConnectionCredit => "connection-credit",
             Kind::StreamCredit => "stream-credit",
         }
-    }
-}
-
-/// The word that a report prints.
-impl fmt::Debug for Kind {
-    fn fmt<W: fmt::Write>(&self, f: &mut fmt::Formatter<W>) -> fmt::Result {
-        f.write_str(self.name())
     }
 }

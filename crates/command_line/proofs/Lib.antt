@@ -1,2 +1,3 @@
+mod Added
 mod Numbers
 mod OptionReads

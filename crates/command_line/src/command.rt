@@ -1,8 +1,9 @@
 ghost use Rattle.std.specs.Prelude.{◌≡◌, IfOk, Some, false, map, pos};
-ghost use Rattle.clap.specs.Words.{app_of, fault_of, found_of, matches_of, new_app, rows_of, rule_of, with_rule, FailsBy};
+ghost use Rattle.clap.specs.Words.{app_of, fault_of, found_of, matches_of, new_app, rows_of, rule_of, FailsBy};
+ghost use Rattle.command_line.specs.code.Arguments.{AreArguments};
 ghost use Rattle.command_line.specs.code.Numbers.{HasNumbers};
 ghost use Rattle.clap.specs.declared.builder.value_parser.ValueParser.{ValueParser};
-ghost use Rattle.command_line.specs.Words.{app, command_start, command_with_numbers};
+ghost use Rattle.command_line.specs.Words.{app, command_start};
 ghost use Rattle.command_line.specs.Words.{file_rule, frames_rule, number_rule, option_rule};
 
 use crate::options::Options;
@@ -33,20 +34,23 @@ pub(crate) fn matches<'a>(alloc: Global, words: &'a [&'a str]) -> Result<ArgMatc
 fn command<'a>(alloc: Global) -> Result<Command<'a>, AllocError>
     ensures { IfOk result (λ c. app_of c ≡ app) }
 {
-    let command = with(with_numbers(alloc)?, frames_flag(alloc))?;
-    with(command, file_word(alloc))
+    bare_command(alloc).args(arguments(alloc)?)
 }
 
-/// The command with the arguments that are numbers.
-fn with_numbers<'a>(alloc: Global) -> Result<Command<'a>, AllocError>
-    ensures { IfOk result (λ c. app_of c ≡ command_with_numbers) }
+/// What the command line takes.
+fn arguments<'a>(alloc: Global) -> Result<Vec<Arg<'a>>, AllocError>
+    ensures { IfOk result (λ args. AreArguments args.items) }
 {
     let workers = numbered(alloc, WORKERS, Options::MOST_WORKERS, "4", WORKERS_HELP);
-    let command = with(bare_command(alloc), workers)?;
     let groups = numbered(alloc, GROUPS, Options::MOST_GROUPS, "16", GROUPS_HELP);
-    let command = with(command, groups)?;
     let block = numbered(alloc, BLOCK, Options::LONGEST_BLOCK, "4096", BLOCK_HELP);
-    with(command, block)
+    Ok(vec![in alloc;
+        workers,
+        groups,
+        block,
+        frames_flag(alloc),
+        file_word(alloc),
+    ]?)
 }
 
 /// The version of the program and of its report.
@@ -75,14 +79,6 @@ fn bare_command<'a>(alloc: Global) -> Command<'a>
         .about(ABOUT)
         .after_help(BLAME)
         .no_binary_name(true)
-}
-
-/// The command with one more argument.
-fn with<'a>(command: Command<'a>, arg: Arg<'a>) -> Result<Command<'a>, AllocError>
-    requires { arg.global ≡ false }
-    ensures { IfOk result (λ c. app_of c ≡ with_rule (app_of command.entry) (rule_of arg.entry)) }
-{
-    command.arg(arg)
 }
 
 /// `--NAME N`, a number from 1 to `most`.

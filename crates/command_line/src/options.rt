@@ -4,7 +4,7 @@ ghost use Rattle.command_line.specs.Options.{AreInRange};
 /// How a capture is audited and what its report shows.
 ///
 /// The workers, groups and block length divide the work, and never change the report.
-#[derive(Clone, Copy, Debug, PartialEq, Eq)]
+#[derive(Clone, Copy, PartialEq, Eq)]
 pub struct Options {
     workers: u32,
     groups: u32,

@@ -11,7 +11,7 @@ use clap::error::ErrorKind;
 use std::alloc::{AllocError, Global};
 
 /// What the words of the command line ask for.
-#[derive(Debug, Drop)]
+#[derive(Drop)]
 pub enum Parsed {
     /// An audit, with the path of the capture; without one standard input is read.
     Run(Options, Option<String>),

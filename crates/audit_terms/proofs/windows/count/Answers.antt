@@ -1,5 +1,7 @@
-use Rattle.std.proofs.Common.{◌≡◌, ◌∙◌, ◌⊎◌, inl, inr, arith}
+use Rattle.std.proofs.Common.{◌≡◌, ◌∙◌, ap, ◌⊎◌, inl, inr, arith}
 use Rattle.std.proofs.lemmas.Int.{ints}
+use Rattle.audit_terms.specs.Sides.{side_of}
+use Rattle.audit_terms.specs.Change.{new_initial}
 use Rattle.audit_terms.proofs.Acknowledged.{one-moves}
 use Rattle.audit_terms.proofs.Bounds.{moved-has_room}
 use Rattle.audit_terms.proofs.windows.count.Goals as goal
@@ -20,3 +22,13 @@ returns-clause-room c = λ bound room.
     let low = after.0 in
     let high = after.1 in
     (omega (arith, ints, low, high, c.moved.ensures), omega (arith, ints, low, high, c.moved.ensures))
+
+pub overflow_add-result : goal.overflow_add-result
+overflow_add-result c = omega (arith, ints, c.moved.ensures)
+
+pub returns-clause-after : goal.returns-clause-after
+returns-clause-after c =
+    let side = c.args.side in
+    let new : c.new_initial-new.result ≡ new_initial c.args.step.now.change side (side_of side c.args.initial.now) =
+    c.new_initial-new.ensures ∙ ap (new_initial c.args.step.now.change side) c.of-old.ensures in
+    omega (arith, ints, c.moved.ensures)

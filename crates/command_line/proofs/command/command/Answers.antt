@@ -1,9 +1,10 @@
 use Rattle.std.proofs.Common.{◌∙◌, ap₂}
 use Rattle.std.proofs.lemmas.Result.{IfOk-weaker}
-use Rattle.clap.specs.Words.{with_rule}
+use Rattle.command_line.proofs.Added.{added, with_rules}
 use Rattle.command_line.proofs.command.command.Goals as goal
 
 pub returns : goal.returns
 returns c =
-    let framed = c.in_ok-command.ensures ∙ ap₂ with_rule c.in_ok-with_numbers.ensures c.frames_flag.ensures.rule in
-    IfOk-weaker c.with-2.result _ _ (λ m h. h ∙ ap₂ with_rule framed c.file_word.ensures.rule) c.with-2.ensures
+    let args = c.in_ok-arguments.ensures in
+    IfOk-weaker c.args-2.result _ _
+    (λ m h. added _ _ m h args.local ∙ ap₂ with_rules c.bare_command.ensures args.rules) c.args-2.ensures
