@@ -68,7 +68,8 @@ module _ (credits_shown : Bool) where
   pub chosen-pass : (connections : List (Bor (List Frame))) (early found : List (Vec Finding Global))
       → map (λ (list : Vec Finding Global). list.items) early
       ≡ map (λ (frames : Bor (List Frame)). passed (front_of frames.now)) connections
-      → map (λ (list : Vec Finding Global). list.items) found ≡ map passed (laters_of connections early)
+      → map (λ (list : Vec Finding Global). list.items) found
+      ≡ map (λ (one : Bor (List Frame) × Vec Finding Global). passed (later_of one.0.now one.1.items)) (zip connections early)
       → map (λ (list : Vec Finding Global). list.items) (map chosen_of (map found_with (zip (map begun_of early) found)))
       ≡ map (λ (frames : Bor (List Frame)). passed frames.now) connections
   unfolding chosen_of
@@ -89,7 +90,8 @@ module _ (credits_shown : Bool) where
             ≡ map (λ (frames : Bor (List Frame)). passed (front_of frames.now)) xs
         later_e = cc
 
-        later_f : map (λ (list : Vec Finding Global). list.items) zs ≡ map passed (laters_of xs ys)
+        later_f : map (λ (list : Vec Finding Global). list.items) zs
+            ≡ map (λ (one : Bor (List Frame) × Vec Finding Global). passed (later_of one.0.now one.1.items)) (zip xs ys)
         later_f = cc
 
         by_test : (b : Bool) → has_stopped y.items ≡ b → (chosen_of (found_with (begun_of y, z))).items ≡ passed x.now
@@ -159,37 +161,23 @@ module _ (shows : List Frame → List Finding) (connections : List (Bor (List Fr
 
   pub shown-laters : (laters : List (Bor (List Frame))) (early : List (Vec Finding Global))
       → map (λ (later : Bor (List Frame)). later.now) laters ≡ laters_of connections early
-      → map (λ (later : Bor (List Frame)). shows later.now) laters ≡ map shows (laters_of connections early)
+      → map (λ (later : Bor (List Frame)). shows later.now) laters
+      ≡ map (λ (one : Bor (List Frame) × Vec Finding Global). shows (later_of one.0.now one.1.items)) (zip connections early)
   shown-laters laters early e =
       sym (map-map shows (λ (later : Bor (List Frame)). later.now) laters) ∙ ap (map shows) e
-
-  pub as-many-early : (fronts : List (Bor (List Frame))) (early : List (Vec Finding Global))
-      → map (λ (front : Bor (List Frame)). front.now) fronts
-      ≡ map (λ (frames : Bor (List Frame)). front_of frames.now) connections
-      → map (λ (list : Vec Finding Global). list.items) early ≡ map (λ (front : Bor (List Frame)). shows front.now) fronts
-      → length early ≡ length connections
-  as-many-early fronts early e f =
-      sym (length-map early (λ (list : Vec Finding Global). list.items)) ∙ ap length f
-      ∙ length-map fronts (λ (front : Bor (List Frame)). shows front.now)
-      ∙ sym (length-map fronts (λ (front : Bor (List Frame)). front.now)) ∙ ap length e
-      ∙ length-map connections (λ (frames : Bor (List Frame)). front_of frames.now)
+      ∙ map-map shows (λ (one : Bor (List Frame) × Vec Finding Global). later_of one.0.now one.1.items) (zip connections early)
 
 -- as many of one as of the other
+pub as-many : {A B C : Type 0} (f : A → C) (g : B → C) (xs : List A) (ys : List B) → map f xs ≡ map g ys
+    → length xs ≡ length ys
+as-many f g xs ys e = sym (length-map xs f) ∙ ap length e ∙ length-map ys g
+
 zip-long : {A B : Type 0} (xs : List A) (ys : List B) → length ys ≡ length xs → length (zip xs ys) ≡ length ys
 zip-long [] [] e = refl
 zip-long [] (y ∷ ys) e = absurd (omega (arith, e))
 zip-long (x ∷ xs) [] e = refl
 zip-long (x ∷ xs) (y ∷ ys) e = ap suc (zip-long xs ys (omega (arith, e)))
 
-pub as-many-later : (shows : List Frame → List Finding) (connections laters : List (Bor (List Frame)))
-    (early found : List (Vec Finding Global)) → length early ≡ length connections
-    → map (λ (later : Bor (List Frame)). later.now) laters ≡ laters_of connections early
-    → map (λ (list : Vec Finding Global). list.items) found ≡ map (λ (later : Bor (List Frame)). shows later.now) laters
-    → length found ≡ length early
-as-many-later shows connections laters early found long e f =
-    sym (length-map found (λ (list : Vec Finding Global). list.items)) ∙ ap length f
-    ∙ length-map laters (λ (later : Bor (List Frame)). shows later.now)
-    ∙ sym (length-map laters (λ (later : Bor (List Frame)). later.now)) ∙ ap length e
-    ∙ length-map (zip connections early)
-    (λ (one : Bor (List Frame) × Vec Finding Global). later_of one.0.now one.1.items)
-    ∙ zip-long connections early long
+pub as-many-zipped : {A B C D : Type 0} (f : A → D) (g : B × C → D) (xs : List A) (ys : List B) (zs : List C)
+    → length zs ≡ length ys → map f xs ≡ map g (zip ys zs) → length xs ≡ length zs
+as-many-zipped f g xs ys zs long e = as-many f g xs (zip ys zs) e ∙ zip-long ys zs long

@@ -16,6 +16,7 @@ pub mod Plans
 pub mod Jobs
 pub mod Clears
 pub mod Settles
+pub mod StreamJobs
 pub mod StreamOrder
 pub mod StreamWork
 pub mod StreamPlan

@@ -8,12 +8,13 @@ ghost use Rattle.stop_desk.specs.Stop.{IsStop};
 ghost use Rattle.split_merge.specs.Board.{Job};
 ghost use Rattle.job_crew.specs.Settling.{HasSettled};
 ghost use Rattle.conn_scan.specs.ConnSum.{ConnSum as ConnSumTerm};
-ghost use Rattle.conn_scan.specs.Items.{items_in};
+ghost use Rattle.conn_scan.specs.Items.{items_in, IsBlock};
+ghost use Rattle.conn_scan.specs.Block.{BlockFits};
 ghost use Rattle.job_crew.specs.declared.parts.Part.{Part as PartTerm};
 ghost use Rattle.audit_rounds.specs.declared.blocks.ConnectionBlock.{ConnectionBlock as BlockTerm};
 ghost use Rattle.audit_rounds.specs.declared.remaining.Remaining.{Remaining as RemainingTerm};
-ghost use Rattle.audit_rounds.specs.code.Blocks.{AreShort, AreSums};
-ghost use Rattle.audit_rounds.specs.code.Plans.{AreReady, AreParts, block_job};
+ghost use Rattle.audit_rounds.specs.code.Blocks.{AreShort, AreSums, wholes};
+ghost use Rattle.audit_rounds.specs.code.Plans.{AreReady, AreParts, IsPlan, block_job, shown_at};
 ghost use Rattle.audit_rounds.specs.code.Remaining.{IsRemaining};
 
 use crate::block_plans::{ReadyBlock, plan_of};
@@ -100,6 +101,28 @@ fn parts_of<R: Threads + Sync, G: Gate>(
     Ok(settled.parts)
 }
 
+/// The blocks of all connections of which anything may be shown, each with the connection before it.
+fn planned<'a, R: Threads + Sync, G: Gate>(
+    rt: &R,
+    alloc: Global,
+    division: &Division,
+    gate: &G,
+    credits_shown: bool,
+    stops: &[Option<Place>],
+    connections: &[Remaining<'a>],
+) -> Result<Vec<ReadyBlock<'a>>, AllocError>
+    requires places { All IsStop stops.now }
+    requires number { length stops.now ≡ length connections.now }
+    requires whole { All (λ (one : RemainingTerm). IsBlock one.whole) connections.now }
+    requires fits { All (BlockFits connection_start) (wholes connections.now) }
+    ensures { IfOk result (λ plan. IsPlan credits_shown (length connections.now)
+        (shown_at credits_shown 0 (wholes connections.now)) plan.items) }
+{
+    let cut = cut_into_blocks(alloc, division.block.max(1) as usize, connections)?;
+    let sums = sums_of(rt, alloc, division, gate, stops, cut.blocks.as_slice())?;
+    plan_of(alloc, credits_shown, &cut, sums.as_slice())
+}
+
 /// What was found of each connection, and what its blocks show, up to its stop.
 pub(crate) fn rounds_over_blocks<R: Threads + Sync, G: Gate>(
     rt: &R,
@@ -121,18 +144,9 @@ pub(crate) fn rounds_over_blocks<R: Threads + Sync, G: Gate>(
         (items_in (slice_index_or connections.now n remaining).whole))))) }
 {
     let stops = stops_of(alloc, connections)?;
-    let cut = cut_into_blocks(alloc, division.block.max(1) as usize, connections)?;
     let stops = stops.as_slice();
-    let sums = sums_of(rt, alloc, division, gate, stops, cut.blocks.as_slice())?;
-    let plan = plan_of(alloc, credits_shown, &cut, sums.as_slice())?;
-    let parts = parts_of(
-        rt,
-        alloc,
-        division,
-        gate,
-        credits_shown,
-        stops,
-        plan.as_slice(),
-    )?;
+    let plan = planned(rt, alloc, division, gate, credits_shown, stops, connections)?;
+    let plan = plan.as_slice();
+    let parts = parts_of(rt, alloc, division, gate, credits_shown, stops, plan)?;
     gathered(found, parts)
 }

@@ -8,7 +8,7 @@ ghost use Rattle.audit_terms.specs.Finding.{in_order, upto_stop, shown};
 ghost use Rattle.audit_terms.specs.Pass.{pass};
 ghost use Rattle.audit_rounds.specs.Settling.{frames_within};
 ghost use Rattle.audit_rounds.specs.code.MadeReady.{AreMadeReady};
-ghost use Rattle.audit_rounds.specs.code.Prepared.{IsPrepared};
+ghost use Rattle.audit_rounds.specs.code.Prepared.{IsPrepared, found_before};
 ghost use Rattle.audit_rounds.specs.code.Connections.{front_of, IsRest, AreRests};
 
 use crate::block_rounds::rounds_over_blocks;
@@ -49,9 +49,29 @@ pub(crate) fn findings_of_batch<R: Threads + Sync, G: Gate>(
 {
     let (prepared, found) = prepare_each(rt, alloc, division.workers, connections)?;
     let prepared = prepared.as_slice();
-    let streams = round_over_streams(rt, alloc, division, gate, credits_shown, prepared, found)?;
+    findings_of_prepared(rt, alloc, division, gate, credits_shown, prepared, found)
+}
+
+/// What is shown of each connection, of which this was found before the rounds.
+fn findings_of_prepared<R: Threads + Sync, G: Gate>(
+    rt: &R,
+    alloc: Global,
+    division: &Division,
+    gate: &G,
+    credits_shown: bool,
+    connections: &[Prepared<'_>],
+    found: Vec<Vec<Finding>>,
+) -> Result<Vec<Vec<Finding>>, AllocError>
+    requires workers { 0 < division.now.workers }
+    requires groups { 0 < division.now.groups }
+    requires prepared { All IsPrepared connections.now }
+    requires found { map (λ one. one.items) found.items ≡ map found_before connections.now }
+    ensures { IfOk result (λ found. map (λ one. one.items) found.items
+        ≡ map (λ one. shown credits_shown (pass one.frames.now)) connections.now) }
+{
+    let streams = round_over_streams(rt, alloc, division, gate, credits_shown, connections, found)?;
     let (found, fronts) = apart(alloc, streams)?;
-    let rests = rest_of_each(alloc, prepared, fronts.as_slice())?;
+    let rests = rest_of_each(alloc, connections, fronts.as_slice())?;
     let rests = rests.as_slice();
     let last = rounds_over_blocks(rt, alloc, division, gate, credits_shown, rests, found)?;
     settled(alloc, last)

@@ -156,6 +156,65 @@ fn chosen(alloc: Global, found: Vec<Found>) -> Result<Vec<Vec<Finding>>, AllocEr
     Ok(all)
 }
 
+/// That of each connection, from what was found of its front, and later.
+fn chosen_of_each(
+    alloc: Global,
+    early: Vec<Vec<Finding>>,
+    later: Vec<Vec<Finding>>,
+) -> Result<Vec<Vec<Finding>>, AllocError>
+    requires { length later.items ≡ length early.items }
+    ensures { IfOk result (λ all. all.items
+        ≡ map chosen_of (map found_with (zip (map begun_of early.items) later.items))) }
+{
+    let begun = begun_each(alloc, early)?;
+    chosen(alloc, together(alloc, begun, later)?)
+}
+
+/// Is a front gone through first of one of these connections?
+fn is_one_long(connections: &[&[Frame]]) -> bool {
+    connections.iter().any(|frames| frames.len() >= LONG)
+}
+
+/// What is shown of the front of each connection.
+fn findings_of_fronts<R: Threads + Sync, G: Gate>(
+    rt: &R,
+    alloc: Global,
+    division: &Division,
+    gate: &G,
+    credits_shown: bool,
+    connections: &[&[Frame]],
+) -> Result<Vec<Vec<Finding>>, AllocError>
+    requires workers { 0 < division.now.workers }
+    requires groups { 0 < division.now.groups }
+    requires frames { All (λ frames. IsOrderly frames.now) connections.now }
+    ensures { IfOk result (λ found. map (λ one. one.items) found.items
+        ≡ map (λ frames. shown credits_shown (pass (front_of frames.now))) connections.now) }
+{
+    let fronts = fronts_of(alloc, connections)?;
+    findings_of_batch(rt, alloc, division, gate, credits_shown, fronts.as_slice())
+}
+
+/// What is shown of the frames that are gone through later.
+fn findings_of_laters<R: Threads + Sync, G: Gate>(
+    rt: &R,
+    alloc: Global,
+    division: &Division,
+    gate: &G,
+    credits_shown: bool,
+    connections: &[&[Frame]],
+    early: &[Vec<Finding>],
+) -> Result<Vec<Vec<Finding>>, AllocError>
+    requires workers { 0 < division.now.workers }
+    requires groups { 0 < division.now.groups }
+    requires frames { All (λ frames. IsOrderly frames.now) connections.now }
+    requires early { length early.now ≡ length connections.now }
+    ensures { IfOk result (λ found. map (λ one. one.items) found.items
+        ≡ map (λ one. shown credits_shown (pass (later_of one.0.now one.1.items))) (zip connections.now early.now)) }
+{
+    let laters = laters_of(alloc, connections, early)?;
+    findings_of_batch(rt, alloc, division, gate, credits_shown, laters.as_slice())
+}
+
 /// What is shown of each connection of a batch. Where one is long, fronts are gone through first.
 pub(crate) fn findings_by_fronts<R: Threads + Sync, G: Gate>(
     rt: &R,
@@ -171,15 +230,11 @@ pub(crate) fn findings_by_fronts<R: Threads + Sync, G: Gate>(
     ensures { IfOk result (λ found. map (λ one. one.items) found.items
         ≡ map (λ frames. shown credits_shown (pass frames.now)) connections.now) }
 {
-    if !connections.iter().any(|frames| frames.len() >= LONG) {
+    if !is_one_long(connections) {
         return findings_of_batch(rt, alloc, division, gate, credits_shown, connections);
     }
-    let fronts = fronts_of(alloc, connections)?;
-    let fronts = fronts.as_slice();
-    let early = findings_of_batch(rt, alloc, division, gate, credits_shown, fronts)?;
-    let laters = laters_of(alloc, connections, early.as_slice())?;
-    let laters = laters.as_slice();
-    let found = findings_of_batch(rt, alloc, division, gate, credits_shown, laters)?;
-    let begun = begun_each(alloc, early)?;
-    chosen(alloc, together(alloc, begun, found)?)
+    let early = findings_of_fronts(rt, alloc, division, gate, credits_shown, connections)?;
+    let found = early.as_slice();
+    let later = findings_of_laters(rt, alloc, division, gate, credits_shown, connections, found)?;
+    chosen_of_each(alloc, early, later)
 }

@@ -4,7 +4,7 @@ ghost use Rattle.std.specs.Prelude.{◌≡◌, ◌<◌, All, IfOk, length, map};
 ghost use Rattle.stop_desk.specs.Stop.{IsStop};
 ghost use Rattle.audit_rounds.specs.code.Prepared.{IsPrepared, found_before};
 ghost use Rattle.audit_rounds.specs.code.StreamJobs.{IsReady};
-ghost use Rattle.audit_rounds.specs.code.AfterStreams.{AreAfterStreams, HaveSettled, after_with, afters_of};
+ghost use Rattle.audit_rounds.specs.code.AfterStreams.{AreAfterStreams, HaveSettled, HaveSettledOver, after_with, afters_of};
 
 use crate::beginnings::{changes_each, opening_stops, streams_each};
 use crate::divisions::Division;
@@ -97,6 +97,31 @@ fn together(
         .collect(alloc)
 }
 
+/// What is found of the streams of connections that are ready, of each of which this was found before.
+fn settled_over<R: Threads + Sync, G: Gate>(
+    rt: &R,
+    alloc: Global,
+    division: &Division,
+    gate: &G,
+    credits_shown: bool,
+    connections: &[Prepared<'_>],
+    found: &[Vec<Finding>],
+) -> Result<Settled<Vec<u32>>, AllocError>
+    requires workers { 0 < division.now.workers }
+    requires groups { 0 < division.now.groups }
+    requires prepared { All IsPrepared connections.now }
+    requires found { map (λ one. one.items) found.now ≡ map found_before connections.now }
+    ensures { IfOk result (λ settled. HaveSettledOver credits_shown division.now.groups connections.now found.now
+        settled) }
+{
+    let stops = opening_stops(alloc, found)?;
+    let changes = changes_each(alloc, connections)?;
+    let streams = streams_each(alloc, connections, changes.as_slice())?;
+    let stops = stops.as_slice();
+    let streams = streams.as_slice();
+    settled_streams(rt, alloc, division, gate, credits_shown, stops, streams)
+}
+
 /// Goes through the streams of all connections, of each of which this was found before.
 pub(crate) fn round_over_streams<R: Threads + Sync, G: Gate>(
     rt: &R,
@@ -113,17 +138,15 @@ pub(crate) fn round_over_streams<R: Threads + Sync, G: Gate>(
     requires found { map (λ one. one.items) found.items ≡ map found_before connections.now }
     ensures { IfOk result (λ all. AreAfterStreams credits_shown connections.now all.items) }
 {
-    let stops = opening_stops(alloc, found.as_slice())?;
-    let changes = changes_each(alloc, connections)?;
-    let streams = streams_each(alloc, connections, changes.as_slice())?;
-    let settled = settled_streams(
+    let before = found.as_slice();
+    let settled = settled_over(
         rt,
         alloc,
         division,
         gate,
         credits_shown,
-        stops.as_slice(),
-        streams.as_slice(),
+        connections,
+        before,
     )?;
     let opened = opened_each(alloc, connections.len(), settled.parts.as_slice())?;
     let found = gathered(found, settled.parts)?;

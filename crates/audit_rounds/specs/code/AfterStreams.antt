@@ -1,7 +1,7 @@
 -- What the round over streams leaves of each connection.
 use Rattle.std.specs.Global.{Global}
 use Rattle.std.specs.Prelude.{◌≡◌, ℕ, ◌<◌, Bool, List, Option, Vec, length, map, slice_index_or}
-use Rattle.std.specs.List.{All, zip}
+use Rattle.std.specs.List.{All, AllZip, zip}
 use Rattle.audit_terms.specs.declared.findings.Finding.{Finding}
 use Rattle.stop_desk.specs.Stop.{IsStop}
 use Rattle.job_crew.specs.declared.settling.Settled.{Settled}
@@ -10,6 +10,7 @@ use Rattle.audit_rounds.specs.declared.prepared.Prepared.{Prepared}
 use Rattle.audit_rounds.specs.declared.stream_round.AfterStreams.{AfterStreams}
 use Rattle.audit_rounds.specs.declared.streams.Streams.{Streams}
 use Rattle.audit_rounds.specs.Settling.{IsAfterStreams}
+use Rattle.audit_rounds.specs.code.StreamRound.{IsFirstStop, IsStreamsOf}
 use Rattle.audit_rounds.specs.code.StreamJobs.{Makes, job_of, plan_from}
 
 -- one for each connection
@@ -27,6 +28,15 @@ HaveSettled credits_shown groups connections opening settled =
     let plan = plan_from groups 0 connections in
     HasSettled (λ (job : ℕ) (upto : Option ℕ) (made : Vec ℕ Global). Makes connections plan job upto made.items)
     (map (job_of credits_shown connections) plan) opening settled
+
+-- the round over the streams of connections that are ready, of each of which this was found before, is settled
+pub record HaveSettledOver (credits_shown : Bool) (groups : ℕ) (connections : List Prepared)
+    (found : List (Vec Finding Global)) (settled : Settled (Vec ℕ Global)) : Type 0 where
+  pub streams : List Streams
+  pub opening : List (Option ℕ)
+  pub of : AllZip IsStreamsOf connections streams
+  pub first : AllZip (λ (one : Vec Finding Global) (stop : Option ℕ). IsFirstStop one.items stop) found opening
+  pub done : HaveSettled credits_shown groups streams opening settled
 
 -- what was found of a connection, with its openings and its stop
 abbrev pub after_with : (Vec Finding Global × Vec ℕ Global) × Option ℕ → AfterStreams

@@ -1,32 +1,21 @@
 use Rattle.std.proofs.Common.{All, map, sym, ap, ◌∙◌, subst}
 use Rattle.audit_rounds.specs.declared.prepared.Prepared.{Prepared}
-use Rattle.audit_rounds.specs.code.Connections.{AreRests}
-use Rattle.audit_rounds.specs.code.Prepared.{IsPrepared}
-use Rattle.audit_rounds.proofs.Fronts.{each-remains, all-settle, passes-same}
+use Rattle.audit_rounds.specs.code.Prepared.{IsPrepared, found_before}
+use Rattle.audit_rounds.proofs.Fronts.{passes-same}
 use Rattle.audit_rounds.proofs.Whole.{if_ok-then}
 use Rattle.audit_rounds.proofs.connections.findings_of_batch.Goals as goal
 
-pub rounds_over_blocks-requires-clause-each : goal.rounds_over_blocks-requires-clause-each
-rounds_over_blocks-requires-clause-each g c κs within =
-    let connections = c.as_slice-prepared.result.now in
-    let fronts = c.as_slice.result.now in
-    each-remains c.args.credits_shown connections c.in_ok-streams.streams.items c.in_ok-found.found.items fronts
-    c.as_slice-rests.result.now
-    (subst (All IsPrepared) (sym c.as_slice-prepared.ensures.value) c.in_ok-prepared.ensures.prepared)
-    c.in_ok-streams.ensures c.in_ok-found.ensures.found (c.as_slice.ensures.value ∙ c.in_ok-found.ensures.fronts)
-    (subst (AreRests connections fronts) (sym c.as_slice-rests.ensures.value) c.in_ok-rests.ensures)
+pub findings_of_prepared-requires-clause-prepared : goal.findings_of_prepared-requires-clause-prepared
+findings_of_prepared-requires-clause-prepared g c κs within =
+    subst (All IsPrepared) (sym c.as_slice-prepared.ensures.value) c.in_ok-prepared.ensures.prepared
+
+pub findings_of_prepared-requires-clause-found : goal.findings_of_prepared-requires-clause-found
+findings_of_prepared-requires-clause-found g c κs within =
+    c.in_ok-prepared.ensures.before ∙ ap (map found_before) (sym c.as_slice-prepared.ensures.value)
 
 pub returns : goal.returns
 returns g c =
-    let connections = c.as_slice-prepared.result.now in
-    let fronts = c.as_slice.result.now in
-    if_ok-then c.settled.result _ _ c.settled.ensures (λ found is.
+    if_ok-then c.findings_of_prepared.result _ _ c.findings_of_prepared.ensures (λ found is.
     is
-    ∙ all-settle c.args.credits_shown connections c.in_ok-streams.streams.items c.in_ok-found.found.items fronts
-    c.as_slice-rests.result.now
-    (subst (All IsPrepared) (sym c.as_slice-prepared.ensures.value) c.in_ok-prepared.ensures.prepared)
-    c.in_ok-streams.ensures c.in_ok-found.ensures.found (c.as_slice.ensures.value ∙ c.in_ok-found.ensures.fronts)
-    (subst (AreRests connections fronts) (sym c.as_slice-rests.ensures.value) c.in_ok-rests.ensures)
-    c.in_ok-last.last.items c.in_ok-last.ensures.number c.in_ok-last.ensures.findings
-    ∙ passes-same c.args.credits_shown connections c.args.connections.now
+    ∙ passes-same c.args.credits_shown c.as_slice-prepared.result.now c.args.connections.now
     (ap (map (λ (one : Prepared). one.frames.now)) c.as_slice-prepared.ensures.value ∙ c.in_ok-prepared.ensures.frames))

@@ -1,4 +1,5 @@
-use Rattle.std.proofs.Common.{◌≡◌, ℕ, ◌+◌, ◌-◌, ◌*◌, ◌/◌, ◌≤◌, ◌++◌, ap, sym, arith}
+use Rattle.std.proofs.Common.{◌≡◌, ℕ, ◌+◌, ◌-◌, ◌*◌, ◌/◌, ◌≤◌, [], ◌++◌, ap, sym, ◌∙◌, subst, arith}
+use Rattle.std.specs.Prelude.{IfOk}
 use Rattle.std.proofs.lemmas.Result.{IfOk-at_ok, IfOk-weaker}
 use Rattle.stop_desk.specs.Desk.{pass_of}
 use Rattle.job_crew.specs.code.Worked.{IsAllWorked}
@@ -11,6 +12,25 @@ both-groups half workers each le =
     let all : workers ≡ half + (workers - half) = omega arith in
     let whole = ap (λ n. n * each) all in
     omega arith
+
+-- one worker is all workers
+one-worker : (workers each : ℕ) → workers ≡ 1 → each ≡ workers * each
+one-worker workers each is = rw is (omega arith)
+
+pub work-requires-after_bounds : goal.work-requires-after_bounds
+work-requires-after_bounds g t c κs within =
+    let desk = c.args.shift.now.desk.now in
+    c.requires.fresh
+    ∙ ap (λ n. pass_of desk.id n [] [] []) (sym (one-worker c.args.workers (desk.jobs + 1) c.if-workers-eq1.true))
+
+pub returns-then-workers-eq1 : goal.returns-then-workers-eq1
+returns-then-workers-eq1 g t c =
+    let shift = c.args.shift.now in
+    let makes = g.P.Round.makes shift.plan.now in
+    let jobs = g.P.Round.jobs shift.plan.now in
+    let desk = shift.desk.now in
+    subst (λ n. IfOk c.work.result (λ r. IsAllWorked makes jobs desk.id shift.round n r.0.items r.1))
+    (one-worker c.args.workers (desk.jobs + 1) c.if-workers-eq1.true) c.work.ensures
 
 pub together-requires-clause-mine : goal.together-requires-clause-mine
 together-requires-clause-mine g t c =

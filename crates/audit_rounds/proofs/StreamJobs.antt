@@ -1,0 +1,63 @@
+-- What a job of the round over streams has to find and to tell.
+use Rattle.std.proofs.Common.{◌≡◌, ℕ, ◌-◌, ◌<◌, Bool, List, [], take, drop, length, map, get_or, All, Option, Some, slice_get, sym, ap, ◌∙◌, subst}
+use Rattle.std.proofs.lemmas.Option.{slice_get-get_or, get_or_from_slice_get}
+use Rattle.std.proofs.lemmas.List.Elements.{All-take, All-drop}
+use Rattle.std.specs.Option.{option_map_or}
+use Rattle.audit_terms.specs.declared.findings.Finding.{Finding}
+use Rattle.split_merge.specs.declared.splits.StreamRow.{StreamRow}
+use Rattle.split_merge.specs.Board.{Job, IsCut}
+use Rattle.audit_rounds.specs.declared.streams.Streams.{Streams}
+use Rattle.audit_rounds.specs.declared.stream_plan.StreamJob.{StreamJob}
+use Rattle.audit_rounds.specs.code.Streams.{IsRow, AreOpenedUpTo, rows_shown, rows_opened}
+use Rattle.audit_rounds.specs.code.StreamJobs.{IsReady, Makes, job_of, of_rows}
+use Rattle.audit_rounds.proofs.Jobs.{job-is}
+
+-- the rows of a job
+abbrev pub rows_in : StreamJob → List StreamRow → List StreamRow
+rows_in job rows = take (job.to - job.from) (drop job.from rows)
+
+module _ (connections : List Streams) (plan : List StreamJob) (number : ℕ) (d : StreamJob) (streams : Streams)
+    (rows : List StreamRow)
+    (within : (get_or plan number d).connection < length connections)
+    (same : rows ≡ (get_or connections (get_or plan number d).connection streams).split.now.rows.items) where
+  of-rows : {X : Type 0} (said : Streams → List StreamRow → List X)
+      → said (get_or connections (get_or plan number d).connection streams) (rows_in (get_or plan number d) rows)
+      ≡ of_rows said connections (get_or plan number d)
+  of-rows said =
+      let job = get_or plan number d in
+      let mine = get_or connections job.connection streams in
+      ap (λ (rows : List StreamRow). said mine (rows_in job rows)) same
+      ∙ ap (λ (one : Option Streams). option_map_or (λ (streams : Streams). said streams
+      (rows_in job streams.split.now.rows.items)) one [])
+      (sym (slice_get-get_or connections job.connection streams within))
+
+  -- what a run of the rows kept is a cut of the job
+  pub job-cut : (credits_shown : Bool) (one : Job) (upto : Option ℕ) (kept : List Finding)
+      → slice_get (map (job_of credits_shown connections) plan) number ≡ Some one
+      → IsCut (rows_shown credits_shown (get_or connections (get_or plan number d).connection streams)
+      (rows_in (get_or plan number d) rows)) upto kept
+      → IsCut one.findings upto kept
+  job-cut credits_shown one upto kept is cut =
+      subst (λ (whole : List Finding). IsCut whole upto kept)
+      (of-rows (rows_shown credits_shown)
+      ∙ sym (ap (λ (job : Job). job.findings) (job-is (job_of credits_shown connections) plan number one d is))) cut
+
+  -- the openings that it tells are the job's
+  pub job-makes : (upto : Option ℕ) (made : List ℕ)
+      → AreOpenedUpTo upto made (rows_opened (get_or connections (get_or plan number d).connection streams)
+      (rows_in (get_or plan number d) rows))
+      → Makes connections plan number upto made
+  job-makes upto made opens job is =
+      subst (AreOpenedUpTo upto made)
+      (of-rows rows_opened
+      ∙ ap (of_rows rows_opened connections) (get_or_from_slice_get plan number job d is)) opens
+
+  -- its rows may be gone through
+  pub job-rows : All IsReady connections
+      → All (IsRow (get_or connections (get_or plan number d).connection streams)) (rows_in (get_or plan number d) rows)
+  job-rows ready =
+      let job = get_or plan number d in
+      let mine = get_or connections job.connection streams in
+      All-take (IsRow mine) (job.to - job.from) (drop job.from rows)
+      (All-drop (IsRow mine) job.from rows
+      (subst (All (IsRow mine)) (sym same) (ready job.connection streams within).rows))

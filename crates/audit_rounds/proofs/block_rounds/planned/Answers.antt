@@ -1,0 +1,33 @@
+use Rattle.std.proofs.Common.{◌≡◌, ◌<◌, List, length, All, sym, ◌∙◌, subst}
+use Rattle.std.proofs.lemmas.List.{length-map}
+use Rattle.conn_scan.specs.Block.{BlockFits}
+use Rattle.audit_terms.specs.Connection.{connection_start}
+use Rattle.audit_rounds.specs.declared.blocks.ConnectionBlock.{ConnectionBlock}
+use Rattle.audit_rounds.specs.declared.remaining.Remaining.{Remaining}
+use Rattle.audit_rounds.specs.code.Blocks.{wholes}
+use Rattle.audit_rounds.specs.code.Plans.{IsPlan, shown_at}
+use Rattle.audit_rounds.proofs.Layouts.{cut-within}
+use Rattle.audit_rounds.proofs.Whole.{if_ok-then}
+use Rattle.audit_rounds.proofs.block_rounds.planned.Goals as goal
+
+pub sums_of-requires-clause-within : goal.sums_of-requires-clause-within
+sums_of-requires-clause-within g c κs inside =
+    let connections = c.args.connections.now in
+    let stops = c.args.stops.now in
+    let as_many : length (wholes connections) ≡ length connections = length-map connections _ in
+    subst (λ (blocks : List ConnectionBlock). All (λ (one : ConnectionBlock). one.connection < length stops) blocks)
+    (sym c.as_slice.ensures.value)
+    (cut-within (wholes connections) c.in_ok-cut.cut.counts.items c.in_ok-cut.cut.blocks.items (length stops)
+    c.in_ok-cut.ensures.cut (as_many ∙ sym c.requires.number))
+
+pub plan_of-requires-clause-fits : goal.plan_of-requires-clause-fits
+plan_of-requires-clause-fits g c =
+    subst (λ (of : List Remaining). All (BlockFits connection_start) (wholes of)) (sym c.in_ok-cut.ensures.of)
+    c.requires.fits
+
+pub returns : goal.returns
+returns g c =
+    let shows = c.args.credits_shown in
+    if_ok-then c.plan_of.result _ _ c.plan_of.ensures (λ plan is.
+    subst (λ (of : List Remaining). IsPlan shows (length of) (shown_at shows 0 (wholes of)) plan.items)
+    c.in_ok-cut.ensures.of is)

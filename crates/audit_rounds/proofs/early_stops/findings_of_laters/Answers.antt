@@ -1,0 +1,20 @@
+use Rattle.std.proofs.Common.{List, Bor, map, ap, ◌∙◌}
+use Rattle.audit_terms.specs.declared.frames.Frame.{Frame}
+use Rattle.audit_terms.specs.Finding.{shown}
+use Rattle.audit_terms.specs.Pass.{pass}
+use Rattle.audit_rounds.proofs.ByFronts.{orderly-laters, shown-laters}
+use Rattle.audit_rounds.proofs.Whole.{if_ok-then}
+use Rattle.audit_rounds.proofs.early_stops.findings_of_laters.Goals as goal
+
+pub findings_of_batch-requires-clause-frames : goal.findings_of_batch-requires-clause-frames
+findings_of_batch-requires-clause-frames g c κs within =
+    orderly-laters c.args.connections.now c.as_slice.result.now c.args.early.now
+    (ap (map (λ (later : Bor (List Frame)). later.now)) c.as_slice.ensures.value ∙ c.in_ok-laters.ensures)
+    c.requires.frames
+
+pub returns : goal.returns
+returns g c =
+    if_ok-then c.findings_of_batch.result _ _ c.findings_of_batch.ensures (λ found is.
+    is ∙ shown-laters (λ (frames : List Frame). shown c.args.credits_shown (pass frames)) c.args.connections.now
+    c.as_slice.result.now c.args.early.now
+    (ap (map (λ (later : Bor (List Frame)). later.now)) c.as_slice.ensures.value ∙ c.in_ok-laters.ensures))

@@ -1,0 +1,49 @@
+use Rattle.std.proofs.Common.{length, All, Option, ℕ, List, sym, ap, ◌∙◌, subst, Vec, Global}
+use Rattle.std.proofs.lemmas.Slice.Zip.{AllZip-long}
+use Rattle.audit_terms.specs.declared.findings.Finding.{Finding}
+use Rattle.stop_desk.specs.Stop.{IsStop}
+use Rattle.audit_rounds.specs.declared.streams.Streams.{Streams}
+use Rattle.audit_rounds.specs.code.AfterStreams.{HaveSettled}
+use Rattle.audit_rounds.specs.code.StreamJobs.{IsReady}
+use Rattle.audit_rounds.specs.code.StreamRound.{IsStreamsOf, IsFirstStop}
+use Rattle.audit_rounds.proofs.StreamRounds.{ready-each, stops-are-places}
+use Rattle.audit_rounds.proofs.StreamsLeft.{as-many}
+use Rattle.audit_rounds.proofs.Whole.{if_ok-then}
+use Rattle.audit_rounds.proofs.stream_round.settled_over.Goals as goal
+
+pub settled_streams-requires-clause-places : goal.settled_streams-requires-clause-places
+settled_streams-requires-clause-places g c κs within =
+    subst (All IsStop) (sym c.as_slice-stops.ensures.value)
+    (stops-are-places c.args.connections.now c.args.found.now c.in_ok-stops.stops.items c.requires.prepared
+    c.requires.found c.in_ok-stops.ensures)
+
+pub settled_streams-requires-clause-number : goal.settled_streams-requires-clause-number
+settled_streams-requires-clause-number g c κs within =
+    ap length c.as_slice-stops.ensures.value
+    ∙ AllZip-long (λ (one : Vec Finding Global) (stop : Option ℕ). IsFirstStop one.items stop) c.args.found.now
+    c.in_ok-stops.stops.items c.in_ok-stops.ensures
+    ∙ as-many c.args.connections.now c.args.found.now c.requires.found
+    ∙ sym (AllZip-long IsStreamsOf c.args.connections.now c.in_ok-streams.streams.items c.in_ok-streams.ensures)
+    ∙ sym (ap length c.as_slice-streams.ensures.value)
+
+pub settled_streams-requires-clause-ready : goal.settled_streams-requires-clause-ready
+settled_streams-requires-clause-ready g c κs within =
+    subst (All IsReady) (sym c.as_slice-streams.ensures.value)
+    (ready-each c.args.connections.now c.in_ok-streams.streams.items c.requires.prepared c.in_ok-streams.ensures)
+
+pub returns : goal.returns
+returns g c =
+    let shows = c.args.credits_shown in
+    let count = c.args.division.now.groups in
+    let stops = c.in_ok-stops.stops.items in
+    let streams = c.in_ok-streams.streams.items in
+    if_ok-then c.settled_streams.result _ _ c.settled_streams.ensures (λ settled done. record {
+      streams = streams;
+      opening = stops;
+      of = c.in_ok-streams.ensures;
+      first = c.in_ok-stops.ensures;
+      done = subst (λ (stops : List (Option ℕ)). HaveSettled shows count streams stops settled)
+          c.as_slice-stops.ensures.value
+          (subst (λ (streams : List Streams). HaveSettled shows count streams c.as_slice-stops.result.now settled)
+          c.as_slice-streams.ensures.value done);
+    })
