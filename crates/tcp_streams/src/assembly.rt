@@ -15,6 +15,7 @@ use crate::pieces::pieces_of;
 use crate::streams::Flow;
 use audit_terms::Side;
 use packet_heads::Packet;
+use pcap_records::Capture;
 use std::alloc::{AllocError, Global};
 
 /// The bytes that one side of a connection sent, as far as the capture shows them from the first one on
@@ -30,7 +31,7 @@ use std::alloc::{AllocError, Global};
 /// [`connections`]: crate::connections
 pub fn assemble<'a>(
     alloc: Global,
-    capture: &'a [u8],
+    capture: &Capture<'a>,
     packets: &[Packet],
     connection: &Connection,
     side: Side,
@@ -78,7 +79,7 @@ pub fn assemble<'a>(
 /// The flow of a side whose segments may come in any order, overlap and leave holes.
 fn flow_in_any_order<'a>(
     alloc: Global,
-    capture: &'a [u8],
+    capture: &Capture<'a>,
     packets: &[Packet],
     connection: &Connection,
     side: Side,
