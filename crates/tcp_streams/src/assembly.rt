@@ -14,7 +14,7 @@ use crate::overlay::settle;
 use crate::pieces::pieces_of;
 use crate::streams::Flow;
 use audit_terms::Side;
-use packet_heads::Packet;
+use packet_heads::Packets;
 use pcap_records::Capture;
 use std::alloc::{AllocError, Global};
 
@@ -32,7 +32,7 @@ use std::alloc::{AllocError, Global};
 pub fn assemble<'a>(
     alloc: Global,
     capture: &Capture<'a>,
-    packets: &[Packet],
+    packets: &Packets<'_>,
     connection: &Connection,
     side: Side,
 ) -> Result<Flow<'a>, AllocError>
@@ -80,7 +80,7 @@ pub fn assemble<'a>(
 fn flow_in_any_order<'a>(
     alloc: Global,
     capture: &Capture<'a>,
-    packets: &[Packet],
+    packets: &Packets<'_>,
     connection: &Connection,
     side: Side,
     initial_number: u32,

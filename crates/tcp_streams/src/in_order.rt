@@ -14,7 +14,7 @@ use crate::members::Connection;
 use crate::pieces::piece_of_member;
 use crate::streams::{Arrival, Flow};
 use audit_terms::Side;
-use packet_heads::Packet;
+use packet_heads::Packets;
 use pcap_records::Capture;
 use std::alloc::{AllocError, Global};
 
@@ -50,7 +50,7 @@ impl<'a> Laid<'a> {
 pub fn flow_in_order<'a>(
     alloc: Global,
     capture: &Capture<'a>,
-    packets: &[Packet],
+    packets: &Packets<'_>,
     connection: &Connection,
     side: Side,
     initial_number: u32,
