@@ -65,7 +65,7 @@ const FILES: [&str; 8] = [
 fn print_calls(rt: &(impl AllocGlobal + Print + Sync + Threads)) -> io::Result<()> {
     let alloc = rt.alloc();
     print_answers(rt, &captures::answers(alloc))?;
-    print_answers(rt, &flows::answers(alloc))?;
+    print_answers(rt, &flows::answers(rt, alloc))?;
     print_answers(rt, &passes::answers(alloc))?;
     print_answers(rt, &looks::answers(alloc))?;
     print_answers(rt, &scans::answers(rt, alloc))?;

@@ -9,7 +9,8 @@ use audit_report::Extent;
 use audit_terms::{Look, Side, Sides};
 use h2_frames::{Cut, cut};
 use job_crew::{Round, Work};
-use packet_heads::Packet;
+use packet_heads::Packets;
+use pcap_records::Capture;
 use std::alloc::{AllocError, Global};
 use std::marker::Model;
 use std::thread::{Threads, join};
@@ -28,8 +29,8 @@ pub(crate) struct FlowRound<'a, R: Threads + Sync> {
     pub(crate) rt: &'a R,
     /// Are the flows of a connection made on two threads?
     pub(crate) by_two: bool,
-    pub(crate) capture: &'a [u8],
-    pub(crate) packets: &'a [Packet],
+    pub(crate) capture: &'a Capture<'a>,
+    pub(crate) packets: &'a Packets<'a>,
     pub(crate) opened: &'a [Connection],
 }
 
@@ -96,8 +97,8 @@ fn cut_connection<R: Threads>(
     rt: &R,
     alloc: Global,
     by_two: bool,
-    capture: &[u8],
-    packets: &[Packet],
+    capture: &Capture<'_>,
+    packets: &Packets<'_>,
     connection: &Connection,
 ) -> Result<ConnectionCut, AllocError>
     requires { AreSources capture.now packets.now connection.now }
@@ -117,8 +118,8 @@ fn flows_of<'a, R: Threads>(
     rt: &R,
     alloc: Global,
     by_two: bool,
-    capture: &'a [u8],
-    packets: &[Packet],
+    capture: &Capture<'a>,
+    packets: &Packets<'_>,
     connection: &Connection,
 ) -> Result<(Flow<'a>, Flow<'a>), AllocError>
     requires { AreSources capture.now packets.now connection.now }
@@ -134,8 +135,8 @@ fn flows_of<'a, R: Threads>(
 /// The flows of both sides, made one after the other.
 fn flows_in_turn<'a>(
     alloc: Global,
-    capture: &'a [u8],
-    packets: &[Packet],
+    capture: &Capture<'a>,
+    packets: &Packets<'_>,
     connection: &Connection,
 ) -> Result<(Flow<'a>, Flow<'a>), AllocError>
     requires { AreSources capture.now packets.now connection.now }
@@ -150,8 +151,8 @@ fn flows_in_turn<'a>(
 fn flows_by_two<'a, R: Threads>(
     rt: &R,
     alloc: Global,
-    capture: &'a [u8],
-    packets: &[Packet],
+    capture: &Capture<'a>,
+    packets: &Packets<'_>,
     connection: &Connection,
 ) -> Result<(Flow<'a>, Flow<'a>), AllocError>
     requires { AreSources capture.now packets.now connection.now }
@@ -176,8 +177,8 @@ fn flows_by_two<'a, R: Threads>(
 /// The flow of one side.
 fn flow_of<'a>(
     alloc: Global,
-    capture: &'a [u8],
-    packets: &[Packet],
+    capture: &Capture<'a>,
+    packets: &Packets<'_>,
     connection: &Connection,
     side: Side,
 ) -> Result<Flow<'a>, AllocError>

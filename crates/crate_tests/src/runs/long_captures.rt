@@ -9,14 +9,14 @@ use std::alloc::{AllocError, Global};
 use std::thread::Threads;
 use test_captures::{Capture, data, headers, window_update};
 
-/// A stream of 5,000 DATA frames of 400 bytes, each granted back to the connection at once.
+/// A stream of 5,000 DATA frames of 800 bytes, each granted back to the connection at once.
 fn busy_stream(alloc: Global) -> Result<Capture, AllocError> {
     let mut capture = Capture::opened(alloc)?;
     capture.client(headers(1))?;
-    capture.server(window_update(1, 2_000_000))?;
+    capture.server(window_update(1, 4_000_000))?;
     for _ in 0..5000 {
-        capture.client(data(1, 400))?;
-        capture.server(window_update(0, 400))?;
+        capture.client(data(1, 800))?;
+        capture.server(window_update(0, 800))?;
     }
     Ok(capture)
 }
@@ -28,7 +28,7 @@ fn push_round(text: &mut String, frame: u64, left: u64) -> Result<(), AllocError
     let (next, sent, granted) = (frame + 1, frame + 2, frame + 3);
     write!(
         text,
-        "frame {frame} record {sent} time {sent}000 client connection-credit stream 0 value 65135
+        "frame {frame} record {sent} time {sent}000 client connection-credit stream 0 value 64735
 frame {frame} record {sent} time {sent}000 client stream-credit stream 1 value {left}
 frame {next} record {granted} time {granted}000 client connection-credit stream 0 value 65535
 "
@@ -42,26 +42,26 @@ fn busy_report(alloc: Global) -> Result<String, AllocError> {
         "status 0
 capture records 10008 segments 10008 snapped 0 not-ipv4 0 fragments 0 not-tcp 0 refused 0
 connection 1 client 10.0.0.1:40000 server 10.0.0.2:80 record 1 http2 frames 10006
-flow client bytes 2045051 gap none tail 0
+flow client bytes 4045051 gap none tail 0
 flow server bytes 65031 gap none tail 0
 frame 5 record 7 time 7000 client stream-credit stream 1 value 65535
 frame 5 record 7 time 7000 server stream-credit stream 1 value 65535
-frame 6 record 8 time 8000 client stream-credit stream 1 value 2065535
+frame 6 record 8 time 8000 client stream-credit stream 1 value 4065535
 ",
     )?;
     for i in 0..5000u64 {
-        push_round(&mut text, 7 + 2 * i, 2_065_135 - 400 * i)?;
+        push_round(&mut text, 7 + 2 * i, 4_064_735 - 800 * i)?;
     }
     text.push_str("audit of all frames\n")?;
     Ok(text)
 }
 
-/// 10,006 frames in a capture of more than 2 MiB: reading goes in pieces of 1 MiB, and the text grows often.
+/// 10,006 frames in a capture of more than 4 MiB, so of two parts, with a payload in both; the text grows often.
 pub fn many_frames(rt: &(impl Sync + Threads), alloc: Global) -> Answer {
     let capture = busy_stream(alloc)?;
     let report = busy_report(alloc)?;
     let same = always_answers(rt, alloc, capture.as_slice(), true, report.as_str())?;
-    Ok(same && capture.as_slice().len() > 2_097_152)
+    Ok(same && capture.as_slice().len() > 4_194_304)
 }
 
 /// 1,000 SYNs with numbers of their own.
