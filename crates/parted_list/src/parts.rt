@@ -75,6 +75,24 @@ impl<'a, T, const N: usize> Parts<'a, T, N> {
         Ok(())
     }
 
+    /// The elements from one index up to another, copied so that they lie together.
+    pub fn gathered(&self, alloc: Global, start: usize, end: usize) -> Result<Vec<T>, AllocError>
+    where
+        T: Copy,
+        requires { (start ≤ end) × (end ≤ length self.now) }
+        ensures { IfOk result (λ together. together.items ≡ slice_range self.now start end) }
+    {
+        let mut together = Vec::with_capacity(alloc, end - start)?;
+        let mut at = start;
+        while at < end {
+            let rest = self.from(at);
+            let wanted = rest.len().min(end - at);
+            together.extend_from_slice(&rest[..wanted])?;
+            at += wanted;
+        }
+        Ok(together)
+    }
+
     /// The list that these parts hold.
     pub fn of(alloc: Global, parts: &'a [Vec<T>]) -> Result<Self, AllocError>
         requires size { 0 < N }
