@@ -1,9 +1,9 @@
 -- Where an element of a list in parts stands.
-use Rattle.std.proofs.Common.{◌≡◌, ◌∙◌, ℕ, zero, suc, ◌+◌, ◌-◌, ◌/◌, ◌%◌, ◌<◌, ◌≤◌, List, [], ◌∷◌, ◌++◌, length, take, drop, length-append, slice_get, Some, None, map, get_or, inl, inr, sym, ap, subst, arith}
+use Rattle.std.proofs.Common.{◌≡◌, ◌∙◌, ℕ, zero, suc, ◌+◌, ◌-◌, ◌/◌, ◌%◌, ◌<◌, ◌≤◌, List, [], ◌∷◌, ◌++◌, length, take, drop, length-append, slice_get, Some, None, map, get_or, inl, inr, sym, ap, subst, arith, refl, ◌*◌}
 use Rattle.std.specs.Prelude.{min}
-use Rattle.std.proofs.Math.Nat.{div-eq-sub-div, div-eq_of_lt, mod-eq-sub-mod, mod-eq_of_lt}
+use Rattle.std.proofs.Math.Nat.{div-eq-sub-div, div-eq_of_lt, mod-eq-sub-mod, mod-eq_of_lt, suc-mul}
 use Rattle.std.proofs.Math.Seq.{drop-append-add, take-add, take-append_seam}
-use Rattle.std.specs.List.{slice_range}
+use Rattle.std.specs.List.{All, slice_range}
 use Rattle.std.proofs.lemmas.Bool.{cases_lt}
 use Rattle.std.proofs.lemmas.List.{drop-append-le, drop-drop, flat_map_more, length-drop, length-map, length-take, length-take-le, take-take}
 use Rattle.std.proofs.lemmas.Option.{slice_get_within}
@@ -157,3 +157,16 @@ module _ {T : Type 0} where
       ∙ ap (λ (l : List T). take (at - start) (drop start all) ++ take count l) there
       ∙ ap (λ (l : List T). take (at - start) (drop start all) ++ l) (sym same) in
       (omega (arith, size, some, low), omega (arith, size, low), sym more)
+
+  -- parts of which each is full
+  pub full_all : {X : Type 0} (f : X → List T) (size : ℕ) (xs : List X) → All (λ (x : X). length (f x) ≡ size) xs
+      → AreFull size (map f xs)
+  full_all f size [] all = tt
+  full_all f size (first ∷ later) all =
+      (all 0 first (omega arith), full_all f size later (λ k d within. all (suc k) d (omega (arith, within))))
+
+  -- hold so many elements
+  pub full_count : (size : ℕ) (full : List (List T)) → AreFull size full → length (joined full) ≡ length full * size
+  full_count size [] all = omega arith
+  full_count size (part ∷ later) all =
+      omega (arith, length-append part (joined later), all.0, full_count size later all.1, suc-mul (length later) size)

@@ -1,5 +1,5 @@
-ghost use Rattle.std.specs.Prelude.{◌≡◌, ◌+◌, ◌++◌, ◌-◌, ◌%◌, ◌<◌, ◌≤◌, ◌^◌, IfOk, IfSome, IfNone, OnOk, Some, drop, length, map, min, slice_get, take};
-ghost use Rattle.std.specs.List.{slice_range};
+ghost use Rattle.std.specs.Prelude.{◌≡◌, ◌+◌, ◌++◌, ◌-◌, ◌*◌, ◌%◌, ◌<◌, ◌≤◌, ◌^◌, IfOk, IfSome, IfNone, OnOk, Some, drop, length, map, min, slice_get, take, vec_len};
+ghost use Rattle.std.specs.List.{All, slice_range};
 ghost use Rattle.parted_list.specs.Parts.{ArePartsOf, joined};
 
 use std::alloc::{AllocError, Global};
@@ -107,6 +107,25 @@ impl<'a, T, const N: usize> Parts<'a, T, N> {
             count += part.len();
         }
         Ok(Parts { parts: all, count })
+    }
+
+    /// The list that these full parts hold, and a last part behind them.
+    pub fn with_last(alloc: Global, full: &'a [Vec<T>], last: &'a [T]) -> Result<Self, AllocError>
+        requires size { 0 < N }
+        requires full { All (λ part. vec_len part ≡ N) full.now }
+        requires last { length last.now ≤ N }
+        requires length { length full.now * N + length last.now < 2 ^ 64 }
+        ensures { IfOk result (λ all. all ≡ joined (map (λ part. part.items) full.now) ++ last.now) }
+    {
+        let mut all = Vec::with_capacity(alloc, full.len())?;
+        for part in full {
+            all.extend_from_slice(&[part.as_slice()])?;
+        }
+        all.extend_from_slice(&[last])?;
+        Ok(Parts {
+            parts: all,
+            count: full.len() * N + last.len(),
+        })
     }
 
     /// A list that lies together, in parts.
