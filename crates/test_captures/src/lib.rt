@@ -10,7 +10,6 @@
 //! capture.client(headers(1))?;
 //! capture.client(data(1, 16384))?;
 //! capture.server(window_update(0, 10))?;
-//! let found = records(alloc, capture.as_slice())?;
 //! ```
 //!
 //! It stands on no other crate of the repository, so the tests of each of them may use it. Every call is safe and
