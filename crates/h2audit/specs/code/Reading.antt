@@ -12,8 +12,9 @@ abbrev pub AnswersFor : (kept given : List ℕ) → Type 0
 AnswersFor kept given = (refusal kept ≡ refusal given) × (refusal given ≡ None → kept ≡ given)
 
 module _ {R : Type 0} where
-  -- the reads so far went well, and gave no more than 2^31 bytes
+  -- the reads so far went well, there is room for what is kept, and they gave no more than 2^31 bytes
   pub record IsSound (reader : CaptureReader R) : Type 0 where
+    pub within : length (kept reader) ≤ reader.bytes.room
     pub limit : length (kept reader) + reader.passed ≤ 2 ^ 31
     pub has_failed : reader.has_failed ≡ false
     pub lacked_memory : reader.lacked_memory ≡ false

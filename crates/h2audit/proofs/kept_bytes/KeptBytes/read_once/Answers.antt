@@ -36,3 +36,16 @@ read_into-requires g c =
       ap (λ view. view.room) c.self.view_is,
       inside.full.ok.0,
     )
+
+pub returns-clause-within : goal.returns-clause-within
+returns-clause-within g c =
+    let inside = c.self.inside in
+    let part = c.read_into.new.part in
+    let within : inside.filled + c.in_ok-count.count ≤ length part.items = omega (arith, c.in_ok-count.ensures.fits, part.ok.0) in
+    omega (
+      arith,
+      kept_size inside.full.items part.items (inside.filled + c.in_ok-count.count) c.self.invariant.0 within,
+      within,
+      part.ok.0,
+      inside.full.ok.0,
+    )
