@@ -1,3 +1,4 @@
+mod Bytes
 mod Capture
 mod Kept
 mod Leaving

@@ -1,5 +1,5 @@
 -- What the accounts of a run tell of its reads and writes, whatever its reader and its writer are.
-use Rattle.std.specs.Prelude.{◌≡◌, ◌≢◌, ℕ, ◌^◌, ◌≤◌, Bool, true, false, List, [], ◌++◌, length, take, None, Some, Result, Ok, Err, vec_len}
+use Rattle.std.specs.Prelude.{◌≡◌, ◌≢◌, ℕ, ◌^◌, ◌≤◌, Bool, true, false, List, [], ◌++◌, length, take, None, Some, Result, Ok, Err}
 use Rattle.pcap_records.specs.Refusal.{refusal}
 use Rattle.h2audit.specs.Report.{IsReport}
 use Rattle.h2audit.specs.declared.capture_reader.CaptureReader.{CaptureReader}
@@ -11,7 +11,7 @@ use Rattle.h2audit.specs.declared.verdict.Verdict.{Verdict}
 module _ {R : Type 0} where
   -- the bytes that are kept of those that the reads gave
   abbrev pub kept : CaptureReader R → List ℕ
-  kept reader = take reader.filled reader.bytes.items
+  kept reader = reader.bytes.kept
 
   -- the reads gave these bytes, in order: those that are kept, and then as many as were passed over
   abbrev pub HaveGiven : CaptureReader R → List ℕ → Type 0
@@ -24,8 +24,8 @@ module _ {R : Type 0} where
 
   -- no read was made
   pub record IsUnread (reader : CaptureReader R) : Type 0 where
-    pub filled : reader.filled ≡ 0
-    pub bytes : reader.bytes.items ≡ []
+    pub kept : reader.bytes.kept ≡ []
+    pub room : reader.bytes.room ≡ 0
     pub passed : reader.passed ≡ 0
     pub has_ended : reader.has_ended ≡ false
     pub has_failed : reader.has_failed ≡ false
@@ -39,7 +39,7 @@ module _ {R : Type 0} where
 
   -- of a capture that its file header refuses no more is kept than that
   abbrev pub IsBrief : CaptureReader R → Type 0
-  IsBrief reader = refusal (take 24 (kept reader)) ≢ None → vec_len reader.bytes ≤ 24
+  IsBrief reader = refusal (take 24 (kept reader)) ≢ None → reader.bytes.room ≤ 24
 
   -- a read failed, and no memory was wanting
   abbrev pub HasReadFailed : CaptureReader R → Type 0

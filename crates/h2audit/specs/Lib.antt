@@ -1,3 +1,4 @@
+pub mod Bytes
 pub mod Ending
 pub mod Account
 pub mod Program

@@ -23,13 +23,14 @@
 //!   lines. [`ending`] is status and line.
 //!
 //! Reading stops at 2^31 bytes, which are refused as the whole is. Where the file header refuses a capture, it alone is
-//! kept (`brief`), since what follows changes no answer (`pcap_records::laws::header_refuses`). Round 0 has a job for each
-//! connection, which assembles both of its flows and cuts them; `audit_rounds` has the rounds after it. No answer says
-//! that a worker was not started (`IsNoReport`).
+//! kept (`brief`), since what follows changes no answer (`pcap_records::laws::header_refuses`). What is kept stands in
+//! parts; once the first is full several workers make the next ones at once, never more than were filled. Round 0 has a
+//! job for each connection, which assembles both of its flows and cuts them; `audit_rounds` has the rounds after it. No
+//! answer says that a worker was not started (`IsNoReport`).
 //!
 //! The accounts are as honest as the code that enters them: their fields are private, `read_once`, `pass_once`,
 //! `write_once` and `flush_once` make the crate's only calls of `read`, `write` and `flush`, and ask that none follows
-//! one that failed; `make_room` enters want of memory. A reader sees this at once; no contract says it.
+//! one that failed; `make_room` and `lack_memory` enter want of memory. A reader sees this at once; no contract says it.
 //!
 //! Wrong bodies that the prover refuses: an empty report, a verdict by errors alone, words always refused, options not
 //! heeded, a read or a write that is told to have filled or taken all. Tested, in `crate_tests`: whole reports, the texts
@@ -43,7 +44,9 @@ mod connection;
 mod division;
 mod fault;
 mod flow_round;
+mod kept_bytes;
 pub mod laws;
+mod parts_ahead;
 mod program;
 mod reading;
 mod report_writer;

@@ -1,8 +1,9 @@
-ghost use Rattle.std.specs.Prelude.{◌≡◌, ◌≢◌, ◌^◌, IfErr, IfSome, take};
+ghost use Rattle.std.specs.Prelude.{◌≡◌, ◌≢◌, ◌^◌, IfErr, IfOk, IfSome, take};
 ghost use Rattle.std.specs.Io.KnownBytes.{Appends, Keeps};
-ghost use Rattle.h2audit.specs.Account.{HaveGiven, IsBrief, IsReadToEnd, IsUnread, IsUnwritten, Tells, written};
+ghost use Rattle.h2audit.specs.Account.{HaveGiven, IsBrief, IsReadToEnd, IsUnread, IsUnwritten, Tells, kept, written};
 ghost use Rattle.command_line.specs.Choices.{choices};
-ghost use Rattle.h2audit.specs.Run.{IsJudged, Leaves};
+ghost use Rattle.h2audit.specs.Report.{IsReport};
+ghost use Rattle.h2audit.specs.Run.{IsJudged, IsNoReport, Leaves};
 
 use crate::auditing::audit;
 use crate::capture_reader::CaptureReader;
@@ -13,7 +14,8 @@ use crate::verdict::Verdict;
 use crate::writing::write_report;
 use command_line::Options;
 use job_crew::Gate;
-use std::alloc::Global;
+use pcap_records::Capture;
+use std::alloc::{AllocError, Global};
 use std::io::{Read, Write};
 use std::thread::Threads;
 
@@ -48,15 +50,50 @@ pub fn run<R: Read, W: Write>(
         → Keeps (W.contents writer.old.writer) (W.contents writer.new.writer)) }
     ensures judged { IfSome (R.remaining reader.old.reader) (λ bytes. IsJudged bytes reader.new.lacked_memory result) }
 {
-    read_capture(reader)?;
-    match audit(rt, alloc, options, reader.kept(), gate) {
-        Ok((text, verdict)) => {
+    read_capture(rt, alloc, options.workers(), reader)?;
+    match audit_kept(rt, alloc, options, reader, gate) {
+        Ok(Ok((text, verdict))) => {
             writer.begin(text);
             match write_report(writer) {
                 Ok(()) => Ok(verdict),
                 Err(_) => Err(AuditFault::Write),
             }
         }
-        Err(fault) => Err(fault),
+        Ok(Err(fault)) => Err(fault),
+        Err(_) => {
+            reader.lack_memory();
+            Err(AuditFault::OutOfMemory)
+        }
     }
+}
+
+/// Audits what is kept of a capture, if there is memory for the list of its parts.
+fn audit_kept<R: Read>(
+    rt: &(impl Threads + Sync),
+    alloc: Global,
+    options: &Options,
+    reader: &CaptureReader<R>,
+    gate: &impl Gate,
+) -> Result<Result<(Vec<u8>, Verdict), AuditFault>, AllocError>
+    ensures report { IfOk result (λ answer. IfOk answer
+        (λ r. IsReport (kept reader.now) (choices options.now).frames_shown r.0.items r.1)) }
+    ensures refused { IfOk result (λ answer. IfErr answer (λ e. IsNoReport (kept reader.now) e)) }
+{
+    let capture = reader.capture(alloc)?;
+    let whole = joined_bytes(alloc, &capture)?;
+    Ok(audit(rt, alloc, options, whole.as_slice(), gate))
+}
+
+/// The bytes of a capture, together.
+fn joined_bytes(alloc: Global, capture: &Capture<'_>) -> Result<Vec<u8>, AllocError>
+    ensures { IfOk result (λ bytes. bytes.items ≡ capture.now) }
+{
+    let mut bytes = Vec::with_capacity(alloc, capture.len())?;
+    let mut at = 0;
+    while at < capture.len() {
+        let piece = capture.from(at);
+        bytes.extend_from_slice(piece)?;
+        at += piece.len();
+    }
+    Ok(bytes)
 }

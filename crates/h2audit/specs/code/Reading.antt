@@ -1,8 +1,8 @@
 -- How a capture is read, and how that fails.
-use Rattle.std.specs.Prelude.{◌≡◌, ℕ, ◌+◌, ◌^◌, ◌≤◌, true, false, List, Option, None, vec_len}
+use Rattle.std.specs.Prelude.{◌≡◌, ℕ, ◌+◌, ◌^◌, ◌≤◌, true, false, List, Option, None, length}
 use Rattle.std.specs.Io.KnownBytes.{Consumes}
 use Rattle.pcap_records.specs.Refusal.{refusal}
-use Rattle.h2audit.specs.Account.{HasReadFailed, HaveGiven}
+use Rattle.h2audit.specs.Account.{HasReadFailed, HaveGiven, kept}
 use Rattle.h2audit.specs.declared.capture_reader.CaptureReader.{CaptureReader}
 use Rattle.h2audit.specs.declared.fault.AuditFault.{AuditFault}
 use Rattle.h2audit.specs.declared.fault.AuditFault.TheVariants as fault
@@ -12,10 +12,10 @@ abbrev pub AnswersFor : (kept given : List ℕ) → Type 0
 AnswersFor kept given = (refusal kept ≡ refusal given) × (refusal given ≡ None → kept ≡ given)
 
 module _ {R : Type 0} where
-  -- the reads so far went well, and there is room for what they gave
+  -- the reads so far went well, there is room for what is kept, and they gave no more than 2^31 bytes
   pub record IsSound (reader : CaptureReader R) : Type 0 where
-    pub filled : reader.filled ≤ vec_len reader.bytes
-    pub limit : reader.filled + reader.passed ≤ 2 ^ 31
+    pub within : length (kept reader) ≤ reader.bytes.room
+    pub limit : length (kept reader) + reader.passed ≤ 2 ^ 31
     pub has_failed : reader.has_failed ≡ false
     pub lacked_memory : reader.lacked_memory ≡ false
 

@@ -11,7 +11,7 @@ returns-in-Ok-eq0-clause-bytes g c = λ before was.
     let same : old.reader ≡ roomy.reader = search rules in
     let made = consumed_same before (g.R.Read.remaining old.reader) old roomy c.make_room.ensures.kept (search rules) (c.loop-reader.invariant.read before was) in
     let last = subst (λ reader. HasConsumed before (g.R.Read.remaining reader) roomy) same made in
-    consumed_more before (g.R.Read.remaining roomy.reader) (g.R.Read.remaining now.reader) roomy now c.in-Ok-eq0.field-0 (search rules) (search rules) c.in-Ok-eq0.ensures.count c.read_once.ensures.front c.in-Ok-eq0.ensures.bytes last
+    consumed_more before (g.R.Read.remaining roomy.reader) (g.R.Read.remaining now.reader) roomy now (search rules) (search rules) c.read_once.ensures.front c.in-Ok-eq0.ensures.bytes last
 
 pub loop-reader-preserved : goal.loop-reader-preserved
 loop-reader-preserved g c =
@@ -25,9 +25,9 @@ loop-reader-preserved g c =
       passed = search rules;
       has_ended = search rules;
       grown = search rules;
-      front = front_stays c.args.reader.now old roomy now c.loop-reader.invariant.grown (search rules) c.make_room.ensures.kept c.read_once.ensures.front c.loop-reader.invariant.front;
+      front = front_stays c.args.reader.now old roomy now c.loop-reader.invariant.grown c.make_room.ensures.kept c.read_once.ensures.front c.loop-reader.invariant.front;
       read = λ before was.
           let made = consumed_same before (g.R.Read.remaining old.reader) old roomy c.make_room.ensures.kept (search rules) (c.loop-reader.invariant.read before was) in
           let last = subst (λ reader. HasConsumed before (g.R.Read.remaining reader) roomy) same made in
-          consumed_more before (g.R.Read.remaining roomy.reader) (g.R.Read.remaining now.reader) roomy now c.in-Ok.field-0 (search rules) (search rules) c.in-Ok.ensures.count c.read_once.ensures.front c.in-Ok.ensures.bytes last;
+          consumed_more before (g.R.Read.remaining roomy.reader) (g.R.Read.remaining now.reader) roomy now (search rules) (search rules) c.read_once.ensures.front c.in-Ok.ensures.bytes last;
     }

@@ -6,8 +6,8 @@ use Rattle.h2audit.specs.declared.fault.AuditFault.TheVariants as fault
 use Rattle.h2audit.proofs.Leaving.{IfSome-weaker, appends_none, judged_by_account, leaves_by_account, report_of_given, tells_no_report}
 use Rattle.h2audit.proofs.running.run.Goals as goal
 
-pub returns-in-Ok-write_report-clause-tells : goal.returns-in-Ok-write_report-clause-tells
-returns-in-Ok-write_report-clause-tells g c =
+pub returns-in-Ok-Ok-write_report-clause-tells : goal.returns-in-Ok-Ok-write_report-clause-tells
+returns-in-Ok-Ok-write_report-clause-tells g c =
     let reader = c.read_capture.new.reader in
     let writer = c.write_report.new.writer in
     let shown = c.args.options.now.frames_shown in
@@ -15,12 +15,12 @@ returns-in-Ok-write_report-clause-tells g c =
     let flushed : IsFlushed writer = search rules in
     (c.in_ok-read_capture.ensures.ok, report_of_given reader shown (written writer) c.in-Ok.verdict c.in_ok-read_capture.ensures.answers report, flushed)
 
-pub returns-in-Ok-write_report-clause-leaves : goal.returns-in-Ok-write_report-clause-leaves
-returns-in-Ok-write_report-clause-leaves g c =
+pub returns-in-Ok-Ok-write_report-clause-leaves : goal.returns-in-Ok-Ok-write_report-clause-leaves
+returns-in-Ok-Ok-write_report-clause-leaves g c =
     let reader = c.read_capture.new.reader in
     let writer = c.write_report.new.writer in
     let shown = c.args.options.now.frames_shown in
-    let told : Tells reader writer shown (Ok c.in-Ok.verdict) = returns-in-Ok-write_report-clause-tells g c in
+    let told : Tells reader writer shown (Ok c.in-Ok.verdict) = returns-in-Ok-Ok-write_report-clause-tells g c in
     IfSome-weaker (g.R.Read.remaining c.args.reader.now.reader) _ _ (λ all is. leaves_by_account all reader writer shown (g.W.Write.contents c.args.writer.now.writer) (g.W.Write.contents writer.writer) (Ok c.in-Ok.verdict) (λ _. is) told (search rules)) c.in_ok-read_capture.ensures.bytes
 
 pub returns-in-Err-write_report-clause-tells : goal.returns-in-Err-write_report-clause-tells
@@ -68,12 +68,12 @@ returns-in-Err-clause-judged g c =
     let told : Tells reader writer shown (Err c.in-Err.fault) = returns-in-Err-clause-tells g c in
     IfSome-weaker (g.R.Read.remaining c.args.reader.now.reader) _ _ (λ all is. judged_by_account all reader writer shown (Err c.in-Err.fault) (λ _. is) told) c.in_ok-read_capture.ensures.bytes
 
-pub returns-in-Ok-write_report-clause-given : goal.returns-in-Ok-write_report-clause-given
-returns-in-Ok-write_report-clause-given g c =
+pub returns-in-Ok-Ok-write_report-clause-given : goal.returns-in-Ok-Ok-write_report-clause-given
+returns-in-Ok-Ok-write_report-clause-given g c =
     IfSome-weaker (g.R.Read.remaining c.args.reader.now.reader) _ _ (λ all is read. is) c.in_ok-read_capture.ensures.bytes
 
-pub returns-in-Ok-write_report-clause-brief : goal.returns-in-Ok-write_report-clause-brief
-returns-in-Ok-write_report-clause-brief g c = λ read. c.in_ok-read_capture.ensures.brief
+pub returns-in-Ok-Ok-write_report-clause-brief : goal.returns-in-Ok-Ok-write_report-clause-brief
+returns-in-Ok-Ok-write_report-clause-brief g c = λ read. c.in_ok-read_capture.ensures.brief
 
 pub returns-in-Err-write_report-clause-given : goal.returns-in-Err-write_report-clause-given
 returns-in-Err-write_report-clause-given g c =
@@ -89,8 +89,8 @@ returns-in-Err-clause-given g c =
 pub returns-in-Err-clause-brief : goal.returns-in-Err-clause-brief
 returns-in-Err-clause-brief g c = λ read. c.in_ok-read_capture.ensures.brief
 
-pub returns-in-Ok-write_report-clause-judged : goal.returns-in-Ok-write_report-clause-judged
-returns-in-Ok-write_report-clause-judged g c =
+pub returns-in-Ok-Ok-write_report-clause-judged : goal.returns-in-Ok-Ok-write_report-clause-judged
+returns-in-Ok-Ok-write_report-clause-judged g c =
     IfSome-weaker (g.R.Read.remaining c.args.reader.now.reader) _ _ (λ all is. tt) c.in_ok-read_capture.ensures.bytes
 
 pub returns-in-Err-write_report-clause-judged : goal.returns-in-Err-write_report-clause-judged
