@@ -6,7 +6,6 @@ ghost use Rattle.h2audit.specs.Report.{IsReport, IsReportOn};
 ghost use Rattle.h2audit.specs.Run.{IsNoReport};
 
 use crate::connection::{audit_each, verdict_on};
-use crate::division::division;
 use crate::fault::AuditFault;
 use crate::verdict::Verdict;
 use audit_report::report;
@@ -80,7 +79,7 @@ fn audit_records(
     ensures { IfOk result (λ r. IsReportOn capture.now found.now (choices options.now).frames_shown
         r.0.items r.1) }
 {
-    let made = decode_all(rt, alloc, division(options).workers, found, capture)?;
+    let made = decode_all(alloc, found, capture)?;
     let packets = Packets::of(alloc, made.as_slice())?;
     let connections = connections(alloc, &packets)?;
     let audited = audit_each(

@@ -5,7 +5,7 @@ ghost use Rattle.command_line.specs.Choices.{choices};
 ghost use Rattle.h2audit.specs.Report.{IsReport};
 ghost use Rattle.h2audit.specs.Run.{IsJudged, IsNoReport, Leaves};
 
-use crate::auditing::audit;
+use crate::auditing::audit_parts;
 use crate::capture_reader::CaptureReader;
 use crate::fault::AuditFault;
 use crate::reading::read_capture;
@@ -80,20 +80,5 @@ fn audit_kept<R: Read>(
     ensures refused { IfOk result (λ answer. IfErr answer (λ e. IsNoReport (kept reader.now) e)) }
 {
     let capture = reader.capture(alloc)?;
-    let whole = joined_bytes(alloc, &capture)?;
-    Ok(audit(rt, alloc, options, whole.as_slice(), gate))
-}
-
-/// The bytes of a capture, together.
-fn joined_bytes(alloc: Global, capture: &Capture<'_>) -> Result<Vec<u8>, AllocError>
-    ensures { IfOk result (λ bytes. bytes.items ≡ capture.now) }
-{
-    let mut bytes = Vec::with_capacity(alloc, capture.len())?;
-    let mut at = 0;
-    while at < capture.len() {
-        let piece = capture.from(at);
-        bytes.extend_from_slice(piece)?;
-        at += piece.len();
-    }
-    Ok(bytes)
+    Ok(audit_parts(rt, alloc, options, &capture, gate))
 }

@@ -41,7 +41,7 @@ fn flow_of(
     let Ok(found) = records(alloc, &parts) else {
         return Ok(None);
     };
-    let made = decode_all(rt, alloc, 1, &found, &parts)?;
+    let made = decode_all(alloc, &found, &parts)?;
     let packets = Packets::of(alloc, made.as_slice())?;
     let streams = connections(alloc, &packets)?;
     if streams.opened.is_empty() || capture.len() >= 0x8000_0000 {
