@@ -1,4 +1,5 @@
 use Rattle.std.proofs.Common.{rules, ◌≡◌, ℕ, take, Ok, Err}
+use Rattle.std.specs.Io.KnownBytes.{Keeps}
 use Rattle.h2audit.specs.Account.{IsFlushed, IsUnwritten, HasWriteFailed, Tells, kept, written}
 use Rattle.h2audit.specs.Report.{IsReport}
 use Rattle.h2audit.specs.Run.{IsNoReport}
@@ -96,3 +97,9 @@ returns-in-Ok-clause-judged g c =
 pub returns-in-Err-write_report-clause-judged : goal.returns-in-Err-write_report-clause-judged
 returns-in-Err-write_report-clause-judged g c =
     IfSome-weaker (g.R.Read.remaining c.args.reader.now.reader) _ _ (λ all is. tt) c.in_ok-read_capture.ensures.bytes
+
+pub returns-in-Err-clause-leaves : goal.returns-in-Err-clause-leaves
+returns-in-Err-clause-leaves g c =
+    let contents = g.W.Write.contents c.args.writer.now.writer in
+    let keeps : Keeps contents contents = search rules in
+    IfSome-weaker (g.R.Read.remaining c.args.reader.now.reader) _ _ (λ all is. keeps) c.in_ok-read_capture.ensures.bytes
