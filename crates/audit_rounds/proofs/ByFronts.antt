@@ -1,7 +1,8 @@
 -- What is found of connections of which fronts are gone through first.
-use Rattle.std.proofs.Common.{◌≡◌, ℕ, zero, suc, ◌+◌, ◌<◌, ◌/◌, Bool, true, false, nat_lt, if◌then◌else◌, List, [], ◌∷◌, ◌++◌, map, take, drop, length, get_or, All, refl, sym, ap, ◌∙◌, subst, arith, Bor, Vec, Global}
+use Rattle.std.proofs.Common.{◌≡◌, ℕ, zero, suc, ◌+◌, ◌<◌, ◌≤◌, ◌/◌, Bool, true, false, nat_lt, if◌then◌else◌, List, [], ◌∷◌, ◌++◌, map, take, drop, length, get_or, set, get_or-set_same, get_or-set_other, All, refl, sym, ap, ◌∙◌, subst, ⊎_elim, arith, Bor, Vec, Global}
 use Rattle.std.specs.List.{list_any, zip}
-use Rattle.std.proofs.lemmas.List.{map-append, map_more, length-map, get_or-map, take-append-drop}
+use Rattle.std.proofs.lemmas.Bool.{cases_eq}
+use Rattle.std.proofs.lemmas.List.{map-append, map_more, length-map, get_or-map, get_or_default, take-append-drop}
 use Rattle.std.proofs.lemmas.List.Elements.{All-map}
 use Rattle.std.proofs.lemmas.Simd.{map-map}
 use Rattle.audit_terms.specs.declared.findings.Finding.{Finding}
@@ -9,7 +10,7 @@ use Rattle.audit_terms.specs.declared.frames.Frame.{Frame}
 use Rattle.audit_terms.specs.Finding.{stops, shown}
 use Rattle.audit_terms.specs.Frame.{IsOrderly}
 use Rattle.audit_terms.specs.Pass.{pass}
-use Rattle.audit_rounds.specs.code.EarlyStops.{front_of, has_stopped, later_of, begun_of, found_with, chosen_of}
+use Rattle.audit_rounds.specs.code.EarlyStops.{front_of, has_stopped, later_of, chosen_of}
 use Rattle.audit_rounds.proofs.Cuts.{orderly-take}
 use Rattle.audit_rounds.proofs.EarlyStop.{fronts_settle_lem}
 
@@ -57,6 +58,46 @@ laters-more connections early made one at dx dy found l l' is same there e =
 
 -- ---- what is chosen
 
+-- those after the one that is put there are as they were
+pub left-more : {X : Type 0} (all now : List X) (i : ℕ) (new : X)
+    → ((n : ℕ) (d : X) → i ≤ n → get_or now n d ≡ get_or all n d)
+    → (n : ℕ) (d : X) → i + 1 ≤ n → get_or (set now i new) n d ≡ get_or all n d
+left-more all now i new left n d l =
+    get_or-set_other now i n new d (λ e. omega (arith, l, e)) ∙ left n d (omega (arith, l))
+
+-- of one connection more it is chosen
+pub chosen-more : (early later fronts now : List (Vec Finding Global)) (i : ℕ) (x y new : Vec Finding Global)
+    → i < length early → i < length later → i < length now → new ≡ chosen_of (x, y) → x ≡ get_or fronts i x
+    → y ≡ get_or now i y → ((n : ℕ) (d : Vec Finding Global) → i ≤ n → get_or fronts n d ≡ get_or early n d)
+    → ((n : ℕ) (d : Vec Finding Global) → i ≤ n → get_or now n d ≡ get_or later n d)
+    → ((n : ℕ) (d e f : Vec Finding Global) → n < i → get_or now n d ≡ chosen_of (get_or early n e, get_or later n f))
+    → (n : ℕ) (d e f : Vec Finding Global) → n < i + 1
+    → get_or (set now i new) n d ≡ chosen_of (get_or early n e, get_or later n f)
+chosen-more early later fronts now i x y new in-early in-later in-now is isx isy fronts-left left done n d e f l = ⊎_elim
+    (λ same.
+    let first : x ≡ get_or early i e = isx ∙ fronts-left i x (omega arith) ∙ get_or_default early i x e in-early in
+    let second : y ≡ get_or later i f = isy ∙ left i y (omega arith) ∙ get_or_default later i y f in-later in
+    subst (λ k. get_or (set now i new) k d ≡ chosen_of (get_or early k e, get_or later k f)) (sym same)
+    (get_or-set_same now i new d in-now ∙ is ∙ ap (λ a. chosen_of (a, y)) first
+    ∙ ap (λ b. chosen_of (get_or early i e, b)) second))
+    (λ other. get_or-set_other now i n new d other ∙ done n d e f (omega (arith, l, other)))
+    (cases_eq n i)
+
+-- of all
+pub chosen-all : (early later now : List (Vec Finding Global)) → length later ≡ length early → length now ≡ length later
+    → ((n : ℕ) (d e f : Vec Finding Global) → n < length later
+    → get_or now n d ≡ chosen_of (get_or early n e, get_or later n f))
+    → now ≡ map chosen_of (zip early later)
+chosen-all [] [] [] e f each = refl
+chosen-all [] [] (z ∷ zs) e f each = absurd (omega (arith, f))
+chosen-all [] (y ∷ ys) now e f each = absurd (omega (arith, e))
+chosen-all (x ∷ xs) [] now e f each = absurd (omega (arith, e))
+chosen-all (x ∷ xs) (y ∷ ys) [] e f each = absurd (omega (arith, f))
+chosen-all (x ∷ xs) (y ∷ ys) (z ∷ zs) e f each =
+    ap (λ v. v ∷ zs) (each 0 z x y (omega arith))
+    ∙ ap (λ l. chosen_of (x, y) ∷ l) (chosen-all xs ys zs (omega (arith, e)) (omega (arith, f))
+    (λ n a b c l. each (suc n) a b c (omega (arith, l))))
+
 module _ (credits_shown : Bool) where
   abbrev passed : List Frame → List Finding
   passed frames = shown credits_shown (pass frames)
@@ -70,15 +111,14 @@ module _ (credits_shown : Bool) where
       ≡ map (λ (frames : Bor (List Frame)). passed (front_of frames.now)) connections
       → map (λ (list : Vec Finding Global). list.items) found
       ≡ map (λ (one : Bor (List Frame) × Vec Finding Global). passed (later_of one.0.now one.1.items)) (zip connections early)
-      → map (λ (list : Vec Finding Global). list.items) (map chosen_of (map found_with (zip (map begun_of early) found)))
+      → map (λ (list : Vec Finding Global). list.items) (map chosen_of (zip early found))
       ≡ map (λ (frames : Bor (List Frame)). passed frames.now) connections
-  unfolding chosen_of
   chosen-pass [] [] found e f = refl
   chosen-pass [] (y ∷ ys) found e f = cc
   chosen-pass (x ∷ xs) [] found e f = cc
   chosen-pass (x ∷ xs) (y ∷ ys) [] e f = cc
   chosen-pass (x ∷ xs) (y ∷ ys) (z ∷ zs) e f =
-      ap (λ l. (chosen_of (found_with (begun_of y, z))).items ∷ l) (chosen-pass xs ys zs later_e later_f)
+      ap (λ l. (chosen_of (y, z)).items ∷ l) (chosen-pass xs ys zs later_e later_f)
       ∙ ap (λ l. l ∷ map (λ (frames : Bor (List Frame)). passed frames.now) xs) (by_test _ refl) where
         early : y.items ≡ passed (front_of x.now)
         early = cc
@@ -94,14 +134,14 @@ module _ (credits_shown : Bool) where
             ≡ map (λ (one : Bor (List Frame) × Vec Finding Global). passed (later_of one.0.now one.1.items)) (zip xs ys)
         later_f = cc
 
-        by_test : (b : Bool) → has_stopped y.items ≡ b → (chosen_of (found_with (begun_of y, z))).items ≡ passed x.now
+        by_test : (b : Bool) → has_stopped y.items ≡ b → (chosen_of (y, z)).items ≡ passed x.now
         by_test true t =
-            let is : chosen_of (found_with (begun_of y, z)) ≡ y = rw t refl in
+            let is : chosen_of (y, z) ≡ y = rw t refl in
             ap (λ (list : Vec Finding Global). list.items) is ∙ early
             ∙ whole (if nat_lt (length x.now) 4096 then 0 else length x.now / 32) x.now
             (sym (ap (list_any stops) early) ∙ t)
         by_test false t =
-            let is : chosen_of (found_with (begun_of y, z)) ≡ z = rw t refl in
+            let is : chosen_of (y, z) ≡ z = rw t refl in
             let all : later_of x.now y.items ≡ x.now = rw t refl in
             ap (λ (list : Vec Finding Global). list.items) is ∙ later ∙ ap passed all
 

@@ -1,5 +1,5 @@
 -- What is left to do of connections, and that it makes their passes.
-use Rattle.std.proofs.Common.{◌≡◌, ℕ, zero, suc, ◌+◌, ◌<◌, ◌≤◌, Bool, true, false, not, nat_lt, leb, if◌then◌else◌, List, [], ◌∷◌, ◌++◌, map, filter, take, length, get_or, All, refl, sym, ap, ◌∙◌, subst, arith, None, Vec, Global}
+use Rattle.std.proofs.Common.{◌≡◌, ℕ, zero, suc, ◌+◌, ◌<◌, ◌≤◌, Bool, true, false, not, nat_lt, leb, if◌then◌else◌, List, [], ◌∷◌, ◌++◌, map, filter, take, length, get_or, All, refl, sym, ap, ◌∙◌, subst, arith, Option, None, Vec, Global}
 use Rattle.std.specs.List.Sorted.{IsPartitionPoint, IsPartitionedBy}
 use Rattle.std.proofs.lemmas.Bool.Decides.{leb_tells}
 use Rattle.std.proofs.Common.{⊎_elim, Bor}
@@ -18,16 +18,13 @@ use Rattle.audit_terms.specs.InForce.{changes_of}
 use Rattle.audit_terms.specs.Look.{is_past}
 use Rattle.audit_terms.specs.Pass.{pass}
 use Rattle.settings_pair.specs.Changes.{AreOrderly}
-use Rattle.split_merge.specs.Board.{IsLeast, StopsAt}
 use Rattle.stop_desk.specs.Stop.{IsStop}
+use Rattle.conn_scan.specs.declared.block_items.Block.{Block}
 use Rattle.conn_scan.specs.Items.{items_with, items_in, item_with, NeverFallFrom}
 use Rattle.audit_rounds.specs.Settling.{IsAfterStreams, frames_within}
-use Rattle.audit_rounds.specs.declared.connections.Front.{Front}
 use Rattle.audit_rounds.specs.declared.prepared.Prepared.{Prepared}
-use Rattle.audit_rounds.specs.declared.remaining.Remaining.{Remaining}
-use Rattle.audit_rounds.specs.declared.stream_round.AfterStreams.{AfterStreams}
 use Rattle.audit_rounds.specs.code.AfterStreams.{AreAfterStreams}
-use Rattle.audit_rounds.specs.code.Connections.{front_of, IsRest, AreRests}
+use Rattle.audit_rounds.specs.code.Connections.{IsRest, AreRests}
 use Rattle.audit_rounds.specs.code.Prepared.{IsPrepared, found_before}
 use Rattle.audit_rounds.specs.code.Remaining.{IsRemaining}
 use Rattle.audit_rounds.proofs.Parts.{orderly-filter}
@@ -105,37 +102,39 @@ all-within (frame ∷ frames) = ap (λ fs. frame ∷ fs) (all-within frames)
 
 -- ---- one connection
 
-module _ (credits_shown : Bool) (connection : Prepared) (front : Front) (rest : Remaining) (found : List Finding) (prepared : IsPrepared connection) (is : IsRest connection front rest) (after : IsAfterStreams credits_shown connection.frames.now found front.stop front.opened.items) where
-  within-orderly : IsOrderly rest.whole.frames.now
+module _ (credits_shown : Bool) (connection : Prepared) (stop : Option ℕ) (opened : List ℕ) (rest : Block)
+    (found : List Finding) (prepared : IsPrepared connection) (is : IsRest connection stop opened rest)
+    (after : IsAfterStreams credits_shown connection.frames.now found stop opened) where
+  within-orderly : IsOrderly rest.frames.now
   within-orderly = subst IsOrderly (sym is.frames)
-      (orderly-filter (λ (frame : Frame). not (is_past front.stop frame.number)) 0 connection.frames.now prepared.orderly)
+      (orderly-filter (λ (frame : Frame). not (is_past stop frame.number)) 0 connection.frames.now prepared.orderly)
 
-  one-remains : IsStop front.stop → IsRemaining rest found
+  one-remains : IsStop stop → IsRemaining rest stop found
   one-remains place = record {
     is_block = record {
       frames = within-orderly;
       opened = subst (NeverFallFrom 0) (sym is.opened) after.rising;
       changes = subst AreOrderly (sym is.changes) prepared.changes_orderly;
     };
-    fits = start-fits rest.whole.frames.now (items_in rest.whole) connection_start within-orderly
-        (length-map rest.whole.frames.now (item_with rest.whole.opened.now rest.whole.changes.now)) refl;
-    place = subst IsStop (sym is.stop) place;
-    stop = subst (IsLeast (StopsAt found)) (sym is.stop) after.kept;
+    fits = start-fits rest.frames.now (items_in rest) connection_start within-orderly
+        (length-map rest.frames.now (item_with rest.opened.now rest.changes.now)) refl;
+    place = place;
+    least = after.kept;
   }
 
-  items-are : items_in rest.whole
-      ≡ items_with front.opened.items (changes_of connection.frames.now) (frames_within front.stop connection.frames.now)
+  items-are : items_in rest
+      ≡ items_with opened (changes_of connection.frames.now) (frames_within stop connection.frames.now)
   items-are =
-      ap (λ opened. items_with opened rest.whole.changes.now rest.whole.frames.now) is.opened
-      ∙ ap (λ changes. items_with front.opened.items changes rest.whole.frames.now) (is.changes ∙ prepared.changes)
-      ∙ ap (items_with front.opened.items (changes_of connection.frames.now)) is.frames
+      ap (λ opened. items_with opened rest.changes.now rest.frames.now) is.opened
+      ∙ ap (λ changes. items_with opened changes rest.frames.now) (is.changes ∙ prepared.changes)
+      ∙ ap (items_with opened (changes_of connection.frames.now)) is.frames
 
   one-settles : (last : List Finding)
       → upto_stop (in_order last)
-      ≡ upto_stop (in_order (found ++ shown credits_shown (block_run connection_start (items_in rest.whole))))
+      ≡ upto_stop (in_order (found ++ shown credits_shown (block_run connection_start (items_in rest))))
       → upto_stop (in_order last) ≡ shown credits_shown (pass connection.frames.now)
   one-settles last e =
-      rounds_settle_lem credits_shown connection.frames.now found last front.stop front.opened.items prepared.orderly after
+      rounds_settle_lem credits_shown connection.frames.now found last stop opened prepared.orderly after
       (e ∙ ap (λ items. upto_stop (in_order (found ++ shown credits_shown (block_run connection_start items)))) items-are)
 
 -- ---- all connections of a batch
@@ -145,68 +144,54 @@ some-of : {X : Type 0} (xs : List X) → 0 < length xs → X
 some-of [] l = absurd (omega arith)
 some-of (x ∷ xs) l = x
 
-abbrev found_in : AfterStreams → Vec Finding Global
-found_in one = one.found
-
 abbrev list-in_order : Vec Finding Global → List Finding
 list-in_order list = upto_stop (in_order list.items)
 
-module _ (credits_shown : Bool) (connections : List Prepared) (streams : List AfterStreams) (found : List (Vec Finding Global)) (fronts : List Front) (rests : List Remaining) (prepared : All IsPrepared connections) (after : AreAfterStreams credits_shown connections streams) (found_is : found ≡ map (λ (one : AfterStreams). one.found) streams) (fronts_are : fronts ≡ map front_of streams) (rests_are : AreRests connections fronts rests) where
-  found-at : (n : ℕ) (list : Vec Finding Global) (d : AfterStreams) → n < length streams
-      → get_or found n list ≡ (get_or streams n d).found
-  found-at n list d l = ap (λ all. get_or all n list) found_is ∙ get_or-map found_in streams n d list l
-
-  rest-at : (n : ℕ) (rest : Remaining) (connection : Prepared) (one : AfterStreams) → n < length connections
-      → IsRest (get_or connections n connection) (front_of (get_or streams n one)) (get_or rests n rest)
-  rest-at n rest connection one l =
-      let number = after.number in
-      subst (λ f. IsRest (get_or connections n connection) f (get_or rests n rest))
-      (ap (λ all. get_or all n (front_of one)) fronts_are ∙ get_or-map front_of streams n one (front_of one) (omega arith))
-      (rests_are.each n connection (front_of one) rest l)
-
-  pub each-remains : (n : ℕ) (rest : Remaining) (list : Vec Finding Global) → n < length rests
-      → IsRemaining (get_or rests n rest) (get_or found n list).items
-  each-remains n rest list l =
-      let number = after.number in
-      let number' = rests_are.number in
+module _ (credits_shown : Bool) (connections : List Prepared) (found : List (Vec Finding Global))
+    (stops : List (Option ℕ)) (opened : List (Vec ℕ Global)) (rests : List Block)
+    (prepared : All IsPrepared connections) (after : AreAfterStreams credits_shown connections found stops opened)
+    (are : AreRests connections stops opened rests) where
+  pub each-remains : (n : ℕ) (rest : Block) (stop : Option ℕ) (list : Vec Finding Global) → n < length rests
+      → IsRemaining (get_or rests n rest) (get_or stops n stop) (get_or found n list).items
+  each-remains n rest stop list l =
+      let number = are.number in
+      let as_many = after.number in
+      let opens = after.opens in
       let lc : n < length connections = omega arith in
       let connection = some-of connections (omega arith) in
-      let one = some-of streams (omega arith) in
-      subst (λ (v : Vec Finding Global). IsRemaining (get_or rests n rest) v.items)
-      (sym (found-at n list one (omega arith)))
-      (one-remains credits_shown (get_or connections n connection) (front_of (get_or streams n one)) (get_or rests n rest)
-      (get_or streams n one).found.items (prepared n connection lc) (rest-at n rest connection one lc)
-      (after.each n one connection lc) (after.stops n one (omega arith)))
+      let numbers = some-of opened (omega arith) in
+      one-remains credits_shown (get_or connections n connection) (get_or stops n stop) (get_or opened n numbers).items
+      (get_or rests n rest) (get_or found n list).items (prepared n connection lc)
+      (are.each n connection stop numbers rest lc) (after.each n connection list stop numbers lc)
+      (after.places n stop (omega arith))
 
   each-settles : (last : List (Vec Finding Global)) (n : ℕ) (connection : Prepared) (list list' : Vec Finding Global)
-      (rest : Remaining) → n < length connections
+      (rest : Block) → n < length connections
       → list-in_order (get_or last n list)
       ≡ upto_stop (in_order ((get_or found n list').items ++ shown credits_shown
-      (block_run connection_start (items_in (get_or rests n rest).whole))))
+      (block_run connection_start (items_in (get_or rests n rest)))))
       → list-in_order (get_or last n list) ≡ shown credits_shown (pass (get_or connections n connection).frames.now)
   each-settles last n connection list list' rest lc e =
-      let number = after.number in
-      let one = some-of streams (omega arith) in
-      one-settles credits_shown (get_or connections n connection) (front_of (get_or streams n one)) (get_or rests n rest)
-      (get_or streams n one).found.items (prepared n connection lc) (rest-at n rest connection one lc)
-      (after.each n one connection lc) (get_or last n list).items
-      (e ∙ ap (λ (v : Vec Finding Global). upto_stop (in_order (v.items ++ shown credits_shown
-      (block_run connection_start (items_in (get_or rests n rest).whole))))) (found-at n list' one (omega arith)))
+      let opens = after.opens in
+      let numbers = some-of opened (omega arith) in
+      one-settles credits_shown (get_or connections n connection) (get_or stops n None) (get_or opened n numbers).items
+      (get_or rests n rest) (get_or found n list').items (prepared n connection lc)
+      (are.each n connection None numbers rest lc) (after.each n connection list' None numbers lc)
+      (get_or last n list).items e
 
   pub all-settle : (last : List (Vec Finding Global)) → length last ≡ length found
-      → ((n : ℕ) (rest : Remaining) (list list' : Vec Finding Global) → n < length rests
+      → ((n : ℕ) (rest : Block) (list list' : Vec Finding Global) → n < length rests
       → upto_stop (in_order (get_or last n list).items)
       ≡ upto_stop (in_order ((get_or found n list').items ++ shown credits_shown
-      (block_run connection_start (items_in (get_or rests n rest).whole)))))
+      (block_run connection_start (items_in (get_or rests n rest))))))
       → map (λ (list : Vec Finding Global). upto_stop (in_order list.items)) last
       ≡ map (λ (connection : Prepared). shown credits_shown (pass connection.frames.now)) connections
   all-settle last long e =
-      let number = after.number in
-      let number' = rests_are.number in
-      let same : length found ≡ length streams = ap length found_is ∙ length-map streams found_in in
+      let number = are.number in
+      let same = after.founds in
       let passed = λ (connection : Prepared). shown credits_shown (pass connection.frames.now) in
       ext_get_or [] (map list-in_order last) (map passed connections)
-      (length-map last list-in_order ∙ long ∙ same ∙ number ∙ sym (length-map connections passed))
+      (length-map last list-in_order ∙ long ∙ same ∙ sym (length-map connections passed))
       (λ n l.
       let is = length-map last list-in_order in
       let lc : n < length connections = omega arith in
@@ -242,29 +227,33 @@ before-more found made list one is e =
 
 -- ---- what is left of connections, one after the other
 
-pub rests-more : (connections : List Prepared) (fronts : List Front) (rests : List Remaining) (k j : ℕ)
-    (connection : Prepared) (front : Front) (rest : Remaining) → k ≡ length rests → j ≡ length rests
-    → k < length connections → j < length fronts → connection ≡ get_or connections k connection
-    → front ≡ get_or fronts j front → IsRest connection front rest
-    → ((n : ℕ) (c : Prepared) (f : Front) (r : Remaining) → n < length rests
-    → IsRest (get_or connections n c) (get_or fronts n f) (get_or rests n r))
-    → (n : ℕ) (c : Prepared) (f : Front) (r : Remaining) → n < length (rests ++ rest ∷ [])
-    → IsRest (get_or connections n c) (get_or fronts n f) (get_or (rests ++ rest ∷ []) n r)
-rests-more connections fronts rests k j connection front rest ek ej lk lj isc isf is each n c f r l = ⊎_elim
+pub rests-more : (connections : List Prepared) (stops : List (Option ℕ)) (opened : List (Vec ℕ Global))
+    (rests : List Block) (k : ℕ) (connection : Prepared) (stop : Option ℕ) (numbers : Vec ℕ Global) (own : List ℕ)
+    (rest : Block) → k ≡ length rests → k < length connections → k < length stops → k < length opened
+    → connection ≡ get_or connections k connection → stop ≡ get_or stops k stop → numbers ≡ get_or opened k numbers
+    → own ≡ numbers.items → IsRest connection stop own rest
+    → ((n : ℕ) (c : Prepared) (s : Option ℕ) (o : Vec ℕ Global) (r : Block) → n < length rests
+    → IsRest (get_or connections n c) (get_or stops n s) (get_or opened n o).items (get_or rests n r))
+    → (n : ℕ) (c : Prepared) (s : Option ℕ) (o : Vec ℕ Global) (r : Block) → n < length (rests ++ rest ∷ [])
+    → IsRest (get_or connections n c) (get_or stops n s) (get_or opened n o).items (get_or (rests ++ rest ∷ []) n r)
+rests-more connections stops opened rests k connection stop numbers own rest ek lc ls lo isc iss iso is-own is each n c s o r l =
+    ⊎_elim
     (λ e.
     let here : n ≡ k = e ∙ sym ek in
-    let there : n ≡ j = e ∙ sym ej in
-    subst (λ one. IsRest one (get_or fronts n f) (get_or (rests ++ rest ∷ []) n r))
-    (isc ∙ get_or_default connections k connection c lk ∙ ap (λ at. get_or connections at c) (sym here))
-    (subst (λ one. IsRest connection one (get_or (rests ++ rest ∷ []) n r))
-    (isf ∙ get_or_default fronts j front f lj ∙ ap (λ at. get_or fronts at f) (sym there))
-    (subst (IsRest connection front)
-    (sym (ap (λ at. get_or (rests ++ rest ∷ []) at r) e ∙ get_or-append_seam rests rest [] r)) is)))
+    subst (λ one. IsRest one (get_or stops n s) (get_or opened n o).items (get_or (rests ++ rest ∷ []) n r))
+    (isc ∙ get_or_default connections k connection c lc ∙ ap (λ at. get_or connections at c) (sym here))
+    (subst (λ one. IsRest connection one (get_or opened n o).items (get_or (rests ++ rest ∷ []) n r))
+    (iss ∙ get_or_default stops k stop s ls ∙ ap (λ at. get_or stops at s) (sym here))
+    (subst (λ one. IsRest connection stop one (get_or (rests ++ rest ∷ []) n r))
+    (is-own ∙ ap (λ (v : Vec ℕ Global). v.items)
+    (iso ∙ get_or_default opened k numbers o lo ∙ ap (λ at. get_or opened at o) (sym here)))
+    (subst (IsRest connection stop own)
+    (sym (ap (λ at. get_or (rests ++ rest ∷ []) at r) e ∙ get_or-append_seam rests rest [] r)) is))))
     (λ ne.
     let long = length-append rests (rest ∷ []) in
     let before : n < length rests = omega (arith, l, long, ne) in
-    subst (IsRest (get_or connections n c) (get_or fronts n f)) (sym (get_or-append rests (rest ∷ []) r n before))
-    (each n c f r before))
+    subst (IsRest (get_or connections n c) (get_or stops n s) (get_or opened n o).items)
+    (sym (get_or-append rests (rest ∷ []) r n before)) (each n c s o r before))
     (cases_eq n (length rests))
 
 -- what is shown of connections made ready

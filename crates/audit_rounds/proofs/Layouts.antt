@@ -1,6 +1,6 @@
 -- Blocks that are laid out one connection after the other.
 use Rattle.std.proofs.Common.{◌≡◌, ℕ, zero, suc, ◌+◌, ◌-◌, ◌<◌, ◌≤◌, List, [], ◌∷◌, ◌++◌, append_assoc, append-nil, map, take, drop, length, get_or, All, refl, sym, ap, ◌∙◌, subst, arith}
-use Rattle.std.proofs.lemmas.List.{length-append, length-map, map-append}
+use Rattle.std.proofs.lemmas.List.{length-append, length-map, map-append, take_more, get_or-map}
 use Rattle.std.proofs.lemmas.List.Elements.{All-append}
 use Rattle.std.proofs.Math.Seq.{take-append_seam, drop-append_seam}
 use Rattle.audit_terms.specs.declared.items.Item.{Item}
@@ -9,7 +9,7 @@ use Rattle.block_scan.specs.List.{items_of}
 use Rattle.conn_scan.specs.declared.block_items.Block.{Block}
 use Rattle.conn_scan.specs.Items.{items_in}
 use Rattle.audit_rounds.specs.declared.blocks.ConnectionBlock.{ConnectionBlock}
-use Rattle.audit_rounds.specs.code.Blocks.{blocks_in, blocks_of_connection, laid_out, AreCut, AddsBlocks}
+use Rattle.audit_rounds.specs.code.Blocks.{blocks_in, blocks_of_connection, laid_out, wholes, AreCut, AddsBlocks}
 
 -- ---- one connection more
 
@@ -54,6 +54,21 @@ cut-more done counts blocks new whole connection count own h adds is =
       items = ap (λ l. l ++ items_in whole ∷ []) h.items ∙ ap (λ l. map joined_items h.cuts ++ l ∷ []) (sym adds.items)
           ∙ sym (map-append joined_items h.cuts (adds.cut ∷ []));
     }
+
+-- those of the next one of all connections
+pub cut-next : (all : List Block) (at : ℕ) (d : Block) (counts : List ℕ) (blocks new : List ConnectionBlock)
+    (connection count : ℕ) → at < length all → connection ≡ length counts → AreCut 0 (take at (wholes all)) counts blocks
+    → AddsBlocks connection (get_or all at d) blocks new → count ≡ length new - length blocks
+    → AreCut 0 (take (at + 1) (wholes all)) (counts ++ count ∷ []) new
+cut-next all at d counts blocks new connection count inside own h adds is =
+    let number : length (wholes all) ≡ length all = length-map all items_in in
+    let within : at < length (wholes all) = omega arith in
+    let whole = get_or all at d in
+    let done : take (at + 1) (wholes all) ≡ take at (wholes all) ++ items_in whole ∷ [] =
+    take_more (wholes all) at (items_in d) within
+    ∙ ap (λ items. take at (wholes all) ++ items ∷ []) (get_or-map items_in all at d (items_in d) inside) in
+    subst (λ l. AreCut 0 l (counts ++ count ∷ []) new) (sym done)
+    (cut-more (take at (wholes all)) counts blocks new whole connection count own h adds is)
 
 -- ---- the blocks of the first connection, and those of the others
 

@@ -6,6 +6,7 @@ pub mod Items
 pub mod Rounds
 pub mod Whole
 pub mod PartsKept
+pub mod Drawn
 pub mod Fronts
 pub mod MadeReady
 pub mod BothHalves
@@ -17,8 +18,6 @@ pub mod Jobs
 pub mod Clears
 pub mod Settles
 pub mod StreamJobs
-pub mod StreamOrder
-pub mod StreamWork
 pub mod StreamPlan
 pub mod StreamReady
 pub mod Openers

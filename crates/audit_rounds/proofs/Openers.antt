@@ -8,7 +8,7 @@ use Rattle.audit_terms.specs.declared.findings.Finding.{Finding}
 use Rattle.audit_terms.specs.Finding.{stops}
 use Rattle.split_merge.specs.Board.{StopsAt}
 use Rattle.split_merge.proofs.RoundMembers.{contains-none, contains-cases}
-use Rattle.audit_rounds.specs.code.Streams.{lesser}
+use Rattle.stream_groups.specs.Streams.{lesser}
 use Rattle.audit_terms.specs.declared.items.Change.{Change}
 use Rattle.audit_rounds.specs.declared.prepared.Prepared.{Prepared}
 use Rattle.audit_rounds.specs.code.StreamRound.{IsFirstStop, changes_in}

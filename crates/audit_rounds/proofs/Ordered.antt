@@ -1,11 +1,44 @@
--- Lists of numbers, each put in order.
-use Rattle.std.proofs.Common.{◌≡◌, ℕ, ◌+◌, ◌<◌, ◌≤◌, length, get_or, set, List, sym, ◌∙◌, subst, ⊎_elim, arith, get_or-set_same, get_or-set_other, Vec, Global}
-use Rattle.std.proofs.lemmas.Bool.{cases_eq}
-use Rattle.std.proofs.lemmas.List.{get_or_default}
+-- Lists of numbers, to which parts add, and which are put in order.
+use Rattle.std.proofs.Common.{◌≡◌, ℕ, ◌+◌, ◌<◌, ◌≤◌, ◌==◌, if◌then◌else◌, length, get_or, set, take, List, [], ◌∷◌, ◌++◌, append-nil, sym, ap, ◌∙◌, subst, ⊎_elim, arith, get_or-set_same, get_or-set_other, Vec, Global}
+use Rattle.std.proofs.lemmas.Bool.{cases_eq, eq-eqb, ne_eqb}
+use Rattle.std.proofs.lemmas.Grind.{flat_map-append}
+use Rattle.std.proofs.lemmas.List.{get_or_default, take_more}
 use Rattle.std.specs.List.Sorted.{IsPermutation, IsSorted}
 use Rattle.std.specs.Ordering.{nat_cmp}
-use Rattle.audit_rounds.specs.code.Opened.{IsInOrder}
+use Rattle.job_crew.specs.declared.parts.Part.{Part}
+use Rattle.audit_rounds.specs.code.Opened.{numbers_told, IsInOrder}
 use Rattle.audit_rounds.proofs.Whole.{never-fall}
+
+-- the numbers that one part tells of a connection
+abbrev numbers_of : (n : ℕ) → Part (Vec ℕ Global) → List ℕ
+numbers_of n part = if part.connection == n then part.made.items else []
+
+-- one part more tells its numbers of its connection
+told-next : (n : ℕ) (parts : List (Part (Vec ℕ Global))) (at : ℕ) (part : Part (Vec ℕ Global)) → at < length parts
+    → part ≡ get_or parts at part
+    → numbers_told n (take (at + 1) parts) ≡ numbers_told n (take at parts) ++ numbers_of n part
+told-next n parts at part l is =
+    ap (numbers_told n) (take_more parts at part l ∙ ap (λ one. take at parts ++ one ∷ []) (sym is))
+    ∙ flat_map-append (numbers_of n) (take at parts) (part ∷ [])
+    ∙ ap (λ l. numbers_told n (take at parts) ++ l) (append-nil (numbers_of n part))
+
+pub told-more : (all : List (Vec ℕ Global)) (parts : List (Part (Vec ℕ Global))) (at n : ℕ) (part : Part (Vec ℕ Global))
+    (list d new : Vec ℕ Global) → at < length parts → part ≡ get_or parts at part → part.connection < length all
+    → new.items ≡ (get_or all part.connection d).items ++ part.made.items
+    → ((list : Vec ℕ Global) → (get_or all n list).items ≡ numbers_told n (take at parts))
+    → (get_or (set all part.connection new) n list).items ≡ numbers_told n (take (at + 1) parts)
+told-more all parts at n part list d new l is within made before = ⊎_elim
+    (λ e. ap (λ (v : Vec ℕ Global). v.items) (ap (λ k. get_or (set all part.connection new) k list) (sym e)
+    ∙ get_or-set_same all part.connection new list within)
+    ∙ made ∙ ap (λ k. (get_or all k d).items ++ part.made.items) e
+    ∙ ap (λ l. l ++ part.made.items) (before d)
+    ∙ sym (told-next n parts at part l is ∙ ap (λ b. numbers_told n (take at parts)
+    ++ (if b then part.made.items else [])) (eq-eqb part.connection n e)))
+    (λ ne. ap (λ (v : Vec ℕ Global). v.items) (get_or-set_other all part.connection n new list (λ e. ne (sym e)))
+    ∙ before list ∙ sym (append-nil (numbers_told n (take at parts)))
+    ∙ sym (told-next n parts at part l is ∙ ap (λ b. numbers_told n (take at parts)
+    ++ (if b then part.made.items else [])) (ne_eqb part.connection n ne)))
+    (cases_eq part.connection n)
 
 module _ (lists now : List (Vec ℕ Global)) (i : ℕ) (one new : Vec ℕ Global) (number : length now ≡ length lists)
     (l : i < length lists)

@@ -5,6 +5,7 @@ use Rattle.std.proofs.lemmas.Option.{slice_get_within, get_or_from_slice_get, sl
 use Rattle.audit_terms.specs.declared.findings.Finding.{Finding}
 use Rattle.audit_terms.specs.Finding.{in_order, upto_stop}
 use Rattle.audit_terms.specs.Connection.{connection_start}
+use Rattle.conn_scan.specs.declared.block_items.Block.{Block}
 use Rattle.conn_scan.specs.Items.{items_in, IsBlock}
 use Rattle.conn_scan.specs.Block.{BlockFits}
 use Rattle.conn_scan.specs.ConnSum.{ConnSum}
@@ -17,7 +18,6 @@ use Rattle.job_crew.specs.Laid.{part_of}
 use Rattle.job_crew.specs.Settling.{HasSettled}
 use Rattle.audit_rounds.specs.declared.blocks.ConnectionBlock.{ConnectionBlock}
 use Rattle.audit_rounds.specs.declared.block_plans.ReadyBlock.{ReadyBlock}
-use Rattle.audit_rounds.specs.declared.remaining.Remaining.{Remaining}
 use Rattle.audit_rounds.specs.code.Blocks.{IsSum, AreSums, wholes}
 use Rattle.audit_rounds.specs.code.Plans.{sum_job, block_job, whole_shown, shown_at, IsPlan, AreParts}
 use Rattle.audit_rounds.specs.code.Remaining.{IsRemaining}
@@ -64,46 +64,41 @@ parts-within jobs stops parts bound h all k d l =
 
 -- what was found of a connection, and what the parts keep of it, is up to its stop what was found and what is shown of
 -- all its blocks
-pub merged : {M : Type 0} (c : Bool) (connections : List Remaining) (bound : ℕ) (plan : List ReadyBlock)
-    (stops : List (Option ℕ)) (parts : List (Part M)) (found last : List Finding) (n : ℕ) (remaining : Remaining)
-    → stops ≡ map (λ (one : Remaining). one.stop) connections
+pub merged : {M : Type 0} (c : Bool) (connections : List Block) (bound : ℕ) (plan : List ReadyBlock)
+    (stops : List (Option ℕ)) (parts : List (Part M)) (found last : List Finding) (n : ℕ) (whole : Block)
     → IsPlan c bound (shown_at c 0 (wholes connections)) plan → AreParts (map (block_job c) plan) stops parts
-    → IsLeast (StopsAt found) (get_or connections n remaining).stop → n < length connections
+    → IsLeast (StopsAt found) (get_or stops n None) → n < length connections
     → last ≡ found ++ findings_of_parts n (map part_of parts)
     → upto_stop (in_order last)
-    ≡ upto_stop (in_order (found ++ whole_shown c (items_in (get_or connections n remaining).whole)))
-merged c connections bound plan stops parts found last n remaining e planned h least l is =
-    let stop = λ (one : Remaining). one.stop in
-    let items = λ (one : Remaining). items_in one.whole in
-    let number : length (wholes connections) ≡ length connections = length-map connections items in
+    ≡ upto_stop (in_order (found ++ whole_shown c (items_in (get_or connections n whole))))
+merged c connections bound plan stops parts found last n whole planned h least l is =
+    let number : length (wholes connections) ≡ length connections = length-map connections items_in in
     let at : n ≡ 0 + n = omega arith in
-    let opening = subst (IsLeast (StopsAt found))
-    (sym (ap (λ s. get_or s n None) e ∙ get_or-map stop connections n remaining None l)) least in
     ap (λ l. upto_stop (in_order l)) is
     ∙ (board_merges_lem (record { jobs = map (block_job c) plan; opening_stops = stops }) _ h.board n found
-    opening).findings
+    least).findings
     ∙ ap (λ l. upto_stop (in_order (found ++ l)))
     (planned.of_each n ∙ ap (shown_at c 0 (wholes connections)) at
-    ∙ shown-at c 0 (wholes connections) n (items remaining) (omega arith)
-    ∙ ap (whole_shown c) (get_or-map items connections n remaining (items remaining) l))
+    ∙ shown-at c 0 (wholes connections) n (items_in whole) (omega arith)
+    ∙ ap (whole_shown c) (get_or-map items_in connections n whole (items_in whole) l))
 
 -- ---- what is left to do of each connection
 
-module _ (connections : List Remaining) (found : List (Vec Finding Global))
-    (number : length connections ≡ length found)
-    (each : (n : ℕ) (remaining : Remaining) (list : Vec Finding Global) → n < length connections
-    → IsRemaining (get_or connections n remaining) (get_or found n list).items) where
-  is-remaining : (n : ℕ) (d : Remaining) (l : n < length connections) (m : n < length found)
-      → IsRemaining (get_or connections n d) (get_or found n (some_of found n m)).items
-  is-remaining n d l m = each n d (some_of found n m) l
+module _ (connections : List Block) (stops : List (Option ℕ)) (found : List (Vec Finding Global))
+    (as_many : length stops ≡ length connections) (number : length connections ≡ length found)
+    (each : (n : ℕ) (whole : Block) (stop : Option ℕ) (list : Vec Finding Global) → n < length connections
+    → IsRemaining (get_or connections n whole) (get_or stops n stop) (get_or found n list).items) where
+  is-remaining : (n : ℕ) (d : Block) (stop : Option ℕ) (l : n < length connections) (m : n < length found)
+      → IsRemaining (get_or connections n d) (get_or stops n stop) (get_or found n (some_of found n m)).items
+  is-remaining n d stop l m = each n d stop (some_of found n m) l
 
-  pub each-block : All (λ (one : Remaining). IsBlock one.whole) connections
-  each-block n d l = (is-remaining n d l (omega arith)).is_block
+  pub each-block : All IsBlock connections
+  each-block n d l = (is-remaining n d None l (omega arith)).is_block
 
   pub each-fits : All (BlockFits connection_start) (wholes connections)
-  each-fits = all-map (BlockFits connection_start) (λ (one : Remaining). items_in one.whole) connections
-      (λ n d l. (is-remaining n d l (omega arith)).fits)
+  each-fits = all-map (BlockFits connection_start) items_in connections
+      (λ n d l. (is-remaining n d None l (omega arith)).fits)
 
-  pub each-place : All IsStop (map (λ (one : Remaining). one.stop) connections)
-  each-place = all-map IsStop (λ (one : Remaining). one.stop) connections
-      (λ n d l. (is-remaining n d l (omega arith)).place)
+  pub each-place : All IsStop stops
+  each-place n stop l =
+      (is-remaining n (some_of connections n (omega arith)) stop (omega arith) (omega arith)).place

@@ -6,9 +6,9 @@ use Rattle.std.specs.Option.{option_map_or}
 use Rattle.audit_terms.specs.declared.findings.Finding.{Finding}
 use Rattle.split_merge.specs.declared.splits.StreamRow.{StreamRow}
 use Rattle.split_merge.specs.Board.{Job, IsCut}
-use Rattle.audit_rounds.specs.declared.streams.Streams.{Streams}
+use Rattle.stream_groups.specs.declared.streams.Streams.{Streams}
 use Rattle.audit_rounds.specs.declared.stream_plan.StreamJob.{StreamJob}
-use Rattle.audit_rounds.specs.code.Streams.{IsRow, AreOpenedUpTo, rows_shown, rows_opened}
+use Rattle.stream_groups.specs.Streams.{IsRow, AreOpenedUpTo, rows_shown, rows_opened}
 use Rattle.audit_rounds.specs.code.StreamJobs.{IsReady, Makes, job_of, of_rows}
 use Rattle.audit_rounds.proofs.Jobs.{job-is}
 

@@ -3,7 +3,7 @@ use Rattle.std.proofs.Common.{◌≡◌, ℕ, ◌+◌, ◌<◌, ◌≤◌, List,
 use Rattle.std.proofs.lemmas.List.{drop_all}
 use Rattle.audit_core.proofs.OrderlyRest.{drop-next}
 use Rattle.split_merge.specs.Groups.{groups}
-use Rattle.audit_rounds.specs.declared.streams.Streams.{Streams}
+use Rattle.stream_groups.specs.declared.streams.Streams.{Streams}
 use Rattle.audit_rounds.specs.declared.stream_plan.StreamJob.{StreamJob}
 use Rattle.audit_rounds.specs.code.StreamJobs.{job_at, plan_from}
 

@@ -1,12 +1,11 @@
 -- What a settled round over streams leaves of each connection.
 use Rattle.std.proofs.Common.{◌≡◌, ℕ, zero, suc, ◌<◌, ◌≤◌, ◌==◌, if◌then◌else◌, Bool, true, false, eqb-true, List, [], ◌∷◌, ◌++◌, length, map, flat_map, get_or, slice_get, All, Option, Some, None, refl, sym, ap, ◌∙◌, subst, arith, Vec, Global}
-use Rattle.std.specs.List.{AllZip, zip}
+use Rattle.std.specs.List.{AllZip}
 use Rattle.std.proofs.lemmas.List.{length-map, get_or-map, get_or_default}
 use Rattle.std.proofs.lemmas.Option.{slice_get_within, slice_get-get_or, get_or_from_slice_get}
-use Rattle.std.proofs.lemmas.Slice.Zip.{AllZip-long, length-zip, get_or-zip}
+use Rattle.std.proofs.lemmas.Slice.Zip.{AllZip-long}
 use Rattle.audit_terms.specs.declared.findings.Finding.{Finding}
 use Rattle.audit_terms.specs.Finding.{in_order, upto_stop}
-use Rattle.stop_desk.specs.Stop.{IsStop}
 use Rattle.split_merge.specs.Board.{Job, StopsAt, IsLeast, stop_of, findings_of_jobs, findings_of_parts}
 use Rattle.split_merge.specs.RoundLaws.{Merges}
 use Rattle.split_merge.proofs.RoundMerge.{board_merges_lem}
@@ -14,17 +13,16 @@ use Rattle.job_crew.specs.declared.parts.Part.{Part}
 use Rattle.job_crew.specs.declared.settling.Settled.{Settled}
 use Rattle.job_crew.specs.Laid.{part_of, board_with}
 use Rattle.audit_rounds.specs.declared.prepared.Prepared.{Prepared}
-use Rattle.audit_rounds.specs.declared.streams.Streams.{Streams}
+use Rattle.stream_groups.specs.declared.streams.Streams.{Streams}
 use Rattle.audit_rounds.specs.declared.stream_plan.StreamJob.{StreamJob}
-use Rattle.audit_rounds.specs.declared.stream_round.AfterStreams.{AfterStreams}
 use Rattle.audit_rounds.specs.Rounds.{streams_shown}
 use Rattle.audit_rounds.specs.Settling.{AgreeWithin, Reaches, IsAfterStreams}
-use Rattle.audit_rounds.specs.code.AfterStreams.{AreAfterStreams, HaveSettled, after_with, afters_of}
+use Rattle.audit_rounds.specs.code.AfterStreams.{AreAfterStreams, HaveSettled}
 use Rattle.audit_rounds.specs.code.Opened.{numbers_told, IsInOrder}
 use Rattle.audit_rounds.specs.code.Prepared.{IsPrepared, found_before}
 use Rattle.audit_rounds.specs.code.StreamJobs.{job_of, of_rows, plan_from}
 use Rattle.audit_rounds.specs.code.StreamRound.{IsFirstStop, IsStreamsOf}
-use Rattle.audit_rounds.specs.code.Streams.{rows_opened}
+use Rattle.stream_groups.specs.Streams.{rows_opened}
 use Rattle.audit_rounds.proofs.Jobs.{job-is}
 use Rattle.audit_rounds.proofs.Settles.{parts-within}
 use Rattle.audit_rounds.proofs.StreamRounds.{jobs-of, jobs-within, openings-of}
@@ -191,14 +189,6 @@ module _ (credits_shown : Bool) (count : ℕ) (streams : List Streams) (opening 
     stops-number : length stops ≡ length found
     stops-number = h.connections ∙ AllZip-long _ found opening first
 
-    pairs-number : length (zip (zip last opened) stops) ≡ length connections
-    pairs-number =
-        let all = length-zip (zip last opened) stops in
-        let two = length-zip last opened in
-        let a = founds in
-        let b = stops-number in
-        omega (arith, all, two, lasts, opens, a, b)
-
     found-at : (n : ℕ) (list : Vec Finding Global) (connection : Prepared) → n < length connections
         → (get_or found n list).items ≡ found_before (get_or connections n connection)
     found-at n list connection l =
@@ -206,46 +196,25 @@ module _ (credits_shown : Bool) (count : ℕ) (streams : List Streams) (opening 
         sym (get_or-map (λ (one : Vec Finding Global). one.items) found n list [] (omega (arith, a, l)))
         ∙ ap (λ lists. get_or lists n []) before ∙ get_or-map found_before connections n connection [] l
 
-    all-at : (n : ℕ) (one : AfterStreams) → n < length connections
-        → get_or (afters_of last opened stops) n one
-        ≡ after_with ((get_or last n one.found, get_or opened n one.opened), get_or stops n one.stop)
-    all-at n one l =
+    pub are-after : AreAfterStreams credits_shown connections last stops opened
+    are-after =
         let a = founds in
         let b = stops-number in
-        let c = pairs-number in
-        let two = length-zip last opened in
-        let d : (Vec Finding Global × Vec ℕ Global) × Option ℕ = ((one.found, one.opened), one.stop) in
-        get_or-map after_with (zip (zip last opened) stops) n d one (omega (arith, c, l))
-        ∙ ap after_with (get_or-zip (zip last opened) stops n d (omega (arith, two, lasts, opens, a, l))
-        (omega (arith, a, b, l))
-        ∙ ap (λ pair. (pair, get_or stops n one.stop))
-        (get_or-zip last opened n d.0 (omega (arith, lasts, a, l)) (omega (arith, opens, l))))
-
-    pub are-after : AreAfterStreams credits_shown connections (afters_of last opened stops)
-    are-after = record {
-      number = length-map (zip (zip last opened) stops) after_with ∙ pairs-number;
-      each = λ n one connection l.
-          let a = founds in
-          let b = stops-number in
-          let list = get_or found n one.found in
-          let stop-is = get_or_default stops n None one.stop (omega (arith, a, b, l)) in
-          let least = subst (λ found. IsLeast (StopsAt found) (stop_of opening n)) (found-at n one.found connection l)
-          (both-at _ found opening n one.found None first (omega (arith, a, l))) in
-          subst (λ (left : AfterStreams). IsAfterStreams credits_shown (get_or connections n connection).frames.now
-          left.found.items left.stop left.opened.items) (sym (all-at n one l))
-          (subst (λ stop. IsAfterStreams credits_shown (get_or connections n connection).frames.now
-          (get_or last n one.found).items stop (get_or opened n one.opened).items) stop-is
-          (is-after connections some prepared is n (get_or connections n connection)
-          (slice_get-get_or connections n connection l) least (get_or last n one.found).items
-          (get_or opened n one.opened).items
-          (kept n one.found one.found (omega (arith, a, l))
-          ∙ ap (λ front. front ++ findings_of_parts n (map part_of parts)) (found-at n one.found connection l))
-          (orders n one.opened l)));
-      stops = λ n one l.
-          let c = pairs-number in
-          let number = length-map (zip (zip last opened) stops) after_with in
-          let a = founds in
-          let b = stops-number in
-          subst (λ (left : AfterStreams). IsStop left.stop) (sym (all-at n one (omega (arith, c, number, l))))
-          (h.places n one.stop (omega (arith, a, b, c, number, l)));
-    }
+        record {
+          founds = lasts ∙ a;
+          number = b ∙ a;
+          opens = opens;
+          each = λ n connection list stop numbers l.
+              let stop-is = get_or_default stops n None stop (omega (arith, a, b, l)) in
+              let least = subst (λ found. IsLeast (StopsAt found) (stop_of opening n)) (found-at n list connection l)
+              (both-at _ found opening n list None first (omega (arith, a, l))) in
+              subst (λ stop. IsAfterStreams credits_shown (get_or connections n connection).frames.now
+              (get_or last n list).items stop (get_or opened n numbers).items) stop-is
+              (is-after connections some prepared is n (get_or connections n connection)
+              (slice_get-get_or connections n connection l) least (get_or last n list).items
+              (get_or opened n numbers).items
+              (kept n list list (omega (arith, a, l))
+              ∙ ap (λ front. front ++ findings_of_parts n (map part_of parts)) (found-at n list connection l))
+              (orders n numbers l));
+          places = h.places;
+        }

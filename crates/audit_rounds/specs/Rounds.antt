@@ -12,7 +12,7 @@ use Rattle.audit_terms.specs.Connection.{connection_start}
 use Rattle.audit_terms.specs.Pass.{pass, streams_of, items_of}
 use Rattle.audit_terms.specs.Run.{block_runs}
 use Rattle.audit_core.specs.PartsLaw.{joined}
-use Rattle.audit_rounds.specs.code.Streams.{shown_of}
+use Rattle.stream_groups.specs.Streams.{shown_of}
 
 -- what is shown of the streams, and what is shown of the blocks
 abbrev pub streams_shown : (credits_shown : Bool) → List Frame → List Finding

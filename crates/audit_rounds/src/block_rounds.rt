@@ -12,7 +12,6 @@ ghost use Rattle.conn_scan.specs.Items.{items_in, IsBlock};
 ghost use Rattle.conn_scan.specs.Block.{BlockFits};
 ghost use Rattle.job_crew.specs.declared.parts.Part.{Part as PartTerm};
 ghost use Rattle.audit_rounds.specs.declared.blocks.ConnectionBlock.{ConnectionBlock as BlockTerm};
-ghost use Rattle.audit_rounds.specs.declared.remaining.Remaining.{Remaining as RemainingTerm};
 ghost use Rattle.audit_rounds.specs.code.Blocks.{AreShort, AreSums, wholes};
 ghost use Rattle.audit_rounds.specs.code.Plans.{AreReady, AreParts, IsPlan, block_job, shown_at};
 ghost use Rattle.audit_rounds.specs.code.Remaining.{IsRemaining};
@@ -22,10 +21,9 @@ use crate::block_round::BlockRound;
 use crate::blocks::{ConnectionBlock, cut_into_blocks};
 use crate::divisions::Division;
 use crate::gathering::gathered;
-use crate::remaining::Remaining;
 use crate::sum_round::SumRound;
 use audit_terms::{Finding, Place};
-use conn_scan::ConnSum;
+use conn_scan::{Block, ConnSum};
 use job_crew::{Gate, Part, settle};
 use std::alloc::{AllocError, Global};
 use std::thread::Threads;
@@ -35,18 +33,6 @@ const SUM_ROUND: u8 = 2;
 
 /// The number of the round in which blocks are gone through.
 const BLOCK_ROUND: u8 = 3;
-
-/// Where each connection stops, as far as is known.
-fn stops_of(alloc: Global, connections: &[Remaining<'_>]) -> Result<Vec<Option<Place>>, AllocError>
-    ensures { IfOk result (λ stops. stops.items ≡ map (λ (one : RemainingTerm). one.stop) connections.now) }
-{
-    let mut stops = Vec::with_capacity(alloc, connections.len())?;
-    for connection in connections {
-        let place = connection.stop;
-        stops.push(place)?;
-    }
-    Ok(stops)
-}
 
 /// The summaries that parts hold.
 fn summaries(alloc: Global, parts: Vec<Part<ConnSum>>) -> Result<Vec<ConnSum>, AllocError>
@@ -109,11 +95,11 @@ fn planned<'a, R: Threads + Sync, G: Gate>(
     gate: &G,
     credits_shown: bool,
     stops: &[Option<Place>],
-    connections: &[Remaining<'a>],
+    connections: &[Block<'a>],
 ) -> Result<Vec<ReadyBlock<'a>>, AllocError>
     requires places { All IsStop stops.now }
     requires number { length stops.now ≡ length connections.now }
-    requires whole { All (λ (one : RemainingTerm). IsBlock one.whole) connections.now }
+    requires whole { All IsBlock connections.now }
     requires fits { All (BlockFits connection_start) (wholes connections.now) }
     ensures { IfOk result (λ plan. IsPlan credits_shown (length connections.now)
         (shown_at credits_shown 0 (wholes connections.now)) plan.items) }
@@ -123,28 +109,29 @@ fn planned<'a, R: Threads + Sync, G: Gate>(
     plan_of(alloc, credits_shown, &cut, sums.as_slice())
 }
 
-/// What was found of each connection, and what its blocks show, up to its stop.
+/// What was found of each connection, and what its blocks show, up to where it is known to stop.
 pub(crate) fn rounds_over_blocks<R: Threads + Sync, G: Gate>(
     rt: &R,
     alloc: Global,
     division: &Division,
     gate: &G,
     credits_shown: bool,
-    connections: &[Remaining<'_>],
+    stops: &[Option<Place>],
+    connections: &[Block<'_>],
     found: Vec<Vec<Finding>>,
 ) -> Result<Vec<Vec<Finding>>, AllocError>
+    requires stops { length stops.now ≡ length connections.now }
     requires number { length connections.now ≡ length found.items }
-    requires each { (n : ℕ) (remaining list : _) → n < length connections.now
-        → IsRemaining (slice_index_or connections.now n remaining) (slice_index_or found.items n list).items }
+    requires each { (n : ℕ) (whole stop list : _) → n < length connections.now
+        → IsRemaining (slice_index_or connections.now n whole) (slice_index_or stops.now n stop)
+        (slice_index_or found.items n list).items }
     ensures number { IfOk result (λ last. length last.items ≡ length found.items) }
-    ensures findings { IfOk result (λ last. (n : ℕ) (remaining list list' : _) → n < length connections.now
+    ensures findings { IfOk result (λ last. (n : ℕ) (whole list list' : _) → n < length connections.now
         → upto_stop (in_order (slice_index_or last.items n list).items)
         ≡ upto_stop (in_order ((slice_index_or found.items n list').items
         ++ shown credits_shown (block_run connection_start
-        (items_in (slice_index_or connections.now n remaining).whole))))) }
+        (items_in (slice_index_or connections.now n whole)))))) }
 {
-    let stops = stops_of(alloc, connections)?;
-    let stops = stops.as_slice();
     let plan = planned(rt, alloc, division, gate, credits_shown, stops, connections)?;
     let plan = plan.as_slice();
     let parts = parts_of(rt, alloc, division, gate, credits_shown, stops, plan)?;

@@ -2,10 +2,8 @@
 
 ghost use Rattle.std.specs.Prelude.{◌≡◌, ◌<◌, All, IfOk, OnOk};
 ghost use Rattle.conn_scan.specs.Items.{IsBlock};
-ghost use Rattle.audit_rounds.specs.declared.remaining.Remaining.{Remaining as RemainingTerm};
 ghost use Rattle.audit_rounds.specs.code.Blocks.{AddsBlocks, AreCut, AreShort, wholes};
 
-use crate::remaining::Remaining;
 use conn_scan::{Block, changes_from, numbers_from};
 use std::alloc::{AllocError, Global};
 
@@ -19,7 +17,7 @@ pub(crate) struct ConnectionBlock<'a> {
 /// Connections whose frames are cut into blocks.
 #[derive(Drop)]
 pub(crate) struct Cut<'c, 'a> {
-    pub(crate) connections: &'c [Remaining<'a>],
+    pub(crate) connections: &'c [Block<'a>],
     /// The blocks of all connections, one connection's after the other's.
     pub(crate) blocks: Vec<ConnectionBlock<'a>>,
     /// How many blocks each connection has.
@@ -57,10 +55,10 @@ fn add_blocks<'a>(
 pub(crate) fn cut_into_blocks<'c, 'a>(
     alloc: Global,
     size: usize,
-    connections: &'c [Remaining<'a>],
+    connections: &'c [Block<'a>],
 ) -> Result<Cut<'c, 'a>, AllocError>
     requires size { 0 < size }
-    requires whole { All (λ (one : RemainingTerm). IsBlock one.whole) connections.now }
+    requires whole { All IsBlock connections.now }
     ensures of { IfOk result (λ cut. cut.connections.now ≡ connections.now) }
     ensures cut { IfOk result (λ cut. AreCut 0 (wholes connections.now) cut.counts.items cut.blocks.items) }
     ensures short { IfOk result (λ cut. AreShort cut.blocks.items) }
@@ -69,7 +67,7 @@ pub(crate) fn cut_into_blocks<'c, 'a>(
     let mut counts = Vec::with_capacity(alloc, connections.len())?;
     for connection in connections {
         let before = blocks.len();
-        add_blocks(&mut blocks, size, counts.len(), &connection.whole)?;
+        add_blocks(&mut blocks, size, counts.len(), connection)?;
         counts.push(blocks.len() - before)?;
     }
     Ok(Cut {

@@ -1,7 +1,7 @@
 //! A batch of connections: each is made ready, then the rounds go over all of them, and what they found of each is put
 //! in order.
 
-ghost use Rattle.std.specs.Prelude.{◌≡◌, ℕ, ◌<◌, ◌≤◌, All, IfOk, length, map, slice_index_or};
+ghost use Rattle.std.specs.Prelude.{◌≡◌, ◌<◌, ◌≤◌, [], ◌∷◌, ◌++◌, All, IfOk, OnOk, length, map};
 ghost use Rattle.std.specs.Thread.{IsSync};
 ghost use Rattle.audit_terms.specs.Frame.{IsOrderly};
 ghost use Rattle.audit_terms.specs.Finding.{in_order, upto_stop, shown};
@@ -9,12 +9,11 @@ ghost use Rattle.audit_terms.specs.Pass.{pass};
 ghost use Rattle.audit_rounds.specs.Settling.{frames_within};
 ghost use Rattle.audit_rounds.specs.code.MadeReady.{AreMadeReady};
 ghost use Rattle.audit_rounds.specs.code.Prepared.{IsPrepared, found_before};
-ghost use Rattle.audit_rounds.specs.code.Connections.{front_of, IsRest, AreRests};
+ghost use Rattle.audit_rounds.specs.code.Connections.{IsRest, AreRests};
 
 use crate::block_rounds::rounds_over_blocks;
 use crate::divisions::Division;
 use crate::prepared::{Prepared, prepare};
-use crate::remaining::Remaining;
 use crate::stream_round::{AfterStreams, round_over_streams};
 use audit_terms::{Finding, Frame, Place};
 use conn_scan::Block;
@@ -23,13 +22,43 @@ use split_merge::merge;
 use std::alloc::{AllocError, Global};
 use std::thread::{Threads, join};
 
-/// What bounds the rest of the work on a connection.
+/// Connections made ready, and what is found of each before the rounds.
 #[derive(Drop)]
-pub(crate) struct Front {
-    /// Where the connection is known to stop.
-    pub(crate) stop: Option<Place>,
-    /// The numbers of the frames that open streams.
-    pub(crate) opened: Vec<u32>,
+struct MadeReady<'a> {
+    prepared: Vec<Prepared<'a>>,
+    found: Vec<Vec<Finding>>,
+}
+
+impl<'a> MadeReady<'a> {
+    /// No connection, with room for so many.
+    fn with_capacity(alloc: Global, connections: usize) -> Result<Self, AllocError>
+        ensures prepared { IfOk result (λ made. made.prepared.items ≡ []) }
+        ensures found { IfOk result (λ made. made.found.items ≡ []) }
+    {
+        let prepared = Vec::with_capacity(alloc, connections)?;
+        let found = Vec::with_capacity(alloc, connections)?;
+        Ok(MadeReady { prepared, found })
+    }
+
+    /// Adds a connection, of which this is found.
+    fn push(&mut self, ready: Prepared<'a>, before: Vec<Finding>) -> Result<(), AllocError>
+        ensures prepared { OnOk result (self.new.prepared.items ≡ self.old.prepared.items ++ ready.entry ∷ []) }
+        ensures found { OnOk result (self.new.found.items ≡ self.old.found.items ++ before ∷ []) }
+    {
+        self.prepared.push(ready)?;
+        self.found.push(before)?;
+        Ok(())
+    }
+
+    /// Adds other connections.
+    fn append(&mut self, more: &mut MadeReady<'a>) -> Result<(), AllocError>
+        ensures prepared { OnOk result (self.new.prepared.items ≡ self.old.prepared.items ++ more.old.prepared.items) }
+        ensures found { OnOk result (self.new.found.items ≡ self.old.found.items ++ more.old.found.items) }
+    {
+        self.prepared.append(&mut more.prepared)?;
+        self.found.append(&mut more.found)?;
+        Ok(())
+    }
 }
 
 /// What is shown of each connection of a batch.
@@ -47,7 +76,8 @@ pub(crate) fn findings_of_batch<R: Threads + Sync, G: Gate>(
     ensures { IfOk result (λ found. map (λ one. one.items) found.items
         ≡ map (λ frames. shown credits_shown (pass frames.now)) connections.now) }
 {
-    let (prepared, found) = prepare_each(rt, alloc, division.workers, connections)?;
+    let made = prepare_each(rt, alloc, division.workers, connections)?;
+    let MadeReady { prepared, found } = made;
     let prepared = prepared.as_slice();
     findings_of_prepared(rt, alloc, division, gate, credits_shown, prepared, found)
 }
@@ -69,11 +99,25 @@ fn findings_of_prepared<R: Threads + Sync, G: Gate>(
     ensures { IfOk result (λ found. map (λ one. one.items) found.items
         ≡ map (λ one. shown credits_shown (pass one.frames.now)) connections.now) }
 {
-    let streams = round_over_streams(rt, alloc, division, gate, credits_shown, connections, found)?;
-    let (found, fronts) = apart(alloc, streams)?;
-    let rests = rest_of_each(alloc, connections, fronts.as_slice())?;
+    let after = round_over_streams(rt, alloc, division, gate, credits_shown, connections, found)?;
+    let AfterStreams {
+        found,
+        stops,
+        opened,
+    } = after;
+    let stops = stops.as_slice();
+    let rests = rest_of_each(alloc, connections, stops, opened.as_slice())?;
     let rests = rests.as_slice();
-    let last = rounds_over_blocks(rt, alloc, division, gate, credits_shown, rests, found)?;
+    let last = rounds_over_blocks(
+        rt,
+        alloc,
+        division,
+        gate,
+        credits_shown,
+        stops,
+        rests,
+        found,
+    )?;
     settled(alloc, last)
 }
 
@@ -83,19 +127,17 @@ fn prepare_in_turn<'a, R: Threads + Sync>(
     alloc: Global,
     workers: u32,
     connections: &[&'a [Frame]],
-) -> Result<(Vec<Prepared<'a>>, Vec<Vec<Finding>>), AllocError>
+) -> Result<MadeReady<'a>, AllocError>
     requires workers { 0 < workers }
     requires frames { All (λ frames. IsOrderly frames.now) connections.now }
-    ensures { IfOk result (λ made. AreMadeReady connections.now made.0.items made.1.items) }
+    ensures { IfOk result (λ made. AreMadeReady connections.now made.prepared.items made.found.items) }
 {
-    let mut prepared = Vec::with_capacity(alloc, connections.len())?;
-    let mut found = Vec::with_capacity(alloc, connections.len())?;
+    let mut made = MadeReady::with_capacity(alloc, connections.len())?;
     for frames in connections {
         let (ready, before) = prepare(rt, alloc, workers, *frames)?;
-        prepared.push(ready)?;
-        found.push(before)?;
+        made.push(ready, before)?;
     }
-    Ok((prepared, found))
+    Ok(made)
 }
 
 /// Where connections are halved: those before have about half of the frames.
@@ -124,10 +166,10 @@ fn prepare_each<'a, R: Threads + Sync>(
     alloc: Global,
     workers: u32,
     connections: &[&'a [Frame]],
-) -> Result<(Vec<Prepared<'a>>, Vec<Vec<Finding>>), AllocError>
+) -> Result<MadeReady<'a>, AllocError>
     requires workers { 0 < workers }
     requires frames { All (λ frames. IsOrderly frames.now) connections.now }
-    ensures { IfOk result (λ made. AreMadeReady connections.now made.0.items made.1.items) }
+    ensures { IfOk result (λ made. AreMadeReady connections.now made.prepared.items made.found.items) }
 {
     if workers == 1 || connections.len() < 2 {
         return prepare_in_turn(rt, alloc, workers, connections);
@@ -137,40 +179,19 @@ fn prepare_each<'a, R: Threads + Sync>(
     let rest = workers - half;
     let (one, other) = join(
         rt,
-        || -> Result<(Vec<Prepared<'_>>, Vec<Vec<Finding>>), AllocError>
+        || -> Result<MadeReady<'_>, AllocError>
             requires { IsSync R.row × (0 < half) × All (λ frames. IsOrderly frames.now) front.now }
-            ensures { IfOk result (λ made. AreMadeReady front.entry.now made.0.items made.1.items) }
+            ensures { IfOk result (λ made. AreMadeReady front.entry.now made.prepared.items made.found.items) }
         { prepare_each(rt, alloc, half, front) },
-        || -> Result<(Vec<Prepared<'_>>, Vec<Vec<Finding>>), AllocError>
+        || -> Result<MadeReady<'_>, AllocError>
             requires { IsSync R.row × (0 < rest) × All (λ frames. IsOrderly frames.now) back.now }
-            ensures { IfOk result (λ made. AreMadeReady back.entry.now made.0.items made.1.items) }
+            ensures { IfOk result (λ made. AreMadeReady back.entry.now made.prepared.items made.found.items) }
         { prepare_each(rt, alloc, rest, back) },
     );
-    let (mut prepared, mut found) = one?;
-    let (mut more, mut more_found) = other?;
-    prepared.append(&mut more)?;
-    found.append(&mut more_found)?;
-    Ok((prepared, found))
-}
-
-/// What was found of each connection, and what bounds the rest of its work.
-fn apart(
-    alloc: Global,
-    streams: Vec<AfterStreams>,
-) -> Result<(Vec<Vec<Finding>>, Vec<Front>), AllocError>
-    ensures found { IfOk result (λ parts. parts.0.items ≡ map (λ one. one.found) streams.items) }
-    ensures fronts { IfOk result (λ parts. parts.1.items ≡ map front_of streams.items) }
-{
-    let mut found = Vec::with_capacity(alloc, streams.len())?;
-    let mut fronts = Vec::with_capacity(alloc, streams.len())?;
-    for one in streams {
-        found.push(one.found)?;
-        fronts.push(Front {
-            stop: one.stop,
-            opened: one.opened,
-        })?;
-    }
-    Ok((found, fronts))
+    let mut made = one?;
+    let mut more = other?;
+    made.append(&mut more)?;
+    Ok(made)
 }
 
 /// The frames up to the one at which the connection stops, that one included.
@@ -187,34 +208,34 @@ fn frames_within<'a>(stop: &Option<Place>, frames: &'a [Frame]) -> &'a [Frame]
     }
 }
 
-/// What is left to do of a connection.
-fn rest_of<'a>(connection: &'a Prepared<'a>, front: &'a Front) -> Remaining<'a>
+/// What is left to do of a connection, of which this is known.
+fn rest_of<'a>(connection: &'a Prepared<'a>, stop: &Option<Place>, opened: &'a [u32]) -> Block<'a>
     requires { IsPrepared connection.now }
-    ensures { IsRest connection.now front.now result }
+    ensures { IsRest connection.now stop.now opened.now result }
 {
-    Remaining {
-        whole: Block {
-            frames: frames_within(&front.stop, connection.frames),
-            opened: front.opened.as_slice(),
-            changes: connection.changes.as_slice(),
-        },
-        stop: front.stop,
+    Block {
+        frames: frames_within(stop, connection.frames),
+        opened,
+        changes: connection.changes.as_slice(),
     }
 }
 
-/// What is left to do of each connection.
+/// What is left to do of each connection: of its frames, as far as they matter, with what opens streams and what comes
+/// into force.
 fn rest_of_each<'a>(
     alloc: Global,
     connections: &'a [Prepared<'a>],
-    fronts: &'a [Front],
-) -> Result<Vec<Remaining<'a>>, AllocError>
-    requires number { length connections.now ≡ length fronts.now }
+    stops: &[Option<Place>],
+    opened: &'a [Vec<u32>],
+) -> Result<Vec<Block<'a>>, AllocError>
+    requires stops { length stops.now ≡ length connections.now }
+    requires opened { length opened.now ≡ length connections.now }
     requires prepared { All IsPrepared connections.now }
-    ensures { IfOk result (λ rests. AreRests connections.now fronts.now rests.items) }
+    ensures { IfOk result (λ rests. AreRests connections.now stops.now opened.now rests.items) }
 {
     let mut rests = Vec::with_capacity(alloc, connections.len())?;
-    for front in fronts {
-        let rest = rest_of(&connections[rests.len()], front);
+    for n in 0..connections.len() {
+        let rest = rest_of(&connections[n], &stops[n], opened[n].as_slice());
         rests.extend_from_slice(&[rest])?;
     }
     Ok(rests)

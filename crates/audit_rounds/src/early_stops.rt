@@ -7,13 +7,14 @@ ghost use Rattle.audit_terms.specs.declared.findings.Finding.{Finding as Finding
 ghost use Rattle.audit_terms.specs.Frame.{IsOrderly};
 ghost use Rattle.audit_terms.specs.Finding.{shown};
 ghost use Rattle.audit_terms.specs.Pass.{pass};
-ghost use Rattle.audit_rounds.specs.code.EarlyStops.{begun_of, chosen_of, found_with, front_of, has_stopped, later_of};
+ghost use Rattle.audit_rounds.specs.code.EarlyStops.{chosen_of, front_of, has_stopped, later_of};
 
 use crate::connections::findings_of_batch;
 use crate::divisions::Division;
 use audit_terms::{Finding, Frame};
 use job_crew::Gate;
 use std::alloc::{AllocError, Global};
+use std::mem::swap;
 use std::thread::Threads;
 
 /// Of so many frames and more a front is gone through first.
@@ -79,95 +80,23 @@ fn laters_of<'a>(
     Ok(laters)
 }
 
-/// What was found of a connection's front.
-#[derive(Drop)]
-struct Begun {
-    found: Vec<Finding>,
-}
-
-/// What was found of a connection: of its front, and later.
-#[derive(Drop)]
-struct Found {
-    early: Vec<Finding>,
-    later: Vec<Finding>,
-}
-
-/// What was found of each front.
-fn begun_each(alloc: Global, early: Vec<Vec<Finding>>) -> Result<Vec<Begun>, AllocError>
-    ensures { IfOk result (λ all. all.items ≡ map begun_of early.items) }
+/// Puts what a connection's front shows in place of what was found later, where the front ends it.
+fn choose(early: &mut Vec<Finding>, later: &mut Vec<Finding>)
+    ensures { later.new ≡ chosen_of (early.old, later.old) }
 {
-    early
-        .into_iter()
-        .map(
-            |found: Vec<Finding>| -> Begun
-                ensures { result ≡ begun_of found }
-            { Begun { found } },
-        )
-        .collect(alloc)
-}
-
-/// What was found of each connection.
-fn together(
-    alloc: Global,
-    early: Vec<Begun>,
-    later: Vec<Vec<Finding>>,
-) -> Result<Vec<Found>, AllocError>
-    requires { length later.items ≡ length early.items }
-    ensures { IfOk result (λ all. all.items ≡ map found_with (zip early.items later.items)) }
-{
-    early
-        .into_iter()
-        .zip(later)
-        .map(
-            |pair: (Begun, Vec<Finding>)| -> Found
-                ensures { result ≡ found_with pair }
-            {
-                let (early, later) = pair;
-                Found {
-                    early: early.found,
-                    later,
-                }
-            },
-        )
-        .collect(alloc)
-}
-
-/// What a connection's front shows, where that ends it, else what was found later.
-#[tactic(auto, unfolding(crate::specs::code::EarlyStops::chosen_of))]
-fn chosen_of(found: Found) -> Vec<Finding>
-    ensures { result ≡ chosen_of found }
-{
-    let Found { early, later } = found;
     if has_stopped(early.as_slice()) {
-        early
-    } else {
-        later
+        swap(early, later);
     }
 }
 
 /// That of each connection.
-fn chosen(alloc: Global, found: Vec<Found>) -> Result<Vec<Vec<Finding>>, AllocError>
-    ensures { IfOk result (λ all. all.items ≡ map chosen_of found.items) }
+fn choose_each(early: &mut Vec<Vec<Finding>>, later: &mut Vec<Vec<Finding>>)
+    requires { length later.old.items ≡ length early.old.items }
+    ensures { later.new.items ≡ map chosen_of (zip early.old.items later.old.items) }
 {
-    let mut all = Vec::with_capacity(alloc, found.len())?;
-    for one in found {
-        all.push(chosen_of(one))?;
+    for n in 0..later.len() {
+        choose(&mut early[n], &mut later[n]);
     }
-    Ok(all)
-}
-
-/// That of each connection, from what was found of its front, and later.
-fn chosen_of_each(
-    alloc: Global,
-    early: Vec<Vec<Finding>>,
-    later: Vec<Vec<Finding>>,
-) -> Result<Vec<Vec<Finding>>, AllocError>
-    requires { length later.items ≡ length early.items }
-    ensures { IfOk result (λ all. all.items
-        ≡ map chosen_of (map found_with (zip (map begun_of early.items) later.items))) }
-{
-    let begun = begun_each(alloc, early)?;
-    chosen(alloc, together(alloc, begun, later)?)
 }
 
 /// Is a front gone through first of one of these connections?
@@ -233,8 +162,17 @@ pub(crate) fn findings_by_fronts<R: Threads + Sync, G: Gate>(
     if !is_one_long(connections) {
         return findings_of_batch(rt, alloc, division, gate, credits_shown, connections);
     }
-    let early = findings_of_fronts(rt, alloc, division, gate, credits_shown, connections)?;
+    let mut early = findings_of_fronts(rt, alloc, division, gate, credits_shown, connections)?;
     let found = early.as_slice();
-    let later = findings_of_laters(rt, alloc, division, gate, credits_shown, connections, found)?;
-    chosen_of_each(alloc, early, later)
+    let mut later = findings_of_laters(
+        rt,
+        alloc,
+        division,
+        gate,
+        credits_shown,
+        connections,
+        found,
+    )?;
+    choose_each(&mut early, &mut later);
+    Ok(later)
 }

@@ -30,8 +30,9 @@
 //! - [`laws::openings_are_found`] and [`laws::items_are_found`]: the numbers that streams tell, and the changes, make
 //!   the items of the pass.
 //!
-//! A wrong body that the prover refuses: openings not handed on. Tested by whole reports, in many mixes of workers, groups
-//! and block lengths: that the call succeeds where there is memory.
+//! A wrong body that the prover refuses: changes of settings, not handed on to the blocks. Those of single rounds stand
+//! in the crates below. Tested by whole reports, in many mixes of workers, groups and block lengths: that the call succeeds
+//! where there is memory.
 #![tactic(auto)]
 
 mod beginnings;
@@ -47,11 +48,9 @@ mod halves;
 pub mod laws;
 mod opened;
 mod prepared;
-mod remaining;
 mod stream_jobs;
 mod stream_plan;
 mod stream_round;
-mod streams;
 mod sum_round;
 
 pub use divisions::{Division, findings_of_each};

@@ -1,25 +1,28 @@
 -- What the round over streams leaves of each connection.
 use Rattle.std.specs.Global.{Global}
 use Rattle.std.specs.Prelude.{◌≡◌, ℕ, ◌<◌, Bool, List, Option, Vec, length, map, slice_index_or}
-use Rattle.std.specs.List.{All, AllZip, zip}
+use Rattle.std.specs.List.{All, AllZip}
 use Rattle.audit_terms.specs.declared.findings.Finding.{Finding}
 use Rattle.stop_desk.specs.Stop.{IsStop}
 use Rattle.job_crew.specs.declared.settling.Settled.{Settled}
 use Rattle.job_crew.specs.Settling.{HasSettled}
 use Rattle.audit_rounds.specs.declared.prepared.Prepared.{Prepared}
-use Rattle.audit_rounds.specs.declared.stream_round.AfterStreams.{AfterStreams}
-use Rattle.audit_rounds.specs.declared.streams.Streams.{Streams}
+use Rattle.stream_groups.specs.declared.streams.Streams.{Streams}
 use Rattle.audit_rounds.specs.Settling.{IsAfterStreams}
 use Rattle.audit_rounds.specs.code.StreamRound.{IsFirstStop, IsStreamsOf}
 use Rattle.audit_rounds.specs.code.StreamJobs.{Makes, job_of, plan_from}
 
--- one for each connection
-pub record AreAfterStreams (credits_shown : Bool) (connections : List Prepared) (all : List AfterStreams) : Type 0 where
-  pub number : length all ≡ length connections
-  pub each : (n : ℕ) (one : AfterStreams) (connection : Prepared) → n < length connections →
+-- what was found of each connection, with its stop and its openings
+pub record AreAfterStreams (credits_shown : Bool) (connections : List Prepared) (found : List (Vec Finding Global))
+    (stops : List (Option ℕ)) (opened : List (Vec ℕ Global)) : Type 0 where
+  pub founds : length found ≡ length connections
+  pub number : length stops ≡ length connections
+  pub opens : length opened ≡ length connections
+  pub each : (n : ℕ) (connection : Prepared) (list : Vec Finding Global) (stop : Option ℕ) (numbers : Vec ℕ Global) →
+      n < length connections →
       IsAfterStreams credits_shown (slice_index_or connections n connection).frames.now
-      (slice_index_or all n one).found.items (slice_index_or all n one).stop (slice_index_or all n one).opened.items
-  pub stops : All (λ (one : AfterStreams). IsStop one.stop) all
+      (slice_index_or found n list).items (slice_index_or stops n stop) (slice_index_or opened n numbers).items
+  pub places : All IsStop stops
 
 -- the round over the streams of connections, in so many groups of each at most, is settled
 abbrev pub HaveSettled : (credits_shown : Bool) → (groups : ℕ) → List Streams → (opening : List (Option ℕ)) →
@@ -37,12 +40,3 @@ pub record HaveSettledOver (credits_shown : Bool) (groups : ℕ) (connections : 
   pub of : AllZip IsStreamsOf connections streams
   pub first : AllZip (λ (one : Vec Finding Global) (stop : Option ℕ). IsFirstStop one.items stop) found opening
   pub done : HaveSettled credits_shown groups streams opening settled
-
--- what was found of a connection, with its openings and its stop
-abbrev pub after_with : (Vec Finding Global × Vec ℕ Global) × Option ℕ → AfterStreams
-after_with one = record { found = one.0.0; stop = one.1; opened = one.0.1 }
-
--- that of each connection
-abbrev pub afters_of : (found : List (Vec Finding Global)) → (opened : List (Vec ℕ Global)) →
-    (stops : List (Option ℕ)) → List AfterStreams
-afters_of found opened stops = map after_with (zip (zip found opened) stops)

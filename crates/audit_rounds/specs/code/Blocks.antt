@@ -8,7 +8,6 @@ use Rattle.conn_scan.specs.declared.block_items.Block.{Block}
 use Rattle.conn_scan.specs.Items.{items_in, IsBlock}
 use Rattle.conn_scan.specs.Block.{MovesLittle, BlockFits}
 use Rattle.conn_scan.specs.ConnSum.{ConnSum, conn_sum_of}
-use Rattle.audit_rounds.specs.declared.remaining.Remaining.{Remaining}
 use Rattle.audit_rounds.specs.declared.blocks.ConnectionBlock.{ConnectionBlock}
 
 -- a block that may be summed
@@ -51,8 +50,8 @@ laid_out connection [] = []
 laid_out connection (blocks ∷ later) = blocks_of_connection connection blocks ++ laid_out (connection + 1) later
 
 -- the items of each connection
-abbrev pub wholes : List Remaining → List (List Item)
-wholes connections = map (λ (one : Remaining). items_in one.whole) connections
+abbrev pub wholes : List Block → List (List Item)
+wholes connections = map items_in connections
 
 -- the items of consecutive connections, the first of this number, cut into so many blocks each
 pub record AreCut (connection : ℕ) (wholes : List (List Item)) (counts : List ℕ) (blocks : List ConnectionBlock)

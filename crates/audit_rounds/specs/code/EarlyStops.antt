@@ -5,8 +5,6 @@ use Rattle.std.specs.List.{list_any}
 use Rattle.audit_terms.specs.declared.findings.Finding.{Finding}
 use Rattle.audit_terms.specs.declared.frames.Frame.{Frame}
 use Rattle.audit_terms.specs.Finding.{stops}
-use Rattle.audit_rounds.specs.declared.early_stops.Begun.{Begun}
-use Rattle.audit_rounds.specs.declared.early_stops.Found.{Found}
 
 -- the frames that are gone through first
 abbrev pub front_of : List Frame → List Frame
@@ -20,14 +18,6 @@ has_stopped found = list_any stops found
 abbrev pub later_of : List Frame → (early : List Finding) → List Frame
 later_of frames early = if has_stopped early then [] else frames
 
--- what was found of a connection's front
-abbrev pub begun_of : Vec Finding Global → Begun
-begun_of found = record { found = found }
-
--- beside what was found later
-abbrev pub found_with : Begun × Vec Finding Global → Found
-found_with pair = record { early = pair.0.found; later = pair.1 }
-
--- what the front shows where that has an error, else what was found later
-unfoldable pub chosen_of : Found → Vec Finding Global
-chosen_of found = if has_stopped found.early.items then found.early else found.later
+-- of what was found of a front, and later: what the front shows where that has an error, else what was found later
+abbrev pub chosen_of : Vec Finding Global × Vec Finding Global → Vec Finding Global
+chosen_of found = if has_stopped found.0.items then found.0 else found.1

@@ -6,9 +6,9 @@ use Rattle.settings_pair.specs.Changes.{AreOrderly}
 use Rattle.split_merge.specs.declared.splits.StreamRow.{StreamRow}
 use Rattle.split_merge.specs.Groups.{groups}
 use Rattle.split_merge.specs.Board.{Job}
-use Rattle.audit_rounds.specs.declared.streams.Streams.{Streams}
+use Rattle.stream_groups.specs.declared.streams.Streams.{Streams}
 use Rattle.audit_rounds.specs.declared.stream_plan.StreamJob.{StreamJob}
-use Rattle.audit_rounds.specs.code.Streams.{IsRow, AreOpenedUpTo, rows_shown, rows_opened}
+use Rattle.stream_groups.specs.Streams.{IsRow, AreOpenedUpTo, rows_shown, rows_opened}
 
 -- the streams of a connection that may be gone through
 pub record IsReady (streams : Streams) : Type 0 where

@@ -1,9 +1,9 @@
 use Rattle.std.proofs.Common.{◌≡◌, ◌<◌, List, length, All, sym, ◌∙◌, subst}
 use Rattle.std.proofs.lemmas.List.{length-map}
 use Rattle.conn_scan.specs.Block.{BlockFits}
+use Rattle.conn_scan.specs.declared.block_items.Block.{Block}
 use Rattle.audit_terms.specs.Connection.{connection_start}
 use Rattle.audit_rounds.specs.declared.blocks.ConnectionBlock.{ConnectionBlock}
-use Rattle.audit_rounds.specs.declared.remaining.Remaining.{Remaining}
 use Rattle.audit_rounds.specs.code.Blocks.{wholes}
 use Rattle.audit_rounds.specs.code.Plans.{IsPlan, shown_at}
 use Rattle.audit_rounds.proofs.Layouts.{cut-within}
@@ -22,12 +22,12 @@ sums_of-requires-clause-within g c κs inside =
 
 pub plan_of-requires-clause-fits : goal.plan_of-requires-clause-fits
 plan_of-requires-clause-fits g c =
-    subst (λ (of : List Remaining). All (BlockFits connection_start) (wholes of)) (sym c.in_ok-cut.ensures.of)
+    subst (λ (of : List Block). All (BlockFits connection_start) (wholes of)) (sym c.in_ok-cut.ensures.of)
     c.requires.fits
 
 pub returns : goal.returns
 returns g c =
     let shows = c.args.credits_shown in
     if_ok-then c.plan_of.result _ _ c.plan_of.ensures (λ plan is.
-    subst (λ (of : List Remaining). IsPlan shows (length of) (shown_at shows 0 (wholes of)) plan.items)
+    subst (λ (of : List Block). IsPlan shows (length of) (shown_at shows 0 (wholes of)) plan.items)
     c.in_ok-cut.ensures.of is)

@@ -7,10 +7,12 @@ pub returns : goal.returns
 returns g t c =
     let front = c.split_at.result.0.now in
     let back = c.split_at.result.1.now in
-    let one = c.in_ok-prepared in
+    let one = c.in_ok-made in
     let other = c.in_ok-more in
-    let first = IfOk-at_ok (λ r. AreMadeReady front r.0.items r.1.items) one.was c.join-one.ensures.first in
-    let second = IfOk-at_ok (λ r. AreMadeReady back r.0.items r.1.items) other.was c.join-one.ensures.second in
-    rw (c.in_ok-append.ensures.items, c.in_ok-append-2.ensures.items)
-    (made-whole c.args.connections.now front back c.middle.result one.prepared.items other.more.items one.found.items
-    other.more_found.items c.split_at.ensures.front c.split_at.ensures.back first second)
+    let first = IfOk-at_ok (λ made. AreMadeReady front made.prepared.items made.found.items) one.was
+    c.join-one.ensures.first in
+    let second = IfOk-at_ok (λ made. AreMadeReady back made.prepared.items made.found.items) other.was
+    c.join-one.ensures.second in
+    rw (c.in_ok-append.ensures.prepared, c.in_ok-append.ensures.found)
+    (made-whole c.args.connections.now front back c.middle.result one.made.prepared.items other.more.prepared.items
+    one.made.found.items other.more.found.items c.split_at.ensures.front c.split_at.ensures.back first second)

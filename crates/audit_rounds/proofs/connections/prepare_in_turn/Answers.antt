@@ -1,21 +1,54 @@
-use Rattle.std.proofs.Common.{All, sym, subst, arith}
+use Rattle.std.proofs.Common.{List, map, All, sym, ap, ◌∙◌, subst, arith, Bor, Vec, Global}
+use Rattle.std.proofs.lemmas.List.{take_all}
 use Rattle.std.proofs.lemmas.List.Elements.{All-push}
-use Rattle.audit_rounds.specs.code.Prepared.{IsPrepared}
+use Rattle.audit_terms.specs.declared.findings.Finding.{Finding}
+use Rattle.audit_terms.specs.declared.frames.Frame.{Frame}
+use Rattle.audit_rounds.specs.declared.prepared.Prepared.{Prepared}
+use Rattle.audit_rounds.specs.code.Prepared.{IsPrepared, found_before}
 use Rattle.audit_rounds.proofs.Fronts.{ready-more, before-more}
 use Rattle.audit_rounds.proofs.connections.prepare_in_turn.Goals as goal
 
 pub loop-frames-preserved : goal.loop-frames-preserved
 loop-frames-preserved g c =
     let at = c.loop-frames in
+    let made = at.made.prepared.items in
+    let found = at.made.found.items in
     let ready = c.in_ok-ready.ready in
     let within = c.loop-frames-test.true in
+    let more = c.in_ok-push.ensures.prepared in
     record {
       within = omega (arith, within);
-      frames = rw c.in_ok-push.ensures.items (ready-more at.prepared.items ready c.args.connections.now at.frames-index _
-          within c.in_ok-ready.ensures.frames at.invariant.frames);
-      prepared = subst (All IsPrepared) (sym c.in_ok-push.ensures.items)
-          (All-push IsPrepared at.prepared.items ready at.invariant.prepared c.in_ok-ready.ensures.prepared);
-      found = rw (c.in_ok-push.ensures.items, c.in_ok-push-2.ensures.items)
-          (before-more at.found.items at.prepared.items c.in_ok-ready.before ready c.in_ok-ready.ensures.found
-          at.invariant.found);
+      frames = rw more (ready-more made ready c.args.connections.now at.frames-index _ within c.in_ok-ready.ensures.frames
+          at.invariant.frames);
+      prepared = subst (All IsPrepared) (sym more)
+          (All-push IsPrepared made ready at.invariant.prepared c.in_ok-ready.ensures.prepared);
+      found = rw (more, c.in_ok-push.ensures.found)
+          (before-more found made c.in_ok-ready.before ready c.in_ok-ready.ensures.found at.invariant.found);
+    }
+
+pub loop-frames-init : goal.loop-frames-init
+loop-frames-init g c =
+    let none = c.in_ok-made.ensures.prepared in
+    record {
+      within = omega arith;
+      frames = ap (map (λ (one : Prepared). one.frames.now)) none;
+      prepared = subst (All IsPrepared) (sym none) (λ n d l. absurd (omega arith));
+      found = ap (map (λ (list : Vec Finding Global). list.items)) c.in_ok-made.ensures.found
+          ∙ sym (ap (map found_before) none);
+    }
+
+pub prepare-requires : goal.prepare-requires
+prepare-requires g c = (
+  c.type_bounds.sync-R,
+  (c.requires.workers, c.requires.frames c.loop-frames.frames-index _ c.loop-frames-test.true),
+)
+
+pub returns : goal.returns
+returns g c =
+    let at = c.loop-frames in
+    record {
+      frames = at.invariant.frames ∙ ap (map (λ (frames : Bor (List Frame)). frames.now))
+          (take_all at.frames-index c.args.connections.now c.loop-frames-test.false);
+      prepared = at.invariant.prepared;
+      before = at.invariant.found;
     }

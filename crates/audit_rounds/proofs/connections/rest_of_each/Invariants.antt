@@ -3,10 +3,11 @@ use Rattle.audit_rounds.specs.code.Connections.{IsRest}
 use Rattle.audit_rounds.proofs.connections.rest_of_each.Given as goal
 
 -- what is left of the connections so far
-abbrev pub invariant-loop-front : goal.invariant-loop-front
-invariant-loop-front l = record {
-  within : l.front-index ≤ length l.fronts;
-  number : length l.rests.items ≡ l.front-index;
-  each : (n : ℕ) (connection front rest : _) → n < length l.rests.items
-      → IsRest (get_or l.connections n connection) (get_or l.fronts n front) (get_or l.rests.items n rest);
+abbrev pub invariant-loop-n : goal.invariant-loop-n
+invariant-loop-n l = record {
+  within : l.n ≤ length l.connections;
+  number : length l.rests.items ≡ l.n;
+  each : (n : ℕ) (connection stop numbers rest : _) → n < length l.rests.items
+      → IsRest (get_or l.connections n connection) (get_or l.stops n stop) (get_or l.opened n numbers).items
+      (get_or l.rests.items n rest);
 }

@@ -1,4 +1,8 @@
-use Rattle.std.proofs.Common.{List, Bor, arith}
+use Rattle.std.proofs.Common.{List, map, All, sym, ap, ◌∙◌, subst, arith, Bor, Vec, Global}
+use Rattle.std.proofs.lemmas.List.{take_all}
+use Rattle.std.proofs.lemmas.List.Elements.{All-take, All-drop}
+use Rattle.audit_terms.specs.declared.findings.Finding.{Finding}
+use Rattle.audit_terms.specs.Frame.{IsOrderly}
 use Rattle.audit_terms.specs.declared.frames.Frame.{Frame}
 use Rattle.audit_terms.specs.Finding.{shown}
 use Rattle.audit_terms.specs.Pass.{pass}
@@ -20,3 +24,37 @@ loop-done-preserved g c =
           c.split_at.result.1.now at.done c.batch_length.result long cut.ensures.front c.split_at.ensures.back
           c.in_ok-append.ensures.items at.invariant.shown c.in_ok-found.ensures;
     }
+
+pub loop-done-init : goal.loop-done-init
+loop-done-init g c = record {
+  within = omega arith;
+  shown = ap (map (λ (list : Vec Finding Global). list.items)) c.in_ok-all.ensures.items;
+}
+
+pub findings_by_halves-requires : goal.findings_by_halves-requires
+findings_by_halves-requires g c =
+    let orderly = λ (frames : Bor (List Frame)). IsOrderly frames.now in
+    let all = c.args.connections.now in
+    let rest = c.split_at.result.1.now in
+    let filled = c.filled-division.ensures in (
+      c.type_bounds.sync-R,
+      (
+        c.type_bounds.sync-G,
+        (
+          filled.workers,
+          (
+            filled.groups,
+            subst (All orderly) (sym c.split_at-in-loop-done.ensures.front)
+                (All-take orderly c.batch_length.result rest
+                (subst (All orderly) (sym c.split_at.ensures.back) (All-drop orderly c.loop-done.done all c.requires))),
+          ),
+        ),
+      ),
+    )
+
+pub returns : goal.returns
+returns g c =
+    let at = c.loop-done in
+    at.invariant.shown
+    ∙ ap (map (λ (frames : Bor (List Frame)). shown c.args.credits_shown (pass frames.now)))
+    (take_all at.done c.args.connections.now c.loop-done-test.false)

@@ -1,30 +1,32 @@
-use Rattle.std.proofs.Common.{◌≡◌, ◌+◌, ◌<◌, ◌++◌, [], ◌∷◌, map, length, get_or, sym, ap, subst, ◌∙◌, append_assoc, arith, length-set, Vec, Global}
+use Rattle.std.proofs.Common.{◌≡◌, ◌<◌, ◌++◌, [], ◌∷◌, map, length, get_or, sym, ap, ◌∙◌, arith, length-set, Vec, Global}
 use Rattle.audit_terms.specs.declared.findings.Finding.{Finding}
-use Rattle.std.proofs.lemmas.List.{length-append, map-append}
-use Rattle.std.proofs.Math.Seq.{get_or-append_seam}
+use Rattle.std.proofs.lemmas.List.{map-append}
 use Rattle.std.specs.Vec.Iter.{into_iter_items}
 use Rattle.split_merge.specs.Board.{findings_of_parts}
 use Rattle.job_crew.specs.Laid.{part_of}
+use Rattle.audit_rounds.proofs.Drawn.{taken-more, taken-holds, taken-all}
 use Rattle.audit_rounds.proofs.PartsKept.{gathered-more}
 use Rattle.audit_rounds.proofs.gathering.gathered.Goals as goal
+
+pub index_mut-requires : goal.index_mut-requires
+index_mut-requires g c =
+    let at = c.loop-part in
+    let inside = taken-holds (λ part. part.connection < length c.args.found.items) at.yielded c.in-Some.part
+    (into_iter_items c.next.new.self) _ _ c.in-Some.ensures.steps.0 at.invariant.parts c.requires in
+    let number = at.invariant.number in
+    omega (arith, inside, number)
 
 pub loop-part-preserved : goal.loop-part-preserved
 loop-part-preserved g c =
     let at = c.loop-part in
     let part = c.in-Some.part in
     let rest = into_iter_items c.next.new.self in
-    let steps : into_iter_items at.part-iterator ≡ part ∷ rest = c.in-Some.ensures.steps.0 in
-    let whole : at.yielded ++ part ∷ rest ≡ c.args.parts.items =
-    ap (λ l. at.yielded ++ l) (sym steps) ∙ at.invariant.parts in
-    let longer : length c.args.parts.items ≡ length at.yielded + length (part ∷ rest) =
-    ap length (sym whole) ∙ length-append at.yielded (part ∷ rest) in
-    let within : length at.yielded < length c.args.parts.items = omega arith in
-    let is : get_or c.args.parts.items (length at.yielded) part ≡ part =
-    ap (λ l. get_or l (length at.yielded) part) (sym whole) ∙ get_or-append_seam at.yielded part rest part in
+    let steps = c.in-Some.ensures.steps.0 in
     let inside : part.connection < length c.args.found.items =
-    subst (λ p. p.connection < length c.args.found.items) is (c.requires (length at.yielded) part within) in
+    taken-holds (λ part. part.connection < length c.args.found.items) at.yielded part rest _ _ steps at.invariant.parts
+    c.requires in
     record {
-      parts = append_assoc at.yielded (part ∷ []) rest ∙ whole;
+      parts = taken-more at.yielded part rest _ _ steps at.invariant.parts;
       number = length-set at.all.items part.connection c.append.new.self ∙ at.invariant.number;
       each = λ n list list' l.
           let d = c.index_mut.result.now in
@@ -36,3 +38,15 @@ loop-part-preserved g c =
           ∙ ap (λ parts. (get_or c.args.found.items n list').items ++ findings_of_parts n parts)
           (sym (map-append part_of at.yielded (part ∷ [])));
     }
+
+pub returns-clause-number : goal.returns-clause-number
+returns-clause-number g c = c.loop-part.invariant.number
+
+pub returns-clause-each : goal.returns-clause-each
+returns-clause-each g c =
+    let at = c.loop-part in
+    let all = taken-all at.yielded (into_iter_items at.part-iterator) c.args.parts.items
+    (sym at.part-iterator.rest.ok.0 ∙ c.in-None.ensures.steps.0) at.invariant.parts in
+    λ n list list' l.
+    at.invariant.each n list list' l
+    ∙ ap (λ parts. (get_or c.args.found.items n list').items ++ findings_of_parts n (map part_of parts)) all

@@ -1,12 +1,11 @@
-use Rattle.std.proofs.Common.{◌<◌, List, length, get_or, All, Option, ℕ, sym, ap, ◌∙◌, subst, arith, Vec, Global}
+use Rattle.std.proofs.Common.{◌<◌, List, length, get_or, All, ℕ, sym, ◌∙◌, subst, arith, Vec, Global}
 use Rattle.std.proofs.lemmas.Slice.Zip.{AllZip-long}
 use Rattle.audit_terms.specs.declared.findings.Finding.{Finding}
 use Rattle.job_crew.specs.declared.parts.Part.{Part}
-use Rattle.audit_rounds.specs.code.AfterStreams.{AreAfterStreams, HaveSettledOver}
+use Rattle.audit_rounds.specs.code.AfterStreams.{HaveSettledOver}
 use Rattle.audit_rounds.specs.code.Opened.{numbers_told, IsInOrder}
-use Rattle.audit_rounds.specs.code.StreamRound.{IsStreamsOf, IsFirstStop}
+use Rattle.audit_rounds.specs.code.StreamRound.{IsStreamsOf}
 use Rattle.audit_rounds.proofs.StreamsLeft.{as-many, parts-inside, are-after}
-use Rattle.audit_rounds.proofs.Whole.{if_ok-then}
 use Rattle.audit_rounds.proofs.stream_round.round_over_streams.Goals as goal
 
 pub settled_over-requires-clause-found : goal.settled_over-requires-clause-found
@@ -29,14 +28,6 @@ gathered-requires g c =
     (length found)
     (AllZip-long IsStreamsOf connections h.streams h.of ∙ sym (as-many connections found c.requires.found))
 
-pub together-requires-clause-stops : goal.together-requires-clause-stops
-together-requires-clause-stops g c =
-    let h = c.in_ok-settled.ensures in
-    h.done.connections
-    ∙ AllZip-long (λ (one : Vec Finding Global) (stop : Option ℕ). IsFirstStop one.items stop)
-    c.as_slice-before.result.now h.opening h.first
-    ∙ ap length c.as_slice-before.ensures.value ∙ sym c.in_ok-found.ensures.number
-
 pub returns : goal.returns
 returns g c =
     let shows = c.args.credits_shown in
@@ -47,11 +38,9 @@ returns g c =
     let h : HaveSettledOver shows count connections found settled =
     subst (λ (found : List (Vec Finding Global)). HaveSettledOver shows count connections found settled)
     c.as_slice-before.ensures.value c.in_ok-settled.ensures in
-    if_ok-then c.together.result _ _ c.together.ensures (λ all is.
-    subst (AreAfterStreams shows connections) (sym is)
-    (are-after shows count h.streams h.opening settled h.done connections
+    are-after shows count h.streams h.opening settled h.done connections
     (let some = c.requires.groups in omega (arith, some)) c.requires.prepared h.of found
     c.in_ok-found.found.items c.in_ok-opened.opened.items c.requires.found h.first c.in_ok-found.ensures.number
     c.in_ok-found.ensures.each c.in_ok-opened.ensures.number
     (λ n list l. subst (λ parts. IsInOrder (numbers_told n parts) (get_or c.in_ok-opened.opened.items n list).items)
-    c.as_slice.ensures.value (c.in_ok-opened.ensures.each n list l))))
+    c.as_slice.ensures.value (c.in_ok-opened.ensures.each n list l))

@@ -80,3 +80,17 @@ returns g t c =
     (worked-both makes jobs shift.round desk (half * each) (rest * each) mine.0.items theirs.0.items mine.1 theirs.1 r.1
     first second is.1))
     c.together.ensures
+
+pub overflow_sub-rest : goal.overflow_sub-rest
+overflow_sub-rest g t c = omega arith
+
+pub divide-kept-requires-clause-some : goal.divide-kept-requires-clause-some
+divide-kept-requires-clause-some g t c =
+    let some = c.requires.some in
+    let more = c.if-workers-eq1.false in
+    omega (arith, some, more)
+
+pub divide-kept-requires-clause-fewer : goal.divide-kept-requires-clause-fewer
+divide-kept-requires-clause-fewer g t c =
+    let some = c.requires.some in
+    omega (arith, some)

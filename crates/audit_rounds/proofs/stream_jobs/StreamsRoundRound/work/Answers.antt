@@ -1,4 +1,5 @@
-use Rattle.std.proofs.Common.{◌<◌, length, arith}
+use Rattle.std.proofs.Common.{◌<◌, ◌≤◌, length, get_or, sym, subst, arith}
+use Rattle.std.proofs.lemmas.Option.{slice_get-get_or}
 use Rattle.std.proofs.lemmas.List.{length-map}
 use Rattle.audit_rounds.specs.declared.stream_plan.StreamJob.{StreamJob}
 use Rattle.audit_rounds.specs.code.StreamJobs.{job_of}
@@ -8,6 +9,38 @@ use Rattle.audit_rounds.proofs.stream_jobs.StreamsRoundRound.work.Goals as goal
 
 abbrev none : StreamJob
 none = record { connection = 0; from = 0; to = 0 }
+
+pub bounds-self-job : goal.bounds-self-job
+bounds-self-job g c =
+    let round = c.args.self.now in
+    let number = length-map round.plan.now (job_of round.credits_shown round.connections.now) in
+    omega arith
+
+pub bounds-self-job-2 : goal.bounds-self-job-2
+bounds-self-job-2 g c =
+    let round = c.args.self.now in
+    let number = length-map round.plan.now (job_of round.credits_shown round.connections.now) in
+    let within : c.args.job < length round.plan.now = omega arith in
+    (round.planned c.args.job none within).connection
+
+pub slice_bounds-rows-count : goal.slice_bounds-rows-count
+slice_bounds-rows-count g c =
+    let round = c.args.self.now in
+    let number = length-map round.plan.now (job_of round.credits_shown round.connections.now) in
+    let within : c.args.job < length round.plan.now = omega arith in
+    (round.planned c.args.job none within).rising
+
+pub slice_bounds-rows-end : goal.slice_bounds-rows-end
+slice_bounds-rows-end g c =
+    let round = c.args.self.now in
+    let number = length-map round.plan.now (job_of round.credits_shown round.connections.now) in
+    let within : c.args.job < length round.plan.now = omega arith in
+    let planned = round.planned c.args.job none within in
+    let job = get_or round.plan.now c.args.job none in
+    let inside : job.to ≤ length c.deref.result.now =
+    subst (λ rows. job.to ≤ length rows) (sym c.deref.ensures.value)
+    (planned.within _ (slice_get-get_or round.connections.now job.connection c.index-self-job.result planned.connection)) in
+    inside
 
 pub run_of_rows-requires-clause-rows : goal.run_of_rows-requires-clause-rows
 run_of_rows-requires-clause-rows g c =

@@ -3,7 +3,7 @@
 ghost use Rattle.std.specs.Prelude.{◌≡◌, ◌++◌, ◌<◌, IfOk, OnOk, All};
 ghost use Rattle.std.specs.Option.{option_to_list};
 ghost use Rattle.settings_pair.specs.Changes.{AreOrderly};
-ghost use Rattle.audit_rounds.specs.code.Streams.{IsRow, IsWork, lesser, row_shown, row_opened, rows_shown, rows_opened};
+ghost use Rattle.stream_groups.specs.Streams.{IsRow, IsWork, lesser, row_shown, row_opened, rows_shown, rows_opened};
 
 use audit_terms::{Frame, Look, Place, put_in_order};
 use job_crew::Work;
@@ -13,10 +13,10 @@ use stream_credit::{Changes, StreamPart, StreamRun, stream_run};
 
 /// A connection's frames by stream, and the changes that settings bring to it.
 #[derive(Clone, Copy)]
-pub(crate) struct Streams<'a> {
-    pub(crate) frames: &'a [Frame],
-    pub(crate) split: &'a SplitFrames,
-    pub(crate) changes: &'a Changes<'a>,
+pub struct Streams<'a> {
+    pub frames: &'a [Frame],
+    pub split: &'a SplitFrames,
+    pub changes: &'a Changes<'a>,
 }
 
 /// What one stream shows, with a look.
@@ -41,7 +41,7 @@ fn run_of_row<L: Look>(
 }
 
 /// The lesser of two places up to which runs went.
-pub(crate) fn lesser(one: &Option<Place>, other: &Option<Place>) -> Option<Place>
+pub fn lesser(one: &Option<Place>, other: &Option<Place>) -> Option<Place>
     ensures { result ≡ lesser one.now other.now }
 {
     match (one, other) {
@@ -66,7 +66,7 @@ fn add(work: &mut Work<Vec<u32>>, mut run: StreamRun) -> Result<(), AllocError>
 }
 
 /// What a group of streams shows, one stream after the other, put in order.
-pub(crate) fn run_of_rows<L: Look>(
+pub fn run_of_rows<L: Look>(
     alloc: Global,
     streams: &Streams<'_>,
     rows: &[StreamRow],

@@ -26,9 +26,9 @@ use Rattle.stream_credit.specs.declared.parts.StreamRun.{StreamRun}
 use Rattle.stream_credit.specs.Looks.{step_numbers}
 use Rattle.split_merge.specs.declared.splits.StreamRow.{StreamRow}
 use Rattle.split_merge.specs.Split.{frames_at, part_of}
-use Rattle.audit_rounds.specs.declared.streams.Streams.{Streams}
-use Rattle.audit_rounds.specs.code.Streams.{lesser, AreOpenedUpTo, IsWork, IsRow, row_shown, row_opened}
-use Rattle.audit_rounds.proofs.StreamOrder.{shown-ordered}
+use Rattle.stream_groups.specs.declared.streams.Streams.{Streams}
+use Rattle.stream_groups.specs.Streams.{lesser, AreOpenedUpTo, IsWork, IsRow, row_shown, row_opened}
+use Rattle.stream_groups.proofs.StreamOrder.{shown-ordered}
 
 -- ---- one stream
 

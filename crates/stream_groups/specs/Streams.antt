@@ -15,7 +15,7 @@ use Rattle.split_merge.specs.declared.splits.StreamRow.{StreamRow}
 use Rattle.split_merge.specs.Split.{IsRange, part_of, frames_at}
 use Rattle.split_merge.specs.Board.{IsCut}
 use Rattle.job_crew.specs.Heeding.{Heeds}
-use Rattle.audit_rounds.specs.declared.streams.Streams.{Streams}
+use Rattle.stream_groups.specs.declared.streams.Streams.{Streams}
 
 -- what is shown of one stream
 abbrev pub shown_of : (credits_shown : Bool) → List Frame → (stream : ℕ) → List Finding

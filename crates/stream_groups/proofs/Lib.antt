@@ -1,0 +1,2 @@
+pub mod StreamOrder
+pub mod StreamWork
