@@ -20,6 +20,7 @@ pub struct Stream {
 
 impl Stream {
     ghost use Rattle.audit_terms.specs.code.Room.{WindowHasRoom};
+    ghost use Rattle.audit_terms.specs.Finding.{say_of};
     ghost use Rattle.audit_terms.specs.Stream.{IsAcknowledged, idle_stream, opens, frame_said, stream_said, stream_after, life_at};
 
     /// A stream that is not opened.
@@ -86,6 +87,19 @@ impl Stream {
         )
     }
 
+    /// The same of a step that may have no frame.
+    fn say_step(&self, found: &mut Vec<Finding>, stream: u32, step: &Step) -> Result<(), AllocError>
+        requires numbered { step.now.number ≤ 2 ^ 28 - 2 }
+        requires streamed { stream < 2 ^ 31 }
+        ensures { OnOk result (found.new.items
+            ≡ found.old.items ++ say_of (frame_said stream self.now step.now) step.now.frame) }
+    {
+        match &step.frame {
+            Some(frame) => self.say_frame(found, stream, step, frame),
+            None => Ok(()),
+        }
+    }
+
     /// Adds what a step shows of the stream, and brings the stream to its state after the step; `initial` are the
     /// initial windows in force before it. Without memory the stream may be between the two states, and some findings
     /// may have been added.
@@ -111,9 +125,7 @@ impl Stream {
     {
         let opening = self.opens(stream, step);
         let life = self.life_at(stream, step);
-        if let Some(frame) = &step.frame {
-            self.say_frame(found, stream, step, frame)?;
-        }
+        self.say_step(found, stream, step)?;
         say_window(
             found,
             &mut self.window.client,

@@ -188,19 +188,12 @@ impl LiveStep {
         ensures room { (bound : ℕ) → HasRoom bound before.now → WindowHasRoom (bound + 2 ^ 32) result.after }
     {
         let count = count(side, stream, initial, step, before);
-        let is_overflowing = step.grant_to(side, stream) > 0 && count.overflows();
+        let is_overflowing = is_overflowing_grant(side, stream, step, &count);
         let ends = step.ends_window(side) || is_overflowing;
         LiveStep {
-            last: Count {
-                after: if is_overflowing {
-                    count.before
-                } else {
-                    count.after
-                },
-                ..count
-            },
+            last: last_known(&count, is_overflowing),
             is_overflowing,
-            after: if ends { None } else { Some(count.after) },
+            after: left_live(&count, ends),
             count,
         }
     }
@@ -317,6 +310,39 @@ impl LiveStep {
     {
         !is_used_up(&self.count.before) && self.is_stalled()
     }
+}
+
+ghost use Rattle.std.specs.Prelude.{◌&&◌, None, nat_lt};
+ghost use Rattle.audit_terms.specs.Frame.{grant_to};
+ghost use Rattle.audit_terms.specs.Window.{overflows};
+
+/// Does a grant of the step bring the window above the largest?
+fn is_overflowing_grant(side: Side, stream: u32, step: &Step, count: &Count) -> bool
+    ensures { result ≡ (nat_lt 0 (step_amount (grant_to side stream) step.now)
+        && overflows count.now.before count.now.after) }
+{
+    step.grant_to(side, stream) > 0 && count.overflows()
+}
+
+/// The count up to the last credit that is known: an overflowing grant is not added.
+fn last_known(count: &Count, is_overflowing: bool) -> Count
+    ensures { result ≡ (if is_overflowing then record count.now { after = count.now.before } else count.now) }
+{
+    if is_overflowing {
+        Count {
+            after: count.before,
+            ..*count
+        }
+    } else {
+        *count
+    }
+}
+
+/// The credit after the step, unless the window ends.
+fn left_live(count: &Count, ends: bool) -> Option<i64>
+    ensures { result ≡ (if ends then None else Some count.now.after) }
+{
+    if ends { None } else { Some(count.after) }
 }
 
 /// What a step does to the credit of a live window: less the content, plus the grant, plus the new initial window

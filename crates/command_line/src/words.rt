@@ -1,13 +1,14 @@
-ghost use Rattle.std.specs.Prelude.{IfOk, codes, map, option_map, string_bytes, ◌≡◌};
-ghost use Rattle.clap.specs.Words.{first_of, found_of, rows_of};
+ghost use Rattle.std.specs.Prelude.{IfOk, List, [], codes, map, option_map, string_bytes, ◌≡◌};
+ghost use Rattle.clap.specs.Words.{HasKind, Text, fault_of, first_of, found_of, matches_of, rows_of};
 ghost use Rattle.command_line.specs.Asked.{Asks, IsFound};
 ghost use Rattle.command_line.specs.Choices.{choices};
+ghost use Rattle.command_line.specs.Words.{app};
 ghost use Rattle.command_line.specs.code.Numbers.{HasNumbers};
 
 use crate::command::{BLOCK, FILE, FRAMES, GROUPS, WORKERS, matches};
 use crate::options::Options;
-use clap::ArgMatches;
 use clap::error::ErrorKind;
+use clap::{ArgMatches, Error};
 use std::alloc::{AllocError, Global};
 
 /// What the words of the command line ask for.
@@ -32,20 +33,34 @@ pub fn parse(alloc: Global, words: &[&str]) -> Result<Parsed, AllocError>
     ensures { IfOk result (Asks (map (λ w. w.now) words.now)) }
 {
     match matches(alloc, words) {
-        Ok(found) => Ok(Parsed::Run(options_in(&found), file_in(alloc, &found)?)),
-        Err(error) => {
-            let kind = error.kind();
-            if kind == ErrorKind::OutOfMemory {
-                return Err(AllocError);
-            }
-            let text = error.to_string(alloc)?;
-            Ok(match kind {
-                ErrorKind::DisplayHelp => Parsed::Help(text),
-                ErrorKind::DisplayVersion => Parsed::Version(text),
-                _ => Parsed::Refused(text),
-            })
-        }
+        Ok(found) => audit_asked(alloc, &found),
+        Err(error) => unparsed(alloc, &error),
     }
+}
+
+/// The audit that words ask for in which clap finds no fault.
+fn audit_asked(alloc: Global, found: &ArgMatches<'_>) -> Result<Parsed, AllocError>
+    requires { HasNumbers (found_of found.now) }
+    ensures { (words : List Text) → fault_of app words ≡ [] → rows_of (found_of found.now) ≡ matches_of app words
+        → IfOk result (Asks words) }
+{
+    Ok(Parsed::Run(options_in(found), file_in(alloc, found)?))
+}
+
+/// What words ask for that clap reads as no audit: help, the version, or why they are refused.
+fn unparsed(alloc: Global, error: &Error) -> Result<Parsed, AllocError>
+    ensures { (words : List Text) → HasKind (fault_of app words) error.now → IfOk result (Asks words) }
+{
+    let kind = error.kind();
+    if kind == ErrorKind::OutOfMemory {
+        return Err(AllocError);
+    }
+    let text = error.to_string(alloc)?;
+    Ok(match kind {
+        ErrorKind::DisplayHelp => Parsed::Help(text),
+        ErrorKind::DisplayVersion => Parsed::Version(text),
+        _ => Parsed::Refused(text),
+    })
 }
 
 /// The options that clap found. It gives each number a default, and refuses one out of range.

@@ -20,10 +20,10 @@ lt-true a b h = elim (lt_cases a b) as (λ _. nat_lt a b ≡ true) [ inl k ↦ k
 pub lt-false : (a b : ℕ) → b ≤ a → nat_lt a b ≡ false
 lt-false a b h = elim (lt_cases a b) as (λ _. nat_lt a b ≡ false) [ inl k ↦ absurd (omega (arith, k.1)) | inr k ↦ k.0 ]
 
-le-true : (a b : ℕ) → a ≤ b → nat_le a b ≡ true
+pub le-true : (a b : ℕ) → a ≤ b → nat_le a b ≡ true
 le-true a b h = elim (leb_tells a b) as (λ _. nat_le a b ≡ true) [ inl k ↦ k.0 | inr k ↦ absurd (omega (arith, k.1)) ]
 
-le-false : (a b : ℕ) → b < a → nat_le a b ≡ false
+pub le-false : (a b : ℕ) → b < a → nat_le a b ≡ false
 le-false a b h = elim (leb_tells a b) as (λ _. nat_le a b ≡ false) [ inl k ↦ absurd (omega (arith, k.1)) | inr k ↦ k.0 ]
 
 -- an offset is held, or it lies before, or past
@@ -127,7 +127,7 @@ HasPassed-more low high all rest le h = record { clips = λ a b k. h.clips a b (
 pub HasPassed-one : (high : ℕ) (all : List Interval) (y : Interval) (rest : List Interval) → y.upto ≤ high → HasPassed high all (y ∷ rest) → HasPassed high all rest
 HasPassed-one high all y rest le h = record { clips = λ a b k. sym (clipped-none a b y rest (omega (arith, le, k))) ∙ h.clips a b k }
 
-drop-get_or : {X : Type 0} (xs : List X) (k : ℕ) (d : X) → k < length xs → drop k xs ≡ get_or xs k d ∷ drop (k + 1) xs
+pub drop-get_or : {X : Type 0} (xs : List X) (k : ℕ) (d : X) → k < length xs → drop k xs ≡ get_or xs k d ∷ drop (k + 1) xs
 drop-get_or [] k d lt = absurd (omega (arith, lt))
 drop-get_or (x ∷ xs) zero d lt = refl
 drop-get_or (x ∷ xs) (suc k) d lt =

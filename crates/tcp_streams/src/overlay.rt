@@ -64,12 +64,33 @@ fn overlay(
     let mut next = 0;
     let mut done = 0;
     for x in kept {
-        next = fill(&mut out, later, next, done, x.from)?;
-        out.push(*x)?;
+        next = add_kept(&mut out, later, next, done, x)?;
         done = x.upto;
     }
     fill(&mut out, later, next, done, END_OF_OFFSETS)?;
     Ok(out)
+}
+
+/// Adds the parts from an offset up to an interval that is kept, then the interval, and says with which interval to go on.
+fn add_kept(
+    out: &mut Vec<Interval>,
+    later: &[Interval],
+    first: usize,
+    low: u64,
+    x: &Interval,
+) -> Result<usize, AllocError>
+    requires spans { Spans 0 later.now (2 ^ 31) }
+    requires first { first ≤ length later.now }
+    requires passed { HasPassed low later.now (drop first later.now) }
+    requires order { low ≤ x.now.from }
+    ensures added { OnOk result (out.new.items
+        ≡ (out.old.items ++ clipped low x.now.from later.now) ++ x.now ∷ []) }
+    ensures within { IfOk result (λ next. next ≤ length later.now) }
+    ensures next { IfOk result (λ next. HasPassed x.now.from later.now (drop next later.now)) }
+{
+    let next = fill(out, later, first, low, x.from)?;
+    out.push(*x)?;
+    Ok(next)
 }
 
 /// Adds the parts between two offsets, and says with which interval to go on.

@@ -1,5 +1,5 @@
-use Rattle.std.proofs.Common.{map, ap, ◌∙◌}
-use Rattle.std.proofs.lemmas.List.{take_all}
+use Rattle.std.proofs.Common.{map, sym, ap, ◌∙◌}
+use Rattle.std.proofs.lemmas.List.{map_more, take_all}
 use Rattle.block_scan.specs.List.{items_of}
 use Rattle.conn_scan.specs.code.ConnSumLaws.{state_of, states_carried, sums-shown}
 use Rattle.conn_scan.proofs.SumLemmas.{items_fit}
@@ -21,3 +21,8 @@ returns c = λ blocks fits little e.
     c.loop-parts.invariant
     ∙ ap (map state_of) (take_all c.loop-parts.parts-index c.deref-parts-items.result.now c.loop-parts-test.false)
     ∙ ap (map state_of) all ∙ states_carried start blocks
+
+pub loop-parts-preserved : goal.loop-parts-preserved
+loop-parts-preserved c =
+    rw (c.in_ok-push.ensures.items, c.state_of.ensures, c.loop-parts.invariant)
+    (sym (map_more state_of c.deref-parts-items.result.now c.loop-parts.parts-index _ c.loop-parts-test.true))

@@ -1,4 +1,4 @@
-use Rattle.std.proofs.Common.{◌≡◌, ℕ, List, ◌-◌, ◌/◌, ◌≤◌, ◌^◌, drop, take, length, sym, ap, subst, ◌∙◌, arith}
+use Rattle.std.proofs.Common.{◌≡◌, ℕ, List, ◌-◌, ◌/◌, ◌≤◌, ◌^◌, drop, take, length, refl, sym, ap, subst, ◌∙◌, arith}
 use Rattle.std.proofs.lemmas.List.{length-drop, take_all}
 use Rattle.tcp_streams.specs.declared.interval.Interval.{Interval}
 use Rattle.tcp_streams.specs.code.Interval.{IsSame, Spans, at, overlay, size_of}
@@ -38,3 +38,15 @@ returns-clause-size t c =
     (halves-size c.in_ok-kept.kept.items c.in_ok-later.later.items c.args.pieces.now (length c.args.pieces.now / 2) c.in_ok-kept.ensures.spans c.in_ok-kept.ensures.size
     (subst (λ (l : List Interval). size_of c.in_ok-later.later.items ≤ size_of l) (rest-is c.args.pieces.now (length c.args.pieces.now / 2)) c.in_ok-later.ensures.size)))
     c.overlay.ensures
+
+pub returns-then-lie_apart-clause-same : goal.returns-then-lie_apart-clause-same
+returns-then-lie_apart-clause-same t c =
+    if_ok c.to_vec.result _ _
+    (λ v same. subst (λ (l : List Interval). IsSame (at l) (at c.args.pieces.now)) (sym (same (λ x y e. e))) (λ o lt. refl))
+    c.to_vec.ensures.items_if_clones_equal
+
+pub returns-then-lie_apart-clause-size : goal.returns-then-lie_apart-clause-size
+returns-then-lie_apart-clause-size t c =
+    if_ok c.to_vec.result _ _
+    (λ v same. subst (λ (l : List Interval). size_of l ≤ size_of c.args.pieces.now) (sym (same (λ x y e. e))) (omega arith))
+    c.to_vec.ensures.items_if_clones_equal

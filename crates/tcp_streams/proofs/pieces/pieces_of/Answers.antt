@@ -1,7 +1,7 @@
 use Rattle.std.proofs.Common.{◌≡◌, ℕ, List, [], ◌∷◌, ◌++◌, ◌+◌, ◌<◌, length, take, get_or, Option, None, Some, refl, sym, ap, subst, ◌∙◌, IsSome}
 use Rattle.std.specs.List.{filter_map}
 use Rattle.std.specs.Option.{option_to_list}
-use Rattle.std.proofs.lemmas.List.{take_more}
+use Rattle.std.proofs.lemmas.List.{take_all, take_more}
 use Rattle.tcp_streams.specs.declared.interval.Interval.{Interval}
 use Rattle.tcp_streams.specs.code.Interval.{member_piece}
 use Rattle.tcp_streams.specs.Packets.{segment_of}
@@ -45,3 +45,10 @@ loop-member-preserved c =
           ∙ step (member_piece c.args.initial_number c.args.packets.now c.args.connection.now c.args.side) c.loop-member.pieces.items c.args.connection.now.members.items c.deref-member-items.result.now
           c.loop-member.member-index None c.deref-member-items.ensures.value lt (sym (none_of c.piece_of_member.result w.in_default.not-Some) ∙ c.piece_of_member.ensures) c.loop-member.invariant
     ]
+
+pub returns : goal.returns
+returns c =
+    let members = c.args.connection.now.members.items in
+    let past = rw c.deref-member-items.ensures.value at c.loop-member-test.false in
+    c.loop-member.invariant
+    ∙ ap (filter_map (member_piece c.args.initial_number c.args.packets.now c.args.connection.now c.args.side)) (take_all c.loop-member.member-index members past)

@@ -1,5 +1,5 @@
 use Rattle.std.proofs.Common.{◌+◌, ◌*◌, ◌++◌, length, take, drop, get_or, sym, ap, ◌∙◌, subst, arith}
-use Rattle.std.proofs.lemmas.List.{take_more, drop_more, length-take-le}
+use Rattle.std.proofs.lemmas.List.{append-nil, at_drop_all, take_all, take_more, drop_more, length-take-le}
 use Rattle.audit_terms.specs.Frame.{promised_by}
 use Rattle.audit_terms.specs.Pass.{first_of, streams_of}
 use Rattle.split_merge.specs.code.Visits.{streams_in, with_stream, noted, notes_from, total_of, IsTableOf}
@@ -67,3 +67,28 @@ loop-frame-preserved c =
         visits = omega (arith, twice.visits);
       };
     }
+
+pub note-requires-clause-room : goal.note-requires-clause-room
+note-requires-clause-room c =
+    let room = c.loop-frame.invariant.room in
+    let within = c.loop-frame-test.true in
+    let short = c.requires in
+    record { rows = omega (arith, room.rows, within, short); visits = omega (arith, room.visits, within, short) }
+
+pub returns-clause-streams : goal.returns-clause-streams
+returns-clause-streams c =
+    let seen = streams_in c.loop-frame.table.rows.items in
+    sym (append-nil seen)
+    ∙ sym (at_drop_all (λ l. seen ++ without seen (streams_of l)) c.args.frames.now c.loop-frame.frame-index c.loop-frame-test.false)
+    ∙ c.loop-frame.invariant.named
+
+pub returns-clause-table : goal.returns-clause-table
+returns-clause-table c =
+    subst (λ l. IsTableOf (notes_from 0 l) c.loop-frame.table)
+    (take_all c.loop-frame.frame-index c.args.frames.now c.loop-frame-test.false) c.loop-frame.invariant.table
+
+pub returns-clause-room : goal.returns-clause-room
+returns-clause-room c =
+    let room = c.loop-frame.invariant.room in
+    let within = c.loop-frame.auto.frame-index-end in
+    record { rows = omega (arith, room.rows, within); visits = omega (arith, room.visits, within) }
