@@ -6,14 +6,15 @@ use Rattle.std.specs.Io.KnownBytes.{Appends, Keeps}
 use Rattle.pcap_records.specs.Refusal.{refusal}
 use Rattle.pcap_records.specs.declared.faults.PcapFault.{PcapFault}
 use Rattle.pcap_records.proofs.Sizes.{front_decides_lem, allowed_is_short_lem}
-use Rattle.h2audit.specs.Account.{HaveGiven, IsReadToEnd, IsUnwritten, OfGiven, Tells, kept, written}
+use Rattle.byte_accounts.specs.Account.{HaveGiven, IsReadToEnd, IsUnwritten, OfGiven, kept, written}
+use Rattle.h2audit.specs.Account.{Tells}
 use Rattle.h2audit.specs.code.Reading.{AnswersFor}
 use Rattle.h2audit.specs.Report.{IsReport}
 use Rattle.h2audit.specs.Run.{IsJudged, IsNoReport, Leaves}
 use Rattle.h2audit.specs.declared.fault.AuditFault.{AuditFault}
 use Rattle.h2audit.specs.declared.fault.AuditFault.TheVariants as fault
-use Rattle.h2audit.specs.declared.capture_reader.CaptureReader.{CaptureReader}
-use Rattle.h2audit.specs.declared.report_writer.ReportWriter.{ReportWriter}
+use Rattle.byte_accounts.specs.declared.capture_reader.CaptureReader.{CaptureReader}
+use Rattle.byte_accounts.specs.declared.report_writer.ReportWriter.{ReportWriter}
 use Rattle.h2audit.specs.declared.verdict.Verdict.{Verdict}
 
 -- a fact of the value that entails another

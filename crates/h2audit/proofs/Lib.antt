@@ -1,7 +1,7 @@
-mod Capture
 mod Kept
 mod Leaving
 mod Audits
 mod OneReport
 mod Flows
 mod Opened
+mod Turns

@@ -5,11 +5,12 @@ use Rattle.std.specs.Str.{trim_end}
 use Rattle.std.specs.declared.io.Error.{Error}
 use Rattle.std.specs.declared.io.ErrorKind.{ErrorKind}
 use Rattle.std.specs.declared.io.ErrorKind.TheVariants.{OutOfMemory}
-use Rattle.h2audit.specs.Account.{HasWriteFailed, HaveGiven, IsFlushed, IsReadToEnd, IsUnwritten, Tells, written}
+use Rattle.byte_accounts.specs.Account.{HasWriteFailed, HaveGiven, IsFlushed, IsReadToEnd, IsUnwritten, written}
+use Rattle.h2audit.specs.Account.{Tells}
 use Rattle.command_line.specs.Choices.{choices}
 use Rattle.h2audit.specs.Ending.{line_of, status_of}
-use Rattle.h2audit.specs.declared.capture_reader.CaptureReader.{CaptureReader}
-use Rattle.h2audit.specs.declared.report_writer.ReportWriter.{ReportWriter}
+use Rattle.byte_accounts.specs.declared.capture_reader.CaptureReader.{CaptureReader}
+use Rattle.byte_accounts.specs.declared.report_writer.ReportWriter.{ReportWriter}
 use Rattle.h2audit.specs.declared.fault.AuditFault.{AuditFault}
 use Rattle.h2audit.specs.declared.fault.AuditFault.TheVariants as fault
 use Rattle.h2audit.specs.declared.verdict.Verdict.{Verdict}

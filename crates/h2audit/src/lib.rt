@@ -9,36 +9,29 @@
 //!   or want of memory. The report is `IsReport` of `specs/Report.antt`, made of the definitions of the crates below
 //!   and of none of their functions. It names neither workers nor groups nor blocks, and [`laws::one_report`] says that
 //!   there is no second one.
-//! - [`run`] reads a capture to its end, audits it, writes the report and flushes once. A [`CaptureReader`] keeps account
-//!   of what the reads gave, a [`ReportWriter`] of what the writes took. For every reader and writer, also of files and
-//!   pipes, clause `tells` says of these accounts (`Tells` of `specs/Account.antt`): after a verdict the reads gave a
-//!   whole capture, and the writes took all of its report and one flush; after a failed write they took a prefix of
-//!   it; before any other fault nothing was written, and a refusal is that of the bytes that were read. Where reader
-//!   and writer themselves tell their bytes, these are the ones of the accounts (`given`, `taken`, `leaves`). Of bytes
-//!   that are read and not kept the account has the number, and the clauses hold whatever they are.
+//! - [`run`] reads a capture to its end, audits it, writes the report and flushes once. What its reads gave and its writes
+//!   took is told by the accounts of `byte_accounts`, a [`CaptureReader`] and a [`ReportWriter`]. For every reader and
+//!   writer, also of files and pipes, clause `tells` says of these accounts (`Tells` of `specs/Account.antt`): after a
+//!   verdict the reads gave a whole capture, and the writes took all of its report and one flush; after a failed write they
+//!   took a prefix of it; before any other fault nothing was written, and a refusal is that of the bytes that were read.
+//!   Where reader and writer themselves tell their bytes, these are the ones of the accounts (`given`, `taken`, `leaves`).
 //! - [`run_program`] is the program, over words, a way to open FILE and a way to say a line: it does what the words ask for
 //!   (`Ends` of `specs/Program.antt`), and status and line are those of the answer. [`program_words`] reads the words.
 //! - [`parse`] says what the words of a command line ask for, by `clap`'s own definition of the command, and
 //!   [`Options`] refuses numbers out of range; both are `command_line`'s. [`laws::known_words`] computes seven command
 //!   lines. [`ending`] is status and line.
 //!
-//! Reading stops at 2^31 bytes, which are refused as the whole is. Where the file header refuses a capture, it alone is
+//! 2^31 bytes, at which reading stops, are refused as the whole is. Where the file header refuses a capture, it alone is
 //! kept (`brief`), since what follows changes no answer (`pcap_records::laws::header_refuses`). Round 0 has a job for each
 //! connection, which assembles both of its flows and cuts them; `audit_rounds` has the rounds after it. No answer says
 //! that a worker was not started (`IsNoReport`).
 //!
-//! The accounts are as honest as the code that enters them: their fields are private, `read_once`, `pass_once`,
-//! `write_once` and `flush_once` make the crate's only calls of `read`, `write` and `flush`, and ask that none follows
-//! one that failed; `make_room` enters want of memory. A reader sees this at once; no contract says it.
-//!
 //! Wrong bodies that the prover refuses: an empty report, a verdict by errors alone, words always refused, options not
-//! heeded, a read or a write that is told to have filled or taken all. Tested, in `crate_tests`: whole reports, the texts
-//! of help and of refused words, which calls readers and writers get, a run of the program for each status, long
-//! captures. Trusted: that a file or a pipe gives and keeps its bytes.
+//! heeded. Tested, in `crate_tests`: the texts of faults; in `tests/` at the root: what the program answers to words, whole
+//! reports, long captures.
 #![tactic(auto)]
 
 mod auditing;
-mod capture_reader;
 mod connection;
 mod division;
 mod fault;
@@ -46,19 +39,16 @@ mod flow_round;
 pub mod laws;
 mod program;
 mod reading;
-mod report_writer;
 mod running;
 mod status;
 mod verdict;
-mod writing;
 
 pub use auditing::audit;
-pub use capture_reader::CaptureReader;
+pub use byte_accounts::{CaptureReader, ReportWriter};
 pub use command_line::{Options, Parsed, parse};
 pub use fault::AuditFault;
 pub use job_crew::{Gate, NoGate};
 pub use program::{program_words, run_program};
-pub use report_writer::ReportWriter;
 pub use running::run;
 pub use status::ending;
 pub use verdict::Verdict;

@@ -1,24 +1,20 @@
 ghost use Rattle.std.specs.Prelude.{◌≡◌, ◌+◌, ◌^◌, ◌≤◌, List, Option, true, false, take, IfErr, IfSome, OnOk, vec_len};
 ghost use Rattle.std.specs.Io.KnownBytes.{IsAtEnd};
-ghost use Rattle.h2audit.specs.Account.{HaveGiven, IsBrief, IsReadToEnd, IsUnread, OfGiven, kept};
-ghost use Rattle.h2audit.specs.code.Reading.{AnswersFor, HasConsumed, IsReadingFault, IsSound};
+ghost use Rattle.byte_accounts.specs.Account.{HaveGiven, IsReadToEnd, IsUnread, OfGiven, kept};
+ghost use Rattle.h2audit.specs.Account.{IsBrief};
+ghost use Rattle.byte_accounts.specs.code.Reading.{IsReadingFault};
+ghost use Rattle.h2audit.specs.code.Reading.{AnswersFor};
 
-use crate::capture_reader::{CaptureReader, LIMIT};
-use crate::fault::AuditFault;
+use byte_accounts::{CaptureReader, LIMIT, ReadFault, keep_up_to, pass_over};
 use pcap_records::refusal;
 use std::io::Read;
 
 /// The number of bytes in a file header.
 const HEADER: usize = 24;
 
-/// The number of bytes that are passed over at a time.
-const PASSED: usize = 65_536;
-
 /// Reads to the end, or until there are 2^31 bytes, and keeps what its answer can depend on: all of it, or the file header
 /// alone where that refuses it.
-///
-/// Each turn reads at least one byte or ends the reading, so there are no more than 2^31 turns.
-pub(crate) fn read_capture<R: Read>(reader: &mut CaptureReader<R>) -> Result<(), AuditFault>
+pub(crate) fn read_capture<R: Read>(reader: &mut CaptureReader<R>) -> Result<(), ReadFault>
     requires { IsUnread reader.old }
     ensures bytes { OnOk result (IfSome (R.remaining reader.old.reader) (λ all. HaveGiven reader.new (take (2 ^ 31) all))) }
     ensures ok { OnOk result (IsReadToEnd reader.new) }
@@ -40,57 +36,4 @@ pub(crate) fn read_capture<R: Read>(reader: &mut CaptureReader<R>) -> Result<(),
             Ok(())
         }
     }
-}
-
-/// Reads until so many bytes are kept, or to the end.
-fn keep_up_to<R: Read>(reader: &mut CaptureReader<R>, limit: usize) -> Result<(), AuditFault>
-    requires sound { IsSound reader.old }
-    requires room { (vec_len reader.old.bytes ≤ limit) × (limit ≤ 2 ^ 31) }
-    requires unpassed { reader.old.passed ≡ 0 }
-    requires unended { reader.old.has_ended ≡ false }
-    ensures sound { OnOk result (IsSound reader.new) }
-    ensures room { vec_len reader.new.bytes ≤ limit }
-    ensures unpassed { reader.new.passed ≡ 0 }
-    ensures grown { reader.old.filled ≤ reader.new.filled }
-    ensures front { take reader.old.filled reader.new.bytes.items ≡ kept reader.old }
-    ensures whole { OnOk result (reader.new.has_ended ≡ false → reader.new.filled ≡ limit) }
-    ensures end { OnOk result (reader.new.has_ended ≡ true → IsAtEnd (R.remaining reader.new.reader)) }
-    ensures bytes { OnOk result ((before : Option (List _)) → HasConsumed before (R.remaining reader.old.reader) reader.old
-        → HasConsumed before (R.remaining reader.new.reader) reader.new) }
-    ensures err { IfErr result (λ e. IsReadingFault e reader.new) }
-{
-    while !reader.has_kept(limit) {
-        if reader.make_room(limit).is_err() {
-            return Err(AuditFault::OutOfMemory);
-        }
-        match reader.read_once() {
-            Ok(0) => return Ok(()),
-            Ok(_) => {}
-            Err(_) => return Err(AuditFault::Read),
-        }
-    }
-    Ok(())
-}
-
-/// Reads to the end, or until there were 2^31 bytes, and keeps nothing of it.
-fn pass_over<R: Read>(reader: &mut CaptureReader<R>) -> Result<(), AuditFault>
-    requires sound { IsSound reader.old }
-    requires unended { reader.old.has_ended ≡ false }
-    ensures sound { OnOk result (IsSound reader.new) }
-    ensures kept { (reader.new.bytes ≡ reader.old.bytes) × (reader.new.filled ≡ reader.old.filled) }
-    ensures whole { OnOk result (reader.new.has_ended ≡ false → reader.new.filled + reader.new.passed ≡ 2 ^ 31) }
-    ensures end { OnOk result (reader.new.has_ended ≡ true → IsAtEnd (R.remaining reader.new.reader)) }
-    ensures bytes { OnOk result ((before : Option (List _)) → HasConsumed before (R.remaining reader.old.reader) reader.old
-        → HasConsumed before (R.remaining reader.new.reader) reader.new) }
-    ensures err { IfErr result (λ e. IsReadingFault e reader.new) }
-{
-    let mut piece = [0; PASSED];
-    while !reader.is_full() {
-        match reader.pass_once(&mut piece) {
-            Ok(0) => return Ok(()),
-            Ok(_) => {}
-            Err(_) => return Err(AuditFault::Read),
-        }
-    }
-    Ok(())
 }

@@ -1,16 +1,15 @@
 ghost use Rattle.std.specs.Prelude.{◌≡◌, ◌≢◌, ◌^◌, IfErr, IfSome, take};
 ghost use Rattle.std.specs.Io.KnownBytes.{Appends, Keeps};
-ghost use Rattle.h2audit.specs.Account.{HaveGiven, IsBrief, IsReadToEnd, IsUnread, IsUnwritten, Tells, written};
+ghost use Rattle.byte_accounts.specs.Account.{HaveGiven, IsReadToEnd, IsUnread, IsUnwritten, written};
+ghost use Rattle.h2audit.specs.Account.{IsBrief, Tells};
 ghost use Rattle.command_line.specs.Choices.{choices};
 ghost use Rattle.h2audit.specs.Run.{IsJudged, Leaves};
 
 use crate::auditing::audit;
-use crate::capture_reader::CaptureReader;
 use crate::fault::AuditFault;
 use crate::reading::read_capture;
-use crate::report_writer::ReportWriter;
 use crate::verdict::Verdict;
-use crate::writing::write_report;
+use byte_accounts::{CaptureReader, ReadFault, ReportWriter, write_report};
 use command_line::Options;
 use job_crew::Gate;
 use std::alloc::Global;
@@ -48,7 +47,11 @@ pub fn run<R: Read, W: Write>(
         → Keeps (W.contents writer.old.writer) (W.contents writer.new.writer)) }
     ensures judged { IfSome (R.remaining reader.old.reader) (λ bytes. IsJudged bytes reader.new.lacked_memory result) }
 {
-    read_capture(reader)?;
+    match read_capture(reader) {
+        Ok(()) => {}
+        Err(ReadFault::Failed) => return Err(AuditFault::Read),
+        Err(ReadFault::OutOfMemory) => return Err(AuditFault::OutOfMemory),
+    }
     match audit(rt, alloc, options, reader.kept(), gate) {
         Ok((text, verdict)) => {
             writer.begin(text);

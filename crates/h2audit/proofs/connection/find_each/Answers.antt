@@ -4,8 +4,11 @@ use Rattle.audit_terms.specs.declared.frames.Frame.{Frame}
 use Rattle.audit_terms.specs.Frame.{IsOrderly}
 use Rattle.audit_terms.specs.Finding.{shown}
 use Rattle.audit_terms.specs.Pass.{pass}
-use Rattle.h2audit.specs.code.Flows.{frames_each}
+use Rattle.h2audit.specs.code.Flows.{frames_each, frames_in}
 use Rattle.h2audit.proofs.Flows.{frames-orderly, found-each, All-lent, found-lent}
+use Rattle.h2audit.proofs.Turns.{mapped-more}
+use Rattle.h2audit.specs.declared.flow_round.ConnectionCut.{ConnectionCut}
+use Rattle.job_crew.specs.declared.parts.Part.{Part}
 use Rattle.h2audit.proofs.connection.find_each.Goals as goal
 
 pub findings_of_each-requires-after_bounds : goal.findings_of_each-requires-after_bounds
@@ -29,3 +32,9 @@ returns g c =
     ∙ found-lent c.args.options.now.frames_shown c.loop-cut.frames.items
     ∙ ap (map (λ frames. shown c.args.options.now.frames_shown (pass frames))) (c.loop-cut.invariant ∙ all)
     ∙ found-each c.args.options.now.frames_shown cuts
+
+pub loop-cut-preserved : goal.loop-cut-preserved
+loop-cut-preserved g c =
+    mapped-more (λ (frames : Bor (List Frame)). frames.now) (λ (cut : Part ConnectionCut). frames_in cut.made.cut)
+    c.loop-cut.frames.items c.push.new.self.items c.args.cuts.now c.loop-cut.cut-index c.frames_in.result c.cut-item.result
+    c.in_ok-push.ensures.items c.loop-cut-test.true c.cut-item.is c.frames_in.ensures c.loop-cut.invariant

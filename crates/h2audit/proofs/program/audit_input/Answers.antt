@@ -1,5 +1,5 @@
 use Rattle.std.proofs.Common.{ℕ, ◌^◌, List, take, IfSome, subst}
-use Rattle.h2audit.specs.Account.{HaveGiven, IsReadToEnd}
+use Rattle.byte_accounts.specs.Account.{HaveGiven, IsReadToEnd}
 use Rattle.h2audit.proofs.program.audit_input.Goals as goal
 
 pub returns-in-Ok-clause-opened : goal.returns-in-Ok-clause-opened

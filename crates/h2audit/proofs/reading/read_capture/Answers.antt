@@ -1,8 +1,9 @@
 use Rattle.std.proofs.Common.{rules, ◌≡◌, ◌≤◌, ◌∙◌, length, sym, ap, arith, vec_len, None}
 use Rattle.std.proofs.lemmas.List.{length-take-le}
 use Rattle.pcap_records.specs.Refusal.{refusal}
-use Rattle.h2audit.specs.Account.{kept}
-use Rattle.h2audit.proofs.Kept.{consumed_none, gave_all, gave_front, header_answers, header_stays, whole_answers}
+use Rattle.byte_accounts.specs.Account.{kept}
+use Rattle.byte_accounts.proofs.Kept.{consumed_none, gave_all, gave_front}
+use Rattle.h2audit.proofs.Kept.{header_answers, header_stays, whole_answers}
 use Rattle.h2audit.proofs.reading.read_capture.Goals as goal
 
 pub returns-then-has_ended-clause-bytes : goal.returns-then-has_ended-clause-bytes

@@ -1,7 +1,7 @@
 use Rattle.std.proofs.Common.{◌≡◌, ◌-◌, ◌≤◌, false, vec_len}
 use Rattle.std.specs.Io.KnownBytes.{Appends}
-use Rattle.h2audit.specs.Account.{written}
-use Rattle.h2audit.proofs.writing.write_report.Given as goal
+use Rattle.byte_accounts.specs.Account.{written}
+use Rattle.byte_accounts.proofs.writing.write_report.Given as goal
 
 abbrev pub invariant-loop-writer : goal.invariant-loop-writer
 invariant-loop-writer g l = record {

@@ -2,7 +2,7 @@ use Rattle.std.proofs.Common.{rules, ◌≡◌, ◌+◌, take, drop}
 use Rattle.std.specs.Io.KnownBytes.{Appends}
 use Rattle.std.proofs.KnownBytes.{Appends-trans}
 use Rattle.std.proofs.Math.Seq.{take-add}
-use Rattle.h2audit.proofs.writing.write_report.Goals as goal
+use Rattle.byte_accounts.proofs.writing.write_report.Goals as goal
 
 pub loop-writer-preserved : goal.loop-writer-preserved
 loop-writer-preserved g c =

@@ -1,15 +1,15 @@
 ghost use Rattle.std.specs.Prelude.{◌≡◌, ℕ, take, OnOk, OnErr};
 ghost use Rattle.std.specs.Io.KnownBytes.{Appends};
-ghost use Rattle.h2audit.specs.Account.{HasWriteFailed, IsFlushed, IsUnwritten, written};
+ghost use Rattle.byte_accounts.specs.Account.{HasWriteFailed, IsFlushed, IsUnwritten, written};
 
-use crate::capture_reader::Failed;
+use crate::fault::WriteFault;
 use crate::report_writer::ReportWriter;
 use std::io::Write;
 
 /// Writes the whole text and flushes once. Each write is offered all that is left.
 ///
 /// After a failure a prefix of the text was written, possibly all of it.
-pub(crate) fn write_report<W: Write>(writer: &mut ReportWriter<W>) -> Result<(), Failed>
+pub fn write_report<W: Write>(writer: &mut ReportWriter<W>) -> Result<(), WriteFault>
     requires { IsUnwritten writer.old }
     ensures bytes { Appends (W.contents writer.old.writer) (W.contents writer.new.writer) (written writer.new) }
     ensures ok { OnOk result (written writer.new ≡ writer.old.text.items) }

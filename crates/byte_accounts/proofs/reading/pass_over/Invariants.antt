@@ -1,6 +1,6 @@
 use Rattle.std.proofs.Common.{◌≡◌, ◌-◌, ◌+◌, ◌<◌, ℕ, List, Option, false, length}
-use Rattle.h2audit.specs.code.Reading.{HasConsumed, IsSound}
-use Rattle.h2audit.proofs.reading.pass_over.Given as goal
+use Rattle.byte_accounts.specs.code.Reading.{HasConsumed, IsSound}
+use Rattle.byte_accounts.proofs.reading.pass_over.Given as goal
 
 abbrev pub invariant-loop-piece : goal.invariant-loop-piece
 invariant-loop-piece g l = record {

@@ -1,7 +1,7 @@
 use Rattle.std.proofs.Common.{◌≡◌, ◌-◌, ◌≤◌, ℕ, List, Option, false, take, vec_len}
-use Rattle.h2audit.specs.Account.{kept}
-use Rattle.h2audit.specs.code.Reading.{HasConsumed, IsSound}
-use Rattle.h2audit.proofs.reading.keep_up_to.Given as goal
+use Rattle.byte_accounts.specs.Account.{kept}
+use Rattle.byte_accounts.specs.code.Reading.{HasConsumed, IsSound}
+use Rattle.byte_accounts.proofs.reading.keep_up_to.Given as goal
 
 abbrev pub invariant-loop-reader : goal.invariant-loop-reader
 invariant-loop-reader g l = record {

@@ -1,9 +1,9 @@
 ghost use Rattle.std.specs.Prelude.{◌≡◌, ◌+◌, ◌<◌, ◌≤◌, length, take, drop, true, false, vec_len, IfOk, OnOk, OnErr};
 ghost use Rattle.std.specs.Bool.{Decides};
 ghost use Rattle.std.specs.Io.KnownBytes.{Appends, Keeps};
-ghost use Rattle.h2audit.specs.Account.{IsUnwritten, written};
+ghost use Rattle.byte_accounts.specs.Account.{IsUnwritten, written};
 
-use crate::capture_reader::Failed;
+use crate::fault::WriteFault;
 use std::alloc::Global;
 use std::io::Write;
 
@@ -59,7 +59,7 @@ impl<W> ReportWriter<W> {
     }
 
     /// Gives the account the text that is to be written.
-    pub(crate) fn begin(&mut self, text: Vec<u8>)
+    pub fn begin(&mut self, text: Vec<u8>)
         requires { IsUnwritten self.old }
         ensures text { self.new.text ≡ text }
         ensures unwritten { IsUnwritten self.new }
@@ -79,7 +79,7 @@ impl<W> ReportWriter<W> {
 impl<W: Write> ReportWriter<W> {
     /// Writes once, all that is left. To take no byte is a failure. No write comes after one that failed, or
     /// after a flush.
-    pub(crate) fn write_once(&mut self) -> Result<usize, Failed>
+    pub(crate) fn write_once(&mut self) -> Result<usize, WriteFault>
         requires some { self.old.written < vec_len self.old.text }
         requires unfailed { self.old.has_failed ≡ false }
         requires unflushed { self.old.is_flushed ≡ false }
@@ -93,7 +93,7 @@ impl<W: Write> ReportWriter<W> {
         match self.writer.write(&self.text[self.written..]) {
             Ok(0) | Err(_) => {
                 self.has_failed = true;
-                Err(Failed)
+                Err(WriteFault)
             }
             Ok(count) => {
                 self.written += count;
@@ -103,7 +103,7 @@ impl<W: Write> ReportWriter<W> {
     }
 
     /// Flushes, which comes after no failure and once.
-    pub(crate) fn flush_once(&mut self) -> Result<(), Failed>
+    pub(crate) fn flush_once(&mut self) -> Result<(), WriteFault>
         requires unfailed { self.old.has_failed ≡ false }
         requires unflushed { self.old.is_flushed ≡ false }
         ensures ok { OnOk result (self.new ≡ record self.old { writer = self.new.writer; is_flushed = true }) }
@@ -117,7 +117,7 @@ impl<W: Write> ReportWriter<W> {
             }
             Err(_) => {
                 self.has_failed = true;
-                Err(Failed)
+                Err(WriteFault)
             }
         }
     }

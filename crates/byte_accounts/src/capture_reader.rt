@@ -1,13 +1,14 @@
-ghost use Rattle.std.specs.Prelude.{◌≡◌, ◌+◌, ◌^◌, ◌<◌, ◌≤◌, length, take, drop, true, false, vec_len, IfOk, OnOk, OnErr};
+ghost use Rattle.std.specs.Prelude.{◌≡◌, ◌+◌, ◌^◌, ◌<◌, ◌≤◌, length, take, drop, true, false, vec_len, IfErr, IfOk, OnOk, OnErr};
 ghost use Rattle.std.specs.Bool.{Decides};
 ghost use Rattle.std.specs.Io.KnownBytes.{Consumes, IsAtEnd};
-ghost use Rattle.h2audit.specs.Account.{IsUnread, kept};
+ghost use Rattle.byte_accounts.specs.Account.{IsUnread, kept};
 
+use crate::fault::ReadFault;
 use std::alloc::Global;
 use std::io::Read;
 
 /// The number of bytes at which reading stops: a capture that has as many is refused.
-pub(crate) const LIMIT: usize = 2_147_483_648;
+pub const LIMIT: usize = 2_147_483_648;
 
 /// The number of bytes for which room is made at a time.
 const PIECE: usize = 1_048_576;
@@ -29,10 +30,6 @@ pub struct CaptureReader<R> {
     has_failed: bool,
     lacked_memory: bool,
 }
-
-/// A read, a write or a flush that failed, or memory for a capture's bytes that was not to be had.
-#[derive(Clone, Copy)]
-pub(crate) struct Failed;
 
 impl<R> CaptureReader<R> {
     /// The account before the first read.
@@ -73,7 +70,7 @@ impl<R> CaptureReader<R> {
     }
 
     /// Whether a read found the end.
-    pub(crate) fn has_ended(&self) -> bool
+    pub fn has_ended(&self) -> bool
         ensures { result ≡ self.now.has_ended }
     {
         self.has_ended
@@ -95,7 +92,7 @@ impl<R> CaptureReader<R> {
     }
 
     /// Makes room for at least one byte more, and mostly for a piece, where no more than `limit` are to be kept.
-    pub(crate) fn make_room(&mut self, limit: usize) -> Result<(), Failed>
+    pub(crate) fn make_room(&mut self, limit: usize) -> Result<(), ReadFault>
         requires filled { self.old.filled ≤ vec_len self.old.bytes }
         requires limit { self.old.filled < limit }
         requires most { (vec_len self.old.bytes ≤ limit) × (limit ≤ 2 ^ 31) }
@@ -105,11 +102,12 @@ impl<R> CaptureReader<R> {
         ensures ok { OnOk result (self.new ≡ record self.old { bytes = self.new.bytes }) }
         ensures room { OnOk result (self.new.filled < vec_len self.new.bytes) }
         ensures err { OnErr result (self.new ≡ record self.old { bytes = self.new.bytes; lacked_memory = true }) }
+        ensures fault { IfErr result (λ e. e ≡ ReadFault.OutOfMemory) }
     {
         let wanted = limit.min(self.filled + PIECE);
         if self.bytes.len() < wanted && self.bytes.resize(wanted, 0).is_err() {
             self.lacked_memory = true;
-            return Err(Failed);
+            return Err(ReadFault::OutOfMemory);
         }
         Ok(())
     }
@@ -117,7 +115,7 @@ impl<R> CaptureReader<R> {
 
 impl<R: Read> CaptureReader<R> {
     /// Reads once, and keeps what that gives. No read comes after one that failed or found the end.
-    pub(crate) fn read_once(&mut self) -> Result<usize, Failed>
+    pub(crate) fn read_once(&mut self) -> Result<usize, ReadFault>
         requires room { self.old.filled < vec_len self.old.bytes }
         requires unpassed { self.old.passed ≡ 0 }
         requires unended { self.old.has_ended ≡ false }
@@ -133,7 +131,7 @@ impl<R: Read> CaptureReader<R> {
         ensures ended { IfOk result (λ n. n ≡ 0 → self.new.has_ended ≡ true) }
         ensures unended { IfOk result (λ n. 0 < n → self.new.has_ended ≡ false) }
         ensures ok { OnOk result (self.new.has_failed ≡ false) }
-        ensures err { OnErr result (self.new.has_failed ≡ true) }
+        ensures err { IfErr result (λ e. (e ≡ ReadFault.Failed) × (self.new.has_failed ≡ true)) }
         ensures memory { self.new.lacked_memory ≡ self.old.lacked_memory }
         ensures passed { self.new.passed ≡ self.old.passed }
     {
@@ -145,13 +143,13 @@ impl<R: Read> CaptureReader<R> {
             }
             Err(_) => {
                 self.has_failed = true;
-                Err(Failed)
+                Err(ReadFault::Failed)
             }
         }
     }
 
     /// Reads once into the piece, and keeps nothing of it. No read comes after one that failed or found the end.
-    pub(crate) fn pass_once(&mut self, piece: &mut [u8]) -> Result<usize, Failed>
+    pub(crate) fn pass_once(&mut self, piece: &mut [u8]) -> Result<usize, ReadFault>
         requires room { 0 < length piece.old }
         requires limit { self.old.filled + self.old.passed < 2 ^ 31 }
         requires unended { self.old.has_ended ≡ false }
@@ -167,7 +165,7 @@ impl<R: Read> CaptureReader<R> {
         ensures ended { IfOk result (λ n. n ≡ 0 → self.new.has_ended ≡ true) }
         ensures unended { IfOk result (λ n. 0 < n → self.new.has_ended ≡ false) }
         ensures ok { OnOk result (self.new.has_failed ≡ false) }
-        ensures err { OnErr result (self.new.has_failed ≡ true) }
+        ensures err { IfErr result (λ e. (e ≡ ReadFault.Failed) × (self.new.has_failed ≡ true)) }
         ensures memory { self.new.lacked_memory ≡ self.old.lacked_memory }
     {
         let most = piece.len().min(LIMIT - self.filled - self.passed);
@@ -179,7 +177,7 @@ impl<R: Read> CaptureReader<R> {
             }
             Err(_) => {
                 self.has_failed = true;
-                Err(Failed)
+                Err(ReadFault::Failed)
             }
         }
     }

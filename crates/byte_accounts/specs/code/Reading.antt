@@ -1,0 +1,24 @@
+-- How the bytes of a capture are read, and how that fails.
+use Rattle.std.specs.Prelude.{◌≡◌, ℕ, ◌+◌, ◌^◌, ◌≤◌, true, false, List, Option, vec_len}
+use Rattle.std.specs.Io.KnownBytes.{Consumes}
+use Rattle.byte_accounts.specs.Account.{HasReadFailed, HaveGiven}
+use Rattle.byte_accounts.specs.declared.capture_reader.CaptureReader.{CaptureReader}
+use Rattle.byte_accounts.specs.declared.fault.ReadFault.{ReadFault}
+use Rattle.byte_accounts.specs.declared.fault.ReadFault.TheVariants as fault
+
+module _ {R : Type 0} where
+  -- the reads so far went well, and there is room for what they gave
+  pub record IsSound (reader : CaptureReader R) : Type 0 where
+    pub filled : reader.filled ≤ vec_len reader.bytes
+    pub limit : reader.filled + reader.passed ≤ 2 ^ 31
+    pub has_failed : reader.has_failed ≡ false
+    pub lacked_memory : reader.lacked_memory ≡ false
+
+  -- a reader that knew its bytes before the reads gave them, and has these left
+  abbrev pub HasConsumed : (before left : Option (List ℕ)) → CaptureReader R → Type 0
+  HasConsumed before left reader = (given : List ℕ) × HaveGiven reader given × Consumes before left given
+
+  -- the faults of reading, as the account then shows them: a read that failed, or want of memory for the bytes
+  abbrev pub IsReadingFault : ReadFault → CaptureReader R → Type 0
+  IsReadingFault fault.Failed reader = HasReadFailed reader
+  IsReadingFault fault.OutOfMemory reader = (reader.has_failed ≡ false) × (reader.lacked_memory ≡ true)

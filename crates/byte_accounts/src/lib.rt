@@ -1,0 +1,27 @@
+//! Reads the bytes of a capture and writes those of a report, and keeps account of both.
+//!
+//! A [`CaptureReader`] keeps account of what the reads gave, a [`ReportWriter`] of what the writes took, for every reader and
+//! writer, also of files and pipes, whose types tell no bytes (`specs/Account.antt`). [`keep_up_to`] reads and keeps what it
+//! read, [`pass_over`] reads and keeps nothing, [`write_report`] writes a text and flushes once. Where reader and writer
+//! themselves tell their bytes, clause `bytes` says that these are the ones of the accounts. Of bytes that are read and not
+//! kept the account has the number, and the clauses hold whatever they are. Reading stops at 2^31 bytes ([`LIMIT`]).
+//!
+//! The accounts are as honest as the code that enters them: their fields are private, `read_once`, `pass_once`,
+//! `write_once` and `flush_once` make the crate's only calls of `read`, `write` and `flush`, and ask that none follows
+//! one that failed; `make_room` enters want of memory. A reader sees this at once; no contract says it.
+//!
+//! Wrong bodies that the prover refuses: a read or a write that is told to have filled or taken all. Tested, in
+//! `crate_tests`: which calls readers and writers get. Trusted: that a file or a pipe gives and keeps its bytes.
+#![tactic(auto)]
+
+mod capture_reader;
+mod fault;
+mod reading;
+mod report_writer;
+mod writing;
+
+pub use capture_reader::{CaptureReader, LIMIT};
+pub use fault::{ReadFault, WriteFault};
+pub use reading::{keep_up_to, pass_over};
+pub use report_writer::ReportWriter;
+pub use writing::write_report;
