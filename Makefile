@@ -60,9 +60,12 @@ deb: $(PROGRAM)
 		ZSHDIR=/usr/share/zsh/vendor-completions > /dev/null && \
 		tools/package/build_deb.sh "$$stage" "$(abspath $(PACKAGES))"
 
-# The gate: proves every crate from nothing, tries the must-fail edits, runs the tests and the programs.
+# The gate: proves every crate from nothing, tries the must-fail edits, runs the tests and the programs; and asks the
+# program, as both compilers built it, for whole reports.
 test:
 	RT_JOBS=$(RT_JOBS) rt ci
+	tests/command_test.py $(PROGRAM) $(PROGRAM).by-rattle
+	tests/reports_test.py $(PROGRAM) $(PROGRAM).by-rattle
 
 # Tests what stands around the program: pictures, man pages, completions, recipes and package. It proves nothing.
 test-tools:

@@ -23,7 +23,7 @@ AWKS = [awk for awk in ("mawk", "gawk", "original-awk") if shutil.which(awk)]
 
 
 def documents():
-    folders = [TOP, TOP / "docs", TOP / "bench", TOP / "crates" / "crate_tests" / "data" / "examples"]
+    folders = [TOP, TOP / "docs", TOP / "bench", TOP / "examples"]
     return [document for folder in folders for document in sorted(folder.glob("*.md"))]
 
 

@@ -16,7 +16,7 @@ import unittest
 TOP = pathlib.Path(__file__).resolve().parents[2]
 MAN = TOP / "tools" / "man"
 COMPLETIONS = TOP / "tools" / "completions"
-HELP_OF_H2AUDIT = TOP / "crates" / "crate_tests" / "src" / "runs" / "words.rt"
+HELP_OF_H2AUDIT = TOP / "tests" / "help.txt"
 OPTION = re.compile(r"(?<![\w-])(--[a-z][a-z-]*)")
 
 
@@ -27,7 +27,7 @@ def output_of(*words, **more):
 def options_of(name):
     """The long options of a program's help."""
     if name == "h2audit":
-        text = re.search(r'const HELP: &str = "(.*?)(?<!\\)";', HELP_OF_H2AUDIT.read_text(), re.S)[1]
+        text = HELP_OF_H2AUDIT.read_text()
     else:
         text = output_of(TOP / "tools" / name, "--help").split("\noptions:\n")[1]
     return sorted(set(OPTION.findall(text)))

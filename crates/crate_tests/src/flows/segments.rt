@@ -2,13 +2,12 @@
 
 use super::plain::{self, PlainFlow};
 use crate::answer::Answer;
-use crate::script::capture_of;
+use crate::captures::Capture;
 use audit_terms::Side;
 use packet_heads::decode_all;
 use pcap_records::records;
 use std::alloc::{AllocError, Global};
 use tcp_streams::{Arrival, Flow, assemble, connections};
-use test_captures::Capture;
 
 /// The bytes of a flow in one piece.
 fn bytes_of(alloc: Global, flow: &Flow) -> Result<Vec<u8>, AllocError> {
@@ -48,17 +47,19 @@ fn flow_of(alloc: Global, capture: &[u8]) -> Result<Option<PlainFlow>, AllocErro
 }
 
 /// Segments CD, abcdef and XYZ that overlap, and k after a gap.
-const OVERLAPS: &str = "empty
-SYN 1000
-SYN_ACK 5000
-C AT 1003 HEX 4344
-C AT 1001 HEX 616263646566
-C AT 1005 HEX 58595a
-C AT 1010 HEX 6b
-";
+fn overlaps(alloc: Global) -> Result<Capture, AllocError> {
+    let mut capture = Capture::new(alloc)?;
+    capture.syn(1000)?;
+    capture.syn_ack(5000)?;
+    capture.client_at(1003, b"CD".as_slice())?;
+    capture.client_at(1001, b"abcdef".as_slice())?;
+    capture.client_at(1005, b"XYZ".as_slice())?;
+    capture.client_at(1010, b"k".as_slice())?;
+    Ok(capture)
+}
 
 pub fn overlaps_and_gap(alloc: Global) -> Answer {
-    let capture = capture_of(alloc, OVERLAPS)?;
+    let capture = overlaps(alloc)?;
     let Some(flow) = flow_of(alloc, capture.as_slice())? else {
         return Ok(false);
     };

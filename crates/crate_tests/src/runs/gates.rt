@@ -1,9 +1,9 @@
 //! What gates see of the rounds: how many jobs each has, and that two workers are in one at once.
 
 use crate::answer::Answer;
-use crate::script::capture_of;
+use crate::captures::{Capture, data, headers, window_update};
 use h2audit::{Gate, Options, audit};
-use std::alloc::Global;
+use std::alloc::{AllocError, Global};
 use std::sync::atomic::{AtomicU32, Ordering};
 use std::thread::{Threads, yield_now};
 
@@ -116,17 +116,18 @@ fn have_jobs(
 }
 
 /// A stream that uses up its credit and that of its connection, at frame 9.
-const STALLED: &str = "opened
-C HEADERS 1
-C DATA 1 16384
-C DATA 1 16384
-C DATA 1 16384
-C PADDED 1 16383 10
-";
+fn stalled(alloc: Global) -> Result<Capture, AllocError> {
+    let mut capture = Capture::opened(alloc)?;
+    capture.client(headers(1))?;
+    for length in [16384, 16384, 16384, 16383] {
+        capture.client(data(1, length))?;
+    }
+    Ok(capture)
+}
 
 /// Of nine blocks the last alone is not clear. A block that is clear has no job, unless credits are shown.
 pub fn jobs_of_blocks(rt: &(impl Sync + Threads), alloc: Global) -> Answer {
-    let capture = capture_of(alloc, STALLED)?;
+    let capture = stalled(alloc)?;
     let capture = capture.as_slice();
     Ok(
         have_jobs(rt, alloc, (3, 1, false), capture, [1, 1, 9, 1])
@@ -135,20 +136,17 @@ pub fn jobs_of_blocks(rt: &(impl Sync + Threads), alloc: Global) -> Answer {
 }
 
 /// The same stream, and an error at frame 10.
-const STOPPED: &str = "opened
-C HEADERS 1
-C DATA 1 16384
-C DATA 1 16384
-C DATA 1 16384
-C PADDED 1 16383 10
-C DATA 7 5
-S WINDOW_UPDATE 0 10
-C DATA 1 1
-";
+fn stopped(alloc: Global) -> Result<Capture, AllocError> {
+    let mut capture = stalled(alloc)?;
+    capture.client(data(7, 5))?;
+    capture.server(window_update(0, 10))?;
+    capture.client(data(1, 1))?;
+    Ok(capture)
+}
 
 /// The connection stops at frame 10: of its twelve frames the last two are in no block.
 pub fn jobs_up_to_the_stop(rt: &(impl Sync + Threads), alloc: Global) -> Answer {
-    let capture = capture_of(alloc, STOPPED)?;
+    let capture = stopped(alloc)?;
     let capture = capture.as_slice();
     Ok(
         have_jobs(rt, alloc, (1, 1, true), capture, [1, 1, 10, 10])
@@ -173,25 +171,26 @@ fn are_two_at_once(rt: &(impl Sync + Threads), alloc: Global, rounds: u32, captu
         && gate.given_up.load(Ordering::SeqCst) == 0
 }
 
-const CONNECTIONS: &str = "opened
-C HEADERS 1
-C SNAPPED 59 DATA 1 100
-C PING
-SYN 9000
-";
+/// A connection, and a second opening of its pair.
+fn two_connections(alloc: Global) -> Result<Capture, AllocError> {
+    let mut capture = Capture::opened(alloc)?;
+    capture.syn(9000)?;
+    Ok(capture)
+}
 
-const STREAMS: &str = "opened
-C HEADERS 1
-C HEADERS 3
-S WINDOW_UPDATE 9 1
-S WINDOW_UPDATE 0 2147418113
-C DATA 11 0
-";
+/// Two streams, in seven frames.
+fn two_streams(alloc: Global) -> Result<Capture, AllocError> {
+    let mut capture = Capture::opened(alloc)?;
+    capture.client(headers(1))?;
+    capture.client(headers(3))?;
+    capture.server(window_update(0, 1))?;
+    Ok(capture)
+}
 
 /// Over two connections, and over one with two groups of streams and two blocks.
 pub fn two_at_once(rt: &(impl Sync + Threads), alloc: Global) -> Answer {
-    let connections = capture_of(alloc, CONNECTIONS)?;
-    let streams = capture_of(alloc, STREAMS)?;
+    let connections = two_connections(alloc)?;
+    let streams = two_streams(alloc)?;
     Ok(
         are_two_at_once(rt, alloc, 0b0001, connections.as_slice())
             && are_two_at_once(rt, alloc, 0b1110, streams.as_slice()),

@@ -1,0 +1,209 @@
+#!/usr/bin/env python3
+"""Audits whole captures by the program, in each mix of workers, groups and block lengths: reports_test.py PROGRAM..
+
+A file of reports/ has rows. A row begins with a line `== NAME`. Its script follows (captures.py says how it is written), then
+`-- status N` with the exit status, what standard error says, and the report with its credit lines: the report without them is the
+rest. Where the status line begins `-- findings`, the row has the report without credit lines alone. Empty lines and those that begin
+with `#` say nothing. The reports were written by hand, from the description of the report and from the rules of the audit; none was
+taken from the program.
+
+The report of examples/NAME.pcap is NAME.report, and with credit lines NAME.frames.report. Where there is NAME.script, the capture has
+the bytes that it spells. Captures that are too long to be written out have reports that a rule gives.
+"""
+
+import itertools
+import os
+import pathlib
+import subprocess
+import sys
+from concurrent.futures import ThreadPoolExecutor
+
+from captures import Capture, capture_of, frame_of
+
+TOP = pathlib.Path(__file__).resolve().parents[1]
+EXAMPLES = TOP / "examples"
+
+# Numbers of workers, of groups, and of frames in a block: the least of each, one between, the most that matter here.
+MIXES = list(itertools.product((1, 2, 64), (1, 3, 1024), (1, 2, 4096)))
+
+# The captures of examples/ whose exit status is 1: one side or the other broke the connection.
+FAULTY = {"connection_overflow_nginx", "stream_overrun_go", "use_after_reset", "zero_increment_nginx"}
+
+
+def answer_of(program, words, capture):
+    """What a run leaves, line by line: its exit status, what standard error says, and the report."""
+    ran = subprocess.run([program, *words], input=capture, capture_output=True, timeout=60)
+    return f"status {ran.returncode}\n{ran.stderr.decode()}{ran.stdout.decode()}"
+
+
+def always_answers(program, capture, wanted, *words):
+    """Whether a run leaves this answer in each mix."""
+    return all(
+        answer_of(program, [*words, f"--workers={workers}", f"--groups={groups}", f"--block={block}"], capture) == wanted
+        for workers, groups, block in MIXES
+    )
+
+
+def lines_of(text, credits_shown):
+    """The lines of a text that say something; those of credit only where they are shown."""
+    lines = [line for line in text.splitlines() if line and not line.startswith("#")]
+    return "".join(f"{line}\n" for line in lines if credits_shown or "-credit stream " not in line)
+
+
+def row(program, text):
+    """Whether the capture of a row has the answer that the row asks for."""
+    script, _, wanted = text.partition("-- ")
+    capture, findings = capture_of(script), wanted.removeprefix("findings ")
+    return always_answers(program, capture, lines_of(findings, False)) and (
+        findings != wanted or always_answers(program, capture, lines_of(wanted, True), "--frames")
+    )
+
+
+def rows():
+    """Each row of the files, by its name."""
+    for file in sorted(TOP.glob("tests/reports/*.rows")):
+        for text in file.read_text().split("== ")[1:]:
+            name, _, rest = text.partition("\n")
+            yield name, rest
+
+
+def example(program, capture):
+    """Whether the reports of a capture of examples/ are those that stand beside it."""
+    status = f"status {int(capture.stem in FAULTY)}\n"
+    script = capture.with_suffix(".script")
+    return (
+        (not script.exists() or capture_of(script.read_text()) == capture.read_bytes())
+        and always_answers(program, capture.read_bytes(), status + capture.with_suffix(".report").read_text())
+        and always_answers(
+            program, capture.read_bytes(), status + capture.with_suffix(".frames.report").read_text(), "--frames"
+        )
+    )
+
+
+def many_frames(program):
+    """10,006 frames in more than 2 MiB: reading goes in pieces of 1 MiB, and the text grows often.
+
+    A stream sends 5,000 DATA frames of 400 bytes, each granted back to the connection at once.
+    """
+    rounds = range(5000)
+    capture = capture_of("opened\nC HEADERS 1\nS WINDOW_UPDATE 1 2000000\n" + 5000 * "C DATA 1 400\nS WINDOW_UPDATE 0 400\n")
+    wanted = """status 0
+capture records 10008 segments 10008 snapped 0 not-ipv4 0 fragments 0 not-tcp 0 refused 0
+connection 1 client 10.0.0.1:40000 server 10.0.0.2:80 record 1 http2 frames 10006
+flow client bytes 2045051 gap none tail 0
+flow server bytes 65031 gap none tail 0
+frame 5 record 7 time 7000 client stream-credit stream 1 value 65535
+frame 5 record 7 time 7000 server stream-credit stream 1 value 65535
+frame 6 record 8 time 8000 client stream-credit stream 1 value 2065535
+"""
+    for frame, left in ((7 + 2 * i, 2065135 - 400 * i) for i in rounds):
+        wanted += f"""\
+frame {frame} record {frame + 2} time {frame + 2}000 client connection-credit stream 0 value 65135
+frame {frame} record {frame + 2} time {frame + 2}000 client stream-credit stream 1 value {left}
+frame {frame + 1} record {frame + 3} time {frame + 3}000 client connection-credit stream 0 value 65535
+"""
+    return len(capture) > 2097152 and always_answers(program, capture, wanted + "audit of all frames\n", "--frames")
+
+
+def many_openings(program):
+    """1,000 SYNs with numbers of their own are a connection each."""
+    numbers = range(1, 1001)
+    wanted = "status 0\ncapture records 1000 segments 1000 snapped 0 not-ipv4 0 fragments 0 not-tcp 0 refused 0\n"
+    for number in numbers:
+        wanted += f"""\
+connection {number} client 10.0.0.1:40000 server 10.0.0.2:80 record {number} no-handshake
+flow client bytes 0 gap none tail 0
+flow server bytes 0 gap none tail 0
+"""
+    return always_answers(program, capture_of("empty\n" + "".join(f"SYN {number}\n" for number in numbers)), wanted)
+
+
+def never_opened(program):
+    """1,024 streams that were never opened, the greatest first: the first frame's finding stands alone."""
+    script = "opened\n" + "".join(f"S WINDOW_UPDATE {stream} 1\n" for stream in range(2047, 0, -2))
+    wanted = """status 1
+capture records 1030 segments 1030 snapped 0 not-ipv4 0 fragments 0 not-tcp 0 refused 0
+connection 1 client 10.0.0.1:40000 server 10.0.0.2:80 record 1 http2 frames 1028
+flow client bytes 42 gap none tail 0
+flow server bytes 13330 gap none tail 0
+frame 5 record 7 time 7000 server not-opened stream 2047 value 8
+audit stopped at frame 5
+"""
+    return always_answers(program, capture_of(script), wanted)
+
+
+def each_prefix(program):
+    """A prefix below a file header is refused. Every other has a report, and says whether a record was cut and a stall is open."""
+    script = "opened\nC HEADERS 1\nC DATA 1 100\nS SETTINGS 4 0\nC ACK\nS WINDOW_UPDATE 1 100\nS WINDOW_UPDATE 1 1\n"
+    capture = capture_of(script)
+    # The lengths at which the capture ends with a whole record.
+    whole = [24, 94, 164, 267, 346, 425, 504, 583, 762, 847, 926, 1009, 1092]
+    stalled = """\
+frame 8 record 10 time 10000 client stream-stall-begin stream 1 value -100
+stall client stream 1 from 8 open
+audit of all frames
+"""
+
+    def is_told(length):
+        text = answer_of(program, ["--workers=1", "--groups=1", "--block=1"], capture[:length])
+        if length < 24:
+            return text == "status 3\nh2audit: capture refused: short-header\n"
+        told = (text.startswith("status 0\ncapture records "), " cut\n" in text, text.endswith(stalled))
+        return told == (True, length not in whole, 926 <= length < 1092)
+
+    return len(capture) == 1092 and all(is_told(length) for length in range(1093))
+
+
+def spelling(_program):
+    """Scripts spell the bytes that were written out by hand."""
+    handshake = """
+        d4c3b2a1 0200 0400 00000000 00000000 00000400 01000000
+        00000000 01000000 36000000 36000000  000000000000 000000000000 0800
+        4500 0028 0000 0000 40 06 0000 0a000001 0a000002  9c40 0050 000003e8 00000000 5002 0000 0000 0000
+        00000000 02000000 36000000 36000000  010000000000 000000000000 0800
+        4500 0028 0000 0000 40 06 0000 0a000002 0a000001  0050 9c40 00001388 00000000 5012 0000 0000 0000
+    """
+    frames = {
+        "DATA 1 2": "000002 00 00 00000001 0000",
+        "DATA 1 1 END_STREAM": "000001 00 01 00000001 00",
+        "PADDED 1 3 2": "000003 00 08 00000001 02 0000",
+        "HEADERS 3": "000000 01 04 00000003",
+        "HEADERS 3 END_STREAM": "000000 01 05 00000003",
+        "HEADERS_OF 3 1": "000001 01 04 00000003 00",
+        "PRIORITY 1 1": "000001 02 00 00000001 00",
+        "RST_STREAM 9": "000004 03 00 00000009 00000000",
+        "SETTINGS": "000000 04 00 00000000",
+        "SETTINGS 4 65536": "000006 04 00 00000000 0004 00010000",
+        "ACK": "000000 04 01 00000000",
+        "PUSH_PROMISE 1 2": "000004 05 04 00000001 00000002",
+        "PING": "000008 06 00 00000000 0000000000000000",
+        "WINDOW_UPDATE 0 2147418112": "000004 08 00 00000000 7fff0000",
+    }
+    return capture_of("handshake\nSET 0 1\n") == bytes.fromhex(handshake) and all(
+        frame_of(words.split()) == bytes.fromhex(spelled) for words, spelled in frames.items()
+    )
+
+
+def tests():
+    """Each test's name, and what answers whether it is passed."""
+    for test in (spelling, many_frames, many_openings, never_opened, each_prefix):
+        yield test.__name__, test
+    for name, text in rows():
+        yield name, lambda program, text=text: row(program, text)
+    for capture in sorted(EXAMPLES.glob("*.pcap")):
+        yield capture.stem, lambda program, capture=capture: example(program, capture)
+
+
+def main(programs):
+    named = [(f"{name} of {program}", test, program) for program in programs for name, test in tests()]
+    with ThreadPoolExecutor(os.cpu_count()) as pool:
+        answers = list(pool.map(lambda it: it[1](it[2]), named))
+    differing = [name for (name, _, _), same in zip(named, answers) if not same]
+    for name in differing:
+        print(f"{name}: differs")
+    print(f"{len(answers) - len(differing)} passed, {len(differing)} failed")
+    sys.exit(1 if differing else 0)
+
+
+if __name__ == "__main__":
+    main(sys.argv[1:] or sys.exit(__doc__))
