@@ -81,28 +81,28 @@ def example(program, capture):
 
 
 def many_frames(program):
-    """10,006 frames in more than 2 MiB: reading goes in pieces of 1 MiB, and the text grows often.
+    """10,006 frames in more than 24 MiB: the capture is held in seven parts of 4 MiB, and the text grows often.
 
-    A stream sends 5,000 DATA frames of 400 bytes, each granted back to the connection at once.
+    A stream sends 5,000 DATA frames of 5,000 bytes, each granted back to the connection at once.
     """
     rounds = range(5000)
-    capture = capture_of("opened\nC HEADERS 1\nS WINDOW_UPDATE 1 2000000\n" + 5000 * "C DATA 1 400\nS WINDOW_UPDATE 0 400\n")
+    capture = capture_of("opened\nC HEADERS 1\nS WINDOW_UPDATE 1 26000000\n" + 5000 * "C DATA 1 5000\nS WINDOW_UPDATE 0 5000\n")
     wanted = """status 0
 capture records 10008 segments 10008 snapped 0 not-ipv4 0 fragments 0 not-tcp 0 refused 0
 connection 1 client 10.0.0.1:40000 server 10.0.0.2:80 record 1 http2 frames 10006
-flow client bytes 2045051 gap none tail 0
+flow client bytes 25045051 gap none tail 0
 flow server bytes 65031 gap none tail 0
 frame 5 record 7 time 7000 client stream-credit stream 1 value 65535
 frame 5 record 7 time 7000 server stream-credit stream 1 value 65535
-frame 6 record 8 time 8000 client stream-credit stream 1 value 2065535
+frame 6 record 8 time 8000 client stream-credit stream 1 value 26065535
 """
-    for frame, left in ((7 + 2 * i, 2065135 - 400 * i) for i in rounds):
+    for frame, left in ((7 + 2 * i, 26060535 - 5000 * i) for i in rounds):
         wanted += f"""\
-frame {frame} record {frame + 2} time {frame + 2}000 client connection-credit stream 0 value 65135
+frame {frame} record {frame + 2} time {frame + 2}000 client connection-credit stream 0 value 60535
 frame {frame} record {frame + 2} time {frame + 2}000 client stream-credit stream 1 value {left}
 frame {frame + 1} record {frame + 3} time {frame + 3}000 client connection-credit stream 0 value 65535
 """
-    return len(capture) > 2097152 and always_answers(program, capture, wanted + "audit of all frames\n", "--frames")
+    return len(capture) > 6 * 4194304 and always_answers(program, capture, wanted + "audit of all frames\n", "--frames")
 
 
 def many_openings(program):

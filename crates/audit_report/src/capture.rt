@@ -8,7 +8,7 @@ use crate::numbered::push_record_lines;
 use crate::tally::Tally;
 use crate::unopened::push_unopened_lines;
 use crate::words::{push_field, push_word};
-use packet_heads::Packet;
+use packet_heads::Packets;
 use pcap_records::Records;
 use std::alloc::{AllocError, Global};
 use tcp_streams::Stray;
@@ -18,7 +18,7 @@ use tcp_streams::Stray;
 pub fn capture_lines(
     alloc: Global,
     records: &Records,
-    packets: &[Packet],
+    packets: &Packets<'_>,
     strays: &[Stray],
 ) -> Result<Vec<u8>, AllocError>
     ensures { IfOk result (λ text. text.items ≡ capture_text records.now packets.now strays.now) }
@@ -33,7 +33,7 @@ pub fn capture_lines(
 pub fn push_capture_text(
     out: &mut String,
     records: &Records,
-    packets: &[Packet],
+    packets: &Packets<'_>,
     strays: &[Stray],
 ) -> Result<(), AllocError>
     ensures { OnOk result (string_bytes out.new ≡ string_bytes out.old
@@ -49,7 +49,7 @@ pub fn push_capture_text(
 fn push_capture_line(
     out: &mut String,
     records: &Records,
-    packets: &[Packet],
+    packets: &Packets<'_>,
 ) -> Result<(), AllocError>
     ensures { OnOk result (string_bytes out.new ≡ string_bytes out.old
         ++ capture_line records.now.rows.items packets.now) }
@@ -60,7 +60,7 @@ fn push_capture_line(
 }
 
 #[tactic(auto, using(crate::proofs::Joins::joins))]
-fn push_packet_counts(out: &mut String, packets: &[Packet]) -> Result<(), AllocError>
+fn push_packet_counts(out: &mut String, packets: &Packets<'_>) -> Result<(), AllocError>
     ensures { OnOk result (string_bytes out.new ≡ string_bytes out.old ++ packet_counts packets.now) }
 {
     let tally = Tally::of(packets);

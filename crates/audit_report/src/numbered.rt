@@ -4,15 +4,20 @@ ghost use Rattle.packet_heads.specs.declared.packets.Refusal.{Refusal};
 ghost use Rattle.audit_report.specs.RecordLines.{record_line, record_lines};
 
 use crate::words::{push_field, push_word};
-use packet_heads::{Packet, Refusal, Skip};
+use packet_heads::{Packet, Packets, Refusal, Skip};
 use std::alloc::AllocError;
 
 /// Adds a line for each fragment and each refused packet, under the number of its record.
-pub fn push_record_lines(out: &mut String, packets: &[Packet]) -> Result<(), AllocError>
+pub fn push_record_lines(out: &mut String, packets: &Packets<'_>) -> Result<(), AllocError>
     ensures { OnOk result (string_bytes out.new ≡ string_bytes out.old ++ record_lines packets.now) }
 {
-    for (i, packet) in packets.iter().enumerate() {
-        push_record_line(out, i as u64 + 1, packet)?;
+    let mut at = 0;
+    while at < packets.len() {
+        let together = packets.from(at);
+        for packet in together {
+            at += 1;
+            push_record_line(out, at as u64, packet)?;
+        }
     }
     Ok(())
 }

@@ -14,7 +14,7 @@ use crate::endings::{push_end_line, push_stall_lines};
 use crate::findings::push_finding_lines;
 use audit_terms::{Finding, Frame};
 use h2_frames::Cut;
-use packet_heads::Packet;
+use packet_heads::Packets;
 use pcap_records::Records;
 use split_merge::stall_pairs;
 use std::alloc::{AllocError, Global};
@@ -25,7 +25,7 @@ use tcp_streams::{Connection, Connections};
 pub fn report(
     alloc: Global,
     records: &Records,
-    packets: &[Packet],
+    packets: &Packets<'_>,
     connections: &Connections,
     audited: &[Audited],
     frames_shown: bool,

@@ -1,7 +1,7 @@
 ghost use Rattle.std.specs.Prelude.{◌≡◌, ◌+◌, ◌<◌, ◌^◌, if◌then◌else◌};
 ghost use Rattle.audit_report.specs.CaptureLine.{is_segment, is_snapped, is_not_ipv4, is_fragment, is_not_tcp, is_refused};
 
-use packet_heads::{Packet, Skip};
+use packet_heads::{Packet, Packets, Skip};
 
 /// How many packets there are of each kind.
 #[derive(Clone, Copy)]
@@ -27,12 +27,17 @@ impl Tally {
     };
 
     /// Counts all packets in one pass.
-    pub fn of(packets: &[Packet]) -> Tally
+    pub fn of(packets: &Packets<'_>) -> Tally
         ensures { IsTallyOf packets.now result }
     {
         let mut tally = Tally::NONE;
-        for packet in packets {
-            tally.add(packet);
+        let mut at = 0;
+        while at < packets.len() {
+            let together = packets.from(at);
+            for packet in together {
+                tally.add(packet);
+            }
+            at += together.len();
         }
         tally
     }

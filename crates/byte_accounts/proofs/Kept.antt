@@ -1,8 +1,7 @@
 -- What is kept of a capture, read by read.
-use Rattle.std.proofs.Common.{◌≡◌, ◌∙◌, ℕ, ◌+◌, ◌^◌, ◌<◌, ◌≤◌, List, [], ◌++◌, length, take, drop, length-append, Option, Some, None, IfSome, sym, ap, subst, arith, vec_len}
+use Rattle.std.proofs.Common.{◌≡◌, ◌∙◌, ℕ, ◌+◌, ◌^◌, ◌<◌, ◌≤◌, List, [], ◌++◌, length, take, drop, length-append, take-append-drop, Option, Some, None, IfSome, sym, ap, subst, arith}
 use Rattle.std.specs.Io.KnownBytes.{Consumes, IsAtEnd}
 use Rattle.std.proofs.KnownBytes.{Consumes-trans}
-use Rattle.std.proofs.Math.Seq.{take-add}
 use Rattle.std.proofs.lemmas.List.{append-nil, append_assoc, length-take-le, nil_from_length, take-take}
 use Rattle.byte_accounts.specs.Account.{HaveGiven, OfGiven, kept}
 use Rattle.byte_accounts.specs.code.Reading.{HasConsumed}
@@ -20,18 +19,15 @@ module _ {R : Type 0} where
   gave_kept reader none = ([], sym (append-nil (kept reader)), sym none)
 
   -- the reads gave as many bytes as are kept or were passed over
-  pub given_size : (reader : CaptureReader R) (given : List ℕ) → reader.filled ≤ vec_len reader.bytes → HaveGiven reader given
-      → length given ≡ reader.filled + reader.passed
-  given_size reader given within gave =
-      let front : length (kept reader) ≡ reader.filled =
-      length-take-le reader.filled reader.bytes.items (omega (arith, within, reader.bytes.ok.0)) in
-      omega (arith, ap length gave.1, length-append (kept reader) gave.0, gave.2, front)
+  pub given_size : (reader : CaptureReader R) (given : List ℕ) → HaveGiven reader given
+      → length given ≡ length (kept reader) + reader.passed
+  given_size reader given gave = omega (arith, ap length gave.1, length-append (kept reader) gave.0, gave.2)
 
   -- no read was made
-  pub consumed_none : (a : Option (List ℕ)) (reader : CaptureReader R) → reader.filled ≡ 0 → reader.passed ≡ 0
+  pub consumed_none : (a : Option (List ℕ)) (reader : CaptureReader R) → kept reader ≡ [] → reader.passed ≡ 0
       → HasConsumed a a reader
   consumed_none a reader empty none =
-      ([], ([], sym (ap (λ n. take n reader.bytes.items ++ []) empty), sym none), consumes_nothing a)
+      ([], ([], sym (ap (λ (front : List ℕ). front ++ []) empty), sym none), consumes_nothing a)
 
   -- room was made
   pub consumed_same : (a b : Option (List ℕ)) (old new : CaptureReader R) → kept new ≡ kept old
@@ -43,27 +39,26 @@ module _ {R : Type 0} where
   )
 
   -- one read more that is kept
-  pub consumed_more : (a b c : Option (List ℕ)) (old new : CaptureReader R) (n : ℕ) → old.passed ≡ 0
-      → new.passed ≡ 0 → new.filled ≡ old.filled + n → take old.filled new.bytes.items ≡ kept old
-      → Consumes b c (take n (drop old.filled new.bytes.items)) → HasConsumed a b old → HasConsumed a c new
-  consumed_more a b c old new n none none_new grown front now before =
-      let more : List ℕ = take n (drop old.filled new.bytes.items) in
+  pub consumed_more : (a b c : Option (List ℕ)) (old new : CaptureReader R) → old.passed ≡ 0 → new.passed ≡ 0
+      → take (length (kept old)) (kept new) ≡ kept old → Consumes b c (drop (length (kept old)) (kept new))
+      → HasConsumed a b old → HasConsumed a c new
+  consumed_more a b c old new none none_new front now before =
+      let more : List ℕ = drop (length (kept old)) (kept new) in
       let all : kept new ≡ kept old ++ more =
-      ap (λ (k : ℕ). take k new.bytes.items) grown ∙ take-add old.filled n new.bytes.items
-      ∙ ap (λ (xs : List ℕ). xs ++ more) front in
+      sym (take-append-drop (length (kept old)) (kept new)) ∙ ap (λ (xs : List ℕ). xs ++ more) front in
       let was : Consumes a b (kept old) = subst (Consumes a b) (given_is_kept old before.0 none before.1) before.2 in
       (kept new, gave_kept new none_new, subst (Consumes a c) (sym all) (Consumes-trans a b c (kept old) more was now))
 
   -- room was made, and one read more is kept; `left` says what a reader has left
-  pub consumed_read : (left : R → Option (List ℕ)) (a : Option (List ℕ)) (old roomy new : CaptureReader R) (n : ℕ)
+  pub consumed_read : (left : R → Option (List ℕ)) (a : Option (List ℕ)) (old roomy new : CaptureReader R)
       → roomy ≡ record old { bytes = roomy.bytes } → kept roomy ≡ kept old → old.passed ≡ 0 → new.passed ≡ roomy.passed
-      → new.filled ≡ roomy.filled + n → take roomy.filled new.bytes.items ≡ kept roomy
-      → Consumes (left roomy.reader) (left new.reader) (take n (drop roomy.filled new.bytes.items))
+      → take (length (kept roomy)) (kept new) ≡ kept roomy
+      → Consumes (left roomy.reader) (left new.reader) (drop (length (kept roomy)) (kept new))
       → HasConsumed a (left old.reader) old → HasConsumed a (left new.reader) new
-  consumed_read left a old roomy new n room same none passed grown front now before =
+  consumed_read left a old roomy new room same none passed front now before =
       let none_roomy : roomy.passed ≡ 0 = ap (λ (r : CaptureReader R). r.passed) room ∙ none in
       let made = consumed_same a (left old.reader) old roomy same (ap (λ (r : CaptureReader R). r.passed) room) before in
-      consumed_more a (left roomy.reader) (left new.reader) roomy new n none_roomy (passed ∙ none_roomy) grown front now
+      consumed_more a (left roomy.reader) (left new.reader) roomy new none_roomy (passed ∙ none_roomy) front now
       (subst (λ (r : R). HasConsumed a (left r) roomy) (sym (ap (λ (r : CaptureReader R). r.reader) room)) made)
 
   -- one read more that is passed over
@@ -87,37 +82,24 @@ module _ {R : Type 0} where
   front_given (Some all) reader given is gave = subst (HaveGiven reader) is gave
 
   -- at the end the reads gave all of the reader's bytes, or 2^31 of them
-  pub gave_front : (a b : Option (List ℕ)) (reader : CaptureReader R) → reader.filled ≤ vec_len reader.bytes
-      → reader.filled + reader.passed ≤ 2 ^ 31 → (reader.filled + reader.passed < 2 ^ 31 → IsAtEnd b)
+  pub gave_front : (a b : Option (List ℕ)) (reader : CaptureReader R)
+      → length (kept reader) + reader.passed ≤ 2 ^ 31 → (length (kept reader) + reader.passed < 2 ^ 31 → IsAtEnd b)
       → HasConsumed a b reader → IfSome a (λ all. HaveGiven reader (take (2 ^ 31) all))
-  gave_front a b reader within limit ends read =
-      let long = given_size reader read.0 within read.1 in
+  gave_front a b reader limit ends read =
+      let long = given_size reader read.0 read.1 in
       let front = front_read a b read.0 read.2 (omega (arith, long, limit)) (λ short. ends (omega (arith, long, short))) in
       front_given a reader read.0 front read.1
 
   -- and as many
-  pub gave_all : (reader : CaptureReader R) → reader.filled ≤ vec_len reader.bytes
-      → reader.filled + reader.passed ≡ 2 ^ 31 → OfGiven reader (λ given. length given ≡ 2 ^ 31)
-  gave_all reader within full given gave = given_size reader given within gave ∙ full
+  pub gave_all : (reader : CaptureReader R) → length (kept reader) + reader.passed ≡ 2 ^ 31
+      → OfGiven reader (λ given. length given ≡ 2 ^ 31)
+  gave_all reader full given gave = given_size reader given gave ∙ full
 
-  -- room that is made keeps the front of what is kept
-  pub front_roomy : (first old roomy : CaptureReader R) → first.filled ≤ old.filled → roomy.filled ≡ old.filled
-      → kept roomy ≡ kept old → take first.filled old.bytes.items ≡ kept first
-      → take first.filled roomy.bytes.items ≡ kept first
-  front_roomy first old roomy grown same made before =
-      sym (take-take first.filled roomy.filled roomy.bytes.items (omega (arith, grown, same)))
-      ∙ ap (take first.filled) made
-      ∙ take-take first.filled old.filled old.bytes.items grown
-      ∙ before
-
-  -- room is made and a read keeps the front of what is kept
-  pub front_stays : (first old roomy new : CaptureReader R) → first.filled ≤ old.filled
-      → roomy ≡ record old { bytes = roomy.bytes } → kept roomy ≡ kept old
-      → take roomy.filled new.bytes.items ≡ kept roomy → take first.filled old.bytes.items ≡ kept first
-      → take first.filled new.bytes.items ≡ kept first
-  front_stays first old roomy new grown room made now before =
-      let same : roomy.filled ≡ old.filled = ap (λ (r : CaptureReader R). r.filled) room in
-      sym (take-take first.filled roomy.filled new.bytes.items (omega (arith, grown, same)))
-      ∙ ap (take first.filled) (now ∙ made)
-      ∙ take-take first.filled old.filled old.bytes.items grown
+  -- a read keeps the front of what is kept
+  pub front_stays : (first old roomy new : CaptureReader R) → length (kept first) ≤ length (kept old)
+      → kept roomy ≡ kept old → take (length (kept roomy)) (kept new) ≡ kept roomy
+      → take (length (kept first)) (kept old) ≡ kept first → take (length (kept first)) (kept new) ≡ kept first
+  front_stays first old roomy new grown made now before =
+      sym (take-take (length (kept first)) (length (kept roomy)) (kept new) (omega (arith, grown, ap length made)))
+      ∙ ap (take (length (kept first))) (now ∙ made)
       ∙ before

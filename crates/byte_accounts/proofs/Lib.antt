@@ -1,2 +1,3 @@
+mod Bytes
 pub mod Capture
 pub mod Kept

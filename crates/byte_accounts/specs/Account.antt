@@ -6,7 +6,7 @@ use Rattle.byte_accounts.specs.declared.report_writer.ReportWriter.{ReportWriter
 module _ {R : Type 0} where
   -- the bytes that are kept of those that the reads gave
   abbrev pub kept : CaptureReader R → List ℕ
-  kept reader = take reader.filled reader.bytes.items
+  kept reader = reader.bytes.kept
 
   -- the reads gave these bytes, in order: those that are kept, and then as many as were passed over
   abbrev pub HaveGiven : CaptureReader R → List ℕ → Type 0
@@ -19,8 +19,8 @@ module _ {R : Type 0} where
 
   -- no read was made
   pub record IsUnread (reader : CaptureReader R) : Type 0 where
-    pub filled : reader.filled ≡ 0
-    pub bytes : reader.bytes.items ≡ []
+    pub kept : reader.bytes.kept ≡ []
+    pub room : reader.bytes.room ≡ 0
     pub passed : reader.passed ≡ 0
     pub has_ended : reader.has_ended ≡ false
     pub has_failed : reader.has_failed ≡ false

@@ -1,17 +1,18 @@
-ghost use Rattle.std.specs.Prelude.{◌≡◌, ◌+◌, ◌^◌, ◌<◌, ◌≤◌, length, take, drop, true, false, vec_len, IfErr, IfOk, OnOk, OnErr};
+ghost use Rattle.std.specs.Prelude.{◌≡◌, ◌+◌, ◌^◌, ◌<◌, ◌≤◌, length, take, drop, true, false, IfErr, IfOk, OnOk, OnErr};
 ghost use Rattle.std.specs.Bool.{Decides};
 ghost use Rattle.std.specs.Io.KnownBytes.{Consumes, IsAtEnd};
 ghost use Rattle.byte_accounts.specs.Account.{IsUnread, kept};
 
 use crate::fault::ReadFault;
-use std::alloc::Global;
+use crate::kept_bytes::KeptBytes;
+use crate::parts_ahead::PartsAhead;
+use pcap_records::Capture;
+use std::alloc::{AllocError, Global};
 use std::io::Read;
+use std::thread::Threads;
 
 /// The number of bytes at which reading stops: a capture that has as many is refused.
 pub const LIMIT: usize = 2_147_483_648;
-
-/// The number of bytes for which room is made at a time.
-const PIECE: usize = 1_048_576;
 
 /// A reader of a capture, with an account of what its reads answered.
 ///
@@ -21,9 +22,8 @@ const PIECE: usize = 1_048_576;
 #[derive(Drop)]
 pub struct CaptureReader<R> {
     reader: R,
-    /// The bytes that are kept are the first `filled` of these.
-    bytes: Vec<u8>,
-    filled: usize,
+    /// The bytes that are kept.
+    bytes: KeptBytes,
     /// After these the reads gave so many more, which can change no answer.
     passed: usize,
     has_ended: bool,
@@ -39,8 +39,7 @@ impl<R> CaptureReader<R> {
     {
         CaptureReader {
             reader,
-            bytes: Vec::new(alloc),
-            filled: 0,
+            bytes: KeptBytes::new(alloc),
             passed: 0,
             has_ended: false,
             has_failed: false,
@@ -49,10 +48,18 @@ impl<R> CaptureReader<R> {
     }
 
     /// The bytes that are kept of those that the reads gave: all, or the file header that refuses them.
-    pub fn kept(&self) -> &[u8]
+    pub fn capture(&self, alloc: Global) -> Result<Capture<'_>, AllocError>
+        ensures { IfOk result (λ capture. capture ≡ kept self.now) }
+    {
+        self.bytes.capture(alloc)
+    }
+
+    /// The same, where there is room for less than a part of a capture.
+    pub fn together(&self) -> &[u8]
+        requires { self.now.bytes.room < 4194304 }
         ensures { result.now ≡ kept self.now }
     {
-        &self.bytes[..self.filled.min(self.bytes.len())]
+        self.bytes.together()
     }
 
     /// The number of bytes that the reads gave after these.
@@ -78,34 +85,42 @@ impl<R> CaptureReader<R> {
 
     /// Whether so many bytes are kept.
     pub(crate) fn has_kept(&self, count: usize) -> bool
-        ensures { Decides result (count ≤ self.now.filled) }
+        ensures { Decides result (count ≤ length (kept self.now)) }
     {
-        count <= self.filled
+        count <= self.bytes.len()
     }
 
     /// Whether the reads gave 2^31 bytes.
     pub(crate) fn is_full(&self) -> bool
-        requires { self.now.filled + self.now.passed ≤ 2 ^ 31 }
-        ensures { Decides result (2 ^ 31 ≤ self.now.filled + self.now.passed) }
+        requires { length (kept self.now) + self.now.passed ≤ 2 ^ 31 }
+        ensures { Decides result (2 ^ 31 ≤ length (kept self.now) + self.now.passed) }
     {
-        LIMIT <= self.filled + self.passed
+        LIMIT <= self.bytes.len() + self.passed
     }
 
-    /// Makes room for at least one byte more, and mostly for a piece, where no more than `limit` are to be kept.
-    pub(crate) fn make_room(&mut self, limit: usize) -> Result<(), ReadFault>
-        requires filled { self.old.filled ≤ vec_len self.old.bytes }
-        requires limit { self.old.filled < limit }
-        requires most { (vec_len self.old.bytes ≤ limit) × (limit ≤ 2 ^ 31) }
+    /// Enters that there was no memory for the list of the parts.
+    pub fn lack_memory(&mut self)
+        ensures { self.new ≡ record self.old { lacked_memory = true } }
+    {
+        self.lacked_memory = true;
+    }
+
+    /// Makes room for at least one byte more, where no more than `limit` are to be kept.
+    pub(crate) fn make_room<T: Threads>(
+        &mut self,
+        limit: usize,
+        ahead: &mut PartsAhead<'_, T>,
+    ) -> Result<(), ReadFault>
+        requires limit { length (kept self.old) < limit }
+        requires most { (self.old.bytes.room ≤ limit) × (limit ≤ 2 ^ 31) }
         ensures kept { kept self.new ≡ kept self.old }
-        ensures filled { self.new.filled ≤ vec_len self.new.bytes }
-        ensures limit { vec_len self.new.bytes ≤ limit }
+        ensures limit { self.new.bytes.room ≤ limit }
         ensures ok { OnOk result (self.new ≡ record self.old { bytes = self.new.bytes }) }
-        ensures room { OnOk result (self.new.filled < vec_len self.new.bytes) }
+        ensures room { OnOk result (length (kept self.new) < self.new.bytes.room) }
         ensures err { OnErr result (self.new ≡ record self.old { bytes = self.new.bytes; lacked_memory = true }) }
         ensures fault { IfErr result (λ e. e ≡ ReadFault.OutOfMemory) }
     {
-        let wanted = limit.min(self.filled + PIECE);
-        if self.bytes.len() < wanted && self.bytes.resize(wanted, 0).is_err() {
+        if self.bytes.make_room(limit, ahead).is_err() {
             self.lacked_memory = true;
             return Err(ReadFault::OutOfMemory);
         }
@@ -116,17 +131,17 @@ impl<R> CaptureReader<R> {
 impl<R: Read> CaptureReader<R> {
     /// Reads once, and keeps what that gives. No read comes after one that failed or found the end.
     pub(crate) fn read_once(&mut self) -> Result<usize, ReadFault>
-        requires room { self.old.filled < vec_len self.old.bytes }
+        requires room { length (kept self.old) < self.old.bytes.room }
         requires unpassed { self.old.passed ≡ 0 }
         requires unended { self.old.has_ended ≡ false }
         requires unfailed { self.old.has_failed ≡ false }
-        ensures front { take self.old.filled self.new.bytes.items ≡ kept self.old }
-        ensures filled { self.new.filled ≤ vec_len self.new.bytes }
-        ensures room { vec_len self.new.bytes ≡ vec_len self.old.bytes }
-        ensures grown { self.old.filled ≤ self.new.filled }
-        ensures count { IfOk result (λ n. self.new.filled ≡ self.old.filled + n) }
+        ensures front { take (length (kept self.old)) (kept self.new) ≡ kept self.old }
+        ensures room { self.new.bytes.room ≡ self.old.bytes.room }
+        ensures grown { length (kept self.old) ≤ length (kept self.new) }
+        ensures within { length (kept self.new) ≤ self.new.bytes.room }
+        ensures count { IfOk result (λ n. length (kept self.new) ≡ length (kept self.old) + n) }
         ensures bytes { IfOk result (λ n. Consumes (R.remaining self.old.reader) (R.remaining self.new.reader)
-            (take n (drop self.old.filled self.new.bytes.items))) }
+            (drop (length (kept self.old)) (kept self.new))) }
         ensures end { IfOk result (λ n. n ≡ 0 → IsAtEnd (R.remaining self.new.reader)) }
         ensures ended { IfOk result (λ n. n ≡ 0 → self.new.has_ended ≡ true) }
         ensures unended { IfOk result (λ n. 0 < n → self.new.has_ended ≡ false) }
@@ -135,9 +150,8 @@ impl<R: Read> CaptureReader<R> {
         ensures memory { self.new.lacked_memory ≡ self.old.lacked_memory }
         ensures passed { self.new.passed ≡ self.old.passed }
     {
-        match self.reader.read(&mut self.bytes[self.filled..]) {
+        match self.bytes.read_once(&mut self.reader) {
             Ok(count) => {
-                self.filled += count;
                 self.has_ended = count == 0;
                 Ok(count)
             }
@@ -151,12 +165,12 @@ impl<R: Read> CaptureReader<R> {
     /// Reads once into the piece, and keeps nothing of it. No read comes after one that failed or found the end.
     pub(crate) fn pass_once(&mut self, piece: &mut [u8]) -> Result<usize, ReadFault>
         requires room { 0 < length piece.old }
-        requires limit { self.old.filled + self.old.passed < 2 ^ 31 }
+        requires limit { length (kept self.old) + self.old.passed < 2 ^ 31 }
         requires unended { self.old.has_ended ≡ false }
         requires unfailed { self.old.has_failed ≡ false }
         ensures piece { length piece.new ≡ length piece.old }
-        ensures kept { (self.new.bytes ≡ self.old.bytes) × (self.new.filled ≡ self.old.filled) }
-        ensures limit { self.new.filled + self.new.passed ≤ 2 ^ 31 }
+        ensures kept { self.new.bytes ≡ self.old.bytes }
+        ensures limit { length (kept self.new) + self.new.passed ≤ 2 ^ 31 }
         ensures count { IfOk result (λ n. self.new.passed ≡ self.old.passed + n) }
         ensures fits { IfOk result (λ n. n ≤ length piece.new) }
         ensures bytes { IfOk result (λ n. Consumes (R.remaining self.old.reader) (R.remaining self.new.reader)
@@ -168,7 +182,7 @@ impl<R: Read> CaptureReader<R> {
         ensures err { IfErr result (λ e. (e ≡ ReadFault.Failed) × (self.new.has_failed ≡ true)) }
         ensures memory { self.new.lacked_memory ≡ self.old.lacked_memory }
     {
-        let most = piece.len().min(LIMIT - self.filled - self.passed);
+        let most = piece.len().min(LIMIT - self.bytes.len() - self.passed);
         match self.reader.read(&mut piece[..most]) {
             Ok(count) => {
                 self.passed += count;

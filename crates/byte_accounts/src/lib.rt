@@ -6,9 +6,13 @@
 //! themselves tell their bytes, clause `bytes` says that these are the ones of the accounts. Of bytes that are read and not
 //! kept the account has the number, and the clauses hold whatever they are. Reading stops at 2^31 bytes ([`LIMIT`]).
 //!
+//! What is kept stands in parts of one length, as `pcap_records::Capture` has them; no byte is moved once it was read.
+//! The first part grows by pieces. Later ones are made ahead by other threads ([`PartsAhead`]), since most of the time of
+//! reading goes into memory that is used for the first time; where no thread can be had, the one that reads makes them.
+//!
 //! The accounts are as honest as the code that enters them: their fields are private, `read_once`, `pass_once`,
 //! `write_once` and `flush_once` make the crate's only calls of `read`, `write` and `flush`, and ask that none follows
-//! one that failed; `make_room` enters want of memory. A reader sees this at once; no contract says it.
+//! one that failed; `make_room` and `lack_memory` enter want of memory. A reader sees this at once; no contract says it.
 //!
 //! Wrong bodies that the prover refuses: a read or a write that is told to have filled or taken all. Tested, in
 //! `crate_tests`: which calls readers and writers get. Trusted: that a file or a pipe gives and keeps its bytes.
@@ -16,12 +20,15 @@
 
 mod capture_reader;
 mod fault;
+mod kept_bytes;
+mod parts_ahead;
 mod reading;
 mod report_writer;
 mod writing;
 
 pub use capture_reader::{CaptureReader, LIMIT};
 pub use fault::{ReadFault, WriteFault};
+pub use parts_ahead::PartsAhead;
 pub use reading::{keep_up_to, pass_over};
 pub use report_writer::ReportWriter;
 pub use writing::write_report;

@@ -1,11 +1,13 @@
-ghost use Rattle.std.specs.Prelude.{◌≡◌, ◌+◌, ◌^◌, ◌≤◌, List, Option, true, false, take, IfErr, OnOk, vec_len};
+ghost use Rattle.std.specs.Prelude.{◌≡◌, ◌+◌, ◌^◌, ◌≤◌, List, Option, true, false, length, take, IfErr, OnOk};
 ghost use Rattle.std.specs.Io.KnownBytes.{IsAtEnd};
 ghost use Rattle.byte_accounts.specs.Account.{kept};
 ghost use Rattle.byte_accounts.specs.code.Reading.{HasConsumed, IsReadingFault, IsSound};
 
 use crate::capture_reader::CaptureReader;
 use crate::fault::ReadFault;
+use crate::parts_ahead::PartsAhead;
 use std::io::Read;
+use std::thread::Threads;
 
 /// The number of bytes that are passed over at a time.
 const PASSED: usize = 65_536;
@@ -13,24 +15,28 @@ const PASSED: usize = 65_536;
 /// Reads until so many bytes are kept, or to the end.
 ///
 /// Each turn reads at least one byte or ends the reading, so there are no more than 2^31 turns.
-pub fn keep_up_to<R: Read>(reader: &mut CaptureReader<R>, limit: usize) -> Result<(), ReadFault>
+pub fn keep_up_to<T: Threads, R: Read>(
+    ahead: &mut PartsAhead<'_, T>,
+    reader: &mut CaptureReader<R>,
+    limit: usize,
+) -> Result<(), ReadFault>
     requires sound { IsSound reader.old }
-    requires room { (vec_len reader.old.bytes ≤ limit) × (limit ≤ 2 ^ 31) }
+    requires room { (reader.old.bytes.room ≤ limit) × (limit ≤ 2 ^ 31) }
     requires unpassed { reader.old.passed ≡ 0 }
     requires unended { reader.old.has_ended ≡ false }
     ensures sound { OnOk result (IsSound reader.new) }
-    ensures room { vec_len reader.new.bytes ≤ limit }
+    ensures room { reader.new.bytes.room ≤ limit }
     ensures unpassed { reader.new.passed ≡ 0 }
-    ensures grown { reader.old.filled ≤ reader.new.filled }
-    ensures front { take reader.old.filled reader.new.bytes.items ≡ kept reader.old }
-    ensures whole { OnOk result (reader.new.has_ended ≡ false → reader.new.filled ≡ limit) }
+    ensures grown { length (kept reader.old) ≤ length (kept reader.new) }
+    ensures front { take (length (kept reader.old)) (kept reader.new) ≡ kept reader.old }
+    ensures whole { OnOk result (reader.new.has_ended ≡ false → length (kept reader.new) ≡ limit) }
     ensures end { OnOk result (reader.new.has_ended ≡ true → IsAtEnd (R.remaining reader.new.reader)) }
     ensures bytes { OnOk result ((before : Option (List _)) → HasConsumed before (R.remaining reader.old.reader) reader.old
         → HasConsumed before (R.remaining reader.new.reader) reader.new) }
     ensures err { IfErr result (λ e. IsReadingFault e reader.new) }
 {
     while !reader.has_kept(limit) {
-        reader.make_room(limit)?;
+        reader.make_room(limit, ahead)?;
         if reader.read_once()? == 0 {
             return Ok(());
         }
@@ -43,8 +49,9 @@ pub fn pass_over<R: Read>(reader: &mut CaptureReader<R>) -> Result<(), ReadFault
     requires sound { IsSound reader.old }
     requires unended { reader.old.has_ended ≡ false }
     ensures sound { OnOk result (IsSound reader.new) }
-    ensures kept { (reader.new.bytes ≡ reader.old.bytes) × (reader.new.filled ≡ reader.old.filled) }
-    ensures whole { OnOk result (reader.new.has_ended ≡ false → reader.new.filled + reader.new.passed ≡ 2 ^ 31) }
+    ensures kept { reader.new.bytes ≡ reader.old.bytes }
+    ensures whole { OnOk result (reader.new.has_ended ≡ false
+        → length (kept reader.new) + reader.new.passed ≡ 2 ^ 31) }
     ensures end { OnOk result (reader.new.has_ended ≡ true → IsAtEnd (R.remaining reader.new.reader)) }
     ensures bytes { OnOk result ((before : Option (List _)) → HasConsumed before (R.remaining reader.old.reader) reader.old
         → HasConsumed before (R.remaining reader.new.reader) reader.new) }

@@ -36,9 +36,9 @@ use std::io;
 use std::thread::Threads;
 
 /// Prints a line for each test of calls, in groups: a long chain of calls is dear to prove.
-fn print_calls(rt: &(impl AllocGlobal + Print)) -> io::Result<()> {
+fn print_calls(rt: &(impl AllocGlobal + Print + Sync + Threads)) -> io::Result<()> {
     let alloc = rt.alloc();
-    print_answers(rt, &flows::answers(alloc))?;
+    print_answers(rt, &flows::answers(rt, alloc))?;
     print_answers(rt, &passes::answers(alloc))?;
     print_answers(rt, &looks::answers(alloc))
 }

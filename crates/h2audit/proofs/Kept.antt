@@ -1,6 +1,5 @@
 -- What is kept of a capture answers for all of it.
-use Rattle.std.proofs.Common.{◌≡◌, ◌∙◌, ℕ, ◌≤◌, length, take, Some, None, sym, ap, subst, arith}
-use Rattle.std.proofs.lemmas.List.{take-take}
+use Rattle.std.proofs.Common.{◌≡◌, ◌∙◌, ℕ, length, take, Some, None, sym, ap, subst}
 use Rattle.pcap_records.specs.Refusal.{refusal}
 use Rattle.pcap_records.specs.declared.faults.PcapFault.{PcapFault}
 use Rattle.pcap_records.proofs.Sizes.{header_refuses_lem}
@@ -11,13 +10,12 @@ use Rattle.h2audit.specs.code.Reading.{AnswersFor}
 
 module _ {R : Type 0} where
   -- a file header that is kept and not refused stays in front
-  pub header_stays : (first new : CaptureReader R) → first.filled ≡ 24 → first.filled ≤ new.filled
-      → take first.filled new.bytes.items ≡ kept first → refusal (kept first) ≡ None
+  pub header_stays : (first new : CaptureReader R) → length (kept first) ≡ 24
+      → take (length (kept first)) (kept new) ≡ kept first → refusal (kept first) ≡ None
       → refusal (take 24 (kept new)) ≡ None
-  header_stays first new size grown front taken =
-      let same : take 24 new.bytes.items ≡ kept first =
-      subst (λ (n : ℕ). take n new.bytes.items ≡ kept first) size front in
-      ap refusal (take-take 24 new.filled new.bytes.items (omega (arith, size, grown)) ∙ same) ∙ taken
+  header_stays first new size front taken =
+      let same : take 24 (kept new) ≡ kept first = subst (λ (n : ℕ). take n (kept new) ≡ kept first) size front in
+      ap refusal same ∙ taken
 
   -- what is kept answers for the bytes that the reads gave: it is all of them
   pub whole_answers : (reader : CaptureReader R) → reader.passed ≡ 0 → OfGiven reader (AnswersFor (kept reader))

@@ -1,5 +1,5 @@
 -- What the accounts of a run tell of its reads and writes, whatever its reader and its writer are.
-use Rattle.std.specs.Prelude.{◌≡◌, ◌≢◌, ℕ, ◌≤◌, Bool, false, List, take, None, Some, Result, Ok, Err, vec_len}
+use Rattle.std.specs.Prelude.{◌≡◌, ◌≢◌, ℕ, ◌≤◌, Bool, false, List, take, None, Some, Result, Ok, Err}
 use Rattle.pcap_records.specs.Refusal.{refusal}
 use Rattle.byte_accounts.specs.Account.{HasReadFailed, HasWriteFailed, IsFlushed, IsReadToEnd, IsUnwritten, OfGiven, kept, written}
 use Rattle.byte_accounts.specs.declared.capture_reader.CaptureReader.{CaptureReader}
@@ -12,7 +12,7 @@ use Rattle.h2audit.specs.declared.verdict.Verdict.{Verdict}
 module _ {R : Type 0} where
   -- of a capture that its file header refuses no more is kept than that
   abbrev pub IsBrief : CaptureReader R → Type 0
-  IsBrief reader = refusal (take 24 (kept reader)) ≢ None → vec_len reader.bytes ≤ 24
+  IsBrief reader = refusal (take 24 (kept reader)) ≢ None → reader.bytes.room ≤ 24
 
 module _ {R W : Type 0} where
   -- the accounts at the end of a run. After a verdict the reads gave a whole capture, and the writes took its report,

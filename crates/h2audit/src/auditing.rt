@@ -11,8 +11,8 @@ use crate::verdict::Verdict;
 use audit_report::report;
 use command_line::Options;
 use job_crew::Gate;
-use packet_heads::decode_all;
-use pcap_records::{PcapFault, Records, records};
+use packet_heads::{Packets, decode_all};
+use pcap_records::{Capture, PcapFault, Records, records, refusal};
 use std::alloc::{AllocError, Global};
 use std::thread::Threads;
 use tcp_streams::connections;
@@ -25,6 +25,28 @@ pub fn audit(
     alloc: Global,
     options: &Options,
     capture: &[u8],
+    gate: &impl Gate,
+) -> Result<(Vec<u8>, Verdict), AuditFault>
+    ensures report { IfOk result
+        (λ r. IsReport capture.now (choices options.now).frames_shown r.0.items r.1) }
+    ensures refused { IfErr result (λ e. IsNoReport capture.now e) }
+{
+    // A refusal takes no memory, so it comes before the parts.
+    if let Some(refusal) = refusal(capture) {
+        return Err(AuditFault::Pcap(refusal));
+    }
+    match Capture::cut(alloc, capture) {
+        Ok(parts) => audit_parts(rt, alloc, options, &parts, gate),
+        Err(_) => Err(AuditFault::OutOfMemory),
+    }
+}
+
+/// The report of a capture that is held in parts, and its verdict.
+pub(crate) fn audit_parts(
+    rt: &(impl Threads + Sync),
+    alloc: Global,
+    options: &Options,
+    capture: &Capture<'_>,
     gate: &impl Gate,
 ) -> Result<(Vec<u8>, Verdict), AuditFault>
     ensures report { IfOk result
@@ -46,7 +68,7 @@ fn audit_records(
     rt: &(impl Threads + Sync),
     alloc: Global,
     found: &Records,
-    capture: &[u8],
+    capture: &Capture<'_>,
     options: &Options,
     gate: &impl Gate,
 ) -> Result<(Vec<u8>, Verdict), AllocError>
@@ -57,21 +79,22 @@ fn audit_records(
     ensures { IfOk result (λ r. IsReportOn capture.now found.now (choices options.now).frames_shown
         r.0.items r.1) }
 {
-    let packets = decode_all(alloc, found, capture)?;
-    let connections = connections(alloc, packets.as_slice())?;
+    let made = decode_all(alloc, found, capture)?;
+    let packets = Packets::of(alloc, made.as_slice())?;
+    let connections = connections(alloc, &packets)?;
     let audited = audit_each(
         rt,
         alloc,
         options,
         capture,
-        packets.as_slice(),
+        &packets,
         connections.opened.as_slice(),
         gate,
     )?;
     let text = report(
         alloc,
         found,
-        packets.as_slice(),
+        &packets,
         &connections,
         audited.as_slice(),
         options.frames_shown(),

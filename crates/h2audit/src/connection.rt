@@ -22,7 +22,8 @@ use audit_terms::{Finding, Frame, Place};
 use command_line::Options;
 use h2_frames::Cut;
 use job_crew::{Gate, Part, settle};
-use packet_heads::Packet;
+use packet_heads::Packets;
+use pcap_records::Capture;
 use std::alloc::{AllocError, Global};
 use std::thread::Threads;
 use tcp_streams::Connection;
@@ -32,8 +33,8 @@ pub(crate) fn audit_each(
     rt: &(impl Threads + Sync),
     alloc: Global,
     options: &Options,
-    capture: &[u8],
-    packets: &[Packet],
+    capture: &Capture<'_>,
+    packets: &Packets<'_>,
     opened: &[Connection],
     gate: &impl Gate,
 ) -> Result<Vec<Audited>, AllocError>
@@ -58,8 +59,8 @@ fn cut_each(
     rt: &(impl Threads + Sync),
     alloc: Global,
     options: &Options,
-    capture: &[u8],
-    packets: &[Packet],
+    capture: &Capture<'_>,
+    packets: &Packets<'_>,
     opened: &[Connection],
     gate: &impl Gate,
 ) -> Result<Vec<Part<ConnectionCut>>, AllocError>

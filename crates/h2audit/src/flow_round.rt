@@ -1,6 +1,7 @@
 //! The first round: both flows of each connection, and what they hold.
 
 ghost use Rattle.std.specs.Prelude.{◌≡◌, IfOk};
+ghost use Rattle.audit_terms.specs.declared.sides.Side.{Side};
 ghost use Rattle.audit_terms.specs.declared.sides.Side.TheVariants.{Client, Server};
 ghost use Rattle.h2audit.specs.Audited.{IsConnectionCut};
 ghost use Rattle.h2audit.specs.code.Flows.{AreFlows, AreSources, IsSideFlow};
@@ -9,7 +10,8 @@ use audit_report::Extent;
 use audit_terms::{Look, Side, Sides};
 use h2_frames::{Cut, cut};
 use job_crew::{Round, Work};
-use packet_heads::Packet;
+use packet_heads::Packets;
+use pcap_records::Capture;
 use std::alloc::{AllocError, Global};
 use std::marker::Model;
 use std::thread::{Threads, join};
@@ -22,14 +24,74 @@ pub(crate) struct ConnectionCut {
     pub(crate) cut: Cut,
 }
 
+/// What is made for each side of a connection.
+///
+/// Two threads make it (`both`). It stands behind a trait, since `join` passes on nothing of what closures say that
+/// hold a type with a lifetime and a model, as [`Capture`] is.
+trait ForSides: Sync {
+    type Made: Send + Drop;
+
+    ghost asks: { Self → Type 0 };
+
+    ghost makes: { Self → Side → Self.Made → Type 0 };
+
+    fn make(&self, side: Side) -> Self::Made
+        requires { Self.asks self.now }
+        ensures { Self.makes self.now side result };
+}
+
+/// What is made for both sides, the server's on a thread of its own where one can be had.
+fn both<R: Threads, S: ForSides>(rt: &R, sources: &S) -> (S::Made, S::Made)
+    requires { S.asks sources.now }
+    ensures client { S.makes sources.now Client result.0 }
+    ensures server { S.makes sources.now Server result.1 }
+{
+    let (server, client) = join(
+        rt,
+        || -> S::Made
+            requires { S.asks sources.now }
+            ensures { S.makes sources.entry.now Server result }
+        { sources.make(Side::Server) },
+        || -> S::Made
+            requires { S.asks sources.now }
+            ensures { S.makes sources.entry.now Client result }
+        { sources.make(Side::Client) },
+    );
+    (client, server)
+}
+
+/// Where the flows of a connection come from.
+#[derive(Drop)]
+struct Sources<'a, 'b> {
+    alloc: Global,
+    capture: &'b Capture<'a>,
+    packets: &'b Packets<'b>,
+    connection: &'b Connection,
+}
+
+impl<'a, 'b> ForSides for Sources<'a, 'b> {
+    type Made = Result<Flow<'a>, AllocError>;
+
+    ghost use Rattle.std.specs.Prelude.{IfOk};
+    ghost use Rattle.h2audit.specs.code.Flows.{AreSources, IsSideFlow};
+
+    ghost asks = { λ s. AreSources s.capture.now s.packets.now s.connection.now };
+
+    ghost makes = { λ s side made. IfOk made (IsSideFlow s.capture.now s.packets.now s.connection.now side) };
+
+    fn make(&self, side: Side) -> Result<Flow<'a>, AllocError> {
+        flow_of(self.alloc, self.capture, self.packets, self.connection, side)
+    }
+}
+
 /// The connections of a capture: a job for each.
 #[derive(Drop)]
 pub(crate) struct FlowRound<'a, R: Threads + Sync> {
     pub(crate) rt: &'a R,
     /// Are the flows of a connection made on two threads?
     pub(crate) by_two: bool,
-    pub(crate) capture: &'a [u8],
-    pub(crate) packets: &'a [Packet],
+    pub(crate) capture: &'a Capture<'a>,
+    pub(crate) packets: &'a Packets<'a>,
     pub(crate) opened: &'a [Connection],
 }
 
@@ -96,8 +158,8 @@ fn cut_connection<R: Threads>(
     rt: &R,
     alloc: Global,
     by_two: bool,
-    capture: &[u8],
-    packets: &[Packet],
+    capture: &Capture<'_>,
+    packets: &Packets<'_>,
     connection: &Connection,
 ) -> Result<ConnectionCut, AllocError>
     requires { AreSources capture.now packets.now connection.now }
@@ -117,8 +179,8 @@ fn flows_of<'a, R: Threads>(
     rt: &R,
     alloc: Global,
     by_two: bool,
-    capture: &'a [u8],
-    packets: &[Packet],
+    capture: &Capture<'a>,
+    packets: &Packets<'_>,
     connection: &Connection,
 ) -> Result<(Flow<'a>, Flow<'a>), AllocError>
     requires { AreSources capture.now packets.now connection.now }
@@ -134,8 +196,8 @@ fn flows_of<'a, R: Threads>(
 /// The flows of both sides, made one after the other.
 fn flows_in_turn<'a>(
     alloc: Global,
-    capture: &'a [u8],
-    packets: &[Packet],
+    capture: &Capture<'a>,
+    packets: &Packets<'_>,
     connection: &Connection,
 ) -> Result<(Flow<'a>, Flow<'a>), AllocError>
     requires { AreSources capture.now packets.now connection.now }
@@ -150,24 +212,20 @@ fn flows_in_turn<'a>(
 fn flows_by_two<'a, R: Threads>(
     rt: &R,
     alloc: Global,
-    capture: &'a [u8],
-    packets: &[Packet],
+    capture: &Capture<'a>,
+    packets: &Packets<'_>,
     connection: &Connection,
 ) -> Result<(Flow<'a>, Flow<'a>), AllocError>
     requires { AreSources capture.now packets.now connection.now }
     ensures { IfOk result (AreFlows capture.now packets.now connection.now) }
 {
-    let (server, client) = join(
-        rt,
-        || -> Result<Flow<'_>, AllocError>
-            requires { AreSources capture.now packets.now connection.now }
-            ensures { IfOk result (IsSideFlow capture.entry.now packets.entry.now connection.entry.now Server) }
-        { flow_of(alloc, capture, packets, connection, Side::Server) },
-        || -> Result<Flow<'_>, AllocError>
-            requires { AreSources capture.now packets.now connection.now }
-            ensures { IfOk result (IsSideFlow capture.entry.now packets.entry.now connection.entry.now Client) }
-        { flow_of(alloc, capture, packets, connection, Side::Client) },
-    );
+    let sources = Sources {
+        alloc,
+        capture,
+        packets,
+        connection,
+    };
+    let (client, server) = both(rt, &sources);
     let client = client?;
     let server = server?;
     Ok((client, server))
@@ -176,8 +234,8 @@ fn flows_by_two<'a, R: Threads>(
 /// The flow of one side.
 fn flow_of<'a>(
     alloc: Global,
-    capture: &'a [u8],
-    packets: &[Packet],
+    capture: &Capture<'a>,
+    packets: &Packets<'_>,
     connection: &Connection,
     side: Side,
 ) -> Result<Flow<'a>, AllocError>

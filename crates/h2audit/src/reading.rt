@@ -1,20 +1,27 @@
-ghost use Rattle.std.specs.Prelude.{◌≡◌, ◌+◌, ◌^◌, ◌≤◌, List, Option, true, false, take, IfErr, IfSome, OnOk, vec_len};
-ghost use Rattle.std.specs.Io.KnownBytes.{IsAtEnd};
+ghost use Rattle.std.specs.Prelude.{◌≡◌, ◌^◌, IfErr, IfSome, OnOk, take};
 ghost use Rattle.byte_accounts.specs.Account.{HaveGiven, IsReadToEnd, IsUnread, OfGiven, kept};
+ghost use Rattle.byte_accounts.specs.code.Reading as accounted;
 ghost use Rattle.h2audit.specs.Account.{IsBrief};
-ghost use Rattle.byte_accounts.specs.code.Reading.{IsReadingFault};
-ghost use Rattle.h2audit.specs.code.Reading.{AnswersFor};
+ghost use Rattle.h2audit.specs.code.Reading.{AnswersFor, IsReadingFault};
 
-use byte_accounts::{CaptureReader, LIMIT, ReadFault, keep_up_to, pass_over};
+use crate::fault::AuditFault;
+use byte_accounts::{CaptureReader, LIMIT, PartsAhead, ReadFault, keep_up_to, pass_over};
 use pcap_records::refusal;
+use std::alloc::Global;
 use std::io::Read;
+use std::thread::Threads;
 
 /// The number of bytes in a file header.
 const HEADER: usize = 24;
 
 /// Reads to the end, or until there are 2^31 bytes, and keeps what its answer can depend on: all of it, or the file header
-/// alone where that refuses it.
-pub(crate) fn read_capture<R: Read>(reader: &mut CaptureReader<R>) -> Result<(), ReadFault>
+/// alone where that refuses it. Other workers make room ahead of the reads.
+pub(crate) fn read_capture<R: Read>(
+    rt: &(impl Threads + Sync),
+    alloc: Global,
+    workers: u32,
+    reader: &mut CaptureReader<R>,
+) -> Result<(), AuditFault>
     requires { IsUnread reader.old }
     ensures bytes { OnOk result (IfSome (R.remaining reader.old.reader) (λ all. HaveGiven reader.new (take (2 ^ 31) all))) }
     ensures ok { OnOk result (IsReadToEnd reader.new) }
@@ -22,17 +29,37 @@ pub(crate) fn read_capture<R: Read>(reader: &mut CaptureReader<R>) -> Result<(),
     ensures brief { OnOk result (IsBrief reader.new) }
     ensures err { IfErr result (λ e. IsReadingFault e reader.new) }
 {
-    keep_up_to(reader, HEADER)?;
+    let mut ahead = PartsAhead::new(rt, alloc, workers);
+    match read_in_parts(&mut ahead, reader) {
+        Ok(()) => Ok(()),
+        Err(ReadFault::Failed) => Err(AuditFault::Read),
+        Err(ReadFault::OutOfMemory) => Err(AuditFault::OutOfMemory),
+    }
+}
+
+/// The same, into parts that are made ahead.
+fn read_in_parts<T: Threads, R: Read>(
+    ahead: &mut PartsAhead<'_, T>,
+    reader: &mut CaptureReader<R>,
+) -> Result<(), ReadFault>
+    requires { IsUnread reader.old }
+    ensures bytes { OnOk result (IfSome (R.remaining reader.old.reader) (λ all. HaveGiven reader.new (take (2 ^ 31) all))) }
+    ensures ok { OnOk result (IsReadToEnd reader.new) }
+    ensures answers { OnOk result (OfGiven reader.new (AnswersFor (kept reader.new))) }
+    ensures brief { OnOk result (IsBrief reader.new) }
+    ensures err { IfErr result (λ e. accounted.IsReadingFault e reader.new) }
+{
+    keep_up_to(ahead, reader, HEADER)?;
     if reader.has_ended() {
         return Ok(());
     }
-    match refusal(reader.kept()) {
+    match refusal(reader.together()) {
         Some(_) => {
             pass_over(reader)?;
             Ok(())
         }
         None => {
-            keep_up_to(reader, LIMIT)?;
+            keep_up_to(ahead, reader, LIMIT)?;
             Ok(())
         }
     }

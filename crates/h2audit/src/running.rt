@@ -1,18 +1,19 @@
-ghost use Rattle.std.specs.Prelude.{◌≡◌, ◌≢◌, ◌^◌, IfErr, IfSome, take};
+ghost use Rattle.std.specs.Prelude.{◌≡◌, ◌≢◌, ◌^◌, IfErr, IfOk, IfSome, take};
 ghost use Rattle.std.specs.Io.KnownBytes.{Appends, Keeps};
-ghost use Rattle.byte_accounts.specs.Account.{HaveGiven, IsReadToEnd, IsUnread, IsUnwritten, written};
+ghost use Rattle.byte_accounts.specs.Account.{HaveGiven, IsReadToEnd, IsUnread, IsUnwritten, kept, written};
 ghost use Rattle.h2audit.specs.Account.{IsBrief, Tells};
 ghost use Rattle.command_line.specs.Choices.{choices};
-ghost use Rattle.h2audit.specs.Run.{IsJudged, Leaves};
+ghost use Rattle.h2audit.specs.Report.{IsReport};
+ghost use Rattle.h2audit.specs.Run.{IsJudged, IsNoReport, Leaves};
 
-use crate::auditing::audit;
+use crate::auditing::audit_parts;
 use crate::fault::AuditFault;
 use crate::reading::read_capture;
 use crate::verdict::Verdict;
-use byte_accounts::{CaptureReader, ReadFault, ReportWriter, write_report};
+use byte_accounts::{CaptureReader, ReportWriter, write_report};
 use command_line::Options;
 use job_crew::Gate;
-use std::alloc::Global;
+use std::alloc::{AllocError, Global};
 use std::io::{Read, Write};
 use std::thread::Threads;
 
@@ -47,19 +48,35 @@ pub fn run<R: Read, W: Write>(
         → Keeps (W.contents writer.old.writer) (W.contents writer.new.writer)) }
     ensures judged { IfSome (R.remaining reader.old.reader) (λ bytes. IsJudged bytes reader.new.lacked_memory result) }
 {
-    match read_capture(reader) {
-        Ok(()) => {}
-        Err(ReadFault::Failed) => return Err(AuditFault::Read),
-        Err(ReadFault::OutOfMemory) => return Err(AuditFault::OutOfMemory),
-    }
-    match audit(rt, alloc, options, reader.kept(), gate) {
-        Ok((text, verdict)) => {
+    read_capture(rt, alloc, options.workers(), reader)?;
+    match audit_kept(rt, alloc, options, reader, gate) {
+        Ok(Ok((text, verdict))) => {
             writer.begin(text);
             match write_report(writer) {
                 Ok(()) => Ok(verdict),
                 Err(_) => Err(AuditFault::Write),
             }
         }
-        Err(fault) => Err(fault),
+        Ok(Err(fault)) => Err(fault),
+        Err(_) => {
+            reader.lack_memory();
+            Err(AuditFault::OutOfMemory)
+        }
     }
+}
+
+/// Audits what is kept of a capture, if there is memory for the list of its parts.
+fn audit_kept<R: Read>(
+    rt: &(impl Threads + Sync),
+    alloc: Global,
+    options: &Options,
+    reader: &CaptureReader<R>,
+    gate: &impl Gate,
+) -> Result<Result<(Vec<u8>, Verdict), AuditFault>, AllocError>
+    ensures report { IfOk result (λ answer. IfOk answer
+        (λ r. IsReport (kept reader.now) (choices options.now).frames_shown r.0.items r.1)) }
+    ensures refused { IfOk result (λ answer. IfErr answer (λ e. IsNoReport (kept reader.now) e)) }
+{
+    let capture = reader.capture(alloc)?;
+    Ok(audit_parts(rt, alloc, options, &capture, gate))
 }

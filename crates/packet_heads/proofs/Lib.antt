@@ -1,4 +1,5 @@
 mod Bits
+mod Halves
 mod Headers
 mod Placing
 mod Progress

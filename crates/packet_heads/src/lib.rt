@@ -12,8 +12,8 @@
 //! - Packet n is record n's, there are fewer than 2^32 of them, and times are below 2^63 nanoseconds.
 //! - Payloads lie in the capture in order and apart. `decode` says of each only that it lies in its record, which is
 //!   bookkeeping (`specs/code/Standing.antt`); the order is proved from it.
-//! - A plain loop decides, on one thread: it makes as many packets as there are records, in memory of that size, and
-//!   pieces that several threads made would be copied into it once more.
+//! - Packets are made in parts of [`PACKET_PART`], and nothing is copied from one part into another. A record is read
+//!   where it lies in the capture; only one in which parts of the capture meet is gathered first, and freed at once.
 //!
 //! Checksums have no effect, since a sender's own capture has them unfilled where the network card computes them. FIN,
 //! RST, windows, options and urgent pointers have none, since sequence numbers alone tell a flow. Bytes past the total
@@ -33,4 +33,4 @@ mod tcp;
 pub mod worked_examples;
 
 pub use decoding::{decode, decode_all};
-pub use packets::{Endpoint, Packet, Refusal, Segment, Skip};
+pub use packets::{Endpoint, PACKET_PART, Packet, Packets, Refusal, Segment, Skip};

@@ -1,3 +1,5 @@
+use parted_list::Parts;
+
 /// An IPv4 address and a TCP port.
 #[derive(Clone, Copy, Debug, PartialEq, Eq, PartialOrd, Ord)]
 pub struct Endpoint {
@@ -86,3 +88,9 @@ pub enum Packet {
     Skipped(Skip),
     Refused(Refusal),
 }
+
+/// How many packets a part of a capture's packets has.
+pub const PACKET_PART: usize = 65_536;
+
+/// What the records of a capture hold, in order, held in parts.
+pub type Packets<'a> = Parts<'a, Packet, PACKET_PART>;

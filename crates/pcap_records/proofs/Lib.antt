@@ -1,3 +1,4 @@
+pub mod Fronts
 pub mod Rests
 pub mod Sizes
 pub mod Unique

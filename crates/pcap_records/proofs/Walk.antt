@@ -37,7 +37,7 @@ AreTimely-push [] r timely soon = (soon, tt)
 AreTimely-push (x ∷ rows) r timely soon = (timely.0, AreTimely-push rows r timely.1 soon)
 
 -- where the next record begins, whichever way it is counted
-after_record : (number : ByteOrder) (unit at : ℕ) (bytes : List ℕ) (r : Record) → r ≡ record_at number unit at bytes → r.start + r.length ≡ at + 16 + captured_length number bytes
+pub after_record : (number : ByteOrder) (unit at : ℕ) (bytes : List ℕ) (r : Record) → r ≡ record_at number unit at bytes → r.start + r.length ≡ at + 16 + captured_length number bytes
 after_record number unit at bytes r is = ap (λ (x : Record). x.start + x.length) is
 
 -- a record that begins where the rows end is one more row

@@ -19,8 +19,12 @@ abbrev pub refusal_by : Option Format → List ℕ → ℕ → Option PcapFault
 refusal_by None header size = Some BadMagic
 refusal_by (Some format) header size = refusal_in (number_of format.endian) header size
 
+-- the first refusal that applies to a capture of this size that begins with this header, as far as it has one
+abbrev pub refusal_of : List ℕ → ℕ → Option PcapFault
+refusal_of header size =
+    if nat_lt size 24 then Some ShortHeader
+    else refusal_by (format_of header) header size
+
 -- the first refusal that applies, or none where the capture is read
 abbrev pub refusal : List ℕ → Option PcapFault
-refusal capture =
-    if nat_lt (length capture) 24 then Some ShortHeader
-    else refusal_by (format_of (header_of capture)) (header_of capture) (length capture)
+refusal capture = refusal_of (header_of capture) (length capture)

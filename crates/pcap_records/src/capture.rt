@@ -1,3 +1,5 @@
+use parted_list::Parts;
+
 /// One whole record of a capture, whose packet stands in the capture at `start..start + length`.
 #[derive(Clone, Copy)]
 pub struct Record {
@@ -26,3 +28,9 @@ pub struct Records {
     /// The number of the record that the end of the capture cuts, if there is one.
     pub cut: Option<u32>,
 }
+
+/// How many bytes a part of a capture has: 4 MiB.
+pub const CAPTURE_PART: usize = 4_194_304;
+
+/// The bytes of a capture, held in parts.
+pub type Capture<'a> = Parts<'a, u8, CAPTURE_PART>;

@@ -1,9 +1,10 @@
 //! The records of a classic pcap capture (file format version 2.4).
 //!
-//! [`records`] reads a capture forward once, by offsets, and copies no packet. It takes the four magics of the format
-//! (either order of bytes, microseconds or nanoseconds), and answers either each whole record in the order of the file,
-//! with the number of the record that the end of the capture cuts off, or the first refusal that applies, in the order
-//! of the numbers of [`PcapFault`].
+//! [`records`] reads a capture forward once, by offsets, and touches no byte of a packet. It takes the four magics of
+//! the format (either order of bytes, microseconds or nanoseconds), and answers either each whole record in the order
+//! of the file, with the number of the record that the end of the capture cuts off, or the first refusal that applies,
+//! in the order of the numbers of [`PcapFault`]. A [`Capture`] is held in parts; a record's header is read where it
+//! lies, and only one in which two parts meet is copied.
 //!
 //! Its contract pins both answers to definitions that go by the bytes alone: `refusal` of `specs/Refusal.antt` looks at
 //! the header and the length, and `IsReading` of `specs/Reading.antt` is a relation by cases, a record of 16 header
@@ -33,6 +34,6 @@ mod reading;
 mod rows;
 pub mod worked_examples;
 
-pub use capture::{ETHERNET, RAW_IP, Record, Records};
+pub use capture::{CAPTURE_PART, Capture, ETHERNET, RAW_IP, Record, Records};
 pub use faults::PcapFault;
 pub use reading::{records, refusal};

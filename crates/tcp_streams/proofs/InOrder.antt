@@ -2,7 +2,7 @@
 use Rattle.std.proofs.Common.{◌≡◌, ℕ, ◌+◌, ◌-◌, ◌<◌, ◌≤◌, ◌^◌, Bool, true, false, List, [], ◌∷◌, ◌++◌, length, map, min, Option, None, Some, refl, sym, ap, subst, ◌∙◌, inl, inr, arith}
 use Rattle.std.specs.Prelude.{if◌then◌else◌, IfSome, IsTrue, option_and_then}
 use Rattle.std.specs.List.{cons_option, filter_map, slice_range}
-use Rattle.std.proofs.lemmas.List.{length-append, map-append}
+use Rattle.std.proofs.lemmas.List.{map-append}
 use Rattle.audit_terms.specs.declared.sides.Side.{Side}
 use Rattle.packet_heads.specs.declared.packets.Packet.{Packet}
 use Rattle.packet_heads.specs.declared.packets.Segment.{Segment}
@@ -19,7 +19,6 @@ use Rattle.tcp_streams.specs.code.Interval.{AreCaptured, IsInterval, at, size_of
 use Rattle.tcp_streams.specs.Members.{AreMembers, is_sent_by, side_segments}
 use Rattle.tcp_streams.specs.Packets.{segment_of}
 use Rattle.tcp_streams.specs.Sequence.{end_of_offsets, modulus, payload_length, start_of}
-use Rattle.tcp_streams.proofs.Elements.{length-slice_range}
 use Rattle.tcp_streams.proofs.IntervalLemmas.{lt-true, lt_cases}
 use Rattle.tcp_streams.proofs.PieceLemmas.{AreSound, StandsIn, stands-found}
 use Rattle.tcp_streams.proofs.RunLemmas.{Follows, IsRunOf, arrivals-timely, bytes_in-push, run-flow, run-size, run-timely, run_end}

@@ -1,20 +1,20 @@
 -- On pieces that follow each other, and where their arrivals end.
-use Rattle.std.proofs.Common.{◌≡◌, ℕ, suc, ◌-◌, List, [], ◌∷◌, ◌++◌, length, slice_get, Option, None, Some, refl, sym, ap, ◌∙◌, arith}
-use Rattle.std.proofs.lemmas.List.{append_assoc}
+use Rattle.std.proofs.Common.{◌≡◌, ℕ, suc, ◌-◌, List, [], ◌∷◌, ◌++◌, length, map, slice_get, None, Some, sym, ap, ◌∙◌, arith}
+use Rattle.std.proofs.lemmas.List.Concat.{concat_is}
 use denote.Ref.{Bor}
 use Rattle.tcp_streams.specs.declared.streams.Arrival.{Arrival}
 use Rattle.tcp_streams.specs.Arrivals.{Rises}
+use Rattle.parted_list.specs.Parts.{joined as in_parts}
 use Rattle.tcp_streams.specs.Bytes.{joined}
 
-append-none : (l : List ℕ) → l ++ [] ≡ l
-append-none [] = refl
-append-none (x ∷ l) = ap (λ r. x ∷ r) (append-none l)
-
--- one more piece
-pub joined-push : (pieces : List (Bor (List ℕ))) (piece : Bor (List ℕ)) → joined (pieces ++ piece ∷ []) ≡ joined pieces ++ piece.now
-joined-push [] piece = append-none piece.now
-joined-push (first ∷ pieces) piece =
-    ap (λ l. first.now ++ l) (joined-push pieces piece) ∙ sym (append_assoc first.now (joined pieces) piece.now)
+-- bytes more at the end
+pub joined-more : (before after : List (Bor (List ℕ))) (more : List ℕ)
+    → in_parts (map (λ (piece : Bor (List ℕ)). piece.now) after)
+    ≡ in_parts (map (λ (piece : Bor (List ℕ)). piece.now) before) ++ more
+    → joined after ≡ joined before ++ more
+joined-more before after more is =
+    concat_is (map (λ (piece : Bor (List ℕ)). piece.now) after) ∙ is
+    ∙ ap (λ (l : List ℕ). l ++ more) (sym (concat_is (map (λ (piece : Bor (List ℕ)). piece.now) before)))
 
 -- arrivals end where the last of them does
 pub Rises-last : (low rec : ℕ) (arrivals : List Arrival) (high : ℕ) (last : Arrival) → Rises low rec arrivals high

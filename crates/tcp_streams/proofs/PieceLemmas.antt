@@ -5,7 +5,6 @@ use Rattle.std.specs.List.{cons_option, filter_map}
 use Rattle.std.specs.Option.{option_or, option_to_list}
 use Rattle.std.proofs.lemmas.List.Elements.{All-cons, All-nil, filter_map-append}
 use Rattle.std.proofs.lemmas.List.Sums.{sum_by-cons}
-use Rattle.std.proofs.lemmas.Option.{slice_get-get_or, slice_get_within}
 use Rattle.audit_terms.specs.declared.sides.Side.{Side}
 use Rattle.packet_heads.specs.declared.packets.Packet.{Packet}
 use Rattle.packet_heads.specs.declared.packets.Packet.TheVariants.{Segment as Carried, Skipped, Refused}
@@ -386,20 +385,6 @@ payload-fits (Refused k ∷ rest) zero s h at' = absurd (let e : Some (Refused k
 payload-fits (Carried x ∷ rest) (suc i) s h at' = payload-fits rest i s h.2 at'
 payload-fits (Skipped k ∷ rest) (suc i) s h at' = payload-fits rest i s h at'
 payload-fits (Refused k ∷ rest) (suc i) s h at' = payload-fits rest i s h at'
-
--- a member names a record of the capture
-pub named-in_range : (packets : List Packet) (m : ℕ) → IsSome (segment_of packets m) → m - 1 < length packets
-named-in_range packets m h = by (segment_of packets m) refl h
-  where
-    by : (p : Option Segment) → segment_of packets m ≡ p → IsSome p → m - 1 < length packets
-    by None e some = absurd (let no : false ≡ true = some in cc)
-    by (Some s) e some = slice_get_within packets (m - 1) (Carried s) (found-at packets m s e)
-
--- the packet at a member's index
-pub packet-at : (packets : List Packet) (m : ℕ) (d p : Packet) → IsSome (segment_of packets m) → get_or packets (m - 1) d ≡ p → (slice_get packets (m - 1) ≡ Some p) × (segment_of packets m ≡ segment_in p)
-packet-at packets m d p some e =
-    let at-m : slice_get packets (m - 1) ≡ Some p = slice_get-get_or packets (m - 1) d (named-in_range packets m some) ∙ ap Some e in
-    (at-m, ap (option_and_then segment_in) at-m)
 
 -- each member is counted from 1 and names a segment
 pub member-at : (low : ℕ) (packets : List Packet) (members : List ℕ) (k d : ℕ) → AreMembers low packets members → k < length members

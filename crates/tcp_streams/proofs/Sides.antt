@@ -1,5 +1,5 @@
 -- On the pieces of a side: what lies apart and brings what they bring makes the side's flow.
-use Rattle.std.proofs.Common.{◌≡◌, ℕ, List, ◌<◌, ◌≤◌, ◌^◌, length, vec_len, sym, ap, subst, ◌∙◌, arith}
+use Rattle.std.proofs.Common.{◌≡◌, ℕ, List, ◌<◌, ◌≤◌, ◌^◌, length, sym, ap, subst, ◌∙◌, arith}
 use Rattle.std.specs.Prelude.{All, IfSome, IsTrue}
 use Rattle.std.specs.List.{filter_map}
 use Rattle.audit_terms.specs.declared.sides.Side.{Side}
@@ -9,7 +9,7 @@ use Rattle.packet_heads.specs.Order.{AreNumberedFrom, PayloadsRise, TimesFit}
 use Rattle.tcp_streams.specs.declared.interval.Interval.{Interval}
 use Rattle.tcp_streams.specs.declared.members.Connection.{Connection}
 use Rattle.tcp_streams.specs.declared.streams.Flow.{Flow}
-use Rattle.tcp_streams.specs.Arrivals.{AreTimely, Rises}
+use Rattle.tcp_streams.specs.Arrivals.{AreTimely}
 use Rattle.tcp_streams.specs.Bytes.{bytes_of}
 use Rattle.tcp_streams.specs.Flow.{IsFlow}
 use Rattle.tcp_streams.specs.code.Assembled.{IsAssembled}

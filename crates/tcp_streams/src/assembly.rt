@@ -14,7 +14,8 @@ use crate::overlay::settle;
 use crate::pieces::pieces_of;
 use crate::streams::Flow;
 use audit_terms::Side;
-use packet_heads::Packet;
+use packet_heads::Packets;
+use pcap_records::Capture;
 use std::alloc::{AllocError, Global};
 
 /// The bytes that one side of a connection sent, as far as the capture shows them from the first one on
@@ -30,8 +31,8 @@ use std::alloc::{AllocError, Global};
 /// [`connections`]: crate::connections
 pub fn assemble<'a>(
     alloc: Global,
-    capture: &'a [u8],
-    packets: &[Packet],
+    capture: &Capture<'a>,
+    packets: &Packets<'_>,
     connection: &Connection,
     side: Side,
 ) -> Result<Flow<'a>, AllocError>
@@ -78,8 +79,8 @@ pub fn assemble<'a>(
 /// The flow of a side whose segments may come in any order, overlap and leave holes.
 fn flow_in_any_order<'a>(
     alloc: Global,
-    capture: &'a [u8],
-    packets: &[Packet],
+    capture: &Capture<'a>,
+    packets: &Packets<'_>,
     connection: &Connection,
     side: Side,
     initial_number: u32,

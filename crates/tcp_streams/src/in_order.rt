@@ -14,7 +14,8 @@ use crate::members::Connection;
 use crate::pieces::piece_of_member;
 use crate::streams::{Arrival, Flow};
 use audit_terms::Side;
-use packet_heads::Packet;
+use packet_heads::Packets;
+use pcap_records::Capture;
 use std::alloc::{AllocError, Global};
 
 /// What is laid out of a flow so far.
@@ -28,7 +29,7 @@ struct Laid<'a> {
 
 impl<'a> Laid<'a> {
     /// Adds an interval of the capture, and when its bytes arrived.
-    fn add(&mut self, capture: &'a [u8], x: &Interval) -> Result<(), AllocError>
+    fn add(&mut self, capture: &Capture<'a>, x: &Interval) -> Result<(), AllocError>
         requires interval { IsInterval x.now }
         requires captured { x.now.index + (x.now.upto - x.now.from) ≤ length capture.now }
         ensures bytes { OnOk result (joined self.new.pieces.items ≡ joined self.old.pieces.items
@@ -37,8 +38,7 @@ impl<'a> Laid<'a> {
         ensures end { OnOk result (self.new.end ≡ x.now.upto) }
     {
         let width = (x.upto - x.from) as usize;
-        self.pieces
-            .extend_from_slice(&[&capture[x.index..x.index + width]])?;
+        capture.pieces(x.index, x.index + width, &mut self.pieces)?;
         self.arrivals.push(arrival_with(x))?;
         self.end = x.upto;
         Ok(())
@@ -49,8 +49,8 @@ impl<'a> Laid<'a> {
 /// does not.
 pub fn flow_in_order<'a>(
     alloc: Global,
-    capture: &'a [u8],
-    packets: &[Packet],
+    capture: &Capture<'a>,
+    packets: &Packets<'_>,
     connection: &Connection,
     side: Side,
     initial_number: u32,

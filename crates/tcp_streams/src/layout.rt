@@ -7,12 +7,13 @@ ghost use Rattle.tcp_streams.specs.declared.interval.Interval.{Interval as Held}
 
 use crate::interval::Interval;
 use crate::streams::{Arrival, Flow, end_of};
+use pcap_records::Capture;
 use std::alloc::{AllocError, Global};
 
 /// Lays out the bytes of intervals in order of offset, as far as they follow each other from 0.
 pub fn lay_out<'a>(
     alloc: Global,
-    capture: &'a [u8],
+    capture: &Capture<'a>,
     intervals: &[Interval],
 ) -> Result<Flow<'a>, AllocError>
     requires spans { Spans 0 intervals.now (2 ^ 31) }
@@ -56,7 +57,7 @@ fn run_length(intervals: &[Interval]) -> usize
 /// The pieces of the capture that the intervals name.
 fn pieces_in<'a>(
     alloc: Global,
-    capture: &'a [u8],
+    capture: &Capture<'a>,
     run: &[Interval],
 ) -> Result<Vec<&'a [u8]>, AllocError>
     requires intervals { All IsInterval run.now }
@@ -66,7 +67,7 @@ fn pieces_in<'a>(
     let mut pieces = Vec::with_capacity(alloc, run.len())?;
     for x in run {
         let width = (x.upto - x.from) as usize;
-        pieces.extend_from_slice(&[&capture[x.index..x.index + width]])?;
+        capture.pieces(x.index, x.index + width, &mut pieces)?;
     }
     Ok(pieces)
 }

@@ -6,7 +6,7 @@ ghost use Rattle.tcp_streams.specs.Packets.{past_of};
 
 use crate::members::Connections;
 use crate::table::Table;
-use packet_heads::Packet;
+use packet_heads::{Packet, Packets};
 use std::alloc::{AllocError, Global};
 
 /// Says which segments belong to which opening, and which to none.
@@ -16,7 +16,7 @@ use std::alloc::{AllocError, Global};
 /// before it; one without such an opening is a stray.
 ///
 /// `packets` are to be those of a capture, as `packet_heads::decode_all` gives them.
-pub fn connections(alloc: Global, packets: &[Packet]) -> Result<Connections, AllocError>
+pub fn connections(alloc: Global, packets: &Packets<'_>) -> Result<Connections, AllocError>
     requires few { length packets.now < 2 ^ 32 }
     requires numbered { AreNumberedFrom 1 packets.now }
     ensures opened { IfOk result (λ found. map membership found.opened.items ≡ connections_of (past_of packets.now)) }
@@ -24,10 +24,15 @@ pub fn connections(alloc: Global, packets: &[Packet]) -> Result<Connections, All
     ensures members { IfOk result (λ found. All (λ c. AreMembers 0 packets.now c.members.items) found.opened.items) }
 {
     let mut table = Table::new(alloc);
-    for packet in packets {
-        if let Packet::Segment(segment) = packet {
-            table.add(segment)?;
+    let mut at = 0;
+    while at < packets.len() {
+        let together = packets.from(at);
+        for packet in together {
+            if let Packet::Segment(segment) = packet {
+                table.add(segment)?;
+            }
         }
+        at += together.len();
     }
     Ok(table.into_connections())
 }

@@ -7,7 +7,7 @@ ghost use Rattle.tcp_streams.specs.Packets.{segment_of};
 use crate::interval::{END_OF_OFFSETS, Interval};
 use crate::members::Connection;
 use audit_terms::Side;
-use packet_heads::{Packet, Segment};
+use packet_heads::{Packet, Packets, Segment};
 use std::alloc::{AllocError, Global};
 
 /// Sequence numbers come round at this number (RFC 9293, 3.4).
@@ -17,7 +17,7 @@ const MODULUS: u64 = 0x1_0000_0000;
 pub fn pieces_of(
     alloc: Global,
     initial_number: u32,
-    packets: &[Packet],
+    packets: &Packets<'_>,
     connection: &Connection,
     side: Side,
 ) -> Result<Vec<Interval>, AllocError>
@@ -38,7 +38,7 @@ pub fn pieces_of(
 /// The piece of a member, if it is the side's.
 pub fn piece_of_member(
     initial_number: u32,
-    packets: &[Packet],
+    packets: &Packets<'_>,
     connection: &Connection,
     side: Side,
     member: u32,
@@ -48,7 +48,7 @@ pub fn piece_of_member(
     requires named { IsSome (segment_of packets.now member) }
     ensures { result ≡ member_piece initial_number packets.now connection.now side member }
 {
-    match &packets[(member - 1) as usize] {
+    match packets.get((member - 1) as usize)? {
         Packet::Segment(segment) => {
             if is_sent_by(connection, side, segment) {
                 piece_of(initial_number, segment)

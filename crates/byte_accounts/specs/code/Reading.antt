@@ -1,16 +1,16 @@
 -- How the bytes of a capture are read, and how that fails.
-use Rattle.std.specs.Prelude.{◌≡◌, ℕ, ◌+◌, ◌^◌, ◌≤◌, true, false, List, Option, vec_len}
+use Rattle.std.specs.Prelude.{◌≡◌, ℕ, ◌+◌, ◌^◌, ◌≤◌, true, false, List, Option, length}
 use Rattle.std.specs.Io.KnownBytes.{Consumes}
-use Rattle.byte_accounts.specs.Account.{HasReadFailed, HaveGiven}
+use Rattle.byte_accounts.specs.Account.{HasReadFailed, HaveGiven, kept}
 use Rattle.byte_accounts.specs.declared.capture_reader.CaptureReader.{CaptureReader}
 use Rattle.byte_accounts.specs.declared.fault.ReadFault.{ReadFault}
 use Rattle.byte_accounts.specs.declared.fault.ReadFault.TheVariants as fault
 
 module _ {R : Type 0} where
-  -- the reads so far went well, and there is room for what they gave
+  -- the reads so far went well, there is room for what is kept, and they gave no more than 2^31 bytes
   pub record IsSound (reader : CaptureReader R) : Type 0 where
-    pub filled : reader.filled ≤ vec_len reader.bytes
-    pub limit : reader.filled + reader.passed ≤ 2 ^ 31
+    pub within : length (kept reader) ≤ reader.bytes.room
+    pub limit : length (kept reader) + reader.passed ≤ 2 ^ 31
     pub has_failed : reader.has_failed ≡ false
     pub lacked_memory : reader.lacked_memory ≡ false
 

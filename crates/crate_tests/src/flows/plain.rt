@@ -1,7 +1,7 @@
 //! The flow by its definition, byte by byte: a slow program that tests compare `assemble` with.
 
 use audit_terms::Side;
-use packet_heads::{Packet, Segment};
+use packet_heads::{Packet, Packets, Segment};
 use std::alloc::{AllocError, Global};
 use tcp_streams::{Arrival, Connection};
 
@@ -27,7 +27,7 @@ struct Covered {
 pub fn assemble(
     alloc: Global,
     capture: &[u8],
-    packets: &[Packet],
+    packets: &Packets<'_>,
     connection: &Connection,
     side: Side,
 ) -> Result<PlainFlow, AllocError> {

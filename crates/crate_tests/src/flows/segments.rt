@@ -4,9 +4,10 @@ use super::plain::{self, PlainFlow};
 use crate::answer::Answer;
 use crate::captures::Capture;
 use audit_terms::Side;
-use packet_heads::decode_all;
+use packet_heads::{Packets, decode_all};
 use pcap_records::records;
 use std::alloc::{AllocError, Global};
+use std::thread::Threads;
 use tcp_streams::{Arrival, Flow, assemble, connections};
 
 /// The bytes of a flow in one piece.
@@ -30,17 +31,23 @@ fn is_plain(alloc: Global, flow: &Flow, plain: &PlainFlow) -> Result<bool, Alloc
 }
 
 /// The client's flow in the first connection, where the plain program finds the same.
-fn flow_of(alloc: Global, capture: &[u8]) -> Result<Option<PlainFlow>, AllocError> {
-    let Ok(found) = records(alloc, capture) else {
+fn flow_of(
+    rt: &(impl Sync + Threads),
+    alloc: Global,
+    capture: &[u8],
+) -> Result<Option<PlainFlow>, AllocError> {
+    let parts = pcap_records::Capture::cut(alloc, capture)?;
+    let Ok(found) = records(alloc, &parts) else {
         return Ok(None);
     };
-    let packets = decode_all(alloc, &found, capture)?;
+    let made = decode_all(alloc, &found, &parts)?;
+    let packets = Packets::of(alloc, made.as_slice())?;
     let streams = connections(alloc, &packets)?;
     if streams.opened.is_empty() || capture.len() >= 0x8000_0000 {
         return Ok(None);
     }
     let connection = &streams.opened[0];
-    let flow = assemble(alloc, capture, &packets, connection, Side::Client)?;
+    let flow = assemble(alloc, &parts, &packets, connection, Side::Client)?;
     let plain = plain::assemble(alloc, capture, &packets, connection, Side::Client)?;
     let same = is_plain(alloc, &flow, &plain)?;
     Ok(if same { Some(plain) } else { None })
@@ -58,9 +65,9 @@ fn overlaps(alloc: Global) -> Result<Capture, AllocError> {
     Ok(capture)
 }
 
-pub fn overlaps_and_gap(alloc: Global) -> Answer {
+pub fn overlaps_and_gap(rt: &(impl Sync + Threads), alloc: Global) -> Answer {
     let capture = overlaps(alloc)?;
-    let Some(flow) = flow_of(alloc, capture.as_slice())? else {
+    let Some(flow) = flow_of(rt, alloc, capture.as_slice())? else {
         return Ok(false);
     };
     let arrival = |upto: u64, rec: u32, nanos: u64| Arrival { upto, rec, nanos };
@@ -98,11 +105,11 @@ fn random_capture(alloc: Global, state: &mut u64) -> Result<Capture, AllocError>
     Ok(capture)
 }
 
-pub fn random_segments(alloc: Global) -> Answer {
+pub fn random_segments(rt: &(impl Sync + Threads), alloc: Global) -> Answer {
     let mut state = 1;
     for _ in 0..60 {
         let capture = random_capture(alloc, &mut state)?;
-        if flow_of(alloc, capture.as_slice())?.is_none() {
+        if flow_of(rt, alloc, capture.as_slice())?.is_none() {
             return Ok(false);
         }
     }

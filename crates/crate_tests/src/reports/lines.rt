@@ -8,7 +8,7 @@ use crate::answer::Answer;
 use audit_report::{capture_lines, connection_lines, finding_line};
 use audit_terms::{Body, Finding, Frame, Kind, Place, Side, Sides};
 use h2_frames::Cut;
-use packet_heads::{Endpoint, Packet, Refusal, Segment, Skip};
+use packet_heads::{Endpoint, Packet, Packets, Refusal, Segment, Skip};
 use pcap_records::{Record, Records};
 use std::alloc::{AllocError, Global};
 use tcp_streams::{Arrival, Connection, Flow, Stray};
@@ -90,6 +90,7 @@ pub fn each_kind_of_packet(alloc: Global) -> Answer {
         to: CLIENT,
         segments: 2,
     }];
+    let packets = Packets::cut(alloc, &packets)?;
     let text = capture_lines(alloc, &records, &packets, &strays)?;
     Ok(text.as_slice() == CAPTURE_LINES.as_bytes())
 }

@@ -57,10 +57,24 @@ fn calls_of(reader: &Pieces, writer: &Slow) -> Calls {
 
 /// Whether, of these bytes, as many as the reader gave are in its account: the front that is kept, of these many at
 /// most, and how many came after it.
-fn is_read(reader: &CaptureReader<Pieces>, whole: &[u8], at_most: usize) -> bool {
+fn is_read(
+    alloc: Global,
+    reader: &CaptureReader<Pieces>,
+    whole: &[u8],
+    at_most: usize,
+) -> bool {
     let read = whole.len() - reader.reader().left.len().min(whole.len());
     let kept = read.min(at_most);
-    reader.kept() == &whole[..kept] && reader.passed() == read - kept
+    reader.passed() == read - kept && has_kept(alloc, reader, &whole[..kept])
+}
+
+/// Whether these few bytes, of one part, are what is kept.
+fn has_kept(alloc: Global, reader: &CaptureReader<Pieces>, bytes: &[u8]) -> bool {
+    match reader.capture(alloc) {
+        Ok(kept) if kept.len() == 0 => bytes.is_empty(),
+        Ok(kept) => kept.from(0) == bytes,
+        Err(_) => false,
+    }
 }
 
 /// Whether the writer took this text, and its account says so, and tells too whether a flush went well.
@@ -91,7 +105,7 @@ fn goes_so(
     let report = &REPORT.as_bytes()[..written.min(REPORT.len())];
     given == answer
         && made == expected
-        && is_read(&reader, whole, at_most)
+        && is_read(alloc, &reader, whole, at_most)
         && is_written(&writer, report, answer.is_ok())
 }
 

@@ -1,5 +1,6 @@
 -- What one packet keeps of its record, from which the order of all packets is proved.
-use Rattle.std.specs.Prelude.{◌≡◌, ℕ, ◌+◌, ◌≤◌, List, [], ◌∷◌}
+use Rattle.std.specs.Prelude.{◌≡◌, ℕ, ◌+◌, ◌-◌, ◌<◌, ◌≤◌, List, [], ◌∷◌, length}
+use Rattle.parted_list.specs.Parts.{joined}
 use Rattle.pcap_records.specs.declared.capture.Record.{Record}
 use Rattle.packet_heads.specs.declared.packets.Packet.{Packet}
 use Rattle.packet_heads.specs.declared.packets.Packet.TheVariants.{Segment}
@@ -21,6 +22,17 @@ AllStand number _ _ = ⊥
 pub record AreDecided (link number : ℕ) (rows : List Record) (capture : List ℕ) (packets : List Packet) : Type 0 where
   pub exact : packets ≡ decisions_from link number rows capture
   pub stand : AllStand number rows packets
+
+-- so many packets, in parts: each but the last is full
+abbrev pub AreCut : ℕ → List (List Packet) → Type 0
+AreCut count [] = ⊥
+AreCut count (part ∷ []) = (length part ≡ count) × (count ≤ 65536)
+AreCut count (part ∷ next ∷ later) = (length part ≡ 65536) × (65536 < count) × AreCut (count - 65536) (next ∷ later)
+
+-- the decisions on these records in parts, of which the first has this number
+pub record AreDecidedParts (link number : ℕ) (rows : List Record) (capture : List ℕ) (parts : List (List Packet)) : Type 0 where
+  pub decided : AreDecided link number rows capture (joined parts)
+  pub cut : AreCut (length rows) parts
 
 -- the captured bytes of a record end within a capture of this size
 abbrev pub EndsWithin : ℕ → Record → Type 0

@@ -1,4 +1,5 @@
-use Rattle.std.proofs.Common.{◌≡◌, arith, ◌∙◌, Bool, List, length, subst, ap}
+use Rattle.std.proofs.Common.{◌≡◌, arith, ◌∙◌, Bool, List, length, map, subst, ap, Vec, Global}
+use Rattle.parted_list.specs.Parts.{joined}
 use Rattle.audit_report.specs.declared.audited.Audited.{Audited}
 use Rattle.audit_report.specs.Section.{sections_of}
 use Rattle.audit_report.specs.ReportText.{report_text}
@@ -16,17 +17,19 @@ use Rattle.h2audit.proofs.auditing.audit_records.Goals as goal
 
 pub audit_each-requires-clause-few : goal.audit_each-requires-clause-few
 audit_each-requires-clause-few g c κs within =
-    let packets = c.in_ok-packets.packets.items in
-    let few = opened-few c.as_slice.result.now c.in_ok-connections.connections.opened.items c.in_ok-connections.ensures.opened in
-    let same : length c.as_slice.result.now ≡ length packets = ap length c.as_slice.ensures.value in
-    let lent : length c.as_slice-3.result.now ≡ length c.in_ok-connections.connections.opened.items =
-    ap length c.as_slice-3.ensures.value in
-    let all = c.in_ok-packets.ensures.few in
-    omega arith
+    let packets = c.in_ok-packets.packets in
+    let few = opened-few packets c.in_ok-connections.connections.opened.items c.in_ok-connections.ensures.opened in
+    let same : length packets ≡ length (joined (map (λ (part : Vec Packet Global). part.items) c.in_ok-made.made.items)) =
+    ap length c.in_ok-packets.ensures
+    ∙ ap (λ (parts : List (Vec Packet Global)). length (joined (map (λ (part : Vec Packet Global). part.items) parts))) c.as_slice.ensures.value in
+    let lent : length c.as_slice-2.result.now ≡ length c.in_ok-connections.connections.opened.items =
+    ap length c.as_slice-2.ensures.value in
+    let all = c.in_ok-made.ensures.few in
+    omega (arith, few, same, lent, all)
 
 pub report-requires-clause-each : goal.report-requires-clause-each
 report-requires-clause-each g c =
-    ap length c.as_slice-5.ensures.value ∙ AreAudited-length (choices c.args.options.now).frames_shown c.args.capture.now c.as_slice-2.result.now c.as_slice-3.result.now c.in_ok-audited.audited.items c.in_ok-audited.ensures.audits ∙ ap length c.as_slice-3.ensures.value
+    ap length c.as_slice-3.ensures.value ∙ AreAudited-length (choices c.args.options.now).frames_shown c.args.capture.now c.in_ok-packets.packets c.as_slice-2.result.now c.in_ok-audited.audited.items c.in_ok-audited.ensures.audits ∙ ap length c.as_slice-2.ensures.value
 
 pub returns : goal.returns
 returns g c =
@@ -35,21 +38,20 @@ returns g c =
     let packets = packets_of capture c.args.found.now in
     let opened = c.in_ok-connections.connections.opened.items in
     let audited = c.in_ok-audited.audited.items in
-    let exact = c.in_ok-packets.ensures.exact in
-    let given : c.as_slice.result.now ≡ packets = c.as_slice.ensures.value ∙ exact in
-    let lent : c.as_slice-2.result.now ≡ packets = c.as_slice-2.ensures.value ∙ exact in
-    let shown : c.as_slice-4.result.now ≡ packets = c.as_slice-4.ensures.value ∙ exact in
+    let given : c.in_ok-packets.packets ≡ packets = c.in_ok-packets.ensures
+    ∙ ap (λ (parts : List (Vec Packet Global)). joined (map (λ (part : Vec Packet Global). part.items) parts)) c.as_slice.ensures.value
+    ∙ c.in_ok-made.ensures.exact in
     let strays = c.in_ok-connections.ensures.strays ∙ ap (λ (p : List Packet). strays_of (past_of p)) given in
-    let by_packets = subst (λ (p : List Packet). AreAudited credits capture p c.as_slice-3.result.now audited) lent c.in_ok-audited.ensures.audits in
+    let by_packets = subst (λ (p : List Packet). AreAudited credits capture p c.as_slice-2.result.now audited) given c.in_ok-audited.ensures.audits in
     record {
       opened = opened;
       audited = audited;
       connections = c.in_ok-connections.ensures.opened ∙ ap (λ (p : List Packet). connections_of (past_of p)) given;
-      audits = subst (λ (cs : List Connection). AreAudited credits capture packets cs audited) c.as_slice-3.ensures.value by_packets;
+      audits = subst (λ (cs : List Connection). AreAudited credits capture packets cs audited) c.as_slice-2.ensures.value by_packets;
       spelled = c.in_ok-text.ensures
-          ∙ ap (λ (b : Bool). report_text c.args.found.now c.as_slice-4.result.now c.in_ok-connections.connections.strays.items (sections_of opened c.as_slice-5.result.now) b) c.frames_shown.ensures
-          ∙ ap (λ (p : List Packet). report_text c.args.found.now p c.in_ok-connections.connections.strays.items (sections_of opened c.as_slice-5.result.now) credits) shown
-          ∙ ap (λ (s : List Stray). report_text c.args.found.now packets s (sections_of opened c.as_slice-5.result.now) credits) strays
-          ∙ ap (λ (a : List Audited). report_text c.args.found.now packets (strays_of (past_of packets)) (sections_of opened a) credits) c.as_slice-5.ensures.value;
-      judged = c.verdict_on-verdict.ensures ∙ ap verdict_of c.as_slice-6.ensures.value;
+          ∙ ap (λ (b : Bool). report_text c.args.found.now c.in_ok-packets.packets c.in_ok-connections.connections.strays.items (sections_of opened c.as_slice-3.result.now) b) c.frames_shown.ensures
+          ∙ ap (λ (p : List Packet). report_text c.args.found.now p c.in_ok-connections.connections.strays.items (sections_of opened c.as_slice-3.result.now) credits) given
+          ∙ ap (λ (s : List Stray). report_text c.args.found.now packets s (sections_of opened c.as_slice-3.result.now) credits) strays
+          ∙ ap (λ (a : List Audited). report_text c.args.found.now packets (strays_of (past_of packets)) (sections_of opened a) credits) c.as_slice-3.ensures.value;
+      judged = c.verdict_on-verdict.ensures ∙ ap verdict_of c.as_slice-4.ensures.value;
     }

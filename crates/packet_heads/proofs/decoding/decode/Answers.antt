@@ -1,67 +1,28 @@
-use Rattle.std.proofs.Common.{drop, ap, ◌∙◌, arith}
-use Rattle.std.proofs.lemmas.Grind.{common_steps}
-use Rattle.packet_heads.specs.Decision.{packet_decision, is_partial}
-use Rattle.packet_heads.specs.declared.packets.Packet.TheVariants.{Segment}
-use Rattle.packet_heads.specs.Link.{packet_of, link_lines, datagram_start}
-use Rattle.packet_heads.specs.Ipv4.{ipv4_lines, segment_bytes}
-use Rattle.packet_heads.specs.Tcp.{tcp_lines}
-use Rattle.packet_heads.proofs.Placing.{StandsIn-passed_over}
-use Rattle.packet_heads.proofs.Table.{decided_by_first, decided_by_second, decided_by_third, decided_by_last}
+use Rattle.std.proofs.Common.{◌≡◌, ◌≤◌, ◌+◌, ◌-◌, ◌%◌, ℕ, List, length, take, drop, ap, ◌∙◌, arith}
+use Rattle.std.specs.Prelude.{min, slice_range}
+use Rattle.std.proofs.lemmas.List.{length-take, take-take}
+use Rattle.packet_heads.specs.Decision.{packet_decision, decision_on}
 use Rattle.packet_heads.proofs.decoding.decode.Goals as goal
 
-pub returns-in-Some-clause-decided : goal.returns-in-Some-clause-decided
-unfolding packet_decision
-returns-in-Some-clause-decided c =
-    let packet = packet_of c.args.row.now c.args.capture.now in
-    let datagram = drop (datagram_start c.args.link packet) packet in
-    decided_by_first (link_lines c.args.link packet) (ipv4_lines (is_partial c.args.row.now) datagram) (tcp_lines (segment_bytes datagram)) _ _
-    c.in-Some.ensures.answer
+-- what lies together at an offset has the captured bytes in front, where it has as many
+in_front : (start count most : ℕ) (front capture : List ℕ) → front ≡ take most (drop start capture) → count ≤ length front
+    → take count front ≡ slice_range capture start (start + count)
+in_front start count most front capture is room =
+    ap (take count) is
+    ∙ take-take count most (drop start capture) (omega (arith, room, ap length is, length-take most (drop start capture)))
+    ∙ ap (λ (n : ℕ). take n (drop start capture)) (omega arith)
 
-pub returns-in-Some-answer-clause-decided : goal.returns-in-Some-answer-clause-decided
+pub returns-then-row-front-clause-decided : goal.returns-then-row-front-clause-decided
 unfolding packet_decision
-returns-in-Some-answer-clause-decided c =
-    let packet = packet_of c.args.row.now c.args.capture.now in
-    let datagram = drop (datagram_start c.args.link packet) packet in
-    decided_by_second (link_lines c.args.link packet) (ipv4_lines (is_partial c.args.row.now) datagram) (tcp_lines (segment_bytes datagram)) _ _
-    c.in_default.ensures.answer
-    (rw (c.datagram-datagram.ensures.datagram, c.datagram_start-start.ensures) at c.in-Some-answer.ensures.answer)
-
-pub returns-in-Some-answer-2-clause-decided : goal.returns-in-Some-answer-2-clause-decided
-unfolding packet_decision
-returns-in-Some-answer-2-clause-decided c =
-    let packet = packet_of c.args.row.now c.args.capture.now in
-    let datagram = drop (datagram_start c.args.link packet) packet in
-    decided_by_third (link_lines c.args.link packet) (ipv4_lines (is_partial c.args.row.now) datagram) (tcp_lines (segment_bytes datagram)) _ _
-    c.in_default.ensures.answer
-    (rw (c.datagram-datagram.ensures.datagram, c.datagram_start-start.ensures) at c.in_default-answer.ensures.answer)
-    (rw (c.segment.ensures, c.datagram-datagram.ensures.datagram, c.datagram_start-start.ensures) at c.in-Some-answer-2.ensures.answer)
+returns-then-row-front-clause-decided c =
+    let row = c.args.row.now in
+    c.decision_on.ensures.decided
+    ∙ ap (decision_on c.args.link c.args.number row) (in_front row.start row.length
+    (min (4194304 - row.start % 4194304) (length c.args.capture.now - row.start)) c.from-front.result.now
+    c.args.capture.now c.from-front.ensures.front (omega arith))
 
 pub returns-clause-decided : goal.returns-clause-decided
 unfolding packet_decision
 returns-clause-decided c =
-    let packet = packet_of c.args.row.now c.args.capture.now in
-    let datagram = drop (datagram_start c.args.link packet) packet in
-    ap Segment (rw (c.datagram-datagram.ensures.datagram, c.datagram_start-start.ensures) at c.segment_of.ensures.segment)
-    ∙ decided_by_last (link_lines c.args.link packet) (ipv4_lines (is_partial c.args.row.now) datagram) (tcp_lines (segment_bytes datagram)) _
-    c.in_default.ensures.answer
-    (rw (c.datagram-datagram.ensures.datagram, c.datagram_start-start.ensures) at c.in_default-answer.ensures.answer)
-    (rw (c.segment.ensures, c.datagram-datagram.ensures.datagram, c.datagram_start-start.ensures) at c.in_default-answer-2.ensures.answer)
-
-pub returns-in-Some-clause-placed : goal.returns-in-Some-clause-placed
-returns-in-Some-clause-placed c = StandsIn-passed_over c.args.number c.args.row.now _ c.in-Some.ensures.passed_over
-
-pub returns-in-Some-answer-clause-placed : goal.returns-in-Some-answer-clause-placed
-returns-in-Some-answer-clause-placed c = StandsIn-passed_over c.args.number c.args.row.now _ c.in-Some-answer.ensures.passed_over
-
-pub returns-in-Some-answer-2-clause-placed : goal.returns-in-Some-answer-2-clause-placed
-returns-in-Some-answer-2-clause-placed c = StandsIn-passed_over c.args.number c.args.row.now _ c.in-Some-answer-2.ensures.passed_over
-
-pub returns-clause-placed : goal.returns-clause-placed
-returns-clause-placed c =
-    let made = c.segment_of.ensures in (
-      ap (λ s. s.rec) made.segment,
-      ap (λ s. s.nanos) made.segment,
-      grind (arith, made.from),
-      made.payload,
-      grind (arith, common_steps, made.upto, c.datagram-datagram.ensures.len),
-    )
+    c.decision_on-2.ensures.decided
+    ∙ ap (decision_on c.args.link c.args.number c.args.row.now) (c.deref.ensures.value ∙ c.in_ok-packet.ensures)

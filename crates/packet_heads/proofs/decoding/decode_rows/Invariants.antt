@@ -2,4 +2,4 @@ use Rattle.packet_heads.proofs.Progress.{Progress}
 use Rattle.packet_heads.proofs.decoding.decode_rows.Given as goal
 
 abbrev pub invariant-loop-index : goal.invariant-loop-index
-invariant-loop-index l = Progress l.link 1 l.rows l.capture l.index l.packets.items
+invariant-loop-index l = Progress l.link l.first l.rows l.capture l.index l.packets.items

@@ -1,7 +1,8 @@
-use Rattle.std.proofs.Common.{◌≡◌, ℕ, List, map, ◌+◌, ◌<◌, ◌≤◌, ◌^◌, length, take, refl, sym, ap, subst, ◌∙◌, arith}
+use Rattle.std.proofs.Common.{◌≡◌, List, map, ◌+◌, ◌<◌, ◌^◌, length, take, get_or, sym, ap, subst, ◌∙◌, arith}
 use Rattle.std.proofs.lemmas.List.{take_all}
 use Rattle.packet_heads.specs.declared.packets.Packet.{Packet}
 use Rattle.packet_heads.specs.declared.packets.Segment.{Segment}
+use Rattle.parted_list.proofs.Together.{element_is, index_within}
 use Rattle.tcp_streams.specs.declared.table.Table.{Table}
 use Rattle.tcp_streams.specs.Membership.{connections_of, membership, strays_of}
 use Rattle.tcp_streams.specs.Packets.{past_of}
@@ -13,24 +14,36 @@ use Rattle.tcp_streams.proofs.membership.connections.Goals.{in-Segment+in_ok-add
 pub add-requires : goal.add-requires
 add-requires c =
     let few : length c.args.packets.now < 2 ^ 32 = c.requires.few in
-    let lt : c.loop-packet.packet-index < length c.args.packets.now = c.loop-packet-test.true in (
-      past_of (take c.loop-packet.packet-index c.args.packets.now),
+    let lt : c.loop-at.at + c.loop-packet.packet-index < length c.args.packets.now =
+    index_within c.args.packets.now c.from-together.result.now _ c.loop-at.at c.from-together.ensures.front
+    c.loop-packet.packet-index c.loop-packet-test.true in (
+      past_of (take (c.loop-at.at + c.loop-packet.packet-index) c.args.packets.now),
       c.loop-packet.invariant,
-      (let h = past_of-few c.args.packets.now c.loop-packet.packet-index lt in omega arith),
+      (let h = past_of-few c.args.packets.now (c.loop-at.at + c.loop-packet.packet-index) lt in omega arith),
     )
 
 pub loop-packet-preserved : goal.loop-packet-preserved
 loop-packet-preserved c =
-    let lt : c.loop-packet.packet-index < length c.args.packets.now = c.loop-packet-test.true in
+    let packets : List Packet = c.args.packets.now in
+    let i = c.loop-at.at + c.loop-packet.packet-index in
+    let lt : i < length packets =
+    index_within packets c.from-together.result.now _ c.loop-at.at c.from-together.ensures.front
+    c.loop-packet.packet-index c.loop-packet-test.true in
+    let same = λ (d : Packet).
+    sym (element_is packets c.from-together.result.now _ c.loop-at.at c.from-together.ensures.front
+    c.loop-packet.packet-index d c.loop-packet-test.true) in
+    let one_more = λ (d p : Packet) (is : get_or packets i d ≡ p).
+    ap (λ n. past_of (take n packets)) (let next : c.loop-at.at + (c.loop-packet.packet-index + 1) ≡ i + 1 = omega arith in next)
+    ∙ past_of-more packets i d p lt is in
     elim c.match-packet.branch [
       | in-Segment+in_ok-add w ↦
-          subst (λ (t : Table). IsTableOf (past_of (take (c.loop-packet.packet-index + 1) c.args.packets.now)) t) (sym w.table-is)
-          (subst (λ (l : List Segment). IsTableOf l w.add.new.self) (sym (past_of-more c.args.packets.now c.loop-packet.packet-index _ _ lt w.in-Segment.is))
-          (w.in_ok-add.ensures _ c.loop-packet.invariant (Falls-next c.args.packets.now c.loop-packet.packet-index _ _ c.requires.numbered lt w.in-Segment.is)))
+          subst (λ (t : Table). IsTableOf (past_of (take (c.loop-at.at + (c.loop-packet.packet-index + 1)) packets)) t) (sym w.table-is)
+          (subst (λ (l : List Segment). IsTableOf l w.add.new.self) (sym (one_more _ _ (same _ ∙ w.in-Segment.is)))
+          (w.in_ok-add.ensures _ c.loop-packet.invariant (Falls-next packets i _ _ c.requires.numbered lt (same _ ∙ w.in-Segment.is))))
       | in_default w ↦
-          subst (λ (t : Table). IsTableOf (past_of (take (c.loop-packet.packet-index + 1) c.args.packets.now)) t) (sym w.table-is)
+          subst (λ (t : Table). IsTableOf (past_of (take (c.loop-at.at + (c.loop-packet.packet-index + 1)) packets)) t) (sym w.table-is)
           (subst (λ (l : List Segment). IsTableOf l c.loop-packet.table)
-          (sym (past_of-more c.args.packets.now c.loop-packet.packet-index _ _ lt refl ∙ with_packet-other _ _ w.in_default.not-Segment)) c.loop-packet.invariant)
+          (sym (one_more _ _ (same _) ∙ with_packet-other _ _ w.in_default.not-Segment)) c.loop-packet.invariant)
     ]
 
 module _ (packets : List Packet) (i : ℕ) (past : length packets ≤ i) where
@@ -49,6 +62,7 @@ returns-clause-strays c =
 
 pub returns-clause-members : goal.returns-clause-members
 returns-clause-members c =
-    let all = all_packets c.args.packets.now c.loop-packet.packet-index (omega arith) in
-    connections-members c.args.packets.now c.into_connections.result.opened.items c.requires.numbered
-    (ap (map membership) c.into_connections.ensures.opened ∙ c.loop-packet.invariant.opened_are ∙ ap connections_of all)
+    let packets : List Packet = c.args.packets.now in
+    let all : take c.loop-at.at packets ≡ packets = take_all c.loop-at.at packets (omega (arith, c.loop-at-test.false, c.len.ensures)) in
+    connections-members packets c.into_connections.result.opened.items c.requires.numbered
+    (ap (map membership) c.into_connections.ensures.opened ∙ c.loop-at.invariant.1.opened_are ∙ ap (λ (l : List Packet). connections_of (past_of l)) all)

@@ -1,8 +1,14 @@
-use Rattle.std.proofs.Common.{take}
+use Rattle.std.proofs.Common.{◌+◌, ◌-◌, ◌≤◌, length, take}
 use Rattle.tcp_streams.specs.Packets.{past_of}
 use Rattle.tcp_streams.specs.code.Table.{IsTableOf}
 use Rattle.tcp_streams.proofs.membership.connections.Given as goal
 
 -- the table shows the segments of the packets so far
+abbrev pub invariant-loop-at : goal.invariant-loop-at
+invariant-loop-at l = (l.at ≤ length l.packets) × IsTableOf (past_of (take l.at l.packets)) l.table
+
+abbrev pub decreases-loop-at : goal.decreases-loop-at
+decreases-loop-at l = length l.packets - l.at
+
 abbrev pub invariant-loop-packet : goal.invariant-loop-packet
-invariant-loop-packet l = IsTableOf (past_of (take l.packet-index l.packets)) l.table
+invariant-loop-packet l = IsTableOf (past_of (take (l.at + l.packet-index) l.packets)) l.table

@@ -1,4 +1,4 @@
-use Rattle.h2audit.proofs.auditing.audit.Goals as goal
+use Rattle.h2audit.proofs.auditing.audit_parts.Goals as goal
 
 pub returns-in-Ok-audit_records-clause-report : goal.returns-in-Ok-audit_records-clause-report
 returns-in-Ok-audit_records-clause-report g c =

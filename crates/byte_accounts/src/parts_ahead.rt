@@ -1,0 +1,65 @@
+//! Parts for the bytes of a capture, made by other threads before they are needed.
+
+use pcap_records::CAPTURE_PART;
+use std::alloc::Global;
+use std::collections::VecDeque;
+use std::thread::{JoinHandle, Threads, spawn};
+
+/// How many parts are in the making at once, at most: a thread makes one in less than three times the time in which a
+/// read fills it.
+const MAKERS: usize = 3;
+
+/// Makes parts ahead, each by a thread of its own, beside the thread that reads.
+///
+/// Most of the time of reading goes into memory that is used for the first time. The threads here take that over; they
+/// know nothing of a capture, so no byte that is read depends on them.
+#[derive(Drop)]
+pub struct PartsAhead<'a, T: Threads> {
+    rt: &'a T,
+    alloc: Global,
+    /// How many parts may be in the making.
+    most: usize,
+    making: VecDeque<JoinHandle<Vec<u8>>>,
+}
+
+impl<'a, T: Threads> PartsAhead<'a, T> {
+    /// No part yet. Of these workers one reads, and so many as are left may make parts.
+    pub fn new(rt: &'a T, alloc: Global, workers: u32) -> PartsAhead<'a, T> {
+        PartsAhead {
+            rt,
+            alloc,
+            most: MAKERS.min(workers.saturating_sub(1) as usize),
+            making: VecDeque::new(alloc),
+        }
+    }
+
+    /// Begins a part, where fewer than `count` are in the making and there is a worker for it.
+    pub(crate) fn begin(&mut self, count: usize) {
+        if self.making.len() < self.most.min(count) {
+            let alloc = self.alloc;
+            if let Ok(maker) = spawn(self.rt, move || whole_part(alloc)) {
+                let _ = self.making.push_back(maker);
+            }
+        }
+    }
+
+    /// The part that was begun first, and begins the next one. It is empty where none was begun, or where there was no
+    /// memory for it.
+    pub(crate) fn part(&mut self) -> Vec<u8> {
+        let part = match self.making.pop_front() {
+            Some(maker) => maker.join(self.rt),
+            None => Vec::new(self.alloc),
+        };
+        self.begin(MAKERS);
+        part
+    }
+}
+
+/// A part with all of its bytes, or an empty one where there was no memory for that.
+///
+/// The bytes are ones and not zeros: memory for zeros may be handed out unused, and its first use would be the read's.
+fn whole_part(alloc: Global) -> Vec<u8> {
+    let mut part = Vec::new(alloc);
+    let _ = part.resize(CAPTURE_PART, 1);
+    part
+}

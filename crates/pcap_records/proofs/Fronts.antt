@@ -1,0 +1,51 @@
+-- A record's header, read from the bytes that lie together at its front.
+use Rattle.std.proofs.Common.{◌≡◌, ◌≤◌, ◌<◌, ◌+◌, ◌-◌, ◌^◌, ℕ, List, ◌++◌, Option, Some, None, length, take, drop, take-append-drop, sym, ap, ◌∙◌, arith, length-drop}
+use Rattle.std.proofs.lemmas.List.{drop-append-le}
+use Rattle.std.specs.Prelude.{IfSome, IfNone}
+use Rattle.pcap_records.specs.FileHeader.{ByteOrder}
+use Rattle.pcap_records.specs.Record.{IsNextRecord, captured_length, record_at}
+use Rattle.pcap_records.specs.declared.capture.Record.{Record}
+
+-- a number is read from its own bytes alone
+abbrev pub ReadsFirst : ByteOrder → Type 0
+ReadsFirst number = (n : ℕ) (xs ys : List ℕ) → n ≤ length xs → number n (xs ++ ys) ≡ number n xs
+
+-- a number within a front of the bytes
+in_front : (number : ByteOrder) → ReadsFirst number → (at : ℕ) (front later : List ℕ) → at + 4 ≤ length front
+    → number 4 (drop at (front ++ later)) ≡ number 4 (drop at front)
+in_front number first at front later fits =
+    ap (number 4) (drop-append-le at front later (omega (arith, fits)))
+    ∙ first 4 (drop at front) later (omega (arith, length-drop at front, fits))
+
+-- the record behind a header is the same by its front
+same_record : (number : ByteOrder) → ReadsFirst number → (unit at : ℕ) (front later : List ℕ) → 16 ≤ length front
+    → record_at number unit at (front ++ later) ≡ record_at number unit at front
+same_record number first unit at front later fits =
+    let seconds = in_front number first 0 front later (omega (arith, fits)) in
+    let fraction = in_front number first 4 front later (omega (arith, fits)) in
+    let captured = in_front number first 8 front later (omega (arith, fits)) in
+    let original = in_front number first 12 front later (omega (arith, fits)) in
+    cc
+
+-- what a front of 16 bytes or more tells of the next record
+pub next_by_front : (number : ByteOrder) → ReadsFirst number → (unit at size most : ℕ) (front bytes : List ℕ) (found : Option Record)
+    → 16 ≤ length front → length bytes ≡ size - at → front ≡ take most bytes
+    → IfSome found (λ r. (16 + captured_length number front ≤ size - at) × (r ≡ record_at number unit at front))
+    → IfSome found (λ r. r.nanos < 2 ^ 63)
+    → IfNone found (size - at < 16 + captured_length number front)
+    → IsNextRecord number unit at bytes found
+next_by_front number first unit at size most front bytes None long count is some time none =
+    let whole : front ++ drop most bytes ≡ bytes = ap (λ (l : List ℕ). l ++ drop most bytes) is ∙ take-append-drop most bytes in
+    let same : captured_length number bytes ≡ captured_length number front =
+    ap (captured_length number) (sym whole) ∙ in_front number first 8 front (drop most bytes) (omega (arith, long)) in
+    λ begins. omega (arith, begins.1, same, count, none)
+next_by_front number first unit at size most front bytes (Some r) long count is some time none =
+    let whole : front ++ drop most bytes ≡ bytes = ap (λ (l : List ℕ). l ++ drop most bytes) is ∙ take-append-drop most bytes in
+    let same : captured_length number bytes ≡ captured_length number front =
+    ap (captured_length number) (sym whole) ∙ in_front number first 8 front (drop most bytes) (omega (arith, long)) in
+    let record_same : record_at number unit at bytes ≡ record_at number unit at front =
+    ap (record_at number unit at) (sym whole) ∙ same_record number first unit at front (drop most bytes) long in (
+      (omega (arith, count, some.0), omega (arith, count, some.0, same)),
+      some.1 ∙ sym record_same,
+      time,
+    )
