@@ -4,7 +4,7 @@ use Rattle.packet_heads.specs.declared.packets.Packet.{Packet}
 use Rattle.packet_heads.specs.declared.packets.Segment.{Segment}
 use Rattle.parted_list.proofs.Together.{element_is, index_within}
 use Rattle.tcp_streams.specs.declared.table.Table.{Table}
-use Rattle.tcp_streams.specs.Membership.{connections_of, membership, strays_of}
+use Rattle.tcp_streams.specs.Membership.{connections_of, membership}
 use Rattle.tcp_streams.specs.Packets.{past_of}
 use Rattle.tcp_streams.specs.code.Table.{IsTableOf}
 use Rattle.tcp_streams.proofs.Numbered.{Falls-next, connections-members, past_of-few, past_of-more, with_packet-other}
@@ -45,20 +45,6 @@ loop-packet-preserved c =
           (subst (λ (l : List Segment). IsTableOf l c.loop-packet.table)
           (sym (one_more _ _ (same _) ∙ with_packet-other _ _ w.in_default.not-Segment)) c.loop-packet.invariant)
     ]
-
-module _ (packets : List Packet) (i : ℕ) (past : length packets ≤ i) where
-  all_packets : past_of (take i packets) ≡ past_of packets
-  all_packets = ap past_of (take_all i packets past)
-
-pub returns-clause-opened : goal.returns-clause-opened
-returns-clause-opened c =
-    let all = all_packets c.args.packets.now c.loop-packet.packet-index (omega arith) in
-    ap (map membership) c.into_connections.ensures.opened ∙ c.loop-packet.invariant.opened_are ∙ ap connections_of all
-
-pub returns-clause-strays : goal.returns-clause-strays
-returns-clause-strays c =
-    let all = all_packets c.args.packets.now c.loop-packet.packet-index (omega arith) in
-    c.into_connections.ensures.strays ∙ c.loop-packet.invariant.strays_are ∙ ap strays_of all
 
 pub returns-clause-members : goal.returns-clause-members
 returns-clause-members c =

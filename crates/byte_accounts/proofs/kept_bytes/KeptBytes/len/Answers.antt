@@ -1,4 +1,4 @@
-use Rattle.std.proofs.Common.{◌≡◌, ◌≤◌, length, ap, arith}
+use Rattle.std.proofs.Common.{◌≤◌, length, ap, arith}
 use Rattle.byte_accounts.proofs.Bytes.{kept_size}
 use Rattle.byte_accounts.proofs.kept_bytes.KeptBytes.len.Goals as goal
 

@@ -1,4 +1,4 @@
-use Rattle.std.proofs.Common.{◌≡◌, ◌∙◌, ◌≤◌, ℕ, ◌+◌, List, length, arith, ◌++◌, map, take, drop, ap, sym, subst}
+use Rattle.std.proofs.Common.{◌∙◌, ◌≤◌, ℕ, ◌+◌, List, length, arith, ◌++◌, map, take, drop, ap, sym, subst}
 use Rattle.std.specs.Io.KnownBytes.{Consumes}
 use Rattle.parted_list.specs.Parts.{joined}
 use Rattle.byte_accounts.proofs.Bytes.{back_of, front_of, kept_more, kept_size}
