@@ -79,7 +79,7 @@ fn audit_records(
     ensures { IfOk result (λ r. IsReportOn capture.now found.now (choices options.now).frames_shown
         r.0.items r.1) }
 {
-    let made = decode_all(alloc, found, capture)?;
+    let made = decode_all(rt, alloc, options.workers(), found, capture)?;
     let packets = Packets::of(alloc, made.as_slice())?;
     let connections = connections(alloc, &packets)?;
     let audited = audit_each(

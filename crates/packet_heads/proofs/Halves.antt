@@ -30,25 +30,25 @@ stand-append number (row ∷ front) back (p ∷ some) more one other =
     (one.0, stand-append (number + 1) front back some more one.1 (subst (λ n. AllStand n back more) next other))
 
 -- so many full parts, and then the parts of the rest
-cut-append : (count rest : ℕ) (parts more : List (List Packet)) → 0 < count → count % 65536 ≡ 0 → 0 < rest
+cut-append : (count rest : ℕ) (parts more : List (List Packet)) → 0 < count → count % 8192 ≡ 0 → 0 < rest
     → AreCut count parts → AreCut rest more → AreCut (count + rest) (parts ++ more)
 cut-append count rest [] more some whole left one other = absurd one
 cut-append count rest (part ∷ []) [] some whole left one other = absurd other
 cut-append count rest (part ∷ []) (next ∷ more) some whole left one other =
-    let full : count ≡ 65536 = omega (arith, one.1, some, whole) in (
+    let full : count ≡ 8192 = omega (arith, one.1, some, whole) in (
       omega (arith, one.0, full),
       omega (arith, full, left),
-      subst (λ n. AreCut n (next ∷ more)) (let e : rest ≡ count + rest - 65536 = omega (arith, full) in e) other,
+      subst (λ n. AreCut n (next ∷ more)) (let e : rest ≡ count + rest - 8192 = omega (arith, full) in e) other,
     )
 cut-append count rest (part ∷ next ∷ parts) more some whole left one other = (
   one.0,
   omega (arith, one.1),
-  subst (λ n. AreCut n (next ∷ parts ++ more)) (let e : count - 65536 + rest ≡ count + rest - 65536 = omega (arith, one.1) in e)
-      (cut-append (count - 65536) rest (next ∷ parts) more (omega (arith, one.1)) (omega (arith, one.1, whole)) left one.2 other),
+  subst (λ n. AreCut n (next ∷ parts ++ more)) (let e : count - 8192 + rest ≡ count + rest - 8192 = omega (arith, one.1) in e)
+      (cut-append (count - 8192) rest (next ∷ parts) more (omega (arith, one.1)) (omega (arith, one.1, whole)) left one.2 other),
 )
 
 -- one part
-pub one_part : (link number : ℕ) (rows : List Record) (capture : List ℕ) (packets : List Packet) → length rows ≤ 65536
+pub one_part : (link number : ℕ) (rows : List Record) (capture : List ℕ) (packets : List Packet) → length rows ≤ 8192
     → AreDecided link number rows capture packets → AreDecidedParts link number rows capture (packets ∷ [])
 one_part link number rows capture packets few is = record {
   decided = subst (AreDecided link number rows capture) (sym (append-nil packets)) is;
@@ -57,7 +57,7 @@ one_part link number rows capture packets few is = record {
 
 -- the parts of two halves
 pub halves : (link number at : ℕ) (rows front back : List Record) (capture : List ℕ) (parts more all : List (List Packet))
-    → front ≡ take at rows → back ≡ drop at rows → 0 < at → at < length rows → at % 65536 ≡ 0
+    → front ≡ take at rows → back ≡ drop at rows → 0 < at → at < length rows → at % 8192 ≡ 0
     → AreDecidedParts link number front capture parts → AreDecidedParts link (number + at) back capture more
     → all ≡ parts ++ more → AreDecidedParts link number rows capture all
 halves link number at rows front back capture parts more all is_front is_back some fewer whole one other is =
@@ -74,7 +74,7 @@ halves link number at rows front back capture parts more all is_front is_back so
     let stand : AllStand number (front ++ back) (joined all) =
     subst (AllStand number (front ++ back)) (sym flat) (stand-append number front back (joined parts) (joined more) one.decided.stand second.stand) in
     let cut : AreCut (length front + length back) (parts ++ more) =
-    cut-append (length front) (length back) parts more (omega (arith, size, some)) (ap (λ n. n % 65536) size ∙ whole)
+    cut-append (length front) (length back) parts more (omega (arith, size, some)) (ap (λ n. n % 8192) size ∙ whole)
     (omega (arith, size, total, fewer)) one.cut other.cut in
     record {
       decided = record {
@@ -85,7 +85,7 @@ halves link number at rows front back capture parts more all is_front is_back so
     }
 
 -- parts that are cut so are parts of that many
-pub cut-parts : (count : ℕ) (parts : List (List Packet)) → AreCut count parts → ArePartsOf 65536 parts
+pub cut-parts : (count : ℕ) (parts : List (List Packet)) → AreCut count parts → ArePartsOf 8192 parts
 cut-parts count [] h = absurd h
 cut-parts count (part ∷ []) h = (omega (arith, h.0, h.1), (λ some. absurd (omega (arith, some))), tt)
-cut-parts count (part ∷ next ∷ later) h = (omega (arith, h.0), (λ some. h.0), cut-parts (count - 65536) (next ∷ later) h.2)
+cut-parts count (part ∷ next ∷ later) h = (omega (arith, h.0), (λ some. h.0), cut-parts (count - 8192) (next ∷ later) h.2)

@@ -1,18 +1,15 @@
 //! From a record to what it holds.
 
-ghost use Rattle.std.specs.Prelude.{◌≡◌, ◌+◌, ◌%◌, ◌^◌, ◌<◌, ◌≤◌, length, map, All, IfOk, IsTrue};
-ghost use Rattle.parted_list.specs.Parts.{ArePartsOf, joined};
+ghost use Rattle.std.specs.Prelude.{◌≡◌, ◌+◌, ◌^◌, ◌<◌, ◌≤◌, length, IfOk, IsTrue};
 ghost use Rattle.pcap_records.specs.LinkType.{is_read};
-ghost use Rattle.pcap_records.specs.Place.{AreWithin, AreTimely};
-ghost use Rattle.packet_heads.specs.Decision.{decision_on, packet_decision, packet_decisions, segment_of, is_partial};
+ghost use Rattle.packet_heads.specs.Decision.{decision_on, packet_decision, segment_of, is_partial};
 ghost use Rattle.packet_heads.specs.Ipv4 as ipv4_words;
-ghost use Rattle.packet_heads.specs.Order.{AreNumberedFrom, PayloadsRise, TimesFit};
 ghost use Rattle.packet_heads.specs.Tcp as tcp_words;
-ghost use Rattle.packet_heads.specs.code.Standing.{StandsIn, AreDecided, AreDecidedParts, EndsWithin};
+ghost use Rattle.packet_heads.specs.code.Standing.{StandsIn};
 
-use crate::packets::{Endpoint, PACKET_PART, Packet, Segment};
+use crate::packets::{Endpoint, Packet, Segment};
 use crate::{ipv4, link, tcp};
-use pcap_records::{Capture, Record, Records};
+use pcap_records::{Capture, Record};
 use std::alloc::{AllocError, Global};
 
 /// The segment in a datagram whose headers are whole, and which begins at this offset of the capture.
@@ -97,89 +94,4 @@ pub fn decode(
     }
     let packet = capture.gathered(alloc, row.start, end)?;
     Ok(decision_on(link, number, row, &packet))
-}
-
-/// What each of these rows holds, in order; the first has this number.
-fn decode_rows(
-    alloc: Global,
-    link: u16,
-    first: u32,
-    rows: &[Record],
-    capture: &Capture<'_>,
-) -> Result<Vec<Packet>, AllocError>
-    requires linked { IsTrue (is_read link) }
-    requires few { first + length rows.now < 2 ^ 32 }
-    requires inside { All (EndsWithin (length capture.now)) rows.now }
-    ensures { IfOk result (λ packets. AreDecided link first rows.now capture.now packets.items) }
-{
-    let mut packets = Vec::with_capacity(alloc, rows.len())?;
-    for (index, row) in rows.iter().enumerate() {
-        packets.push(decode(alloc, link, first + index as u32, row, capture)?)?;
-    }
-    Ok(packets)
-}
-
-/// Where rows are halved: at a whole number of parts.
-fn middle(count: usize) -> usize
-    requires { 65536 < count }
-    ensures whole { result % 65536 ≡ 0 }
-    ensures some { 0 < result }
-    ensures fewer { result < count }
-{
-    (count / PACKET_PART + 1) / 2 * PACKET_PART
-}
-
-/// What each of these rows holds, in order and in parts; the first has this number.
-fn made_in_parts(
-    alloc: Global,
-    link: u16,
-    first: u32,
-    rows: &[Record],
-    capture: &Capture<'_>,
-) -> Result<Vec<Vec<Packet>>, AllocError>
-    requires linked { IsTrue (is_read link) }
-    requires few { first + length rows.now < 2 ^ 32 }
-    requires inside { All (EndsWithin (length capture.now)) rows.now }
-    ensures { IfOk result (λ made. AreDecidedParts link first rows.now capture.now
-        (map (λ part. part.items) made.items)) }
-{
-    if rows.len() <= PACKET_PART {
-        let mut parts = Vec::with_capacity(alloc, 1)?;
-        parts.push(decode_rows(alloc, link, first, rows, capture)?)?;
-        return Ok(parts);
-    }
-    let at = middle(rows.len());
-    let (front, back) = rows.split_at(at);
-    let next = first + at as u32;
-    let mut parts = made_in_parts(alloc, link, first, front, capture)?;
-    let mut more = made_in_parts(alloc, link, next, back, capture)?;
-    parts.append(&mut more)?;
-    Ok(parts)
-}
-
-/// What each record of a capture holds, in order, in parts of [`PACKET_PART`] packets.
-///
-/// `records` are to be those that `pcap_records::records` reads in `capture`.
-pub fn decode_all(
-    alloc: Global,
-    records: &Records,
-    capture: &Capture<'_>,
-) -> Result<Vec<Vec<Packet>>, AllocError>
-    requires linked { IsTrue (is_read records.now.link) }
-    requires within { AreWithin (length capture.now) records.now.rows.items }
-    requires timely { AreTimely records.now.rows.items }
-    // Each packet is the decision on its record.
-    ensures exact { IfOk result (λ made. joined (map (λ part. part.items) made.items)
-        ≡ packet_decisions records.now.link records.now.rows.items capture.now) }
-    // Each part but the last is full.
-    ensures parts { IfOk result (λ made. ArePartsOf 65536 (map (λ part. part.items) made.items)) }
-
-    // For those who go on from the packets.
-    ensures few { IfOk result (λ made. length (joined (map (λ part. part.items) made.items)) < 2 ^ 32) }
-    ensures numbered { IfOk result (λ made. AreNumberedFrom 1 (joined (map (λ part. part.items) made.items))) }
-    ensures payloads { IfOk result (λ made. PayloadsRise 0 (length capture.now)
-        (joined (map (λ part. part.items) made.items))) }
-    ensures times { IfOk result (λ made. TimesFit (joined (map (λ part. part.items) made.items))) }
-{
-    made_in_parts(alloc, records.link, 1, &records.rows, capture)
 }

@@ -90,7 +90,7 @@ pub enum Packet {
 }
 
 /// How many packets a part of a capture's packets has.
-pub const PACKET_PART: usize = 65_536;
+pub const PACKET_PART: usize = 8_192;
 
 /// What the records of a capture hold, in order, held in parts.
 pub type Packets<'a> = Parts<'a, Packet, PACKET_PART>;

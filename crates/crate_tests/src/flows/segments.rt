@@ -40,7 +40,7 @@ fn flow_of(
     let Ok(found) = records(alloc, &parts) else {
         return Ok(None);
     };
-    let made = decode_all(alloc, &found, &parts)?;
+    let made = decode_all(rt, alloc, 2, &found, &parts)?;
     let packets = Packets::of(alloc, made.as_slice())?;
     let streams = connections(alloc, &packets)?;
     if streams.opened.is_empty() || capture.len() >= 0x8000_0000 {

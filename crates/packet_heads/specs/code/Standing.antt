@@ -26,8 +26,8 @@ pub record AreDecided (link number : ℕ) (rows : List Record) (capture : List �
 -- so many packets, in parts: each but the last is full
 abbrev pub AreCut : ℕ → List (List Packet) → Type 0
 AreCut count [] = ⊥
-AreCut count (part ∷ []) = (length part ≡ count) × (count ≤ 65536)
-AreCut count (part ∷ next ∷ later) = (length part ≡ 65536) × (65536 < count) × AreCut (count - 65536) (next ∷ later)
+AreCut count (part ∷ []) = (length part ≡ count) × (count ≤ 8192)
+AreCut count (part ∷ next ∷ later) = (length part ≡ 8192) × (8192 < count) × AreCut (count - 8192) (next ∷ later)
 
 -- the decisions on these records in parts, of which the first has this number
 pub record AreDecidedParts (link number : ℕ) (rows : List Record) (capture : List ℕ) (parts : List (List Packet)) : Type 0 where
