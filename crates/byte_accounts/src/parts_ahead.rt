@@ -53,6 +53,14 @@ impl<'a, T: Threads> PartsAhead<'a, T> {
         self.begin(MAKERS);
         part
     }
+
+    /// Waits for the parts that are in the making, and frees them: a thread that nobody waits for keeps what it made.
+    pub fn finish(self) {
+        let PartsAhead { rt, making, .. } = self;
+        for maker in making {
+            maker.join(rt);
+        }
+    }
 }
 
 /// A part with all of its bytes, or an empty one where there was no memory for that.

@@ -30,7 +30,9 @@ pub(crate) fn read_capture<R: Read>(
     ensures err { IfErr result (λ e. IsReadingFault e reader.new) }
 {
     let mut ahead = PartsAhead::new(rt, alloc, workers);
-    match read_in_parts(&mut ahead, reader) {
+    let read = read_in_parts(&mut ahead, reader);
+    ahead.finish();
+    match read {
         Ok(()) => Ok(()),
         Err(ReadFault::Failed) => Err(AuditFault::Read),
         Err(ReadFault::OutOfMemory) => Err(AuditFault::OutOfMemory),
