@@ -81,7 +81,7 @@ def example(program, capture):
 
 
 def many_frames(program):
-    """10,006 frames in more than 24 MiB: the capture is held in seven parts of 4 MiB, and the text grows often.
+    """10,006 frames in more than 24 MiB: the capture is held in 25 parts of 1 MiB, and the text grows often.
 
     A stream sends 5,000 DATA frames of 5,000 bytes, each granted back to the connection at once.
     """
@@ -102,7 +102,7 @@ frame {frame} record {frame + 2} time {frame + 2}000 client connection-credit st
 frame {frame} record {frame + 2} time {frame + 2}000 client stream-credit stream 1 value {left}
 frame {frame + 1} record {frame + 3} time {frame + 3}000 client connection-credit stream 0 value 65535
 """
-    return len(capture) > 6 * 4194304 and always_answers(program, capture, wanted + "audit of all frames\n", "--frames")
+    return len(capture) > 24 * 1048576 and always_answers(program, capture, wanted + "audit of all frames\n", "--frames")
 
 
 def many_openings(program):

@@ -9,25 +9,25 @@ use Rattle.parted_list.specs.Parts.{joined}
 use Rattle.parted_list.proofs.PartLemmas.{full_all, full_count, joined-push}
 
 -- how many bytes are kept in full parts and in the front of a last one
-full_size : (full : List (Vec ℕ Global)) → All (λ (part : Vec ℕ Global). vec_len part ≡ 4194304) full
-    → length (joined (map (λ (part : Vec ℕ Global). part.items) full)) ≡ length full * 4194304
+full_size : (full : List (Vec ℕ Global)) → All (λ (part : Vec ℕ Global). vec_len part ≡ 1048576) full
+    → length (joined (map (λ (part : Vec ℕ Global). part.items) full)) ≡ length full * 1048576
 full_size full all =
     let items = λ (part : Vec ℕ Global). part.items in
-    full_count 4194304 (map items full) (full_all items 4194304 full (λ k d here.
+    full_count 1048576 (map items full) (full_all items 1048576 full (λ k d here.
     omega (arith, all k d here, (slice_index_or full k d).ok.0)))
-    ∙ ap (λ (n : ℕ). n * 4194304) (length-map full items)
+    ∙ ap (λ (n : ℕ). n * 1048576) (length-map full items)
 
 pub kept_size : (full : List (Vec ℕ Global)) (last : List ℕ) (filled : ℕ)
-    → All (λ (part : Vec ℕ Global). vec_len part ≡ 4194304) full → filled ≤ length last
-    → length (joined (map (λ (part : Vec ℕ Global). part.items) full) ++ take filled last) ≡ length full * 4194304 + filled
+    → All (λ (part : Vec ℕ Global). vec_len part ≡ 1048576) full → filled ≤ length last
+    → length (joined (map (λ (part : Vec ℕ Global). part.items) full) ++ take filled last) ≡ length full * 1048576 + filled
 kept_size full last filled all within =
     let items = λ (part : Vec ℕ Global). part.items in
     omega (arith, full_size full all, length-append (joined (map items full)) (take filled last), length-take-le filled last within)
 
 -- and in one full part more
 pub pushed_size : (full : List (Vec ℕ Global)) (last : Vec ℕ Global)
-    → All (λ (part : Vec ℕ Global). vec_len part ≡ 4194304) full → vec_len last ≡ 4194304
-    → length (joined (map (λ (part : Vec ℕ Global). part.items) (full ++ last ∷ [])) ++ []) ≡ length full * 4194304 + 4194304
+    → All (λ (part : Vec ℕ Global). vec_len part ≡ 1048576) full → vec_len last ≡ 1048576
+    → length (joined (map (λ (part : Vec ℕ Global). part.items) (full ++ last ∷ [])) ++ []) ≡ length full * 1048576 + 1048576
 pushed_size full last all whole =
     let items = λ (part : Vec ℕ Global). part.items in
     let is : length (joined (map items (full ++ last ∷ [])) ++ []) ≡ length (joined (map items full) ++ last.items) =

@@ -56,7 +56,7 @@ impl<R> CaptureReader<R> {
 
     /// The same, where there is room for less than a part of a capture.
     pub fn together(&self) -> &[u8]
-        requires { self.now.bytes.room < 4194304 }
+        requires { self.now.bytes.room < 1048576 }
         ensures { result.now ≡ kept self.now }
     {
         self.bytes.together()

@@ -12,7 +12,7 @@ use std::thread::Threads;
 use std::{io, mem};
 
 /// The number of bytes for which room is made at a time in the first part.
-const PIECE: usize = 1_048_576;
+const PIECE: usize = 262_144;
 
 /// Bytes in parts of `CAPTURE_PART`, with room for more in the last of them.
 #[derive(Drop)]
@@ -34,13 +34,13 @@ impl Model for KeptBytes {
 
     ghost view = { λ b. record {
       kept = joined (map (λ part. part.items) b.full.items) ++ take b.filled b.last.items;
-      room = vec_len b.full * 4194304 + vec_len b.last;
+      room = vec_len b.full * 1048576 + vec_len b.last;
     } };
 
-    ghost invariant = { λ b. All (λ part. vec_len part ≡ 4194304) b.full.items
+    ghost invariant = { λ b. All (λ part. vec_len part ≡ 1048576) b.full.items
         × (b.filled ≤ vec_len b.last)
-        × (vec_len b.last ≤ 4194304)
-        × (vec_len b.full * 4194304 + vec_len b.last ≤ 2 ^ 31) };
+        × (vec_len b.last ≤ 1048576)
+        × (vec_len b.full * 1048576 + vec_len b.last ≤ 2 ^ 31) };
 }
 
 impl KeptBytes {
@@ -65,7 +65,7 @@ impl KeptBytes {
 
     /// The bytes, where there is room for less than a part.
     pub(crate) fn together(&self) -> &[u8]
-        requires { self.now.room < 4194304 }
+        requires { self.now.room < 1048576 }
         ensures { result.now ≡ self.now.kept }
     {
         &self.last[..self.filled]

@@ -5,9 +5,12 @@ use std::alloc::Global;
 use std::collections::VecDeque;
 use std::thread::{JoinHandle, Threads, spawn};
 
-/// How many parts are in the making at once, at most: a thread makes one in less than three times the time in which a
-/// read fills it.
-const MAKERS: usize = 3;
+/// How many parts are in the making at once, at most: to use a page for the first time takes two to three times as long
+/// as to read into it.
+const MAKERS: usize = 4;
+
+/// The number of bytes that the system hands out at a time, as it mostly is.
+const PAGE: usize = 4096;
 
 /// Makes parts ahead, each by a thread of its own, beside the thread that reads.
 ///
@@ -23,12 +26,12 @@ pub struct PartsAhead<'a, T: Threads> {
 }
 
 impl<'a, T: Threads> PartsAhead<'a, T> {
-    /// No part yet. Of these workers one reads, and so many as are left may make parts.
+    /// No part yet. One worker makes none ahead.
     pub fn new(rt: &'a T, alloc: Global, workers: u32) -> PartsAhead<'a, T> {
         PartsAhead {
             rt,
             alloc,
-            most: MAKERS.min(workers.saturating_sub(1) as usize),
+            most: if workers > 1 { MAKERS.min(workers as usize) } else { 0 },
             making: VecDeque::new(alloc),
         }
     }
@@ -43,15 +46,15 @@ impl<'a, T: Threads> PartsAhead<'a, T> {
         }
     }
 
-    /// The part that was begun first, and begins the next one. It is empty where none was begun, or where there was no
-    /// memory for it.
+    /// The part that was begun first. It is empty where none was begun, or where there was no memory for it.
+    ///
+    /// One more is begun, since the thread that asks makes none while it waits.
     pub(crate) fn part(&mut self) -> Vec<u8> {
-        let part = match self.making.pop_front() {
+        self.begin(MAKERS);
+        match self.making.pop_front() {
             Some(maker) => maker.join(self.rt),
             None => Vec::new(self.alloc),
-        };
-        self.begin(MAKERS);
-        part
+        }
     }
 
     /// Waits for the parts that are in the making, and frees them: a thread that nobody waits for keeps what it made.
@@ -65,9 +68,15 @@ impl<'a, T: Threads> PartsAhead<'a, T> {
 
 /// A part with all of its bytes, or an empty one where there was no memory for that.
 ///
-/// The bytes are ones and not zeros: memory for zeros may be handed out unused, and its first use would be the read's.
+/// Memory for zeros may be handed out unused, and then the read would be the first to use it. So a byte of each page is
+/// written here.
 fn whole_part(alloc: Global) -> Vec<u8> {
-    let mut part = Vec::new(alloc);
-    let _ = part.resize(CAPTURE_PART, 1);
+    let Ok(mut part) = Vec::with_capacity(alloc, CAPTURE_PART) else {
+        return Vec::new(alloc);
+    };
+    let _ = part.resize(CAPTURE_PART, 0);
+    for byte in part.iter_mut().step_by(PAGE) {
+        *byte = 1;
+    }
     part
 }

@@ -29,8 +29,8 @@ pub struct Records {
     pub cut: Option<u32>,
 }
 
-/// How many bytes a part of a capture has: 4 MiB.
-pub const CAPTURE_PART: usize = 4_194_304;
+/// How many bytes a part of a capture has: 1 MiB.
+pub const CAPTURE_PART: usize = 1_048_576;
 
 /// The bytes of a capture, held in parts.
 pub type Capture<'a> = Parts<'a, u8, CAPTURE_PART>;

@@ -18,7 +18,7 @@ returns-then-row-front-clause-decided c =
     let row = c.args.row.now in
     c.decision_on.ensures.decided
     ∙ ap (decision_on c.args.link c.args.number row) (in_front row.start row.length
-    (min (4194304 - row.start % 4194304) (length c.args.capture.now - row.start)) c.from-front.result.now
+    (min (1048576 - row.start % 1048576) (length c.args.capture.now - row.start)) c.from-front.result.now
     c.args.capture.now c.from-front.ensures.front (omega arith))
 
 pub returns-clause-decided : goal.returns-clause-decided

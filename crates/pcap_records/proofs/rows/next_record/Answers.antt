@@ -9,7 +9,7 @@ returns-then-front-ge-RECORD_HEADER g c =
     let bytes = drop c.args.at c.args.capture.now in
     let size = c.len-size.result in
     next_by_front g.T.ByteOrder.number_of g.met.T.ByteOrder.reads_first c.args.unit c.args.at size
-    (min (4194304 - c.args.at % 4194304) (length c.args.capture.now - c.args.at)) c.from-front.result.now bytes
+    (min (1048576 - c.args.at % 1048576) (length c.args.capture.now - c.args.at)) c.from-front.result.now bytes
     c.record_behind.result (omega arith)
     (omega (arith, length-drop c.args.at c.args.capture.now, c.len-size.ensures)) c.from-front.ensures.front
     c.record_behind.ensures.found c.record_behind.ensures.time c.record_behind.ensures.none
