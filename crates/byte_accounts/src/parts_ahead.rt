@@ -31,7 +31,11 @@ impl<'a, T: Threads> PartsAhead<'a, T> {
         PartsAhead {
             rt,
             alloc,
-            most: if workers > 1 { MAKERS.min(workers as usize) } else { 0 },
+            most: if workers > 1 {
+                MAKERS.min(workers as usize)
+            } else {
+                0
+            },
             making: VecDeque::new(alloc),
         }
     }

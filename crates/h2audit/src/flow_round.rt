@@ -80,7 +80,13 @@ impl<'a, 'b> ForSides for Sources<'a, 'b> {
     ghost makes = { λ s side made. IfOk made (IsSideFlow s.capture.now s.packets.now s.connection.now side) };
 
     fn make(&self, side: Side) -> Result<Flow<'a>, AllocError> {
-        flow_of(self.alloc, self.capture, self.packets, self.connection, side)
+        flow_of(
+            self.alloc,
+            self.capture,
+            self.packets,
+            self.connection,
+            side,
+        )
     }
 }
 

@@ -57,12 +57,7 @@ fn calls_of(reader: &Pieces, writer: &Slow) -> Calls {
 
 /// Whether, of these bytes, as many as the reader gave are in its account: the front that is kept, of these many at
 /// most, and how many came after it.
-fn is_read(
-    alloc: Global,
-    reader: &CaptureReader<Pieces>,
-    whole: &[u8],
-    at_most: usize,
-) -> bool {
+fn is_read(alloc: Global, reader: &CaptureReader<Pieces>, whole: &[u8], at_most: usize) -> bool {
     let read = whole.len() - reader.reader().left.len().min(whole.len());
     let kept = read.min(at_most);
     reader.passed() == read - kept && has_kept(alloc, reader, &whole[..kept])
