@@ -17,8 +17,8 @@ pub const LIMIT: usize = 2_147_483_648;
 /// A reader of a capture, with an account of what its reads answered.
 ///
 /// A type of reader tells which bytes it will give, if any, and not whether a read failed; of a file or
-/// a pipe it tells nothing. The account does: `read_once` and `pass_once` make the crate's only calls of
-/// `read` on a capture, and enter what these answer.
+/// a pipe it tells nothing. The account does: through `read_once` and `pass_once` alone the crate calls
+/// `read` on a capture, and they enter what it answers.
 #[derive(Drop)]
 pub struct CaptureReader<R> {
     reader: R,

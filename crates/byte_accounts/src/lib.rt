@@ -6,13 +6,14 @@
 //! themselves tell their bytes, clause `bytes` says that these are the ones of the accounts. Of bytes that are read and not
 //! kept the account has the number, and the clauses hold whatever they are. Reading stops at 2^31 bytes ([`LIMIT`]).
 //!
-//! What is kept stands in parts of one length, as `pcap_records::Capture` has them; no byte is moved once it was read.
-//! The first part grows by pieces. Later ones are made ahead by other threads ([`PartsAhead`]), since most of the time of
-//! reading goes into memory that is used for the first time; where no thread can be had, the one that reads makes them.
+//! What is kept stands in parts of one length, as `pcap_records::Capture` has them. The first part grows by pieces, and
+//! may be moved as it does; no byte behind it is moved once it was read. Later parts are made ahead by other threads
+//! ([`PartsAhead`]), since most of the time of reading goes into memory that is used for the first time; where no thread
+//! can be had, the one that reads makes them.
 //!
-//! The accounts are as honest as the code that enters them: their fields are private, `read_once`, `pass_once`,
-//! `write_once` and `flush_once` make the crate's only calls of `read`, `write` and `flush`, and ask that none follows
-//! one that failed; `make_room` and `lack_memory` enter want of memory. A reader sees this at once; no contract says it.
+//! The accounts are as honest as the code that enters them: their fields are private; through `read_once`, `pass_once`,
+//! `write_once` and `flush_once` alone the crate calls `read`, `write` and `flush`, and they ask that none follows one
+//! that failed; `make_room` and `lack_memory` enter want of memory. A reader sees this at once; no contract says it.
 //!
 //! Wrong bodies that the prover refuses: a read or a write that is told to have filled or taken all. Tested, in
 //! `crate_tests`: which calls readers and writers get. Trusted: that a file or a pipe gives and keeps its bytes.
