@@ -5,7 +5,7 @@ ghost use Rattle.audit_terms.specs.Pass.{pass};
 use crate::settings::SettingsSoFar;
 use crate::tables::StreamTable;
 use audit_terms::{
-    Change, ConnectionState, Finding, Frame, Item, Kind, Sides, cut_at_stop, previous_after,
+    Change, ConnectionState, Finding, Frame, Kind, Sides, cut_at_stop, previous_after,
     put_in_order, say_if, say_local,
 };
 use std::alloc::{AllocError, Global};
@@ -29,12 +29,7 @@ pub fn one_pass(alloc: Global, frames: &[Frame]) -> Result<Vec<Finding>, AllocEr
         let initial = settings.initial();
         let change = settings.meet(frame)?;
         say_unmatched(&mut found, frame, &change)?;
-        let opens = streams.opens(frame);
-        let item = Item {
-            frame: *frame,
-            opens,
-            change,
-        };
+        let item = streams.item_at(frame, &change);
         connection.meet(&mut found, &item)?;
         streams.meet(&mut found, &initial, frame, &change)?;
         previous = previous_after(&previous, frame);

@@ -3,10 +3,10 @@ ghost use Rattle.audit_terms.specs.Finding.{in_order};
 ghost use Rattle.audit_terms.specs.Stream.{initial_after};
 ghost use Rattle.std.specs.HashMap.{get};
 ghost use Rattle.std.specs.List.{flat_map, list_any};
-ghost use Rattle.audit_core.specs.code.StreamTable.{IsOfAcknowledgement, step_at, row_opens, row_said, row_after, row_said_of, row_after_of, streams_in, idle_rows, with_stream, RowFits, RowsFit, RowsFitBy, bound_more, IsIndex};
+ghost use Rattle.audit_core.specs.code.StreamTable.{IsOfAcknowledgement, step_at, item_at, row_opens, row_said, row_after, row_said_of, row_after_of, streams_in, idle_rows, with_stream, RowFits, RowsFit, RowsFitBy, bound_more, IsIndex};
 ghost use Rattle.audit_terms.specs.Pass.{streams_of};
 
-use audit_terms::{Change, Finding, Frame, Sides, Step, Stream, initial_after};
+use audit_terms::{Change, Finding, Frame, Item, Sides, Step, Stream, initial_after};
 use std::alloc::{AllocError, Global};
 use std::collections::HashMap;
 
@@ -141,13 +141,25 @@ impl StreamTable {
     }
 
     /// Does a frame open its stream (RFC 9113, 5.1.1)?
-    pub fn opens(&self, frame: &Frame) -> bool
+    fn opens(&self, frame: &Frame) -> bool
         requires { IsIndex (streams_in self.now.rows.items) self.now.positions }
         ensures { result ≡ list_any (row_opens frame.now) self.now.rows.items }
     {
         match self.place_of(frame.stream) {
             Some(place) => self.rows[place].entry.life.is_opening(frame.stream, frame),
             None => false,
+        }
+    }
+
+    /// What the connection meets at a frame that brings this change.
+    pub fn item_at(&self, frame: &Frame, change: &Option<Change>) -> Item
+        requires { IsIndex (streams_in self.now.rows.items) self.now.positions }
+        ensures { result ≡ item_at self.now.rows.items frame.now change.now }
+    {
+        Item {
+            frame: *frame,
+            opens: self.opens(frame),
+            change: *change,
         }
     }
 

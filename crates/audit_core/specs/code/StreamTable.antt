@@ -1,5 +1,6 @@
 -- The table of streams that `one_pass` keeps: a row for each stream that the frames name, and where each row stands.
 use Rattle.std.specs.Prelude.{◌≡◌, ◌≢◌, ℕ, ◌+◌, ◌^◌, ◌<◌, ◌==◌, if◌then◌else◌, ◌&&◌, ◌||◌, Bool, true, false, List, [], ◌∷◌, ◌++◌, Option, Some, None, nat_eq, map, slice_get, MatchOption}
+use Rattle.std.specs.List.{list_any}
 use Rattle.std.specs.Option.{ForSome}
 use Rattle.std.specs.HashMap.{get, HashMap}
 use Rattle.std.specs.declared.hash.FoldHasher.{FoldHasher}
@@ -7,6 +8,7 @@ use Rattle.std.specs.declared.hash.BuildHasherDefault.{BuildHasherDefault}
 use Rattle.audit_terms.specs.declared.sides.Sides.{Sides}
 use Rattle.audit_terms.specs.declared.frames.Frame.{Frame}
 use Rattle.audit_terms.specs.declared.items.Change.{Change}
+use Rattle.audit_terms.specs.declared.items.Item.{Item}
 use Rattle.audit_terms.specs.declared.items.Step.{Step}
 use Rattle.audit_core.specs.declared.tables.StreamRow.{StreamRow}
 use Rattle.audit_terms.specs.declared.findings.Finding.{Finding}
@@ -30,6 +32,10 @@ IsOfAcknowledgement change frame = ForSome change (λ _. is_ack frame.body ≡ t
 -- is it the row of the frame's stream, and does the frame open that stream?
 abbrev pub row_opens : Frame → StreamRow → Bool
 row_opens frame row = (frame.stream == row.stream) && is_opening row.stream row.entry.life frame
+
+-- what the connection meets at a frame that brings this change
+abbrev pub item_at : List StreamRow → Frame → Option Change → Item
+item_at rows frame change = record { frame = frame; opens = list_any (row_opens frame) rows; change = change }
 
 -- what a row shows at a frame
 abbrev pub row_said : Sides ℕ → Frame → Option Change → StreamRow → List Finding

@@ -55,7 +55,8 @@ pub say_unmatched-requires : goal.say_unmatched-requires
 say_unmatched-requires c = in_range-get_or 0 c.args.frames.now c.loop-frame.frame-index _ c.requires c.loop-frame-test.true
 
 pub meet-requires-in-loop-frame-clause-frame : goal.meet-requires-in-loop-frame-clause-frame
-meet-requires-in-loop-frame-clause-frame c = in_range-get_or 0 c.args.frames.now c.loop-frame.frame-index _ c.requires c.loop-frame-test.true
+meet-requires-in-loop-frame-clause-frame c =
+    rw c.item_at-item.ensures (in_range-get_or 0 c.args.frames.now c.loop-frame.frame-index _ c.requires c.loop-frame-test.true)
 
 pub meet-requires-in-loop-frame-clause-client : goal.meet-requires-in-loop-frame-clause-client
 meet-requires-in-loop-frame-clause-client c =
@@ -91,11 +92,12 @@ loop-frame-preserved c =
     let rows = c.loop-frame.streams.rows.items in
     let initial = c.initial-initial.ensures ∙ ap (λ (f : InForce). f.initial) old.in_force in
     let change = c.in_ok-change.ensures.change ∙ ap (λ (f : InForce). change_of f frame) old.in_force in
-    let opens = c.opens-opens.ensures ∙ ap (list_any (row_opens frame)) old.table
+    let opens = ap (list_any (row_opens frame)) old.table
     ∙ opens-frame old.state c.args.frames.now c.loop-frame.frame-index _ c.loop-frame-test.true in
-    let met : Item = record { frame = frame; opens = c.opens-opens.result; change = c.in_ok-change.change } in
-    let item : met ≡ item_of old.state frame = same_item old.state frame names c.initial-initial.result c.in_ok-change.change rows initial change old.table
-    c.opens-opens.result opens in
+    let met : Item = c.item_at-item.result in
+    let item : met ≡ item_of old.state frame = c.item_at-item.ensures
+    ∙ same_item old.state frame names c.initial-initial.result c.in_ok-change.change rows initial change old.table
+    (list_any (row_opens frame) rows) opens in
     record {
       state = next old.state frame;
       previous = c.previous_after-previous.ensures
