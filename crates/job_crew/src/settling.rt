@@ -30,17 +30,17 @@ fn put_in_order<M>(parts: &mut Vec<Part<M>>)
     parts.sort_unstable_by_key(|part| part.job);
 }
 
-/// The last stop of each connection.
+/// The last stop of each connection, where `opening` is the stop that it had first.
 fn stops_of(
     alloc: Global,
     closed: &Closed,
-    connections: usize,
+    opening: &[Option<Place>],
 ) -> Result<Vec<Option<Place>>, AllocError>
-    requires { length closed.now.desk.opened ≡ connections + 1 }
+    requires { length closed.now.desk.opened ≡ length opening.now + 1 }
     ensures { IfOk result (λ stops. stops.items ≡ last_stops closed.now) }
 {
-    let mut stops = Vec::with_capacity(alloc, connections)?;
-    for connection in 0..connections {
+    let mut stops = Vec::with_capacity(alloc, opening.len())?;
+    for connection in 0..opening.len() {
         stops.push(closed.stop(connection))?;
     }
     Ok(stops)
@@ -70,6 +70,6 @@ pub fn settle<R: Threads + Sync, G: Gate, P: Round>(
     let (desk, pass) = Desk::make(alloc, jobs, stops, workers)?;
     let (mut parts, closed) = crew(rt, alloc, workers, desk, pass, gate, round, plan)?;
     put_in_order(&mut parts);
-    let stops = stops_of(alloc, &closed, stops.len())?;
+    let stops = stops_of(alloc, &closed, stops)?;
     Ok(Settled { parts, stops })
 }
