@@ -15,7 +15,6 @@ use Rattle.audit_terms.specs.declared.items.Change.{Change}
 use Rattle.audit_terms.specs.declared.items.Step.{Step}
 use Rattle.audit_terms.specs.declared.streams.Stream.{Stream}
 use Rattle.audit_terms.specs.declared.findings.Finding.{Finding}
-use Rattle.audit_terms.specs.declared.looks.Watch.{Watch}
 use Rattle.audit_terms.specs.Sides.{side_of, each_side}
 use Rattle.audit_terms.specs.Life.{life_after}
 use Rattle.audit_terms.specs.Finding.{in_order, is_shown, shown}
@@ -48,6 +47,10 @@ HasRoomAt-next number entry client server Server = room-next number entry.window
 
 HasRoomAt-later : (low number : ℕ) (entry : Stream) → low ≤ number → HasRoomAt low entry → HasRoomAt number entry
 HasRoomAt-later low number entry h room = λ d. room-later low number (side_of d entry.window) h (room d)
+
+pub room-kept : (number : ℕ) (old asked : Walk) → asked ≡ record old { watch = asked.watch } → HasRoomAt number old.entry
+    → HasRoomAt number asked.entry
+room-kept number old asked kept room = subst (λ (walk : Walk). HasRoomAt number walk.entry) (sym kept) room
 
 -- ---- one step
 
@@ -266,14 +269,15 @@ module _ {L : Type 0} (answers : L → List Finding → Option ℕ → L → Typ
       → (count : ℕ) × (count ≤ step.number) × (count + walk.watch.left ≡ 256 * walk.watch.looks)
   step-fits now walk step rest h = (length h.met, h.count, h.watches.due)
 
-  pub step-on : (before now : L) (old new : Walk) (watch : Watch) (step : Step)
+  pub step-on : (before now : L) (old asked new : Walk) (step : Step) → asked ≡ record old { watch = asked.watch }
       → ((start : L) (whole : List Finding) (met left : List ℕ) → old.found.items ≡ found_before step.number whole
       → Watches answers start before whole met (step.number ∷ left) old.watch
-      → Watches answers start now whole (met ++ step.number ∷ []) left watch)
-      → IsCounted (record old { watch = watch }) step new → HasRoomAt (step.number + 1) new.entry → is_met old.entry step ≡ true
+      → Watches answers start now whole (met ++ step.number ∷ []) left asked.watch)
+      → IsCounted asked step new → HasRoomAt (step.number + 1) new.entry → is_met old.entry step ≡ true
       → (rest : List Step) → IsAt answers run before old step.number (step ∷ rest) → IsAt answers run now new (step.number + 1) rest
-  step-on before now old new watch step goes counted room met rest h =
-      let met_on = counted-met (record old { watch = watch }) new step rest counted met in
+  step-on before now old asked new step kept goes counts room met rest h =
+      let counted = subst (λ (walk : Walk). IsCounted walk step new) kept counts in
+      let met_on = counted-met (record old { watch = asked.watch }) new step rest counted met in
       let one = length-append h.met (step.number ∷ []) in
       let count = h.count in
       record {
@@ -285,8 +289,8 @@ module _ {L : Type 0} (answers : L → List Finding → Option ℕ → L → Typ
             (numbered-more (λ n. n < step.number) (λ n. n < step.number + 1) (λ n p. omega arith) old.found.items h.below)
             (shown-numbered (λ n. n < step.number + 1) old.credits_shown (in_order (stream_said old.stream old.initial old.entry step))
             (said-numbered old.stream old.initial old.entry step h.streamed (λ n. n < step.number + 1) (omega arith))));
-        found = counted-found (record old { watch = watch }) new step rest counted ∙ h.found;
-        entry = counted-entry (record old { watch = watch }) new step rest counted ∙ h.entry;
+        found = counted-found (record old { watch = asked.watch }) new step rest counted ∙ h.found;
+        entry = counted-entry (record old { watch = asked.watch }) new step rest counted ∙ h.entry;
         met = h.met ++ step.number ∷ [];
         count = omega arith;
         numbers = append_assoc h.met (step.number ∷ []) (met_by new rest) ∙ ap (λ l. h.met ++ l) (sym met_on) ∙ h.numbers;
@@ -297,28 +301,28 @@ module _ {L : Type 0} (answers : L → List Finding → Option ℕ → L → Typ
             (subst (λ l. Watches answers run.start before run.found h.met l old.watch) met_on h.watches));
       }
 
-  pub step-stops : (before now : L) (old : Walk) (watch : Watch) (step : Step)
+  pub step-stops : (before now : L) (old asked : Walk) (step : Step) → asked ≡ record old { watch = asked.watch }
       → ((start : L) (whole : List Finding) (met left : List ℕ) → old.found.items ≡ found_before step.number whole
       → Watches answers start before whole met (step.number ∷ left) old.watch
-      → IsStopped answers start now whole (met ++ step.number ∷ left) step.number watch)
+      → IsStopped answers start now whole (met ++ step.number ∷ left) step.number asked.watch)
       → is_met old.entry step ≡ true → (rest : List Step) → IsAt answers run before old step.number (step ∷ rest)
-      → HasStopped answers run now (record old { watch = watch })
-  step-stops before now old watch step stop met rest h =
+      → HasStopped answers run now asked
+  step-stops before now old asked step kept stop met rest h =
       let left = met_from old.stream (initial_after step.change old.initial) (stream_after old.stream old.initial old.entry step) rest in
       let met_on : met_by old (step ∷ rest) ≡ step.number ∷ left = rw (met) refl in
       let at = at-next before old step rest h in
       let stopped = stop run.start run.found h.met left at
       (subst (λ l. Watches answers run.start before run.found h.met l old.watch) met_on h.watches) in
-      let quiet = past-quiet watch.stop step.number (step ∷ rest) stopped.past
+      let quiet = past-quiet asked.watch.stop step.number (step ∷ rest) stopped.past
       (fall-from 0 [] step.number (numbers_of rest) h.rise) in
-      record {
+      subst (HasStopped answers run now) (sym kept) (record {
         number = step.number;
         found = at;
-        stopped = subst (λ l. IsStopped answers run.start now run.found l step.number watch)
+        stopped = subst (λ l. IsStopped answers run.start now run.found l step.number asked.watch)
             (ap (λ l. h.met ++ l) (sym met_on) ∙ h.numbers) stopped;
-        opened = sym (opened-later watch.stop old.stream old.initial old.entry (step ∷ rest) h.own quiet)
-            ∙ ap (λ (entry : Stream). opened_up_to watch.stop entry.life.opened) h.entry;
-      }
+        opened = sym (opened-later asked.watch.stop old.stream old.initial old.entry (step ∷ rest) h.own quiet)
+            ∙ ap (λ (entry : Stream). opened_up_to asked.watch.stop entry.life.opened) h.entry;
+      })
 
   -- ---- changes one by one
 

@@ -1,12 +1,13 @@
-ghost use Rattle.std.specs.Prelude.{◌≡◌, ℕ, ◌+◌, ◌-◌, ◌^◌, ◌<◌, ◌≤◌, [], ◌∷◌, true, List, OnOk, IfOk};
+ghost use Rattle.std.specs.Prelude.{◌≡◌, ℕ, ◌+◌, ◌-◌, ◌*◌, ◌^◌, ◌<◌, ◌≤◌, [], ◌∷◌, ◌++◌, true, List, OnOk, IfOk};
 ghost use Rattle.std.specs.Bool.{OnTrue, OnFalse};
 ghost use Rattle.audit_terms.specs.declared.frames.Frame.{Frame};
 ghost use Rattle.audit_terms.specs.declared.items.Step.{Step};
 ghost use Rattle.audit_terms.specs.declared.findings.Finding.{Finding as FindingTerm};
 ghost use Rattle.audit_terms.specs.InForce.{initial_in_force};
+ghost use Rattle.audit_terms.specs.Look.{found_before, steps_between};
 ghost use Rattle.audit_terms.specs.Run.{change_step};
 ghost use Rattle.audit_terms.specs.Stream.{IsAcknowledged, idle_stream, initial_after, stream_after};
-ghost use Rattle.audit_terms.specs.code.Watch.{Watches, NeverFallFrom};
+ghost use Rattle.audit_terms.specs.code.Watch.{Watches, IsStopped, NeverFallFrom};
 ghost use Rattle.stream_credit.specs.Looks.{is_live, is_met};
 ghost use Rattle.stream_credit.specs.code.Merged.{frame_with};
 ghost use Rattle.stream_credit.specs.code.Left.{after_changes, IsInForce};
@@ -131,6 +132,24 @@ impl Walk {
         Ok(())
     }
 
+    /// Whether the walk goes on to a step of this number, before which it looks if that is due. The look is handed all
+    /// that the steps before show.
+    fn goes_on<L: Look>(&mut self, look: &mut L, number: u32) -> bool
+        requires { (met : ℕ) × (met ≤ number) × (met + self.old.watch.left ≡ steps_between * self.old.watch.looks) }
+        ensures kept { self.new ≡ record self.old { watch = self.new.watch } }
+        ensures goes_on { OnTrue result ((start : L) (whole : List FindingTerm) (met left : List ℕ)
+            → self.old.found.items ≡ found_before number whole
+            → Watches L.answers start look.old whole met (number ∷ left) self.old.watch
+            → Watches L.answers start look.new whole (met ++ number ∷ []) left self.new.watch) }
+        ensures stops { OnFalse result ((start : L) (whole : List FindingTerm) (met left : List ℕ)
+            → self.old.found.items ≡ found_before number whole
+            → Watches L.answers start look.old whole met (number ∷ left) self.old.watch
+            → IsStopped L.answers start look.new whole (met ++ number ∷ left) number self.new.watch) }
+    {
+        let found = self.found.as_slice();
+        self.watch.goes_on(look, found, number)
+    }
+
     /// Meets one step, unless it lies past the place at which its connection stops, and answers whether it met it.
     fn meet<L: Look>(&mut self, look: &mut L, step: &Step) -> Result<bool, AllocError>
         requires numbered { step.now.number ≤ 2 ^ 28 - 2 }
@@ -149,8 +168,7 @@ impl Walk {
         ensures entry { IfOk result (λ goes_on. OnTrue goes_on
             (self.new.entry ≡ stream_after self.old.stream self.old.initial self.old.entry step.now)) }
     {
-        let found = self.found.as_slice();
-        if !self.watch.goes_on(look, found, step.number) {
+        if !self.goes_on(look, step.number) {
             return Ok(false);
         }
         self.count(step)?;
@@ -262,8 +280,7 @@ impl Walk {
         ensures initial { IfOk result (λ goes_on. OnTrue goes_on
             (self.new.initial ≡ initial_after change.now self.old.initial)) }
     {
-        let found = self.found.as_slice();
-        if !self.watch.goes_on(look, found, frame.number) {
+        if !self.goes_on(look, frame.number) {
             return Ok(false);
         }
         self.count_frame(frame, change)?;
