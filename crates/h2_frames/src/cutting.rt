@@ -11,12 +11,18 @@ use crate::connections::Cut;
 use crate::order::in_capture_order;
 use crate::pieces::Pieces;
 use crate::unread::Unread;
-use audit_terms::{Side, Sides};
+use audit_terms::{Frame, Side, Sides};
 use std::alloc::{AllocError, Global};
 use tcp_streams::Flow;
 
 /// The frames of both sides in capture order, where `rest` follows the client's preface.
-fn http2(alloc: Global, rest: Pieces<'_>, client: &Flow, server: &Flow) -> Result<Cut, AllocError>
+fn http2(
+    alloc: Global,
+    rest: Pieces<'_>,
+    client: &Flow,
+    server: &Flow,
+    room: Vec<Frame>,
+) -> Result<Cut, AllocError>
     requires counted { IsCounted rest }
     requires begins { BeginsWithPreface (bytes_of client.now) (bytes_left rest) }
     requires client { IsOrderly client.now }
@@ -31,7 +37,7 @@ fn http2(alloc: Global, rest: Pieces<'_>, client: &Flow, server: &Flow) -> Resul
     let arrivals = server.arrivals.as_slice();
     let answers = Pieces::of(server.pieces.as_slice());
     let mut answered = Unread::of(alloc, Side::Server, answers, 0, arrivals)?;
-    let frames = in_capture_order(alloc, &mut sent, &mut answered)?;
+    let frames = in_capture_order(&mut sent, &mut answered, room)?;
     let tails = Sides {
         client: sent.tail(),
         server: answered.tail(),
@@ -47,7 +53,10 @@ fn http2(alloc: Global, rest: Pieces<'_>, client: &Flow, server: &Flow) -> Resul
 /// preface (RFC 9113, 3.4): [`Cut::NoPreface`] where they end within it, [`Cut::NotHttp2`] where they do not begin with
 /// it. The frames of [`Cut::Http2`] are numbered from 1 in capture order. One pass over each flow; a frame is
 /// copied only where it lies in several pieces and its payload matters, into a buffer that the next one uses again.
-pub fn cut(alloc: Global, client: &Flow, server: &Flow) -> Result<Cut, AllocError>
+///
+/// The frames are put in the memory of `room`, whose elements are dropped. It may be empty, and then the list grows as it
+/// is filled, as it does where there are more frames than `room` has memory for. Where there are no frames it is dropped.
+pub fn cut(alloc: Global, client: &Flow, server: &Flow, room: Vec<Frame>) -> Result<Cut, AllocError>
     requires client { IsOrderly client.now }
     requires server { IsOrderly server.now }
     requires together { length (bytes_of client.now) + length (bytes_of server.now) < 2 ^ 31 }
@@ -70,6 +79,6 @@ pub fn cut(alloc: Global, client: &Flow, server: &Flow) -> Result<Cut, AllocErro
     match beginning_of(bytes) {
         Beginning::CutShort => Ok(Cut::NoPreface),
         Beginning::Other => Ok(Cut::NotHttp2),
-        Beginning::Preface(rest) => http2(alloc, rest, client, server),
+        Beginning::Preface(rest) => http2(alloc, rest, client, server, room),
     }
 }

@@ -18,7 +18,8 @@
 //!
 //! The definition of a spelling is a grammar by cases on the list of frames, and the order an insertion sort. The code
 //! follows neither: it reads both flows through cursors, each with its next frame read ahead, and the frame that stands
-//! first goes into the one list. A cursor takes bytes that lie in pieces; a frame within one piece is read in place;
+//! first goes into the one list, for which the caller has the memory ready, or gives an empty list, which grows. No
+//! contract speaks of that memory. A cursor takes bytes that lie in pieces; a frame within one piece is read in place;
 //! another's header and payload are put together in a buffer first, but for data with no padding, whose payload no one
 //! looks at.
 //!

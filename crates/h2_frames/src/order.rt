@@ -9,7 +9,7 @@ ghost use Rattle.h2_frames.specs.code.Unread.{AreMerged, IsReady, weight};
 
 use crate::unread::Unread;
 use audit_terms::Frame;
-use std::alloc::{AllocError, Global};
+use std::alloc::AllocError;
 
 /// Does `x` come after `y`: by record, then by number within its side, then Client before Server?
 fn comes_after(x: &Frame, y: &Frame) -> bool
@@ -54,11 +54,11 @@ fn take_first(client: &mut Unread<'_>, server: &mut Unread<'_>) -> Result<Option
     }
 }
 
-/// The frames of both sides in capture order, numbered from 1. They are all taken out.
+/// The frames of both sides in capture order, numbered from 1. They are all taken out, and put in the memory of `room`.
 pub(crate) fn in_capture_order(
-    alloc: Global,
     client: &mut Unread<'_>,
     server: &mut Unread<'_>,
+    room: Vec<Frame>,
 ) -> Result<Vec<Frame>, AllocError>
     requires client { IsReady client.old }
     requires server { IsReady server.old }
@@ -69,7 +69,8 @@ pub(crate) fn in_capture_order(
     ensures client { IfOk result (λ frames. IsReady client.new) }
     ensures server { IfOk result (λ frames. IsReady server.new) }
 {
-    let mut frames = Vec::new(alloc);
+    let mut frames = room;
+    frames.clear();
     while let Some(mut frame) = take_first(client, server)? {
         frame.number = frames.len() as u32 + 1;
         frames.push(frame)?;

@@ -6,6 +6,7 @@ ghost use Rattle.audit_terms.specs.declared.sides.Side.TheVariants.{Client, Serv
 ghost use Rattle.h2audit.specs.Audited.{IsConnectionCut};
 ghost use Rattle.h2audit.specs.code.Flows.{AreFlows, AreSources, IsSideFlow};
 
+use crate::room::{begin_room, finish_room};
 use audit_report::Extent;
 use audit_terms::{Look, Side, Sides};
 use h2_frames::{Cut, cut};
@@ -94,7 +95,7 @@ impl<'a, 'b> ForSides for Sources<'a, 'b> {
 #[derive(Drop)]
 pub(crate) struct FlowRound<'a, R: Threads + Sync> {
     pub(crate) rt: &'a R,
-    /// Are the flows of a connection made on two threads?
+    /// Are the flows of a connection made on two threads, and room for its frames on a third?
     pub(crate) by_two: bool,
     pub(crate) capture: &'a Capture<'a>,
     pub(crate) packets: &'a Packets<'a>,
@@ -171,8 +172,16 @@ fn cut_connection<R: Threads>(
     requires { AreSources capture.now packets.now connection.now }
     ensures { IfOk result (IsConnectionCut capture.now packets.now connection.now) }
 {
-    let (client, server) = flows_of(rt, alloc, by_two, capture, packets, connection)?;
-    let cut = cut(alloc, &client, &server)?;
+    let maker = if by_two {
+        begin_room(rt, alloc, connection)
+    } else {
+        None
+    };
+    let flows = flows_of(rt, alloc, by_two, capture, packets, connection);
+    // The room is waited for also where the flows want memory.
+    let room = finish_room(rt, alloc, maker);
+    let (client, server) = flows?;
+    let cut = cut(alloc, &client, &server, room)?;
     // Of the flows the report needs their extents alone.
     Ok(ConnectionCut {
         extents: Extent::of_both(&client, &server),
