@@ -1,6 +1,7 @@
 ghost use Rattle.std.specs.Prelude.{◌≡◌, ◌<◌, ◌^◌, IfOk, IfErr, IsTrue, length};
 ghost use Rattle.pcap_records.specs.LinkType.{is_read};
 ghost use Rattle.pcap_records.specs.Place.{AreTimely, AreWithin};
+ghost use Rattle.pcap_records.specs.code.Walk.{IsWalkIn};
 ghost use Rattle.command_line.specs.Choices.{choices};
 ghost use Rattle.h2audit.specs.Report.{IsReport, IsReportOn};
 ghost use Rattle.h2audit.specs.Run.{IsNoReport};
@@ -12,7 +13,7 @@ use audit_report::report;
 use command_line::Options;
 use job_crew::Gate;
 use packet_heads::{Packets, decode_all};
-use pcap_records::{Capture, PcapFault, Records, records, refusal};
+use pcap_records::{Capture, PcapFault, RecordWalk, Records};
 use std::alloc::{AllocError, Global};
 use std::thread::Threads;
 use tcp_streams::connections;
@@ -32,28 +33,31 @@ pub fn audit(
     ensures refused { IfErr result (λ e. IsNoReport capture.now e) }
 {
     // A refusal takes no memory, so it comes before the parts.
-    if let Some(refusal) = refusal(capture) {
-        return Err(AuditFault::Pcap(refusal));
-    }
+    let walk = match RecordWalk::begin(alloc, capture) {
+        Ok(walk) => walk,
+        Err(refusal) => return Err(AuditFault::Pcap(refusal)),
+    };
     match Capture::cut(alloc, capture) {
-        Ok(parts) => audit_parts(rt, alloc, options, &parts, gate),
+        Ok(parts) => audit_parts(rt, alloc, options, walk, &parts, gate),
         Err(_) => Err(AuditFault::OutOfMemory),
     }
 }
 
-/// The report of a capture that is held in parts, and its verdict.
+/// The report of a capture that is held in parts, and its verdict. The walk read a front of the capture's records.
 pub(crate) fn audit_parts(
     rt: &(impl Threads + Sync),
     alloc: Global,
     options: &Options,
+    walk: RecordWalk,
     capture: &Capture<'_>,
     gate: &impl Gate,
 ) -> Result<(Vec<u8>, Verdict), AuditFault>
+    requires { IsWalkIn capture.now walk }
     ensures report { IfOk result
         (λ r. IsReport capture.now (choices options.now).frames_shown r.0.items r.1) }
     ensures refused { IfErr result (λ e. IsNoReport capture.now e) }
 {
-    match records(alloc, capture) {
+    match walk.finish(alloc, capture) {
         Ok(found) => match audit_records(rt, alloc, &found, capture, options, gate) {
             Ok(answer) => Ok(answer),
             Err(_) => Err(AuditFault::OutOfMemory),

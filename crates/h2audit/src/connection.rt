@@ -77,7 +77,7 @@ fn cut_each(
     let workers = division(options).workers as usize;
     let round = FlowRound {
         rt,
-        by_two: opened.len() <= workers / 2,
+        threads: workers.checked_div(opened.len()).unwrap_or(1),
         capture,
         packets,
         opened,

@@ -95,8 +95,8 @@ impl<'a, 'b> ForSides for Sources<'a, 'b> {
 #[derive(Drop)]
 pub(crate) struct FlowRound<'a, R: Threads + Sync> {
     pub(crate) rt: &'a R,
-    /// Are the flows of a connection made on two threads, and room for its frames on a third?
-    pub(crate) by_two: bool,
+    /// How many threads there are for each connection: two make its flows, and a third room for its frames.
+    pub(crate) threads: usize,
     pub(crate) capture: &'a Capture<'a>,
     pub(crate) packets: &'a Packets<'a>,
     pub(crate) opened: &'a [Connection],
@@ -147,7 +147,7 @@ impl<R: Threads + Sync> Round for FlowRound<'_, R> {
         let made = cut_connection(
             self.rt,
             alloc,
-            self.by_two,
+            self.threads,
             self.capture,
             self.packets,
             connection,
@@ -164,7 +164,7 @@ impl<R: Threads + Sync> Round for FlowRound<'_, R> {
 fn cut_connection<R: Threads>(
     rt: &R,
     alloc: Global,
-    by_two: bool,
+    threads: usize,
     capture: &Capture<'_>,
     packets: &Packets<'_>,
     connection: &Connection,
@@ -172,12 +172,12 @@ fn cut_connection<R: Threads>(
     requires { AreSources capture.now packets.now connection.now }
     ensures { IfOk result (IsConnectionCut capture.now packets.now connection.now) }
 {
-    let maker = if by_two {
+    let maker = if 3 <= threads {
         begin_room(rt, alloc, connection)
     } else {
         None
     };
-    let flows = flows_of(rt, alloc, by_two, capture, packets, connection);
+    let flows = flows_of(rt, alloc, threads, capture, packets, connection);
     // The room is waited for also where the flows want memory.
     let room = finish_room(rt, alloc, maker);
     let (client, server) = flows?;
@@ -189,11 +189,11 @@ fn cut_connection<R: Threads>(
     })
 }
 
-/// The flows of both sides.
+/// The flows of both sides, by two threads where there are as many.
 fn flows_of<'a, R: Threads>(
     rt: &R,
     alloc: Global,
-    by_two: bool,
+    threads: usize,
     capture: &Capture<'a>,
     packets: &Packets<'_>,
     connection: &Connection,
@@ -201,7 +201,7 @@ fn flows_of<'a, R: Threads>(
     requires { AreSources capture.now packets.now connection.now }
     ensures { IfOk result (AreFlows capture.now packets.now connection.now) }
 {
-    if by_two {
+    if 2 <= threads {
         flows_by_two(rt, alloc, capture, packets, connection)
     } else {
         flows_in_turn(alloc, capture, packets, connection)

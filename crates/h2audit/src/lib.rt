@@ -24,8 +24,8 @@
 //! 2^31 bytes, at which reading stops, are refused as the whole is. Where the file header refuses a capture, it alone is
 //! kept (`brief`), since what follows changes no answer (`pcap_records::laws::header_refuses`). What is kept and its packets
 //! stand in parts, and nothing is copied from part to part. Round 0 has a job for each connection, which assembles both of
-//! its flows and cuts them; where two threads make the flows, a third makes room for the frames. `audit_rounds` has the
-//! rounds after it. No answer says that a worker was not started (`IsNoReport`).
+//! its flows and cuts them; another thread may make room for the frames meanwhile. `audit_rounds` has the rounds after it.
+//! No answer says that a worker was not started (`IsNoReport`).
 //!
 //! Wrong bodies that the prover refuses: an empty report, a verdict by errors alone, words always refused, options not
 //! heeded. Tested, in `crate_tests`: the texts of faults; in `tests/` at the root: what the program answers to words, whole

@@ -1,5 +1,7 @@
-ghost use Rattle.std.specs.Prelude.{◌≡◌, ◌≢◌, ◌^◌, IfErr, IfOk, IfSome, take};
+ghost use Rattle.std.specs.Prelude.{◌≡◌, ◌≢◌, ◌^◌, IfErr, IfOk, IfSome, Some, take};
 ghost use Rattle.std.specs.Io.KnownBytes.{Appends, Keeps};
+ghost use Rattle.pcap_records.specs.Refusal.{refusal};
+ghost use Rattle.pcap_records.specs.code.Walk.{IsWalkIn};
 ghost use Rattle.byte_accounts.specs.Account.{HaveGiven, IsReadToEnd, IsUnread, IsUnwritten, kept, written};
 ghost use Rattle.h2audit.specs.Account.{IsBrief, Tells};
 ghost use Rattle.command_line.specs.Choices.{choices};
@@ -13,6 +15,7 @@ use crate::verdict::Verdict;
 use byte_accounts::{CaptureReader, ReportWriter, write_report};
 use command_line::Options;
 use job_crew::Gate;
+use pcap_records::{PcapFault, RecordWalk};
 use std::alloc::{AllocError, Global};
 use std::io::{Read, Write};
 use std::thread::Threads;
@@ -48,8 +51,8 @@ pub fn run<R: Read, W: Write>(
         → Keeps (W.contents writer.old.writer) (W.contents writer.new.writer)) }
     ensures judged { IfSome (R.remaining reader.old.reader) (λ bytes. IsJudged bytes reader.new.lacked_memory result) }
 {
-    read_capture(rt, alloc, options.workers(), reader)?;
-    match audit_kept(rt, alloc, options, reader, gate) {
+    let read = read_capture(rt, alloc, options.workers(), reader)?;
+    match audit_kept(rt, alloc, options, reader, read, gate) {
         Ok(Ok((text, verdict))) => {
             writer.begin(text);
             match write_report(writer) {
@@ -65,18 +68,26 @@ pub fn run<R: Read, W: Write>(
     }
 }
 
-/// Audits what is kept of a capture, if there is memory for the list of its parts.
+/// Audits what is kept of a capture, if there is memory for the list of its parts, or answers the refusal that was read.
 fn audit_kept<R: Read>(
     rt: &(impl Threads + Sync),
     alloc: Global,
     options: &Options,
     reader: &CaptureReader<R>,
+    read: Result<RecordWalk, PcapFault>,
     gate: &impl Gate,
 ) -> Result<Result<(Vec<u8>, Verdict), AuditFault>, AllocError>
+    requires walk { IfOk read (IsWalkIn (kept reader.now)) }
+    requires refused { IfErr read (λ e. refusal (kept reader.now) ≡ Some e) }
     ensures report { IfOk result (λ answer. IfOk answer
         (λ r. IsReport (kept reader.now) (choices options.now).frames_shown r.0.items r.1)) }
     ensures refused { IfOk result (λ answer. IfErr answer (λ e. IsNoReport (kept reader.now) e)) }
 {
-    let capture = reader.capture(alloc)?;
-    Ok(audit_parts(rt, alloc, options, &capture, gate))
+    match read {
+        Ok(walk) => {
+            let capture = reader.capture(alloc)?;
+            Ok(audit_parts(rt, alloc, options, walk, &capture, gate))
+        }
+        Err(refusal) => Ok(Err(AuditFault::Pcap(refusal))),
+    }
 }

@@ -11,14 +11,14 @@ abbrev pub ReadsFirst : ByteOrder → Type 0
 ReadsFirst number = (n : ℕ) (xs ys : List ℕ) → n ≤ length xs → number n (xs ++ ys) ≡ number n xs
 
 -- a number within a front of the bytes
-in_front : (number : ByteOrder) → ReadsFirst number → (at : ℕ) (front later : List ℕ) → at + 4 ≤ length front
+pub in_front : (number : ByteOrder) → ReadsFirst number → (at : ℕ) (front later : List ℕ) → at + 4 ≤ length front
     → number 4 (drop at (front ++ later)) ≡ number 4 (drop at front)
 in_front number first at front later fits =
     ap (number 4) (drop-append-le at front later (omega (arith, fits)))
     ∙ first 4 (drop at front) later (omega (arith, length-drop at front, fits))
 
 -- the record behind a header is the same by its front
-same_record : (number : ByteOrder) → ReadsFirst number → (unit at : ℕ) (front later : List ℕ) → 16 ≤ length front
+pub same_record : (number : ByteOrder) → ReadsFirst number → (unit at : ℕ) (front later : List ℕ) → 16 ≤ length front
     → record_at number unit at (front ++ later) ≡ record_at number unit at front
 same_record number first unit at front later fits =
     let seconds = in_front number first 0 front later (omega (arith, fits)) in

@@ -2,4 +2,4 @@ pub mod Fronts
 pub mod Rests
 pub mod Sizes
 pub mod Unique
-pub mod Walk
+pub mod Walking

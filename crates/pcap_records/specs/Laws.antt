@@ -5,6 +5,8 @@ use Rattle.pcap_records.specs.Refusal.{refusal}
 use Rattle.pcap_records.specs.declared.capture.Records.{Records}
 use Rattle.pcap_records.specs.declared.faults.PcapFault.{PcapFault}
 use Rattle.pcap_records.specs.declared.faults.PcapFault.TheVariants.{TooLarge}
+use Rattle.pcap_records.specs.declared.walk.RecordWalk.{RecordWalk}
+use Rattle.pcap_records.specs.code.Walk.{IsWalkIn}
 
 -- two readings of one capture have the same link type, the same records and the same cut record
 abbrev pub OneReading : Type 0
@@ -27,3 +29,7 @@ LargestIsTaken = (capture : List ℕ) → length capture ≡ 2147483647 → refu
 abbrev pub HeaderRefuses : Type 0
 HeaderRefuses = (header rest : List ℕ) (e : PcapFault) → length header ≡ 24 → refusal header ≡ Some e
     → refusal (header ++ rest) ≡ Some e
+
+-- what a walk has read of a front stands, whatever bytes come behind it
+abbrev pub MoreBytesKeepAWalk : Type 0
+MoreBytesKeepAWalk = (front more : List ℕ) (walk : RecordWalk) → IsWalkIn front walk → IsWalkIn (front ++ more) walk

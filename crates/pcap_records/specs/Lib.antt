@@ -6,3 +6,4 @@ pub mod Place
 pub mod Reading
 pub mod Record
 pub mod Refusal
+pub mod code

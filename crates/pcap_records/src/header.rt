@@ -1,11 +1,12 @@
-ghost use Rattle.std.specs.Prelude.{◌≡◌, ◌≤◌, ◌<◌, ◌^◌, IfNone, IsTrue, length};
-ghost use Rattle.pcap_records.specs.FileHeader.{link_of};
+ghost use Rattle.std.specs.Prelude.{◌≡◌, ◌≤◌, ◌<◌, ◌^◌, IfErr, IfNone, IfOk, IsTrue, None, OnOk, Some, length, min};
+ghost use Rattle.pcap_records.specs.FileHeader.{format_of, header_of, link_of, number_of};
 ghost use Rattle.pcap_records.specs.LinkType.{is_read};
-ghost use Rattle.pcap_records.specs.Refusal.{refusal_in};
+ghost use Rattle.pcap_records.specs.Refusal.{refusal_in, refusal_of};
 
-use crate::capture::{ETHERNET, RAW_IP};
+use crate::capture::{Capture, ETHERNET, RAW_IP};
 use crate::faults::PcapFault;
-use byteorder::ByteOrder;
+use crate::format::{Endian, Format, format_of_magic};
+use byteorder::{BigEndian, ByteOrder, LittleEndian};
 
 /// The length of the file header in bytes.
 pub const FILE_HEADER: usize = 24;
@@ -38,5 +39,51 @@ pub fn late_fault<T: ByteOrder>(header: &[u8], size: usize) -> Option<PcapFault>
         Some(PcapFault::TooLarge)
     } else {
         None
+    }
+}
+
+/// The header at the front of a capture, or what there is of it.
+pub fn header(capture: &[u8]) -> &[u8]
+    ensures { result.now ≡ header_of capture.now }
+{
+    &capture[..capture.len().min(FILE_HEADER)]
+}
+
+/// The same of a capture in parts, the first of which has room for it.
+pub fn header_in_parts<'a>(capture: &Capture<'a>) -> &'a [u8]
+    ensures { result.now ≡ header_of capture.now }
+{
+    if capture.len() == 0 {
+        &[]
+    } else {
+        header(capture.from(0))
+    }
+}
+
+/// The format that the header of a capture of this size tells, or the first refusal that applies.
+pub fn format_or_refusal(header: &[u8], size: usize) -> Result<Format, PcapFault>
+    requires { length header.now ≡ min 24 size }
+    ensures known { IfOk result (λ format. format_of header.now ≡ Some format) }
+    ensures taken { OnOk result (refusal_of header.now size ≡ None) }
+    ensures whole { OnOk result (24 ≤ size) }
+    ensures short { OnOk result (size < 2 ^ 31) }
+    ensures unit { IfOk result (λ format. format.unit ≤ 1000) }
+    ensures linked { IfOk result (λ format. IsTrue (is_read (link_of (number_of format.endian) header.now))) }
+    ensures refused { IfErr result (λ fault. refusal_of header.now size ≡ Some fault) }
+{
+    if size < FILE_HEADER {
+        return Err(PcapFault::ShortHeader);
+    }
+    let format = match format_of_magic(header) {
+        Some(format) => format,
+        None => return Err(PcapFault::BadMagic),
+    };
+    let late = match format.endian {
+        Endian::Big => late_fault::<BigEndian>(header, size),
+        Endian::Little => late_fault::<LittleEndian>(header, size),
+    };
+    match late {
+        Some(fault) => Err(fault),
+        None => Ok(format),
     }
 }

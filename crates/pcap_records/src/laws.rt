@@ -1,6 +1,6 @@
 //! Laws of the definitions. The functions do nothing; their contracts are the laws.
 
-ghost use Rattle.pcap_records.specs.Laws.{OneReading, FrontDecides, AllowedIsShort, HeaderRefuses, LargestIsTaken};
+ghost use Rattle.pcap_records.specs.Laws.{OneReading, FrontDecides, AllowedIsShort, HeaderRefuses, LargestIsTaken, MoreBytesKeepAWalk};
 
 /// A capture has one reading: link type, records and cut record are the same in any two.
 pub fn one_reading()
@@ -25,4 +25,9 @@ pub fn largest_is_taken()
 /// A file header that is refused by itself is refused alike, whatever follows it.
 pub fn header_refuses()
     ensures { HeaderRefuses }
+{}
+
+/// What a walk has read of a front of a capture stands, whatever bytes come behind it.
+pub fn more_bytes_keep_a_walk()
+    ensures { MoreBytesKeepAWalk }
 {}

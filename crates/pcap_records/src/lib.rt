@@ -6,7 +6,10 @@
 //! in the order of the numbers of [`PcapFault`]. A [`Capture`] is held in parts; a record's header is read where it
 //! lies, and only one in which two parts meet is copied.
 //!
-//! Its contract pins both answers to definitions that go by the bytes alone: `refusal` of `specs/Refusal.antt` looks at
+//! [`RecordWalk`] does the same in steps: a program that reads a capture piece by piece goes on over the records that have
+//! come, and [`RecordWalk::finish`] answers what `records` does. `records` is such a walk in one step.
+//!
+//! The contract pins both answers to definitions that go by the bytes alone: `refusal` of `specs/Refusal.antt` looks at
 //! the header and the length, and `IsReading` of `specs/Reading.antt` is a relation by cases, a record of 16 header
 //! bytes and the captured ones and then the rest. They share no offset and no loop with the code.
 //!
@@ -17,11 +20,13 @@
 //!   frame numbers 28, and a place is one word.
 //! - [`laws`]: a capture has one reading; its first 2^31 bytes are refused exactly as the whole, so that a program may
 //!   stop reading there; a header that is refused by itself is refused alike whatever follows it, so that a program need
-//!   not keep that; a capture of 2^31 - 1 bytes is not too large, which no test could afford.
+//!   not keep that; a capture of 2^31 - 1 bytes is not too large, which no test could afford; what a walk has read of a
+//!   front stands whatever bytes come behind it.
 //! - [`worked_examples`]: the four magics, each refusal at the value that decides, their order, times in both units,
 //!   cut records.
 //!
-//! A wrong body that the prover refuses: the original length of a record taken for the captured one. Tested, in
+//! Wrong bodies that the prover refuses: the original length of a record taken for the captured one; a walk that begins
+//! with the file header, goes on in another order of bytes, or finishes where the capture is refused. Tested, in
 //! `crate_tests`: that `records` succeeds where there is memory, and how faults print.
 #![tactic(auto)]
 
@@ -32,8 +37,10 @@ mod header;
 pub mod laws;
 mod reading;
 mod rows;
+mod walk;
 pub mod worked_examples;
 
 pub use capture::{CAPTURE_PART, Capture, ETHERNET, RAW_IP, Record, Records};
 pub use faults::PcapFault;
 pub use reading::{records, refusal};
+pub use walk::RecordWalk;

@@ -1,9 +1,7 @@
-ghost use Rattle.std.specs.Prelude.{◌≡◌, ◌≤◌, ◌<◌, ◌+◌, ◌-◌, ◌*◌, ◌^◌, length, drop, IfSome, IfNone, IfOk};
-ghost use Rattle.pcap_records.specs.Place.{AreTimely, RiseFrom};
-ghost use Rattle.pcap_records.specs.Record.{AreRecords, IsNextRecord, captured_length, record_at};
+ghost use Rattle.std.specs.Prelude.{◌≡◌, ◌≤◌, ◌<◌, ◌+◌, ◌-◌, ◌^◌, length, drop, IfSome, IfNone, IfOk};
+ghost use Rattle.pcap_records.specs.Record.{IsNextRecord, captured_length, record_at};
 
 use crate::capture::{Capture, Record};
-use crate::header::FILE_HEADER;
 use byteorder::ByteOrder;
 use std::alloc::{AllocError, Global};
 
@@ -40,7 +38,7 @@ fn record_behind<T: ByteOrder>(front: &[u8], at: usize, size: usize, unit: u64) 
 /// The record that begins at an offset, if a whole one stands there.
 ///
 /// Its header is read where it lies; one in which parts of the capture meet is gathered first.
-fn next_record<T: ByteOrder>(
+pub fn next_record<T: ByteOrder>(
     alloc: Global,
     capture: &Capture<'_>,
     at: usize,
@@ -60,29 +58,4 @@ fn next_record<T: ByteOrder>(
     }
     let header = capture.gathered(alloc, at, at + RECORD_HEADER)?;
     Ok(record_behind::<T>(&header, at, size, unit))
-}
-
-/// The whole records of a capture from the end of its file header on, and the offset of what is left.
-pub fn rows_of<T: ByteOrder>(
-    alloc: Global,
-    capture: &Capture<'_>,
-    unit: u64,
-) -> Result<(Vec<Record>, usize), AllocError>
-    requires header { 24 ≤ length capture.now }
-    requires short { length capture.now < 2 ^ 31 }
-    requires unit { unit ≤ 1000 }
-    ensures rows { IfOk result (λ read. AreRecords T.number_of unit 24 (drop 24 capture.now)
-        read.0.items (drop read.1 capture.now)) }
-    ensures offset { IfOk result (λ read. read.1 ≤ length capture.now) }
-    ensures few { IfOk result (λ read. 16 * length read.0.items ≤ length capture.now) }
-    ensures placed { IfOk result (λ read. RiseFrom 24 (length capture.now) read.0.items) }
-    ensures timely { IfOk result (λ read. AreTimely read.0.items) }
-{
-    let mut rows = Vec::new(alloc);
-    let mut at = FILE_HEADER;
-    while let Some(record) = next_record::<T>(alloc, capture, at, unit)? {
-        at = record.start + record.length;
-        rows.push(record)?;
-    }
-    Ok((rows, at))
 }

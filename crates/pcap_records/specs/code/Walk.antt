@@ -1,0 +1,32 @@
+-- A walk over the records at the front of a capture, behind which more bytes may come.
+use Rattle.std.specs.Prelude.{◌≡◌, ◌≤◌, ◌+◌, ◌*◌, ℕ, List, ◌++◌, Some, length, drop}
+use Rattle.pcap_records.specs.FileHeader.{ByteOrder, number_of, header_of, format_of}
+use Rattle.pcap_records.specs.Place.{AreTimely, RiseFrom}
+use Rattle.pcap_records.specs.Record.{AreRecords, BeginsWithRecord}
+use Rattle.pcap_records.specs.declared.capture.Record.{Record}
+use Rattle.pcap_records.specs.declared.walk.RecordWalk.{RecordWalk}
+
+-- whatever bytes come behind a front: what completes the records from `at` on completes all of them
+abbrev pub Completes : ByteOrder → ℕ → List ℕ → List Record → ℕ → Type 0
+Completes number unit front rows at =
+    (more : List ℕ) (rs : List Record) (rest : List ℕ)
+    → AreRecords number unit at (drop at (front ++ more)) rs rest
+    → AreRecords number unit 24 (drop 24 (front ++ more)) (rows ++ rs) rest
+
+-- these rows were read from the front of a capture, and the next record begins at `at`
+pub record AreRead (number : ByteOrder) (unit : ℕ) (front : List ℕ) (rows : List Record) (at : ℕ) : Type 0 where
+  pub completes : Completes number unit front rows at
+  pub high : at ≤ length front
+  pub few : 16 * length rows + 24 ≤ at
+  pub placed : RiseFrom 24 at rows
+  pub timely : AreTimely rows
+
+-- what a walk has read of the front of a capture, as its magic says how to read it
+pub record IsWalkIn (front : List ℕ) (walk : RecordWalk) : Type 0 where
+  pub magic : format_of (header_of front) ≡ Some walk.format
+  pub unit : walk.format.unit ≤ 1000
+  pub read : AreRead (number_of walk.format.endian) walk.format.unit front walk.rows.items walk.at
+
+-- no whole record of the front begins where the walk stands
+abbrev pub IsThrough : List ℕ → RecordWalk → Type 0
+IsThrough front walk = ¬ BeginsWithRecord (number_of walk.format.endian) (drop walk.at front)
