@@ -3,6 +3,9 @@ use Rattle.std.proofs.Common.{◌≡◌, ◌∙◌, ℕ, ◌+◌, ◌^◌, ◌<�
 use Rattle.std.specs.Io.KnownBytes.{Consumes, IsAtEnd}
 use Rattle.std.proofs.KnownBytes.{Consumes-trans}
 use Rattle.std.proofs.lemmas.List.{append-nil, append_assoc, length-take-le, nil_from_length, take-take}
+use Rattle.pcap_records.proofs.Walking.{more_bytes_keep_a_walk_lem}
+use Rattle.pcap_records.specs.code.Walk.{IsWalkIn}
+use Rattle.pcap_records.specs.declared.walk.RecordWalk.{RecordWalk}
 use Rattle.byte_accounts.specs.Account.{HaveGiven, OfGiven, kept}
 use Rattle.byte_accounts.specs.code.Reading.{HasConsumed}
 use Rattle.byte_accounts.specs.declared.capture_reader.CaptureReader.{CaptureReader}
@@ -103,3 +106,11 @@ module _ {R : Type 0} where
       sym (take-take (length (kept first)) (length (kept roomy)) (kept new) (omega (arith, grown, ap length made)))
       ∙ ap (take (length (kept first))) (now ∙ made)
       ∙ before
+
+-- a walk over what was kept stays one over what is kept, where that stands in front
+pub walk_stays : (first new : List ℕ) (walk : RecordWalk) → take (length first) new ≡ first → IsWalkIn first walk → IsWalkIn new walk
+walk_stays first new walk front is =
+    let whole : first ++ drop (length first) new ≡ new =
+    ap (λ (l : List ℕ). l ++ drop (length first) new) (sym front) ∙ take-append-drop (length first) new in
+    subst (λ (bytes : List ℕ). IsWalkIn bytes walk) whole
+    (more_bytes_keep_a_walk_lem first (drop (length first) new) walk is)

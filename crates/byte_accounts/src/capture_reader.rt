@@ -1,12 +1,14 @@
 ghost use Rattle.std.specs.Prelude.{◌≡◌, ◌+◌, ◌^◌, ◌<◌, ◌≤◌, length, take, drop, true, false, IfErr, IfOk, OnOk, OnErr};
 ghost use Rattle.std.specs.Bool.{Decides};
 ghost use Rattle.std.specs.Io.KnownBytes.{Consumes, IsAtEnd};
+ghost use Rattle.pcap_records.specs.code.Walk.{IsWalkIn};
 ghost use Rattle.byte_accounts.specs.Account.{IsUnread, kept};
+ghost use Rattle.byte_accounts.specs.code.Reading.{IsReadingFault, IsSound};
 
 use crate::fault::ReadFault;
 use crate::kept_bytes::KeptBytes;
 use crate::parts_ahead::PartsAhead;
-use pcap_records::Capture;
+use pcap_records::{Capture, RecordWalk};
 use std::alloc::{AllocError, Global};
 use std::io::Read;
 use std::thread::Threads;
@@ -160,6 +162,47 @@ impl<R: Read> CaptureReader<R> {
                 Err(ReadFault::Failed)
             }
         }
+    }
+
+    /// The same. Where it begins a part, another thread walks over the records in what is kept.
+    pub(crate) fn read_beside<T: Threads>(
+        &mut self,
+        ahead: &PartsAhead<'_, T>,
+        walk: &mut RecordWalk,
+    ) -> Result<usize, ReadFault>
+        requires room { length (kept self.old) < self.old.bytes.room }
+        requires unpassed { self.old.passed ≡ 0 }
+        requires unended { self.old.has_ended ≡ false }
+        requires unfailed { self.old.has_failed ≡ false }
+        requires memory { self.old.lacked_memory ≡ false }
+        requires most { self.old.bytes.room ≤ 2 ^ 31 }
+        requires walk { IsWalkIn (kept self.old) walk.old }
+        ensures front { take (length (kept self.old)) (kept self.new) ≡ kept self.old }
+        ensures room { self.new.bytes.room ≡ self.old.bytes.room }
+        ensures grown { length (kept self.old) ≤ length (kept self.new) }
+        ensures within { length (kept self.new) ≤ self.new.bytes.room }
+        ensures count { IfOk result (λ n. length (kept self.new) ≡ length (kept self.old) + n) }
+        ensures bytes { IfOk result (λ n. Consumes (R.remaining self.old.reader) (R.remaining self.new.reader)
+            (drop (length (kept self.old)) (kept self.new))) }
+        ensures end { IfOk result (λ n. n ≡ 0 → IsAtEnd (R.remaining self.new.reader)) }
+        ensures ended { IfOk result (λ n. n ≡ 0 → self.new.has_ended ≡ true) }
+        ensures unended { IfOk result (λ n. 0 < n → self.new.has_ended ≡ false) }
+        ensures ok { OnOk result (IsSound self.new) }
+        ensures err { IfErr result (λ e. IsReadingFault e self.new) }
+        ensures passed { self.new.passed ≡ self.old.passed }
+        ensures walk { IsWalkIn (kept self.old) walk.new }
+    {
+        let (read, walked) = self.bytes.read_beside(ahead, &mut self.reader, walk);
+        let Ok(count) = read else {
+            self.has_failed = true;
+            return Err(ReadFault::Failed);
+        };
+        self.has_ended = count == 0;
+        if walked.is_err() {
+            self.lacked_memory = true;
+            return Err(ReadFault::OutOfMemory);
+        }
+        Ok(count)
     }
 
     /// Reads once into the piece, and keeps nothing of it. No read comes after one that failed or found the end.

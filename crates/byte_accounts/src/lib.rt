@@ -9,14 +9,17 @@
 //! What is kept stands in parts of one length, as `pcap_records::Capture` has them. The first part grows by pieces, and
 //! may be moved as it does; no byte behind it is moved once it was read. Later parts are made ahead by other threads
 //! ([`PartsAhead`]), since most of the time of reading goes into memory that is used for the first time; where no thread
-//! can be had, the one that reads makes them.
+//! can be had, the one that reads makes them. While a part is read, [`keep_and_walk`] has another thread walk over the
+//! records in the parts before it.
 //!
-//! The accounts are as honest as the code that enters them: their fields are private; through `read_once`, `pass_once`,
-//! `write_once` and `flush_once` alone the crate calls `read`, `write` and `flush`, and they ask that none follows one
-//! that failed; `make_room` and `lack_memory` enter want of memory. A reader sees this at once; no contract says it.
+//! The accounts are as honest as the code that enters them: their fields are private; through `read_once`,
+//! `read_beside`, `pass_once`, `write_once` and `flush_once` alone the crate calls `read`, `write` and `flush`, and they
+//! ask that none follows one that failed; `make_room`, `read_beside` and `lack_memory` enter want of memory. A reader
+//! sees this at once; no contract says it.
 //!
-//! Wrong bodies that the prover refuses: a read or a write that is told to have filled or taken all. Tested, in
-//! `crate_tests`: which calls readers and writers get. Trusted: that a file or a pipe gives and keeps its bytes.
+//! Wrong bodies that the prover refuses: a read or a write that is told to have filled or taken all; a reading that ends
+//! at half of 2^31 bytes. Tested, in `crate_tests`: which calls readers and writers get. Trusted: that a file or a pipe
+//! gives and keeps its bytes.
 #![tactic(auto)]
 
 mod capture_reader;
@@ -30,6 +33,6 @@ mod writing;
 pub use capture_reader::{CaptureReader, LIMIT};
 pub use fault::{ReadFault, WriteFault};
 pub use parts_ahead::PartsAhead;
-pub use reading::{keep_up_to, pass_over};
+pub use reading::{keep_and_walk, keep_up_to, pass_over};
 pub use report_writer::ReportWriter;
 pub use writing::write_report;

@@ -1,11 +1,13 @@
 ghost use Rattle.std.specs.Prelude.{◌≡◌, ◌+◌, ◌^◌, ◌≤◌, List, Option, true, false, length, take, IfErr, OnOk};
 ghost use Rattle.std.specs.Io.KnownBytes.{IsAtEnd};
+ghost use Rattle.pcap_records.specs.code.Walk.{IsWalkIn};
 ghost use Rattle.byte_accounts.specs.Account.{kept};
 ghost use Rattle.byte_accounts.specs.code.Reading.{HasConsumed, IsReadingFault, IsSound};
 
-use crate::capture_reader::CaptureReader;
+use crate::capture_reader::{CaptureReader, LIMIT};
 use crate::fault::ReadFault;
 use crate::parts_ahead::PartsAhead;
+use pcap_records::RecordWalk;
 use std::io::Read;
 use std::thread::Threads;
 
@@ -38,6 +40,38 @@ pub fn keep_up_to<T: Threads, R: Read>(
     while !reader.has_kept(limit) {
         reader.make_room(limit, ahead)?;
         if reader.read_once()? == 0 {
+            return Ok(());
+        }
+    }
+    Ok(())
+}
+
+/// Reads to the end, or until there are 2^31 bytes, and keeps them, while a walk goes on over the records in them.
+///
+/// Each part is walked over while the next one is read. What is read last is left to the end of the walk.
+pub fn keep_and_walk<T: Threads, R: Read>(
+    ahead: &mut PartsAhead<'_, T>,
+    reader: &mut CaptureReader<R>,
+    walk: &mut RecordWalk,
+) -> Result<(), ReadFault>
+    requires sound { IsSound reader.old }
+    requires room { reader.old.bytes.room ≤ 2 ^ 31 }
+    requires unpassed { reader.old.passed ≡ 0 }
+    requires unended { reader.old.has_ended ≡ false }
+    requires walk { IsWalkIn (kept reader.old) walk.old }
+    ensures sound { OnOk result (IsSound reader.new) }
+    ensures unpassed { reader.new.passed ≡ 0 }
+    ensures front { take (length (kept reader.old)) (kept reader.new) ≡ kept reader.old }
+    ensures whole { OnOk result (reader.new.has_ended ≡ false → length (kept reader.new) ≡ 2 ^ 31) }
+    ensures end { OnOk result (reader.new.has_ended ≡ true → IsAtEnd (R.remaining reader.new.reader)) }
+    ensures bytes { OnOk result ((before : Option (List _)) → HasConsumed before (R.remaining reader.old.reader) reader.old
+        → HasConsumed before (R.remaining reader.new.reader) reader.new) }
+    ensures walk { OnOk result (IsWalkIn (kept reader.new) walk.new) }
+    ensures err { IfErr result (λ e. IsReadingFault e reader.new) }
+{
+    while !reader.has_kept(LIMIT) {
+        reader.make_room(LIMIT, ahead)?;
+        if reader.read_beside(ahead, walk)? == 0 {
             return Ok(());
         }
     }

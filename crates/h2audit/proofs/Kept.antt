@@ -1,11 +1,8 @@
 -- What is kept of a capture answers for all of it.
-use Rattle.std.proofs.Common.{◌≡◌, ◌∙◌, ℕ, List, ◌++◌, length, take, drop, take-append-drop, Some, None, sym, ap, subst}
+use Rattle.std.proofs.Common.{◌≡◌, ◌∙◌, ℕ, length, take, Some, None, sym, ap, subst}
 use Rattle.pcap_records.specs.Refusal.{refusal}
 use Rattle.pcap_records.specs.declared.faults.PcapFault.{PcapFault}
 use Rattle.pcap_records.proofs.Sizes.{header_refuses_lem}
-use Rattle.pcap_records.proofs.Walking.{more_bytes_keep_a_walk_lem}
-use Rattle.pcap_records.specs.code.Walk.{IsWalkIn}
-use Rattle.pcap_records.specs.declared.walk.RecordWalk.{RecordWalk}
 use Rattle.byte_accounts.specs.Account.{OfGiven, kept}
 use Rattle.byte_accounts.specs.declared.capture_reader.CaptureReader.{CaptureReader}
 use Rattle.byte_accounts.proofs.Kept.{given_is_kept}
@@ -32,11 +29,3 @@ module _ {R : Type 0} where
   header_answers reader e size refused given gave =
       let same : refusal given ≡ Some e = ap refusal gave.1 ∙ header_refuses_lem (kept reader) gave.0 e size refused in
       (refused ∙ sym same, λ taken. cc)
-
--- a walk over what was kept stays one over what is kept, where that stands in front
-pub walk_stays : (first new : List ℕ) (walk : RecordWalk) → take (length first) new ≡ first → IsWalkIn first walk → IsWalkIn new walk
-walk_stays first new walk front is =
-    let whole : first ++ drop (length first) new ≡ new =
-    ap (λ (l : List ℕ). l ++ drop (length first) new) (sym front) ∙ take-append-drop (length first) new in
-    subst (λ (bytes : List ℕ). IsWalkIn bytes walk) whole
-    (more_bytes_keep_a_walk_lem first (drop (length first) new) walk is)

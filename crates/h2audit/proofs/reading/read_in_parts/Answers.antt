@@ -5,19 +5,19 @@ use Rattle.byte_accounts.proofs.Kept.{consumed_none, gave_all, gave_front}
 use Rattle.h2audit.proofs.Kept.{header_answers, header_stays, whole_answers}
 use Rattle.h2audit.proofs.reading.read_in_parts.Goals as goal
 
-pub returns-in_ok-walk_and_keep-in-Ok-clause-bytes : goal.returns-in_ok-walk_and_keep-in-Ok-clause-bytes
-returns-in_ok-walk_and_keep-in-Ok-clause-bytes g c =
+pub returns-in_ok-keep_and_walk-in-Ok-clause-bytes : goal.returns-in_ok-keep_and_walk-in-Ok-clause-bytes
+returns-in_ok-keep_and_walk-in-Ok-clause-bytes g c =
     let first = c.args.reader.now in
     let before = g.R.Read.remaining first.reader in
-    let now = c.walk_and_keep.new.reader in
+    let now = c.keep_and_walk.new.reader in
     let header = c.in_ok-keep_up_to.ensures.bytes before (consumed_none before first c.requires.kept c.requires.passed) in
-    let read = c.in_ok-walk_and_keep-in-Ok.ensures.bytes before header in
-    gave_front before (g.R.Read.remaining now.reader) now c.in_ok-walk_and_keep-in-Ok.ensures.sound.limit (λ short. search rules) read
+    let read = c.in_ok-keep_and_walk-in-Ok.ensures.bytes before header in
+    gave_front before (g.R.Read.remaining now.reader) now c.in_ok-keep_and_walk-in-Ok.ensures.sound.limit (λ short. search rules) read
 
-pub returns-in_ok-walk_and_keep-in-Ok-clause-brief : goal.returns-in_ok-walk_and_keep-in-Ok-clause-brief
-returns-in_ok-walk_and_keep-in-Ok-clause-brief g c = λ refused.
+pub returns-in_ok-keep_and_walk-in-Ok-clause-brief : goal.returns-in_ok-keep_and_walk-in-Ok-clause-brief
+returns-in_ok-keep_and_walk-in-Ok-clause-brief g c = λ refused.
     let header = c.keep_up_to.new.reader in
-    let now = c.walk_and_keep.new.reader in
+    let now = c.keep_and_walk.new.reader in
     let read = c.in-Ok.ensures.ok.read in
     let same : c.together.result.now ≡ kept header = c.together.ensures in
     let long : 24 ≤ length (kept header) = omega (arith, ap length same, read.few, read.high) in
@@ -25,7 +25,7 @@ returns-in_ok-walk_and_keep-in-Ok-clause-brief g c = λ refused.
     omega (arith, c.in_ok-keep_up_to.ensures.sound.within, c.keep_up_to.ensures.room) in
     let filled : length (kept header) ≡ 24 = omega (arith, long, short) in
     let taken : refusal (kept header) ≡ None = ap refusal (sym same) ∙ c.in-Ok.ensures.taken in
-    absurd (refused (header_stays header now filled c.walk_and_keep.ensures.front taken))
+    absurd (refused (header_stays header now filled c.keep_and_walk.ensures.front taken))
 
 pub returns-then-has_ended-clause-bytes : goal.returns-then-has_ended-clause-bytes
 returns-then-has_ended-clause-bytes g c =
