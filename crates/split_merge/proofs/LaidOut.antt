@@ -6,11 +6,11 @@ use Rattle.std.proofs.lemmas.List.Edits.{between_more, between_none}
 use Rattle.std.proofs.lemmas.Slice.{between_is}
 use borrow.Author.Tests.{eqb-true, eq-eqb}
 use Rattle.split_merge.specs.declared.splits.StreamRow.{StreamRow}
-use Rattle.std.specs.BTreeMap.{BTreeMap, get}
-use Rattle.std.specs.Ordering.{nat_cmp}
+use Rattle.std.specs.declared.random_state.RandomState.{RandomState}
+use Rattle.indexmap.specs.IndexSet.{IndexSet}
 use Rattle.std.specs.Prelude.{MatchOption}
 use Rattle.split_merge.specs.code.Visits.{streams_in, row_positions, noted, noted_positions, total_of, counted, laid_out, grown, NotAmong, AreDistinct, IsIndex, HasRoomFor, HasPlaceFor, IsFilled, IsPut}
-use Rattle.split_merge.proofs.NamedStreams.{length-streams_in}
+use Rattle.split_merge.proofs.NamedStreams.{row-in, length-streams_in}
 use Rattle.split_merge.proofs.Visited.{noted_positions-append, noted_positions-one, where_so, append-none, three, get-from_slice_get, within-from_slice_get, not_among-at, row-within, positions-here, positions-there, noted-one}
 
 -- ---- the ranges
@@ -240,7 +240,7 @@ filled-streams empty rows notes positions filled =
 -- ---- a visit
 
 module _ (empty : List StreamRow) (all came later : List (ℕ × ℕ)) (total : ℕ) (room : HasRoomFor empty all total)
-    (map : BTreeMap ℕ ℕ) (index : IsIndex (streams_in empty) map)
+    (table : IndexSet ℕ RandomState) (index : IsIndex (streams_in empty) table)
     (absent : (q : ℕ) → NotAmong q (streams_in empty) → noted_positions q all ≡ [])
     (stream position : ℕ) (parts : (came ++ noted stream position) ++ later ≡ all)
     (rows : List StreamRow) (positions : List ℕ) (long : length positions ≡ total)
@@ -313,4 +313,5 @@ module _ (empty : List StreamRow) (all came later : List (ℕ × ℕ)) (total : 
       by_stream true e =
           stays (subst (λ s. NotAmong s (streams_in empty)) (sym (eqb-true stream 0 e)) index.above) (rw e refl)
       by_stream false e =
-          by_row (λ z. true≢false (sym (eq-eqb stream 0 z) ∙ e)) (get nat_cmp map stream) (index.placed stream)
+          let row = row-in (streams_in empty) stream in
+          by_row (λ z. true≢false (sym (eq-eqb stream 0 z) ∙ e)) row.0 row.1

@@ -1,10 +1,8 @@
 -- The streams that frames name, gathered one by one.
 use Rattle.std.proofs.Common.{◌≡◌, ◌≢◌, ℕ, zero, suc, Bool, true, false, not, ◌==◌, ◌||◌, ◌&&◌, cond, List, [], ◌∷◌, ◌++◌, length, slice_get, filter, refl, sym, ap, ◌∙◌, subst, Option, Some, None, MatchOption, is_some, append_assoc, true≢false}
-use Rattle.std.specs.declared.cmp.Ordering.{Ordering}
-use Rattle.std.specs.declared.cmp.Ordering.TheVariants.{Less, Equal, Greater}
-use Rattle.std.specs.Ordering.{nat_cmp, is_eq}
-use Rattle.std.specs.BTreeMap.{BTreeMap, get, IsEmpty}
-use Rattle.std.proofs.lemmas.Cmp.{nat_cmp_total, ranked, tied_itself}
+use Rattle.std.specs.List.{find, list_any}
+use Rattle.std.specs.declared.random_state.RandomState.{RandomState}
+use Rattle.indexmap.specs.IndexSet.{IndexSet, insert_key, IsEmpty}
 use Rattle.split_merge.specs.declared.splits.StreamRow.{StreamRow}
 use borrow.Author.Tests.{eqb-true, eq-eqb}
 use Rattle.audit_terms.specs.Pass.{first_of}
@@ -148,20 +146,32 @@ with-new stream seen z h = step _ refl where
   step true e = absurd (z (eqb-true stream 0 e))
   step false e = rw (e, none_among stream seen h) refl
 
--- what the map answers
-module _ (seen : List ℕ) (positions : BTreeMap ℕ ℕ) (index : IsIndex seen positions) (stream : ℕ) where
-  placed-as : (o : Option ℕ) → get nat_cmp positions stream ≡ o →
-      MatchOption o (NotAmong stream seen) (λ p. slice_get seen p ≡ Some stream)
-  placed-as o e = subst (λ o. MatchOption o (NotAmong stream seen) (λ p. slice_get seen p ≡ Some stream)) e
-      (index.placed stream)
+found-passes : (test : ℕ → Bool) (xs : List ℕ) (x : ℕ) → find test xs ≡ Some x → test x ≡ true
+found-passes test [] x e = cc
+found-passes test (y ∷ xs) x e = step _ refl (found-passes test xs x) where
+  step : (b : Bool) → test y ≡ b → (find test xs ≡ Some x → test x ≡ true) → test x ≡ true
+  step true h later =
+      let f : find test (y ∷ xs) ≡ Some y = rw h refl in
+      let p : Some y ≡ Some x = sym f ∙ e in
+      let q : y ≡ x = cc in
+      subst (λ z. test z ≡ true) q h
+  step false h later =
+      let f : find test (y ∷ xs) ≡ find test xs = rw h refl in
+      later (sym f ∙ e)
 
-  pub among-from_map : (o : Option ℕ) → get nat_cmp positions stream ≡ o → is_some o ≡ true → is_among stream seen ≡ true
-  among-from_map None e h = cc
-  among-from_map (Some place) e h = found_among stream seen place (placed-as (Some place) e)
+-- the row of a stream that the set finds among its keys
+pub row-from_set : (seen : List ℕ) (set : IndexSet ℕ RandomState) → IsIndex seen set → (stream row key : ℕ) →
+    Some key ≡ find (λ other. stream == other) set.keys → slice_get set.keys row ≡ Some key →
+    slice_get seen row ≡ Some stream
+row-from_set seen set index stream row key found at =
+    let e : stream ≡ key = eqb-true stream key (found-passes (λ other. stream == other) set.keys key (sym found)) in
+    subst (λ keys. slice_get keys row ≡ Some stream) index.keys (at ∙ ap Some (sym e))
 
-  pub absent-from_map : (o : Option ℕ) → get nat_cmp positions stream ≡ o → is_some o ≡ false → NotAmong stream seen
-  absent-from_map None e h = placed-as None e
-  absent-from_map (Some place) e h = cc
+-- a stream that the set does not find
+pub absent-from_set : (seen : List ℕ) (set : IndexSet ℕ RandomState) → IsIndex seen set → (stream : ℕ) →
+    list_any (λ other. stream == other) set.keys ≡ false → NotAmong stream seen
+absent-from_set seen set index stream h =
+    none-from_test stream seen (ap (is_among stream) (sym index.keys) ∙ h)
 
 slice_get-append : (xs ys : List ℕ) (i x : ℕ) → slice_get xs i ≡ Some x → slice_get (xs ++ ys) i ≡ Some x
 slice_get-append [] ys i x e = cc
@@ -180,44 +190,44 @@ distinct-append : (s : ℕ) (xs : List ℕ) → NotAmong s xs → AreDistinct xs
 distinct-append s [] n h = (tt, tt)
 distinct-append s (x ∷ xs) n h = (not_among-append x s xs h.0 (λ e. n.0 (sym e)), distinct-append s xs n.1 h.1)
 
-match-append : (q s : ℕ) (seen : List ℕ) (o : Option ℕ) → q ≢ s →
-    MatchOption o (NotAmong q seen) (λ p. slice_get seen p ≡ Some q) →
-    MatchOption o (NotAmong q (seen ++ s ∷ [])) (λ p. slice_get (seen ++ s ∷ []) p ≡ Some q)
-match-append q s seen None n h = not_among-append q s seen h n
-match-append q s seen (Some p) n h = slice_get-append seen (s ∷ []) p q h
+-- the row of a stream, if it has one
+pub row-in : (streams : List ℕ) (stream : ℕ) →
+    (o : Option ℕ) × MatchOption o (NotAmong stream streams) (λ row. slice_get streams row ≡ Some stream)
+row-in [] stream = (None, tt)
+row-in (x ∷ xs) stream = here _ refl (row-in xs stream) where
+  later : stream ≢ x → (o : Option ℕ) × MatchOption o (NotAmong stream xs) (λ row. slice_get xs row ≡ Some stream) →
+      (o : Option ℕ) × MatchOption o (NotAmong stream (x ∷ xs)) (λ row. slice_get (x ∷ xs) row ≡ Some stream)
+  later apart (None, out) = (None, (apart, out))
+  later apart (Some row, at) = (Some (suc row), at)
 
-same_from_cmp : (x y : ℕ) (o : Ordering) → nat_cmp x y ≡ o → is_eq o ≡ true → x ≡ y
-same_from_cmp x y Less e h = cc
-same_from_cmp x y Equal e h = ranked x y Equal (sym e)
-same_from_cmp x y Greater e h = cc
-
-apart_from_cmp : (x y : ℕ) → is_eq (nat_cmp x y) ≡ false → y ≢ x
-apart_from_cmp x y e p =
-    let same : nat_cmp x x ≡ Equal = tied_itself nat_cmp_total x in
-    let here : nat_cmp x y ≡ Equal = ap (nat_cmp x) p ∙ same in
-    true≢false (sym (ap is_eq here) ∙ e)
+  here : (b : Bool) → (stream == x) ≡ b →
+      (o : Option ℕ) × MatchOption o (NotAmong stream xs) (λ row. slice_get xs row ≡ Some stream) →
+      (o : Option ℕ) × MatchOption o (NotAmong stream (x ∷ xs)) (λ row. slice_get (x ∷ xs) row ≡ Some stream)
+  here true e rest = (Some zero, ap Some (sym (eqb-true stream x e)))
+  here false e rest = later (not_here stream x _ refl e) rest
 
 -- one more stream
-pub index-more : (seen : List ℕ) (before after : BTreeMap ℕ ℕ) (stream : ℕ) → stream ≢ 0 → IsIndex seen before → NotAmong stream seen →
-    ((q : ℕ) → get nat_cmp after q ≡ cond (is_eq (nat_cmp stream q)) (Some (length seen)) (get nat_cmp before q)) →
-    IsIndex (seen ++ stream ∷ []) after
-index-more seen before after stream above index new updates = record {
+pub index-more : (seen : List ℕ) (before after : IndexSet ℕ RandomState) (stream : ℕ) → stream ≢ 0 → IsIndex seen before →
+    NotAmong stream seen → after.keys ≡ insert_key (λ a b. a == b) before.keys stream → IsIndex (seen ++ stream ∷ []) after
+index-more seen before after stream above index new keys = record {
   distinct = distinct-append stream seen new index.distinct;
   above = not_among-append 0 stream seen index.above (λ e. above (sym e));
-  placed = λ q. step q _ refl;
-} where
-  step : (q : ℕ) (b : Bool) → is_eq (nat_cmp stream q) ≡ b →
-      MatchOption (get nat_cmp after q) (NotAmong q (seen ++ stream ∷ []))
-      (λ p. slice_get (seen ++ stream ∷ []) p ≡ Some q)
-  step q true e =
-      let u : get nat_cmp after q ≡ Some (length seen) = updates q ∙ (rw e refl) in
-      let k : slice_get (seen ++ stream ∷ []) (length seen) ≡ Some q = slice_get-last seen stream
-      ∙ ap Some (same_from_cmp stream q _ refl e) in
-      rw u k
-  step q false e =
-      let u : get nat_cmp after q ≡ get nat_cmp before q = updates q ∙ (rw e refl) in
-      rw u (match-append q stream seen (get nat_cmp before q) (apart_from_cmp stream q e)
-      (index.placed q))
+  keys =
+      let none : is_among stream before.keys ≡ false = ap (is_among stream) index.keys ∙ none_among stream seen new in
+      let put : insert_key (λ a b. a == b) before.keys stream ≡ before.keys ++ stream ∷ [] = rw none refl in
+      keys ∙ put ∙ ap (λ l. l ++ stream ∷ []) index.keys;
+}
+
+-- a stream that is there already
+pub index-same : (seen : List ℕ) (before after : IndexSet ℕ RandomState) (stream : ℕ) → IsIndex seen before →
+    is_among stream before.keys ≡ true → after.keys ≡ insert_key (λ a b. a == b) before.keys stream → IsIndex seen after
+index-same seen before after stream index here keys = record {
+  distinct = index.distinct;
+  above = index.above;
+  keys =
+      let put : insert_key (λ a b. a == b) before.keys stream ≡ before.keys = rw here refl in
+      keys ∙ put ∙ index.keys;
+}
 
 pub streams_in-push : (rows : List StreamRow) (row : StreamRow) → streams_in (rows ++ row ∷ []) ≡ streams_in rows
     ++ row.stream ∷ []
@@ -235,10 +245,10 @@ without-none (x ∷ xs) = ap (λ l. x ∷ l) (without-none xs)
 pub named-first : (streams : List ℕ) → [] ++ without [] streams ≡ streams
 named-first streams = without-none streams
 
--- a map of no entry
-pub index-empty : (positions : BTreeMap ℕ ℕ) → IsEmpty positions → IsIndex [] positions
-index-empty positions e = record {
+-- a set of no stream
+pub index-empty : (set : IndexSet ℕ RandomState) → IsEmpty set → IsIndex [] set
+index-empty set e = record {
   distinct = tt;
   above = tt;
-  placed = λ q. rw e tt;
+  keys = e;
 }

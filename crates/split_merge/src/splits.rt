@@ -5,8 +5,9 @@ ghost use Rattle.split_merge.specs.code.Visits.{HasPlaceFor, HasRoomFor, IsFille
 
 use crate::visits::{Visits, known_row};
 use audit_terms::Frame;
+use indexmap::IndexSet;
 use std::alloc::{AllocError, Global};
-use std::collections::BTreeMap;
+use std::hash::RandomState;
 
 /// A stream, and the range of its frames' positions in the list of a split.
 #[derive(Clone, Copy)]
@@ -36,11 +37,11 @@ impl SplitFrames {
 }
 
 /// The frames of a connection by stream, each where its own stream meets it and where the stream that it promises does.
-pub fn split(alloc: Global, frames: &[Frame]) -> Result<SplitFrames, AllocError>
+pub fn split(alloc: Global, keys: RandomState, frames: &[Frame]) -> Result<SplitFrames, AllocError>
     requires { length frames.now < 2 ^ 28 }
     ensures { IfOk result (IsSplit frames.now) }
 {
-    let table = Visits::of(alloc, frames)?;
+    let table = Visits::of(alloc, keys, frames)?;
     let mut rows = table.rows;
     let total = lay_out(&mut rows);
     let positions = place(alloc, &mut rows, &table.index, frames, total)?;
@@ -68,7 +69,7 @@ fn lay_out(rows: &mut [StreamRow]) -> u32
 fn place(
     alloc: Global,
     rows: &mut [StreamRow],
-    index: &BTreeMap<u32, u32>,
+    index: &IndexSet<u32, RandomState>,
     frames: &[Frame],
     total: u32,
 ) -> Result<Vec<u32>, AllocError>
@@ -102,11 +103,11 @@ fn place(
 fn put_visit(
     positions: &mut Vec<u32>,
     rows: &mut [StreamRow],
-    index: &BTreeMap<u32, u32>,
-    last: u32,
+    index: &IndexSet<u32, RandomState>,
+    last: usize,
     stream: u32,
     position: u32,
-) -> u32
+) -> usize
     requires index { IsIndex (streams_in rows.old) index.now }
     requires place { HasPlaceFor stream rows.old (length positions.old.items) }
     requires short { length positions.old.items < 2 ^ 32 }
@@ -115,7 +116,7 @@ fn put_visit(
     let Some(row) = known_row(rows, index, last, stream) else {
         return last;
     };
-    put(positions, &mut rows[row as usize], position);
+    put(positions, &mut rows[row], position);
     row
 }
 

@@ -1,30 +1,28 @@
 ghost use Rattle.std.specs.Prelude.{◌≡◌, ◌≢◌, ℕ, ◌*◌, ◌+◌, ◌^◌, ◌<◌, ◌++◌, List, IfOk, MatchOption, OnOk, Some, length, slice_get};
 ghost use Rattle.std.specs.Bool.{OnTrue};
-ghost use Rattle.std.specs.BTreeMap.{get};
-ghost use Rattle.std.specs.Ordering.{nat_cmp};
 ghost use Rattle.audit_terms.specs.Pass.{streams_of};
 ghost use Rattle.split_merge.specs.code.Visits.{HasAtMost, IsIndex, IsTableOf, NotAmong, counted, noted, notes_from, streams_in, with_row, with_stream};
 
 use crate::splits::StreamRow;
 use audit_terms::Frame;
+use indexmap::IndexSet;
 use std::alloc::{AllocError, Global};
-use std::collections::BTreeMap;
+use std::hash::RandomState;
 
-/// The streams that meet the frames seen so far. An ordered map, since a capture could choose streams that collide in
-/// a hash.
+/// The streams that meet the frames seen so far, in order of their first frames.
 #[derive(Drop)]
 pub struct Visits {
     /// A row for each stream, whose range is as long as the stream's visits are many.
     pub rows: Vec<StreamRow>,
-    /// The index of each stream's row.
-    pub index: BTreeMap<u32, u32>,
+    /// The streams of the rows, each at the index of its row.
+    pub index: IndexSet<u32, RandomState>,
     /// The row sought last: often the next one too, since frames of one stream follow one another.
-    pub last: u32,
+    pub last: usize,
 }
 
 impl Visits {
     /// The streams that meet some frames.
-    pub fn of(alloc: Global, frames: &[Frame]) -> Result<Visits, AllocError>
+    pub fn of(alloc: Global, keys: RandomState, frames: &[Frame]) -> Result<Visits, AllocError>
         requires { length frames.now < 2 ^ 28 }
         ensures streams { IfOk result (λ table. streams_in table.rows.items ≡ streams_of frames.now) }
         ensures table { IfOk result (IsTableOf (notes_from 0 frames.now)) }
@@ -32,7 +30,7 @@ impl Visits {
     {
         let mut table = Visits {
             rows: Vec::new(alloc),
-            index: BTreeMap::new(alloc),
+            index: IndexSet::with_hasher(alloc, keys),
             last: 0,
         };
         for frame in frames {
@@ -57,12 +55,12 @@ impl Visits {
         }
         let row = self.row_of(stream)?;
         self.last = row;
-        count(&mut self.rows[row as usize]);
+        count(&mut self.rows[row]);
         Ok(())
     }
 
     /// The index of a stream's row, which is made where there is none yet.
-    fn row_of(&mut self, stream: u32) -> Result<u32, AllocError>
+    fn row_of(&mut self, stream: u32) -> Result<usize, AllocError>
         requires index { IsIndex (streams_in self.old.rows.items) self.old.index }
         requires room { length self.old.rows.items < 2 ^ 31 }
         requires above { stream ≢ 0 }
@@ -73,11 +71,10 @@ impl Visits {
         if is_row_of(self.rows.as_slice(), self.last, stream) {
             return Ok(self.last);
         }
-        if let Some(row) = row_in(&self.index, stream) {
+        let (row, added) = self.index.insert_full(stream)?;
+        if !added {
             return Ok(row);
         }
-        let row = self.rows.len() as u32;
-        self.index.insert(stream, row)?;
         self.rows.push(StreamRow {
             stream,
             from: 0,
@@ -87,25 +84,14 @@ impl Visits {
     }
 }
 
-/// The index of a stream's row in the map, if it has one. Streams mostly come in rising order, and the last key is found
-/// without a search.
-fn row_in(index: &BTreeMap<u32, u32>, stream: u32) -> Option<u32>
-    ensures { result ≡ get nat_cmp index.now stream }
-{
-    match index.last_key_value() {
-        Some((last, _)) if *last < stream => None,
-        _ => index.get(&stream).copied(),
-    }
-}
-
 /// The index of a stream's row, if it has one: often that of the row before or the one after it, since rows stand in the
 /// order of the streams' first frames.
 pub fn known_row(
     rows: &[StreamRow],
-    index: &BTreeMap<u32, u32>,
-    last: u32,
+    index: &IndexSet<u32, RandomState>,
+    last: usize,
     stream: u32,
-) -> Option<u32>
+) -> Option<usize>
     requires { IsIndex (streams_in rows.now) index.now }
     ensures { MatchOption result (NotAmong stream (streams_in rows.now))
         (λ row. slice_get (streams_in rows.now) row ≡ Some stream) }
@@ -120,14 +106,15 @@ pub fn known_row(
     if is_row_of(rows, next, stream) {
         return Some(next);
     }
-    index.get(&stream).copied()
+    let (row, _) = index.get_full(&stream)?;
+    Some(row)
 }
 
 /// Is the row at this index the stream's?
-fn is_row_of(rows: &[StreamRow], row: u32, stream: u32) -> bool
+fn is_row_of(rows: &[StreamRow], row: usize, stream: u32) -> bool
     ensures { OnTrue result (slice_get (streams_in rows.now) row ≡ Some stream) }
 {
-    match rows.get(row as usize) {
+    match rows.get(row) {
         Some(found) => found.stream == stream,
         None => false,
     }

@@ -1,8 +1,8 @@
 -- What the table of streams says that a split fills as it walks over the frames.
 use Rattle.std.specs.Prelude.{◌≡◌, ◌≢◌, ℕ, ◌+◌, ◌<◌, ◌≤◌, ◌==◌, ◌||◌, if◌then◌else◌, Bool, false, List, [], ◌∷◌, ◌++◌, map, filter, length, get_or, set, slice_get, MatchOption, Some}
-use Rattle.std.specs.List.{between}
-use Rattle.std.specs.Ordering.{nat_cmp}
-use Rattle.std.specs.BTreeMap.{BTreeMap, get}
+use Rattle.std.specs.List.{between, list_any}
+use Rattle.std.specs.declared.random_state.RandomState.{RandomState}
+use Rattle.indexmap.specs.IndexSet.{IndexSet}
 use Rattle.audit_terms.specs.declared.frames.Frame.{Frame}
 use Rattle.audit_terms.specs.Frame.{promised_by}
 use Rattle.split_merge.specs.declared.splits.StreamRow.{StreamRow}
@@ -47,19 +47,17 @@ AreDistinct (stream ∷ streams) = NotAmong stream streams × AreDistinct stream
 
 -- does the stream stand among these?
 abbrev pub is_among : ℕ → List ℕ → Bool
-is_among stream [] = false
-is_among stream (other ∷ others) = (stream == other) || is_among stream others
+is_among stream streams = list_any (λ other. stream == other) streams
 
 -- the streams, and one more where it is not 0 and not among them
 abbrev pub with_stream : ℕ → List ℕ → List ℕ
 with_stream stream streams = if (stream == 0) || is_among stream streams then streams else streams ++ stream ∷ []
 
--- the map has the index of each of these streams, and of no other; 0 is none of them
-pub record IsIndex (streams : List ℕ) (index : BTreeMap ℕ ℕ) : Type 0 where
+-- the set has these streams in this order; 0 is none of them
+pub record IsIndex (streams : List ℕ) (index : IndexSet ℕ RandomState) : Type 0 where
   pub distinct : AreDistinct streams
   pub above : NotAmong 0 streams
-  pub placed : (stream : ℕ) → MatchOption (get nat_cmp index stream)
-      (NotAmong stream streams) (λ row. slice_get streams row ≡ Some stream)
+  pub keys : index.keys ≡ streams
 
 -- the rows, and one of the stream where it has none
 abbrev pub with_row : (stream : ℕ) → List StreamRow → List StreamRow

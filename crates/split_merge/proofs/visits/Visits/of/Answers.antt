@@ -13,7 +13,7 @@ loop-frame-init c =
     let none = c.new.ensures.items in
     record {
       table = record {
-        index = rw none (index-empty c.new-2.result c.new-2.ensures.empty);
+        index = rw none (index-empty c.with_hasher.result c.with_hasher.ensures.empty);
         listed = listed-none c.new.result.items none;
       };
       named = rw none (named-first (streams_of c.args.frames.now));
