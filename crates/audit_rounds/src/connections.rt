@@ -21,6 +21,7 @@ use job_crew::Gate;
 use split_merge::merge;
 use std::alloc::{AllocError, Global};
 use std::thread::{Threads, join};
+use table_hash::TableHash;
 
 /// Connections made ready, and what is found of each before the rounds.
 #[derive(Drop)]
@@ -76,7 +77,7 @@ pub(crate) fn findings_of_batch<R: Threads + Sync, G: Gate>(
     ensures { IfOk result (λ found. map (λ one. one.items) found.items
         ≡ map (λ frames. shown credits_shown (pass frames.now)) connections.now) }
 {
-    let made = prepare_each(rt, alloc, division.workers, connections)?;
+    let made = prepare_each(rt, alloc, division.workers, division.hash, connections)?;
     let MadeReady { prepared, found } = made;
     let prepared = prepared.as_slice();
     findings_of_prepared(rt, alloc, division, gate, credits_shown, prepared, found)
@@ -126,6 +127,7 @@ fn prepare_in_turn<'a, R: Threads + Sync>(
     rt: &R,
     alloc: Global,
     workers: u32,
+    hash: TableHash,
     connections: &[&'a [Frame]],
 ) -> Result<MadeReady<'a>, AllocError>
     requires workers { 0 < workers }
@@ -134,7 +136,7 @@ fn prepare_in_turn<'a, R: Threads + Sync>(
 {
     let mut made = MadeReady::with_capacity(alloc, connections.len())?;
     for frames in connections {
-        let (ready, before) = prepare(rt, alloc, workers, *frames)?;
+        let (ready, before) = prepare(rt, alloc, workers, hash, *frames)?;
         made.push(ready, before)?;
     }
     Ok(made)
@@ -165,6 +167,7 @@ fn prepare_each<'a, R: Threads + Sync>(
     rt: &R,
     alloc: Global,
     workers: u32,
+    hash: TableHash,
     connections: &[&'a [Frame]],
 ) -> Result<MadeReady<'a>, AllocError>
     requires workers { 0 < workers }
@@ -172,7 +175,7 @@ fn prepare_each<'a, R: Threads + Sync>(
     ensures { IfOk result (λ made. AreMadeReady connections.now made.prepared.items made.found.items) }
 {
     if workers == 1 || connections.len() < 2 {
-        return prepare_in_turn(rt, alloc, workers, connections);
+        return prepare_in_turn(rt, alloc, workers, hash, connections);
     }
     let (front, back) = connections.split_at(middle(connections));
     let half = workers / 2;
@@ -182,11 +185,11 @@ fn prepare_each<'a, R: Threads + Sync>(
         || -> Result<MadeReady<'_>, AllocError>
             requires { IsSync R.row × (0 < half) × All (λ frames. IsOrderly frames.now) front.now }
             ensures { IfOk result (λ made. AreMadeReady front.entry.now made.prepared.items made.found.items) }
-        { prepare_each(rt, alloc, half, front) },
+        { prepare_each(rt, alloc, half, hash, front) },
         || -> Result<MadeReady<'_>, AllocError>
             requires { IsSync R.row × (0 < rest) × All (λ frames. IsOrderly frames.now) back.now }
             ensures { IfOk result (λ made. AreMadeReady back.entry.now made.prepared.items made.found.items) }
-        { prepare_each(rt, alloc, rest, back) },
+        { prepare_each(rt, alloc, rest, hash, back) },
     );
     let mut made = one?;
     let mut more = other?;

@@ -8,6 +8,7 @@ use audit_terms::{Finding, Frame};
 use job_crew::Gate;
 use std::alloc::{AllocError, Global};
 use std::thread::Threads;
+use table_hash::TableHash;
 
 /// How an audit is divided. Whatever is chosen, the findings are the same.
 #[derive(Clone, Copy)]
@@ -18,6 +19,8 @@ pub struct Division {
     pub groups: u32,
     /// How many frames of a connection make a block at most, 1 at least.
     pub block: u32,
+    /// The hash of the tables in which streams are looked up.
+    pub hash: TableHash,
 }
 
 /// How many frames, and how many connections, are in a batch of more than one connection. What the rounds need beside
@@ -35,6 +38,7 @@ impl Division {
             workers: self.workers.max(1),
             groups: self.groups.max(1),
             block: self.block.max(1),
+            hash: self.hash,
         }
     }
 }

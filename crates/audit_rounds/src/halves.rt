@@ -43,11 +43,13 @@ fn halved(division: &Division) -> (Division, Division)
         workers: half,
         groups: division.groups,
         block: division.block,
+        hash: division.hash,
     };
     let other = Division {
         workers: division.workers - half,
         groups: division.groups,
         block: division.block,
+        hash: division.hash,
     };
     (one, other)
 }

@@ -13,6 +13,7 @@ use settings_pair::pair;
 use split_merge::{SplitFrames, split};
 use std::alloc::{AllocError, Global};
 use std::thread::{Threads, join};
+use table_hash::TableHash;
 
 /// The frames of a connection, with what its rounds need beside them.
 #[derive(Drop)]
@@ -60,6 +61,7 @@ fn tell_and_split<R: Threads + Sync>(
     rt: &R,
     alloc: Global,
     workers: u32,
+    hash: TableHash,
     frames: &[Frame],
 ) -> (Result<Told, AllocError>, Result<SplitFrames, AllocError>)
     requires workers { 0 < workers }
@@ -69,7 +71,7 @@ fn tell_and_split<R: Threads + Sync>(
     ensures split { IfOk result.1 (IsSplit frames.now) }
 {
     if workers == 1 || frames.len() < MANY {
-        return (tell(rt, alloc, 1, frames), split(alloc, frames));
+        return (tell(rt, alloc, 1, frames), split(alloc, hash, frames));
     }
     let others = workers as usize - 1;
     join(
@@ -81,7 +83,7 @@ fn tell_and_split<R: Threads + Sync>(
         || -> Result<SplitFrames, AllocError>
             requires { length frames.now < 2 ^ 28 }
             ensures { IfOk result (IsSplit frames.entry.now) }
-        { split(alloc, frames) },
+        { split(alloc, hash, frames) },
     )
 }
 
@@ -91,6 +93,7 @@ pub(crate) fn prepare<'a, R: Threads + Sync>(
     rt: &R,
     alloc: Global,
     workers: u32,
+    hash: TableHash,
     frames: &'a [Frame],
 ) -> Result<(Prepared<'a>, Vec<Finding>), AllocError>
     requires workers { 0 < workers }
@@ -99,7 +102,7 @@ pub(crate) fn prepare<'a, R: Threads + Sync>(
     ensures prepared { IfOk result (λ made. IsPrepared made.0) }
     ensures found { IfOk result (λ made. made.1.items ≡ found_before made.0) }
 {
-    let (told, split) = tell_and_split(rt, alloc, workers, frames);
+    let (told, split) = tell_and_split(rt, alloc, workers, hash, frames);
     let told = told?;
     let split = split?;
     let prepared = Prepared {

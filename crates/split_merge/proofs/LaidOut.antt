@@ -6,7 +6,7 @@ use Rattle.std.proofs.lemmas.List.Edits.{between_more, between_none}
 use Rattle.std.proofs.lemmas.Slice.{between_is}
 use borrow.Author.Tests.{eqb-true, eq-eqb}
 use Rattle.split_merge.specs.declared.splits.StreamRow.{StreamRow}
-use Rattle.std.specs.declared.random_state.RandomState.{RandomState}
+use Rattle.table_hash.specs.declared.TableHash.{TableHash}
 use Rattle.indexmap.specs.IndexSet.{IndexSet}
 use Rattle.std.specs.Prelude.{MatchOption}
 use Rattle.split_merge.specs.code.Visits.{streams_in, row_positions, noted, noted_positions, total_of, counted, laid_out, grown, NotAmong, AreDistinct, IsIndex, HasRoomFor, HasPlaceFor, IsFilled, IsPut}
@@ -240,7 +240,7 @@ filled-streams empty rows notes positions filled =
 -- ---- a visit
 
 module _ (empty : List StreamRow) (all came later : List (ℕ × ℕ)) (total : ℕ) (room : HasRoomFor empty all total)
-    (table : IndexSet ℕ RandomState) (index : IsIndex (streams_in empty) table)
+    (table : IndexSet ℕ TableHash) (index : IsIndex (streams_in empty) table)
     (absent : (q : ℕ) → NotAmong q (streams_in empty) → noted_positions q all ≡ [])
     (stream position : ℕ) (parts : (came ++ noted stream position) ++ later ≡ all)
     (rows : List StreamRow) (positions : List ℕ) (long : length positions ≡ total)

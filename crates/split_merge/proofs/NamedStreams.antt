@@ -1,7 +1,7 @@
 -- The streams that frames name, gathered one by one.
 use Rattle.std.proofs.Common.{◌≡◌, ◌≢◌, ℕ, zero, suc, Bool, true, false, not, ◌==◌, ◌||◌, ◌&&◌, cond, List, [], ◌∷◌, ◌++◌, length, slice_get, filter, refl, sym, ap, ◌∙◌, subst, Option, Some, None, MatchOption, is_some, append_assoc, true≢false}
 use Rattle.std.specs.List.{find, list_any}
-use Rattle.std.specs.declared.random_state.RandomState.{RandomState}
+use Rattle.table_hash.specs.declared.TableHash.{TableHash}
 use Rattle.indexmap.specs.IndexSet.{IndexSet, insert_key, IsEmpty}
 use Rattle.split_merge.specs.declared.splits.StreamRow.{StreamRow}
 use borrow.Author.Tests.{eqb-true, eq-eqb}
@@ -160,7 +160,7 @@ found-passes test (y ∷ xs) x e = step _ refl (found-passes test xs x) where
       later (sym f ∙ e)
 
 -- the row of a stream that the set finds among its keys
-pub row-from_set : (seen : List ℕ) (set : IndexSet ℕ RandomState) → IsIndex seen set → (stream row key : ℕ) →
+pub row-from_set : (seen : List ℕ) (set : IndexSet ℕ TableHash) → IsIndex seen set → (stream row key : ℕ) →
     Some key ≡ find (λ other. stream == other) set.keys → slice_get set.keys row ≡ Some key →
     slice_get seen row ≡ Some stream
 row-from_set seen set index stream row key found at =
@@ -168,7 +168,7 @@ row-from_set seen set index stream row key found at =
     subst (λ keys. slice_get keys row ≡ Some stream) index.keys (at ∙ ap Some (sym e))
 
 -- a stream that the set does not find
-pub absent-from_set : (seen : List ℕ) (set : IndexSet ℕ RandomState) → IsIndex seen set → (stream : ℕ) →
+pub absent-from_set : (seen : List ℕ) (set : IndexSet ℕ TableHash) → IsIndex seen set → (stream : ℕ) →
     list_any (λ other. stream == other) set.keys ≡ false → NotAmong stream seen
 absent-from_set seen set index stream h =
     none-from_test stream seen (ap (is_among stream) (sym index.keys) ∙ h)
@@ -207,7 +207,7 @@ row-in (x ∷ xs) stream = here _ refl (row-in xs stream) where
   here false e rest = later (not_here stream x _ refl e) rest
 
 -- one more stream
-pub index-more : (seen : List ℕ) (before after : IndexSet ℕ RandomState) (stream : ℕ) → stream ≢ 0 → IsIndex seen before →
+pub index-more : (seen : List ℕ) (before after : IndexSet ℕ TableHash) (stream : ℕ) → stream ≢ 0 → IsIndex seen before →
     NotAmong stream seen → after.keys ≡ insert_key (λ a b. a == b) before.keys stream → IsIndex (seen ++ stream ∷ []) after
 index-more seen before after stream above index new keys = record {
   distinct = distinct-append stream seen new index.distinct;
@@ -219,7 +219,7 @@ index-more seen before after stream above index new keys = record {
 }
 
 -- a stream that is there already
-pub index-same : (seen : List ℕ) (before after : IndexSet ℕ RandomState) (stream : ℕ) → IsIndex seen before →
+pub index-same : (seen : List ℕ) (before after : IndexSet ℕ TableHash) (stream : ℕ) → IsIndex seen before →
     is_among stream before.keys ≡ true → after.keys ≡ insert_key (λ a b. a == b) before.keys stream → IsIndex seen after
 index-same seen before after stream index here keys = record {
   distinct = index.distinct;
@@ -246,7 +246,7 @@ pub named-first : (streams : List ℕ) → [] ++ without [] streams ≡ streams
 named-first streams = without-none streams
 
 -- a set of no stream
-pub index-empty : (set : IndexSet ℕ RandomState) → IsEmpty set → IsIndex [] set
+pub index-empty : (set : IndexSet ℕ TableHash) → IsEmpty set → IsIndex [] set
 index-empty set e = record {
   distinct = tt;
   above = tt;

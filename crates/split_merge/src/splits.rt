@@ -7,7 +7,7 @@ use crate::visits::{Visits, known_row};
 use audit_terms::Frame;
 use indexmap::IndexSet;
 use std::alloc::{AllocError, Global};
-use std::hash::RandomState;
+use table_hash::TableHash;
 
 /// A stream, and the range of its frames' positions in the list of a split.
 #[derive(Clone, Copy)]
@@ -37,11 +37,11 @@ impl SplitFrames {
 }
 
 /// The frames of a connection by stream, each where its own stream meets it and where the stream that it promises does.
-pub fn split(alloc: Global, keys: RandomState, frames: &[Frame]) -> Result<SplitFrames, AllocError>
+pub fn split(alloc: Global, hash: TableHash, frames: &[Frame]) -> Result<SplitFrames, AllocError>
     requires { length frames.now < 2 ^ 28 }
     ensures { IfOk result (IsSplit frames.now) }
 {
-    let table = Visits::of(alloc, keys, frames)?;
+    let table = Visits::of(alloc, hash, frames)?;
     let mut rows = table.rows;
     let total = lay_out(&mut rows);
     let positions = place(alloc, &mut rows, &table.index, frames, total)?;
@@ -69,7 +69,7 @@ fn lay_out(rows: &mut [StreamRow]) -> u32
 fn place(
     alloc: Global,
     rows: &mut [StreamRow],
-    index: &IndexSet<u32, RandomState>,
+    index: &IndexSet<u32, TableHash>,
     frames: &[Frame],
     total: u32,
 ) -> Result<Vec<u32>, AllocError>
@@ -103,7 +103,7 @@ fn place(
 fn put_visit(
     positions: &mut Vec<u32>,
     rows: &mut [StreamRow],
-    index: &IndexSet<u32, RandomState>,
+    index: &IndexSet<u32, TableHash>,
     last: usize,
     stream: u32,
     position: u32,

@@ -7,7 +7,7 @@ use crate::splits::StreamRow;
 use audit_terms::Frame;
 use indexmap::IndexSet;
 use std::alloc::{AllocError, Global};
-use std::hash::RandomState;
+use table_hash::TableHash;
 
 /// The streams that meet the frames seen so far, in order of their first frames.
 #[derive(Drop)]
@@ -15,14 +15,14 @@ pub struct Visits {
     /// A row for each stream, whose range is as long as the stream's visits are many.
     pub rows: Vec<StreamRow>,
     /// The streams of the rows, each at the index of its row.
-    pub index: IndexSet<u32, RandomState>,
+    pub index: IndexSet<u32, TableHash>,
     /// The row sought last: often the next one too, since frames of one stream follow one another.
     pub last: usize,
 }
 
 impl Visits {
     /// The streams that meet some frames.
-    pub fn of(alloc: Global, keys: RandomState, frames: &[Frame]) -> Result<Visits, AllocError>
+    pub fn of(alloc: Global, hash: TableHash, frames: &[Frame]) -> Result<Visits, AllocError>
         requires { length frames.now < 2 ^ 28 }
         ensures streams { IfOk result (λ table. streams_in table.rows.items ≡ streams_of frames.now) }
         ensures table { IfOk result (IsTableOf (notes_from 0 frames.now)) }
@@ -30,7 +30,7 @@ impl Visits {
     {
         let mut table = Visits {
             rows: Vec::new(alloc),
-            index: IndexSet::with_hasher(alloc, keys),
+            index: IndexSet::with_hasher(alloc, hash),
             last: 0,
         };
         for frame in frames {
@@ -88,7 +88,7 @@ impl Visits {
 /// order of the streams' first frames.
 pub fn known_row(
     rows: &[StreamRow],
-    index: &IndexSet<u32, RandomState>,
+    index: &IndexSet<u32, TableHash>,
     last: usize,
     stream: u32,
 ) -> Option<usize>

@@ -1,7 +1,7 @@
 -- What the table of streams says that a split fills as it walks over the frames.
 use Rattle.std.specs.Prelude.{◌≡◌, ◌≢◌, ℕ, ◌+◌, ◌<◌, ◌≤◌, ◌==◌, ◌||◌, if◌then◌else◌, Bool, false, List, [], ◌∷◌, ◌++◌, map, filter, length, get_or, set, slice_get, MatchOption, Some}
 use Rattle.std.specs.List.{between, list_any}
-use Rattle.std.specs.declared.random_state.RandomState.{RandomState}
+use Rattle.table_hash.specs.declared.TableHash.{TableHash}
 use Rattle.indexmap.specs.IndexSet.{IndexSet}
 use Rattle.audit_terms.specs.declared.frames.Frame.{Frame}
 use Rattle.audit_terms.specs.Frame.{promised_by}
@@ -54,7 +54,7 @@ abbrev pub with_stream : ℕ → List ℕ → List ℕ
 with_stream stream streams = if (stream == 0) || is_among stream streams then streams else streams ++ stream ∷ []
 
 -- the set has these streams in this order; 0 is none of them
-pub record IsIndex (streams : List ℕ) (index : IndexSet ℕ RandomState) : Type 0 where
+pub record IsIndex (streams : List ℕ) (index : IndexSet ℕ TableHash) : Type 0 where
   pub distinct : AreDistinct streams
   pub above : NotAmong 0 streams
   pub keys : index.keys ≡ streams
