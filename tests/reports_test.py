@@ -23,8 +23,9 @@ from captures import Capture, capture_of, frame_of
 TOP = pathlib.Path(__file__).resolve().parents[1]
 EXAMPLES = TOP / "examples"
 
-# Numbers of workers, of groups, and of frames in a block: the least of each, one between, the most that matter here.
-MIXES = list(itertools.product((1, 2, 64), (1, 3, 1024), (1, 2, 4096)))
+# Numbers of workers, of groups, and of frames in a block: the least of each, some between, the most that matter here. Three
+# workers and five are halved unevenly.
+MIXES = list(itertools.product((1, 2, 3, 5, 64), (1, 3, 1024), (1, 2, 4096)))
 
 # The captures of examples/ whose exit status is 1: one side or the other broke the connection.
 FAULTY = {"connection_overflow_nginx", "stream_overrun_go", "use_after_reset", "zero_increment_nginx"}
@@ -81,28 +82,51 @@ def example(program, capture):
 
 
 def many_frames(program):
-    """10,006 frames in more than 24 MiB: the capture is held in 25 parts of 1 MiB, and the text grows often.
+    """13,606 frames in more than 33 MiB: the capture is held in 34 parts of 1 MiB, and the text grows often.
 
-    A stream sends 5,000 DATA frames of 5,000 bytes, each granted back to the connection at once.
+    A stream sends 6,800 DATA frames of 5,000 bytes, each granted back to the connection at once.
     """
-    rounds = range(5000)
-    capture = capture_of("opened\nC HEADERS 1\nS WINDOW_UPDATE 1 26000000\n" + 5000 * "C DATA 1 5000\nS WINDOW_UPDATE 0 5000\n")
+    rounds = range(6800)
+    capture = capture_of("opened\nC HEADERS 1\nS WINDOW_UPDATE 1 36000000\n" + 6800 * "C DATA 1 5000\nS WINDOW_UPDATE 0 5000\n")
     wanted = """status 0
-capture records 10008 segments 10008 snapped 0 not-ipv4 0 fragments 0 not-tcp 0 refused 0
-connection 1 client 10.0.0.1:40000 server 10.0.0.2:80 record 1 http2 frames 10006
-flow client bytes 25045051 gap none tail 0
-flow server bytes 65031 gap none tail 0
+capture records 13608 segments 13608 snapped 0 not-ipv4 0 fragments 0 not-tcp 0 refused 0
+connection 1 client 10.0.0.1:40000 server 10.0.0.2:80 record 1 http2 frames 13606
+flow client bytes 34061251 gap none tail 0
+flow server bytes 88431 gap none tail 0
 frame 5 record 7 time 7000 client stream-credit stream 1 value 65535
 frame 5 record 7 time 7000 server stream-credit stream 1 value 65535
-frame 6 record 8 time 8000 client stream-credit stream 1 value 26065535
+frame 6 record 8 time 8000 client stream-credit stream 1 value 36065535
 """
-    for frame, left in ((7 + 2 * i, 26060535 - 5000 * i) for i in rounds):
+    for frame, left in ((7 + 2 * i, 36060535 - 5000 * i) for i in rounds):
         wanted += f"""\
 frame {frame} record {frame + 2} time {frame + 2}000 client connection-credit stream 0 value 60535
 frame {frame} record {frame + 2} time {frame + 2}000 client stream-credit stream 1 value {left}
 frame {frame + 1} record {frame + 3} time {frame + 3}000 client connection-credit stream 0 value 65535
 """
-    return len(capture) > 24 * 1048576 and always_answers(program, capture, wanted + "audit of all frames\n", "--frames")
+    return len(capture) > 33 * 1048576 and always_answers(program, capture, wanted + "audit of all frames\n", "--frames")
+
+
+def long_with_error(program, frame):
+    """A connection of 5,000 frames whose error stands at this one: a front of 156 frames is gone through by itself first."""
+    data = "C DATA 1 1\n"
+    script = f"opened\nC HEADERS 1\n{data * (frame - 6)}S WINDOW_UPDATE 9 1\n{data * (5000 - frame)}"
+    wanted = f"""status 1
+capture records 5002 segments 5002 snapped 0 not-ipv4 0 fragments 0 not-tcp 0 refused 0
+connection 1 client 10.0.0.1:40000 server 10.0.0.2:80 record 1 http2 frames 5000
+flow client bytes 49991 gap none tail 0
+flow server bytes 31 gap none tail 0
+frame {frame} record {frame + 2} time {frame + 2}000 server not-opened stream 9 value 8
+audit stopped at frame {frame}
+"""
+    return always_answers(program, capture_of(script), wanted)
+
+
+def error_in_front(program):
+    return long_with_error(program, 101)
+
+
+def error_past_front(program):
+    return long_with_error(program, 4001)
 
 
 def many_openings(program):
@@ -186,7 +210,7 @@ def spelling(_program):
 
 def tests():
     """Each test's name, and what answers whether it is passed."""
-    for test in (spelling, many_frames, many_openings, never_opened, each_prefix):
+    for test in (spelling, many_frames, error_in_front, error_past_front, many_openings, never_opened, each_prefix):
         yield test.__name__, test
     for name, text in rows():
         yield name, lambda program, text=text: row(program, text)
