@@ -122,8 +122,7 @@ class Pictures(unittest.TestCase):
         self.assertTrue(list(PICTURES.glob("*.svg")))
         for picture in PICTURES.glob("*.svg"):
             text = picture.read_text()
-            if f"Matplotlib v{matplotlib.__version__}," not in text:
-                self.skipTest(f"{picture.name} was drawn by another matplotlib")
+            self.assertIn(f"Matplotlib v{matplotlib.__version__},", text, f"{picture.name} was drawn by another matplotlib")
             with tempfile.TemporaryDirectory() as folder:
                 again = pathlib.Path(folder, "again.svg")
                 draw(EXAMPLES / f"{picture.stem}.frames.report", again, *CHOICES.get(picture.stem, []))

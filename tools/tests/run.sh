@@ -3,12 +3,13 @@
 # the library. And what the program answers where memory, threads, reads and writes are refused.
 #
 # It proves nothing, and builds the library's example alone. Where the program is not built, or is older than its
-# sources, the recipes read the stored reports of examples/, install and package have another program in its place, and
-# no call of it is refused. As root it installs the Debian packages that it needs and that are missing.
+# sources, the recipes read the stored reports of examples/, and install and package have another program in its place;
+# what needs the program then does not run, and so the tests fail at their end. As root it installs the Debian packages
+# that it needs and that are missing.
 set -euo pipefail
 cd "$(dirname "$0")/../.."
 
-needed=(python3-matplotlib mandoc lintian zsh fish gawk mawk original-awk tshark binutils)
+needed=(python3-matplotlib mandoc lintian zsh fish gawk mawk original-awk tshark binutils gcc libc6-dev)
 built=crates/h2audit_cli/out/h2audit_cli
 work=$(mktemp -d)
 trap 'rm -r "$work"' EXIT
@@ -53,6 +54,16 @@ try() {
     echo "$name: passed in $((SECONDS - start)) s"
 }
 
+# A test of the program, which cannot run where the program is not built.
+try_built() {
+    if [[ $program == "$built" ]]; then
+        try "$@"
+    else
+        left_out+=("$1")
+    fi
+}
+
+left_out=()
 install_packages
 if make -q "$built" > /dev/null 2>&1; then
     echo "with the program that is built"
@@ -63,11 +74,13 @@ else
     program=$work/stand_in
     cp /bin/true "$program"
     audits=()
+    echo "what needs it does not run: build it by 'make build' or 'make test'"
 fi
 try 'man pages and completions' tools/tests/words_test.py
 try 'recipes' tools/tests/recipes_test.py "${audits[@]}"
 try 'pictures' tools/tests/plot_test.py
 try 'library example' tools/tests/library_example_test.py
 try 'install and package' tools/tests/package_test.sh "$program"
-[[ ${#audits[@]} -eq 0 ]] || try 'refused growths, threads, reads and writes' tools/tests/refusals_test.py "$built"
+try_built 'refused growths, threads, reads and writes' tools/tests/refusals_test.py "$built"
+[[ ${#left_out[@]} -eq 0 ]] || fail "did not run, for want of the program: $(printf '%s; ' "${left_out[@]}")"
 echo 'test-tools: all passed'
