@@ -5,12 +5,13 @@ ghost use Rattle.audit_terms.specs.Place.{place_stream};
 
 use audit_terms::{Finding, Side, Sides};
 use std::alloc::{AllocError, Global};
-use std::collections::HashMap;
+use std::collections::BTreeMap;
 
-/// An end of a stall for each window, by the side that sends through it and the stream, 0 being the connection.
+/// An end of a stall for each window, by the side that sends through it and the stream, 0 being the connection. Ordered maps, in
+/// which no streams collide.
 #[derive(Drop)]
 pub struct Ends {
-    pub by_side: Sides<HashMap<u32, Finding>>,
+    pub by_side: Sides<BTreeMap<u32, Finding>>,
 }
 
 impl Ends {
@@ -21,8 +22,8 @@ impl Ends {
     {
         Ends {
             by_side: Sides {
-                client: HashMap::new(alloc),
-                server: HashMap::new(alloc),
+                client: BTreeMap::new(alloc),
+                server: BTreeMap::new(alloc),
             },
         }
     }

@@ -1,6 +1,7 @@
 -- What the table of stall ends says that the walk over the findings keeps.
-use Rattle.std.specs.Prelude.{ℕ, nat_eq, List, [], ◌∷◌, if◌then◌else◌, Option}
-use Rattle.std.specs.HashMap.{get}
+use Rattle.std.specs.Prelude.{ℕ, List, [], ◌∷◌, if◌then◌else◌, Option}
+use Rattle.std.specs.BTreeMap.{get}
+use Rattle.std.specs.Ordering.{nat_cmp}
 use Rattle.audit_terms.specs.declared.sides.Side.{Side}
 use Rattle.audit_terms.specs.declared.sides.Side.TheVariants.{Client, Server}
 use Rattle.audit_terms.specs.declared.findings.Finding.{Finding}
@@ -13,8 +14,8 @@ use Rattle.split_merge.specs.declared.stalls.Stall.{Stall}
 
 -- the end that the table has for the window of this side and stream
 abbrev pub end_in : Ends → Side → ℕ → Option Finding
-end_in ends Client stream = get nat_eq ends.by_side.client stream
-end_in ends Server stream = get nat_eq ends.by_side.server stream
+end_in ends Client stream = get nat_cmp ends.by_side.client stream
+end_in ends Server stream = get nat_cmp ends.by_side.server stream
 
 -- the stall that the finding begins, if it begins one, by the table of the ends after it
 abbrev pub begun_by : List Frame → Ends → Finding → List Stall
