@@ -2,7 +2,7 @@
  *
  * The Nth call of KIND fails: growth (malloc, realloc), thread (pthread_create), read, write. Of read-one and write-one the Nth
  * moves one byte, and of write-none it takes none. With drip each write takes 3 bytes, and the Nth fails. Where the call is met,
- * the file MET is made.
+ * the file MET is made. Of threads none is refused: how many were started stands in MET at the end.
  */
 #define _GNU_SOURCE
 #include <dlfcn.h>
@@ -10,6 +10,7 @@
 #include <fcntl.h>
 #include <pthread.h>
 #include <stdatomic.h>
+#include <stdio.h>
 #include <stdlib.h>
 #include <string.h>
 #include <unistd.h>
@@ -17,6 +18,8 @@
 static const char *kind = "";
 static long wanted = -1;
 static atomic_long calls;
+
+static int is_kind(const char *name) { return wanted >= 0 && strcmp(kind, name) == 0; }
 
 __attribute__((constructor)) static void begin(void) {
     char *said = getenv("REFUSE");
@@ -27,8 +30,6 @@ __attribute__((constructor)) static void begin(void) {
         kind = said;
     }
 }
-
-static int is_kind(const char *name) { return wanted >= 0 && strcmp(kind, name) == 0; }
 
 /* Whether this call of the kind is the one to refuse. */
 static int is_met(const char *name) {
@@ -55,7 +56,16 @@ void *realloc(void *old, size_t size) {
     return is_met("growth") ? (errno = ENOMEM, NULL) : real_realloc(old, size);
 }
 
+__attribute__((destructor)) static void end(void) {
+    if (!is_kind("threads"))
+        return;
+    int file = open(getenv("MET"), O_CREAT | O_WRONLY, 0600);
+    dprintf(file, "%ld", calls);
+    close(file);
+}
+
 int pthread_create(pthread_t *thread, const pthread_attr_t *attributes, void *(*body)(void *), void *data) {
+    is_met("threads");
     return is_met("thread") ? EAGAIN : REAL(pthread_create)(thread, attributes, body, data);
 }
 
