@@ -1,0 +1,42 @@
+//! The hash of the tables that a capture fills: which of its pairs or streams collide, no capture can foresee.
+//!
+//! Keys are hashed by SipHash under a key that is drawn anew at each start. A table keeps its entries in the order of
+//! first sight and answers by equality, so no answer depends on the key: no contract of a table names it.
+#![tactic(auto)]
+
+ghost use Rattle.table_hash.specs.TableHash.{first_hasher};
+
+use std::hash::{BuildHasher, DefaultHasher, RandomState};
+use std::random::RandomSource;
+
+/// Makes the hashers of a table.
+#[derive(Clone, Copy)]
+pub enum TableHash {
+    /// Under a key of random bytes.
+    Drawn(RandomState),
+    /// Under the key zero, where the system gives no random bytes.
+    Keyless,
+}
+
+impl TableHash {
+    /// A hash under a key that nobody knows, where the system gives random bytes.
+    pub fn drawn(rt: &impl RandomSource) -> TableHash {
+        match RandomState::new(rt) {
+            Ok(key) => TableHash::Drawn(key),
+            Err(_) => TableHash::Keyless,
+        }
+    }
+}
+
+impl BuildHasher for TableHash {
+    type Hasher = DefaultHasher;
+
+    ghost build_hasher = { first_hasher };
+
+    fn build_hasher(&self) -> DefaultHasher {
+        match self {
+            TableHash::Drawn(key) => key.build_hasher(),
+            TableHash::Keyless => DefaultHasher::new(),
+        }
+    }
+}
