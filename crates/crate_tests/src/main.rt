@@ -33,6 +33,7 @@ mod streams;
 
 use answer::print_answers;
 use std::io;
+use std::random::RandomSource;
 use std::thread::Threads;
 
 /// Prints a line for each test of calls, in groups: a long chain of calls is dear to prove.
@@ -53,7 +54,7 @@ fn print_crews(rt: &(impl AllocGlobal + Print + Sync + Threads)) -> io::Result<(
 }
 
 /// Those of runs.
-fn print_runs(rt: &(impl AllocGlobal + Print + Sync + Threads)) -> io::Result<()> {
+fn print_runs(rt: &(impl AllocGlobal + Print + RandomSource + Sync + Threads)) -> io::Result<()> {
     let alloc = rt.alloc();
     print_answers(rt, &runs::stepwise(rt, alloc))?;
     print_answers(rt, &runs::audits(rt, alloc))

@@ -12,10 +12,14 @@ use in_steps::{
     failing_flush, failing_writer, interrupted_reader, refused_capture, refused_header, slow_steps,
 };
 use std::alloc::Global;
+use std::random::RandomSource;
 use std::thread::Threads;
 
 /// Endings; and readers and writers that go in steps or fail.
-pub fn stepwise(rt: &(impl Sync + Threads), alloc: Global) -> [(&'static str, Answer); 7] {
+pub fn stepwise(
+    rt: &(impl Sync + Threads + RandomSource),
+    alloc: Global,
+) -> [(&'static str, Answer); 7] {
     [
         ("texts_of_faults", texts_of_faults(alloc)),
         ("slow_steps", slow_steps(rt, alloc)),
@@ -28,7 +32,10 @@ pub fn stepwise(rt: &(impl Sync + Threads), alloc: Global) -> [(&'static str, An
 }
 
 /// The rounds of an audit.
-pub fn audits(rt: &(impl Sync + Threads), alloc: Global) -> [(&'static str, Answer); 3] {
+pub fn audits(
+    rt: &(impl Sync + Threads + RandomSource),
+    alloc: Global,
+) -> [(&'static str, Answer); 3] {
     [
         ("jobs_of_blocks", jobs_of_blocks(rt, alloc)),
         ("jobs_up_to_the_stop", jobs_up_to_the_stop(rt, alloc)),

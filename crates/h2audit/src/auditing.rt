@@ -15,14 +15,16 @@ use job_crew::Gate;
 use packet_heads::{Packets, decode_all};
 use pcap_records::{Capture, PcapFault, RecordWalk, Records};
 use std::alloc::{AllocError, Global};
+use std::random::RandomSource;
 use std::thread::Threads;
+use table_hash::TableHash;
 use tcp_streams::connections;
 
 /// The report of a capture, and its verdict.
 ///
 /// Answers `Pcap` exactly where the capture is refused, and never `Read` or `Write`.
 pub fn audit(
-    rt: &(impl Threads + Sync),
+    rt: &(impl Threads + Sync + RandomSource),
     alloc: Global,
     options: &Options,
     capture: &[u8],
@@ -45,7 +47,7 @@ pub fn audit(
 
 /// The report of a capture that is held in parts, and its verdict. The walk read a front of the capture's records.
 pub(crate) fn audit_parts(
-    rt: &(impl Threads + Sync),
+    rt: &(impl Threads + Sync + RandomSource),
     alloc: Global,
     options: &Options,
     walk: RecordWalk,
@@ -69,7 +71,7 @@ pub(crate) fn audit_parts(
 
 /// The report of a capture whose records are these, and its verdict.
 fn audit_records(
-    rt: &(impl Threads + Sync),
+    rt: &(impl Threads + Sync + RandomSource),
     alloc: Global,
     found: &Records,
     capture: &Capture<'_>,
@@ -85,7 +87,7 @@ fn audit_records(
 {
     let made = decode_all(rt, alloc, options.workers(), found, capture)?;
     let packets = Packets::of(alloc, made.as_slice())?;
-    let connections = connections(alloc, &packets)?;
+    let connections = connections(alloc, TableHash::drawn(rt), &packets)?;
     let audited = audit_each(
         rt,
         alloc,

@@ -19,6 +19,7 @@ use job_crew::NoGate;
 use std::alloc::{AllocError, Global};
 use std::io::{ErrorKind, Read, Write};
 use std::process::ExitCode;
+use std::random::RandomSource;
 use std::rt::Env;
 use std::thread::Threads;
 use std::{env, io};
@@ -45,7 +46,7 @@ pub fn run_program<
     O: FnOnce(&str) -> io::Result<F> + Drop,
     S: FnOnce(&str) + Drop,
 >(
-    rt: &(impl AllocGlobal + Threads + Sync),
+    rt: &(impl AllocGlobal + Threads + Sync + RandomSource),
     words: io::Result<Vec<String>>,
     open_file: O,
     input: I,
@@ -110,7 +111,7 @@ fn answer<
     O: FnOnce(&str) -> io::Result<F> + Drop,
     S: FnOnce(&str) + Drop,
 >(
-    rt: &(impl AllocGlobal + Threads + Sync),
+    rt: &(impl AllocGlobal + Threads + Sync + RandomSource),
     asked: Parsed,
     open_file: O,
     input: I,
@@ -146,7 +147,7 @@ fn answer<
 
 /// What the audit of an input answers. One that could not be opened is a failure to read, or want of memory.
 fn audit_input<R: Read + Drop, W: Write>(
-    rt: &(impl AllocGlobal + Threads + Sync),
+    rt: &(impl AllocGlobal + Threads + Sync + RandomSource),
     options: &Options,
     input: io::Result<R>,
     output: &mut ReportWriter<W>,

@@ -18,6 +18,7 @@ use job_crew::Gate;
 use pcap_records::{PcapFault, RecordWalk};
 use std::alloc::{AllocError, Global};
 use std::io::{Read, Write};
+use std::random::RandomSource;
 use std::thread::Threads;
 
 /// Reads a capture to its end, audits it, writes its report and flushes once.
@@ -31,7 +32,7 @@ use std::thread::Threads;
 /// fault nothing was. An error of any kind from the reader or the writer is a fault: no call is
 /// tried again.
 pub fn run<R: Read, W: Write>(
-    rt: &(impl Threads + Sync),
+    rt: &(impl Threads + Sync + RandomSource),
     alloc: Global,
     options: &Options,
     reader: &mut CaptureReader<R>,
@@ -70,7 +71,7 @@ pub fn run<R: Read, W: Write>(
 
 /// Audits what is kept of a capture, if there is memory for the list of its parts, or answers the refusal that was read.
 fn audit_kept<R: Read>(
-    rt: &(impl Threads + Sync),
+    rt: &(impl Threads + Sync + RandomSource),
     alloc: Global,
     options: &Options,
     reader: &CaptureReader<R>,

@@ -3,7 +3,8 @@ use Rattle.std.proofs.Common.{◌≡◌, ◌≤◌, ◌<◌, ◌+◌, ◌-◌, �
 use Rattle.std.proofs.lemmas.List.{drop-append-le}
 use Rattle.std.specs.Prelude.{IfSome, IfNone}
 use Rattle.pcap_records.specs.FileHeader.{ByteOrder}
-use Rattle.pcap_records.specs.Record.{IsNextRecord, captured_length, record_at}
+use Rattle.pcap_records.specs.Record.{captured_length, record_at}
+use Rattle.pcap_records.specs.code.Walk.{IsNextRecord}
 use Rattle.pcap_records.specs.declared.capture.Record.{Record}
 
 -- a number is read from its own bytes alone

@@ -1,6 +1,6 @@
 -- A record of the classic pcap format: seconds u32, fraction u32, captured length u32, original
 -- length u32, and then the captured bytes.
-use Rattle.std.specs.Prelude.{◌≡◌, ℕ, ◌+◌, ◌*◌, ◌^◌, ◌<◌, ◌≤◌, Option, Some, None, List, [], ◌∷◌, length, drop}
+use Rattle.std.specs.Prelude.{◌≡◌, ℕ, ◌+◌, ◌*◌, ◌≤◌, List, [], ◌∷◌, length, drop}
 use Rattle.pcap_records.specs.FileHeader.{ByteOrder}
 use Rattle.pcap_records.specs.declared.capture.Record.{Record}
 
@@ -29,10 +29,3 @@ AreRecords number unit at bytes (r ∷ rs) rest =
     BeginsWithRecord number bytes
     × (r ≡ record_at number unit at bytes)
     × AreRecords number unit (at + 16 + captured_length number bytes) (drop (16 + captured_length number bytes) bytes) rs rest
-
--- the next record of a capture whose rest, from `at` on, are these bytes: a whole one, whose time fits a signed number
--- of 64 bits, or none
-abbrev pub IsNextRecord : ByteOrder → ℕ → ℕ → List ℕ → Option Record → Type 0
-IsNextRecord number unit at bytes None = ¬ BeginsWithRecord number bytes
-IsNextRecord number unit at bytes (Some r) =
-    BeginsWithRecord number bytes × (r ≡ record_at number unit at bytes) × (r.nanos < 2 ^ 63)

@@ -1,5 +1,6 @@
 ghost use Rattle.std.specs.Prelude.{◌≡◌, ◌≤◌, ◌<◌, ◌+◌, ◌-◌, ◌^◌, length, drop, IfSome, IfNone, IfOk};
-ghost use Rattle.pcap_records.specs.Record.{IsNextRecord, captured_length, record_at};
+ghost use Rattle.pcap_records.specs.Record.{captured_length, record_at};
+ghost use Rattle.pcap_records.specs.code.Walk.{IsNextRecord};
 
 use crate::capture::{Capture, Record};
 use byteorder::ByteOrder;

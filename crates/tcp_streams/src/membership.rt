@@ -8,6 +8,7 @@ use crate::members::Connections;
 use crate::table::Table;
 use packet_heads::{Packet, Packets};
 use std::alloc::{AllocError, Global};
+use table_hash::TableHash;
 
 /// Says which segments belong to which opening, and which to none.
 ///
@@ -16,14 +17,18 @@ use std::alloc::{AllocError, Global};
 /// before it; one without such an opening is a stray.
 ///
 /// `packets` are to be those of a capture, as `packet_heads::decode_all` gives them.
-pub fn connections(alloc: Global, packets: &Packets<'_>) -> Result<Connections, AllocError>
+pub fn connections(
+    alloc: Global,
+    hash: TableHash,
+    packets: &Packets<'_>,
+) -> Result<Connections, AllocError>
     requires few { length packets.now < 2 ^ 32 }
     requires numbered { AreNumberedFrom 1 packets.now }
     ensures opened { IfOk result (λ found. map membership found.opened.items ≡ connections_of (past_of packets.now)) }
     ensures strays { IfOk result (λ found. found.strays.items ≡ strays_of (past_of packets.now)) }
     ensures members { IfOk result (λ found. All (λ c. AreMembers 0 packets.now c.members.items) found.opened.items) }
 {
-    let mut table = Table::new(alloc);
+    let mut table = Table::new(alloc, hash);
     let mut at = 0;
     while at < packets.len() {
         let together = packets.from(at);

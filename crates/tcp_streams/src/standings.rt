@@ -1,7 +1,8 @@
 use crate::pair::Pair;
+use indexmap::IndexMap;
 use std::alloc::{AllocError, Global};
-use std::collections::BTreeMap;
 use std::marker::Model;
+use table_hash::TableHash;
 
 /// What was seen of a pair of endpoints, with its index in the table's lists.
 #[derive(Clone, Copy)]
@@ -17,12 +18,10 @@ pub struct Known {
     pub standing: Standing,
 }
 
-/// How each pair stands of which anything is known.
-///
-/// The pairs are kept in order and not by their hashes, which a capture could be made to have in common.
+/// How each pair stands of which anything is known, in order of first sight.
 #[derive(Drop)]
 pub struct Standings {
-    pairs: BTreeMap<Pair, Standing>,
+    pairs: IndexMap<Pair, Standing, TableHash>,
     /// The pair that was met last: segments that follow each other are mostly of one pair.
     last: Option<Known>,
 }
@@ -30,8 +29,8 @@ pub struct Standings {
 impl Model for Standings {
     ghost use Rattle.std.specs.Prelude.{◌≡◌, List, IfSome, Some};
     ghost use Rattle.std.specs.Coded.{codes};
-    ghost use Rattle.std.specs.BTreeMap.{get};
-    ghost use Rattle.tcp_streams.specs.code.Pairs.{pair_cmp};
+    ghost use Rattle.indexmap.specs.IndexMap.{get};
+    ghost use Rattle.tcp_streams.specs.Pair.{is_pair};
     ghost use Rattle.tcp_streams.specs.contracts.pair.Pair as pair;
     ghost use Rattle.tcp_streams.specs.contracts.standings.Standing as standing;
     ghost use Rattle.tcp_streams.specs.declared.pair.Pair.{Pair as Ends};
@@ -43,7 +42,7 @@ impl Model for Standings {
 
     ghost view = { λ s. s.pairs.entries };
 
-    ghost invariant = { λ s. IfSome s.last (λ known. get pair_cmp s.pairs known.pair ≡ Some known.standing) };
+    ghost invariant = { λ s. IfSome s.last (λ known. get is_pair s.pairs known.pair ≡ Some known.standing) };
 }
 
 impl Standings {
@@ -51,11 +50,11 @@ impl Standings {
     ghost use Rattle.tcp_streams.specs.code.Standings.{SetsStanding, standing_of};
     ghost use Rattle.tcp_streams.specs.declared.pair.Pair.{Pair as Ends};
 
-    pub fn new(alloc: Global) -> Standings
+    pub fn new(alloc: Global, hash: TableHash) -> Standings
         ensures { (p : Ends) → standing_of result p ≡ None }
     {
         Standings {
-            pairs: BTreeMap::new(alloc),
+            pairs: IndexMap::with_hasher(alloc, hash),
             last: None,
         }
     }

@@ -6,6 +6,7 @@ use crate::pair::Pair;
 use crate::standings::{Standing, Standings};
 use packet_heads::Segment;
 use std::alloc::{AllocError, Global};
+use table_hash::TableHash;
 
 /// What the next segment does.
 pub enum Turn {
@@ -44,12 +45,12 @@ impl Table {
     ghost use Rattle.tcp_streams.specs.code.Standings.{SetsStanding, standing_of};
     ghost use Rattle.tcp_streams.specs.declared.standings.Standing.TheVariants.{Opened, Unopened};
 
-    pub fn new(alloc: Global) -> Table
+    pub fn new(alloc: Global, hash: TableHash) -> Table
         ensures { IsTableOf [] result }
     {
         Table {
             alloc,
-            standings: Standings::new(alloc),
+            standings: Standings::new(alloc, hash),
             opened: Vec::new(alloc),
             strays: Vec::new(alloc),
         }

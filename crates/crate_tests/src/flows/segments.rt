@@ -8,6 +8,7 @@ use packet_heads::{Packets, decode_all};
 use pcap_records::records;
 use std::alloc::{AllocError, Global};
 use std::thread::Threads;
+use table_hash::TableHash;
 use tcp_streams::{Arrival, Flow, assemble, connections};
 
 /// The bytes of a flow in one piece.
@@ -42,7 +43,7 @@ fn flow_of(
     };
     let made = decode_all(rt, alloc, 2, &found, &parts)?;
     let packets = Packets::of(alloc, made.as_slice())?;
-    let streams = connections(alloc, &packets)?;
+    let streams = connections(alloc, TableHash::Keyless, &packets)?;
     if streams.opened.is_empty() || capture.len() >= 0x8000_0000 {
         return Ok(None);
     }

@@ -4,6 +4,7 @@ use crate::answer::Answer;
 use crate::captures::{Capture, data, headers, window_update};
 use h2audit::{Gate, Options, audit};
 use std::alloc::{AllocError, Global};
+use std::random::RandomSource;
 use std::sync::atomic::{AtomicU32, Ordering};
 use std::thread::{Threads, yield_now};
 
@@ -84,7 +85,7 @@ impl Gate for HoldingGate {
 
 /// How many jobs each round of an audit had.
 fn jobs_of(
-    rt: &(impl Sync + Threads),
+    rt: &(impl Sync + Threads + RandomSource),
     alloc: Global,
     options: &Options,
     capture: &[u8],
@@ -98,7 +99,7 @@ fn jobs_of(
 
 /// Whether an audit by each of these numbers of workers has so many jobs in each round.
 fn have_jobs(
-    rt: &(impl Sync + Threads),
+    rt: &(impl Sync + Threads + RandomSource),
     alloc: Global,
     (groups, block, credits_shown): (u32, u32, bool),
     capture: &[u8],
@@ -126,7 +127,7 @@ fn stalled(alloc: Global) -> Result<Capture, AllocError> {
 }
 
 /// Of nine blocks the last alone is not clear. A block that is clear has no job, unless credits are shown.
-pub fn jobs_of_blocks(rt: &(impl Sync + Threads), alloc: Global) -> Answer {
+pub fn jobs_of_blocks(rt: &(impl Sync + Threads + RandomSource), alloc: Global) -> Answer {
     let capture = stalled(alloc)?;
     let capture = capture.as_slice();
     Ok(
@@ -145,7 +146,7 @@ fn stopped(alloc: Global) -> Result<Capture, AllocError> {
 }
 
 /// The connection stops at frame 10: of its twelve frames the last two are in no block.
-pub fn jobs_up_to_the_stop(rt: &(impl Sync + Threads), alloc: Global) -> Answer {
+pub fn jobs_up_to_the_stop(rt: &(impl Sync + Threads + RandomSource), alloc: Global) -> Answer {
     let capture = stopped(alloc)?;
     let capture = capture.as_slice();
     Ok(
@@ -156,7 +157,12 @@ pub fn jobs_up_to_the_stop(rt: &(impl Sync + Threads), alloc: Global) -> Answer 
 }
 
 /// Whether with two workers job 1 of each of these rounds is entered, and while job 0 is held.
-fn are_two_at_once(rt: &(impl Sync + Threads), alloc: Global, rounds: u32, capture: &[u8]) -> bool {
+fn are_two_at_once(
+    rt: &(impl Sync + Threads + RandomSource),
+    alloc: Global,
+    rounds: u32,
+    capture: &[u8],
+) -> bool {
     let Some(options) = Options::of(2, 2, 4, true) else {
         return false;
     };
@@ -188,7 +194,7 @@ fn two_streams(alloc: Global) -> Result<Capture, AllocError> {
 }
 
 /// Over two connections, and over one with two groups of streams and two blocks.
-pub fn two_at_once(rt: &(impl Sync + Threads), alloc: Global) -> Answer {
+pub fn two_at_once(rt: &(impl Sync + Threads + RandomSource), alloc: Global) -> Answer {
     let connections = two_connections(alloc)?;
     let streams = two_streams(alloc)?;
     Ok(

@@ -5,6 +5,7 @@ use crate::runs::fakes::{Failure, Pieces, Slow};
 use h2audit::{AuditFault, CaptureReader, NoGate, Options, ReportWriter, Verdict, run};
 use pcap_records::PcapFault;
 use std::alloc::Global;
+use std::random::RandomSource;
 use std::thread::Threads;
 
 /// A little-endian header: magic, version 2.4, time zone, accuracy, snapshot length, Ethernet.
@@ -81,7 +82,7 @@ fn is_written(writer: &ReportWriter<Slow>, text: &[u8], is_flushed: bool) -> boo
 
 /// Whether a run gives this answer, makes these calls, and writes the first `written` bytes of the report.
 fn goes_so(
-    rt: &(impl Sync + Threads),
+    rt: &(impl Sync + Threads + RandomSource),
     alloc: Global,
     reader: Pieces,
     writer: Slow,
@@ -105,7 +106,7 @@ fn goes_so(
 }
 
 /// 24 bytes in steps of 5 are five reads, and one more finds the end.
-pub fn slow_steps(rt: &(impl Sync + Threads), alloc: Global) -> Answer {
+pub fn slow_steps(rt: &(impl Sync + Threads + RandomSource), alloc: Global) -> Answer {
     for (step, writes) in [(1, 82), (3, 28), (1000, 1)] {
         let reader = Pieces::of(HEADER.as_slice(), 5);
         let wanted = (counted(6, writes, 1), 82);
@@ -124,7 +125,7 @@ pub fn slow_steps(rt: &(impl Sync + Threads), alloc: Global) -> Answer {
 }
 
 /// The read that fails is the last call: that the next would go on is not tried.
-pub fn interrupted_reader(rt: &(impl Sync + Threads), alloc: Global) -> Answer {
+pub fn interrupted_reader(rt: &(impl Sync + Threads + RandomSource), alloc: Global) -> Answer {
     for failing in 1..=6 {
         let reader = Pieces {
             interrupted_at: failing,
@@ -147,7 +148,7 @@ pub fn interrupted_reader(rt: &(impl Sync + Threads), alloc: Global) -> Answer {
 
 /// Whether a writer that takes this many bytes at a time and fails once gets no call after that.
 fn ends_at_failure(
-    rt: &(impl Sync + Threads),
+    rt: &(impl Sync + Threads + RandomSource),
     alloc: Global,
     step: usize,
     (failing, failure): (u32, Failure),
@@ -164,7 +165,7 @@ fn ends_at_failure(
 }
 
 /// Neither a write that was interrupted nor one that took no byte is tried again, and nothing is flushed.
-pub fn failing_writer(rt: &(impl Sync + Threads), alloc: Global) -> Answer {
+pub fn failing_writer(rt: &(impl Sync + Threads + RandomSource), alloc: Global) -> Answer {
     for failing in 1..=28u32 {
         let written = 3 * (failing as usize - 1);
         for failure in [Failure::Interrupted, Failure::TakesNone] {
@@ -176,7 +177,7 @@ pub fn failing_writer(rt: &(impl Sync + Threads), alloc: Global) -> Answer {
     Ok(ends_at_failure(rt, alloc, 10, (2, Failure::Interrupted), 10))
 }
 
-pub fn failing_flush(rt: &(impl Sync + Threads), alloc: Global) -> Answer {
+pub fn failing_flush(rt: &(impl Sync + Threads + RandomSource), alloc: Global) -> Answer {
     let slow = Slow {
         flush_fails: true,
         ..writer(alloc, 1000)
@@ -186,7 +187,7 @@ pub fn failing_flush(rt: &(impl Sync + Threads), alloc: Global) -> Answer {
     Ok(goes_so(rt, alloc, reader, slow, Err(AuditFault::Write), wanted))
 }
 
-pub fn refused_capture(rt: &(impl Sync + Threads), alloc: Global) -> Answer {
+pub fn refused_capture(rt: &(impl Sync + Threads + RandomSource), alloc: Global) -> Answer {
     let reader = Pieces::of(&HEADER[..23], 24);
     let refused = Err(AuditFault::Pcap(PcapFault::ShortHeader));
     let wanted = (counted(2, 0, 0), 0);
@@ -194,7 +195,7 @@ pub fn refused_capture(rt: &(impl Sync + Threads), alloc: Global) -> Answer {
 }
 
 /// Of 100,000 bytes in steps of 9 the first 24 take three reads and are kept; the rest is read and passed over.
-pub fn refused_header(rt: &(impl Sync + Threads), alloc: Global) -> Answer {
+pub fn refused_header(rt: &(impl Sync + Threads + RandomSource), alloc: Global) -> Answer {
     let mut capture: Vec<u8> = Vec::new(alloc);
     capture.resize(100_000, 7)?;
     let reader = Pieces::of(capture.as_slice(), 9);

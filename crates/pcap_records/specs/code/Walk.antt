@@ -1,8 +1,8 @@
 -- A walk over the records at the front of a capture, behind which more bytes may come.
-use Rattle.std.specs.Prelude.{◌≡◌, ◌≤◌, ◌+◌, ◌*◌, ℕ, List, ◌++◌, Some, length, drop}
+use Rattle.std.specs.Prelude.{◌≡◌, ◌≤◌, ◌<◌, ◌+◌, ◌*◌, ◌^◌, ℕ, List, ◌++◌, Option, None, Some, length, drop}
 use Rattle.pcap_records.specs.FileHeader.{ByteOrder, number_of, header_of, format_of}
 use Rattle.pcap_records.specs.Place.{AreTimely, RiseFrom}
-use Rattle.pcap_records.specs.Record.{AreRecords, BeginsWithRecord}
+use Rattle.pcap_records.specs.Record.{AreRecords, BeginsWithRecord, record_at}
 use Rattle.pcap_records.specs.declared.capture.Record.{Record}
 use Rattle.pcap_records.specs.declared.walk.RecordWalk.{RecordWalk}
 
@@ -30,3 +30,10 @@ pub record IsWalkIn (front : List ℕ) (walk : RecordWalk) : Type 0 where
 -- no whole record of the front begins where the walk stands
 abbrev pub IsThrough : List ℕ → RecordWalk → Type 0
 IsThrough front walk = ¬ BeginsWithRecord (number_of walk.format.endian) (drop walk.at front)
+
+-- the next record of a capture whose rest, from `at` on, are these bytes: a whole one, whose time fits a signed number
+-- of 64 bits, or none
+abbrev pub IsNextRecord : ByteOrder → ℕ → ℕ → List ℕ → Option Record → Type 0
+IsNextRecord number unit at bytes None = ¬ BeginsWithRecord number bytes
+IsNextRecord number unit at bytes (Some r) =
+    BeginsWithRecord number bytes × (r ≡ record_at number unit at bytes) × (r.nanos < 2 ^ 63)

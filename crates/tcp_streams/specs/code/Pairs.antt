@@ -1,13 +1,7 @@
--- The order of pairs that the table keeps. No public clause cites it.
-use Rattle.std.specs.declared.cmp.Ordering.{Ordering}
-use Rattle.std.specs.Ordering.{nat_cmp, ordering_then}
+-- What of a pair goes into its hash. No public clause cites it.
+use Rattle.std.specs.Prelude.{ℕ, ◌+◌, ◌*◌, ◌^◌}
 use Rattle.packet_heads.specs.declared.packets.Endpoint.{Endpoint}
-use Rattle.tcp_streams.specs.declared.pair.Pair.{Pair}
 
--- by address, then by port
-abbrev pub endpoint_cmp : Endpoint → Endpoint → Ordering
-endpoint_cmp a b = ordering_then (nat_cmp a.address b.address) (nat_cmp a.port b.port)
-
--- by the lesser endpoint, then by the other
-abbrev pub pair_cmp : Pair → Pair → Ordering
-pair_cmp p q = ordering_then (endpoint_cmp p.low q.low) (endpoint_cmp p.high q.high)
+-- the address and the port in one word
+abbrev pub word_of : Endpoint → ℕ
+word_of e = e.address * 2 ^ 16 + e.port

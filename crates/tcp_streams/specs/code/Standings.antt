@@ -1,15 +1,13 @@
 -- The pairs of which anything is known, with what is. No public clause cites it.
 use Rattle.std.specs.Prelude.{◌≡◌, if◌then◌else◌, List, Option, Some}
 use Rattle.std.specs.Map.{lookup}
-use Rattle.std.specs.BTreeMap.{is_at}
 use Rattle.tcp_streams.specs.declared.pair.Pair.{Pair}
 use Rattle.tcp_streams.specs.declared.standings.Standing.{Standing}
 use Rattle.tcp_streams.specs.Pair.{is_pair}
-use Rattle.tcp_streams.specs.code.Pairs.{pair_cmp}
 
 -- how the pair stands
 abbrev pub standing_of : List (Pair × Standing) → Pair → Option Standing
-standing_of standings p = lookup (is_at (pair_cmp p)) standings
+standing_of standings p = lookup (is_pair p) standings
 
 -- the pair stands so, and every other pair as before
 abbrev pub SetsStandingIn : Pair → Standing → (Pair → Option Standing) → (Pair → Option Standing) → Type 0

@@ -2,7 +2,7 @@ use Rattle.std.proofs.Common.{◌≡◌, List, map, ◌+◌, ◌<◌, ◌^◌, l
 use Rattle.std.proofs.lemmas.List.{take_all}
 use Rattle.packet_heads.specs.declared.packets.Packet.{Packet}
 use Rattle.packet_heads.specs.declared.packets.Segment.{Segment}
-use Rattle.parted_list.proofs.Together.{element_is, index_within}
+use Rattle.parted_list.proofs.Together.{element_is, end_within, index_within}
 use Rattle.tcp_streams.specs.declared.table.Table.{Table}
 use Rattle.tcp_streams.specs.Membership.{connections_of, membership}
 use Rattle.tcp_streams.specs.Packets.{past_of}
@@ -52,3 +52,11 @@ returns-clause-members c =
     let all : take c.loop-at.at packets ≡ packets = take_all c.loop-at.at packets (omega (arith, c.loop-at-test.false, c.len.ensures)) in
     connections-members packets c.into_connections.result.opened.items c.requires.numbered
     (ap (map membership) c.into_connections.ensures.opened ∙ c.loop-at.invariant.1.opened_are ∙ ap (λ (l : List Packet). connections_of (past_of l)) all)
+
+pub loop-at-preserved : goal.loop-at-preserved
+loop-at-preserved c =
+    let packets : List Packet = c.args.packets.now in
+    let all : c.loop-packet.packet-index ≡ length c.from-together.result.now = omega arith in (
+      end_within packets c.from-together.result.now _ c.loop-at.at c.from-together.ensures.front c.loop-at.invariant.0,
+      subst (λ n. IsTableOf (past_of (take (c.loop-at.at + n) packets)) c.loop-packet.table) all c.loop-packet.invariant,
+    )

@@ -1,7 +1,6 @@
 use Rattle.std.proofs.Common.{◌≡◌, ◌+◌, ℕ, List, [], ◌∷◌, ◌++◌, Some, drop, sym, ap, subst, ◌∙◌}
 use Rattle.pcap_records.specs.FileHeader.{ByteOrder, number_of}
-use Rattle.pcap_records.specs.Record.{IsNextRecord}
-use Rattle.pcap_records.specs.code.Walk.{AreRead}
+use Rattle.pcap_records.specs.code.Walk.{AreRead, IsNextRecord}
 use Rattle.pcap_records.specs.declared.capture.Record.{Record}
 use Rattle.pcap_records.specs.declared.format.Format.{Format}
 use Rattle.pcap_records.proofs.Fronts.{ReadsFirst}

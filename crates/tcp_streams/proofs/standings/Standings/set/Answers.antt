@@ -2,11 +2,9 @@ use Rattle.std.proofs.Common.{Some, ap, ◌∙◌}
 use Rattle.std.specs.Prelude.{if◌then◌else◌}
 use Rattle.tcp_streams.specs.Pair.{is_pair}
 use Rattle.tcp_streams.specs.code.Standings.{standing_of}
-use Rattle.tcp_streams.proofs.Pairs.{is_eq-pair_cmp}
 use Rattle.tcp_streams.proofs.standings.Standings.set.Goals as goal
 
 pub returns : goal.returns
 returns c = λ q.
     c.in_ok-insert.ensures.updates.0 q
-    ∙ ap (λ t. if t then Some c.args.standing else standing_of c.self.inside.pairs.entries q) (is_eq-pair_cmp c.args.pair q)
     ∙ ap (λ m. if is_pair c.args.pair q then Some c.args.standing else standing_of m q) c.self.view_is
