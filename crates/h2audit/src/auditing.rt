@@ -7,6 +7,7 @@ ghost use Rattle.h2audit.specs.Report.{IsReport, IsReportOn};
 ghost use Rattle.h2audit.specs.Run.{IsNoReport};
 
 use crate::connection::{audit_each, verdict_on};
+use crate::division::division;
 use crate::fault::AuditFault;
 use crate::verdict::Verdict;
 use audit_report::report;
@@ -87,11 +88,13 @@ fn audit_records(
 {
     let made = decode_all(rt, alloc, options.workers(), found, capture)?;
     let packets = Packets::of(alloc, made.as_slice())?;
-    let connections = connections(alloc, TableHash::drawn(rt), &packets)?;
+    let division = division(options, TableHash::drawn(rt));
+    let connections = connections(alloc, division.hash, &packets)?;
     let audited = audit_each(
         rt,
         alloc,
         options,
+        &division,
         capture,
         &packets,
         connections.opened.as_slice(),

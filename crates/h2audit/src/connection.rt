@@ -13,11 +13,10 @@ ghost use Rattle.audit_terms.specs.declared.findings.Finding.{Finding};
 ghost use Rattle.audit_terms.specs.Kind.{is_fault};
 ghost use Rattle.std.specs.List.{list_any};
 
-use crate::division::division;
 use crate::flow_round::{ConnectionCut, FlowRound};
 use crate::verdict::Verdict;
 use audit_report::Audited;
-use audit_rounds::findings_of_each;
+use audit_rounds::{Division, findings_of_each};
 use audit_terms::{Finding, Frame, Place};
 use command_line::Options;
 use h2_frames::Cut;
@@ -33,11 +32,13 @@ pub(crate) fn audit_each(
     rt: &(impl Threads + Sync),
     alloc: Global,
     options: &Options,
+    division: &Division,
     capture: &Capture<'_>,
     packets: &Packets<'_>,
     opened: &[Connection],
     gate: &impl Gate,
 ) -> Result<Vec<Audited>, AllocError>
+    requires workers { 0 < division.now.workers }
     requires size { length capture.now < 2 ^ 31 }
     requires few { length opened.now < 2 ^ 32 }
     requires numbered { AreNumberedFrom 1 packets.now }
@@ -48,8 +49,8 @@ pub(crate) fn audit_each(
         packets.now opened.now each.items) }
     ensures orderly { IfOk result (λ each. All (λ (a : Audited). HasOrderlyFrames a.cut) each.items) }
 {
-    let cuts = cut_each(rt, alloc, options, capture, packets, opened, gate)?;
-    let found = find_each(rt, alloc, options, cuts.as_slice(), gate)?;
+    let cuts = cut_each(rt, alloc, division, capture, packets, opened, gate)?;
+    let found = find_each(rt, alloc, options, division, cuts.as_slice(), gate)?;
     let each = together(alloc, cuts, found)?;
     Ok(each)
 }
@@ -58,12 +59,13 @@ pub(crate) fn audit_each(
 fn cut_each(
     rt: &(impl Threads + Sync),
     alloc: Global,
-    options: &Options,
+    division: &Division,
     capture: &Capture<'_>,
     packets: &Packets<'_>,
     opened: &[Connection],
     gate: &impl Gate,
 ) -> Result<Vec<Part<ConnectionCut>>, AllocError>
+    requires workers { 0 < division.now.workers }
     requires size { length capture.now < 2 ^ 31 }
     requires few { length opened.now < 2 ^ 32 }
     requires numbered { AreNumberedFrom 1 packets.now }
@@ -74,7 +76,7 @@ fn cut_each(
 {
     let mut stops: Vec<Option<Place>> = Vec::new(alloc);
     stops.resize(opened.len(), None)?;
-    let workers = division(options).workers as usize;
+    let workers = division.workers as usize;
     let round = FlowRound {
         rt,
         threads: workers.checked_div(opened.len()).unwrap_or(1),
@@ -85,7 +87,7 @@ fn cut_each(
     let settled = settle(
         rt,
         alloc,
-        division(options).workers,
+        division.workers,
         gate,
         FLOWS,
         stops.as_slice(),
@@ -102,6 +104,7 @@ fn find_each(
     rt: &(impl Threads + Sync),
     alloc: Global,
     options: &Options,
+    division: &Division,
     cuts: &[Part<ConnectionCut>],
     gate: &impl Gate,
 ) -> Result<Vec<Vec<Finding>>, AllocError>
@@ -117,7 +120,7 @@ fn find_each(
     let found = findings_of_each(
         rt,
         alloc,
-        &division(options),
+        division,
         gate,
         credits_shown,
         frames.as_slice(),
