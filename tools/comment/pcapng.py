@@ -14,8 +14,8 @@ from comment.refusals import capture_refused
 
 MAGIC = bytes.fromhex("0a0d0d0a")
 LONGEST_BLOCK = LONGEST_PACKET + 2**20
-# Those that Wireshark numbers as packets too: journal entries of systemd, and system calls.
-OTHER_NUMBERED = (9, 0x204, 0x208, 0x216, 0x217, 0x218, 0x219, 0x220, 0x221, 0x222, 0x223)
+# Those that Wireshark numbers as packets too: journal entries of systemd, custom blocks and system calls.
+OTHER_NUMBERED = (9, 0xBAD, 0x40000BAD, 0x204, 0x208, 0x216, 0x217, 0x221, 0x222)
 MICROSECONDS = 6
 
 

@@ -15,12 +15,9 @@ from __future__ import annotations
 
 import argparse
 import contextlib
-import gzip
-import io
 import os
 import sys
 import tempfile
-import zlib
 from collections.abc import Iterator
 from typing import BinaryIO
 
@@ -33,9 +30,9 @@ from comment.import_map import place_notes, read_map
 from comment.notes import Comments, notes_of
 from comment.pcapng import MAGIC, copy_pcapng
 from comment.refusals import Refused, capture_refused
+from comment.unpack import unpacked
 
 NAME = "h2audit-comment"
-GZIP = b"\x1f\x8b"
 
 
 def arguments(words: list[str]) -> argparse.Namespace:
@@ -52,52 +49,14 @@ def arguments(words: list[str]) -> argparse.Namespace:
     return asked
 
 
-class Rejoined(io.RawIOBase):
-    """A file of which the first bytes were read already."""
-
-    def __init__(self, begin: bytes, rest: BinaryIO) -> None:
-        self.begin, self.rest = begin, rest
-
-    def readable(self) -> bool:
-        return True
-
-    def readinto(self, room) -> int:  # type: ignore[no-untyped-def]
-        part = self.begin[:len(room)] or self.rest.read(len(room))
-        self.begin = self.begin[len(part):] if self.begin else b""
-        room[:len(part)] = part
-        return len(part)
-
-
-def unpacked(capture: BinaryIO) -> BinaryIO:
-    """The capture without gzip around it."""
-    begin = capture.read(4)
-    whole = io.BufferedReader(Rejoined(begin, capture), 2**18)
-    return io.BufferedReader(gzip.GzipFile(fileobj=whole), 2**18) if begin.startswith(GZIP) else whole
-
-
-class Tolerant:
-    """Reads what is there: a gzip file that ends too early is a capture that ends too early."""
-
-    def __init__(self, file: BinaryIO) -> None:
-        self.file = file
-
-    def read(self, size: int) -> bytes:
-        try:
-            return self.file.read(size)
-        except EOFError:
-            return b""
-        except (gzip.BadGzipFile, zlib.error):
-            raise capture_refused("bad-gzip") from None
-
-
 def copied(capture: BinaryIO, comments: Comments, out: BinaryIO) -> str | None:
     """Writes the capture with its comments; answers what a user should know of it."""
-    file = Tolerant(unpacked(capture))
+    file = unpacked(capture)
     magic = file.read(4)
     if magic == MAGIC:
-        packets, is_cut = copy_pcapng(file, comments, out)  # type: ignore[arg-type]
+        packets, is_cut = copy_pcapng(file, comments, out)
     elif magic in FORMATS:
-        packets, is_cut = copy_classic(file, magic, comments, out)  # type: ignore[arg-type]
+        packets, is_cut = copy_classic(file, magic, comments, out)
     else:
         raise capture_refused("short-header" if len(magic) < 4 else "bad-magic")
     comments.finish(packets)
