@@ -53,7 +53,7 @@ def body(audit: Audit, title: str, charts: Packed | None) -> Markup:
     shown = [section(one, choice) for one in audit.connections if id(one) in choice.sections]
     main = [summary(audit), left_out(choice, audit.lines), chart_section(audit, charts), connections(audit), *shown]
     about = element("p", "Made by h2audit-page from a report of h2audit. The rules are those of RFC 9113, HTTP/2.")
-    return Markup("<body>\n" + element("header", [element("h1", title), about]) + "\n" + element("main", main, id="main") + "\n")
+    return Markup("<body>\n" + element("header", [element("h1", title), about]) + "\n" + element("main", main, class_="large" if choice.left_out else None) + "\n")
 
 
 def chart_section(audit: Audit, charts: Packed | None) -> Markup:

@@ -338,17 +338,6 @@ class Thinning(unittest.TestCase):
                 charts = chart_data.packed(audit)
             self.assertLessEqual(len(charts.text) * 3 // 4, bound)
 
-    def test_a_million_lines(self):
-        """A page below 5 MB that says that it is thinned, and has every stall."""
-        text = large(100, 9500, 20)
-        self.assertGreater(text.count("\n"), 10**6)
-        found = page_of(text)
-        self.assertLess(len(found.encode()), 5 * 10**6)
-        self.assertIn("The charts are thinned: of 950,000 credit lines", found)
-        data = re.search(r'<script type="text/plain" id="chart-data">([^<]*)<', found)[1]
-        said = json.loads(zlib.decompress(base64.b64decode(data)))
-        self.assertEqual((sum(one[4] for one in said["windows"]), sum(one[7] for one in said["windows"])), (47500, 47500))
-
 
 class Contrast(unittest.TestCase):
     """The colours of the page reach the contrasts of WCAG 2.2: 4.5 for text (1.4.3), 3 for what is drawn (1.4.11)."""

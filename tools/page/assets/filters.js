@@ -4,7 +4,7 @@ const field = name => document.getElementById(name);
 
 function asked() {
   return {
-    words: field("search").value.toLowerCase().split(/\s+/).filter(word => word),
+    words: field("search").value.trim().toLowerCase(),
     side: field("side").value, kind: field("kind").value, stream: field("stream").value,
   };
 }
@@ -13,12 +13,8 @@ function wordsOf(one) {
   return `${nameOf(one)} ${one.client} ${one.server} ${one.trouble} ${[...one.kinds].join(" ")}`.toLowerCase();
 }
 
-function hasWords(text, words) {
-  return words.every(word => text.includes(word));
-}
-
 function isWindowAsked(one, want) {
-  return (!want.words.length || hasWords(wordsOf(one), want.words))
+  return (!want.words || wordsOf(one).includes(want.words))
     && (!want.side || one.side === want.side)
     && (!want.stream || String(one.stream) === want.stream)
     && (!want.kind || (want.kind === "fault" ? one.faults > 0 : want.kind === "stall" ? one.stalls > 0 : one.kinds.has(want.kind)));
@@ -28,7 +24,7 @@ function isRowAsked(row, want) {
   const { side, kind, stream, connection } = row.dataset;
   const isStall = /-stall-(begin|end)$/.test(kind);
   const text = `connection ${connection}, ${side}, stream ${stream} ${row.textContent}`.toLowerCase();
-  return hasWords(text, want.words)
+  return text.includes(want.words)
     && (!want.side || side === want.side)
     && (!want.stream || stream === want.stream)
     && (!want.kind || (want.kind === "fault" ? !isStall : want.kind === "stall" ? isStall : kind === want.kind));

@@ -111,11 +111,13 @@ function go(row) {
   return true;
 }
 
+function choose(control) {
+  if (control.name === "axis") drawn.forEach(chart => chart.setAxis(isByFrame()));
+  else list();
+}
+
 function listen() {
-  field("filters").addEventListener("input", event => {
-    if (event.target.name === "axis") drawn.forEach(chart => chart.setAxis(isByFrame()));
-    else list();
-  });
+  for (const kind of ["input", "change"]) field("filters").addEventListener(kind, event => choose(event.target));
   field("filters").addEventListener("submit", event => event.preventDefault());
   document.addEventListener("click", event => {
     const row = event.target.closest("tr[data-frame]");
