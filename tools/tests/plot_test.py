@@ -97,7 +97,7 @@ class Examples(unittest.TestCase):
     def test_stalls_are_those_of_the_report(self):
         for report in reports():
             text = report.read_text()
-            windows = [window for one in plot.connections_of(text) for window in plot.windows_of(one)]
+            windows = [window for one in plot.connections_of(report.open("rb")) for window in plot.windows_of(one)]
             drawn = sorted(
                 f"stall {window.side} stream {window.stream} from {begin.frame} "
                 + (f"to {end.frame} nanos {end.time - begin.time}" if end else "open")
@@ -136,7 +136,7 @@ class Choices(unittest.TestCase):
 
     def windows(self, *words):
         asked = plot.arguments([str(self.REPORT), *words])
-        drawn, left_out = plot.chosen(plot.connections_of(self.REPORT.read_text()), asked)
+        drawn, left_out = plot.chosen(plot.connections_of(self.REPORT.open("rb")), asked)
         return [window.name for window in drawn], left_out
 
     def test_windows(self):

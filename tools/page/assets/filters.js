@@ -1,0 +1,44 @@
+// Search and filters, which hold for the charts and for the rows of the findings.
+
+const field = name => document.getElementById(name);
+
+function asked() {
+  return {
+    words: field("search").value.trim().toLowerCase(),
+    side: field("side").value, kind: field("kind").value, stream: field("stream").value,
+  };
+}
+
+function wordsOf(one) {
+  return `${nameOf(one)} ${one.client} ${one.server} ${one.trouble} ${[...one.kinds].join(" ")}`.toLowerCase();
+}
+
+function isWindowAsked(one, want) {
+  return (!want.words || wordsOf(one).includes(want.words))
+    && (!want.side || one.side === want.side)
+    && (!want.stream || String(one.stream) === want.stream)
+    && (!want.kind || (want.kind === "fault" ? one.faults > 0 : want.kind === "stall" ? one.stalls > 0 : one.kinds.has(want.kind)));
+}
+
+function isRowAsked(row, want) {
+  const { side, kind, stream, connection } = row.dataset;
+  const isStall = /-stall-(begin|end)$/.test(kind);
+  const text = `connection ${connection}, ${side}, stream ${stream} ${row.textContent}`.toLowerCase();
+  return text.includes(want.words)
+    && (!want.side || side === want.side)
+    && (!want.stream || stream === want.stream)
+    && (!want.kind || (want.kind === "fault" ? !isStall : want.kind === "stall" ? isStall : kind === want.kind));
+}
+
+// Each kind of fault in the page can be asked for.
+function offerKinds(charts) {
+  const kinds = new Set([...document.querySelectorAll("tr[data-kind]")].map(row => row.dataset.kind));
+  charts.kinds.forEach(([kind]) => kinds.add(kind));
+  for (const kind of [...kinds].filter(kind => !/-stall-(begin|end)$/.test(kind)).sort()) field("kind").add(new Option(kind, kind));
+}
+
+function filterRows(want) {
+  const rows = [...document.querySelectorAll("tr[data-kind]")];
+  rows.forEach(row => { row.hidden = !isRowAsked(row, want); });
+  return rows.filter(row => !row.hidden).length;
+}

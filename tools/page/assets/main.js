@@ -1,0 +1,142 @@
+// Puts the charts into the page, those with trouble first, and draws each when it comes into sight.
+
+const AT_ONCE = 6, MORE = 12, MOST_LINES = 500, MOST_PRINTED = 24;
+const KEYS = {
+  "+": chart => chart.zoom(0.5), "=": chart => chart.zoom(0.5), "-": chart => chart.zoom(2),
+  ArrowLeft: chart => chart.move(-0.25), ArrowRight: chart => chart.move(0.25), "0": chart => chart.graph.resetZoom(),
+  ArrowUp: chart => chart.stretch(0.25), ArrowDown: chart => chart.stretch(4), PageUp: chart => chart.step(-1), PageDown: chart => chart.step(1),
+};
+const BUTTONS = [["Zoom in", "+"], ["Zoom out", "-"], ["Left", "ArrowLeft"], ["Right", "ArrowRight"], ["Taller", "ArrowUp"],
+  ["Lower", "ArrowDown"], ["Whole", "0"], ["Point before", "PageUp"], ["Next point", "PageDown"]];
+
+let charts, shown = [], limit = AT_ONCE;
+const drawn = new Map();
+const isByFrame = () => document.querySelector("input[name=axis]:checked").value === "frame";
+const sight = new IntersectionObserver(seen => seen.filter(one => one.isIntersecting).forEach(one => draw(one.target)),
+  { rootMargin: "200px" });
+
+function make(name, content = "", more = {}) {
+  return Object.assign(document.createElement(name), { textContent: content, ...more });
+}
+
+function figureOf(one) {
+  const figure = make("figure", "", { id: `chart-${one.number}`, className: "window", tabIndex: 0 });
+  const caption = make("figcaption");
+  caption.append(make("h3", nameOf(one)), make("p", `${one.trouble}. Client ${one.client}, server ${one.server}.`));
+  const plot = make("div", "", { className: "plot", role: "img", ariaLabel: `Credit of the ${one.side}: ${one.trouble}` });
+  const keys = make("p", "", { className: "keys" });
+  keys.append(...BUTTONS.map(([name, key]) => make("button", name, { type: "button", onclick: () => press(figure, key) })));
+  figure.append(caption, plot, make("output", "", { ariaLive: "polite" }), keys);
+  figure.addEventListener("keydown", event => {
+    if (event.target !== figure || !(event.key in KEYS) || event.ctrlKey || event.altKey || event.metaKey) return;
+    event.preventDefault();
+    press(figure, event.key);
+  });
+  return figure;
+}
+
+function press(figure, key) {
+  KEYS[key](draw(figure));
+}
+
+// The chart of a figure, which is drawn now if it was not.
+function draw(figure) {
+  if (!drawn.has(figure.id)) {
+    const one = charts.windows[Number(figure.id.slice("chart-".length))];
+    const chart = new Chart(figure.querySelector(".plot"), one, seriesOf(charts, one), faultLines(one), isByFrame());
+    drawn.set(figure.id, chart);
+  }
+  return drawn.get(figure.id);
+}
+
+// The places of the faults of a window's connection: its own, and the first of the others.
+function faultLines(one) {
+  const places = [];
+  for (const other of charts.windows.filter(other => other.connection === one.connection && other.faults)) {
+    const { frames, nanos, faults } = seriesOf(charts, other);
+    faults.forEach(({ point }) => places.push({ frame: frames[point], nanos: nanos[point] }));
+    if (places.length > MOST_LINES) break;
+  }
+  return places.slice(0, MOST_LINES);
+}
+
+function list() {
+  const want = asked();
+  shown = charts.windows.filter(one => isWindowAsked(one, want));
+  const rows = filterRows(want);
+  field("found").textContent = `${grouped(shown.length)} of ${grouped(charts.windows.length)} windows, ${grouped(rows)} findings`;
+  limit = AT_ONCE;
+  place();
+}
+
+// Shows the first of the windows that were asked for, and a button for more of them.
+function place() {
+  sight.disconnect();
+  drawn.forEach(chart => chart.graph.destroy());
+  drawn.clear();
+  const figures = shown.slice(0, limit).map(figureOf);
+  const rest = shown.length - figures.length;
+  const more = rest > 0 ? [make("button", `Show ${Math.min(rest, MORE)} of ${grouped(rest)} windows more`,
+    { type: "button", id: "more", onclick: showMore })] : [];
+  field("windows").replaceChildren(...figures, ...more);
+  figures.forEach(figure => sight.observe(figure));
+}
+
+function showMore() {
+  const rest = shown.length - limit;
+  const added = shown.slice(limit, limit + MORE).map(figureOf);
+  limit += MORE;
+  field("more").before(...added);
+  added.forEach(figure => sight.observe(figure));
+  if (rest <= MORE) field("more").remove();
+  else field("more").textContent = `Show ${Math.min(rest - MORE, MORE)} of ${grouped(rest - MORE)} windows more`;
+  added[0].focus();
+}
+
+// From a finding to its place: the chart of its window or, where there is none, of its connection.
+function go(row) {
+  const { connection, side, stream, frame } = row.dataset;
+  const ofConnection = charts.windows.filter(one => String(one.connection) === connection);
+  const one = ofConnection.find(one => one.side === side && String(one.stream) === stream)
+    ?? ofConnection.find(one => one.side === side && one.stream === 0) ?? ofConnection[0];
+  if (!one) return false;
+  if (!field(`chart-${one.number}`)) {
+    shown = [one, ...shown.filter(other => other !== one)];
+    place();
+  }
+  const figure = field(`chart-${one.number}`);
+  figure.scrollIntoView({ block: "center" });
+  figure.focus({ preventScroll: true });
+  draw(figure).show(Number(frame));
+  return true;
+}
+
+function choose(control) {
+  if (control.name === "axis") drawn.forEach(chart => chart.setAxis(isByFrame()));
+  else list();
+}
+
+function listen() {
+  for (const kind of ["input", "change"]) field("filters").addEventListener(kind, event => choose(event.target));
+  field("filters").addEventListener("submit", event => event.preventDefault());
+  document.addEventListener("click", event => {
+    const row = event.target.closest("tr[data-frame]");
+    if (row && event.target.closest("a") && go(row)) event.preventDefault();
+  });
+  matchMedia("(prefers-color-scheme: dark)").addEventListener("change", () => drawn.forEach(chart => chart.draw()));
+  addEventListener("beforeprint", () => document.querySelectorAll("figure.window").forEach((figure, number) => {
+    if (number < MOST_PRINTED) draw(figure);
+  }));
+}
+
+async function start() {
+  charts = await unpackedCharts();
+  offerKinds(charts);
+  field("no-charts").hidden = true;
+  field("filters").hidden = field("help").hidden = false;
+  listen();
+  list();
+  document.documentElement.dataset.ready = "true";
+}
+
+start();

@@ -1,0 +1,90 @@
+"""The whole page: one HTML file that loads nothing, since its policy lets it load nothing."""
+
+from __future__ import annotations
+
+import base64
+import hashlib
+from importlib import resources
+
+from page.chart_data import Packed, packed
+from page.library import Library
+from page.markup import Markup, element, markup
+from page.model import Audit
+from page.tables import chosen, connections, left_out, section, summary
+
+SCRIPTS = ("data.js", "chart.js", "filters.js", "main.js")
+
+
+def asset(name: str) -> str:
+    return resources.files("page").joinpath("assets", name).read_text(encoding="utf-8")
+
+
+def source_hash(text: str) -> str:
+    return f"'sha256-{base64.b64encode(hashlib.sha256(text.encode()).digest()).decode()}'"
+
+
+def policy(scripts: list[str], styles: list[str]) -> str:
+    """Only these scripts run and only these styles count; nothing is fetched, framed or sent (CSP level 3)."""
+    return ("default-src 'none'; base-uri 'none'; form-action 'none'; "
+            f"script-src {' '.join(map(source_hash, scripts))}; style-src {' '.join(map(source_hash, styles))}")
+
+
+def page(audit: Audit, title: str, library: Library) -> str:
+    charts = packed(audit) if audit.has_credit else None
+    own = "(() => {\n\"use strict\";\n" + "\n".join(map(asset, SCRIPTS)) + "\n})();\n"
+    scripts = [library.script, own] if charts else []
+    styles = [library.style, asset("page.css")]
+    return "".join(["<!DOCTYPE html>\n<html lang=\"en\">\n", head(title, policy(scripts, styles), styles),
+                    body(audit, title, charts), licence(library) if charts else "",
+                    *[element("script", Markup(script)) for script in scripts], "</body>\n</html>\n"])
+
+
+def head(title: str, rules: str, styles: list[str]) -> Markup:
+    return element("head", [
+        Markup('<meta charset="utf-8">\n'),
+        Markup(f'<meta http-equiv="Content-Security-Policy" content="{rules}">\n'),
+        Markup('<meta name="viewport" content="width=device-width, initial-scale=1">\n'),
+        Markup('<meta name="referrer" content="no-referrer">\n<meta name="color-scheme" content="light dark">\n'),
+        element("title", title), *[element("style", Markup(style)) for style in styles]])
+
+
+def body(audit: Audit, title: str, charts: Packed | None) -> Markup:
+    choice = chosen(audit)
+    shown = [section(one, choice) for one in audit.connections if id(one) in choice.sections]
+    main = [summary(audit), left_out(choice, audit.lines), chart_section(audit, charts), connections(audit), *shown]
+    about = element("p", "Made by h2audit-page from a report of h2audit. The rules are those of RFC 9113, HTTP/2.")
+    return Markup("<body>\n" + element("header", [element("h1", title), about]) + "\n" + element("main", main, class_="large" if choice.left_out else None) + "\n")
+
+
+def chart_section(audit: Audit, charts: Packed | None) -> Markup:
+    parts = [element("h2", "Credit of each window")]
+    if charts is None:
+        windows = any(one.opening.form == "http2" for one in audit.connections)
+        said = "The report has no credit lines, so there are no charts. Make it with h2audit --frames to have them."
+        return element("section", [*parts, element("p", said)], id="charts") if windows else Markup("")
+    parts += [element("p", Markup("Charts need JavaScript; the tables below do not."), id="no-charts"),
+              thinning(charts), asset_markup("filters.html"), element("div", "", id="windows"),
+              element("script", Markup(charts.text), type="text/plain", id="chart-data")]
+    return element("section", parts, id="charts")
+
+
+def asset_markup(name: str) -> Markup:
+    return Markup(asset(name))
+
+
+def thinning(charts: Packed) -> Markup:
+    """Whether the charts have every credit line, and what is left out where they have not."""
+    said = []
+    if charts.points < charts.points_in_report:
+        said.append(f"The charts are thinned: of {charts.points_in_report:,} credit lines they have {charts.points:,} points, "
+                    "among them both ends of every stall, every fault, and the least and the greatest credit of each stretch. ")
+    if charts.joined:
+        said.append(f"{charts.joined:,} stalls and faults stand so near others that they share a shade or a mark. ")
+    if charts.left_out:
+        said.append(f"{charts.left_out:,} windows have no chart, those without trouble first. ")
+    return element("p", "".join(said), id="thinned", class_="note") if said else Markup("")
+
+
+def licence(library: Library) -> Markup:
+    said = [element("summary", f"Charts by dygraphs {library.version}, MIT licence"), element("pre", library.licence, tabindex="0")]
+    return element("footer", element("details", said))

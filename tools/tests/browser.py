@@ -1,0 +1,65 @@
+"""A headless Chromium for tests, driven by Selenium, with what it said and what it asked the network for."""
+
+import json
+import os
+import time
+
+from selenium import webdriver
+from selenium.webdriver.chrome.options import Options
+from selenium.webdriver.chrome.service import Service
+
+WORDS = ["--headless=new", "--window-size=1200,1000", "--disable-gpu", "--disable-dev-shm-usage", "--hide-scrollbars",
+         "--force-device-scale-factor=1", "--force-color-profile=srgb", "--no-first-run", "--disable-background-networking"]
+PATIENCE = 30
+
+
+class Browser:
+    def __init__(self):
+        options = Options()
+        options.binary_location = "/usr/bin/chromium"
+        # Root has no sandbox of Chromium's.
+        for word in WORDS + ["--no-sandbox"] * (os.geteuid() == 0):
+            options.add_argument(word)
+        options.set_capability("goog:loggingPrefs", {"browser": "ALL", "performance": "ALL"})
+        self.driver = webdriver.Chrome(service=Service("/usr/bin/chromedriver"), options=options)
+        self.driver.set_page_load_timeout(60)
+
+    def close(self):
+        self.driver.quit()
+
+    def command(self, name, **words):
+        return self.driver.execute_cdp_cmd(name, words)
+
+    def scheme(self, name, media=""):
+        self.command("Emulation.setEmulatedMedia", media=media, features=[{"name": "prefers-color-scheme", "value": name}])
+
+    def scripts(self, are_on):
+        self.command("Emulation.setScriptExecutionDisabled", value=not are_on)
+
+    def load(self, path, is_ready="return document.documentElement.dataset.ready === 'true'"):
+        """Opens a page; answers the seconds until its charts are there."""
+        start = time.monotonic()
+        self.driver.get(f"file://{path}")
+        self.until(is_ready)
+        return time.monotonic() - start
+
+    def run(self, script, *words):
+        return self.driver.execute_script(script, *words)
+
+    def until(self, script, *words):
+        """Waits until a script answers something that is true."""
+        end = time.monotonic() + PATIENCE
+        while time.monotonic() < end:
+            if found := self.run(script, *words):
+                return found
+            time.sleep(0.03)
+        raise AssertionError(f"never true: {script}")
+
+    def messages(self):
+        """What stands in the console since it was asked last."""
+        return [entry["message"] for entry in self.driver.get_log("browser")]
+
+    def requests(self):
+        """What was asked for since the last time, but for the pages themselves."""
+        entries = [json.loads(entry["message"])["message"] for entry in self.driver.get_log("performance")]
+        return [entry["params"]["request"]["url"] for entry in entries if entry["method"] == "Network.requestWillBeSent"]

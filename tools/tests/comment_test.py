@@ -1,0 +1,347 @@
+#!/usr/bin/python3
+"""Tests of h2audit-comment: what tshark says of the captures before and after, and by which name bad input is refused."""
+
+import gzip
+import os
+import pathlib
+import re
+import struct
+import subprocess
+import sys
+import tempfile
+import unittest
+
+TOP = pathlib.Path(__file__).resolve().parents[2]
+PROGRAM = TOP / "tools" / "h2audit-comment"
+EXAMPLES = TOP / "examples"
+sys.path[:0] = [str(TOP / "tools"), str(TOP / "tools" / "tests")]
+sys.dont_write_bytecode = True
+
+from pcapng_blocks import (
+    block, classic, interface, micros, old_packet, option, packet, records_of, section, simple_packet)
+
+# What a packet is: all that tshark shows of its place, time, interface and bytes.
+FIELDS = ["frame.number", "frame.time_epoch", "frame.interface_id", "frame.interface_name", "frame.encap_type", "frame.len",
+          "frame.cap_len", "frame.md5_hash", "frame.protocols", "tcp.stream", "tcp.seq_raw", "tcp.flags", "tcp.len"]
+# Written by hand, from the example's README and its packets.
+SAID_OF_GO = {
+    12: "h2audit: client used up its credit on stream 1, and waited 764 µs, up to packet 14 (stream-stall-begin); "
+        "nobody broke a rule: ask the server why it granted nothing,"
+        "h2audit: client sent 5,000 bytes past its credit on stream 1 (stream-overrun); the client broke RFC 9113, 6.9.1",
+    14: "h2audit: client's stall on stream 1 ended, 764 µs after packet 12 (stream-stall-end); nobody broke a rule"}
+FINDING = re.compile(r"^frame \d+ record (\d+) .* (client|server) ([a-z-]+) stream", re.M)
+
+
+def shown(capture, fields=FIELDS, *more):
+    words = ["tshark", "-n", "-o", "frame.generate_md5_hash:TRUE", "-r", capture, "-T", "fields", *more]
+    run = subprocess.run(words + [word for field in fields for word in ("-e", field)], capture_output=True, text=True, timeout=60)
+    assert run.returncode == 0, run.stderr
+    return [line.split("\t") for line in run.stdout.splitlines()]
+
+
+def comments(capture):
+    """The comments of each packet that has some, one string for each packet."""
+    return {int(number): said for number, said in shown(capture, ["frame.number", "frame.comment"], "-Y", "frame.comment")}
+
+
+def run(*words, **more):
+    return subprocess.run([PROGRAM, *map(str, words)], capture_output=True, timeout=120, **more)
+
+
+class InFolder(unittest.TestCase):
+    def setUp(self):
+        self.work = tempfile.TemporaryDirectory()
+        self.addCleanup(self.work.cleanup)
+        self.folder = pathlib.Path(self.work.name)
+        self.out = self.folder / "out.pcapng"
+
+    def write(self, name, data):
+        path = self.folder / name
+        path.write_bytes(data)
+        return path
+
+    def comment(self, capture, report, *more):
+        done = run(capture, report, "-o", self.out, *more)
+        self.assertEqual((done.returncode, done.stderr, done.stdout), (0, b"", b""))
+        return self.out
+
+
+class Examples(InFolder):
+    """Each finding but credit is in a comment of its packet, and the packets are as they were."""
+
+    def test_each(self):
+        for capture in sorted(EXAMPLES.glob("*.pcap")):
+            with self.subTest(capture.name):
+                report = capture.with_suffix(".report")
+                self.comment(capture, report)
+                # A classic capture tells no interface, and a pcapng capture has one.
+                fields = [field for field in FIELDS if not field.startswith("frame.interface")]
+                found = shown(self.out, [*fields, "frame.comment"])
+                self.assertEqual([row[:-1] for row in found], shown(capture, fields))
+                self.judge(report.read_text(), {int(row[0]): row[-1] for row in found if row[-1]})
+
+    def judge(self, report, said):
+        wanted = {}
+        for record, _, kind in FINDING.findall(report):
+            wanted.setdefault(int(record), []).append(kind)
+        self.assertEqual({record: re.findall(r"\(([a-z-]+)\);", text) for record, text in said.items()}, wanted)
+
+    def test_by_hand(self):
+        self.comment(EXAMPLES / "stream_overrun_go.pcap", EXAMPLES / "stream_overrun_go.report")
+        self.assertEqual(comments(self.out), SAID_OF_GO)
+
+    def test_an_overflow_is_the_other_sides(self):
+        self.comment(EXAMPLES / "connection_overflow_nginx.pcap", EXAMPLES / "connection_overflow_nginx.report")
+        self.assertIn("server's credit of the connection rose to 2,147,547,182, above 2^31 - 1 (connection-overflow); "
+                      "the client broke RFC 9113, 6.9.1", comments(self.out)[15])
+
+    def test_filter_of_wireshark(self):
+        self.comment(EXAMPLES / "use_after_reset.pcap", EXAMPLES / "use_after_reset.report")
+        found = shown(self.out, ["frame.number"], "-Y", 'frame.comment contains "h2audit"')
+        self.assertEqual([int(number) for number, in found], [9, 10])
+        expert = subprocess.run(["tshark", "-r", self.out, "-q", "-z", "expert"], capture_output=True, text=True).stdout
+        self.assertRegex(expert, r"Comments \(2\)")
+        self.assertIn("h2audit: server sent WINDOW_UPDATE on stream 7", expert)
+
+    def test_credit(self):
+        """Credit lines are passed over, unless they are asked for."""
+        capture, report = EXAMPLES / "stream_overrun_go.pcap", EXAMPLES / "stream_overrun_go.frames.report"
+        self.assertEqual(sorted(comments(self.comment(capture, report))), [12, 14])
+        self.comment(capture, report, "--credit")
+        self.assertEqual(sum(text.count("h2audit: ") for text in comments(self.out).values()),
+                         len(FINDING.findall(report.read_text())))
+
+
+class Forms(InFolder):
+    """One capture in many forms: the same packets at the same times, in nanoseconds."""
+
+    NAME = "stream_overrun_go"
+    REPORT = EXAMPLES / f"{NAME}.report"
+
+    def setUp(self):
+        super().setUp()
+        self.records, self.link = records_of(EXAMPLES / f"{self.NAME}.pcap")
+        self.wanted = SAID_OF_GO
+
+    def same(self, data, name="in.pcap", fields=FIELDS):
+        capture = self.write(name, data)
+        self.comment(capture, self.REPORT)
+        found = shown(self.out, [*fields, "frame.comment"])
+        self.assertEqual({int(row[0]): row[-1] for row in found if row[-1]}, self.wanted)
+        self.assertEqual([row[:-1] for row in found], shown(capture, fields))
+
+    def test_classic(self):
+        fields = [field for field in FIELDS if not field.startswith("frame.interface")]
+        for order in "<>":
+            for is_nano in (False, True):
+                self.same(classic(self.records, self.link, order, is_nano), fields=fields)
+
+    def test_nanoseconds_are_kept(self):
+        report = re.sub(r" time (\d+)", lambda time: f" time {int(time[1]) + 123}", self.REPORT.read_text())
+        parts = classic([], self.link, is_nano=True) + b"".join(
+            struct.pack("<IIII", seconds, fraction * 1000 + 123, len(data), length) + data
+            for seconds, fraction, length, data in self.records)
+        capture = self.write("nano.pcap", parts)
+        self.comment(capture, self.write("report", report.encode()))
+        self.assertEqual(shown(self.out, ["frame.time_epoch"]), shown(capture, ["frame.time_epoch"]))
+        self.assertTrue(shown(self.out, ["frame.time_epoch"])[0][0].endswith("123"))
+
+    def test_two_interfaces_and_resolutions(self):
+        """Microseconds on one interface, nanoseconds with an offset on the other, and a comment that stands there already."""
+        for order in "<>":
+            parts = [section(order), interface(order, self.link, name=b"lan"), interface(order, self.link, 9, 100, b"wan")]
+            for number, one in enumerate(self.records):
+                time = (micros(one) - 100 * 10**6) * 1000 if number % 2 else micros(one)
+                parts.append(packet(order, number % 2, time, one))
+            self.same(b"".join(parts), "in.pcapng")
+
+    def test_comments_that_stand_there(self):
+        there = option("<", 1, b"seen before") + option("<", 2, bytes(4)) + option("<", 0, b"")
+        parts = [section(), interface("<", self.link)] + [packet("<", 0, micros(one), one, there) for one in self.records]
+        self.comment(self.write("in.pcapng", b"".join(parts)), self.REPORT)
+        found = comments(self.out)
+        self.assertEqual(found[1], "seen before")
+        self.assertEqual(found[12], "seen before," + self.wanted[12])
+
+    def test_sections(self):
+        """Two sections, of which the second has its own order of bytes and its length told, and the packet block of old."""
+        first = section() + interface("<", self.link) + b"".join(packet("<", 0, micros(one), one) for one in self.records[:11])
+        inner = interface(">", self.link) + b"".join(old_packet(">", 0, micros(one), one) for one in self.records[11:])
+        self.same(first + section(">", len(inner)) + inner, "in.pcapng")
+
+    def test_other_blocks_stay(self):
+        """Names, statistics, secrets and blocks that nobody knows are copied byte for byte."""
+        others = block("<", 5, struct.pack("<III", 0, 0, 0)) + block("<", 0x77777, b"abc") + block("<", 10, struct.pack("<II", 0x544C534B, 0))
+        parts = [section(), interface("<", self.link), others] + [packet("<", 0, micros(one), one) for one in self.records] + [others]
+        data = b"".join(parts)
+        self.same(data, "in.pcapng")
+        self.assertEqual(self.out.read_bytes().count(others), 2)
+        no_findings = self.write("none", self.REPORT.read_bytes().split(b"\n")[0] + b"\n")
+        self.comment(self.folder / "in.pcapng", no_findings)
+        self.assertEqual(self.out.read_bytes(), data)
+
+    def test_numbered_as_wireshark_does(self):
+        """Custom blocks and journal entries have a number in Wireshark, so the packets after them move on."""
+        custom = block("<", 0xBAD, struct.pack("<I", 32473) + b"abcd")
+        parts = [section(), interface("<", self.link), custom] + [packet("<", 0, micros(one), one) for one in self.records]
+        report = re.sub(r" record (\d+) time", lambda at: f" record {int(at[1]) + 1} time", self.REPORT.read_text())
+        self.comment(self.write("in.pcapng", b"".join(parts)), self.write("report", report.encode()))
+        self.assertEqual(sorted(comments(self.out)), [13, 15])
+
+    def test_gzip(self):
+        fields = [field for field in FIELDS if not field.startswith("frame.interface")]
+        self.same(gzip.compress(classic(self.records, self.link)), "in.pcap.gz", fields)
+        whole = b"".join([section(), interface("<", self.link)] + [packet("<", 0, micros(one), one) for one in self.records])
+        self.same(gzip.compress(whole), "in.pcapng.gz")
+
+    def test_standard_input_and_output(self):
+        data = (EXAMPLES / f"{self.NAME}.pcap").read_bytes()
+        done = run("-", self.REPORT, "-o", "-", input=data)
+        self.assertEqual((done.returncode, done.stderr), (0, b""))
+        self.assertEqual(comments(self.write("again.pcapng", done.stdout)), self.wanted)
+        done = run(EXAMPLES / f"{self.NAME}.pcap", "-", "-o", self.out, input=self.REPORT.read_bytes())
+        self.assertEqual((done.returncode, done.stderr), (0, b""))
+
+    def test_many_comments_of_one_packet(self):
+        """More than a block can hold: the last comment says how many are left out, and Wireshark reads the file."""
+        head, finding = self.REPORT.read_text().split("\n")[0:2], self.REPORT.read_text().split("\n")[5]
+        report = self.write("report", "\n".join(head + [finding] * 50000).encode() + b"\n")
+        done = run(EXAMPLES / f"{self.NAME}.pcap", report, "-o", self.out)
+        self.assertEqual((done.returncode, done.stderr), (0, b""))
+        said = comments(self.out)[12]
+        written = said.count("(stream-overrun)")
+        self.assertGreater(written, 20000)
+        self.assertTrue(said.endswith(f"h2audit: and {50000 - written:,} findings more, which the report has"), said[-200:])
+
+
+class Maps(InFolder):
+    """A report of a made capture, whose records are taken to packets of the original by the map of the import."""
+
+    CAPTURE = EXAMPLES / "stream_overrun_go.pcap"
+
+    def setUp(self):
+        super().setUp()
+        text = CAPTURE_REPORT.read_text()
+        # The made capture has records 2 and 3 where the original has packets 12 and 14.
+        moved = text.replace(" record 12 time", " record 2 time").replace(" record 14 time", " record 3 time")
+        self.report = self.write("report", moved.encode())
+
+    def map(self, *lines):
+        return self.write("map", "\n".join(["h2audit-map 1", *lines, ""]).encode())
+
+    def test_map(self):
+        path = self.map("file 1 somewhere/a%20b.pcap", "address 240.0.0.1 2001:db8::1", "record 1 file 1 packet 1",
+                        "record 2 file 1 packet 12", "record 3 file 1 packet 14", "connection whatever", "later words")
+        self.comment(self.CAPTURE, self.report, "-m", path)
+        self.assertEqual(sorted(comments(self.out)), [12, 14])
+        self.assertIn("up to packet 14 (", comments(self.out)[12])
+
+    def test_several_files(self):
+        """The capture is found by its name; what is about another file is told, and a stall may end there."""
+        path = self.map("file 1 old/first.pcap", "file 2 old/stream_overrun_go.pcap", "record 1 file 1 packet 1",
+                        "record 2 file 2 packet 12", "record 3 file 1 packet 3")
+        done = run(self.CAPTURE, self.report, "-o", self.out, "-m", path)
+        self.assertEqual((done.returncode, done.stderr), (0, b"h2audit-comment: 1 findings are about other files of the map\n"))
+        self.assertEqual(sorted(comments(self.out)), [12])
+        self.assertIn("up to packet 3 of first.pcap", comments(self.out)[12])
+
+    def refuses(self, why, path):
+        done = run(self.CAPTURE, self.report, "-o", self.out, "-m", path)
+        self.assertEqual((done.returncode, done.stderr.decode()), (3, f"h2audit-comment: map refused: {why}\n"))
+        self.assertFalse(self.out.exists())
+
+    def test_refused(self):
+        self.refuses("not a map of h2audit-import", self.write("map", b"\0" * 100))
+        self.refuses("not a map of h2audit-import", self.write("map", b""))
+        self.refuses("version 2 of the map is unknown: this is for version 1", self.write("map", b"h2audit-map 2\n"))
+        self.refuses("line 3 is no line of a map", self.map("file 1 a.pcap", "record 1 packet 2"))
+        self.refuses("it has no record 3, which the report names", self.map("file 1 a", "record 2 file 1 packet 12"))
+        self.refuses(f"{self.CAPTURE} is not one of its files by name: it has none", self.map())
+        self.refuses(f"{self.CAPTURE} is not one of its files by name: a, b", self.map("file 1 a", "file 2 b"))
+
+
+CAPTURE_REPORT = EXAMPLES / "stream_overrun_go.report"
+
+
+class BadInput(InFolder):
+    """Each gives one line on standard error and its status, and leaves no file."""
+
+    CAPTURE = EXAMPLES / "stream_overrun_go.pcap"
+
+    def refuses(self, why, capture=CAPTURE, report=CAPTURE_REPORT):
+        done = run(capture, report, "-o", self.out)
+        self.assertEqual((done.returncode, done.stderr.decode()), (3, f"h2audit-comment: {why}\n"))
+        self.assertFalse(list(self.folder.glob("*.pcapng")) + list(self.folder.glob(".h2audit-*")))
+
+    def data(self, data):
+        return self.write("in", data)
+
+    def test_captures(self):
+        good = self.CAPTURE.read_bytes()
+        records, link = records_of(self.CAPTURE)
+        self.refuses("capture refused: short-header", self.data(b""))
+        self.refuses("capture refused: short-header", self.data(good[:23]))
+        self.refuses("capture refused: bad-magic", self.data(b"no capture at all"))
+        self.refuses("capture refused: bad-version", self.data(good[:4] + b"\3\0" + good[6:]))
+        self.refuses("capture refused: packet-too-long", self.data(good[:24] + struct.pack("<IIII", 0, 0, 2**32 - 1, 0)))
+        self.refuses("capture refused: bad-gzip", self.data(b"\x1f\x8b\x08" + b"\xff" * 40))
+        head = section() + interface("<", link)
+        self.refuses("capture refused: bad-block", self.data(head + struct.pack("<II", 6, 13) + bytes(100)))
+        self.refuses("capture refused: bad-block", self.data(head + struct.pack("<II", 6, 2**32 - 4) + bytes(100)))
+        self.refuses("capture refused: bad-block", self.data(head + struct.pack("<II", 6, 32) + bytes(20) + b"abcd"))
+        self.refuses("capture refused: bad-magic", self.data(b"\n\r\r\n" + bytes(40)))
+        self.refuses("capture refused: no-interface", self.data(section() + packet("<", 0, 1, records[0])))
+        simple = head + b"".join(simple_packet("<", one) for one in records)
+        self.refuses("capture refused: simple-packet-block", self.data(simple))
+        bad = b"".join(packet("<", 0, micros(one), one, b"\1\0\xff\0") for one in records)
+        self.refuses("capture refused: bad-options", self.data(head + bad))
+
+    def test_reports(self):
+        good = CAPTURE_REPORT.read_text()
+        self.refuses("report refused: not a report of h2audit", report=self.CAPTURE)
+        self.refuses("report refused: packet 12 has another time than the report says: is it of this capture?",
+                     report=self.data(good.replace("079320000", "079321000").encode()))
+        self.refuses("report refused: it names packet 99, and the capture has 22 whole packets",
+                     report=self.data(good.replace("record 14 time", "record 99 time").encode()))
+        self.refuses("report refused: it names a packet 0", report=self.data(good.replace("record 14 time", "record 0 time").encode()))
+
+    def test_a_cut_capture(self):
+        """What is whole is written, and a line says what is left out."""
+        good = self.CAPTURE.read_bytes()
+        for data in (good[:-1], gzip.compress(good)[:-20]):
+            done = run(self.data(data), CAPTURE_REPORT, "-o", self.out)
+            self.assertEqual((done.returncode, done.stderr),
+                             (0, b"h2audit-comment: the capture ends within packet 22, which is left out\n"))
+            self.assertEqual(len(shown(self.out, ["frame.number"])), 21)
+
+    def test_files(self):
+        missing = "/nowhere/at all"
+        for words, name in (((missing, CAPTURE_REPORT, "-o", self.out), missing), ((self.CAPTURE, missing, "-o", self.out), missing),
+                            ((self.CAPTURE, CAPTURE_REPORT, "-o", missing), missing),
+                            ((self.CAPTURE, CAPTURE_REPORT, "-o", self.out, "-m", missing), missing)):
+            done = run(*words)
+            self.assertEqual((done.returncode, done.stderr.decode()), (4, f"h2audit-comment: {name}: No such file or directory\n"))
+
+    def test_words(self):
+        for words in ((), ("a",), ("a", "b"), ("-", "-", "-o", "c"), ("a", "b", "c", "-o", "d"), ("--no", "a", "b", "-o", "c")):
+            done = run(*words)
+            self.assertEqual((done.returncode, done.stderr.count(b"\n"), done.stdout), (2, 1, b""), words)
+
+    def test_the_capture_may_be_the_output(self):
+        """A file takes the capture's place only once it is whole."""
+        capture = self.write("in.pcap", self.CAPTURE.read_bytes())
+        os.chmod(capture, 0o640)
+        self.assertEqual(run(capture, CAPTURE_REPORT, "-o", capture).returncode, 0)
+        self.assertEqual(sorted(comments(capture)), [12, 14])
+        self.assertEqual(capture.stat().st_mode & 0o777, 0o640)
+        again = run(capture, self.data(b"no report"), "-o", capture)
+        self.assertEqual((again.returncode, sorted(comments(capture))), (3, [12, 14]))
+
+    def test_closed_pipe(self):
+        words = [PROGRAM, self.CAPTURE, CAPTURE_REPORT]
+        done = subprocess.run(["bash", "-c", 'set -o pipefail; "$0" "$1" "$2" -o - | true', *words], capture_output=True)
+        self.assertIn((done.returncode, done.stderr), [(0, b""), (4, b"h2audit-comment: input or output: Broken pipe\n")])
+
+
+if __name__ == "__main__":
+    unittest.main()

@@ -1,0 +1,399 @@
+#!/usr/bin/python3
+"""Tests of h2audit-page in a real headless Chromium: what it shows of each example, and what clicks, keys and drags do.
+
+    tools/tests/page_browser_test.py            runs the tests
+    tools/tests/page_browser_test.py --write    takes the pictures of docs/ anew
+"""
+
+import base64
+import json
+import pathlib
+import re
+import subprocess
+import sys
+import tempfile
+import unittest
+import zlib
+
+from selenium.webdriver.common.action_chains import ActionChains
+from selenium.webdriver.common.by import By
+from selenium.webdriver.common.keys import Keys
+from selenium.webdriver.support.ui import Select
+
+TOP = pathlib.Path(__file__).resolve().parents[2]
+PROGRAM = TOP / "tools" / "h2audit-page"
+EXAMPLES = TOP / "examples"
+PICTURES = TOP / "docs" / "pictures"
+PICTURED = "stream_overrun_go"
+sys.path[:0] = [str(TOP / "tools"), str(TOP / "tools" / "tests")]
+sys.dont_write_bytecode = True
+
+from browser import Browser
+from page_test import FINDING, large
+from report.lines import Finding
+from report.blame import what_happened
+
+# How many pixels of the canvases of the first chart have about this colour.
+PIXELS = """
+    const [figure, red, green, blue] = arguments;
+    let number = 0;
+    for (const canvas of document.querySelectorAll(`${figure} canvas`)) {
+      if (!canvas.width) continue;
+      const copy = new OffscreenCanvas(canvas.width, canvas.height).getContext("2d", { willReadFrequently: true });
+      copy.drawImage(canvas, 0, 0);
+      const { data } = copy.getImageData(0, 0, canvas.width, canvas.height);
+      for (let at = 0; at < data.length; at += 4) {
+        const far = Math.abs(data[at] - red) + Math.abs(data[at + 1] - green) + Math.abs(data[at + 2] - blue);
+        if (data[at + 3] > 200 && far < 30) number += 1;
+      }
+    }
+    return number;
+"""
+IS_DRAWN = """
+    const figure = document.querySelector(arguments[0]);
+    figure?.scrollIntoView({ block: "center" });
+    return !!figure?.querySelector("canvas");
+"""
+LABELS = "return [...document.querySelectorAll(`${arguments[0]} .dygraph-axis-label-x`)].map(one => one.textContent).join(' ')"
+SAID = "return document.querySelector(`${arguments[0]} output`).textContent"
+FIRST = "#chart-0"
+
+
+def colour(name, scheme):
+    style = (TOP / "tools" / "page" / "assets" / "page.css").read_text()
+    root = re.findall(r":root \{(.*?)\}", style, re.S)[0 if scheme == "light" else 1]
+    value = re.search(rf"--{name}: #([0-9a-f]{{6}})", root)[1]
+    return [int(value[at:at + 2], 16) for at in (0, 2, 4)]
+
+
+class InBrowser(unittest.TestCase):
+    @classmethod
+    def setUpClass(cls):
+        cls.work = tempfile.TemporaryDirectory()
+        cls.folder = pathlib.Path(cls.work.name)
+        cls.browser = Browser()
+
+    @classmethod
+    def tearDownClass(cls):
+        cls.browser.close()
+        cls.work.cleanup()
+
+    def setUp(self):
+        self.browser.scheme("light")
+        self.browser.messages(), self.browser.requests()
+
+    def tearDown(self):
+        """No page says anything in the console, and none asks the network for anything."""
+        self.assertEqual(self.browser.messages(), [])
+        self.assertEqual([url for url in self.browser.requests() if not url.startswith(f"file://{self.folder}/")], [])
+
+    def made(self, report, name="page.html"):
+        path = self.folder / name
+        subprocess.run([PROGRAM, "-", "-o", path, "--title", "A page"], input=report.encode(), check=True, timeout=200)
+        return path
+
+    def example(self, name):
+        report = (EXAMPLES / f"{name}.frames.report").read_text()
+        return self.browser.load(self.made(report, f"{name}.html"))
+
+    def drawn(self, figure=FIRST):
+        self.browser.until(IS_DRAWN, figure)
+
+    def labels(self, figure=FIRST):
+        return self.browser.run(LABELS, figure)
+
+    def said(self, figure=FIRST):
+        return self.browser.run(SAID, figure)
+
+    def find(self, selector):
+        return self.browser.driver.find_element(By.CSS_SELECTOR, selector)
+
+
+class Examples(InBrowser):
+    def test_each(self):
+        """Each finding stands in the page's text, and the chart has the colours of what is in it."""
+        for report in sorted(EXAMPLES.glob("*.frames.report")):
+            with self.subTest(report.name):
+                text = report.read_text()
+                self.example(report.name.removesuffix(".frames.report"))
+                self.drawn()
+                shown = self.browser.run("return document.body.innerText")
+                for frame, record, time, side, kind, stream, value in FINDING.findall(text):
+                    if not kind.endswith("-credit"):
+                        finding = Finding(int(frame), int(record), int(time), side, kind, int(stream), int(value))
+                        self.assertIn(what_happened(finding), shown)
+                        self.assertIn(f"({kind})", shown)
+                self.judge_colours(text)
+
+    def judge_colours(self, text):
+        pixels = {name: self.browser.run(PIXELS, FIRST, *colour(name, "light")) for name in ("line", "stall", "fault")}
+        self.assertGreater(pixels["line"], 3)
+        windows = set(re.findall(r"(?m)^stall (client|server) stream (\d+)", text))
+        has_faults = any(not re.search("-(credit|stall-begin|stall-end)$", kind) for _, _, _, _, kind, _, _ in FINDING.findall(text))
+        self.assertEqual(pixels["fault"] > 20, has_faults)
+        if not has_faults:
+            self.assertEqual(pixels["stall"] > 20, bool(windows))
+
+    def test_an_empty_canvas_differs(self):
+        self.example("stream_stalls_nghttpd")
+        self.drawn()
+        same = self.browser.run("""
+            const drawn = document.querySelector("figure.window canvas"), empty = document.createElement("canvas");
+            Object.assign(empty, { width: drawn.width, height: drawn.height });
+            return drawn.toDataURL() === empty.toDataURL();
+        """)
+        self.assertFalse(same)
+
+    def test_trouble_comes_first(self):
+        self.example("stream_overrun_go")
+        heads = [one.text for one in self.browser.driver.find_elements(By.CSS_SELECTOR, "figure h3")]
+        self.assertEqual(heads[0], "Connection 1, client, stream 1")
+        self.assertEqual(len(heads), 3)
+
+
+class Hands(InBrowser):
+    """What a user does to a chart."""
+
+    def setUp(self):
+        super().setUp()
+        self.example("negative_window_tomcat")
+        self.drawn()
+        self.whole = self.labels()
+        self.canvas = self.find(f"{FIRST} canvas:last-of-type")
+
+    def drag(self, begin, end, *keys):
+        """Over the chart, from one part of its width to another."""
+        wide = self.canvas.size["width"]
+        chain = ActionChains(self.browser.driver)
+        for key in keys:
+            chain.key_down(key)
+        chain.move_to_element_with_offset(self.canvas, int(wide * (begin - 0.5)), 0).click_and_hold()
+        chain.move_by_offset(int(wide * (end - begin)), 0).release()
+        for key in keys:
+            chain.key_up(key)
+        chain.perform()
+
+    def changed(self, before):
+        self.assertNotEqual(self.browser.until(f"const now = (() => {{ {LABELS} }})(); return now !== arguments[1] && now",
+                                               FIRST, before), before)
+        return self.labels()
+
+    def seconds(self):
+        return [float(label) for label in self.labels().split()]
+
+    def test_zoom_and_pan_and_whole(self):
+        least, most = min(self.seconds()), max(self.seconds())
+        self.drag(0.4, 0.6)
+        zoomed = self.changed(self.whole)
+        self.assertGreater(min(self.seconds()), least)
+        self.assertLess(max(self.seconds()), most)
+        place = min(self.seconds())
+        self.drag(0.5, 0.2, Keys.SHIFT)
+        panned = self.changed(zoomed)
+        self.assertGreater(min(self.seconds()), place)
+        ActionChains(self.browser.driver).double_click(self.canvas).perform()
+        self.changed(panned)
+        self.assertEqual(self.labels(), self.whole)
+
+    def test_value_under_the_pointer(self):
+        """The last point: the grant of a megabyte, at the end."""
+        wide = self.canvas.size["width"]
+        ActionChains(self.browser.driver).move_to_element_with_offset(self.canvas, wide // 2 - 12, 0).perform()
+        report = (EXAMPLES / "negative_window_tomcat.frames.report").read_text()
+        frame, value = [(one[0], one[6]) for one in FINDING.findall(report)
+                        if one[3:6] == ("server", "stream-credit", "1")][-1]
+        self.assertRegex(self.said(), rf"^Frame {frame}, 2\.\d+ s: credit {int(value):,} bytes$")
+
+    def test_keys(self):
+        figure = self.find(FIRST)
+        figure.send_keys("+")
+        zoomed = self.changed(self.whole)
+        figure.send_keys(Keys.ARROW_RIGHT)
+        self.changed(zoomed)
+        figure.send_keys("0")
+        self.assertEqual(self.labels(), self.whole)
+        figure.send_keys(Keys.PAGE_DOWN)
+        first = self.said()
+        self.assertRegex(first, r"^Frame \d+, .*: credit [\d,-]+ bytes")
+        figure.send_keys(Keys.PAGE_DOWN)
+        self.assertNotEqual(self.said(), first)
+        figure.send_keys(Keys.PAGE_UP)
+        self.assertEqual(self.said(), first)
+
+    def test_heights(self):
+        def heights():
+            return [one.text for one in self.browser.driver.find_elements(By.CSS_SELECTOR, f"{FIRST} .dygraph-axis-label-y")]
+        before = heights()
+        self.find(FIRST).send_keys(Keys.ARROW_UP)
+        self.assertLess(max(int(one.replace(",", "")) for one in heights()), max(int(one.replace(",", "")) for one in before))
+
+    def test_buttons(self):
+        for button in self.find(FIRST).find_elements(By.TAG_NAME, "button"):
+            self.assertTrue(button.text)
+            button.click()
+        self.find(f"{FIRST} .keys button:first-child").click()
+        self.changed(self.whole)
+
+    def test_by_frame(self):
+        self.find("input[value=frame]").click()
+        self.assertEqual(self.find(f"{FIRST} .dygraph-xlabel").text, "frame")
+        self.changed(self.whole)
+
+    def test_a_finding_leads_to_its_place(self):
+        """By mouse and by keyboard, from the findings, and from the summary to the finding."""
+        row = self.find('tr[data-frame="17"][data-kind="stream-stall-begin"]')
+        row.find_element(By.TAG_NAME, "a").click()
+        self.changed(self.whole)
+        self.assertRegex(self.said(), r"^Frame 17, .*: credit 0 bytes")
+        self.assertEqual(self.browser.driver.switch_to.active_element.get_attribute("id"), "chart-0")
+        self.find('tr[data-frame="24"] a').send_keys(Keys.ENTER)
+        place = self.browser.driver.switch_to.active_element
+        self.assertIn("stream 3", place.text)
+        self.assertRegex(place.find_element(By.TAG_NAME, "output").text, r"^Frame 24, ")
+        self.find("#summary tbody a").click()
+        self.assertTrue(self.browser.run("return location.hash").startswith("#c1-f10-server-stream-stall-begin"))
+
+    def test_filters(self):
+        def heads():
+            return [one.text for one in self.browser.driver.find_elements(By.CSS_SELECTOR, "figure h3")]
+
+        def rows():
+            return len([one for one in self.browser.driver.find_elements(By.CSS_SELECTOR, "tr[data-kind]") if one.is_displayed()])
+        self.assertEqual(rows(), 8)
+        self.find("#stream").send_keys("3")
+        self.assertEqual((heads(), rows()), (["Connection 1, server, stream 3"], 2))
+        self.find("#stream").clear()
+        self.find("#search").send_keys("STREAM 1")
+        self.assertEqual((heads(), rows()), (["Connection 1, server, stream 1"], 6))
+        self.assertEqual(self.find("#found").text, "1 of 3 windows, 6 findings")
+        self.find("#search").clear()
+        self.find("#search").send_keys(Keys.BACKSPACE)
+        Select(self.find("#side")).select_by_visible_text("client")
+        self.assertEqual((heads(), rows()), ([], 0))
+        Select(self.find("#side")).select_by_visible_text("both")
+        Select(self.find("#kind")).select_by_value("stall")
+        self.assertEqual((len(heads()), rows()), (2, 8))
+
+
+class Schemes(InBrowser):
+    """Light, dark, without scripts, and printed."""
+
+    def test_colours_of_both(self):
+        for scheme in ("light", "dark"):
+            self.browser.scheme(scheme)
+            self.example("stream_overrun_go")
+            self.drawn()
+            ground = self.browser.run("return getComputedStyle(document.body).backgroundColor")
+            self.assertEqual(ground, "rgb({}, {}, {})".format(*colour("ground", scheme)))
+            for name in ("line", "stall", "fault"):
+                self.assertGreater(self.browser.run(PIXELS, FIRST, *colour(name, scheme)), 20, (scheme, name))
+
+    def test_charts_follow_the_scheme(self):
+        self.example("stream_overrun_go")
+        self.drawn()
+        self.browser.scheme("dark")
+        self.browser.until(PIXELS, FIRST, *colour("fault", "dark"))
+
+    def test_contrast_of_what_is_shown(self):
+        """Of each text that is shown, in both schemes: 4.5 to its ground, or 3 where it is large (WCAG 2.2, 1.4.3)."""
+        for scheme in ("light", "dark"):
+            self.browser.scheme(scheme)
+            self.example("stream_overrun_go")
+            self.drawn()
+            found = self.browser.run((TOP / "tools" / "tests" / "accessible.js").read_text() + "return lowContrast();")
+            self.assertGreater(found["judged"], 100)
+            self.assertEqual(found["low"], [], scheme)
+
+    def test_accessible(self):
+        """Names of controls and pictures, order of headings, sizes of targets, identifiers, language."""
+        self.example("stream_overrun_go")
+        self.drawn()
+        self.assertEqual(self.browser.run((TOP / "tools" / "tests" / "accessible.js").read_text() + "return faults();"), [])
+
+    def test_without_scripts(self):
+        report = (EXAMPLES / "stream_overrun_go.frames.report").read_text()
+        path = self.made(report)
+        self.browser.scripts(False)
+        try:
+            self.browser.load(path, "return document.readyState === 'complete'")
+            text = self.find("body").text
+        finally:
+            self.browser.scripts(True)
+        self.assertIn("client sent 5,000 bytes past its credit on stream 1", text)
+        self.assertIn("Charts need JavaScript; the tables below do not.", text)
+        self.assertNotIn("Charts over", text)
+        self.assertIn("Windows of connection 1", text)
+
+    def test_print(self):
+        self.browser.scheme("dark", "print")
+        self.example("stream_overrun_go")
+        for hidden in ("#filters", ".keys", "footer"):
+            self.assertFalse(self.find(hidden).is_displayed(), hidden)
+        self.assertEqual(self.browser.run("return getComputedStyle(document.body).backgroundColor"), "rgb(255, 255, 255)")
+        printed = base64.b64decode(self.browser.command("Page.printToPDF", printBackground=True)["data"])
+        self.assertTrue(printed.startswith(b"%PDF"))
+        self.assertEqual(self.browser.run("return document.querySelectorAll('figure').length"),
+                         self.browser.run("return [...document.querySelectorAll('figure')].filter(one => one.querySelector('canvas')).length"))
+
+
+class Hostile(InBrowser):
+    def test_addresses(self):
+        """Nothing of a report runs, and the console has nothing to say of it."""
+        report = (EXAMPLES / "stream_overrun_go.frames.report").read_text()
+        evil = "<img/src=x/onerror=document.title='owned'>"
+        self.browser.load(self.made(report.replace("127.0.0.1:52616", evil)))
+        self.drawn()
+        self.assertIn(evil, self.browser.run("return document.body.innerText"))
+        self.assertEqual(self.browser.run("return [document.title, document.querySelectorAll('img').length]"), ["A page", 0])
+
+
+class Large(InBrowser):
+    """A million lines: the page opens within two seconds, and hundreds of streams can be searched."""
+
+    def test_a_million_lines(self):
+        report = large(400, 2400, 20)
+        self.assertGreater(report.count("\n"), 10**6)
+        path = self.made(report)
+        self.assertLess(path.stat().st_size, 5 * 10**6)
+        self.judge_marks(path.read_text())
+        # The machine may be busy with other work, so the best of five counts.
+        seconds = min(self.browser.load(path) for _ in range(5))
+        self.assertLess(seconds, 2)
+        self.drawn()
+        self.assertEqual(self.find("#found").text.split(",")[0], "400 of 400 windows")
+        self.find("#stream").send_keys("777")
+        self.assertEqual([one.text for one in self.browser.driver.find_elements(By.CSS_SELECTOR, "figure h3")],
+                         ["Connection 1, server, stream 777"])
+        self.drawn("figure.window")
+        self.find("#stream").clear()
+        self.find("#search").send_keys(" ")
+        self.find("#more").click()
+        self.assertEqual(len(self.browser.driver.find_elements(By.TAG_NAME, "figure")), 18)
+
+
+    def judge_marks(self, text):
+        """Every stall is in the charts: those of 400 windows, one for each 20 lines."""
+        self.assertIn("The charts are thinned: of 960,000 credit lines", text)
+        data = re.search(r'<script type="text/plain" id="chart-data">([^<]*)<', text)[1]
+        said = json.loads(zlib.decompress(base64.b64decode(data)))
+        self.assertEqual([sum(one[at] for one in said["windows"]) for at in (4, 7)], [48000, 48000])
+
+
+def write_pictures():
+    browser = Browser()
+    with tempfile.TemporaryDirectory() as folder:
+        path = pathlib.Path(folder, "page.html")
+        subprocess.run([PROGRAM, EXAMPLES / f"{PICTURED}.frames.report", "-o", path, "--title", "An upload past its credit"], check=True)
+        for scheme in ("light", "dark"):
+            browser.scheme(scheme)
+            browser.load(path)
+            browser.until(IS_DRAWN, FIRST)
+            browser.driver.save_screenshot(str(PICTURES / f"page_{scheme}.png"))
+    browser.close()
+
+
+if __name__ == "__main__":
+    if sys.argv[1:] == ["--write"]:
+        write_pictures()
+    else:
+        unittest.main()

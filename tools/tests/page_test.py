@@ -1,0 +1,374 @@
+#!/usr/bin/python3
+"""Tests of h2audit-page without a browser: what the page holds, what a large report becomes, and hostile reports."""
+
+import base64
+import contextlib
+import hashlib
+import html.parser
+import io
+import json
+import pathlib
+import re
+import subprocess
+import sys
+import tempfile
+import unittest
+import zlib
+from unittest import mock
+
+TOP = pathlib.Path(__file__).resolve().parents[2]
+PROGRAM = TOP / "tools" / "h2audit-page"
+EXAMPLES = TOP / "examples"
+sys.path.insert(0, str(TOP / "tools"))
+sys.dont_write_bytecode = True
+
+import page.program
+from page import chart_data
+from page.library import Missing, library
+from page.model import read_audit
+from page.series import series_of, thinned
+
+FINDING = re.compile(r"^frame (\d+) record (\d+) time (\d+) (client|server) ([a-z-]+) stream (\d+) value (-?\d+)$", re.M)
+HEAD = "capture records 9 segments 9 snapped 0 not-ipv4 0 fragments 0 not-tcp 0 refused 0\n"
+BOTH_FLOWS = "flow client bytes 9 gap none tail 0\nflow server bytes 9 gap none tail 0\n"
+
+
+class Tags(html.parser.HTMLParser):
+    """The elements of a page with their attributes, the text of its tables, and the text of its scripts and styles."""
+
+    def __init__(self, text):
+        super().__init__()
+        self.elements, self.open, self.rows, self.texts = [], [], [], {"script": [], "style": []}
+        self.policy = ""
+        self.feed(text)
+
+    def handle_starttag(self, tag, attributes):
+        found = dict(attributes)
+        self.elements.append((tag, found))
+        if tag == "meta" and found.get("http-equiv") == "Content-Security-Policy":
+            self.policy = found["content"]
+        elif tag not in ("meta", "input"):
+            self.open.append(tag)
+        if tag == "tr":
+            self.rows.append((found, []))
+        if tag in self.texts:
+            self.texts[tag].append((found, ""))
+
+    def handle_endtag(self, tag):
+        assert self.open.pop() == tag, tag
+
+    def handle_data(self, data):
+        if self.open and self.open[-1] in self.texts:
+            attributes, text = self.texts[self.open[-1]].pop()
+            self.texts[self.open[-1]].append((attributes, text + data))
+        elif "tr" in self.open:
+            self.rows[-1][1].append(data)
+
+
+def page_of(report, *more):
+    """The page of a report's text."""
+    done = subprocess.run([PROGRAM, "-", "-o", "-", *more], input=report.encode(), capture_output=True, timeout=200)
+    assert (done.returncode, done.stderr) == (0, b""), done.stderr
+    return done.stdout.decode()
+
+
+def examples():
+    return sorted(EXAMPLES.glob("*.frames.report"))
+
+
+class Examples(unittest.TestCase):
+    def test_each_finding_is_in_a_row(self):
+        """With its frame, its record, its time from the first finding, and its kind; as the report has them in order."""
+        for report in examples():
+            with self.subTest(report.name):
+                text = report.read_text()
+                tags = Tags(page_of(text))
+                found = [(one["data-frame"], one["data-side"], one["data-kind"], one["data-stream"], cells[1].replace(",", ""))
+                         for one, cells in tags.rows if "data-kind" in one]
+                wanted = [(frame, side, kind, stream, record) for frame, record, _, side, kind, stream, _ in FINDING.findall(text)
+                          if not kind.endswith("-credit")]
+                self.assertEqual(found, wanted)
+                self.assertTrue(all(f"({one['data-kind']}); " in cells[-1] for one, cells in tags.rows if "data-kind" in one))
+                self.judge_windows(text, tags)
+
+    def judge_windows(self, text, tags):
+        """Each window has a row with its least, greatest and last credit."""
+        credits = {}
+        for _, _, _, side, kind, stream, value in FINDING.findall(text):
+            if kind.endswith("-credit"):
+                credits.setdefault((side, stream), []).append(int(value))
+        found = {one["id"]: cells[-3:] for one, cells in tags.rows if one.get("id", "").startswith("w1-")}
+        for (side, stream), values in credits.items():
+            self.assertEqual(found[f"w1-{side}-{stream}"], [f"{value:,}" for value in (min(values), max(values), values[-1])])
+
+    def test_words(self):
+        """Written by hand, from the example's README."""
+        text = page_of((EXAMPLES / "connection_overflow_nginx.frames.report").read_text())
+        rows = ["|".join(cells) for _, cells in Tags(text).rows]
+        self.assertIn("the client|connection-overflow|RFC 9113, 6.9.1|1|1|connection 1, frame 9, packet 15| by 127.0.0.1:42816", rows)
+        text = page_of((EXAMPLES / "negative_window_tomcat.frames.report").read_text())
+        rows = ["|".join(cells) for _, cells in Tags(text).rows]
+        self.assertIn("804.434 ms|server, 127.0.0.1:20840|stream 1|connection 1, frame 10, packet 18|the client, 127.0.0.1:53340", rows)
+        self.assertIn("No rule was broken.", text)
+
+    def test_without_credit(self):
+        text = page_of((EXAMPLES / "stream_overrun_go.report").read_text())
+        self.assertIn("Make it with h2audit --frames to have them.", text)
+        self.assertNotIn("<script", text)
+        self.assertIn("client sent 5,000 bytes past its credit on stream 1", text)
+
+    def test_nothing_audited(self):
+        text = page_of(HEAD + "connection 1 client 1.2.3.4:5 server 1.2.3.4:6 record 1 not-http2\n" + BOTH_FLOWS)
+        self.assertIn("Nothing was audited", text)
+
+    def test_doubts(self):
+        text = page_of(HEAD.replace("snapped 0", "snapped 3") + "record 9 cut\nunopened 1.2.3.4:5 1.2.3.4:6 segments 2\n"
+                       "connection 1 client 1.2.3.4:5 server 1.2.3.4:6 record 1 http2 frames 1\n"
+                       + BOTH_FLOWS.replace("gap none", "gap 7", 1) + "audit of all frames\n")
+        for said in ("(a gap)", "3 segments kept fewer bytes", "The capture ends within record 9", "1 pair of endpoints"):
+            self.assertIn(said, text)
+
+    def test_title(self):
+        self.assertIn("<h1>A &lt;b&gt; title</h1>", page_of(HEAD, "--title", "A <b> title"))
+
+
+class Policy(unittest.TestCase):
+    """The page loads nothing, and only the scripts and styles that it was made with count."""
+
+    def test_policy(self):
+        tags = Tags(page_of(examples()[0].read_text()))
+        rules = dict(rule.strip().split(" ", 1) for rule in tags.policy.split(";"))
+        self.assertEqual({key: rules[key] for key in ("default-src", "base-uri", "form-action")},
+                         dict.fromkeys(("default-src", "base-uri", "form-action"), "'none'"))
+        for tag in ("script", "style"):
+            run = [text for one, text in tags.texts[tag] if one.get("type") != "text/plain"]
+            hashes = [f"'sha256-{base64.b64encode(hashlib.sha256(text.encode()).digest()).decode()}'" for text in run]
+            self.assertEqual(rules[f"{tag}-src"].split(), hashes)
+        self.assertEqual(set(rules), {"default-src", "base-uri", "form-action", "script-src", "style-src"})
+
+    def test_no_address(self):
+        """Nothing refers to another file."""
+        for tag, attributes in Tags(page_of(examples()[0].read_text())).elements:
+            self.assertFalse({"src", "action", "style", "onclick"} & attributes.keys(), tag)
+            self.assertTrue(attributes.get("href", "#").startswith("#"), attributes)
+
+    def test_licence(self):
+        text = page_of(examples()[0].read_text())
+        self.assertIn(f"dygraphs {library().version}, MIT licence", text)
+        self.assertIn("The above copyright notice and this permission notice shall be", text)
+        self.assertIn("@license", text)
+        self.assertNotIn("sourceMappingURL", text)
+
+
+class Hostile(unittest.TestCase):
+    """Text of a report never becomes markup."""
+
+    EVIL = ('<script>alert(1)</script>', '"><img/src=x/onerror=alert(1)>', "</script><b>", "'onload='x", "<!--", "&lt;b&gt;", "\x01\x7f")
+
+    def test_addresses(self):
+        plain = Tags(self.page("1.2.3.4:5")).elements
+        for evil in self.EVIL:
+            tags = Tags(self.page(evil))
+            self.assertEqual([tag for tag, _ in tags.elements], [tag for tag, _ in plain], evil)
+            self.assertEqual([sorted(one) for _, one in tags.elements], [sorted(one) for _, one in plain], evil)
+
+    def page(self, address):
+        return page_of(HEAD + f"connection 1 client {address} server {address} record 1 http2 frames 2\n" + BOTH_FLOWS +
+                       "frame 1 record 2 time 5 client stream-overrun stream 1 value -5\n"
+                       "frame 1 record 2 time 5 client stream-stall-begin stream 1 value -5\n"
+                       "frame 1 record 2 time 5 client stream-credit stream 1 value -5\n"
+                       "stall client stream 1 from 1 open\naudit of all frames\n")
+
+    def test_title(self):
+        for evil in self.EVIL:
+            self.assertEqual([tag for tag, _ in Tags(page_of(HEAD, f"--title={evil}")).elements],
+                             [tag for tag, _ in Tags(page_of(HEAD)).elements])
+
+    def test_numbers(self):
+        """Numbers of any size give a page or a reason, and never a traceback."""
+        opening = HEAD + "connection 1 client 1.2.3.4:5 server 1.2.3.4:6 record 1 http2 frames 2\n"
+        for frame, time, stream, value in ((1, 0, 1, 2**62), (2**62, 2**62, 2**31, -2**62), (1, 10**19, 1, 1), (0, 1, 0, 10**19)):
+            for kind in ("stream-credit", "stream-overrun", "wrong-stream", "stream-stall-end", "connection-stall-begin", "new-kind"):
+                line = f"frame {frame} record {time} time {time} client {kind} stream {stream} value {value}\n"
+                status, said = answer(opening + line)
+                self.assertIn(status, (0, 3), (line, said))
+
+    def test_frames_that_go_back(self):
+        line = "frame {} record 1 time 1 client stream-credit stream 1 value 1\n"
+        opening = "connection 1 client 1.2.3.4:5 server 1.2.3.4:6 record 1 http2 frames 2\n"
+        self.assertEqual(answer(HEAD + opening + line.format(2) + line.format(1)),
+                         (3, "h2audit-page: report refused: the frames of connection 1 go back\n"))
+
+
+def answer(report, *words):
+    """The status of a run over a report's text, and its line on standard error."""
+    said = io.StringIO()
+    with tempfile.NamedTemporaryFile() as file, contextlib.redirect_stderr(said):
+        file.write(report.encode())
+        file.flush()
+        try:
+            status = page.program.main([file.name, "-o", "/dev/null", *words])
+        except SystemExit as ended:
+            status = ended.code
+    return status, said.getvalue()
+
+
+class Refusals(unittest.TestCase):
+    def test_reports(self):
+        good = (EXAMPLES / "stream_overrun_go.report").read_text()
+        self.assertEqual(answer(""), (3, "h2audit-page: report refused: not a report of h2audit\n"))
+        self.assertEqual(answer("{}"), (3, "h2audit-page: report refused: not a report of h2audit\n"))
+        self.assertEqual(answer(good.replace("nanos", "nano")), (3, "h2audit-page: report refused: line 8 is no line of a report\n"))
+
+    def test_words(self):
+        for words in ((), ("a",), ("a", "-o"), ("a", "b", "-o", "c"), ("a", "-o", "c", "--none")):
+            done = subprocess.run([PROGRAM, *words], capture_output=True, text=True)
+            self.assertEqual((done.returncode, done.stderr.count("\n"), done.stdout), (2, 1, ""), words)
+
+    def test_files(self):
+        report = examples()[0]
+        for words in (("/nowhere/at all", "-o", "/dev/null"), (report, "-o", "/nowhere/at all")):
+            done = subprocess.run([PROGRAM, *words], capture_output=True, text=True)
+            self.assertEqual((done.returncode, done.stderr), (4, "h2audit-page: /nowhere/at all: No such file or directory\n"))
+
+    def test_no_library(self):
+        with self.assertRaisesRegex(Missing, r"^/nowhere/dygraph.js is missing \(Debian: apt-get install libjs-dygraphs\)$"):
+            library("/nowhere")
+        with mock.patch("page.program.library", lambda: library("/nowhere")):
+            status, said = answer(HEAD)
+        self.assertEqual((status, said.count("\n")), (5, 1))
+
+    def test_another_library(self):
+        with tempfile.TemporaryDirectory() as folder:
+            for name in ("dygraph.js", "dygraph.min.js", "dygraph.min.css"):
+                pathlib.Path(folder, name).write_text("something else")
+            with self.assertRaisesRegex(Missing, "has another library than libjs-dygraphs"):
+                library(folder)
+
+
+def large(windows, lines, every):
+    """A report of so many windows with so many credit lines each, of which each so many are a stall of two lines."""
+    parts = [HEAD, "connection 1 client 1.2.3.4:5 server 1.2.3.4:6 record 1 http2 frames 9\n", BOTH_FLOWS]
+    frame, state = 0, 1
+    for line in range(lines):
+        for stream in range(1, 2 * windows, 2):
+            frame += 1
+            state = state * 1103515245 % 2**31
+            place = f"frame {frame} record {frame} time {10**18 + frame * 1000 + state % 1000} server"
+            if line % every == every - 2:
+                parts.append(f"{place} stream-stall-begin stream {stream} value 0\n{place} stream-credit stream {stream} value 0\n")
+            elif line % every == every - 1:
+                parts.append(f"{place} stream-stall-end stream {stream} value 9\n{place} stream-credit stream {stream} value 9\n")
+            else:
+                parts.append(f"{place} stream-credit stream {stream} value {state % 10**6 + 1}\n")
+    return "".join(parts)
+
+
+def audit_of(text):
+    return read_audit(io.BytesIO(text.encode()))
+
+
+class Thinning(unittest.TestCase):
+    """What is thinned keeps both ends of each stall, each fault, and the extremes; the page says that it is thinned."""
+
+    def test_marks_and_extremes_are_kept(self):
+        for window in audit_of(large(3, 4000, 50)).windows:
+            whole = series_of(window)
+            self.assertEqual(len(whole.frames), 4000)
+            for most in (1000, 60, 16):
+                less = thinned(whole, most, 10**9)
+                self.assertLess(len(less.frames), most + 3 * 2 * 80)
+                self.assertEqual([[less.frames[at] for at in stall] for stall in less.stalls],
+                                 [[whole.frames[at] for at in stall] for stall in whole.stalls])
+                self.judge_extremes(whole, less, most)
+
+    def judge_extremes(self, whole, less, most):
+        """The least and the greatest of the whole and of each stretch are there, each at its place."""
+        place = dict(zip(less.frames, zip(less.times, less.credits)))
+        known = dict(zip(whole.frames, zip(whole.times, whole.credits)))
+        self.assertTrue(all(known[frame] == point for frame, point in place.items()))
+        length = -(-2 * len(whole.frames) // most)
+        for begin in range(0, len(whole.frames), length):
+            stretch = range(begin, min(begin + length, len(whole.frames)))
+            values = [whole.credits[at] for at in stretch]
+            kept = [whole.credits[at] for at in stretch if whole.frames[at] in place]
+            self.assertEqual((min(kept), max(kept)), (min(values), max(values)))
+
+    def test_faults_are_kept(self):
+        text = large(1, 9000, 9000).replace("server stream-stall-begin", "server zero-stream-grant")
+        faults = re.sub(r"(?m)^(frame \d*77 record \d+ time \d+) server (stream-credit) (stream 1) value \d+$",
+                        r"\1 server stream-overrun \3 value -1\n\1 server \2 \3 value -1", text)
+        window = audit_of(faults).windows[0]
+        self.assertEqual(len(window.faults), 91)
+        less = thinned(series_of(window), 16, 10**9)
+        self.assertEqual([less.frames[at] for at, _, _ in less.faults], [note.finding.frame for note in window.faults])
+
+    def test_points_at_ends_without_credit_lines(self):
+        """A reset ends a stall with no credit line; the chart has a point there all the same."""
+        text = (EXAMPLES / "stream_overrun_go.frames.report").read_text()
+        window = audit_of(text).windows[0]
+        series = series_of(window)
+        self.assertEqual(list(zip(series.frames, series.credits)), [(5, 10000), (6, 0), (7, -5000), (8, -5000)])
+        self.assertEqual((series.stalls, series.faults), ([(1, 3)], [(2, "stream-overrun", -5000)]))
+
+    def test_too_many_marks_share_a_shade(self):
+        whole = series_of(audit_of(large(1, 4000, 4)).windows[0])
+        self.assertEqual(len(whole.stalls), 1000)
+        less = thinned(whole, 60, 100)
+        self.assertLessEqual(len(less.stalls), 100)
+        self.assertEqual(less.merged, 1000 - len(less.stalls))
+        shades = [(less.frames[begin], less.frames[end]) for begin, end in less.stalls]
+        for begin, end in whole.stalls:
+            self.assertTrue(any(first <= whole.frames[begin] and whole.frames[end] <= last for first, last in shades))
+
+    def test_a_small_page_is_whole(self):
+        for report in examples():
+            charts = chart_data.packed(audit_of(report.read_text()))
+            said = json.loads(zlib.decompress(base64.b64decode(charts.text)))
+            lines = len(re.findall("-credit stream", report.read_text()))
+            self.assertGreaterEqual(charts.points, lines)
+            self.assertEqual((charts.joined, charts.left_out), (0, 0))
+            self.assertEqual(sum(one[3] for one in said["windows"]), len(said["frames"]))
+
+    def test_every_size_fits(self):
+        """Where the bound is small, the charts of one report go through all that is given up, and stay below it."""
+        audit = audit_of(large(60, 400, 10))
+        for bound in (400_000, 60_000, 30_000, 10_000, 3_000, 500):
+            with mock.patch.object(chart_data, "MOST_BYTES", bound):
+                charts = chart_data.packed(audit)
+            self.assertLessEqual(len(charts.text) * 3 // 4, bound)
+
+
+class Contrast(unittest.TestCase):
+    """The colours of the page reach the contrasts of WCAG 2.2: 4.5 for text (1.4.3), 3 for what is drawn (1.4.11)."""
+
+    TEXT = [("text", "ground"), ("text", "raised"), ("muted", "ground"), ("muted", "raised"), ("link", "ground"), ("fault", "ground"),
+            ("text", "stall")]
+    DRAWN = [("line", "ground"), ("line", "stall"), ("fault", "ground"), ("fault", "stall"), ("stall-edge", "ground"),
+             ("rule", "ground"), ("rule", "raised")]
+
+    def test_both_schemes(self):
+        style = (TOP / "tools" / "page" / "assets" / "page.css").read_text()
+        schemes = [dict(re.findall(r"--([a-z-]+): (#[0-9a-f]{6})", root)) for root in re.findall(r":root \{(.*?)\}", style, re.S)]
+        light, dark = schemes[0], schemes[1]
+        self.assertEqual(light.keys(), dark.keys())
+        for scheme in (light, dark, {**light, **schemes[2]}):
+            for least, pairs in ((4.5, self.TEXT), (3, self.DRAWN)):
+                for one, other in pairs:
+                    self.assertGreaterEqual(contrast(scheme[one], scheme[other]), least, (one, other, scheme))
+
+
+def luminance(colour):
+    """WCAG 2.2, relative luminance."""
+    parts = [int(colour[at:at + 2], 16) / 255 for at in (1, 3, 5)]
+    red, green, blue = (part / 12.92 if part <= 0.04045 else ((part + 0.055) / 1.055) ** 2.4 for part in parts)
+    return 0.2126 * red + 0.7152 * green + 0.0722 * blue
+
+
+def contrast(one, other):
+    light, dark = sorted((luminance(one), luminance(other)), reverse=True)
+    return (light + 0.05) / (dark + 0.05)
+
+
+if __name__ == "__main__":
+    unittest.main()

@@ -1,0 +1,153 @@
+#!/usr/bin/python3
+"""Tests of what the programs beside h2audit share: the lines of a report, and who is to blame, held against the documents."""
+
+import io
+import pathlib
+import re
+import sys
+import unittest
+
+TOP = pathlib.Path(__file__).resolve().parents[2]
+sys.path.insert(0, str(TOP / "tools"))
+sys.dont_write_bytecode = True
+
+from report import blame, lines
+from report.notes import Pairing, sentence
+
+DOCS = TOP / "docs"
+RANKED = re.compile(r"^\| \d+ \| `([a-z-]+)` \| [^|]* \| [^|]* \| ([^|]*) \|$", re.M)
+
+
+def rows(document):
+    """The rows of all tables of a document, each as its cells."""
+    return [[cell.strip() for cell in line.strip("|").split(" | ")]
+            for line in (DOCS / document).read_text().splitlines() if line.startswith("| ")]
+
+
+def sections_in(text):
+    """Each section of a text as "6.1 to 6.9, 4.2"."""
+    found = set()
+    for begin, end in re.findall(r"\b(\d(?:\.\d+)+)(?: to (\d(?:\.\d+)+))?", text):
+        first, last = (int(one.split(".")[1]) for one in (begin, end or begin))
+        found |= {f"{begin.split('.')[0]}.{number}" for number in range(first, last + 1)} if end else {begin}
+    return found
+
+
+class Blame(unittest.TestCase):
+    """The table of kinds says what the documents say."""
+
+    def test_who_broke_the_rule(self):
+        ranked = {kind: who.strip("* ") for kind, who in RANKED.findall((DOCS / "REPORT_FORMAT.md").read_text())}
+        self.assertEqual(len(ranked), 27)
+        self.assertEqual({kind: said.blame for kind, said in blame.KINDS.items()}, ranked)
+
+    def test_who_is_to_blame(self):
+        """So says the other table of that document, and the one of the README."""
+        for document in ("REPORT_FORMAT.md", "../README.md"):
+            for cells in rows(document):
+                for who in set(re.findall(r"the named side|the other side|nobody", cells[-2 if "FORMAT" in document else -1].lower())):
+                    for kind in re.findall(r"`([a-z-]+)`", cells[0]):
+                        if kind in blame.KINDS:
+                            self.assertEqual(blame.KINDS[kind].blame, who, (document, kind))
+
+    def test_sections(self):
+        named = {}
+        for cells in rows("AUDIT_RULES.md"):
+            kinds, colon, _ = cells[0].partition(":")
+            for kind in re.findall(r"[a-z-]+", kinds) if colon else []:
+                if kind in blame.KINDS and len(cells) > 1:
+                    named.setdefault(kind, set()).update(sections_in(cells[1]))
+        faults = {kind: sections_in(said.sections) for kind, said in blame.KINDS.items() if blame.is_fault(kind)}
+        self.assertEqual(faults, {kind: named.get(kind) for kind in faults})
+        self.assertFalse([kind for kind, said in blame.KINDS.items() if not blame.is_fault(kind) and said.sections])
+
+    def test_sections_of_findings(self):
+        """Where side or value decide, the section is one of the kind's."""
+        for kind, said in blame.KINDS.items():
+            for side in ("client", "server"):
+                for value in range(-2, 12):
+                    found = blame.section_of(lines.Finding(1, 1, 1, side, kind, 1, value))
+                    self.assertLessEqual(sections_in(found), sections_in(said.sections), kind)
+
+    def test_types(self):
+        """Frame types have the sections 6.1 to 6.10 in their order, as the table of section 4 of the rules has them."""
+        types = {int(cells[0].split()[0]): cells[0].split()[1] for cells in rows("AUDIT_RULES.md")
+                 if re.match(r"\d [A-Z_]+$", cells[0])}
+        self.assertEqual(types, dict(enumerate(blame.FRAME_TYPES)))
+
+    def said(self, *finding):
+        return blame.sentence_of(lines.Finding(7, 12, 1, *finding))
+
+    def test_sentences(self):
+        """Written by hand, from the tables of the documents."""
+        self.assertEqual(self.said("client", "stream-overrun", 1, -5000),
+                         "client sent 5,000 bytes past its credit on stream 1 (stream-overrun); the client broke RFC 9113, 6.9.1")
+        self.assertEqual(self.said("server", "connection-overflow", 0, 2147547182),
+                         "client granted too much: server's credit of the connection rose to 2,147,547,182, above 2^31 - 1 "
+                         "(connection-overflow); the client broke RFC 9113, 6.9.1")
+        self.assertEqual(self.said("client", "setting-overflow", 3, 2147483648),
+                         "server sent settings that take client's credit on stream 3 to 2,147,483,648, above 2^31 - 1 "
+                         "(setting-overflow); the server broke RFC 9113, 6.9.2")
+        self.assertEqual(self.said("server", "wrong-stream", 3, 6),
+                         "server sent PING on stream 3, where it may not stand (wrong-stream); the server broke RFC 9113, 6.7")
+        self.assertEqual(self.said("client", "unmatched-ack", 0, 0),
+                         "client acknowledged settings that server had not sent (unmatched-ack); the client is at fault, "
+                         "though RFC 9113, 6.5.3, names no error for it")
+        self.assertEqual(self.said("server", "stream-stall-begin", 1, 0),
+                         "server used up its credit on stream 1 (stream-stall-begin); nobody broke a rule: "
+                         "ask the client why it granted nothing")
+        self.assertEqual(self.said("server", "not-opened", 8, 5), "server sent PUSH_PROMISE on stream 8, which was not opened "
+                         "for it (not-opened); the server broke RFC 9113, 6.6")
+
+    def test_every_kind_has_a_sentence(self):
+        for kind in [*blame.KINDS, "new-kind"]:
+            said = self.said("client", kind, 0, 9)
+            self.assertIn(f"({kind})", said)
+            self.assertNotRegex(said, r"[{}]|  ")
+
+    def test_durations(self):
+        for nanos, said in ((0, "0 ns"), (999, "999 ns"), (764000, "764 µs"), (804434000, "804.434 ms"), (-1500, "-1.5 µs"),
+                            (10**9, "1 s"), (1234000000007, "1,234.000000007 s")):
+            self.assertEqual(blame.duration(nanos), said)
+
+
+class Lines(unittest.TestCase):
+    def test_examples(self):
+        """Each line of each report is read, and the stalls are those that the report has."""
+        for report in sorted((TOP / "examples").glob("*report")):
+            read = list(lines.read_lines(io.BytesIO(report.read_bytes())))
+            self.assertEqual(len(read), len(report.read_text().splitlines()))
+            self.judge(read)
+
+    def judge(self, read):
+        pairing, begins = Pairing(), []
+        for line in read:
+            if isinstance(line, lines.Opening):
+                pairing = Pairing()
+            elif isinstance(line, lines.Finding) and line.kind in blame.STALL_BEGIN + blame.STALL_END:
+                begins += [note for note in [pairing.note(line)] if line.kind in blame.STALL_BEGIN]
+        found = [(note.finding.side, note.finding.stream, note.finding.frame, note.other and note.other.finding.frame, note.waited)
+                 for note in begins]
+        self.assertEqual(found, [tuple(line) for line in read if isinstance(line, lines.Stall)])
+        self.assertFalse([note for note in begins if "stall" not in sentence(note)])
+
+    def test_ipv6(self):
+        line = b"connection 1 client [2001:db8::1]:40000 server [2001:db8::2]:443 record 1 http2 frames 2"
+        self.assertEqual(lines.read_line(line.decode()).client, "[2001:db8::1]:40000")
+
+    def refuses(self, text, why):
+        with self.assertRaisesRegex(lines.Refused, why):
+            list(lines.read_lines(io.BytesIO(text)))
+
+    def test_refused(self):
+        good = (TOP / "examples" / "stream_overrun_go.report").read_bytes()
+        self.refuses(b"", "not a report of h2audit")
+        self.refuses(b"\xff\n", "not a report of h2audit")
+        self.refuses(good.replace(b"nanos", b"nano"), "line 8 is no line of a report")
+        self.refuses(good.split(b"\n")[0] + b"\nflow client bytes 1 gap none tail 0\n", "line 2 is no line")
+        self.refuses(good + good, "line 10 is no line of a report")
+        self.refuses(good + b"x" * 10**6, "line 10 is no line of a report")
+
+
+if __name__ == "__main__":
+    unittest.main()
