@@ -1,10 +1,11 @@
 """Evaluates definitions. A definition becomes a function of Python's, a claim what finds whether it is shown (`claims`)."""
 
 import pathlib
+from operator import itemgetter
 from typing import Any, Callable, NoReturn
 
 from .claims import Claim, Claims, Factor, Values, greatest
-from .ranges import by_induction
+from .ranges import remembering
 from .reading import Function as Clauses, Module, Record, Term, Unreadable, read
 from .values import Data, Function, Made, Stuck, Value, apply, filled, known
 from .words import word
@@ -34,7 +35,7 @@ class Definitions(Claims):
 
     def __init__(self, folder: pathlib.Path):
         super().__init__()
-        self.folder, self.modules, self.meanings, self.used = folder, {}, {}, set()
+        self.folder, self.modules, self.meanings, self.used, self.kept = folder, {}, {}, set(), {}
 
     # ---- names
 
@@ -66,7 +67,6 @@ class Definitions(Claims):
             definition = module.definitions.get(name)
             path, inner = module.uses.get(name, (None, None))
             if definition is not None:
-                self.used.add(module.name)
                 self.meanings[key] = (self.record if isinstance(definition, Record) else self.function)(module, definition)
             elif name in module.constructors:
                 self.meanings[key] = Made(name)
@@ -94,7 +94,7 @@ class Definitions(Claims):
     # ---- definitions
 
     def function(self, module: Module, definition: Clauses) -> Value:
-        arity, recurs = len(definition.clauses[0][0]), None
+        arity, number = len(definition.clauses[0][0]), None
         function = Function(arity, None)
         self.meanings[module.name, definition.name] = function
         clauses, size = [], 0
@@ -102,7 +102,7 @@ class Definitions(Claims):
             scope, tests = Scope(module, definition.name, {}, arity), []
             for place, pattern in enumerate(patterns):
                 if pattern.kind == "call" and pattern.parts[0].parts[0] == "suc":
-                    recurs = place
+                    number = place
                 if pattern.kind == "name" and not self.constructor(module, pattern):
                     scope.names[pattern.parts[0]] = place
                 else:
@@ -110,8 +110,11 @@ class Definitions(Claims):
             clauses.append((tests, self.term(body, scope)))
             size = max(size, scope.size)
 
+        used, name, more = self.used, module.name, [None] * (size - arity)
+
         def run(*arguments):
-            values = [*arguments, *[None] * (size - arity)]
+            used.add(name)
+            values = [*arguments, *more]
             for tests, body in clauses:
                 for place, test in tests:
                     if not test(arguments[place], values):
@@ -120,7 +123,8 @@ class Definitions(Claims):
                     return body(values)
             raise Stuck(f"{module.name}: no clause of {definition.name} for {arguments}")
 
-        function.run = run if recurs is None else by_induction(run, recurs)
+        recurs = any(mentions(body, definition.name) for _, body in definition.clauses)
+        function.run = remembering(run, self.kept, number) if recurs else run
         return function if arity else run()
 
     def pattern(self, pattern: Term, scope: Scope) -> Test:
@@ -142,8 +146,15 @@ class Definitions(Claims):
                 return lambda value, values: known(value) == ()
             case "◌∷◌":
                 return lambda value, values: known(value) != () and tests[0](known(value)[0], values) and tests[1](known(value)[1:], values)
-        return lambda value, values: known(value).name == name and all(
-            test(part, values) for test, part in zip(tests, known(value).parts, strict=True))
+        return self.made(name, tests)
+
+    def made(self, name: str, tests: list[Test]) -> Test:
+        def test(value, values):
+            if type(value) is not Made:
+                value = known(value)
+            return value.name == name and all([test(part, values) for test, part in zip(tests, value.parts, strict=True)])
+
+        return test if tests else lambda value, values: (value if type(value) is Made else known(value)).name == name
 
     def variable(self, place: int | None) -> Test:
         def test(value, values):
@@ -160,6 +171,7 @@ class Definitions(Claims):
         arity, factors = scope.size, self.factors(definition.fields, scope)
 
         def run(*arguments):
+            self.used.add(module.name)
             return self.holds(factors, [*arguments, *[None] * (scope.size - arity)])
 
         return Function(arity, run) if arity else Data(definition.name)
@@ -173,7 +185,7 @@ class Definitions(Claims):
     def term_name(self, term: Term, scope: Scope, name: str) -> Claim:
         if name in scope.names:
             place = scope.names[name]
-            return lambda values: values[place]
+            return itemgetter(place)
         found = self.meaning(scope.module, name)
         return (lambda values: found) if found is not None else scope.fail(term, f"{name} has no meaning here")
 
@@ -200,7 +212,9 @@ class Definitions(Claims):
         whole = self.term(of, scope)
 
         def field(values):
-            value = known(whole(values))
+            value = whole(values)
+            if type(value) is not dict:
+                value = known(value)
             if type(value) is not dict or label not in value:
                 raise Stuck(f"{scope.module.name}:{term.line}: no field {label} in {value}")
             return filled(value[label])
@@ -228,7 +242,7 @@ class Definitions(Claims):
 
     def term_if(self, term: Term, scope: Scope, *parts: Term) -> Claim:
         test, then, otherwise = (self.term(part, scope) for part in parts)
-        return lambda values: then(values) if known(test(values)) else otherwise(values)
+        return lambda values: then(values) if test(values) else otherwise(values)
 
     def term_call(self, term: Term, scope: Scope, head: Term, arguments: list[Term]) -> Claim:
         parts = [self.term(part, scope) for part in arguments]
@@ -238,7 +252,7 @@ class Definitions(Claims):
         function = self.term(head, scope)
         found = function([]) if not (head.kind == "name" and head.parts[0] in scope.names) and head.kind == "name" else None
         if isinstance(found, Function) and len(parts) == found.arity:
-            return lambda values: found.run(*[part(values) for part in parts])
+            return called(found, parts)
         return lambda values: apply(function(values), *[part(values) for part in parts])
 
     # ---- claims
@@ -287,9 +301,28 @@ class Definitions(Claims):
         return claim
 
 
+def mentions(term: Any, name: str) -> bool:
+    if isinstance(term, Term) and term.kind == "name":
+        return term.parts[0] == name
+    parts = term.values() if isinstance(term, dict) else term if isinstance(term, (tuple, list)) else ()
+    return any(mentions(part, name) for part in parts)
+
+
+def called(function: Function, parts: list[Claim]) -> Claim:
+    """A function at all of its arguments; what most calls have is written out, which is quicker."""
+    match parts:
+        case [a]:
+            return lambda values: function.run(a(values))
+        case [a, b]:
+            return lambda values: function.run(a(values), b(values))
+        case [a, b, c]:
+            return lambda values: function.run(a(values), b(values), c(values))
+    return lambda values: function.run(*[part(values) for part in parts])
+
+
 SPECIAL: dict[tuple[str, int], Callable[..., Claim]] = {
-    ("◌&&◌", 2): lambda self, a, b: lambda values: known(a(values)) and known(b(values)),
-    ("◌||◌", 2): lambda self, a, b: lambda values: known(a(values)) or known(b(values)),
+    ("◌&&◌", 2): lambda self, a, b: lambda values: a(values) and b(values),
+    ("◌||◌", 2): lambda self, a, b: lambda values: a(values) or b(values),
     ("◌≡◌", 2): Definitions.equation,
     ("◌≢◌", 2): lambda self, a, b: self.denial(self.equation(a, b)),
     ("◌⊎◌", 2): Definitions.one_of,

@@ -7,7 +7,7 @@ is not, the range is split, and the definition is asked anew. So a claim of all 
 import itertools
 from typing import Callable, Iterator
 
-from .values import Value, known
+from .values import Value
 
 EVER = float("inf")
 PIECES = 1_000_000  # a claim of more pieces is not shown
@@ -26,6 +26,7 @@ class Range:
 
     def __init__(self, variable: int, low: int, high: float, more: int = 0):
         self.variable, self.low, self.high, self.more = variable, low, high, more
+        self.bounds = variable, low, high, more
 
     def each(self, *_):
         raise Split(self.variable)
@@ -102,22 +103,29 @@ def answers(claim: Callable[[int | Range], bool | None]) -> Iterator[bool | None
     yield None
 
 
-def by_induction(run: Callable[..., Value], place: int) -> Callable[..., Value]:
-    """A function that recurs on its argument of this place, a number. What it gave is kept. On a range it is what it is at the least
-    number, where it is that at each further one, supposed that it is at the one before."""
-    kept: dict[tuple, tuple] = {}
+def remembering(run: Callable[..., Value], kept: dict[tuple, tuple], place: int | None) -> Callable[..., Value]:
+    """A function that recurs, over a number where its argument of this place is one. What it gave for the same arguments is kept. On a
+    range of numbers it is what it is at the least, where it is that at each further one, supposed that it is at the one before."""
+    busy = False
 
-    def key_of(arguments, number):
-        rest = [id(argument) for argument in (*arguments[:place], *arguments[place + 1:])]
-        return number if type(number) is int else (number.variable, number.low, number.high, number.more), *rest
+    def key_of(arguments):
+        return call, *[argument if type(argument) is int else argument.bounds if type(argument) is Range else id(argument)
+                       for argument in arguments]
 
     def call(*arguments):
-        number = known(arguments[place])
-        key = key_of(arguments, number)
-        if key not in kept:
-            if type(number) is Range:
-                return on_range(arguments, number)
-            kept[key] = arguments, run(*arguments)  # the arguments are kept too, for the sake of their identities
+        nonlocal busy
+        key = key_of(arguments)
+        if key in kept:
+            return kept[key][1]
+        if place is not None and type(arguments[place]) is Range:
+            return on_range(arguments, arguments[place])
+        if busy:
+            return run(*arguments)
+        busy = True
+        try:
+            kept[key] = arguments, run(*arguments)  # the arguments too, for the sake of their identities
+        finally:
+            busy = False
         return kept[key][1]
 
     def on_range(arguments, number):
@@ -126,7 +134,7 @@ def by_induction(run: Callable[..., Value], place: int) -> Callable[..., Value]:
 
         first = call(*at(number.low))
         further = Range(number.variable, number.low + 1, number.high, number.more)
-        supposed = key_of(arguments, further - 1)
+        supposed = key_of(at(further - 1))
         kept[supposed] = arguments, first
         try:
             if run(*at(further)) != first:
@@ -134,7 +142,7 @@ def by_induction(run: Callable[..., Value], place: int) -> Callable[..., Value]:
         finally:
             del kept[supposed]
         if number.high != EVER:
-            kept[key_of(arguments, number.high - 1)] = arguments, first
+            kept[key_of(at(number.high - 1))] = arguments, first
         return first
 
     return call

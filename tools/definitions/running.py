@@ -3,7 +3,8 @@
 import pathlib
 import sys
 import threading
-from typing import Callable, NamedTuple
+from concurrent.futures import ThreadPoolExecutor
+from typing import Callable, NamedTuple, TypeVar
 
 from .evaluating import Definitions
 from .search import Search
@@ -11,6 +12,7 @@ from .values import Hole, Made, NotYet, Stuck, Value, apply
 
 TOP = pathlib.Path(__file__).resolve().parents[2]
 CRATES = TOP / "crates"
+Result = TypeVar("Result")
 
 # What is asked of the definitions, by CRATE.MODULE.NAME.
 ENTRIES = {
@@ -66,6 +68,7 @@ class Reader:
     def audit(self, capture: bytes, credits_shown: bool) -> Answer:
         """The report that the definitions give for a capture, or their refusal of it."""
         octets, text, verdict = tuple(capture), Hole(0), Hole(0)
+        self.definitions.kept.clear()
         refusal = self.ask("refusal", octets)
         if refusal.name == "Some":
             fault = Made("Pcap", *refusal.parts)
@@ -103,12 +106,9 @@ class Reader:
                        for name, found in parts.items())
 
 
-def deeply(run: Callable[[], int]) -> int:
+def deeply(run: Callable[[], Result]) -> Result:
     """Runs with room for the recursion of definitions over long lists."""
     sys.setrecursionlimit(1_000_000)
     threading.stack_size(512 * 1024 * 1024)
-    status: list[int] = []
-    thread = threading.Thread(target=lambda: status.append(run()))
-    thread.start()
-    thread.join()
-    return status[0] if status else 70
+    with ThreadPoolExecutor(1) as thread:
+        return thread.submit(run).result()

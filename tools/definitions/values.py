@@ -56,6 +56,9 @@ class Hole:
     def __init__(self, depth: int | None):
         self.depth, self.value = depth, None
 
+    def __bool__(self):
+        return bool(known(self))
+
 
 class Joined:
     """A list that ends with a hole."""

@@ -155,8 +155,10 @@ WORDS = {
 LAZY = ("◌∷◌", "◌++◌")  # these take what is not known yet
 
 
-def strict(run: Callable[..., Value]) -> Callable[..., Value]:
+def strict(run: Callable[..., Value], arity: int) -> Callable[..., Value]:
     """The word on what is known of its arguments."""
+    if arity == 2:  # as most have, often for numbers
+        return lambda a, b: run(a, b) if type(a) is int is type(b) else run(known(a), known(b))
     return lambda *arguments: run(*map(known, arguments))
 
 
@@ -168,4 +170,4 @@ def word(name: str) -> Value | None:
         return None
     run = WORDS[name]
     arity = len(inspect.signature(run).parameters)
-    return Function(arity, run if name in LAZY else strict(run)) if arity else run()
+    return Function(arity, run if name in LAZY else strict(run, arity)) if arity else run()
