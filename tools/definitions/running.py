@@ -17,7 +17,6 @@ Result = TypeVar("Result")
 # What is asked of the definitions, by CRATE.MODULE.NAME.
 ENTRIES = {
     "refusal": "pcap_records.Refusal.refusal",
-    "IsNoReport": "h2audit.Run.IsNoReport",
     "IsReport": "h2audit.Report.IsReport",
     "packets_of": "h2audit.Report.packets_of",
     "status_of": "h2audit.Ending.status_of",
@@ -71,16 +70,14 @@ class Reader:
         self.definitions.kept.clear()
         refusal = self.ask("refusal", octets)
         if refusal.name == "Some":
-            fault = Made("Pcap", *refusal.parts)
-            self.show("IsNoReport", octets, fault)
-            return self.answer(Made("Err", fault), b"")
+            return self.answer(Made("Err", Made("Pcap", *refusal.parts)), b"")
         self.definitions.propose = Search(lambda *arguments: self.ask("packets_of", *arguments)).propose
         self.show("IsReport", octets, credits_shown, text, verdict)
         return self.answer(Made("Ok", verdict.value), bytes(text.value))
 
     def answer(self, ended: Value, text: bytes) -> Answer:
-        line = bytes(self.ask("line_of", ended))
-        return Answer(self.ask("status_of", ended), line and line + b"\n", text)
+        status, line = self.ask("status_of", ended), bytes(self.ask("line_of", ended))
+        return Answer(status, line and line + b"\n", text)
 
     def frame(self, number: int, side: str, octets: bytes) -> Value:
         """The frame that these bytes spell. It is captured in the record of its number, at as many microseconds."""

@@ -4,6 +4,7 @@ A claim's value is True where it holds, False where it does not, and None where 
 """
 
 import inspect
+from functools import partial
 from typing import Callable, Iterable
 
 from .claims import least
@@ -151,6 +152,7 @@ WORDS = {
     "IfSome": lambda o, claim: option(o, True, lambda x: apply(claim, x)),  # it holds of a value, if there is one
     "ForSome": lambda o, claim: option(o, True, lambda x: apply(claim, x)),
     "All": lambda claim, xs: least(apply(claim, x) for x in xs),  # it holds of each element
+    "AllZip": lambda claim, xs, ys: len(xs) == len(ys) and least(map(partial(apply, claim), xs, ys)),  # of those at each place
 }
 LAZY = ("◌∷◌", "◌++◌")  # these take what is not known yet
 
