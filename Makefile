@@ -4,6 +4,8 @@ PACKAGES ?= out
 # How much the toolchain does at once: a check takes up to some 3 GB.
 RT_JOBS ?= $(shell nproc)
 PROGRAM = crates/h2audit_cli/out/h2audit_cli
+# The capture whose report "make believed" computes from the definitions.
+RUN ?= examples/negative_window.pcap
 FIRST = examples/negative_window_tomcat.pcap examples/stream_overrun_go.pcap
 SOURCES := crates.txt $(shell find crates -name out -prune -o -name '*.rt' -print -o -name '*.antt' -print)
 
@@ -79,6 +81,6 @@ pictures:
 bench: $(PROGRAM)
 	python3 bench/measure.py $(PROGRAM)
 
-# Lists the definitions that a reader has to believe, with their lines.
+# Lists the definitions that a reader has to believe, with their lines, and marks those that the report of a capture used.
 believed:
-	@python3 tools/believed.py
+	@tools/by-definition --modules $(RUN) | python3 tools/believed.py --used

@@ -3,6 +3,7 @@
 
     python3 tools/believed.py            prints each module with its lines
     python3 tools/believed.py --write    puts list and sums into README.md and docs/PROOFS.md
+    python3 tools/believed.py --used     marks the modules that standard input names, one in a line (by-definition --modules)
 
 It begins at the modules that the contracts of the program's calls name (ROOTS) and follows their imports through the specs/ of
 all crates. Crates and modules each come after those that they cite. Lines are counted without imports, blank lines and
@@ -107,6 +108,16 @@ def table(crates):
     return "\n".join(rows) + "\n"
 
 
+def print_modules(crates, used):
+    """Each module with its lines, and a mark where it is one of those used."""
+    for _, modules in crates:
+        for file, count in modules:
+            print(f"{count:6} {'*' if shown(file) in used else ' ' if used else ''}{shown(file)}")
+    if used:
+        marked = sum(shown(file) in used for _, modules in crates for file, _ in modules)
+        print(f"* {marked} modules, which tools/by-definition used in a run")
+
+
 def main():
     reading = Reading(ROOTS)
     crates = reading.by_crate()
@@ -117,9 +128,7 @@ def main():
             text = file.read_text(encoding="utf-8")
             file.write_text(SUMS.sub(sums, LIST.sub(lambda it: it[1] + table(crates) + it[2], text)), encoding="utf-8")
         return
-    for _, modules in crates:
-        for file, count in modules:
-            print(f"{count:6} {shown(file)}")
+    print_modules(crates, set(sys.stdin.read().split()) if sys.argv[1:] == ["--used"] else set())
     print(f"{sums}, without imports, blank lines and comments")
     print("types:", *sorted(shown(file) for file in reading.types))
     print("of the toolchain:", *sorted(reading.library))

@@ -78,6 +78,7 @@ else
 fi
 try 'man pages and completions' tools/tests/words_test.py
 try 'recipes' tools/tests/recipes_test.py "${audits[@]}"
+try 'reports by definition' tools/tests/definitions_test.py "${audits[@]}"
 try 'pictures' tools/tests/plot_test.py
 try 'library example' tools/tests/library_example_test.py
 try 'install and package' tools/tests/package_test.sh "$program"

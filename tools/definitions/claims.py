@@ -1,0 +1,131 @@
+"""When a claim is shown.
+
+The value of a claim is whether it is shown: True, False where it is refuted, None for neither. That something is there is shown by a
+witness: the value that an equation gives, or one that `propose` says; or, of numbers, by some range. Whatever is proposed, a claim
+that it does not bear out is not shown; and since another witness might, it is not refuted either.
+"""
+
+from typing import Callable, Iterable, NamedTuple
+
+from .ranges import answers
+from .values import Data, Function, Hole, Joined, Made, NotYet, Stuck, Value
+
+Values = list  # the values at hand, by their places
+Claim = Callable[[Values], Value]
+
+
+class Factor(NamedTuple):
+    """One of the claims that have to hold together, or a value that they speak of."""
+
+    place: int  # of the value
+    name: str | None
+    label: str  # names the witness
+    names: dict[str, int]  # the places of what it may speak of
+    kind: Claim  # the claim, or the type of the value
+
+
+def least(claims: Iterable[bool | None]) -> bool | None:
+    """Whether all hold."""
+    found = set(claims)
+    return False if False in found else None if None in found else True
+
+
+def greatest(claims: Iterable[bool | None]) -> bool | None:
+    """Whether some holds."""
+    found = set(claims)
+    return True if True in found else None if None in found else False
+
+
+class Claims:
+    def __init__(self):
+        self.propose: Callable[[str, dict[str, Value]], Value | None] = lambda label, values: None
+        self.depth, self.proposed, self.failed = 0, 0, []
+
+    def aside(self, claim: Callable[..., Value], *values: Value) -> Value:
+        """A claim that is considered and not made: its equations give no value to what stands outside of it."""
+        self.depth += 1
+        try:
+            return claim(*values)
+        finally:
+            self.depth -= 1
+
+    def same(self, a: Value, b: Value) -> bool | None:
+        """Whether two values are one. A hole takes the other's value."""
+        for value, other in ((a, b), (b, a)):
+            if type(value) is Joined and type(other) is tuple:
+                front = len(value.front)
+                return self.same(other[:front], value.front) and self.same(value.hole, other[front:])
+            if type(value) is Hole:
+                if value.value is None and (value.depth != self.depth or type(other) in (Hole, Joined)):
+                    raise NotYet
+                value.value = other if value.value is None else value.value
+                return value.value is other or self.same(value.value, other)
+        if a is b or a == b:
+            return True
+        if isinstance(a, (Function, Joined)):
+            raise Stuck("functions are not compared")
+        if type(a) is not type(b) or type(a) not in (tuple, dict, Made):
+            return False
+        if type(a) is Made:
+            return a.name == b.name and self.same(a.parts, b.parts)
+        if type(a) is dict:
+            return a.keys() == b.keys() and least(self.same(a[label], b[label]) for label in a)
+        return len(a) == len(b) and least(map(self.same, a, b))
+
+    def holds(self, factors: list[Factor], values: Values, of_numbers: bool = False) -> bool | None | Data:
+        """Whether the factors hold together. Those that wait for a value come later. Without claims they are a type of data."""
+        waiting, results, proposed = factors, [], self.proposed
+        for factor in factors:
+            values[factor.place] = Hole(self.depth)
+        while waiting:
+            later = []
+            for at, factor in enumerate(waiting):
+                try:
+                    found = factor.kind(values)
+                    if isinstance(found, Data):
+                        if of_numbers and factor.name and found.name == "ℕ":
+                            return least([*results, self.some(factor, later + waiting[at + 1:], values)])
+                        self.witness(factor, values)
+                        continue
+                except NotYet:
+                    later.append(factor)
+                    continue
+                results.append(found)
+                if found is not True and not self.depth:
+                    self.failed.append(factor.label)
+                if found is False:
+                    return False if proposed == self.proposed else None
+            if len(later) == len(waiting):
+                raise NotYet
+            waiting = later
+        return least(results) if results else Data("record")
+
+    def witness(self, factor: Factor, values: Values) -> None:
+        hole = values[factor.place]
+        if factor.name and hole.value is None:
+            hole.value = self.propose(factor.label, {name: values[place] for name, place in factor.names.items()})
+            self.proposed += hole.value is not None
+
+    def some(self, factor: Factor, factors: list[Factor], values: Values) -> bool | None:
+        """Whether the factors hold of some number."""
+        def claim(number):
+            values[factor.place] = number
+            return self.aside(self.holds, factors, values)
+
+        return greatest(answers(claim))
+
+    def every(self, kind: Data, claim: Callable[[Value], Value]) -> Value:
+        """Whether a claim holds of all values of a type; of other ones than numbers, where it need not look at the value."""
+        if kind.name != "ℕ":
+            return self.aside(claim, Hole(None))
+        for found in answers(lambda number: self.aside(claim, number)):
+            if found is not True:
+                return found
+        return True
+
+    def under(self, condition: bool | None, claim: Claim, values: Values) -> Value:
+        """Whether a claim holds under a condition."""
+        if condition is False:
+            return True
+        found = claim(values) if condition else self.aside(claim, values)
+        return found if condition or found is True else None

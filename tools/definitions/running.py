@@ -1,0 +1,111 @@
+"""What the definitions say of a capture, and of a list of frames."""
+
+import pathlib
+import sys
+import threading
+from concurrent.futures import ThreadPoolExecutor
+from typing import Callable, NamedTuple, TypeVar
+
+from .evaluating import Definitions
+from .search import Search
+from .values import Hole, Made, NotYet, Stuck, Value, apply
+
+TOP = pathlib.Path(__file__).resolve().parents[2]
+CRATES = TOP / "crates"
+Result = TypeVar("Result")
+
+# What is asked of the definitions, by CRATE.MODULE.NAME.
+ENTRIES = {
+    "refusal": "pcap_records.Refusal.refusal",
+    "IsReport": "h2audit.Report.IsReport",
+    "packets_of": "h2audit.Report.packets_of",
+    "status_of": "h2audit.Ending.status_of",
+    "line_of": "h2audit.Ending.line_of",
+    "header_of": "h2_frames.Header.header_of",
+    "body_of": "h2_frames.Body.body_of",
+    "captured": "h2_frames.CaptureOrder.captured",
+    "full": "audit_terms.Pass.full",
+    "pass": "audit_terms.Pass.pass",
+    "pass_start": "audit_terms.Pass.pass_start",
+    "next": "audit_terms.Pass.next",
+    "streams_of": "audit_terms.Pass.streams_of",
+    "streams_said": "audit_terms.Pass.streams_said",
+    "item_of": "audit_terms.Pass.item_of",
+    "connection_said": "audit_terms.Connection.connection_said",
+    "finding_line": "audit_report.FindingLine.finding_line",
+}
+
+
+class NotShown(Exception):
+    """A relation of the definitions that the witnesses at hand do not bear out."""
+
+
+class Answer(NamedTuple):
+    status: int
+    line: bytes  # for standard error
+    text: bytes  # the report
+
+
+class Reader:
+    """Asks the definitions in a folder."""
+
+    def __init__(self, folder: pathlib.Path = CRATES):
+        self.definitions = Definitions(folder)
+
+    def ask(self, entry: str, *arguments: Value) -> Value:
+        return apply(self.definitions.named(ENTRIES[entry]), *arguments)
+
+    def show(self, entry: str, *arguments: Value) -> None:
+        """Checks a relation."""
+        self.definitions.failed.clear()
+        try:
+            if self.ask(entry, *arguments) is not True:
+                raise NotShown(", of ".join(self.definitions.failed))
+        except NotYet:
+            raise NotShown(f"{entry}: no equation gives some value") from None
+
+    def audit(self, capture: bytes, credits_shown: bool) -> Answer:
+        """The report that the definitions give for a capture, or their refusal of it."""
+        octets, text, verdict = tuple(capture), Hole(0), Hole(0)
+        self.definitions.kept.clear()
+        refusal = self.ask("refusal", octets)
+        if refusal.name == "Some":
+            return self.answer(Made("Err", Made("Pcap", *refusal.parts)), b"")
+        self.definitions.propose = Search(lambda *arguments: self.ask("packets_of", *arguments)).propose
+        self.show("IsReport", octets, credits_shown, text, verdict)
+        return self.answer(Made("Ok", verdict.value), bytes(text.value))
+
+    def answer(self, ended: Value, text: bytes) -> Answer:
+        status, line = self.ask("status_of", ended), bytes(self.ask("line_of", ended))
+        return Answer(status, line and line + b"\n", text)
+
+    def frame(self, number: int, side: str, octets: bytes) -> Value:
+        """The frame that these bytes spell. It is captured in the record of its number, at as many microseconds."""
+        header, payload = self.ask("header_of", tuple(octets[:9])), tuple(octets[9:])
+        if len(octets) < 9 or header["length"] != len(payload):
+            raise ValueError(f"line {number}: no whole frame")
+        spelled = {"header": header, "body": self.ask("body_of", header["code"], header["flags"], payload)}
+        return self.ask("captured", Made(side), number, {"upto": 0, "rec": number, "nanos": number * 1000}, spelled)
+
+    def listing(self, sent: list[tuple[str, bytes]]) -> str:
+        """What the definitions find in frames, each given by its side and its bytes: all that they find, the part of it up to the
+        first connection error, and what the connection and each stream show."""
+        frames = tuple(self.frame(number, *frame) for number, frame in enumerate(sent, 1))
+        streams, state = self.ask("streams_of", frames), self.ask("pass_start")
+        shown: dict[str, list[Value]] = {"connection": [], **{f"stream {stream}": [] for stream in streams}}
+        for frame in frames:
+            shown["connection"] += self.ask("connection_said", state["connection"], self.ask("item_of", state, frame))
+            for stream in streams:
+                shown[f"stream {stream}"] += self.ask("streams_said", (stream,), state, frame)
+            state = self.ask("next", state, frame)
+        parts = {"full": self.ask("full", frames), "pass": self.ask("pass", frames), **shown}
+        return "".join(f"{name}\n" + "".join(bytes(self.ask("finding_line", frames, finding)).decode() for finding in found)
+                       for name, found in parts.items())
+
+
+def deeply(run: Callable[[], Result]) -> Result:
+    """Runs with room for the recursion of definitions over long lists."""
+    sys.setrecursionlimit(1_000_000)
+    threading.stack_size(512 * 1024 * 1024)
+    with ThreadPoolExecutor(1) as thread:
+        return thread.submit(run).result()

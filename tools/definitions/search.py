@@ -1,0 +1,150 @@
+"""Proposes witnesses for what the definitions relate: how many records a capture has, which segments make a connection, the bytes of a
+flow in order, where frames end. It need not be right: `evaluating` checks what it says, and what it does not bear out is not shown.
+
+A witness is found by the relation and the name that it is for. Where none is proposed, and for each `Hole`, an equation of the
+definitions gives the value.
+"""
+
+from .values import Hole, Made, Value, known
+
+PREFACE = b"PRI * HTTP/2.0\r\n\r\nSM\r\n\r\n"
+HALF, WHOLE = 2**31, 2**32
+
+
+def hole():
+    return Hole(0)
+
+
+def listed(items):
+    """A `Vec`."""
+    return {"items": tuple(items)}
+
+
+def some(value):
+    return Made("Some", value)
+
+
+def records(values):
+    """The records, by walking over their captured lengths."""
+    capture = values["bytes"]
+    order = "little" if capture[0] in (0xD4, 0x4D) else "big"
+    at, rows = 24, []
+    while at + 16 <= len(capture):
+        at += 16 + int.from_bytes(bytes(capture[at + 8:at + 12]), order)
+        if at <= len(capture):
+            rows.append(hole())
+    return {"link": hole(), "rows": listed(rows), "cut": hole()}
+
+
+class Known(dict):
+    """Values by their names; one that is not known yet is asked for later."""
+
+    def __getitem__(self, name):
+        return known(super().__getitem__(name))
+
+
+class Search:
+    """The witnesses of one capture. It asks the definitions for the packets, and reads the bytes itself."""
+
+    def __init__(self, packets_of):
+        self.packets_of, self.packets, self.table = packets_of, None, {
+            "found": records,
+            "opened": self.opened,
+            "audited": self.audited,
+            "flows": self.flows,
+            "client_frames": lambda values: frames(joined(values["client"])[len(PREFACE):]),
+            "server_frames": lambda values: frames(joined(values["server"])),
+            "header": lambda values: values["bytes"][:9],
+            "payload": lambda values: values["bytes"][9:9 + length(values["bytes"])],
+        }
+
+    def propose(self, label, values):
+        found = self.table.get(label.rpartition(".")[2])
+        return found and found(Known(values))
+
+    def segments(self, values):
+        if self.packets is None:
+            packets = self.packets_of(values["bytes"], values["found"])
+            self.packets = [packet.parts[0] for packet in packets if packet.name == "Segment"]
+        return self.packets
+
+    def opened(self, values):
+        """The connections: a SYN opens one, unless it says again what the last one of its endpoints said."""
+        last, opened = {}, []
+        for segment in self.segments(values):
+            pair = frozenset((end["address"], end["port"]) for end in (segment["from"], segment["to"]))
+            of, isn = last.get(pair), segment["seq"]
+            if segment["syn"] and not segment["ack"] and not (of and of["client"] == segment["from"] and of["client_isn"] == isn):
+                of = last[pair] = {"client": segment["from"], "server": segment["to"], "rec": segment["rec"], "client_isn": isn,
+                                   "server_isn": Made("None"), "members": listed(())}
+                opened.append(of)
+            if of:
+                of["members"] = listed((*of["members"]["items"], segment["rec"]))
+                if segment["syn"] and segment["ack"] and segment["from"] != of["client"] and of["server_isn"].name == "None":
+                    of["server_isn"] = some(isn)
+        return tuple(opened)
+
+    def audited(self, values):
+        return tuple({"extents": hole(), "cut": cut(self.flows_of(of, values["bytes"])), "findings": {"items": hole()}}
+                     for of in values["opened"])
+
+    def flows(self, values):
+        return self.flows_of(values["connection"], values["capture"])
+
+    def flows_of(self, connection, capture):
+        members = set(connection["members"]["items"])
+        sides = {"client": [], "server": []}
+        for segment in self.packets:
+            if segment["rec"] in members:
+                sides["client" if segment["from"] == connection["client"] else "server"].append(segment)
+        server = connection["server_isn"]
+        return {"client": flow(capture, sides["client"], connection["client_isn"]),
+                "server": flow(capture, sides["server"], server.parts[0] if server.parts else None)}
+
+
+def flow(capture, segments, isn):
+    """A side's bytes in order of their offsets, of each offset the first; and by which record they were there."""
+    sources = {}
+    for segment in segments if isn is not None else []:
+        start = segment["seq"] + segment["syn"] - 1 - isn
+        for index in range(segment["lo"], segment["hi"]):
+            sources.setdefault((start + index - segment["lo"]) % WHOLE, (segment["rec"], segment["nanos"], index))
+    size, arrivals, last = 0, [], (0, 0)
+    while size in sources and size < HALF:
+        record, nanos, _ = sources[size]
+        if record > last[0]:
+            last = record, nanos
+            arrivals.append(None)
+        size += 1
+        arrivals[-1] = {"upto": size, "rec": last[0], "nanos": last[1]}
+    past = any(size < offset < HALF for offset in sources)
+    piece = tuple(capture[sources[offset][2]] for offset in range(size))
+    return {"started": isn is not None, "pieces": listed([{"now": piece}] if piece else []), "arrivals": listed(arrivals),
+            "gap": some(size) if past else Made("None")}
+
+
+def joined(flow):
+    return sum((piece["now"] for piece in known(flow)["pieces"]["items"]), ())
+
+
+def cut(flows):
+    """Which of the four kinds of contents two flows have."""
+    bytes_of_client = bytes(joined(flows["client"]))
+    if not flows["server"]["started"]:
+        return Made("NoHandshake")
+    if bytes_of_client.startswith(PREFACE):
+        return Made("Http2", {"items": hole()}, hole())
+    return Made("NoPreface" if PREFACE.startswith(bytes_of_client) else "NotHttp2")
+
+
+def length(octets):
+    return int.from_bytes(bytes(octets[:3]), "big")
+
+
+def frames(octets):
+    """As many frames as stand whole in these bytes."""
+    found = []
+    while len(octets) >= 9 and len(octets) >= 9 + length(octets):
+        octets = octets[9 + length(octets):]
+        found.append({"header": hole(), "body": hole()})
+    return tuple(found)

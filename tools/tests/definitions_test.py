@@ -1,0 +1,185 @@
+#!/usr/bin/python3
+"""Computes reports from the definitions (tools/by-definition), and compares them with those that are known and with the program's.
+
+    tools/tests/definitions_test.py [--seed N] [PROGRAM]
+
+The captures are those of examples/ up to 4,000 bytes, each row of tests/reports, and with PROGRAM 300 random captures and 1,000 random
+connections, in which all 27 kinds of findings occur; the seed is printed. Then ten definitions are changed, one in each layer, and
+the search for witnesses is misled: each time a report has to be another one, or not shown.
+"""
+
+import argparse
+import os
+import pathlib
+import re
+import shutil
+import subprocess
+import sys
+import tempfile
+import time
+from collections.abc import Callable, Iterator
+from concurrent.futures import ProcessPoolExecutor
+from functools import partial
+from random import Random
+from typing import NamedTuple
+
+TOP = pathlib.Path(__file__).resolve().parents[2]
+sys.path[:0] = [str(TOP / "tools"), str(TOP / "tests")]
+
+import random_captures  # noqa: E402
+import reports_test  # noqa: E402
+from captures import capture_of  # noqa: E402
+from definitions import search  # noqa: E402
+from definitions.running import CRATES, NotShown, Reader, deeply  # noqa: E402
+from definitions.values import Made, Stuck  # noqa: E402
+
+LARGE = 4000  # bytes of an example
+KINDS = 27
+# Changes of a definition, one in each layer: a file, a text in it, and what is written instead.
+CHANGES = [
+    ("pcap_records/specs/Record.antt", "start = at + 16", "start = at + 12"),
+    ("packet_heads/specs/Tcp.antt", "slice_index segment 13) 4 == 1", "slice_index segment 13) 5 == 1"),
+    ("tcp_streams/specs/Sequence.antt", "if nat_lt b.rec a.rec then Some b else Some a", "if nat_lt a.rec b.rec then Some b else Some a"),
+    ("tcp_streams/specs/Pair.antt", "(a.address == b.address) && (a.port == b.port)", "a.address == b.address"),
+    ("h2_frames/specs/Body.antt", "if nat_le (length payload) (pad_length payload)", "if nat_lt (length payload) (pad_length payload)"),
+    ("h2_frames/specs/CaptureOrder.antt", "nat_lt y.rec x.rec", "nat_lt x.rec y.rec"),
+    ("audit_terms/specs/Window.antt", "int_le credit (pos 0)", "int_lt credit (pos 0)"),
+    ("audit_terms/specs/Finding.antt", "if stops x then x ∷ []", "if stops x then []"),
+    ("split_merge/specs/Stalls.antt", "then stall_of frames found", "then stall_of []  found"),
+    ("audit_report/specs/EndLine.antt", "slice_get findings (length findings - 1)", "slice_get findings 0"),
+]
+
+
+# Ways to mislead the search: its function, and what is made of its answer.
+SPOILED = [
+    ("records", lambda found: {**found, "rows": {"items": found["rows"]["items"][:-1]}}),
+    ("flow", lambda found: {**found, "gap": Made("None")}),
+    ("flow", lambda found: {**found, "gap": Made("Some", 0)}),
+    ("flow", lambda found: {**found, "arrivals": {"items": found["arrivals"]["items"][1:]}}),
+    ("flow", lambda found: {**found, "pieces": {"items": [{"now": piece["now"][:-1]} for piece in found["pieces"]["items"]]}}),
+    ("flow", lambda found: {**found, "pieces": {"items": [{"now": (0, *piece["now"][1:])} for piece in found["pieces"]["items"]]}}),
+    ("cut", lambda found: Made("NotHttp2")),
+    ("cut", lambda found: Made("NoPreface")),
+    ("cut", lambda found: Made("NoHandshake")),
+    ("frames", lambda found: found[:-1]),
+    ("length", lambda found: found + 1),
+]
+
+
+class Job(NamedTuple):
+    name: str
+    capture: bytes
+    credits_shown: bool
+    wanted: str | None  # None for what the program answers
+
+
+def answer(reader: Reader, capture: bytes, credits_shown: bool) -> str:
+    """What the definitions say, line by line: exit status, what standard error says, and the report."""
+    try:
+        status, line, text = reader.audit(capture, credits_shown)
+    except (NotShown, Stuck) as error:
+        return f"not shown: {error}"
+    return f"status {status}\n{line.decode()}{text.decode()}"
+
+
+def examples() -> Iterator[Job]:
+    for file in sorted((TOP / "examples").glob("*.pcap")):
+        if file.stat().st_size <= LARGE:
+            status = f"status {int(file.stem in reports_test.FAULTY)}\n"
+            for ending, credits_shown in ((".report", False), (".frames.report", True)):
+                yield Job(file.stem + ending, file.read_bytes(), credits_shown, status + file.with_suffix(ending).read_text())
+
+
+def rows() -> Iterator[Job]:
+    for name, row in reports_test.rows():
+        script, _, wanted = row.partition("-- ")
+        credits_shown = not wanted.startswith("findings ")
+        yield Job(name, capture_of(script), credits_shown, reports_test.lines_of(wanted.removeprefix("findings "), credits_shown))
+
+
+def randoms(seed: int) -> Iterator[Job]:
+    for kind, make, count in (("capture", random_captures.capture, 300), ("connection", random_captures.script, 1000)):
+        for number in range(count):
+            yield Job(f"{kind} {number}", make(Random(f"{seed} {kind} {number}")), True, None)
+
+
+def done(jobs: list[Job], program: str | None) -> list[tuple[str, str]]:
+    """Of each job what is wrong with it, or nothing, and what the definitions say."""
+    reader, found = Reader(), []
+    for job in jobs:
+        said = answer(reader, job.capture, job.credits_shown)
+        wanted = job.wanted or reports_test.answer_of(program, ["--frames"], job.capture)
+        found.append(("" if said == wanted else f"{job.name}: the definitions say\n{said}and it should be\n{wanted}", said))
+    return found
+
+
+def in_parallel(run: Callable, items: list, *others) -> list:
+    """What a function makes of each item, with room for its recursion."""
+    with ProcessPoolExecutor(os.cpu_count()) as workers:
+        return [made.result() for made in [workers.submit(deeply, partial(run, item, *others)) for item in items]]
+
+
+def compared(jobs: list[Job], program: str | None) -> tuple[int, str]:
+    """How many jobs are wrong, each of which is said, and what the definitions said in all."""
+    start, parts = time.monotonic(), 16
+    found = [one for part in in_parallel(done, [jobs[at::parts] for at in range(parts)], program) for one in part]
+    wrong = [fault for fault, _ in found if fault]
+    print(*wrong, f"{len(jobs)} captures in {time.monotonic() - start:.0f} s: {len(wrong)} wrong", sep="\n" if wrong else "", flush=True)
+    return len(wrong), "".join(said for _, said in found)
+
+
+def sees(reader: Reader, jobs: list[Job]) -> bool:
+    """Whether the reader gives another report of some capture, or shows none."""
+    return any(answer(reader, job.capture, job.credits_shown) != job.wanted for job in jobs)
+
+
+def changed(change: tuple[str, str, str], jobs: list[Job]) -> str:
+    """What is wrong with the definitions' answers where one of them is changed."""
+    file, old, new = change
+    with tempfile.TemporaryDirectory() as folder:
+        for specs in CRATES.glob("*/specs"):
+            shutil.copytree(specs, pathlib.Path(folder, specs.parent.name, "specs"))
+        text = pathlib.Path(folder, file).read_text()
+        if text.count(old) != 1:
+            return f"{file} has {old} not once\n"
+        pathlib.Path(folder, file).write_text(text.replace(old, new))
+        return "" if sees(Reader(pathlib.Path(folder)), jobs) else f"{file}: {new} is not seen\n"
+
+
+def misled(number: int, jobs: list[Job]) -> str:
+    """What is wrong with the answers where the search is misled: each but those that it doesn't touch should not be shown."""
+    name, spoil = SPOILED[number]
+    plain = getattr(search, name)
+    setattr(search, name, lambda *arguments: spoil(plain(*arguments)))
+    try:
+        said = [answer(Reader(), job.capture, job.credits_shown) for job in jobs]
+    finally:
+        setattr(search, name, plain)
+    wrong = [job.name for job, text in zip(jobs, said) if text != job.wanted and not text.startswith("not shown: ")]
+    if wrong or not any(text.startswith("not shown: ") for text in said):
+        return f"{name} of the search: a wrong witness passes: {wrong}\n"
+    return ""
+
+
+def main() -> int:
+    parser = argparse.ArgumentParser(description=__doc__, formatter_class=argparse.RawDescriptionHelpFormatter)
+    parser.add_argument("--seed", type=int, default=1)
+    parser.add_argument("program", nargs="?")
+    options = parser.parse_args()
+    known = [*examples(), *rows()]
+    wrong, _ = compared(known, None)
+    if options.program:
+        print(f"seed {options.seed}")
+        more, text = compared(list(randoms(options.seed)), str(pathlib.Path(options.program).resolve()))
+        kinds = set(re.findall(r"^frame .* (?:client|server) (\S+) stream", text, re.M))
+        wrong += more + (len(kinds) != KINDS)
+        print(f"{len(kinds)} of {KINDS} kinds of findings occur")
+    small = [job for job in known if len(job.capture) <= 1300]
+    faults = in_parallel(changed, CHANGES, small) + in_parallel(misled, range(len(SPOILED)), small[::4])
+    print("".join(faults), end="")
+    print(f"{len(CHANGES)} changed definitions, {len(SPOILED)} wrong witnesses: {sum(map(bool, faults))} not seen")
+    return 1 if wrong or any(faults) else 0
+
+
+if __name__ == "__main__":
+    sys.exit(main())
