@@ -83,5 +83,6 @@ try 'pictures' tools/tests/plot_test.py
 try 'library example' tools/tests/library_example_test.py
 try 'install and package' tools/tests/package_test.sh "$program"
 try_built 'refused growths, threads, reads and writes' tools/tests/refusals_test.py "$built"
+try_built 'threads that are started' tools/tests/threads_test.py "$built"
 [[ ${#left_out[@]} -eq 0 ]] || fail "did not run, for want of the program: $(printf '%s; ' "${left_out[@]}")"
 echo 'test-tools: all passed'

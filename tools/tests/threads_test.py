@@ -1,0 +1,110 @@
+#!/usr/bin/python3
+"""Counts the threads that a program starts: tools/tests/threads_test.py PROGRAM
+
+No contract says that threads run, since it could not say that they take turns. So each way in which docs/ARCHITECTURE.md divides the
+work has a capture here that takes it, and the number of threads that it adds, computed by hand. A way that is idle, or a thread that
+is started in vain, changes a sum. One worker starts no thread.
+"""
+
+import os
+import pathlib
+import subprocess
+import sys
+import tempfile
+import unittest
+
+TOP = pathlib.Path(__file__).resolve().parents[2]
+sys.path.insert(0, str(TOP / "tests"))
+sys.dont_write_bytecode = True
+
+from captures import PREFACE, SERVER, SYN, SYN_ACK, Capture, capture_of, frame_of  # noqa: E402
+
+SETTINGS, SETTINGS_ACK = frame_of(["SETTINGS"]), frame_of(["ACK"])
+
+
+def pings(frames):
+    """One connection of so many frames: the four with which it is opened, and PINGs, 87 bytes a record."""
+    return capture_of("opened\n" + "C PING\n" * (frames - 4))
+
+
+def error_at_once(frames):
+    """The same, whose fifth frame is an error of the connection."""
+    return capture_of("opened\nS WINDOW_UPDATE 9 1\n" + "C PING\n" * (frames - 5))
+
+
+def connections(count):
+    """So many connections of six records and four frames each, in 480 bytes."""
+    capture = Capture()
+    for port in range(1000, 1000 + count):
+        client = (0x0A000001, port)
+        capture.ends = {"C": (client, SERVER), "S": (SERVER, client)}
+        capture.syn("C", 1000, SYN)
+        capture.syn("S", 5000, SYN_ACK)
+        for side, payload in (("C", PREFACE + SETTINGS), ("S", SETTINGS), ("C", SETTINGS_ACK), ("S", SETTINGS_ACK)):
+            capture.send(side, payload)
+    return bytes(capture.bytes)
+
+
+ONE_STREAM = capture_of("opened\nC HEADERS 1\nC DATA 1 100\n")
+TWO_STREAMS = capture_of("opened\nC HEADERS 1\nC HEADERS 3\n")
+SHORT, LONG, LONGER = pings(3904), pings(4096), pings(20004)
+
+# The words, the capture, and how many threads each way adds beside the one at hand.
+ROWS = [
+    ("--workers 2", ONE_STREAM, {"one side's flow": 1}),
+    ("--workers 4", ONE_STREAM, {"one side's flow": 1, "room for frames": 1}),
+    ("--workers 2", TWO_STREAMS, {"one side's flow": 1, "one of two groups": 1}),
+    ("--workers 2", SHORT, {"a part ahead, from 256 KiB on": 1, "one side's flow": 1}),
+    ("--workers 4 --block 64", SHORT, {
+        "a part ahead": 1, "one side's flow": 1, "room for frames": 1, "61 blocks are summed": 3}),
+    ("--workers 4", LONG, {
+        "a part ahead": 1, "one side's flow": 1, "room for frames": 1, "faults beside the split, from 4,096 frames on": 1}),
+    ("--workers 4 --block 64", LONG, {
+        "a part ahead": 1, "one side's flow": 1, "room for frames": 1, "faults beside the split": 1,
+        "two blocks of a front of 128 frames": 1, "64 blocks are summed": 3}),
+    ("--workers 4 --block 64", error_at_once(4096), {
+        "a part ahead": 1, "one side's flow": 1, "room for frames": 1, "nothing behind an error in the front": 0}),
+    ("--workers 4", LONGER, {
+        "parts ahead, one at each 256 KiB of the first MiB": 4, "a walk beside the second part": 1,
+        "three parts of packets are decoded": 2, "one side's flow": 1, "room for frames": 1, "faults beside the split": 1,
+        "faults in three pieces": 2, "five blocks are summed": 3}),
+    ("--workers 2", connections(2), {"flows of one": 1, "one is made ready": 1, "one of two blocks is summed": 1}),
+    ("--workers 4", connections(63), {"flows": 3, "made ready by halves": 3, "blocks are summed": 3}),
+    ("--workers 4", connections(64), {
+        "flows": 3, "halves, from 64 connections on": 1, "each is made ready by halves": 2, "blocks of each are summed": 2}),
+    ("--workers 4", connections(5000), {
+        "parts ahead": 4, "one more at the second MiB": 1, "walks beside the second part and the third": 2,
+        "four parts of packets are decoded": 3, "flows": 3, "halves of one batch, and halves of these": 3}),
+]
+
+
+class Threads(unittest.TestCase):
+    @classmethod
+    def setUpClass(cls):
+        folder = tempfile.TemporaryDirectory()
+        cls.addClassCleanup(folder.cleanup)
+        cls.shim, cls.met, cls.capture = (pathlib.Path(folder.name, name) for name in ("refuse.so", "met", "capture"))
+        source = pathlib.Path(__file__).with_name("refuse.c")
+        subprocess.run(["cc", "-O2", "-shared", "-fPIC", "-o", cls.shim, source], check=True)
+
+    def started(self, words, capture):
+        """How many threads a run starts. The capture is a file, which a read gives as much of as it asks for."""
+        self.capture.write_bytes(capture)
+        self.met.unlink(missing_ok=True)
+        surroundings = dict(os.environ, LD_PRELOAD=str(self.shim), REFUSE="threads 0", MET=str(self.met))
+        subprocess.run([PROGRAM, *words.split(), self.capture], capture_output=True, env=surroundings, timeout=60)
+        return self.met.stat().st_size if self.met.exists() else 0
+
+    def test_each_way(self):
+        for words, capture, ways in ROWS:
+            with self.subTest(words, ways=ways):
+                self.assertEqual(self.started(words, capture), sum(ways.values()))
+
+    def test_one_worker(self):
+        for _, capture, _ in ROWS:
+            self.assertEqual(self.started("--workers 1 --block 64", capture), 0)
+
+
+if __name__ == "__main__":
+    PROGRAM = os.path.abspath(sys.argv.pop(1))
+    unittest.main()
