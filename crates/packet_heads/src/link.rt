@@ -2,7 +2,8 @@
 
 ghost use Rattle.std.specs.Prelude.{◌≡◌, ◌+◌, ◌≤◌, drop, length, IfNone, IfSome};
 ghost use Rattle.packet_heads.specs.Lines.{first_answer};
-ghost use Rattle.packet_heads.specs.Link.{raw_lines, link_lines, datagram_start};
+ghost use Rattle.packet_heads.specs.Link.{datagram_start};
+ghost use Rattle.packet_heads.specs.code.Link.{raw_lines, link_lines};
 ghost use Rattle.packet_heads.specs.code.Standing.{IsPassedOver};
 
 use crate::ethernet;
