@@ -1,5 +1,7 @@
 -- The packet decision: what a record holds.
-use Rattle.std.specs.Prelude.{ℕ, ◌+◌, ◌==◌, ◌&&◌, ◌||◌, Bool, not, nat_lt, if◌then◌else◌, unwrap_or, List, [], ◌∷◌, length, drop}
+use Rattle.std.specs.Prelude.{ℕ, ◌+◌, ◌==◌, ◌&&◌, ◌||◌, Bool, not, nat_lt, if◌then◌else◌, List, [], ◌∷◌, map, find, length, drop}
+use Rattle.std.specs.List.{enumerate_from}
+use Rattle.std.specs.Option.{option_map_or}
 use Rattle.pcap_records.specs.LinkType.{raw_ip}
 use Rattle.pcap_records.specs.declared.capture.Record.{Record}
 use Rattle.packet_heads.specs.declared.packets.Segment.{Segment}
@@ -7,7 +9,6 @@ use Rattle.packet_heads.specs.declared.packets.Packet.{Packet}
 use Rattle.packet_heads.specs.declared.packets.Packet.TheVariants.{Segment as Carried, Skipped, Refused}
 use Rattle.packet_heads.specs.declared.packets.Skip.TheVariants.{NotIpv4, Fragment, NotTcp}
 use Rattle.packet_heads.specs.declared.packets.Refusal.TheVariants.{ShortEthernet, ShortIpv4, BadVersion, BadHeaderLength, BadTotalLength, PastEnd, ShortTcp, BadDataOffset}
-use Rattle.packet_heads.specs.Lines.{first_answer}
 use Rattle.packet_heads.specs.Link.{packet_of, datagram_start}
 use Rattle.packet_heads.specs.Ethernet as ethernet
 use Rattle.packet_heads.specs.Ipv4 as ipv4
@@ -56,18 +57,14 @@ decision_on link number row packet =
     let start = datagram_start link packet in
     let datagram = drop start packet in
     let lines = decision_lines (link == raw_ip) (is_partial row) packet datagram (ipv4.segment_bytes datagram) in
-    unwrap_or (first_answer lines) (Carried (segment_of number row (row.start + start) datagram))
+    option_map_or (λ (line : Bool × Packet). line.1) (find (λ (line : Bool × Packet). line.0) lines)
+    (Carried (segment_of number row (row.start + start) datagram))
 
 -- the packet of a record of a capture of this link type; records are numbered from 1
 unfoldable pub packet_decision : ℕ → ℕ → Record → List ℕ → Packet
 packet_decision link number row capture = decision_on link number row (packet_of row capture)
 
--- the packets of records, the first of which has this number
-abbrev pub decisions_from : ℕ → ℕ → List Record → List ℕ → List Packet
-decisions_from link number [] capture = []
-decisions_from link number (row ∷ rows) capture =
-    packet_decision link number row capture ∷ decisions_from link (number + 1) rows capture
-
 -- the packets of all records of a capture, in order
 abbrev pub packet_decisions : ℕ → List Record → List ℕ → List Packet
-packet_decisions link rows capture = decisions_from link 1 rows capture
+packet_decisions link rows capture =
+    map (λ (numbered : ℕ × Record). packet_decision link numbered.0 numbered.1 capture) (enumerate_from 1 rows)

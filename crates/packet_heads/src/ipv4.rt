@@ -3,7 +3,7 @@
 ghost use Rattle.std.specs.Prelude.{◌≡◌, ◌*◌, ◌<◌, ◌≤◌, length, IfNone, IfSome};
 ghost use Rattle.packet_heads.specs.Ipv4.{version, header_words, header_length, total_length, is_fragment, protocol, source_address, destination_address, datagram_end, segment_bytes, is_snapped};
 ghost use Rattle.packet_heads.specs.code.Ipv4.{ipv4_lines, HasHeader};
-ghost use Rattle.packet_heads.specs.Lines.{first_answer};
+ghost use Rattle.packet_heads.specs.code.Lines.{first_answer};
 ghost use Rattle.packet_heads.specs.code.Standing.{IsPassedOver};
 
 use crate::packets::{Packet, Refusal, Skip};
