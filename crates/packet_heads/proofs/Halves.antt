@@ -1,13 +1,14 @@
 -- Packets of rows in two halves, each in parts.
-use Rattle.std.proofs.Common.{◌≡◌, ℕ, ◌+◌, ◌-◌, ◌%◌, ◌<◌, ◌≤◌, List, [], ◌∷◌, ◌++◌, length, take, drop, take-append-drop, length-append, append-nil, sym, ap, subst, ◌∙◌, arith}
+use Rattle.std.proofs.Common.{◌≡◌, ℕ, ◌+◌, ◌-◌, ◌%◌, ◌<◌, ◌≤◌, List, [], ◌∷◌, ◌++◌, length, map, take, drop, take-append-drop, length-append, append-nil, refl, sym, ap, subst, ◌∙◌, arith}
+use Rattle.std.specs.List.{enumerate_from}
 use Rattle.std.proofs.lemmas.List.{length-take-le}
 use Rattle.std.proofs.lemmas.Grind.{flat_map-append}
 use Rattle.pcap_records.specs.declared.capture.Record.{Record}
 use Rattle.parted_list.specs.Parts.{ArePartsOf, joined}
 use Rattle.packet_heads.specs.declared.packets.Packet.{Packet}
-use Rattle.packet_heads.specs.Decision.{packet_decision, decisions_from}
+use Rattle.packet_heads.specs.Decision.{packet_decision}
 use Rattle.packet_heads.proofs.Rows.{AllStand-length}
-use Rattle.packet_heads.specs.code.Standing.{AllStand, AreCut, AreDecided, AreDecidedParts}
+use Rattle.packet_heads.specs.code.Standing.{decisions_from, AllStand, AreCut, AreDecided, AreDecidedParts}
 
 -- the decisions on rows and then on more rows
 decisions-append : (link number : ℕ) (front back : List Record) (capture : List ℕ)
@@ -89,3 +90,11 @@ pub cut-parts : (count : ℕ) (parts : List (List Packet)) → AreCut count part
 cut-parts count [] h = absurd h
 cut-parts count (part ∷ []) h = (omega (arith, h.0, h.1), (λ some. absurd (omega (arith, some))), tt)
 cut-parts count (part ∷ next ∷ later) h = (omega (arith, h.0), (λ some. h.0), cut-parts (count - 8192) (next ∷ later) h.2)
+
+-- the decisions on all records, as the code counts them
+pub decisions-numbered : (link number : ℕ) (rows : List Record) (capture : List ℕ)
+    → decisions_from link number rows capture
+    ≡ map (λ (numbered : ℕ × Record). packet_decision link numbered.0 numbered.1 capture) (enumerate_from number rows)
+decisions-numbered link number [] capture = refl
+decisions-numbered link number (row ∷ rows) capture =
+    ap (λ (later : List Packet). packet_decision link number row capture ∷ later) (decisions-numbered link (number + 1) rows capture)

@@ -4,8 +4,8 @@ use Rattle.std.proofs.Math.Seq.{drop-length}
 use Rattle.std.proofs.lemmas.List.{drop_more}
 use Rattle.pcap_records.specs.declared.capture.Record.{Record}
 use Rattle.packet_heads.specs.declared.packets.Packet.{Packet}
-use Rattle.packet_heads.specs.Decision.{packet_decision, decisions_from}
-use Rattle.packet_heads.specs.code.Standing.{StandsIn, AllStand, AreDecided}
+use Rattle.packet_heads.specs.Decision.{packet_decision}
+use Rattle.packet_heads.specs.code.Standing.{decisions_from, StandsIn, AllStand, AreDecided}
 
 -- the packets of the rows before this index, and the rows from it on, where the first row has this number
 pub record Progress (link first : ℕ) (rows : List Record) (capture : List ℕ) (index : ℕ) (packets : List Packet) : Type 0 where

@@ -1,11 +1,16 @@
 -- The packet decision: what a record holds.
-use Rattle.std.specs.Prelude.{ℕ, ◌+◌, Bool, nat_lt, unwrap_or, List, [], ◌∷◌, ◌++◌, drop}
+use Rattle.std.specs.Prelude.{ℕ, ◌+◌, ◌==◌, ◌&&◌, ◌||◌, Bool, not, nat_lt, if◌then◌else◌, List, [], ◌∷◌, map, find, length, drop}
+use Rattle.std.specs.List.{enumerate_from}
+use Rattle.std.specs.Option.{option_map_or}
+use Rattle.pcap_records.specs.LinkType.{raw_ip}
 use Rattle.pcap_records.specs.declared.capture.Record.{Record}
 use Rattle.packet_heads.specs.declared.packets.Segment.{Segment}
 use Rattle.packet_heads.specs.declared.packets.Packet.{Packet}
-use Rattle.packet_heads.specs.declared.packets.Packet.TheVariants as packets
-use Rattle.packet_heads.specs.Lines.{first_answer}
-use Rattle.packet_heads.specs.Link.{packet_of, link_lines, datagram_start}
+use Rattle.packet_heads.specs.declared.packets.Packet.TheVariants.{Segment as Carried, Skipped, Refused}
+use Rattle.packet_heads.specs.declared.packets.Skip.TheVariants.{NotIpv4, Fragment, NotTcp}
+use Rattle.packet_heads.specs.declared.packets.Refusal.TheVariants.{ShortEthernet, ShortIpv4, BadVersion, BadHeaderLength, BadTotalLength, PastEnd, ShortTcp, BadDataOffset}
+use Rattle.packet_heads.specs.Link.{packet_of, datagram_start}
+use Rattle.packet_heads.specs.Ethernet as ethernet
 use Rattle.packet_heads.specs.Ipv4 as ipv4
 use Rattle.packet_heads.specs.Tcp as tcp
 
@@ -13,7 +18,7 @@ use Rattle.packet_heads.specs.Tcp as tcp
 abbrev pub is_partial : Record → Bool
 is_partial row = nat_lt row.length row.original
 
--- line 12: the segment in a datagram of this record, which begins at this offset of the capture
+-- the segment in a datagram of this record, which begins at this offset of the capture
 abbrev pub segment_of : ℕ → Record → ℕ → List ℕ → Segment
 segment_of number row at datagram =
     let segment = ipv4.segment_bytes datagram in
@@ -30,25 +35,36 @@ segment_of number row at datagram =
       snapped = ipv4.is_snapped (is_partial row) datagram;
     }
 
--- the decision on a record's captured bytes: the first of the table's twelve lines that applies
+-- the packet decision: the first of these lines that applies, of raw IP or an Ethernet frame, captured in part or whole
+abbrev pub decision_lines : (raw partial : Bool) → (packet datagram segment : List ℕ) → List (Bool × Packet)
+decision_lines raw partial packet datagram segment =
+    (if raw then length packet == 0 else nat_lt (length packet) (ethernet.header_length packet), Refused (if raw then ShortIpv4 else ShortEthernet))
+    ∷ (if raw then ipv4.version packet == 6 else not (ethernet.ether_type packet == 0x0800), Skipped NotIpv4)
+    ∷ (nat_lt (length datagram) 20, Refused ShortIpv4)
+    ∷ (not (ipv4.version datagram == 4), Refused BadVersion)
+    ∷ (nat_lt (ipv4.header_words datagram) 5 || nat_lt (length datagram) (ipv4.header_length datagram), Refused BadHeaderLength)
+    ∷ (not (ipv4.total_length datagram == 0) && nat_lt (ipv4.total_length datagram) (ipv4.header_length datagram), Refused BadTotalLength)
+    ∷ (nat_lt (length datagram) (ipv4.total_length datagram) && not partial, Refused PastEnd)
+    ∷ (ipv4.is_fragment datagram, Skipped Fragment)
+    ∷ (not (ipv4.protocol datagram == 6), Skipped NotTcp)
+    ∷ (nat_lt (length segment) 20, Refused ShortTcp)
+    ∷ (nat_lt (tcp.data_offset segment) 5 || nat_lt (length segment) (tcp.header_length segment), Refused BadDataOffset)
+    ∷ []
+
+-- the decision on a record's captured bytes: where none of the eleven lines applies, it is the segment
 abbrev pub decision_on : ℕ → ℕ → Record → List ℕ → Packet
 decision_on link number row packet =
     let start = datagram_start link packet in
     let datagram = drop start packet in
-    let segment = ipv4.segment_bytes datagram in
-    let lines = (link_lines link packet ++ ipv4.ipv4_lines (is_partial row) datagram) ++ tcp.tcp_lines segment in
-    unwrap_or (first_answer lines) (packets.Segment (segment_of number row (row.start + start) datagram))
+    let lines = decision_lines (link == raw_ip) (is_partial row) packet datagram (ipv4.segment_bytes datagram) in
+    option_map_or (λ (line : Bool × Packet). line.1) (find (λ (line : Bool × Packet). line.0) lines)
+    (Carried (segment_of number row (row.start + start) datagram))
 
 -- the packet of a record of a capture of this link type; records are numbered from 1
 unfoldable pub packet_decision : ℕ → ℕ → Record → List ℕ → Packet
 packet_decision link number row capture = decision_on link number row (packet_of row capture)
 
--- the packets of records, the first of which has this number
-abbrev pub decisions_from : ℕ → ℕ → List Record → List ℕ → List Packet
-decisions_from link number [] capture = []
-decisions_from link number (row ∷ rows) capture =
-    packet_decision link number row capture ∷ decisions_from link (number + 1) rows capture
-
 -- the packets of all records of a capture, in order
 abbrev pub packet_decisions : ℕ → List Record → List ℕ → List Packet
-packet_decisions link rows capture = decisions_from link 1 rows capture
+packet_decisions link rows capture =
+    map (λ (numbered : ℕ × Record). packet_decision link numbered.0 numbered.1 capture) (enumerate_from 1 rows)

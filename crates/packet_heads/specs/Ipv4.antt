@@ -1,11 +1,7 @@
 -- An IPv4 datagram as far as it was captured, and what may be captured behind it (RFC 791, 3.1). All
 -- numbers are big-endian.
-use Rattle.std.specs.Prelude.{ℕ, ◌*◌, ◌/◌, ◌%◌, ◌^◌, ◌==◌, ◌&&◌, ◌||◌, ◌≤◌, Bool, not, nat_lt, min, List, [], ◌∷◌, length, drop, slice_index, slice_range, if◌then◌else◌}
+use Rattle.std.specs.Prelude.{ℕ, ◌*◌, ◌/◌, ◌%◌, ◌^◌, ◌==◌, ◌&&◌, ◌||◌, Bool, not, nat_lt, min, List, length, drop, slice_index, slice_range, if◌then◌else◌}
 use Rattle.byteorder.specs.Endian.{big_number}
-use Rattle.packet_heads.specs.declared.packets.Packet.{Packet}
-use Rattle.packet_heads.specs.declared.packets.Packet.TheVariants.{Skipped, Refused}
-use Rattle.packet_heads.specs.declared.packets.Skip.TheVariants.{Fragment, NotTcp}
-use Rattle.packet_heads.specs.declared.packets.Refusal.TheVariants.{ShortIpv4, BadVersion, BadHeaderLength, BadTotalLength, PastEnd}
 
 -- Version: the high 4 bits of byte 0
 unfoldable pub version : List ℕ → ℕ
@@ -19,17 +15,9 @@ header_words datagram = slice_index datagram 0 % 2 ^ 4
 unfoldable pub total_length : List ℕ → ℕ
 total_length datagram = big_number 2 (drop 2 datagram)
 
--- More Fragments, the lowest of the 3 flags above the Fragment Offset
-unfoldable pub more_fragments : List ℕ → ℕ
-more_fragments datagram = big_number 2 (drop 6 datagram) / 2 ^ 13 % 2
-
--- Fragment Offset: 13 bits
-unfoldable pub fragment_offset : List ℕ → ℕ
-fragment_offset datagram = big_number 2 (drop 6 datagram) % 2 ^ 13
-
--- a part of a datagram, and no whole one
+-- a part of a datagram, and no whole one: More Fragments or the Fragment Offset, the low 14 bits, is not 0
 unfoldable pub is_fragment : List ℕ → Bool
-is_fragment datagram = not (more_fragments datagram == 0 && fragment_offset datagram == 0)
+is_fragment datagram = not (big_number 2 (drop 6 datagram) % 2 ^ 14 == 0)
 
 -- Protocol: 6 for TCP
 unfoldable pub protocol : List ℕ → ℕ
@@ -57,24 +45,7 @@ datagram_end datagram =
 abbrev pub segment_bytes : List ℕ → List ℕ
 segment_bytes datagram = slice_range datagram (header_length datagram) (datagram_end datagram)
 
--- the header is whole, and the datagram does not end before it
-abbrev pub HasHeader : List ℕ → Type 0
-HasHeader datagram =
-    (20 ≤ length datagram) × (header_length datagram ≤ datagram_end datagram) × (datagram_end datagram ≤ length datagram)
-
 -- was less captured than the datagram holds? partial: fewer bytes of the packet were captured than it had
 abbrev pub is_snapped : Bool → List ℕ → Bool
 is_snapped partial datagram =
     nat_lt (length datagram) (total_length datagram) || (total_length datagram == 0 && partial)
-
--- lines 3 to 9 of the packet decision
-abbrev pub ipv4_lines : Bool → List ℕ → List (Bool × Packet)
-ipv4_lines partial datagram =
-    (nat_lt (length datagram) 20, Refused ShortIpv4)
-    ∷ (not (version datagram == 4), Refused BadVersion)
-    ∷ (nat_lt (header_words datagram) 5 || nat_lt (length datagram) (header_length datagram), Refused BadHeaderLength)
-    ∷ (not (total_length datagram == 0) && nat_lt (total_length datagram) (header_length datagram), Refused BadTotalLength)
-    ∷ (nat_lt (length datagram) (total_length datagram) && not partial, Refused PastEnd)
-    ∷ (is_fragment datagram, Skipped Fragment)
-    ∷ (not (protocol datagram == 6), Skipped NotTcp)
-    ∷ []

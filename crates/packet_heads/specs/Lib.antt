@@ -2,7 +2,6 @@ pub mod Decision
 pub mod Ethernet
 pub mod Example
 pub mod Ipv4
-pub mod Lines
 pub mod Link
 pub mod Order
 pub mod Refusal

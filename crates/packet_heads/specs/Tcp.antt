@@ -1,10 +1,7 @@
 -- A TCP segment as far as it was captured (RFC 9293, 3.1). All numbers are big-endian.
-use Rattle.std.specs.Prelude.{ℕ, ◌*◌, ◌/◌, ◌^◌, ◌==◌, ◌||◌, ◌≤◌, Bool, nat_lt, List, [], ◌∷◌, length, drop, slice_index}
+use Rattle.std.specs.Prelude.{ℕ, ◌*◌, ◌/◌, ◌^◌, ◌==◌, Bool, List, drop, slice_index}
 use Rattle.std.specs.Int.{bit_at}
 use Rattle.byteorder.specs.Endian.{big_number}
-use Rattle.packet_heads.specs.declared.packets.Packet.{Packet}
-use Rattle.packet_heads.specs.declared.packets.Packet.TheVariants.{Refused}
-use Rattle.packet_heads.specs.declared.packets.Refusal.TheVariants.{ShortTcp, BadDataOffset}
 
 -- Source Port
 unfoldable pub source_port : List ℕ → ℕ
@@ -33,14 +30,3 @@ ack segment = bit_at (slice_index segment 13) 4 == 1
 -- the header's length in bytes, options included
 abbrev pub header_length : List ℕ → ℕ
 header_length segment = 4 * data_offset segment
-
--- the header is whole
-abbrev pub HasHeader : List ℕ → Type 0
-HasHeader segment = (20 ≤ length segment) × (header_length segment ≤ length segment)
-
--- lines 10 and 11 of the packet decision
-abbrev pub tcp_lines : List ℕ → List (Bool × Packet)
-tcp_lines segment =
-    (nat_lt (length segment) 20, Refused ShortTcp)
-    ∷ (nat_lt (data_offset segment) 5 || nat_lt (length segment) (header_length segment), Refused BadDataOffset)
-    ∷ []

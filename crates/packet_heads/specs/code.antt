@@ -1,1 +1,5 @@
+pub mod Ipv4
+pub mod Lines
+pub mod Link
 pub mod Standing
+pub mod Tcp

@@ -3,8 +3,9 @@
 ghost use Rattle.std.specs.Prelude.{◌≡◌, ◌+◌, ◌^◌, ◌<◌, ◌≤◌, length, IfOk, IsTrue};
 ghost use Rattle.pcap_records.specs.LinkType.{is_read};
 ghost use Rattle.packet_heads.specs.Decision.{decision_on, packet_decision, segment_of, is_partial};
-ghost use Rattle.packet_heads.specs.Ipv4 as ipv4_words;
-ghost use Rattle.packet_heads.specs.Tcp as tcp_words;
+ghost use Rattle.packet_heads.specs.Ipv4.{segment_bytes};
+ghost use Rattle.packet_heads.specs.code.Ipv4 as ipv4_code;
+ghost use Rattle.packet_heads.specs.code.Tcp as tcp_code;
 ghost use Rattle.packet_heads.specs.code.Standing.{StandsIn};
 
 use crate::packets::{Endpoint, Packet, Segment};
@@ -16,8 +17,8 @@ use std::alloc::{AllocError, Global};
 fn segment_of(number: u32, row: &Record, partial: bool, at: usize, datagram: &[u8]) -> Segment
     requires partial_is { partial ≡ is_partial row.now }
     requires place { at + length datagram.now < 2 ^ 64 }
-    requires datagram { ipv4_words.HasHeader datagram.now }
-    requires segment { tcp_words.HasHeader (ipv4_words.segment_bytes datagram.now) }
+    requires datagram { ipv4_code.HasHeader datagram.now }
+    requires segment { tcp_code.HasHeader (segment_bytes datagram.now) }
     ensures segment { result ≡ segment_of number row.now at datagram.now }
     ensures from { at ≤ result.lo }
     ensures payload { result.lo ≤ result.hi }

@@ -1,8 +1,9 @@
 //! Ethernet frames (RFC 894), with one VLAN tag or none (IEEE 802.1Q).
 
 ghost use Rattle.std.specs.Prelude.{◌≡◌, ◌≤◌, length, IfNone, IfSome};
-ghost use Rattle.packet_heads.specs.Ethernet.{is_tagged, header_length, ether_type, ethernet_lines};
-ghost use Rattle.packet_heads.specs.Lines.{first_answer};
+ghost use Rattle.packet_heads.specs.Ethernet.{is_tagged, header_length, ether_type};
+ghost use Rattle.packet_heads.specs.code.Link.{ethernet_lines};
+ghost use Rattle.packet_heads.specs.code.Lines.{first_answer};
 ghost use Rattle.packet_heads.specs.code.Standing.{IsPassedOver};
 
 use crate::packets::{Packet, Refusal, Skip};

@@ -1,8 +1,9 @@
 //! IPv4 datagrams (RFC 791, 3.1).
 
 ghost use Rattle.std.specs.Prelude.{◌≡◌, ◌*◌, ◌<◌, ◌≤◌, length, IfNone, IfSome};
-ghost use Rattle.packet_heads.specs.Ipv4.{version, header_words, header_length, total_length, is_fragment, protocol, source_address, destination_address, datagram_end, segment_bytes, is_snapped, ipv4_lines, HasHeader};
-ghost use Rattle.packet_heads.specs.Lines.{first_answer};
+ghost use Rattle.packet_heads.specs.Ipv4.{version, header_words, header_length, total_length, is_fragment, protocol, source_address, destination_address, datagram_end, segment_bytes, is_snapped};
+ghost use Rattle.packet_heads.specs.code.Ipv4.{ipv4_lines, HasHeader};
+ghost use Rattle.packet_heads.specs.code.Lines.{first_answer};
 ghost use Rattle.packet_heads.specs.code.Standing.{IsPassedOver};
 
 use crate::packets::{Packet, Refusal, Skip};
@@ -52,7 +53,7 @@ fn total_length(datagram: &[u8]) -> usize
     BigEndian::read_u16(&datagram[2..]) as usize
 }
 
-#[tactic(auto, unfolding(crate::specs::Ipv4::is_fragment, crate::specs::Ipv4::more_fragments, crate::specs::Ipv4::fragment_offset))]
+#[tactic(auto, unfolding(crate::specs::Ipv4::is_fragment))]
 fn is_fragment(datagram: &[u8]) -> bool
     requires { 20 ≤ length datagram.now }
     ensures { result ≡ is_fragment datagram.now }

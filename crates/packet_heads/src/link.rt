@@ -1,8 +1,9 @@
 //! What stands before a record's datagram, by the link type of the capture.
 
 ghost use Rattle.std.specs.Prelude.{◌≡◌, ◌+◌, ◌≤◌, drop, length, IfNone, IfSome};
-ghost use Rattle.packet_heads.specs.Lines.{first_answer};
-ghost use Rattle.packet_heads.specs.Link.{raw_lines, link_lines, datagram_start};
+ghost use Rattle.packet_heads.specs.code.Lines.{first_answer};
+ghost use Rattle.packet_heads.specs.Link.{datagram_start};
+ghost use Rattle.packet_heads.specs.code.Link.{raw_lines, link_lines};
 ghost use Rattle.packet_heads.specs.code.Standing.{IsPassedOver};
 
 use crate::ethernet;

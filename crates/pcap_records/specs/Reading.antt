@@ -1,6 +1,6 @@
 -- What a capture that is not refused holds.
 use Rattle.std.specs.Prelude.{◌≡◌, ℕ, ◌+◌, ◌==◌, if◌then◌else◌, Option, Some, None, List, length, drop}
-use Rattle.pcap_records.specs.FileHeader.{ByteOrder, number_of, header_of, format_of, link_of}
+use Rattle.pcap_records.specs.FileHeader.{number_of, header_of, format_of, link_of}
 use Rattle.pcap_records.specs.Record.{AreRecords}
 use Rattle.pcap_records.specs.declared.format.Format.{Format}
 use Rattle.pcap_records.specs.declared.capture.Record.{Record}
@@ -10,15 +10,11 @@ use Rattle.pcap_records.specs.declared.capture.Records.{Records}
 abbrev pub cut_after : List Record → List ℕ → Option ℕ
 cut_after rows rest = if length rest == 0 then None else Some (length rows + 1)
 
--- what was found is all that the capture holds, with this order of bytes and this unit of fractions
-pub record IsReadingBy (number : ByteOrder) (unit : ℕ) (capture : List ℕ) (found : Records) : Type 0 where
-  pub rest : List ℕ
-  pub link : found.link ≡ link_of number (header_of capture)
-  pub rows : AreRecords number unit 24 (drop 24 capture) found.rows.items rest
-  pub cut : found.cut ≡ cut_after found.rows.items rest
-
--- what was found is all that the capture holds, as its magic says how to read it
+-- what was found is all that the capture holds, with the order of bytes and the unit of fractions that its magic says
 pub record IsReading (capture : List ℕ) (found : Records) : Type 0 where
   pub format : Format
+  pub rest : List ℕ
   pub magic : format_of (header_of capture) ≡ Some format
-  pub holds : IsReadingBy (number_of format.endian) format.unit capture found
+  pub link : found.link ≡ link_of (number_of format.endian) (header_of capture)
+  pub rows : AreRecords (number_of format.endian) format.unit 24 (drop 24 capture) found.rows.items rest
+  pub cut : found.cut ≡ cut_after found.rows.items rest

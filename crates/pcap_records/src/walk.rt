@@ -4,7 +4,7 @@ ghost use Rattle.std.specs.Prelude.{◌≡◌, ◌<◌, ◌≤◌, ◌^◌, ◌�
 ghost use Rattle.pcap_records.specs.FileHeader.{format_of, header_of, link_of, number_of};
 ghost use Rattle.pcap_records.specs.LinkType.{is_read};
 ghost use Rattle.pcap_records.specs.Place.{AreTimely, AreWithin};
-ghost use Rattle.pcap_records.specs.Reading.{IsReading, IsReadingBy};
+ghost use Rattle.pcap_records.specs.Reading.{IsReading};
 ghost use Rattle.pcap_records.specs.Refusal.{refusal};
 ghost use Rattle.pcap_records.specs.code.Walk.{IsThrough, IsWalkIn};
 
@@ -117,7 +117,7 @@ impl RecordWalk {
     ) -> Result<Records, AllocError>
         requires walk { IsWalkIn capture.now self }
         requires short { length capture.now < 2 ^ 31 }
-        ensures reading { IfOk result (IsReadingBy (number_of self.format.endian) self.format.unit capture.now) }
+        ensures reading { IfOk result (IsReading capture.now) }
         ensures placed { IfOk result (λ found. AreWithin (length capture.now) found.rows.items) }
         ensures timely { IfOk result (λ found. AreTimely found.rows.items) }
     {

@@ -11,9 +11,11 @@ use Rattle.packet_heads.specs.declared.packets.Packet.TheVariants.{Segment as Ca
 use Rattle.packet_heads.specs.declared.packets.Segment.{Segment}
 use Rattle.packet_heads.specs.Order.{AreNumberedFrom, PayloadsRise}
 use Rattle.tcp_streams.specs.declared.members.Connection.{Connection}
-use Rattle.tcp_streams.specs.Members.{payload_sum, segments_of, side_segments}
-use Rattle.tcp_streams.specs.Membership.{Membership, connection_of, connections_of, is_opening, members, membership, opening_at, openings, opens, with_if}
-use Rattle.tcp_streams.specs.Packets.{past_after, past_of, segment_of}
+use Rattle.tcp_streams.specs.Orderly.{payload_sum}
+use Rattle.tcp_streams.specs.Members.{segments_of, side_segments}
+use Rattle.tcp_streams.specs.code.Past.{Membership, connection_of, connections_of, members, membership, opening_at, openings, opens, past_after, past_of}
+use Rattle.tcp_streams.specs.Membership.{is_opening, with_if}
+use Rattle.tcp_streams.specs.Packets.{segment_of}
 use Rattle.tcp_streams.specs.Sequence.{payload_length}
 use Rattle.tcp_streams.specs.code.Table.{Falls}
 use Rattle.tcp_streams.proofs.FlowLemmas.{sides-sum}

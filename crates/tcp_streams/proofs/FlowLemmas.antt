@@ -13,7 +13,8 @@ use Rattle.tcp_streams.specs.declared.members.Connection.{Connection}
 use Rattle.tcp_streams.specs.declared.streams.Arrival.{Arrival}
 use Rattle.tcp_streams.specs.Flow.{IsArrivalOf, IsFlow, IsGap, arrival_at}
 use Rattle.tcp_streams.specs.code.Interval.{IsSame}
-use Rattle.tcp_streams.specs.Members.{AreMembers, is_sent_by, payload_sum, segments_of, side_segments}
+use Rattle.tcp_streams.specs.Orderly.{AreMembers, payload_sum}
+use Rattle.tcp_streams.specs.Members.{is_sent_by, segments_of, side_segments}
 use Rattle.tcp_streams.specs.Packets.{segment_of}
 use Rattle.tcp_streams.specs.Pair.{is_endpoint}
 use Rattle.tcp_streams.specs.Sequence.{Source, arrival, end_of_offsets, later_of, payload_length}

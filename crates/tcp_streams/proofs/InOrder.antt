@@ -11,12 +11,12 @@ use Rattle.tcp_streams.specs.declared.interval.Interval.{Interval}
 use Rattle.tcp_streams.specs.declared.members.Connection.{Connection}
 use Rattle.tcp_streams.specs.declared.streams.Arrival.{Arrival}
 use Rattle.tcp_streams.specs.declared.streams.Flow.{Flow}
-use Rattle.tcp_streams.specs.Arrivals.{AreTimely}
+use Rattle.tcp_streams.specs.Orderly.{AreTimely, AreMembers}
 use Rattle.tcp_streams.specs.Bytes.{bytes_of}
 use Rattle.tcp_streams.specs.Flow.{IsFlow}
 use Rattle.tcp_streams.specs.code.Assembled.{IsAssembled}
 use Rattle.tcp_streams.specs.code.Interval.{AreCaptured, IsInterval, at, size_of, arrival_with, arrivals_after, arrivals_in, bytes_in, member_piece, piece, stretch, width}
-use Rattle.tcp_streams.specs.Members.{AreMembers, is_sent_by, side_segments}
+use Rattle.tcp_streams.specs.Members.{is_sent_by, side_segments}
 use Rattle.tcp_streams.specs.Packets.{segment_of}
 use Rattle.tcp_streams.specs.Sequence.{end_of_offsets, modulus, payload_length, start_of}
 use Rattle.tcp_streams.proofs.IntervalLemmas.{lt-true, lt_cases}

@@ -1,3 +1,4 @@
+pub mod Belongings
 pub mod CaptureFits
 pub mod FlowLemmas
 pub mod InOrder
@@ -10,6 +11,7 @@ pub mod PieceLemmas
 pub mod Elements
 pub mod RunLemmas
 pub mod Past
+pub mod SamePair
 pub mod Sides
 pub mod Steps
 pub mod Turns

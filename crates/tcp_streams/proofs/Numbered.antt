@@ -9,9 +9,10 @@ use Rattle.packet_heads.specs.declared.packets.Packet.TheVariants.{Segment as Ca
 use Rattle.packet_heads.specs.declared.packets.Segment.{Segment}
 use Rattle.packet_heads.specs.Order.{AreNumberedFrom}
 use Rattle.tcp_streams.specs.declared.members.Connection.{Connection}
-use Rattle.tcp_streams.specs.Members.{AreMembers}
-use Rattle.tcp_streams.specs.Membership.{Membership, connection_of, connections_of, is_opening, members, membership, opening_at, openings, with_if}
-use Rattle.tcp_streams.specs.Packets.{past_after, past_of, segment_in, segment_of, with_packet}
+use Rattle.tcp_streams.specs.Orderly.{AreMembers}
+use Rattle.tcp_streams.specs.code.Past.{Membership, connection_of, connections_of, members, membership, opening_at, openings, past_after, past_of, with_packet}
+use Rattle.tcp_streams.specs.Membership.{is_opening, with_if}
+use Rattle.tcp_streams.specs.Packets.{segment_in, segment_of}
 use Rattle.tcp_streams.specs.code.Table.{Falls}
 
 past_after-push : (past : List Segment) (xs : List Packet) (p : Packet) → past_after past (xs ++ p ∷ []) ≡ with_packet (past_after past xs) p

@@ -3,7 +3,8 @@ use Rattle.std.proofs.Common.{◌≡◌, true, arith}
 use Rattle.std.proofs.lemmas.Grind.{common_steps}
 use Rattle.packet_heads.specs.declared.packets.Endpoint.{Endpoint}
 use Rattle.tcp_streams.specs.declared.pair.Pair.{Pair}
-use Rattle.tcp_streams.specs.Pair.{is_endpoint, is_pair}
+use Rattle.tcp_streams.specs.Pair.{is_endpoint}
+use Rattle.tcp_streams.specs.code.Pairs.{is_pair}
 
 pub is_endpoint-refl : (e : Endpoint) → is_endpoint e e ≡ true
 is_endpoint-refl e = grind (arith, common_steps)

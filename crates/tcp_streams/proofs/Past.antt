@@ -6,8 +6,9 @@ use Rattle.std.proofs.lemmas.Bool.Decides.{eqb_tells}
 use Rattle.std.proofs.lemmas.List.Folds.{list_any-append}
 use Rattle.packet_heads.specs.declared.packets.Segment.{Segment}
 use Rattle.tcp_streams.specs.declared.pair.Pair.{Pair}
-use Rattle.tcp_streams.specs.Pair.{is_of, pair_of}
-use Rattle.tcp_streams.specs.Membership.{first_strays, is_opening, last_opening, members, opening_at, openings, opens, strays, with_if}
+use Rattle.tcp_streams.specs.code.Pairs.{is_of, pair_of}
+use Rattle.tcp_streams.specs.code.Past.{first_strays, last_opening, members, opening_at, openings, opens, strays}
+use Rattle.tcp_streams.specs.Membership.{is_opening, with_if}
 use Rattle.tcp_streams.specs.code.Table.{Falls}
 use Rattle.tcp_streams.proofs.Lists.{list_any-at, slice_get-last, slice_get-push}
 use Rattle.tcp_streams.proofs.Pairs.{is_pair-refl}

@@ -13,7 +13,8 @@ use Rattle.packet_heads.specs.Order.{AreNumberedFrom, PayloadsRise, TimesFit}
 use Rattle.tcp_streams.specs.declared.interval.Interval.{Interval}
 use Rattle.tcp_streams.specs.declared.members.Connection.{Connection}
 use Rattle.tcp_streams.specs.code.Interval.{IsInterval, IsCaptured, IsSame, PayloadsFit, at, member_piece, piece, size_of, stretch}
-use Rattle.tcp_streams.specs.Members.{AreMembers, is_sent_by, payload_sum, segments_of, side_segments}
+use Rattle.tcp_streams.specs.Orderly.{AreMembers, payload_sum}
+use Rattle.tcp_streams.specs.Members.{is_sent_by, segments_of, side_segments}
 use Rattle.tcp_streams.specs.Packets.{segment_in, segment_of}
 use Rattle.tcp_streams.specs.Sequence.{Source, brings, distance, earlier_of, end_of_offsets, modulus, payload_length, source, start_of}
 use Rattle.tcp_streams.proofs.IntervalLemmas.{at-append, at-before, at-in, at-past, lt-false, lt-true, lt_cases, size-cons}

@@ -8,7 +8,8 @@ use Rattle.std.proofs.lemmas.List.{append_assoc, length-append}
 use Rattle.std.proofs.lemmas.List.Elements.{All-cons, All-head, All-nil, All-tail}
 use Rattle.tcp_streams.specs.declared.interval.Interval.{Interval}
 use Rattle.tcp_streams.specs.declared.streams.Arrival.{Arrival}
-use Rattle.tcp_streams.specs.Arrivals.{AreTimely, Rises}
+use Rattle.tcp_streams.specs.Orderly.{AreTimely}
+use Rattle.tcp_streams.specs.Arrivals.{Rises}
 use Rattle.tcp_streams.specs.Flow.{AreArrivals, IsArrivalOf, IsFlow, IsGap, arrival_at}
 use Rattle.tcp_streams.specs.code.Interval.{AreCaptured, IsInterval, IsCaptured, Spans, arrival_with, arrivals_after, arrivals_in, at, bytes_in, run_length, size_of, source_in, width}
 use Rattle.tcp_streams.specs.Sequence.{Source, arrival, end_of_offsets, later_of}

@@ -9,12 +9,12 @@ use Rattle.packet_heads.specs.Order.{AreNumberedFrom, PayloadsRise, TimesFit}
 use Rattle.tcp_streams.specs.declared.interval.Interval.{Interval}
 use Rattle.tcp_streams.specs.declared.members.Connection.{Connection}
 use Rattle.tcp_streams.specs.declared.streams.Flow.{Flow}
-use Rattle.tcp_streams.specs.Arrivals.{AreTimely}
+use Rattle.tcp_streams.specs.Orderly.{AreTimely, AreMembers, payload_sum}
 use Rattle.tcp_streams.specs.Bytes.{bytes_of}
 use Rattle.tcp_streams.specs.Flow.{IsFlow}
 use Rattle.tcp_streams.specs.code.Assembled.{IsAssembled}
 use Rattle.tcp_streams.specs.code.Interval.{AreCaptured, IsInterval, IsCaptured, IsSame, at, member_piece, piece, size_of}
-use Rattle.tcp_streams.specs.Members.{AreMembers, payload_sum, side_segments}
+use Rattle.tcp_streams.specs.Members.{side_segments}
 use Rattle.tcp_streams.specs.Sequence.{source}
 use Rattle.tcp_streams.proofs.FlowLemmas.{IsFlow-same, side-fits}
 use Rattle.tcp_streams.proofs.PieceLemmas.{AreSound, member-pieces, pieces-intervals, pieces-same, pieces-size, side-sound, source-first, source-captured}

@@ -16,8 +16,9 @@ use Rattle.tcp_streams.specs.declared.members.Stray.{Stray}
 use Rattle.tcp_streams.specs.declared.pair.Pair.{Pair}
 use Rattle.tcp_streams.specs.declared.standings.Standing.{Standing}
 use Rattle.tcp_streams.specs.declared.standings.Standing.TheVariants.{Unopened, Opened}
-use Rattle.tcp_streams.specs.Pair.{is_of, is_pair, pair_of}
-use Rattle.tcp_streams.specs.Membership.{Membership, connection_of, first_strays, is_answer, is_opening, last_opening, members, membership, opening_at, openings, opens, stray_of, strays, with_if}
+use Rattle.tcp_streams.specs.code.Pairs.{is_of, is_pair, pair_of}
+use Rattle.tcp_streams.specs.code.Past.{Membership, connection_of, first_strays, last_opening, members, membership, opening_at, openings, opens, stray_of, strays}
+use Rattle.tcp_streams.specs.Membership.{is_answer, is_opening, with_if}
 use Rattle.tcp_streams.specs.code.Standings.{SetsStanding, SetsStandingIn, standing_of}
 use Rattle.tcp_streams.specs.code.Table.{Falls, IsOpened, IsShown, IsTableOf, IsUnknown, IsUnopened, Stands, opened_by, first_stray, counted, joined}
 use Rattle.tcp_streams.proofs.Lists.{list_any-at, map-agree, map-but, slice_get-last, slice_get-with_if}

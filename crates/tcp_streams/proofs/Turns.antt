@@ -9,8 +9,9 @@ use Rattle.tcp_streams.specs.declared.pair.Pair.{Pair}
 use Rattle.tcp_streams.specs.declared.standings.Standing.{Standing}
 use Rattle.tcp_streams.specs.declared.standings.Standing.TheVariants.{Unopened, Opened}
 use Rattle.tcp_streams.specs.declared.table.Turn.TheVariants.{Opens, Joins, Counts, Begins}
-use Rattle.tcp_streams.specs.Pair.{is_of, pair_of}
-use Rattle.tcp_streams.specs.Membership.{Membership, connection_of, first_strays, is_again, is_request, last_opening, opening_at, openings, opens, repeats, stray_of, strays, with_if}
+use Rattle.tcp_streams.specs.code.Pairs.{is_of, pair_of}
+use Rattle.tcp_streams.specs.code.Past.{Membership, connection_of, first_strays, is_again, last_opening, opening_at, openings, opens, repeats, stray_of, strays}
+use Rattle.tcp_streams.specs.Membership.{is_request, with_if}
 use Rattle.tcp_streams.specs.code.Table.{IsOpened, IsShown, IsTurn, IsUnopened, Stands}
 
 -- no request opens nothing

@@ -1,5 +1,5 @@
 -- Laws of the definitions, which the calls of the module `laws` promise.
-use Rattle.std.specs.Prelude.{◌≡◌, ℕ, ◌+◌, ◌-◌, ◌%◌, ◌^◌, ◌<◌, ◌≤◌, if◌then◌else◌, List, map, sum_by, Option, Some}
+use Rattle.std.specs.Prelude.{◌≡◌, ℕ, ◌+◌, ◌-◌, ◌%◌, ◌^◌, ◌<◌, ◌≤◌, if◌then◌else◌, List, sum_by, Option, Some}
 use Rattle.audit_terms.specs.declared.sides.Side.TheVariants.{Client, Server}
 use Rattle.packet_heads.specs.declared.packets.Packet.{Packet}
 use Rattle.packet_heads.specs.declared.packets.Segment.{Segment}
@@ -7,9 +7,9 @@ use Rattle.packet_heads.specs.Order.{AreNumberedFrom, PayloadsRise}
 use Rattle.tcp_streams.specs.declared.members.Connection.{Connection}
 use Rattle.tcp_streams.specs.declared.streams.Arrival.{Arrival}
 use Rattle.tcp_streams.specs.Flow.{IsFlow}
-use Rattle.tcp_streams.specs.Members.{AreMembers, payload_sum, side_segments}
-use Rattle.tcp_streams.specs.Membership.{connections_of, membership}
-use Rattle.tcp_streams.specs.Packets.{past_of}
+use Rattle.tcp_streams.specs.Orderly.{AreMembers, payload_sum}
+use Rattle.tcp_streams.specs.Members.{side_segments}
+use Rattle.tcp_streams.specs.Membership.{AreConnections}
 use Rattle.tcp_streams.specs.Sequence.{Source, brings, payload_length}
 
 -- a source has one flow: its bytes, its arrivals and its gap are determined
@@ -40,7 +40,7 @@ ByteHasOffset =
 abbrev pub FlowsFit : Type 0
 FlowsFit =
     (packets : List Packet) (size : ℕ) (found : List Connection)
-    → AreNumberedFrom 1 packets → PayloadsRise 0 size packets → map membership found ≡ connections_of (past_of packets)
+    → AreNumberedFrom 1 packets → PayloadsRise 0 size packets → AreConnections packets found
     → sum_by
     (λ (c : Connection).
     payload_sum (side_segments packets c Client) + payload_sum (side_segments packets c Server))

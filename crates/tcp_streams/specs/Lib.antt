@@ -4,6 +4,7 @@ pub mod Flow
 pub mod Laws
 pub mod Members
 pub mod Membership
+pub mod Orderly
 pub mod Packets
 pub mod Pair
 pub mod Sequence

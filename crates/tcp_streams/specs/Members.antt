@@ -1,5 +1,5 @@
 -- The members of a connection: the records of both sides' segments, and what is each side's.
-use Rattle.std.specs.Prelude.{ℕ, ◌<◌, Bool, not, List, [], ◌∷◌, ◌++◌, filter, sum_by, Option, Some, IsSome}
+use Rattle.std.specs.Prelude.{ℕ, Bool, not, List, [], ◌∷◌, ◌++◌, filter, Option, Some}
 use Rattle.std.specs.Option.{option_to_list}
 use Rattle.audit_terms.specs.declared.sides.Side.{Side}
 use Rattle.audit_terms.specs.declared.sides.Side.TheVariants.{Client, Server}
@@ -8,12 +8,6 @@ use Rattle.packet_heads.specs.declared.packets.Segment.{Segment}
 use Rattle.tcp_streams.specs.declared.members.Connection.{Connection}
 use Rattle.tcp_streams.specs.Packets.{segment_of}
 use Rattle.tcp_streams.specs.Pair.{is_endpoint}
-use Rattle.tcp_streams.specs.Sequence.{payload_length}
-
--- the numbers rise from above `low`, and each names a record with a segment
-abbrev pub AreMembers : ℕ → List Packet → List ℕ → Type 0
-AreMembers low packets [] = Unit {0}
-AreMembers low packets (m ∷ rest) = (low < m) × IsSome (segment_of packets m) × AreMembers m packets rest
 
 -- the segments in the records with these numbers
 abbrev pub segments_of : List Packet → List ℕ → List Segment
@@ -34,7 +28,3 @@ side_segments packets connection side =
 abbrev pub initial_of : Connection → Side → Option ℕ
 initial_of connection Client = Some connection.client_isn
 initial_of connection Server = connection.server_isn
-
--- how many payload bytes the segments hold together
-abbrev pub payload_sum : List Segment → ℕ
-payload_sum segments = sum_by payload_length segments

@@ -1,5 +1,6 @@
 pub mod Assembled
 pub mod Interval
 pub mod Pairs
+pub mod Past
 pub mod Standings
 pub mod Table

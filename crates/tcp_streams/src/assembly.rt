@@ -1,9 +1,9 @@
 ghost use Rattle.std.specs.Prelude.{◌≡◌, ◌<◌, ◌≤◌, ◌^◌, None, [], false, length, IsTrue, IfOk, IsOk, IfSome};
 ghost use Rattle.packet_heads.specs.Order.{AreNumberedFrom, PayloadsRise, TimesFit};
-ghost use Rattle.tcp_streams.specs.Arrivals.{IsOrderly};
+ghost use Rattle.tcp_streams.specs.Orderly.{IsOrderly, AreMembers, payload_sum};
 ghost use Rattle.tcp_streams.specs.Bytes.{bytes_of};
 ghost use Rattle.tcp_streams.specs.Flow.{IsFlow};
-ghost use Rattle.tcp_streams.specs.Members.{AreMembers, initial_of, payload_sum, side_segments};
+ghost use Rattle.tcp_streams.specs.Members.{initial_of, side_segments};
 ghost use Rattle.tcp_streams.specs.Sequence.{source};
 ghost use Rattle.tcp_streams.specs.code.Assembled.{IsAssembled};
 

@@ -6,7 +6,7 @@ ghost use Rattle.packet_heads.specs.Order.{AreNumberedFrom, PayloadsRise, TimesF
 ghost use Rattle.tcp_streams.specs.Bytes.{joined};
 ghost use Rattle.tcp_streams.specs.code.Assembled.{IsAssembled};
 ghost use Rattle.tcp_streams.specs.code.Interval.{IsInterval, arrival_with, width};
-ghost use Rattle.tcp_streams.specs.Members.{AreMembers};
+ghost use Rattle.tcp_streams.specs.Orderly.{AreMembers};
 
 use crate::interval::Interval;
 use crate::layout::arrival_with;

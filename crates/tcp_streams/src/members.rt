@@ -22,7 +22,7 @@ pub struct Connection {
 
 impl Connection {
     ghost use Rattle.tcp_streams.specs.Members.{initial_of};
-    ghost use Rattle.tcp_streams.specs.Membership.{membership, is_again};
+    ghost use Rattle.tcp_streams.specs.code.Past.{membership, is_again};
     ghost use Rattle.tcp_streams.specs.code.Table.{opened_by, joined};
 
     /// The connection that a SYN opens.

@@ -1,8 +1,7 @@
-ghost use Rattle.std.specs.Prelude.{◌≡◌, ◌<◌, ◌^◌, map, length, All, IfOk};
-ghost use Rattle.tcp_streams.specs.Members.{AreMembers};
-ghost use Rattle.tcp_streams.specs.Membership.{connections_of, membership, strays_of};
+ghost use Rattle.std.specs.Prelude.{◌≡◌, ◌<◌, ◌^◌, length, All, IfOk};
+ghost use Rattle.tcp_streams.specs.Orderly.{AreMembers};
+ghost use Rattle.tcp_streams.specs.Membership.{AreConnections, strays_of};
 ghost use Rattle.packet_heads.specs.Order.{AreNumberedFrom};
-ghost use Rattle.tcp_streams.specs.Packets.{past_of};
 
 use crate::members::Connections;
 use crate::table::Table;
@@ -24,8 +23,8 @@ pub fn connections(
 ) -> Result<Connections, AllocError>
     requires few { length packets.now < 2 ^ 32 }
     requires numbered { AreNumberedFrom 1 packets.now }
-    ensures opened { IfOk result (λ found. map membership found.opened.items ≡ connections_of (past_of packets.now)) }
-    ensures strays { IfOk result (λ found. found.strays.items ≡ strays_of (past_of packets.now)) }
+    ensures opened { IfOk result (λ found. AreConnections packets.now found.opened.items) }
+    ensures strays { IfOk result (λ found. found.strays.items ≡ strays_of packets.now) }
     ensures members { IfOk result (λ found. All (λ c. AreMembers 0 packets.now c.members.items) found.opened.items) }
 {
     let mut table = Table::new(alloc, hash);

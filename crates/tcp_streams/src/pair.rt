@@ -15,7 +15,7 @@ pub struct Pair {
 }
 
 impl Pair {
-    ghost use Rattle.tcp_streams.specs.Pair.{pair_of};
+    ghost use Rattle.tcp_streams.specs.code.Pairs.{pair_of};
 
     /// The pair that a segment is of.
     pub fn of(segment: &Segment) -> Pair

@@ -30,7 +30,7 @@ impl Model for Standings {
     ghost use Rattle.std.specs.Prelude.{◌≡◌, List, IfSome, Some};
     ghost use Rattle.std.specs.Coded.{codes};
     ghost use Rattle.indexmap.specs.IndexMap.{get};
-    ghost use Rattle.tcp_streams.specs.Pair.{is_pair};
+    ghost use Rattle.tcp_streams.specs.code.Pairs.{is_pair};
     ghost use Rattle.tcp_streams.specs.contracts.pair.Pair as pair;
     ghost use Rattle.tcp_streams.specs.contracts.standings.Standing as standing;
     ghost use Rattle.tcp_streams.specs.declared.pair.Pair.{Pair as Ends};

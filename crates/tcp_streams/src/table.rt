@@ -39,8 +39,8 @@ pub struct Table {
 impl Table {
     ghost use Rattle.packet_heads.specs.declared.packets.Segment.{Segment as Shown};
     ghost use Rattle.std.specs.Prelude.{◌∷◌, ◌++◌, map, length};
-    ghost use Rattle.tcp_streams.specs.Membership.{membership};
-    ghost use Rattle.tcp_streams.specs.Pair.{pair_of};
+    ghost use Rattle.tcp_streams.specs.code.Past.{membership};
+    ghost use Rattle.tcp_streams.specs.code.Pairs.{pair_of};
     ghost use Rattle.tcp_streams.specs.code.Table.{HasPast, IsTableOf, IsTurn, Falls, opened_by, first_stray};
     ghost use Rattle.tcp_streams.specs.code.Standings.{SetsStanding, standing_of};
     ghost use Rattle.tcp_streams.specs.declared.standings.Standing.TheVariants.{Opened, Unopened};

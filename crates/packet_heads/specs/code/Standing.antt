@@ -4,7 +4,13 @@ use Rattle.parted_list.specs.Parts.{joined}
 use Rattle.pcap_records.specs.declared.capture.Record.{Record}
 use Rattle.packet_heads.specs.declared.packets.Packet.{Packet}
 use Rattle.packet_heads.specs.declared.packets.Packet.TheVariants.{Segment}
-use Rattle.packet_heads.specs.Decision.{decisions_from}
+use Rattle.packet_heads.specs.Decision.{packet_decision}
+
+-- the packets of records, the first of which has this number
+abbrev pub decisions_from : ℕ → ℕ → List Record → List ℕ → List Packet
+decisions_from link number [] capture = []
+decisions_from link number (row ∷ rows) capture =
+    packet_decision link number row capture ∷ decisions_from link (number + 1) rows capture
 
 -- a segment has the number and the time of its record, and its payload lies in the captured bytes
 abbrev pub StandsIn : ℕ → Record → Packet → Type 0

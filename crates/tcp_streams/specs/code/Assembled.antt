@@ -4,10 +4,10 @@ use Rattle.audit_terms.specs.declared.sides.Side.{Side}
 use Rattle.packet_heads.specs.declared.packets.Packet.{Packet}
 use Rattle.tcp_streams.specs.declared.members.Connection.{Connection}
 use Rattle.tcp_streams.specs.declared.streams.Flow.{Flow}
-use Rattle.tcp_streams.specs.Arrivals.{IsOrderly}
+use Rattle.tcp_streams.specs.Orderly.{IsOrderly, payload_sum}
 use Rattle.tcp_streams.specs.Bytes.{bytes_of}
 use Rattle.tcp_streams.specs.Flow.{IsFlow}
-use Rattle.tcp_streams.specs.Members.{payload_sum, side_segments}
+use Rattle.tcp_streams.specs.Members.{side_segments}
 use Rattle.tcp_streams.specs.Sequence.{source}
 
 -- the flow of a side whose initial sequence number is known

@@ -3,7 +3,7 @@ use Rattle.std.specs.Prelude.{◌≡◌, if◌then◌else◌, List, Option, Some
 use Rattle.std.specs.Map.{lookup}
 use Rattle.tcp_streams.specs.declared.pair.Pair.{Pair}
 use Rattle.tcp_streams.specs.declared.standings.Standing.{Standing}
-use Rattle.tcp_streams.specs.Pair.{is_pair}
+use Rattle.tcp_streams.specs.code.Pairs.{is_pair}
 
 -- how the pair stands
 abbrev pub standing_of : List (Pair × Standing) → Pair → Option Standing

@@ -11,8 +11,9 @@ use Rattle.tcp_streams.specs.declared.table.Table.{Table}
 use Rattle.tcp_streams.specs.declared.table.Turn.{Turn}
 use Rattle.tcp_streams.specs.declared.table.Turn.TheVariants.{Opens, Joins, Counts, Begins}
 use Rattle.tcp_streams.specs.code.Standings.{standing_of}
-use Rattle.tcp_streams.specs.Pair.{is_endpoint, is_of, pair_of}
-use Rattle.tcp_streams.specs.Membership.{Membership, connection_of, first_strays, last_opening, membership, openings, opens, stray_of, strays}
+use Rattle.tcp_streams.specs.Pair.{is_endpoint}
+use Rattle.tcp_streams.specs.code.Pairs.{is_of, pair_of}
+use Rattle.tcp_streams.specs.code.Past.{Membership, connection_of, first_strays, last_opening, membership, openings, opens, stray_of, strays}
 
 -- the connection that a segment opens
 abbrev pub opened_by : Segment → Membership

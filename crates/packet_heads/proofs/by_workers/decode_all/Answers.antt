@@ -1,8 +1,8 @@
-use Rattle.std.proofs.Common.{length, map, sym, subst, arith}
+use Rattle.std.proofs.Common.{length, map, sym, subst, ◌∙◌, arith}
 use Rattle.std.specs.Prelude.{All, Result, Ok, Err, IfOk}
 use Rattle.parted_list.specs.Parts.{joined}
 use Rattle.packet_heads.specs.code.Standing.{AllStand, AreDecidedParts, EndsWithin}
-use Rattle.packet_heads.proofs.Halves.{cut-parts}
+use Rattle.packet_heads.proofs.Halves.{cut-parts, decisions-numbered}
 use Rattle.packet_heads.proofs.Rows.{AllStand-length, AllStand-numbered, AllStand-rise, AllStand-times, ends-within}
 use Rattle.packet_heads.proofs.by_workers.decode_all.Goals as goal
 
@@ -20,7 +20,8 @@ pub returns-clause-exact : goal.returns-clause-exact
 returns-clause-exact g c =
     if_ok c.made_by_workers.result _ _ c.made_by_workers.ensures (λ v h.
     (subst (λ xs. AreDecidedParts c.args.records.now.link 1 xs c.args.capture.now (map (λ part. part.items) v.items))
-    c.deref.ensures.value h).decided.exact)
+    c.deref.ensures.value h).decided.exact
+    ∙ decisions-numbered c.args.records.now.link 1 c.args.records.now.rows.items c.args.capture.now)
 
 pub returns-clause-parts : goal.returns-clause-parts
 returns-clause-parts g c =

@@ -1,5 +1,7 @@
+use Rattle.tcp_streams.proofs.Belongings.{connections-shown}
 use Rattle.tcp_streams.proofs.CaptureFits.{flows-fit}
 use Rattle.tcp_streams.proofs.laws.flows_fit.Goals as goal
 
 pub returns : goal.returns
-returns c = flows-fit
+returns c = λ packets size found numbered rise are.
+    flows-fit packets size found numbered rise (connections-shown packets found are)

@@ -4,7 +4,8 @@ use Rattle.std.proofs.lemmas.List.Elements.{All-cons, All-nil}
 use Rattle.std.proofs.lemmas.List.{take-append-drop}
 use Rattle.tcp_streams.specs.declared.interval.Interval.{Interval}
 use Rattle.tcp_streams.specs.declared.streams.Arrival.{Arrival}
-use Rattle.tcp_streams.specs.Arrivals.{AreTimely, Rises}
+use Rattle.tcp_streams.specs.Orderly.{AreTimely}
+use Rattle.tcp_streams.specs.Arrivals.{Rises}
 use Rattle.tcp_streams.specs.Bytes.{joined}
 use Rattle.tcp_streams.specs.Flow.{IsFlow}
 use Rattle.tcp_streams.specs.code.Interval.{AreCaptured, IsInterval, Spans, arrivals_in, at, bytes_in, run_length, size_of}

@@ -4,9 +4,9 @@ use Rattle.packet_heads.specs.declared.packets.Packet.{Packet}
 use Rattle.packet_heads.specs.declared.packets.Segment.{Segment}
 use Rattle.parted_list.proofs.Together.{element_is, end_within, index_within}
 use Rattle.tcp_streams.specs.declared.table.Table.{Table}
-use Rattle.tcp_streams.specs.Membership.{connections_of, membership}
-use Rattle.tcp_streams.specs.Packets.{past_of}
+use Rattle.tcp_streams.specs.code.Past.{connections_of, membership, past_of, strays_of}
 use Rattle.tcp_streams.specs.code.Table.{IsTableOf}
+use Rattle.tcp_streams.proofs.Belongings.{shown-connections, strays-of-past}
 use Rattle.tcp_streams.proofs.Numbered.{Falls-next, connections-members, past_of-few, past_of-more, with_packet-other}
 use Rattle.tcp_streams.proofs.membership.connections.Goals as goal
 use Rattle.tcp_streams.proofs.membership.connections.Goals.{in-Segment+in_ok-add, in_default}
@@ -45,6 +45,20 @@ loop-packet-preserved c =
           (subst (λ (l : List Segment). IsTableOf l c.loop-packet.table)
           (sym (one_more _ _ (same _) ∙ with_packet-other _ _ w.in_default.not-Segment)) c.loop-packet.invariant)
     ]
+
+pub returns-clause-opened : goal.returns-clause-opened
+returns-clause-opened c =
+    let packets : List Packet = c.args.packets.now in
+    let all : take c.loop-at.at packets ≡ packets = take_all c.loop-at.at packets (omega (arith, c.loop-at-test.false, c.len.ensures)) in
+    shown-connections packets c.into_connections.result.opened.items
+    (ap (map membership) c.into_connections.ensures.opened ∙ c.loop-at.invariant.1.opened_are ∙ ap (λ (l : List Packet). connections_of (past_of l)) all)
+
+pub returns-clause-strays : goal.returns-clause-strays
+returns-clause-strays c =
+    let packets : List Packet = c.args.packets.now in
+    let all : take c.loop-at.at packets ≡ packets = take_all c.loop-at.at packets (omega (arith, c.loop-at-test.false, c.len.ensures)) in
+    c.into_connections.ensures.strays ∙ c.loop-at.invariant.1.strays_are
+    ∙ ap (λ (l : List Packet). strays_of (past_of l)) all ∙ sym (strays-of-past packets)
 
 pub returns-clause-members : goal.returns-clause-members
 returns-clause-members c =

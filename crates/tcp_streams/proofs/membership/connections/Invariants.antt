@@ -1,5 +1,5 @@
 use Rattle.std.proofs.Common.{◌+◌, ◌-◌, ◌≤◌, length, take}
-use Rattle.tcp_streams.specs.Packets.{past_of}
+use Rattle.tcp_streams.specs.code.Past.{past_of}
 use Rattle.tcp_streams.specs.code.Table.{IsTableOf}
 use Rattle.tcp_streams.proofs.membership.connections.Given as goal
 

@@ -1,7 +1,6 @@
 use Rattle.std.proofs.Common.{◌≡◌, ◌≤◌, ◌+◌, ℕ, Some, drop, length, sym, ap, subst, ◌∙◌, arith}
 use Rattle.std.proofs.lemmas.List.{length-take-le}
 use Rattle.pcap_records.specs.FileHeader.{link_of, number_of}
-use Rattle.pcap_records.specs.Reading.{IsReadingBy}
 use Rattle.pcap_records.specs.declared.format.Format.{Format}
 use Rattle.pcap_records.proofs.Rests.{cut_after-some, cut_after-none}
 use Rattle.pcap_records.proofs.Walking.{AreRead-end, RiseFrom-widen}
@@ -21,10 +20,10 @@ returns-clause-reading c =
     let walk = c.advance.new.self in
     let read = c.advance.ensures.walk.read in
     let size = c.len-2.ensures in
-    let By : Format → Type 0 = λ f. IsReadingBy (number_of f.endian) f.unit capture
-    (record { link = c.link_in-link.result; rows = walk.rows; cut = c.if-self-len.cut }) in
-    subst By c.advance.ensures.format (record {
+    record {
+      format = walk.format;
       rest = drop walk.at capture;
+      magic = c.advance.ensures.walk.magic;
       link = c.link_in-link.ensures
           ∙ ap (λ h. link_of (number_of walk.format.endian) h) c.header_in_parts.ensures;
       rows = AreRead-end (number_of walk.format.endian) walk.format.unit capture walk.rows.items walk.at read
@@ -38,7 +37,7 @@ returns-clause-reading c =
             w.cut-is
             ∙ sym (cut_after-none walk.rows.items walk.at capture (omega (arith, size, w.if-self-len.false)))
       ];
-    })
+    }
 
 pub returns-clause-placed : goal.returns-clause-placed
 returns-clause-placed c =

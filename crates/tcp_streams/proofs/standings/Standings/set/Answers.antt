@@ -1,6 +1,6 @@
 use Rattle.std.proofs.Common.{Some, ap, ◌∙◌}
 use Rattle.std.specs.Prelude.{if◌then◌else◌}
-use Rattle.tcp_streams.specs.Pair.{is_pair}
+use Rattle.tcp_streams.specs.code.Pairs.{is_pair}
 use Rattle.tcp_streams.specs.code.Standings.{standing_of}
 use Rattle.tcp_streams.proofs.standings.Standings.set.Goals as goal
 

@@ -1,7 +1,7 @@
 use Rattle.std.proofs.Common.{◌≡◌, ◌<◌, ◌≤◌, length, Some, refl, ap, ◌∙◌, map, set, slice_get, vec_len, arith, rules, ◌+◌, ◌^◌}
 use Rattle.std.proofs.lemmas.List.{length-map, map-set}
 use Rattle.std.proofs.lemmas.Option.{slice_get_read}
-use Rattle.tcp_streams.specs.Membership.{membership}
+use Rattle.tcp_streams.specs.code.Past.{membership}
 use Rattle.tcp_streams.proofs.Lists.{on_ok, on_ok_3}
 use Rattle.tcp_streams.proofs.Steps.{shown-counts, shown-joins, table-begins, table-opens}
 use Rattle.tcp_streams.proofs.Turns.{counted_few, counted_in_range, joined_in_range, mapped_at}

@@ -1,8 +1,8 @@
 use Rattle.std.proofs.Common.{◌≡◌, ◌<◌, slice_get, vec_len, length, Some, None, sym, ap, ◌∙◌, map, arith}
 use Rattle.std.proofs.lemmas.List.{length-map}
 use Rattle.tcp_streams.specs.declared.standings.Standing.TheVariants.{Opened, Unopened}
-use Rattle.tcp_streams.specs.Membership.{membership}
-use Rattle.tcp_streams.specs.Pair.{pair_of}
+use Rattle.tcp_streams.specs.code.Past.{membership}
+use Rattle.tcp_streams.specs.code.Pairs.{pair_of}
 use Rattle.tcp_streams.specs.code.Standings.{standing_of}
 use Rattle.tcp_streams.proofs.Turns.{begins, counts, joins, joins_again, opened_in_range, opens_anew, opens_unknown, opens_unopened, mapped_at}
 use Rattle.tcp_streams.proofs.table.Table.turn.Goals as goal

@@ -1,4 +1,4 @@
--- A table whose first line that applies decides.
+-- A table whose first line that applies decides. No public clause cites it.
 use Rattle.std.specs.Prelude.{Bool, List, [], ◌∷◌, Option, Some, None, if◌then◌else◌}
 
 -- the answer of the first line whose test holds
