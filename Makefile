@@ -6,6 +6,9 @@ RT_JOBS ?= $(shell nproc)
 PROGRAM = crates/h2audit_cli/out/h2audit_cli
 # The capture whose report "make believed" computes from the definitions.
 RUN ?= examples/negative_window.pcap
+# Programs in Python beside it, and the packages that they share.
+PYTHON_PROGRAMS = h2audit-plot h2audit-comment h2audit-page
+PYTHON_PACKAGES = report comment page page/assets
 FIRST = examples/negative_window_tomcat.pcap examples/stream_overrun_go.pcap
 SOURCES := crates.txt $(shell find crates -name out -prune -o -name '*.rt' -print -o -name '*.antt' -print)
 
@@ -44,16 +47,18 @@ proved-h2audit_cli:
 # The toolchain's own libraries come proved.
 proved-%: ;
 
-# Puts the program in place as h2audit, with h2audit-plot, man pages and completions.
+# Puts the program in place as h2audit, with the programs beside it, man pages and completions.
 install: share = $(DESTDIR)$(PREFIX)/share
 install: $(PROGRAM)
 	install -D -m 755 $(PROGRAM) $(DESTDIR)$(PREFIX)/bin/h2audit
-	install -D -m 755 -t $(DESTDIR)$(PREFIX)/bin tools/h2audit-plot
-	install -D -m 644 -t $(share)/man/man1 tools/man/h2audit.1 tools/man/h2audit-plot.1
+	install -D -m 755 -t $(DESTDIR)$(PREFIX)/bin $(PYTHON_PROGRAMS:%=tools/%)
+	$(foreach folder,$(PYTHON_PACKAGES),install -D -m 644 -t $(share)/h2audit/$(folder) \
+		$(filter-out %/__pycache__,$(wildcard tools/$(folder)/*.*)) &&) true
+	install -D -m 644 -t $(share)/man/man1 tools/man/h2audit.1 $(PYTHON_PROGRAMS:%=tools/man/%.1)
 	install -D -m 644 tools/completions/h2audit.bash $(share)/bash-completion/completions/h2audit
-	ln -sf h2audit $(share)/bash-completion/completions/h2audit-plot
+	$(foreach name,$(PYTHON_PROGRAMS),ln -sf h2audit $(share)/bash-completion/completions/$(name) &&) true
 	install -D -m 644 -t $(DESTDIR)$(ZSHDIR) tools/completions/_h2audit
-	install -D -m 644 -t $(share)/fish/vendor_completions.d tools/completions/h2audit.fish tools/completions/h2audit-plot.fish
+	install -D -m 644 -t $(share)/fish/vendor_completions.d tools/completions/h2audit.fish $(PYTHON_PROGRAMS:%=tools/completions/%.fish)
 
 # Builds a Debian package of what is installed, in the folder PACKAGES.
 deb: $(PROGRAM)
@@ -76,6 +81,8 @@ test-tools:
 # Draws the pictures of docs/ anew.
 pictures:
 	tools/tests/plot_test.py --write
+	tools/tests/page_browser_test.py --write
+	tools/tests/wireshark_picture.sh docs/pictures/wireshark_comments.png
 
 # Measures time and memory on generated captures, beside cat.
 bench: $(PROGRAM)

@@ -42,7 +42,7 @@ def arguments(words: list[str]) -> argparse.Namespace:
     parser.add_argument("-o", "--output", required=True, metavar="FILE", help="the new capture; - is standard output")
     parser.add_argument("-m", "--map", metavar="MAP",
                         help="of the import that made the audited capture from CAPTURE: comments go to CAPTURE's packets")
-    parser.add_argument("--credit", action="store_true", help="comment the credit lines of --frames too")
+    parser.add_argument("--credit", action="store_true", help="comment the credit lines too")
     asked = parser.parse_args(words)
     if [asked.capture, asked.report, asked.map].count("-") > 1:
         parser.error("standard input is one file alone")

@@ -1,4 +1,4 @@
-# Completions of h2audit and h2audit-plot for bash.
+# Completions of h2audit and the programs beside it for bash.
 
 # The words that compgen finds with these arguments, one a line.
 _h2audit_offer() {
@@ -38,5 +38,28 @@ _h2audit_plot() {
     esac
 }
 
+_h2audit_comment() {
+    local word=${COMP_WORDS[COMP_CWORD]}
+    case $word in
+    -*) _h2audit_offer -W '--output --map --credit --help -o -m -h' -- "$word" ;;
+    *) _h2audit_offer -f -- "$word" ;;
+    esac
+}
+
+_h2audit_page() {
+    local word=${COMP_WORDS[COMP_CWORD]} before=${COMP_WORDS[COMP_CWORD - 1]}
+    case $before in
+    --title | -t) COMPREPLY=() ;;
+    *)
+        case $word in
+        -*) _h2audit_offer -W '--output --title --help -o -t -h' -- "$word" ;;
+        *) _h2audit_offer -f -- "$word" ;;
+        esac
+        ;;
+    esac
+}
+
 complete -o filenames -F _h2audit h2audit
+complete -o filenames -F _h2audit_comment h2audit-comment
+complete -o filenames -F _h2audit_page h2audit-page
 complete -o filenames -F _h2audit_plot h2audit-plot

@@ -28,20 +28,25 @@ on_root() {
     dpkg --root="$work/root" --force-not-root "$@" 2> >(grep -v 'files list file for package' >&2)
 }
 
+# The programs, their completions and the packages of Python that they share.
 installed() {
-    cat << END
-./$1/bin/h2audit
-./$1/bin/h2audit-plot
-./$1/share/bash-completion/completions/h2audit
-./$1/share/bash-completion/completions/h2audit-plot
-END
+    printf './%s/bin/h2audit%s\n' "$1" '' "$1" -comment "$1" -page "$1" -plot
+    printf './%s/share/bash-completion/completions/h2audit%s\n' "$1" '' "$1" -comment "$1" -page "$1" -plot
+}
+
+# By the repository, and not by the Makefile: each module and asset that git knows.
+modules() {
+    git ls-files tools/report tools/comment tools/page | sed "s,^tools,./$1/share/h2audit,"
 }
 
 test_install() {
     make --no-print-directory install PROGRAM="$program" DESTDIR="$work/dest" PREFIX=/opt/h2audit > /dev/null
-    same 'installed files' "$(installed opt/h2audit
-        printf './opt/h2audit/share/%s\n' fish/vendor_completions.d/h2audit{-plot,}.fish \
-            man/man1/h2audit{-plot,}.1 zsh/site-functions/_h2audit)" "$(files_below "$work/dest")"
+    same 'installed files' "$({
+        installed opt/h2audit
+        modules opt/h2audit
+        printf './opt/h2audit/share/%s\n' fish/vendor_completions.d/h2audit{-comment,-page,-plot,}.fish \
+            man/man1/h2audit{-comment,-page,-plot,}.1 zsh/site-functions/_h2audit
+    } | LC_ALL=C sort)" "$(files_below "$work/dest")"
     cmp "$program" "$work/dest/opt/h2audit/bin/h2audit"
 }
 
@@ -56,9 +61,13 @@ test_package() {
     lintian --allow-root --fail-on error,warning "$package"
     prepare_root
     on_root --install "$package" > /dev/null
-    same 'files of the package' "$(installed usr
-        printf './usr/share/%s\n' doc/h2audit/{changelog.gz,copyright} fish/vendor_completions.d/h2audit{-plot,}.fish \
-            man/man1/h2audit{-plot,}.1.gz zsh/vendor-completions/_h2audit)" "$(files_below "$work/root")"
+    same 'files of the package' "$({
+        installed usr
+        modules usr
+        printf './usr/share/%s\n' doc/h2audit/{changelog.gz,copyright} \
+            fish/vendor_completions.d/h2audit{-comment,-page,-plot,}.fish \
+            man/man1/h2audit{-comment,-page,-plot,}.1.gz zsh/vendor-completions/_h2audit
+    } | LC_ALL=C sort)" "$(files_below "$work/root")"
     run_installed
     on_root --purge h2audit > /dev/null
     same 'files that are left' '' "$(files_below "$work/root")"
@@ -73,6 +82,8 @@ prepare_root() {
 run_installed() {
     "$work/root/usr/bin/h2audit" --help > /dev/null
     "$work/root/usr/bin/h2audit-plot" examples/negative_window.frames.report > "$work/picture.svg"
+    "$work/root/usr/bin/h2audit-comment" examples/negative_window.pcap examples/negative_window.report -o "$work/c.pcapng"
+    "$work/root/usr/bin/h2audit-page" examples/negative_window.frames.report -o "$work/page.html"
     mandoc -Tmarkdown "$work/root/usr/share/man/man1/h2audit.1.gz" | grep '# EXIT STATUS' > /dev/null ||
         fail 'the manual of the package cannot be read'
 }

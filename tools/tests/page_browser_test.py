@@ -24,7 +24,7 @@ TOP = pathlib.Path(__file__).resolve().parents[2]
 PROGRAM = TOP / "tools" / "h2audit-page"
 EXAMPLES = TOP / "examples"
 PICTURES = TOP / "docs" / "pictures"
-PICTURED = "stream_overrun_go"
+PICTURED, TITLE = "stream_overrun_go", "An upload past its credit"
 sys.path[:0] = [str(TOP / "tools"), str(TOP / "tools" / "tests")]
 sys.dont_write_bytecode = True
 
@@ -381,13 +381,15 @@ class Large(InBrowser):
 
 def write_pictures():
     browser = Browser()
+    browser.command("Emulation.setDeviceMetricsOverride", width=1100, height=1060, deviceScaleFactor=1, mobile=False)
     with tempfile.TemporaryDirectory() as folder:
         path = pathlib.Path(folder, "page.html")
-        subprocess.run([PROGRAM, EXAMPLES / f"{PICTURED}.frames.report", "-o", path, "--title", "An upload past its credit"], check=True)
+        subprocess.run([PROGRAM, EXAMPLES / f"{PICTURED}.frames.report", "-o", path, "--title", TITLE], check=True)
         for scheme in ("light", "dark"):
             browser.scheme(scheme)
             browser.load(path)
             browser.until(IS_DRAWN, FIRST)
+            browser.run("scrollTo(0, 0)")
             browser.driver.save_screenshot(str(PICTURES / f"page_{scheme}.png"))
     browser.close()
 

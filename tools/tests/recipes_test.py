@@ -4,7 +4,7 @@
     tools/tests/recipes_test.py [PROGRAM]
 
 A command is a block ```sh that a block ```text follows. It is run by bash at the top of the repository, once with each awk
-that is installed. The names h2audit and h2audit-plot are those of PROGRAM and of tools/. Without PROGRAM, h2audit is a
+that is installed. The name h2audit is that of PROGRAM, and those of the programs beside it are of tools/. Without PROGRAM, h2audit is a
 stand-in that prints the stored reports of examples/.
 """
 
@@ -48,7 +48,8 @@ def tools_folder(folder, program, awk):
     bin_of = pathlib.Path(folder, awk)
     bin_of.mkdir()
     (bin_of / "h2audit").symlink_to(program)
-    (bin_of / "h2audit-plot").symlink_to(TOP / "tools" / "h2audit-plot")
+    for name in ("h2audit-plot", "h2audit-comment", "h2audit-page"):
+        (bin_of / name).symlink_to(TOP / "tools" / name)
     (bin_of / "awk").symlink_to(shutil.which(awk))
     return bin_of
 

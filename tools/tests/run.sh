@@ -1,6 +1,6 @@
 #!/usr/bin/env bash
-# Tests what stands around the program: pictures, man pages, completions, recipes, the Debian package and the example of
-# the library. And what the program answers where memory, threads, reads and writes are refused.
+# Tests what stands around the program: pictures, comments, pages, man pages, completions, recipes, the Debian package and
+# the example of the library. And what the program answers where memory, threads, reads and writes are refused.
 #
 # It proves nothing, and builds the library's example alone. Where the program is not built, or is older than its
 # sources, the recipes read the stored reports of examples/, and install and package have another program in its place;
@@ -10,6 +10,8 @@ set -euo pipefail
 cd "$(dirname "$0")/../.."
 
 needed=(python3-matplotlib mandoc lintian zsh fish gawk mawk original-awk tshark binutils gcc libc6-dev)
+# Of the page and its tests.
+needed+=(libjs-dygraphs chromium chromium-driver python3-selenium)
 built=crates/h2audit_cli/out/h2audit_cli
 work=$(mktemp -d)
 trap 'rm -r "$work"' EXIT
@@ -80,6 +82,10 @@ try 'man pages and completions' tools/tests/words_test.py
 try 'recipes' tools/tests/recipes_test.py "${audits[@]}"
 try 'reports by definition' tools/tests/definitions_test.py "${audits[@]}"
 try 'pictures' tools/tests/plot_test.py
+try 'lines of reports, and who is to blame' tools/tests/report_test.py
+try 'comments of packets' tools/tests/comment_test.py
+try 'page' tools/tests/page_test.py
+try 'page in a browser' tools/tests/page_browser_test.py
 try 'library example' tools/tests/library_example_test.py
 try 'install and package' tools/tests/package_test.sh "$program"
 try_built 'refused growths, threads, reads and writes' tools/tests/refusals_test.py "$built"

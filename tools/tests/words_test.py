@@ -1,7 +1,7 @@
 #!/usr/bin/python3
 """Tests of the man pages and of the completions, each by its own program: all of them name the programs' options.
 
-The options of h2audit are those of its help text, which a test of the gate pins; those of h2audit-plot are in its --help.
+The options of h2audit are those of its help text, which a test of the gate pins; those of the programs beside it are in their --help.
 """
 
 import os
@@ -33,7 +33,7 @@ def options_of(name):
     return sorted(set(OPTION.findall(text)))
 
 
-PROGRAMS = {name: options_of(name) for name in ("h2audit", "h2audit-plot")}
+PROGRAMS = {name: options_of(name) for name in ("h2audit", "h2audit-comment", "h2audit-page", "h2audit-plot")}
 
 
 class Version(unittest.TestCase):
@@ -81,6 +81,8 @@ class Bash(unittest.TestCase):
         self.assertEqual(self.offered("h2audit", "--block", "10"), ["1024", "1048576"])
         self.assertEqual(self.offered("h2audit-plot", "--format", ""), ["svg", "png"])
         self.assertEqual(self.offered("h2audit", "--frames", "READ"), ["README.md"])
+        self.assertEqual(self.offered("h2audit-comment", "--map", "READ"), ["README.md"])
+        self.assertEqual(self.offered("h2audit-page", "--title", "READ"), [""])
 
 
 class Fish(unittest.TestCase):

@@ -1,0 +1,6 @@
+# Completions of h2audit-comment for fish.
+
+complete -c h2audit-comment -s o -l output -r -d 'Where the new capture goes'
+complete -c h2audit-comment -s m -l map -r -d 'The map of the import'
+complete -c h2audit-comment -l credit -d 'Comment the credit lines too'
+complete -c h2audit-comment -s h -l help -d 'Print the usage, and nothing else'

@@ -1,0 +1,5 @@
+# Completions of h2audit-page for fish.
+
+complete -c h2audit-page -s o -l output -r -d 'Where the page goes'
+complete -c h2audit-page -s t -l title -x -d 'The heading of the page'
+complete -c h2audit-page -s h -l help -d 'Print the usage, and nothing else'
