@@ -264,7 +264,11 @@ class Definitions(Claims):
         return lambda values: {True: False, False: True, None: None}[self.aside(claim, values)]
 
     def one_of(self, a: Claim, b: Claim) -> Claim:
-        return lambda values: greatest([self.aside(a, values), self.aside(b, values)])
+        def claim(values):
+            first = self.aside(a, values)
+            return first is True or greatest([first, self.aside(b, values)])
+
+        return claim
 
     def factors(self, factors: list[tuple[str | None, Term]], scope: Scope) -> list[Factor]:
         found = []

@@ -38,9 +38,13 @@ class Range:
         return self + -by if type(by) is int else self.each()
 
     def __lt__(self, bound):
-        if type(bound) is int and (self.high <= bound or bound <= self.low):
-            return self.high <= bound
-        raise Split(self.variable, bound - self.more if type(bound) is int else None)
+        if type(bound) is Range:
+            if bound.variable == self.variable:
+                return self.more < bound.more
+            raise Split(min(self, bound, key=lambda range: range.high - range.low).variable)
+        if self.low < bound < self.high:
+            raise Split(self.variable, bound - self.more)
+        return self.high <= bound
 
     def __mod__(self, by):
         start = self.low - self.low % by
@@ -56,7 +60,7 @@ class Range:
         return not self < bound + 1
 
     def __eq__(self, other):
-        return self is other or not self < other and self < other + 1
+        return not self < other and self < other + 1
 
     __radd__ = __add__
     __rsub__ = __mul__ = __rmul__ = __floordiv__ = __pow__ = __rpow__ = __and__ = __rand__ = __index__ = __hash__ = each

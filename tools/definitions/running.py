@@ -59,10 +59,11 @@ class Reader:
         """Checks a relation."""
         self.definitions.failed.clear()
         try:
-            if self.ask(entry, *arguments) is not True:
-                raise NotShown(", of ".join(self.definitions.failed))
+            shown = self.ask(entry, *arguments)
         except NotYet:
-            raise NotShown(f"{entry}: no equation gives some value") from None
+            shown = None
+        if shown is not True:
+            raise NotShown(", of ".join(self.definitions.failed) or f"{entry}: no equation gives some value")
 
     def audit(self, capture: bytes, credits_shown: bool) -> Answer:
         """The report that the definitions give for a capture, or their refusal of it."""
