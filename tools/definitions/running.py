@@ -88,9 +88,9 @@ class Reader:
         spelled = {"header": header, "body": self.ask("body_of", header["code"], header["flags"], payload)}
         return self.ask("captured", Made(side), number, {"upto": 0, "rec": number, "nanos": number * 1000}, spelled)
 
-    def listing(self, sent: list[tuple[str, bytes]]) -> str:
-        """What the definitions find in frames, each given by its side and its bytes: all that they find, the part of it up to the
-        first connection error, and what the connection and each stream show."""
+    def listing(self, sent: list[tuple[str, bytes]]) -> bytes:
+        """What the definitions find in frames, each given by its side and its bytes: all that they find, the part of it
+        up to the first connection error, and what the connection and each stream show."""
         frames = tuple(self.frame(number, *frame) for number, frame in enumerate(sent, 1))
         streams, state = self.ask("streams_of", frames), self.ask("pass_start")
         shown: dict[str, list[Value]] = {"connection": [], **{f"stream {stream}": [] for stream in streams}}
@@ -100,8 +100,10 @@ class Reader:
                 shown[f"stream {stream}"] += self.ask("streams_said", (stream,), state, frame)
             state = self.ask("next", state, frame)
         parts = {"full": self.ask("full", frames), "pass": self.ask("pass", frames), **shown}
-        return "".join(f"{name}\n" + "".join(bytes(self.ask("finding_line", frames, finding)).decode() for finding in found)
-                       for name, found in parts.items())
+        text = b""
+        for name, found in parts.items():
+            text += f"{name}\n".encode() + b"".join(bytes(self.ask("finding_line", frames, one)) for one in found)
+        return text
 
 
 def deeply(run: Callable[[], Result]) -> Result:

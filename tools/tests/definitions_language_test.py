@@ -55,6 +55,16 @@ record Point : Type 0 where
 origin : Point
 origin = record { x = 0; y = 0 }
 
+record PointsAreFew : Type 0 where
+  each : (p : Point) → p.x ≡ 0
+
+record SomePoint : Type 0 where
+  point : Point
+  is : point ≡ origin
+
+record Wrong : Type 0 where
+  wrong : 1 ≡ 2
+
 -- a list, and how long it is
 record IsFront (whole front : List ℕ) (size : ℕ) : Type 0 where
   rest : List ℕ
@@ -105,6 +115,7 @@ CLAIMS = [
     ("¬ ((xs : List ℕ) × (xs ≡ [] ⊎ xs ≡ 1 ∷ []) × (length xs ≡ 1))", None), ("(xs : List ℕ) × ((n : ℕ) → n < 3 → xs ≡ n ∷ [])", None),
     ("(xs : List ℕ) × (xs ≡ [] → 1 ≡ 2)", None), ("(xs : List ℕ) × ¬ (xs ≡ [])", None),
     # conditions and alternatives
+    ("PointsAreFew", None), ("¬ PointsAreFew", None), ("SomePoint", True), ("Wrong", False),
     ("1 ≡ 2 → 3 ≡ 4", True), ("1 ≡ 1 → 3 ≡ 4", False), ("1 ≡ 2 ⊎ 1 ≡ 1", True), ("1 ≡ 2 ⊎ 1 ≡ 3", False), ("(1 ≡ 1) × (1 ≡ 2) × (1 ≡ 1)", False),
     ("((b : Bool) → IsTrue b) → 1 ≡ 2", None), ("1 ≡ 1 ⊎ ((b : Bool) → IsTrue b)", True), ("IfSome (Some 3) (λ n. n < 3)", False),
 ]
