@@ -1,8 +1,8 @@
 """When a claim is shown.
 
-The value of a claim is whether it is shown: True, False where it is refuted, None for neither. That something is there is shown by a
-witness: the value that an equation gives, or one that `propose` says; or, of numbers, by some range. Whatever is proposed, a claim
-that it does not bear out is not shown; and since another witness might, it is not refuted either.
+The value of a claim is whether it is shown: True, False where it is refuted, None for neither. That something is there
+is shown by a witness: the value that an equation gives, or one that `propose` says; or, of numbers, by some range.
+Whatever is proposed, a claim that it does not bear out is not shown; since another witness might, it is not refuted.
 """
 
 from typing import Callable, Iterable, NamedTuple
@@ -37,9 +37,10 @@ def greatest(claims: Iterable[bool | None]) -> bool | None:
 
 
 class Claims:
-    def __init__(self):
+    def __init__(self) -> None:
         self.propose: Callable[[str, dict[str, Value]], Value | None] = lambda label, values: None
-        self.depth, self.proposed, self.failed = 0, 0, []
+        self.depth, self.proposed = 0, 0
+        self.failed: list[str] = []
 
     def aside(self, claim: Callable[..., Value], *values: Value) -> Value:
         """A claim that is considered and not made: its equations give no value to what stands outside of it."""
@@ -73,12 +74,13 @@ class Claims:
         return len(a) == len(b) and least(map(self.same, a, b))
 
     def holds(self, factors: list[Factor], values: Values, of_numbers: bool = False) -> bool | None | Data:
-        """Whether the factors hold together. Those that wait for a value come later. Without claims they are a type of data."""
-        waiting, results, proposed = factors, [], self.proposed
+        """Whether the factors hold together. Those that wait for a value come later. Without claims it is a type."""
+        waiting, proposed = factors, self.proposed
+        results: list[bool | None] = []
         for factor in factors:
             values[factor.place] = Hole(self.depth)
         while waiting:
-            later = []
+            later: list[Factor] = []
             for at, factor in enumerate(waiting):
                 try:
                     found = factor.kind(values)
@@ -115,7 +117,7 @@ class Claims:
         return greatest(answers(claim))
 
     def every(self, kind: Data, claim: Callable[[Value], Value]) -> Value:
-        """Whether a claim holds of all values of a type; of other ones than numbers, where it need not look at the value."""
+        """Whether a claim holds of all values of a type; of no number, where it need not look at the value."""
         if kind.name != "ℕ":
             return self.aside(claim, Hole(None))
         for found in answers(lambda number: self.aside(claim, number)):

@@ -1,119 +1,47 @@
-"""Evaluates definitions. A definition becomes a function of Python's, a claim what finds whether it is shown (`claims`)."""
+"""Evaluates definitions. A definition becomes a function of Python's, a claim what finds whether it is shown."""
 
 import pathlib
 from operator import itemgetter
-from typing import Any, Callable, NoReturn
+from typing import Any, Callable, Sequence
 
 from .claims import Claim, Claims, Factor, Values, greatest
-from .ranges import remembering
-from .reading import Function as Clauses, Module, Record, Term, Unreadable, read
+from .names import Names, Scope
+from .ranges import Remembering
+from .reading import Function as Clauses
+from .reading import Module, Record, Term
 from .values import Data, Function, Made, Stuck, Value, apply, filled, known
-from .words import word
 
 Test = Callable[[Value, Values], bool]  # puts the parts of a value that a pattern names among the values at hand
 
 
-class Scope:
-    """The names of a clause, each with its place among the values at hand."""
-
-    def __init__(self, module: Module, owner: str, names: dict[str, int], size: int):
-        self.module, self.owner, self.names, self.size = module, owner, dict(names), size
-
-    def place(self, name: str) -> int:
-        self.names[name], self.size = self.size, self.size + 1
-        return self.size - 1
-
-    def inner(self) -> "Scope":
-        return Scope(self.module, self.owner, self.names, self.size)
-
-    def fail(self, term: Term, why: str) -> NoReturn:
-        raise Unreadable(f"{self.module.name}:{term.line}: {why}")
-
-
-class Definitions(Claims):
+class Definitions(Names, Claims):
     """The definitions in a folder of crates."""
 
     def __init__(self, folder: pathlib.Path):
-        super().__init__()
-        self.folder, self.modules, self.meanings, self.used, self.kept = folder, {}, {}, set(), {}
+        Names.__init__(self, folder)
+        Claims.__init__(self)
+        self.used: set[str] = set()  # the modules of what was evaluated
+        self.kept: dict[tuple, tuple] = {}  # what functions that recur gave
 
-    # ---- names
-
-    def module(self, path: tuple[str, ...]) -> tuple[Module, tuple[str, ...]]:
-        """The longest front of a path that is a module, and the names behind it."""
-        for end in range(len(path), 3, -1):
-            name = f"{path[1]}/specs/{'/'.join(path[3:end])}.antt"
-            if name not in self.modules and (self.folder / name).is_file():
-                self.modules[name] = read(self.folder / name, name)
-            if name in self.modules:
-                return self.modules[name], path[end:]
-        raise Unreadable(f"{'.'.join(path)}: there is no such module")
-
-    def imported(self, path: tuple[str, ...], name: str) -> Value | None:
-        """The meaning of a name of a module: a type or a constructor that the code declares, a word, or a definition."""
-        if "TheVariants" in path:
-            return Made(name)
-        if path[0] != "Rattle" or not (self.folder / path[1] / "specs").is_dir():
-            return Data(name) if "declared" in path else word(name)
-        if path[3] == "declared":
-            return Data(name)
-        module, behind = self.module((*path, name))
-        return self.meaning(module, behind[0]) if behind else None
-
-    def meaning(self, module: Module, name: str) -> Value | None:
-        """The meaning of a name in a module, None where it has none."""
-        key = module.name, name
-        if key not in self.meanings:
-            definition = module.definitions.get(name)
-            path, inner = module.uses.get(name, (None, None))
-            if definition is not None:
-                self.meanings[key] = (self.record if isinstance(definition, Record) else self.function)(module, definition)
-            elif name in module.constructors:
-                self.meanings[key] = Made(name)
-            else:
-                self.meanings[key] = self.imported(path, inner) if inner else word(name) if name in ("⊥", "Unit", "Type") else None
-        return self.meanings[key]
-
-    def named(self, label: str) -> Value:
-        """The meaning of CRATE.MODULE.NAME."""
-        crate, *path, name = label.split(".")
-        found = self.imported(("Rattle", crate, "specs", *path), name)
-        if found is None:
-            raise Unreadable(f"{label}: there is no such definition")
-        return found
-
-    def constructor(self, module: Module, term: Term) -> str | None:
-        """The own name of the constructor that a term names, if it does."""
-        alias, name = (term.parts[0].parts[0], term.parts[1]) if term.kind == "field" else (term.parts[0], None)
-        if name is None and alias in (*module.constructors, "◌∷◌"):
-            return alias
-        path, inner = module.uses.get(alias, ((), None))
-        found = inner or name
-        return found if isinstance(found and self.imported(path, found), Made) or found in ("true", "false", "zero", "suc", "[]") else None
+    def defined(self, module: Module, definition: Clauses | Record) -> Value:
+        return self.record(module, definition) if isinstance(definition, Record) else self.function(module, definition)
 
     # ---- definitions
 
     def function(self, module: Module, definition: Clauses) -> Value:
-        arity, number = len(definition.clauses[0][0]), None
-        function = Function(arity, None)
-        self.meanings[module.name, definition.name] = function
+        arity = len(definition.clauses[0][0])
+        function = Function(arity, undefined)
+        self.meanings[module.name, definition.name] = function  # its clauses may name it
         clauses, size = [], 0
         for patterns, body in definition.clauses:
-            scope, tests = Scope(module, definition.name, {}, arity), []
-            for place, pattern in enumerate(patterns):
-                if pattern.kind == "call" and pattern.parts[0].parts[0] == "suc":
-                    number = place
-                if pattern.kind == "name" and not self.constructor(module, pattern):
-                    scope.names[pattern.parts[0]] = place
-                else:
-                    tests.append((place, self.pattern(pattern, scope)))
+            scope = Scope(module, definition.name, {}, arity)
+            tests = self.tests(patterns, scope)
             clauses.append((tests, self.term(body, scope)))
             size = max(size, scope.size)
-
-        used, name, more = self.used, module.name, [None] * (size - arity)
+        used, more = self.used, [None] * (size - arity)
 
         def run(*arguments):
-            used.add(name)
+            used.add(module.name)
             values = [*arguments, *more]
             for tests, body in clauses:
                 for place, test in tests:
@@ -124,8 +52,18 @@ class Definitions(Claims):
             raise Stuck(f"{module.name}: no clause of {definition.name} for {arguments}")
 
         recurs = any(mentions(body, definition.name) for _, body in definition.clauses)
-        function.run = remembering(run, self.kept, number) if recurs else run
+        function.run = Remembering(run, self.kept, number_in(definition)) if recurs else run
         return function if arity else run()
+
+    def tests(self, patterns: Sequence[Term], scope: Scope) -> list[tuple[int, Test]]:
+        """A test for each argument that a pattern does not just name."""
+        found = []
+        for place, pattern in enumerate(patterns):
+            if pattern.kind == "name" and not self.constructor(scope.module, pattern):
+                scope.names[pattern.parts[0]] = place
+            else:
+                found.append((place, self.pattern(pattern, scope)))
+        return found
 
     def pattern(self, pattern: Term, scope: Scope) -> Test:
         head, parts = pattern.parts if pattern.kind == "call" else (pattern, ())
@@ -145,14 +83,23 @@ class Definitions(Claims):
             case "[]":
                 return lambda value, values: known(value) == ()
             case "◌∷◌":
-                return lambda value, values: known(value) != () and tests[0](known(value)[0], values) and tests[1](known(value)[1:], values)
+                return self.cons(*tests)
         return self.made(name, tests)
+
+    def cons(self, first: Test, rest: Test) -> Test:
+        def test(value, values):
+            value = known(value)
+            return value != () and first(value[0], values) and rest(value[1:], values)
+
+        return test
 
     def made(self, name: str, tests: list[Test]) -> Test:
         def test(value, values):
             if type(value) is not Made:
                 value = known(value)
-            return value.name == name and all([test(part, values) for test, part in zip(tests, value.parts, strict=True)])
+            if value.name != name:
+                return False
+            return all([test(part, values) for test, part in zip(tests, value.parts, strict=True)])
 
         return test if tests else lambda value, values: (value if type(value) is Made else known(value)).name == name
 
@@ -174,7 +121,9 @@ class Definitions(Claims):
             self.used.add(module.name)
             return self.holds(factors, [*arguments, *[None] * (scope.size - arity)])
 
-        return Function(arity, run) if arity else Data(definition.name)
+        if arity or not all(isinstance(factor.kind([None] * scope.size), Data) for factor in factors):
+            return Function(arity, run) if arity else run()
+        return Data(definition.name)
 
     # ---- terms
 
@@ -205,8 +154,8 @@ class Definitions(Claims):
         return lambda values: {**known(of(values)), **{label: part(values) for label, part in parts}}
 
     def term_field(self, term: Term, scope: Scope, of: Term, label: str) -> Claim:
-        path, inner = scope.module.uses.get(of.parts[0], ((), "")) if of.kind == "name" and of.parts[0] not in scope.names else ((), "")
-        if path and inner is None:
+        path, inner = scope.imported(of)
+        if path and inner is None:  # a module, and not a value
             found = self.imported(path, label)
             return (lambda values: found) if found is not None else scope.fail(term, f"{label} has no meaning here")
         whole = self.term(of, scope)
@@ -250,7 +199,7 @@ class Definitions(Claims):
         if special:
             return special(self, *parts)
         function = self.term(head, scope)
-        found = function([]) if not (head.kind == "name" and head.parts[0] in scope.names) and head.kind == "name" else None
+        found = function([]) if head.kind == "name" and head.parts[0] not in scope.names else None
         if isinstance(found, Function) and len(parts) == found.arity:
             return called(found, parts)
         return lambda values: apply(function(values), *[part(values) for part in parts])
@@ -264,9 +213,13 @@ class Definitions(Claims):
         return lambda values: {True: False, False: True, None: None}[self.aside(claim, values)]
 
     def one_of(self, a: Claim, b: Claim) -> Claim:
-        return lambda values: greatest([self.aside(a, values), self.aside(b, values)])
+        def claim(values):
+            first = self.aside(a, values)
+            return first is True or greatest([first, self.aside(b, values)])
 
-    def factors(self, factors: list[tuple[str | None, Term]], scope: Scope) -> list[Factor]:
+        return claim
+
+    def factors(self, factors: Sequence[tuple[str | None, Term]], scope: Scope) -> list[Factor]:
         found = []
         for name, kind in factors:
             claim, names = self.term(kind, scope), dict(scope.names)
@@ -295,10 +248,24 @@ class Definitions(Claims):
                 values[place] = value
                 return rest(values)
 
-            return self.every(found, of) if isinstance(found, Data) and name else rest(values) if isinstance(found, Data) \
-                else self.under(found, rest, values)
+            if not isinstance(found, Data):
+                return self.under(found, rest, values)
+            return self.every(found, of) if name else rest(values)
 
         return claim
+
+
+def undefined(*arguments: Value) -> Value:
+    raise Stuck("a definition that needs itself")
+
+
+def number_in(definition: Clauses) -> int | None:
+    """The place of an argument that is a number, over which the definition recurs."""
+    for patterns, _ in definition.clauses:
+        for place, pattern in enumerate(patterns):
+            if pattern.kind == "call" and pattern.parts[0].parts[0] == "suc":
+                return place
+    return None
 
 
 def mentions(term: Any, name: str) -> bool:

@@ -1,8 +1,9 @@
 """Reads modules of definitions: from the text of a file to terms.
 
-The language is antt. This reads the part of it that the definitions use: functions by cases, records, data, lists, numbers,
-`let`, `λ`, infix words, and the types `(x : A) → B` and `(x : A) × B`. Signatures are passed over, and so is what stands in
-braces: a definition that was proved is well typed. What is written otherwise is an error that names file and line.
+The language is antt. This reads the part of it that the definitions use: functions by cases, records, data, lists,
+numbers, `let`, `λ`, infix words, and the types `(x : A) → B` and `(x : A) × B`. Signatures are passed over, and so is
+what stands in braces: a definition that was proved is well typed. What is written otherwise is an error that names file
+and line.
 """
 
 import pathlib
@@ -14,8 +15,10 @@ NUMBER = re.compile(r"(0[xbo])?[0-9a-fA-F_]+")
 USE = re.compile(r"(?:pub )?use ([^\s{]+?)\.?(?:\{([^}]*)\}| as (\S+))?")
 ESCAPES = {"n": "\n", "r": "\r", "t": "\t", '"': '"', "\\": "\\"}
 MARKS = ("pub", "abbrev", "unfoldable")
-RESERVED = set("data record deriving module where use mod package open as unfolding ruleset mutual infix infixl infixr elim"
-               " let in do λ ∀ Type = : → [ ] | then else if . ; , ( ) { } @ « »".split())
+RESERVED = set(
+    "data record deriving module where use mod package open as unfolding ruleset mutual infix infixl infixr elim"
+    " let in do λ ∀ Type = : → [ ] | then else if . ; , ( ) { } @ « »".split()
+)
 
 # Infix words: how tightly each binds, and the side to which it groups.
 INFIX = {
@@ -59,7 +62,7 @@ class Module(NamedTuple):
     name: str  # CRATE/specs/PATH.antt
     definitions: dict[str, Function | Record]
     constructors: set[str]
-    uses: dict[str, tuple[tuple[str, ...], str | None]]  # of a name here the module and the name there, None for the module
+    uses: dict[str, tuple[tuple[str, ...], str | None]]  # of a name its module and name there; None for a module itself
 
 
 def tokens_of(text: str, name: str) -> list[Token]:
@@ -152,6 +155,11 @@ class Reader:
         self.at += 1
         return self.made("function type", left.parts[0] if left.kind == "binder" else [(None, left)], self.term())
 
+    def upto(self, end: str) -> Term:
+        found = self.term()
+        self.take(end)
+        return found
+
     def infix(self, least: int) -> Term:
         left = self.operand()
         while (word := self.peek()) in INFIX and INFIX[word][0] >= least:
@@ -175,8 +183,8 @@ class Reader:
             return self.made("binder", self.groups())
         start, self.at = self.peek(), self.at + (self.peek() in ("if", "λ", "let", "¬"))
         if start == "if":
-            test, _ = self.term(), self.take("then")
-            then, _ = self.term(), self.take("else")
+            test = self.upto("then")
+            then = self.upto("else")
             return self.made("if", test, then, self.infix(IF))
         if start == "λ":
             names = []
@@ -188,9 +196,10 @@ class Reader:
             name = self.word()
             if self.peek() == ":":
                 self.at += 1
-                self.term()
-            self.take("=")
-            value, _ = self.term(), self.take("in")
+                self.upto("=")
+            else:
+                self.take("=")
+            value = self.upto("in")
             return self.made("let", name, value, self.term())
         return self.made("call", self.made("name", "¬◌"), [self.operand()]) if start == "¬" else self.call()
 
@@ -287,6 +296,8 @@ class Reader:
         name, patterns = (head, ()) if head.kind == "name" else head.parts
         self.take("=")
         function = module.definitions.setdefault(name.parts[0], Function(name.parts[0], []))
+        if isinstance(function, Record):
+            self.fail(f"{name.parts[0]} is a record")
         if function.clauses and len(function.clauses[0][0]) != len(patterns):
             self.fail(f"clauses of {name.parts[0]} with different numbers of arguments")
         function.clauses.append((patterns, self.term()))

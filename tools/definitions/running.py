@@ -59,10 +59,11 @@ class Reader:
         """Checks a relation."""
         self.definitions.failed.clear()
         try:
-            if self.ask(entry, *arguments) is not True:
-                raise NotShown(", of ".join(self.definitions.failed))
+            shown = self.ask(entry, *arguments)
         except NotYet:
-            raise NotShown(f"{entry}: no equation gives some value") from None
+            shown = None
+        if shown is not True:
+            raise NotShown(", of ".join(self.definitions.failed) or f"{entry}: no equation gives some value")
 
     def audit(self, capture: bytes, credits_shown: bool) -> Answer:
         """The report that the definitions give for a capture, or their refusal of it."""
@@ -87,9 +88,9 @@ class Reader:
         spelled = {"header": header, "body": self.ask("body_of", header["code"], header["flags"], payload)}
         return self.ask("captured", Made(side), number, {"upto": 0, "rec": number, "nanos": number * 1000}, spelled)
 
-    def listing(self, sent: list[tuple[str, bytes]]) -> str:
-        """What the definitions find in frames, each given by its side and its bytes: all that they find, the part of it up to the
-        first connection error, and what the connection and each stream show."""
+    def listing(self, sent: list[tuple[str, bytes]]) -> bytes:
+        """What the definitions find in frames, each given by its side and its bytes: all that they find, the part of it
+        up to the first connection error, and what the connection and each stream show."""
         frames = tuple(self.frame(number, *frame) for number, frame in enumerate(sent, 1))
         streams, state = self.ask("streams_of", frames), self.ask("pass_start")
         shown: dict[str, list[Value]] = {"connection": [], **{f"stream {stream}": [] for stream in streams}}
@@ -99,8 +100,10 @@ class Reader:
                 shown[f"stream {stream}"] += self.ask("streams_said", (stream,), state, frame)
             state = self.ask("next", state, frame)
         parts = {"full": self.ask("full", frames), "pass": self.ask("pass", frames), **shown}
-        return "".join(f"{name}\n" + "".join(bytes(self.ask("finding_line", frames, finding)).decode() for finding in found)
-                       for name, found in parts.items())
+        text = b""
+        for name, found in parts.items():
+            text += f"{name}\n".encode() + b"".join(bytes(self.ask("finding_line", frames, one)) for one in found)
+        return text
 
 
 def deeply(run: Callable[[], Result]) -> Result:

@@ -1,7 +1,7 @@
-"""Proposes witnesses for what the definitions relate: how many records a capture has, which segments make a connection, the bytes of a
-flow in order, where frames end. It need not be right: `evaluating` checks what it says, and what it does not bear out is not shown.
+"""Proposes witnesses for what the definitions relate: how many records a capture has, which segments make a connection,
+the bytes of a flow in order, where frames end. It need not be right: `claims` checks what it says.
 
-A witness is found by the relation and the name that it is for. Where none is proposed, and for each `Hole`, an equation of the
+A witness is found by the name of what it is for. Where none is proposed, and for each `Hole`, an equation of the
 definitions gives the value.
 """
 
@@ -9,6 +9,7 @@ from .values import Hole, Made, Value, known
 
 PREFACE = b"PRI * HTTP/2.0\r\n\r\nSM\r\n\r\n"
 HALF, WHOLE = 2**31, 2**32
+NONE = Made("None")
 
 
 def hole():
@@ -73,15 +74,15 @@ class Search:
         last, opened = {}, []
         for segment in self.segments(values):
             pair = frozenset((end["address"], end["port"]) for end in (segment["from"], segment["to"]))
-            of, isn = last.get(pair), segment["seq"]
-            if segment["syn"] and not segment["ack"] and not (of and of["client"] == segment["from"] and of["client_isn"] == isn):
-                of = last[pair] = {"client": segment["from"], "server": segment["to"], "rec": segment["rec"], "client_isn": isn,
-                                   "server_isn": Made("None"), "members": listed(())}
+            of, said = last.get(pair), (segment["from"], segment["seq"])
+            if segment["syn"] and not segment["ack"] and not (of and said == (of["client"], of["client_isn"])):
+                of = last[pair] = connection(segment)
                 opened.append(of)
             if of:
                 of["members"] = listed((*of["members"]["items"], segment["rec"]))
-                if segment["syn"] and segment["ack"] and segment["from"] != of["client"] and of["server_isn"].name == "None":
-                    of["server_isn"] = some(isn)
+                answers = segment["syn"] and segment["ack"] and segment["from"] != of["client"]
+                if answers and of["server_isn"] == NONE:
+                    of["server_isn"] = some(segment["seq"])
         return tuple(opened)
 
     def audited(self, values):
@@ -102,6 +103,17 @@ class Search:
                 "server": flow(capture, sides["server"], server.parts[0] if server.parts else None)}
 
 
+def connection(opening):
+    return {
+        "client": opening["from"],
+        "server": opening["to"],
+        "rec": opening["rec"],
+        "client_isn": opening["seq"],
+        "server_isn": NONE,
+        "members": listed(()),
+    }
+
+
 def flow(capture, segments, isn):
     """A side's bytes in order of their offsets, of each offset the first; and by which record they were there."""
     sources = {}
@@ -119,8 +131,12 @@ def flow(capture, segments, isn):
         arrivals[-1] = {"upto": size, "rec": last[0], "nanos": last[1]}
     past = any(size < offset < HALF for offset in sources)
     piece = tuple(capture[sources[offset][2]] for offset in range(size))
-    return {"started": isn is not None, "pieces": listed([{"now": piece}] if piece else []), "arrivals": listed(arrivals),
-            "gap": some(size) if past else Made("None")}
+    return {
+        "started": isn is not None,
+        "pieces": listed([{"now": piece}] if piece else []),
+        "arrivals": listed(arrivals),
+        "gap": some(size) if past else NONE,
+    }
 
 
 def joined(flow):

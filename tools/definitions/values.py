@@ -1,6 +1,6 @@
 """Values of definitions, and what is not known of a value yet.
 
-Numbers, truth values and texts are those of Python, a list is a tuple, a record and a pair a dict; the rest stands here.
+Numbers, truth values and texts are those of Python, a list is a tuple, a record and a pair are dicts. The rest is here.
 """
 
 from typing import Any, Callable
@@ -51,10 +51,11 @@ class Function:
 
 
 class Hole:
-    """A value that an equation may give, if it is a claim of this depth. No equation gives one of depth None: it is any value."""
+    """A value that an equation of this depth may give. No equation gives one of depth None: it is any value."""
 
     def __init__(self, depth: int | None):
-        self.depth, self.value = depth, None
+        self.depth = depth
+        self.value: Value = None
 
     def __bool__(self):
         return bool(known(self))

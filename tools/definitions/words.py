@@ -63,7 +63,7 @@ def folded_number(octets: Iterable[int]) -> int:
     return value
 
 
-WORDS = {
+WORDS: dict[str, Callable[..., Value]] = {
     # numbers
     "◌+◌": lambda a, b: a + b,
     "◌-◌": lambda a, b: a - b if b <= a else 0,  # 0 where b is greater
@@ -152,7 +152,7 @@ WORDS = {
     "IfSome": lambda o, claim: option(o, True, lambda x: apply(claim, x)),  # it holds of a value, if there is one
     "ForSome": lambda o, claim: option(o, True, lambda x: apply(claim, x)),
     "All": lambda claim, xs: least(apply(claim, x) for x in xs),  # it holds of each element
-    "AllZip": lambda claim, xs, ys: len(xs) == len(ys) and least(map(partial(apply, claim), xs, ys)),  # of those at each place
+    "AllZip": lambda claim, xs, ys: len(xs) == len(ys) and least(map(partial(apply, claim), xs, ys)),  # at each place
 }
 LAZY = ("◌∷◌", "◌++◌")  # these take what is not known yet
 

@@ -100,9 +100,9 @@ class Script:
         if self.random.random() < 0.8:
             first += [(side, self.answer(side)) for side in "CS"] + [("C", self.headers("C"))]
         frames = first + [(side, self.next(side)) for side in self.random.choices("CS", (3, 2), k=count)]
-        if self.random.random() < 0.06:
+        if self.random.random() < 0.04:
             frames.insert(self.random.randint(2, len(frames)), (side := self.random.choice("CS"), self.long(side)))
-        elif self.random.random() < 0.04:  # all credit of the connection, and then some more or less
+        elif self.random.random() < 0.025:  # all credit of the connection, and then some more or less
             full = [("C", frame(0, 0, 1, bytes(length))) for length in (16384, 16384, 16384, 16384 - self.random.choice((0, 1, 30)))]
             grants = [("S", frame(8, 0, 1, number(LARGEST - 65535))), ("C", frame(1, 4, 1))]
             self.opened.append(1)

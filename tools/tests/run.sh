@@ -80,6 +80,7 @@ else
 fi
 try 'man pages and completions' tools/tests/words_test.py
 try 'recipes' tools/tests/recipes_test.py "${audits[@]}"
+try 'language of the definitions' tools/tests/definitions_language_test.py
 try 'reports by definition' tools/tests/definitions_test.py "${audits[@]}"
 try 'pictures' tools/tests/plot_test.py
 try 'lines of reports, and who is to blame' tools/tests/report_test.py
