@@ -5,14 +5,13 @@ use Rattle.std.proofs.lemmas.Bool.Decides.{nat_tests}
 use Rattle.packet_heads.specs.declared.packets.Segment.{Segment}
 use Rattle.tcp_streams.specs.declared.members.Connection.{Connection}
 use Rattle.tcp_streams.specs.declared.streams.Arrival.{Arrival}
-use Rattle.tcp_streams.specs.declared.streams.Flow.{Flow}
 use Rattle.tcp_streams.specs.Bytes.{bytes_of}
 use Rattle.tcp_streams.specs.Example.{WrappedRetransmission, client, letters, segment, server, wrapped}
 use Rattle.tcp_streams.specs.Flow.{IsArrivalOf, IsFlow, arrival_at}
 use Rattle.tcp_streams.specs.Members.{segments_of}
 use Rattle.tcp_streams.specs.Pair.{is_endpoint}
 use Rattle.tcp_streams.specs.Sequence.{Source, arrival, brings, distance, earlier_of, payload_length, source}
-use Rattle.tcp_streams.specs.code.Past.{Membership, connections_of, membership, past_of}
+use Rattle.tcp_streams.specs.code.Past.{Membership, membership}
 use Rattle.tcp_streams.proofs.Belongings.{connections-shown}
 use Rattle.tcp_streams.proofs.UniqueFlow.{IsFlow-unique}
 
