@@ -6,7 +6,7 @@ ghost use Rattle.audit_report.specs.ConnectionLine.{contents_text, roles_text, h
 ghost use Rattle.audit_report.specs.Contents.{contents_of, tail_of};
 ghost use Rattle.audit_report.specs.FlowLine.{extents_of, gap_text, flow_line};
 ghost use Rattle.audit_report.specs.Section.{connection_text};
-ghost use Rattle.tcp_streams.specs.Arrivals.{IsOrderly};
+ghost use Rattle.tcp_streams.specs.Orderly.{IsOrderly};
 
 use crate::endpoints::push_endpoint;
 use crate::extents::Extent;

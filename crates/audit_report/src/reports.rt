@@ -1,7 +1,7 @@
 ghost use Rattle.std.specs.Prelude.{◌≡◌, ◌++◌, ◌+◌, ◌<◌, ◌^◌, OnOk, IfOk, All, length};
 ghost use Rattle.std.specs.String.{string_bytes};
 ghost use Rattle.audit_terms.specs.Frame.{IsOrderly};
-ghost use Rattle.h2_frames.specs.Cut.{HasOrderlyFrames};
+ghost use Rattle.h2_frames.specs.Orderly.{HasOrderlyFrames};
 ghost use Rattle.audit_report.specs.Contents.{contents_of};
 ghost use Rattle.audit_report.specs.Section.{audit_text, findings_text, section_text, section_of, sections_of, sections_text};
 ghost use Rattle.audit_report.specs.ReportText.{report_text};

@@ -5,7 +5,6 @@ use Rattle.packet_heads.specs.declared.packets.Endpoint.{Endpoint}
 use Rattle.packet_heads.specs.declared.packets.Packet.{Packet}
 use Rattle.packet_heads.specs.declared.packets.Packet.TheVariants.{Segment as Carried}
 use Rattle.packet_heads.specs.declared.packets.Segment.{Segment}
-use Rattle.tcp_streams.specs.Packets.{past_of}
 
 -- an address and a port
 abbrev pub endpoint : (address port : ℕ) → Endpoint
@@ -37,6 +36,6 @@ syn_ack number from to seq = segment number from to seq true true 0 0
 abbrev pub plain : (number : ℕ) → (from to : Endpoint) → (seq : ℕ) → Segment
 plain number from to seq = segment number from to seq false true 0 0
 
--- what a capture of these segments has shown at its end
-abbrev pub shown : List Segment → List Segment
-shown segments = past_of (map Carried segments)
+-- the packets of a capture of these segments alone
+abbrev pub packets : List Segment → List Packet
+packets segments = map Carried segments

@@ -1,16 +1,20 @@
 //! Flows of captures, and the flows by a plain program beside them.
 
+mod keys;
 mod plain;
 mod segments;
 
 use crate::answer::Answer;
+use keys::drawn_keys;
 use segments::{overlaps_and_gap, random_segments};
 use std::alloc::Global;
+use std::random::RandomSource;
 use std::thread::Threads;
 
-pub fn answers(rt: &(impl Sync + Threads), alloc: Global) -> [(&'static str, Answer); 2] {
+pub fn answers(rt: &(impl Sync + Threads + RandomSource), alloc: Global) -> [(&'static str, Answer); 3] {
     [
         ("overlaps_and_gap", overlaps_and_gap(rt, alloc)),
         ("random_segments", random_segments(rt, alloc)),
+        ("drawn_keys", drawn_keys(rt)),
     ]
 }

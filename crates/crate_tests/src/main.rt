@@ -37,7 +37,7 @@ use std::random::RandomSource;
 use std::thread::Threads;
 
 /// Prints a line for each test of calls, in groups: a long chain of calls is dear to prove.
-fn print_calls(rt: &(impl AllocGlobal + Print + Sync + Threads)) -> io::Result<()> {
+fn print_calls(rt: &(impl AllocGlobal + Print + RandomSource + Sync + Threads)) -> io::Result<()> {
     let alloc = rt.alloc();
     print_answers(rt, &flows::answers(rt, alloc))?;
     print_answers(rt, &passes::answers(alloc))?;

@@ -20,8 +20,9 @@ use Rattle.h2_frames.specs.Body.{body_of}
 use Rattle.h2_frames.specs.Spelling.{HoldsNoFrame, Makes, Spells}
 use Rattle.h2_frames.specs.CaptureOrder.{captured_from, capture_order}
 use Rattle.h2_frames.specs.Preface.{preface, IsPrefaceCutShort, BeginsWithPreface}
-use Rattle.h2_frames.specs.Cut.{IsCut, IsHttp2, IsHttp2Cut, IsSameCut}
-use Rattle.h2_frames.specs.Law.{SpellingIsUnique, IsSameFlow, CutIsUnique}
+use Rattle.h2_frames.specs.Cut.{IsCut, IsHttp2}
+use Rattle.h2_frames.specs.code.Steps.{IsHttp2Cut}
+use Rattle.h2_frames.specs.Law.{SpellingIsUnique, IsSameCut, IsSameFlow, CutIsUnique}
 
 -- two fronts of one length are one front, and so are the rests
 same_parts : (a b x y : List ℕ) → a ++ x ≡ b ++ y → length a ≡ length b → (a ≡ b) × (x ≡ y)

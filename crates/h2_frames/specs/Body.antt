@@ -1,6 +1,6 @@
 -- What a frame carries, by its type, its flags and its payload (RFC 9113, 6.1 to 6.10). Where a payload has several
 -- faults, the first line of its definition that applies names the one.
-use Rattle.std.specs.Prelude.{ℕ, ◌+◌, ◌-◌, ◌%◌, Bool, not, ◌&&◌, ◌==◌, nat_lt, nat_le, if◌then◌else◌, List, length, drop, slice_index}
+use Rattle.std.specs.Prelude.{ℕ, ◌+◌, ◌-◌, ◌%◌, Bool, ◌&&◌, ◌==◌, nat_lt, if◌then◌else◌, List, length, drop, slice_index}
 use Rattle.audit_terms.specs.declared.frames.Body.{Body}
 use Rattle.audit_terms.specs.declared.frames.Body.TheVariants.{Content, Headers, Priority, RstStream, Settings, SettingsAck, PushPromise, Ping, GoAway, WindowUpdate, Continuation, Unknown, Unreadable}
 use Rattle.audit_terms.specs.declared.kinds.Kind.TheVariants.{WrongSize, BadPadding, BadPriority}
@@ -25,38 +25,18 @@ pad_length payload = slice_index payload 0
 abbrev pub wrong_size : List ℕ → Body
 wrong_size payload = Unreadable WrongSize (length payload)
 
--- padding that leaves no room for what else must be there
-abbrev pub bad_padding : List ℕ → Body
-bad_padding payload = Unreadable BadPadding (pad_length payload)
-
 -- a payload that has to be this long
 abbrev pub of_length : ℕ → List ℕ → Body → Body
 of_length n payload body = if length payload == n then body else wrong_size payload
 
--- DATA (6.1): padding of the payload's length or more is an error
-abbrev pub data_body : ℕ → List ℕ → Body
-data_body flags payload =
-    if not (is_padded flags) then Content
-    else if length payload == 0 then wrong_size payload
-    else if nat_le (length payload) (pad_length payload) then bad_padding payload
-    else Content
-
--- a field block (6.2, 6.6) stands behind the length of the padding, where there is padding, and `fields` further bytes;
--- padding longer than what these leave is an error
-abbrev pub field_block_body : ℕ → List ℕ → ℕ → Body → Body
-field_block_body flags payload fields body =
+-- what must be there stands behind the length of the padding, where there is padding, and is this long at least (DATA 6.1,
+-- HEADERS 6.2, PUSH_PROMISE 6.6); padding longer than what is left is an error
+abbrev pub padded_body : ℕ → List ℕ → ℕ → Body → Body
+padded_body flags payload fields body =
     let needed = (if is_padded flags then 1 else 0) + fields in
     if nat_lt (length payload) needed then wrong_size payload
-    else if is_padded flags && nat_lt (length payload - needed) (pad_length payload) then bad_padding payload
+    else if is_padded flags && nat_lt (length payload - needed) (pad_length payload) then Unreadable BadPadding (pad_length payload)
     else body
-
--- HEADERS (6.2): with the flag PRIORITY, five bytes on the stream's priority
-abbrev pub headers_body : ℕ → List ℕ → Body
-headers_body flags payload = field_block_body flags payload (if has_flag flags priority_flag then 5 else 0) Headers
-
--- PRIORITY (6.3)
-abbrev pub priority_body : List ℕ → Body
-priority_body payload = if length payload == 5 then Priority else Unreadable BadPriority (length payload)
 
 -- SETTINGS (6.5): an acknowledgement is empty, other payloads are whole pairs of six bytes
 abbrev pub settings_body : ℕ → List ℕ → Body
@@ -65,30 +45,20 @@ settings_body flags payload =
     else if length payload % 6 == 0 then Settings (packed (settings_of payload))
     else wrong_size payload
 
--- PUSH_PROMISE (6.6): the promised stream stands behind the length of the padding
-abbrev pub push_promise_body : ℕ → List ℕ → Body
-push_promise_body flags payload =
-    field_block_body flags payload 4 (PushPromise (number_of_31_bits (drop (if is_padded flags then 1 else 0) payload)))
-
--- GOAWAY (6.8): a stream, an error code, and debug data of any length
-abbrev pub go_away_body : List ℕ → Body
-go_away_body payload = if nat_lt (length payload) 8 then wrong_size payload else GoAway
-
--- WINDOW_UPDATE (6.9): the increment, behind a reserved bit
-abbrev pub window_update_body : List ℕ → Body
-window_update_body payload = of_length 4 payload (WindowUpdate (number_of_31_bits payload))
-
--- by the type byte: RST_STREAM 6.4, PING 6.7, CONTINUATION 6.10; an unknown type is no error (5.5)
+-- by the type byte: DATA 6.1; HEADERS 6.2, where five bytes on the stream's priority follow with the flag PRIORITY;
+-- PRIORITY 6.3; RST_STREAM 6.4; PUSH_PROMISE 6.6, which begins with the promised stream; PING 6.7; GOAWAY 6.8: a stream, an
+-- error code, and debug data of any length; WINDOW_UPDATE 6.9: the increment behind a reserved bit; CONTINUATION 6.10; an
+-- unknown type is no error (5.5)
 abbrev pub body_of : ℕ → ℕ → List ℕ → Body
 body_of code flags payload =
-    if code == data_type then data_body flags payload
-    else if code == headers_type then headers_body flags payload
-    else if code == priority_type then priority_body payload
+    if code == data_type then padded_body flags payload 0 Content
+    else if code == headers_type then padded_body flags payload (if has_flag flags priority_flag then 5 else 0) Headers
+    else if code == priority_type then (if length payload == 5 then Priority else Unreadable BadPriority (length payload))
     else if code == rst_stream_type then of_length 4 payload RstStream
     else if code == settings_type then settings_body flags payload
-    else if code == push_promise_type then push_promise_body flags payload
+    else if code == push_promise_type then padded_body flags payload 4 (PushPromise (number_of_31_bits (drop (if is_padded flags then 1 else 0) payload)))
     else if code == ping_type then of_length 8 payload Ping
-    else if code == goaway_type then go_away_body payload
-    else if code == window_update_type then window_update_body payload
+    else if code == goaway_type then (if nat_lt (length payload) 8 then wrong_size payload else GoAway)
+    else if code == window_update_type then of_length 4 payload (WindowUpdate (number_of_31_bits payload))
     else if code == continuation_type then Continuation
     else Unknown

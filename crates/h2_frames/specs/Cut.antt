@@ -6,7 +6,6 @@ use Rattle.tcp_streams.specs.Bytes.{bytes_of}
 use Rattle.audit_terms.specs.declared.sides.Side.TheVariants.{Client, Server}
 use Rattle.audit_terms.specs.declared.sides.Sides.{Sides}
 use Rattle.audit_terms.specs.declared.frames.Frame.{Frame}
-use Rattle.audit_terms.specs.Frame.{IsOrderly}
 use Rattle.h2_frames.specs.declared.connections.Cut.{Cut}
 use Rattle.h2_frames.specs.declared.connections.Cut.TheVariants.{Http2, NotHttp2, NoPreface, NoHandshake}
 use Rattle.h2_frames.specs.declared.spelling.Spelled.{Spelled}
@@ -30,11 +29,6 @@ pub record IsHttp2 (client server : Flow) (frames : List Frame) (tails : Sides �
       (captured_from Server server.arrivals.items 1 0 server_frames)
   pub tails_are : tails ≡ record { client = length client_tail; server = length server_tail }
 
--- an HTTP/2 connection's cut
-abbrev pub IsHttp2Cut : (client server : Flow) → Cut → Type 0
-IsHttp2Cut client server (Http2 frames tails) = IsHttp2 client server frames.items tails
-IsHttp2Cut client server _ = ⊥
-
 -- the server's flow is not started; else the client's ends within the preface; else it does not begin with it; else
 -- both are cut into frames
 abbrev pub IsCut : (client server : Flow) → Cut → Type 0
@@ -44,16 +38,3 @@ IsCut client server NotHttp2 =
     IsTrue server.started × ¬ IsPrefaceCutShort (bytes_of client)
     × ((rest : List ℕ) → ¬ BeginsWithPreface (bytes_of client) rest)
 IsCut client server (Http2 frames tails) = IsTrue server.started × IsHttp2 client server frames.items tails
-
--- the frames, where there are some, are in range and numbered upwards
-abbrev pub HasOrderlyFrames : Cut → Type 0
-HasOrderlyFrames (Http2 frames tails) = IsOrderly frames.items
-HasOrderlyFrames _ = Unit {0}
-
--- the same cut, wherever its frames lie in memory
-abbrev pub IsSameCut : Cut → Cut → Type 0
-IsSameCut NoHandshake NoHandshake = Unit {0}
-IsSameCut NoPreface NoPreface = Unit {0}
-IsSameCut NotHttp2 NotHttp2 = Unit {0}
-IsSameCut (Http2 frames tails) (Http2 others other_tails) = (frames.items ≡ others.items) × (tails ≡ other_tails)
-IsSameCut _ _ = ⊥

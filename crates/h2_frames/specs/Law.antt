@@ -5,13 +5,22 @@ use Rattle.tcp_streams.specs.Bytes.{bytes_of}
 use Rattle.h2_frames.specs.declared.connections.Cut.{Cut}
 use Rattle.h2_frames.specs.declared.spelling.Spelled.{Spelled}
 use Rattle.h2_frames.specs.Spelling.{Spells}
-use Rattle.h2_frames.specs.Cut.{IsCut, IsSameCut}
+use Rattle.h2_frames.specs.declared.connections.Cut.TheVariants.{Http2, NotHttp2, NoPreface, NoHandshake}
+use Rattle.h2_frames.specs.Cut.{IsCut}
 
 -- one list of bytes has one spelling
 abbrev pub SpellingIsUnique : Type 0
 SpellingIsUnique =
     (bytes : List ℕ) (frames others : List Spelled) (tail other_tail : List ℕ) →
     Spells bytes frames tail → Spells bytes others other_tail → (frames ≡ others) × (tail ≡ other_tail)
+
+-- the same cut, wherever its frames lie in memory
+abbrev pub IsSameCut : Cut → Cut → Type 0
+IsSameCut NoHandshake NoHandshake = Unit {0}
+IsSameCut NoPreface NoPreface = Unit {0}
+IsSameCut NotHttp2 NotHttp2 = Unit {0}
+IsSameCut (Http2 frames tails) (Http2 others other_tails) = (frames.items ≡ others.items) × (tails ≡ other_tails)
+IsSameCut _ _ = ⊥
 
 -- what decides a cut: is the flow started, its bytes and their arrivals
 pub record IsSameFlow (flow other : Flow) : Type 0 where

@@ -6,4 +6,5 @@ pub mod CaptureOrder
 pub mod Preface
 pub mod Cut
 pub mod Law
+pub mod Orderly
 pub mod code

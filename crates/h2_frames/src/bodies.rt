@@ -1,8 +1,10 @@
-ghost use Rattle.std.specs.Prelude.{◌≡◌, ℕ, ◌+◌, ◌-◌, ◌<◌, ◌≤◌, ◌^◌, List, length, IsTrue};
-ghost use Rattle.audit_terms.specs.declared.frames.Body.TheVariants.{Content};
+ghost use Rattle.std.specs.Prelude.{◌≡◌, ℕ, ◌+◌, ◌-◌, ◌<◌, ◌≤◌, ◌^◌, ◌==◌, nat_lt, if◌then◌else◌, List, drop, length, IsTrue};
+ghost use Rattle.audit_terms.specs.declared.frames.Body.TheVariants.{Content, GoAway, Headers, Priority, PushPromise, Unreadable, WindowUpdate};
+ghost use Rattle.audit_terms.specs.declared.kinds.Kind.TheVariants.{BadPriority};
 ghost use Rattle.audit_terms.specs.Frame.{promised_in};
 ghost use Rattle.audit_terms.specs.FrameType.{has_flag};
-ghost use Rattle.h2_frames.specs.Body.{body_of, data_body, field_block_body, go_away_body, headers_body, of_length, priority_body, push_promise_body, settings_body, window_update_body, wrong_size};
+ghost use Rattle.h2_frames.specs.Body.{body_of, is_padded, of_length, padded_body, priority_flag, settings_body, wrong_size};
+ghost use Rattle.h2_frames.specs.Header.{number_of_31_bits};
 
 use crate::headers::number_of_31_bits;
 use crate::settings::{SETTING_LENGTH, settings_of};
@@ -64,30 +66,12 @@ fn of_length(size: usize, payload: &[u8], body: Body) -> Body
     }
 }
 
-/// DATA (RFC 9113, 6.1).
-fn data_body(flags: u8, payload: &[u8]) -> Body
-    requires { length payload.now < 2 ^ 24 }
-    ensures exact { result ≡ data_body flags payload.now }
-    ensures promised { promised_in result < 2 ^ 31 }
-{
-    if !has_flag(flags, PADDED_FLAG) {
-        return Body::Content;
-    }
-    match payload.first() {
-        None => wrong_size(payload),
-        Some(&padding) if padding as usize >= payload.len() => {
-            Body::Unreadable(Kind::BadPadding, padding as u32)
-        }
-        Some(_) => Body::Content,
-    }
-}
-
-/// A field block behind the length of its padding, where there is padding, and `fields` further bytes.
-fn field_block_body(flags: u8, payload: &[u8], fields: usize, body: Body) -> Body
+/// What stands behind the length of the padding, where there is padding, and is `fields` bytes long or longer.
+fn padded_body(flags: u8, payload: &[u8], fields: usize, body: Body) -> Body
     requires payload { length payload.now < 2 ^ 24 }
     requires fields { fields < 2 ^ 24 }
     requires promised { promised_in body < 2 ^ 31 }
-    ensures exact { result ≡ field_block_body flags payload.now fields body }
+    ensures exact { result ≡ padded_body flags payload.now fields body }
     ensures promised { promised_in result < 2 ^ 31 }
 {
     if !has_flag(flags, PADDED_FLAG) {
@@ -109,17 +93,17 @@ fn field_block_body(flags: u8, payload: &[u8], fields: usize, body: Body) -> Bod
 /// HEADERS (RFC 9113, 6.2).
 fn headers_body(flags: u8, payload: &[u8]) -> Body
     requires { length payload.now < 2 ^ 24 }
-    ensures exact { result ≡ headers_body flags payload.now }
+    ensures exact { result ≡ padded_body flags payload.now (if has_flag flags priority_flag then 5 else 0) Headers }
     ensures promised { promised_in result < 2 ^ 31 }
 {
     let fields = if has_flag(flags, PRIORITY_FLAG) { 5 } else { 0 };
-    field_block_body(flags, payload, fields, Body::Headers)
+    padded_body(flags, payload, fields, Body::Headers)
 }
 
 /// PRIORITY (RFC 9113, 6.3).
 fn priority_body(payload: &[u8]) -> Body
     requires { length payload.now < 2 ^ 24 }
-    ensures exact { result ≡ priority_body payload.now }
+    ensures exact { result ≡ (if length payload.now == 5 then Priority else Unreadable BadPriority (length payload.now)) }
     ensures promised { promised_in result < 2 ^ 31 }
 {
     if payload.len() == 5 {
@@ -147,7 +131,8 @@ fn settings_body(flags: u8, payload: &[u8]) -> Body
 /// PUSH_PROMISE (RFC 9113, 6.6).
 fn push_promise_body(flags: u8, payload: &[u8]) -> Body
     requires { length payload.now < 2 ^ 24 }
-    ensures exact { result ≡ push_promise_body flags payload.now }
+    ensures exact { result ≡ padded_body flags payload.now 4
+        (PushPromise (number_of_31_bits (drop (if is_padded flags then 1 else 0) payload.now))) }
     ensures promised { promised_in result < 2 ^ 31 }
 {
     let padding = if has_flag(flags, PADDED_FLAG) { 1 } else { 0 };
@@ -155,13 +140,13 @@ fn push_promise_body(flags: u8, payload: &[u8]) -> Body
         return wrong_size(payload);
     }
     let promised = number_of_31_bits(&payload[padding..]);
-    field_block_body(flags, payload, 4, Body::PushPromise(promised))
+    padded_body(flags, payload, 4, Body::PushPromise(promised))
 }
 
 /// GOAWAY (RFC 9113, 6.8).
 fn go_away_body(payload: &[u8]) -> Body
     requires { length payload.now < 2 ^ 24 }
-    ensures exact { result ≡ go_away_body payload.now }
+    ensures exact { result ≡ (if nat_lt (length payload.now) 8 then wrong_size payload.now else GoAway) }
     ensures promised { promised_in result < 2 ^ 31 }
 {
     if payload.len() < 8 {
@@ -174,7 +159,7 @@ fn go_away_body(payload: &[u8]) -> Body
 /// WINDOW_UPDATE (RFC 9113, 6.9).
 fn window_update_body(payload: &[u8]) -> Body
     requires { length payload.now < 2 ^ 24 }
-    ensures exact { result ≡ window_update_body payload.now }
+    ensures exact { result ≡ of_length 4 payload.now (WindowUpdate (number_of_31_bits payload.now)) }
     ensures promised { promised_in result < 2 ^ 31 }
 {
     if payload.len() == 4 {
@@ -200,7 +185,7 @@ pub(crate) fn body_of(code: u8, flags: u8, payload: &[u8]) -> Body
     ensures promised { promised_in result < 2 ^ 31 }
 {
     match code {
-        DATA => data_body(flags, payload),
+        DATA => padded_body(flags, payload, 0, Body::Content),
         HEADERS => headers_body(flags, payload),
         PRIORITY => priority_body(payload),
         RST_STREAM => of_length(4, payload, Body::RstStream),

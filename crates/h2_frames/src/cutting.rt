@@ -1,7 +1,10 @@
 ghost use Rattle.std.specs.Prelude.{◌≡◌, ℕ, ◌+◌, ◌<◌, ◌^◌, List, length, IsTrue, IfOk, OnErr};
-ghost use Rattle.tcp_streams.specs.Arrivals.{IsOrderly};
+ghost use Rattle.tcp_streams.specs.Orderly.{IsOrderly};
 ghost use Rattle.tcp_streams.specs.Bytes.{bytes_of};
-ghost use Rattle.h2_frames.specs.Cut.{HasOrderlyFrames, IsCut, IsHttp2Cut, IsSameCut};
+ghost use Rattle.h2_frames.specs.Cut.{IsCut};
+ghost use Rattle.h2_frames.specs.Law.{IsSameCut};
+ghost use Rattle.h2_frames.specs.Orderly.{HasOrderlyFrames};
+ghost use Rattle.h2_frames.specs.code.Steps.{IsHttp2Cut};
 ghost use Rattle.h2_frames.specs.declared.connections.Cut.{Cut};
 ghost use Rattle.h2_frames.specs.Preface.{BeginsWithPreface};
 ghost use Rattle.h2_frames.specs.code.Pieces.{bytes_of as bytes_left, IsCounted};

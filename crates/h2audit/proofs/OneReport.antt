@@ -17,8 +17,7 @@ use Rattle.audit_terms.specs.Finding.{shown as shown_of}
 use Rattle.audit_terms.specs.Pass.{pass}
 use Rattle.h2_frames.specs.declared.connections.Cut.{Cut}
 use Rattle.h2_frames.specs.declared.connections.Cut.TheVariants.{Http2, NotHttp2, NoPreface, NoHandshake}
-use Rattle.h2_frames.specs.Cut.{IsSameCut}
-use Rattle.h2_frames.specs.Law.{IsSameFlow}
+use Rattle.h2_frames.specs.Law.{IsSameCut, IsSameFlow}
 use Rattle.h2_frames.proofs.Uniqueness.{cut-unique}
 use Rattle.packet_heads.specs.declared.packets.Packet.{Packet}
 use Rattle.packet_heads.specs.declared.packets.Segment.{Segment}
@@ -29,10 +28,11 @@ use Rattle.tcp_streams.specs.declared.members.Connection.{Connection}
 use Rattle.tcp_streams.specs.declared.streams.Flow.{Flow}
 use Rattle.tcp_streams.specs.Bytes.{bytes_of, joined}
 use Rattle.tcp_streams.specs.Members.{segments_of}
-use Rattle.tcp_streams.specs.Membership.{Membership, connections_of, membership, strays_of}
-use Rattle.tcp_streams.specs.Packets.{past_of}
+use Rattle.tcp_streams.specs.Membership.{strays_of}
+use Rattle.tcp_streams.specs.code.Past.{Membership, connections_of, membership, past_of}
 use Rattle.tcp_streams.specs.Pair.{is_endpoint}
 use Rattle.tcp_streams.specs.Sequence.{source}
+use Rattle.tcp_streams.proofs.Belongings.{connections-shown}
 use Rattle.tcp_streams.proofs.UniqueFlow.{IsFlow-unique}
 use Rattle.h2audit.specs.Audited.{AreAudited, IsAudited, IsFlowFrom, findings_of, has_fault}
 use Rattle.audit_terms.specs.Kind.{is_fault}
@@ -164,7 +164,7 @@ one_audit shown capture packets (c ∷ cs) (d ∷ ds) (a ∷ xs) (b ∷ ys) m h 
 
 abbrev text_by : Bool → List Record → Option ℕ → List Packet → List Section → List ℕ
 text_by shown rows cut packets sections =
-    (capture_line rows packets ++ record_lines packets ++ cut_record_line cut ++ unopened_lines (strays_of (past_of packets)))
+    (capture_line rows packets ++ record_lines packets ++ cut_record_line cut ++ unopened_lines (strays_of packets))
     ++ sections_text shown 1 sections
 
 abbrev verdict_by : Bool → Verdict
@@ -175,7 +175,9 @@ one_report_lem bytes shown text other verdict judged x y =
     let reading = one_reading_lem bytes x.found y.found x.reading y.reading in
     let decide : ℕ → List Record → List Packet = λ link rows. packet_decisions link rows bytes in
     let packets = ap (λ (link : ℕ). decide link x.found.rows.items) reading.0 ∙ ap (decide y.found.link) reading.1 in
-    let opened = x.report.connections ∙ ap (λ (p : List Packet). connections_of (past_of p)) packets ∙ sym y.report.connections in
+    let opened = connections-shown (decide x.found.link x.found.rows.items) x.report.opened x.report.connections
+    ∙ ap (λ (p : List Packet). connections_of (past_of p)) packets
+    ∙ sym (connections-shown (decide y.found.link y.found.rows.items) y.report.opened y.report.connections) in
     let audits = subst (λ (p : List Packet). AreAudited shown bytes p y.report.opened y.report.audited) (sym packets) y.report.audits in
     let same = one_audit shown bytes (decide x.found.link x.found.rows.items) x.report.opened y.report.opened x.report.audited y.report.audited opened x.report.audits audits in
     let sections = sections_of x.report.opened x.report.audited in (

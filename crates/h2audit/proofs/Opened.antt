@@ -4,8 +4,9 @@ use Rattle.std.proofs.lemmas.List.{length-map}
 use Rattle.packet_heads.specs.declared.packets.Packet.{Packet}
 use Rattle.packet_heads.specs.declared.packets.Segment.{Segment}
 use Rattle.tcp_streams.specs.declared.members.Connection.{Connection}
-use Rattle.tcp_streams.specs.Membership.{with_if, opens, openings, connection_of, connections_of, membership}
-use Rattle.tcp_streams.specs.Packets.{past_of, past_after}
+use Rattle.tcp_streams.proofs.Belongings.{connections-shown}
+use Rattle.tcp_streams.specs.Membership.{AreConnections, with_if}
+use Rattle.tcp_streams.specs.code.Past.{opens, openings, connection_of, connections_of, membership, past_of, past_after}
 use Rattle.packet_heads.specs.declared.packets.Packet.TheVariants.{Segment as Carried, Skipped, Refused}
 
 with-one : (test : Bool) (before : List Segment) (s : Segment) → length (with_if test before s) ≤ length before + 1
@@ -26,9 +27,9 @@ past-few past (Skipped _ ∷ rest) = let later = past-few past rest in omega ari
 past-few past (Refused _ ∷ rest) = let later = past-few past rest in omega arith
 
 pub opened-few : (packets : List Packet) (opened : List Connection)
-    → map membership opened ≡ connections_of (past_of packets) → length opened ≤ length packets
-opened-few packets opened is =
-    let same : length (map membership opened) ≡ length (connections_of (past_of packets)) = ap length is in
+    → AreConnections packets opened → length opened ≤ length packets
+opened-few packets opened are =
+    let same : length (map membership opened) ≡ length (connections_of (past_of packets)) = ap length (connections-shown packets opened are) in
     let mine = length-map opened membership in
     let theirs = length-map (openings (past_of packets)) (connection_of (past_of packets)) in
     let openings = openings-few (past_of packets) in

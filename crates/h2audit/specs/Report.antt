@@ -1,13 +1,12 @@
 -- The report of a capture.
-use Rattle.std.specs.Prelude.{◌≡◌, ℕ, Bool, List, map, None}
+use Rattle.std.specs.Prelude.{◌≡◌, ℕ, Bool, List, None}
 use Rattle.pcap_records.specs.Refusal.{refusal}
 use Rattle.pcap_records.specs.Reading.{IsReading}
 use Rattle.pcap_records.specs.declared.capture.Records.{Records}
 use Rattle.packet_heads.specs.Decision.{packet_decisions}
 use Rattle.packet_heads.specs.declared.packets.Packet.{Packet}
 use Rattle.tcp_streams.specs.declared.members.Connection.{Connection}
-use Rattle.tcp_streams.specs.Membership.{connections_of, membership, strays_of}
-use Rattle.tcp_streams.specs.Packets.{past_of}
+use Rattle.tcp_streams.specs.Membership.{AreConnections, strays_of}
 use Rattle.audit_report.specs.declared.audited.Audited.{Audited}
 use Rattle.audit_report.specs.Section.{sections_of}
 use Rattle.audit_report.specs.ReportText.{report_text}
@@ -23,9 +22,9 @@ pub record IsReportOn (bytes : List ℕ) (found : Records) (shown : Bool) (text 
     : Type 0 where
   pub opened : List Connection
   pub audited : List Audited
-  pub connections : map membership opened ≡ connections_of (past_of (packets_of bytes found))
+  pub connections : AreConnections (packets_of bytes found) opened
   pub audits : AreAudited shown bytes (packets_of bytes found) opened audited
-  pub spelled : text ≡ report_text found (packets_of bytes found) (strays_of (past_of (packets_of bytes found)))
+  pub spelled : text ≡ report_text found (packets_of bytes found) (strays_of (packets_of bytes found))
       (sections_of opened audited) shown
   pub judged : verdict ≡ verdict_of audited
 

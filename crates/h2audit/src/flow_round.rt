@@ -3,7 +3,7 @@
 ghost use Rattle.std.specs.Prelude.{◌≡◌, IfOk};
 ghost use Rattle.audit_terms.specs.declared.sides.Side.{Side};
 ghost use Rattle.audit_terms.specs.declared.sides.Side.TheVariants.{Client, Server};
-ghost use Rattle.h2audit.specs.Audited.{IsConnectionCut};
+ghost use Rattle.h2audit.specs.code.Flows.{IsConnectionCut};
 ghost use Rattle.h2audit.specs.code.Flows.{AreFlows, AreSources, IsSideFlow};
 
 use crate::room::{begin_room, finish_room};
@@ -121,7 +121,7 @@ impl<R: Threads + Sync> Round for FlowRound<'_, R> {
 
     ghost use Rattle.std.specs.Prelude.{◌≡◌, slice_get, Some};
     ghost use Rattle.tcp_streams.specs.declared.members.Connection.{Connection};
-    ghost use Rattle.h2audit.specs.Audited.{IsConnectionCut};
+    ghost use Rattle.h2audit.specs.code.Flows.{IsConnectionCut};
     ghost use Rattle.h2audit.specs.code.Flows.{flow_jobs};
 
     ghost jobs = { λ s. flow_jobs 0 s.opened };

@@ -3,10 +3,9 @@
 //!
 //! [`decode`] answers for one record, [`decode_all`] for each record of a capture in order, by several threads. A
 //! record holds a TCP segment, or something that is passed over and named ([`Skip`]), or a packet that cannot be read
-//! ([`Refusal`]). Twelve lines in a fixed order decide, of which the first that applies counts; they stand in
-//! `specs/Link.antt` and `specs/Ethernet.antt` (lines 1 and 2), `specs/Ipv4.antt` (RFC 791, 3.1: lines 3 to 9) and
-//! `specs/Tcp.antt` (RFC 9293, 3.1: lines 10 and 11), and `specs/Decision.antt` joins them and says what a segment is
-//! (line 12). The contracts say that each answer is exactly this decision, field by field; [`worked_examples`] computes
+//! ([`Refusal`]). Twelve lines in a fixed order decide, of which the first that applies counts. `specs/Decision.antt`
+//! lists them, the twelfth being the segment; `specs/Ethernet.antt`, `specs/Ipv4.antt` (RFC 791, 3.1) and
+//! `specs/Tcp.antt` (RFC 9293, 3.1) have the fields of which they speak. The contracts say that each answer is exactly this decision, field by field; [`worked_examples`] computes
 //! it for headers at each bound, one less and one more, and has the names of the refusals byte for byte.
 //!
 //! - Packet n is record n's, there are fewer than 2^32 of them, and times are below 2^63 nanoseconds.

@@ -1,5 +1,5 @@
 -- Segments with their openings, as the definition folds them, beside what the past shows.
-use Rattle.std.proofs.Common.{◌≡◌, ℕ, Bool, true, false, ◌&&◌, ◌||◌, not, List, [], ◌∷◌, ◌++◌, filter, length, map, Option, None, Some, refl, sym, ap, ap₂, subst, ◌∙◌}
+use Rattle.std.proofs.Common.{◌≡◌, Bool, true, false, ◌&&◌, ◌||◌, not, List, [], ◌∷◌, filter, length, map, Option, None, Some, refl, sym, ap, ap₂, subst, ◌∙◌}
 use Rattle.std.specs.Prelude.{if◌then◌else◌, find, fold, is_none, option_map}
 use Rattle.std.specs.List.{AllZip, filter_map, list_any}
 use Rattle.packet_heads.specs.declared.packets.Packet.{Packet}

@@ -16,3 +16,4 @@ pub mod Sides
 pub mod Steps
 pub mod Turns
 pub mod UniqueFlow
+pub mod Wrapped

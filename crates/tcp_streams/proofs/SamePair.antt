@@ -1,12 +1,12 @@
 -- Two segments are of one pair exactly where they have the same two ends, in one direction or the other.
-use Rattle.std.proofs.Common.{◌≡◌, Bool, true, false, ◌&&◌, ◌||◌, refl, sym, ap, ap₂, ◌∙◌, arith, true≢false}
+use Rattle.std.proofs.Common.{◌≡◌, Bool, true, false, ◌&&◌, ◌||◌, refl, sym, ap₂, ◌∙◌, arith, true≢false}
 use Rattle.std.specs.Prelude.{if◌then◌else◌}
 use Rattle.std.proofs.lemmas.Grind.{common_steps}
 use Rattle.packet_heads.specs.declared.packets.Endpoint.{Endpoint}
 use Rattle.packet_heads.specs.declared.packets.Segment.{Segment}
 use Rattle.tcp_streams.specs.declared.pair.Pair.{Pair}
 use Rattle.tcp_streams.specs.Pair.{is_endpoint, is_same_pair}
-use Rattle.tcp_streams.specs.code.Pairs.{is_before, is_pair, is_of, pair_of, pair_with}
+use Rattle.tcp_streams.specs.code.Pairs.{is_before, is_pair, is_of, pair_of}
 
 same : (a b : Endpoint) → is_endpoint a b ≡ true → a ≡ b
 same a b h = grind (arith, common_steps)

@@ -1,5 +1,6 @@
 pub mod Arrivals
 pub mod Bytes
+pub mod Example
 pub mod Flow
 pub mod Laws
 pub mod Members

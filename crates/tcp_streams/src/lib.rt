@@ -1,7 +1,8 @@
 //! The TCP connections of a capture, and the bytes that each side sent (RFC 9293).
 //!
 //! - [`connections`] says which SYNs open a connection, which segments belong to which opening (RFC 9293, 3.5), and
-//!   which are strays. In `specs/Membership.antt` the segments stand newest first, so that each definition looks back.
+//!   which are strays. `specs/Membership.antt` gives each segment the opening that it belongs to in one fold over the
+//!   capture, and reads connections and strays from there; `specs/code/Past.antt` has what the table keeps of it.
 //! - [`assemble`] gives a side's bytes from its initial sequence number on (RFC 9293, 3.4), whatever order, loss or
 //!   repetition the capture shows: `IsFlow` of `specs/Flow.antt` is the longest covered run from offset 0, its bytes,
 //!   the record at which each byte was there, and a gap where bytes are missing before later ones. Of several records
@@ -37,6 +38,7 @@ mod pieces;
 mod standings;
 mod streams;
 mod table;
+pub mod worked_examples;
 
 pub use assembly::assemble;
 pub use members::{Connection, Connections, Stray};

@@ -2,7 +2,7 @@
 
 ghost use Rattle.std.specs.Prelude.{◌≡◌, ◌+◌, ◌*◌, ◌<◌, ◌^◌, length, IfOk};
 ghost use Rattle.audit_terms.specs.Frame.{IsInRange};
-ghost use Rattle.tcp_streams.specs.Arrivals.{IsOrderly};
+ghost use Rattle.tcp_streams.specs.Orderly.{IsOrderly};
 
 use crate::answer::Answer;
 use audit_report::{capture_lines, connection_lines, finding_line};

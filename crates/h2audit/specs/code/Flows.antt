@@ -1,5 +1,5 @@
 -- The jobs of the first round: one for each connection, which finds nothing.
-use Rattle.std.specs.Prelude.{ℕ, ◌+◌, ◌^◌, ◌<◌, ◌≤◌, Bool, List, [], ◌∷◌, map, length, All}
+use Rattle.std.specs.Prelude.{◌≡◌, ℕ, ◌+◌, ◌^◌, ◌<◌, ◌≤◌, Bool, List, [], ◌∷◌, map, length, All}
 use Rattle.std.specs.List.{zip}
 use Rattle.std.specs.declared.vec.Vec.{Vec}
 use Rattle.std.specs.declared.alloc.Global.{Global}
@@ -7,19 +7,22 @@ use Rattle.audit_terms.specs.declared.frames.Frame.{Frame}
 use Rattle.audit_terms.specs.declared.findings.Finding.{Finding}
 use Rattle.packet_heads.specs.declared.packets.Packet.{Packet}
 use Rattle.packet_heads.specs.Order.{AreNumberedFrom, PayloadsRise, TimesFit}
-use Rattle.tcp_streams.specs.Members.{AreMembers}
+use Rattle.tcp_streams.specs.Orderly.{AreMembers, IsOrderly, payload_sum}
 use Rattle.h2_frames.specs.declared.connections.Cut.{Cut}
 use Rattle.h2_frames.specs.declared.connections.Cut.TheVariants.{Http2}
 use Rattle.job_crew.specs.declared.parts.Part.{Part}
 use Rattle.audit_report.specs.declared.audited.Audited.{Audited}
 use Rattle.h2audit.specs.declared.flow_round.ConnectionCut.{ConnectionCut}
-use Rattle.h2audit.specs.Audited.{IsConnectionCut, IsFlowOf, findings_of}
+use Rattle.h2_frames.specs.Cut.{IsCut}
+use Rattle.h2_frames.specs.Orderly.{HasOrderlyFrames}
+use Rattle.audit_report.specs.FlowLine.{extents_of}
+use Rattle.audit_terms.specs.declared.sides.Sides.{Sides}
+use Rattle.h2audit.specs.Audited.{IsFlowOf, findings_of}
 use Rattle.audit_terms.specs.declared.sides.Side.{Side}
 use Rattle.audit_terms.specs.declared.sides.Side.TheVariants.{Client, Server}
 use Rattle.tcp_streams.specs.declared.streams.Flow.{Flow}
-use Rattle.tcp_streams.specs.Arrivals.{IsOrderly}
 use Rattle.tcp_streams.specs.Bytes.{bytes_of}
-use Rattle.tcp_streams.specs.Members.{payload_sum, side_segments}
+use Rattle.tcp_streams.specs.Members.{side_segments}
 use Rattle.tcp_streams.specs.declared.members.Connection.{Connection}
 use Rattle.split_merge.specs.Board.{Job}
 
@@ -42,6 +45,16 @@ pub record IsSideFlow (capture : List ℕ) (packets : List Packet) (connection :
 abbrev pub AreFlows : List ℕ → List Packet → Connection → Flow × Flow → Type 0
 AreFlows capture packets connection flows =
     IsSideFlow capture packets connection Client flows.0 × IsSideFlow capture packets connection Server flows.1
+
+-- what the two flows of a connection hold, and how far they reach
+pub record IsConnectionCut (capture : List ℕ) (packets : List Packet) (connection : Connection) (made : ConnectionCut)
+    : Type 0 where
+  pub flows : Sides Flow
+  pub client : IsFlowOf capture packets connection Client flows.client
+  pub server : IsFlowOf capture packets connection Server flows.server
+  pub extents : made.extents ≡ extents_of flows.client flows.server
+  pub cut : IsCut flows.client flows.server made.cut
+  pub orderly : HasOrderlyFrames made.cut
 
 abbrev pub flow_jobs : (first : ℕ) → List Connection → List Job
 flow_jobs first [] = []

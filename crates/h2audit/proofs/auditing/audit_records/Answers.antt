@@ -6,8 +6,7 @@ use Rattle.audit_report.specs.ReportText.{report_text}
 use Rattle.packet_heads.specs.declared.packets.Packet.{Packet}
 use Rattle.tcp_streams.specs.declared.members.Connection.{Connection}
 use Rattle.tcp_streams.specs.declared.members.Stray.{Stray}
-use Rattle.tcp_streams.specs.Membership.{connections_of, strays_of}
-use Rattle.tcp_streams.specs.Packets.{past_of}
+use Rattle.tcp_streams.specs.Membership.{AreConnections, strays_of}
 use Rattle.h2audit.specs.Audited.{AreAudited, verdict_of}
 use Rattle.command_line.specs.Choices.{choices}
 use Rattle.h2audit.specs.Report.{packets_of}
@@ -41,17 +40,17 @@ returns g c =
     let given : c.in_ok-packets.packets ≡ packets = c.in_ok-packets.ensures
     ∙ ap (λ (parts : List (Vec Packet Global)). joined (map (λ (part : Vec Packet Global). part.items) parts)) c.as_slice.ensures.value
     ∙ c.in_ok-made.ensures.exact in
-    let strays = c.in_ok-connections.ensures.strays ∙ ap (λ (p : List Packet). strays_of (past_of p)) given in
+    let strays = c.in_ok-connections.ensures.strays ∙ ap strays_of given in
     let by_packets = subst (λ (p : List Packet). AreAudited credits capture p c.as_slice-2.result.now audited) given c.in_ok-audited.ensures.audits in
     record {
       opened = opened;
       audited = audited;
-      connections = c.in_ok-connections.ensures.opened ∙ ap (λ (p : List Packet). connections_of (past_of p)) given;
+      connections = subst (λ (p : List Packet). AreConnections p opened) given c.in_ok-connections.ensures.opened;
       audits = subst (λ (cs : List Connection). AreAudited credits capture packets cs audited) c.as_slice-2.ensures.value by_packets;
       spelled = c.in_ok-text.ensures
           ∙ ap (λ (b : Bool). report_text c.args.found.now c.in_ok-packets.packets c.in_ok-connections.connections.strays.items (sections_of opened c.as_slice-3.result.now) b) c.frames_shown.ensures
           ∙ ap (λ (p : List Packet). report_text c.args.found.now p c.in_ok-connections.connections.strays.items (sections_of opened c.as_slice-3.result.now) credits) given
           ∙ ap (λ (s : List Stray). report_text c.args.found.now packets s (sections_of opened c.as_slice-3.result.now) credits) strays
-          ∙ ap (λ (a : List Audited). report_text c.args.found.now packets (strays_of (past_of packets)) (sections_of opened a) credits) c.as_slice-3.ensures.value;
+          ∙ ap (λ (a : List Audited). report_text c.args.found.now packets (strays_of packets) (sections_of opened a) credits) c.as_slice-3.ensures.value;
       judged = c.verdict_on-verdict.ensures ∙ ap verdict_of c.as_slice-4.ensures.value;
     }

@@ -1,0 +1,5 @@
+use Rattle.tcp_streams.proofs.Belongings.{connections-shown}
+use Rattle.crate_tests.proofs.stream_examples.server_numbers.Goals as goal
+
+pub returns : goal.returns
+returns c = λ found are. connections-shown _ found are
