@@ -14,10 +14,10 @@ use Rattle.h2_frames.specs.Cut.{HasOrderlyFrames}
 use Rattle.job_crew.specs.declared.parts.Part.{Part}
 use Rattle.audit_report.specs.declared.audited.Audited.{Audited}
 use Rattle.h2audit.specs.declared.flow_round.ConnectionCut.{ConnectionCut}
-use Rattle.h2audit.specs.Audited.{IsConnectionCut, AreAudited, findings_of}
+use Rattle.h2audit.specs.Audited.{AreAudited, findings_of}
 use Rattle.tcp_streams.specs.declared.members.Connection.{Connection}
 use Rattle.split_merge.specs.Board.{Job, IsCut}
-use Rattle.h2audit.specs.code.Flows.{flow_jobs, AreConnectionCuts, frames_in, frames_each, found_in, audits_of}
+use Rattle.h2audit.specs.code.Flows.{IsConnectionCut, flow_jobs, AreConnectionCuts, frames_in, frames_each, found_in, audits_of}
 
 pub flow_jobs-length : (first : ℕ) (connections : List Connection)
     → length (flow_jobs first connections) ≡ length connections

@@ -1,6 +1,6 @@
 -- The audit of one connection.
-use Rattle.std.specs.Prelude.{◌≡◌, ℕ, Bool, false, if◌then◌else◌, List, [], ◌∷◌, Option, None, Some, IsTrue}
-use Rattle.std.specs.List.{list_any}
+use Rattle.std.specs.Prelude.{◌≡◌, ℕ, Bool, false, if◌then◌else◌, List, [], Option, None, Some, IsTrue}
+use Rattle.std.specs.List.{AllZip, list_any}
 use Rattle.audit_terms.specs.declared.sides.Side.{Side}
 use Rattle.audit_terms.specs.declared.sides.Side.TheVariants.{Client, Server}
 use Rattle.audit_terms.specs.declared.findings.Finding.{Finding}
@@ -17,11 +17,10 @@ use Rattle.tcp_streams.specs.Members.{initial_of, side_segments}
 use Rattle.tcp_streams.specs.Sequence.{source}
 use Rattle.h2_frames.specs.declared.connections.Cut.{Cut}
 use Rattle.h2_frames.specs.declared.connections.Cut.TheVariants.{Http2}
-use Rattle.h2_frames.specs.Cut.{IsCut, HasOrderlyFrames}
+use Rattle.h2_frames.specs.Cut.{IsCut}
 use Rattle.audit_report.specs.declared.audited.Audited.{Audited}
 use Rattle.audit_report.specs.FlowLine.{extents_of}
 use Rattle.audit_terms.specs.declared.sides.Sides.{Sides}
-use Rattle.h2audit.specs.declared.flow_round.ConnectionCut.{ConnectionCut}
 use Rattle.h2audit.specs.declared.verdict.Verdict.{Verdict}
 use Rattle.h2audit.specs.declared.verdict.Verdict.TheVariants.{Clean, Faults}
 
@@ -43,16 +42,6 @@ abbrev pub findings_of : (credits_shown : Bool) → Cut → List Finding
 findings_of credits_shown (Http2 frames tails) = shown credits_shown (pass frames.items)
 findings_of credits_shown _ = []
 
--- what the two flows of a connection hold, and how far they reach
-pub record IsConnectionCut (capture : List ℕ) (packets : List Packet) (connection : Connection) (made : ConnectionCut)
-    : Type 0 where
-  pub flows : Sides Flow
-  pub client : IsFlowOf capture packets connection Client flows.client
-  pub server : IsFlowOf capture packets connection Server flows.server
-  pub extents : made.extents ≡ extents_of flows.client flows.server
-  pub cut : IsCut flows.client flows.server made.cut
-  pub orderly : HasOrderlyFrames made.cut
-
 -- the audit of a connection: the extents of its two flows, what these hold, and what is found in the frames
 pub record IsAudited (credits_shown : Bool) (capture : List ℕ) (packets : List Packet) (connection : Connection)
     (audited : Audited) : Type 0 where
@@ -65,11 +54,7 @@ pub record IsAudited (credits_shown : Bool) (capture : List ℕ) (packets : List
 
 -- each connection's audit, in order
 abbrev pub AreAudited : (credits_shown : Bool) → List ℕ → List Packet → List Connection → List Audited → Type 0
-AreAudited credits_shown capture packets [] [] = Unit {0}
-AreAudited credits_shown capture packets (connection ∷ connections) (audited ∷ rest) =
-    IsAudited credits_shown capture packets connection audited
-    × AreAudited credits_shown capture packets connections rest
-AreAudited credits_shown capture packets _ _ = ⊥
+AreAudited credits_shown capture packets = AllZip (IsAudited credits_shown capture packets)
 
 -- some finding is a breach of a rule
 abbrev pub has_fault : Audited → Bool

@@ -1,5 +1,5 @@
 -- The report of a capture.
-use Rattle.std.specs.Prelude.{◌≡◌, ℕ, Bool, List, map, None}
+use Rattle.std.specs.Prelude.{◌≡◌, ℕ, Bool, List, map, None, Some}
 use Rattle.pcap_records.specs.Refusal.{refusal}
 use Rattle.pcap_records.specs.Reading.{IsReading}
 use Rattle.pcap_records.specs.declared.capture.Records.{Records}
@@ -9,9 +9,10 @@ use Rattle.tcp_streams.specs.declared.members.Connection.{Connection}
 use Rattle.tcp_streams.specs.Membership.{connections_of, membership, strays_of}
 use Rattle.tcp_streams.specs.Packets.{past_of}
 use Rattle.audit_report.specs.declared.audited.Audited.{Audited}
-use Rattle.audit_report.specs.Section.{sections_of}
 use Rattle.audit_report.specs.ReportText.{report_text}
 use Rattle.h2audit.specs.Audited.{AreAudited, verdict_of}
+use Rattle.h2audit.specs.declared.fault.AuditFault.{AuditFault}
+use Rattle.h2audit.specs.declared.fault.AuditFault.TheVariants as fault
 use Rattle.h2audit.specs.declared.verdict.Verdict.{Verdict}
 
 -- the packets of a capture's records
@@ -26,7 +27,7 @@ pub record IsReportOn (bytes : List ℕ) (found : Records) (shown : Bool) (text 
   pub connections : map membership opened ≡ connections_of (past_of (packets_of bytes found))
   pub audits : AreAudited shown bytes (packets_of bytes found) opened audited
   pub spelled : text ≡ report_text found (packets_of bytes found) (strays_of (past_of (packets_of bytes found)))
-      (sections_of opened audited) shown
+      opened audited shown
   pub judged : verdict ≡ verdict_of audited
 
 -- this text is the report of the capture with these bytes, and this is its verdict
@@ -35,3 +36,9 @@ pub record IsReport (bytes : List ℕ) (shown : Bool) (text : List ℕ) (verdict
   pub taken : refusal bytes ≡ None
   pub reading : IsReading bytes found
   pub report : IsReportOn bytes found shown text verdict
+
+-- why these bytes have no report: they are refused, by this name; or they are not, and memory was wanting
+abbrev pub IsNoReport : List ℕ → AuditFault → Type 0
+IsNoReport bytes (fault.Pcap e) = refusal bytes ≡ Some e
+IsNoReport bytes fault.OutOfMemory = refusal bytes ≡ None
+IsNoReport bytes _ = ⊥

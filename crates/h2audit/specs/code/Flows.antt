@@ -1,5 +1,5 @@
 -- The jobs of the first round: one for each connection, which finds nothing.
-use Rattle.std.specs.Prelude.{ℕ, ◌+◌, ◌^◌, ◌<◌, ◌≤◌, Bool, List, [], ◌∷◌, map, length, All}
+use Rattle.std.specs.Prelude.{◌≡◌, ℕ, ◌+◌, ◌^◌, ◌<◌, ◌≤◌, Bool, List, [], ◌∷◌, map, length, All}
 use Rattle.std.specs.List.{zip}
 use Rattle.std.specs.declared.vec.Vec.{Vec}
 use Rattle.std.specs.declared.alloc.Global.{Global}
@@ -13,7 +13,10 @@ use Rattle.h2_frames.specs.declared.connections.Cut.TheVariants.{Http2}
 use Rattle.job_crew.specs.declared.parts.Part.{Part}
 use Rattle.audit_report.specs.declared.audited.Audited.{Audited}
 use Rattle.h2audit.specs.declared.flow_round.ConnectionCut.{ConnectionCut}
-use Rattle.h2audit.specs.Audited.{IsConnectionCut, IsFlowOf, findings_of}
+use Rattle.audit_report.specs.FlowLine.{extents_of}
+use Rattle.audit_terms.specs.declared.sides.Sides.{Sides}
+use Rattle.h2_frames.specs.Cut.{IsCut, HasOrderlyFrames}
+use Rattle.h2audit.specs.Audited.{IsFlowOf, findings_of}
 use Rattle.audit_terms.specs.declared.sides.Side.{Side}
 use Rattle.audit_terms.specs.declared.sides.Side.TheVariants.{Client, Server}
 use Rattle.tcp_streams.specs.declared.streams.Flow.{Flow}
@@ -47,6 +50,16 @@ abbrev pub flow_jobs : (first : ℕ) → List Connection → List Job
 flow_jobs first [] = []
 flow_jobs first (connection ∷ connections) =
     record { connection = first; findings = [] } ∷ flow_jobs (first + 1) connections
+
+-- what the two flows of a connection hold, and how far they reach
+pub record IsConnectionCut (capture : List ℕ) (packets : List Packet) (connection : Connection) (made : ConnectionCut)
+    : Type 0 where
+  pub flows : Sides Flow
+  pub client : IsFlowOf capture packets connection Client flows.client
+  pub server : IsFlowOf capture packets connection Server flows.server
+  pub extents : made.extents ≡ extents_of flows.client flows.server
+  pub cut : IsCut flows.client flows.server made.cut
+  pub orderly : HasOrderlyFrames made.cut
 
 -- each part is what the flows of its connection hold
 abbrev pub AreConnectionCuts : List ℕ → List Packet → List Connection → List (Part ConnectionCut) → Type 0

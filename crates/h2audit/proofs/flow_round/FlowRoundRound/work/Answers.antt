@@ -4,7 +4,7 @@ use Rattle.std.proofs.lemmas.List.Elements.{All-get_or}
 use Rattle.std.specs.List.{slice_get}
 use Rattle.tcp_streams.specs.declared.members.Connection.{Connection}
 use Rattle.tcp_streams.specs.Members.{AreMembers}
-use Rattle.h2audit.specs.Audited.{IsConnectionCut}
+use Rattle.h2audit.specs.code.Flows.{IsConnectionCut}
 use Rattle.h2audit.proofs.Flows.{flow_jobs-at, flow_jobs-length, nothing-cut, get-is}
 use Rattle.h2audit.proofs.flow_round.FlowRoundRound.work.Goals as goal
 
