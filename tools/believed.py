@@ -15,7 +15,7 @@ import pathlib
 import re
 import sys
 
-ROOTS = ["parted_list.Parts", "h2audit.Report", "h2audit.Run", "h2audit.Account", "byte_accounts.Bytes", "h2audit.Program", "command_line.Asked"]
+ROOTS = ["parted_list.Parts", "h2audit.Report", "h2audit.Account", "byte_accounts.Bytes", "h2audit.Program", "command_line.Asked"]
 TOP = pathlib.Path(__file__).resolve().parent.parent
 CRATES = TOP / "crates"
 IMPORT = re.compile(r"^[ \t]*(?:pub[ \t]+)?use[ \t]+Rattle\.(\w+)\.specs\.(\w+(?:\.\w+)*)(?:[ \t]+as[ \t]+\w+)?(?:\.?\{[^}]*\})?", re.M)

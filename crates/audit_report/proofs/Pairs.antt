@@ -1,7 +1,7 @@
 -- Going down the connections and what was found in them, side by side.
 use Rattle.std.proofs.Common.{◌≡◌, ℕ, ◌+◌, ◌<◌, Bool, List, ◌∷◌, ◌++◌, drop, length, get_or, ◌∙◌, ap, sym, append_assoc, refl}
 use Rattle.std.proofs.lemmas.List.{drop_more}
-use Rattle.audit_report.specs.Section.{section_of, sections_of, section_text, sections_text}
+use Rattle.audit_report.specs.Section.{connection_text, findings_text, sections_text}
 use Rattle.audit_report.specs.declared.audited.Audited.{Audited}
 use Rattle.tcp_streams.specs.declared.members.Connection.{Connection}
 
@@ -13,8 +13,9 @@ from_here xs i x l here = drop_more xs i x l ∙ ap (λ y. y ∷ drop (i + 1) xs
 -- the lines from the index of a connection
 pub sections_from_here : (shown : Bool) (k i : ℕ) (connections : List Connection) (audited : List Audited) (c : Connection) (a : Audited)
     → i < length connections → i < length audited → c ≡ get_or connections i c → a ≡ get_or audited i a
-    → sections_text shown k (sections_of (drop i connections) (drop i audited))
-    ≡ section_text shown k (section_of c a) ++ sections_text shown (k + 1) (sections_of (drop (i + 1) connections) (drop (i + 1) audited))
+    → sections_text shown k (drop i connections) (drop i audited)
+    ≡ (connection_text k c a.extents a.cut ++ findings_text shown a.cut a.findings.items)
+    ++ sections_text shown (k + 1) (drop (i + 1) connections) (drop (i + 1) audited)
 sections_from_here shown k i connections audited c a lc la here there =
     rw (from_here connections i c lc here, from_here audited i a la there) refl
 

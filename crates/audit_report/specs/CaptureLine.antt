@@ -32,15 +32,12 @@ abbrev pub is_refused : Packet → Bool
 is_refused (Refused _) = true
 is_refused _ = false
 
--- ` segments B snapped C not-ipv4 D fragments E not-tcp F refused G`; B counts the snapped ones too
-abbrev pub packet_counts : List Packet → List ℕ
-packet_counts packets = field (codes " segments ") (count_by is_segment packets)
+-- `capture records A segments B snapped C not-ipv4 D fragments E not-tcp F refused G`; B counts the snapped ones too
+abbrev pub capture_line : List Record → List Packet → List ℕ
+capture_line rows packets = line (field (codes "capture records ") (length rows)
+    ++ field (codes " segments ") (count_by is_segment packets)
     ++ field (codes " snapped ") (count_by is_snapped packets)
     ++ field (codes " not-ipv4 ") (count_by is_not_ipv4 packets)
     ++ field (codes " fragments ") (count_by is_fragment packets)
     ++ field (codes " not-tcp ") (count_by is_not_tcp packets)
-    ++ field (codes " refused ") (count_by is_refused packets)
-
--- `capture records A` and those counts
-abbrev pub capture_line : List Record → List Packet → List ℕ
-capture_line rows packets = line (field (codes "capture records ") (length rows) ++ packet_counts packets)
+    ++ field (codes " refused ") (count_by is_refused packets))

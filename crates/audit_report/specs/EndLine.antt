@@ -5,19 +5,13 @@ use Rattle.audit_terms.specs.declared.findings.Finding.{Finding}
 use Rattle.audit_terms.specs.Finding.{stops}
 use Rattle.audit_terms.specs.Place.{place_number}
 
--- the last finding, if there is one
-abbrev pub last_of : List Finding → Option Finding
-last_of findings = slice_get findings (length findings - 1)
-
--- `audit stopped at frame N`
-abbrev pub stop_line : (number : ℕ) → List ℕ
-stop_line number = line (field (codes "audit stopped at frame ") number)
-
 -- after a connection error its frame, else all frames
 abbrev pub end_line_after : Option Finding → List ℕ
 end_line_after None = line (codes "audit of all frames")
 end_line_after (Some last) =
-    if stops last then stop_line (place_number last.place) else line (codes "audit of all frames")
+    if stops last then line (field (codes "audit stopped at frame ") (place_number last.place))
+    else line (codes "audit of all frames")
 
+-- by the last finding, if there is one
 abbrev pub end_line : List Finding → List ℕ
-end_line findings = end_line_after (last_of findings)
+end_line findings = end_line_after (slice_get findings (length findings - 1))

@@ -14,20 +14,13 @@ use Rattle.split_merge.specs.FrameLookup.{frame_numbered, nanos_at}
 abbrev pub record_at : List Frame → ℕ → ℕ
 record_at frames number = unwrap_or (option_map (λ (frame : Frame). frame.rec) (frame_numbered frames number)) 0
 
--- `frame N record R time T`
-abbrev pub moment_text : List Frame → ℕ → List ℕ
-moment_text frames number = field (codes "frame ") number
-    ++ field (codes " record ") (record_at frames number)
-    ++ field (codes " time ") (nanos_at frames number)
-
--- ` SIDE KIND stream S value V`
-abbrev pub said_text : Finding → List ℕ
-said_text finding = codes " " ++ side_name finding.side ++ codes " " ++ kind_name finding.kind
-    ++ field (codes " stream ") (place_stream finding.place) ++ codes " value " ++ signed_decimal finding.value
-
 -- `frame N record R time T SIDE KIND stream S value V`, record and time being those of the frame
 abbrev pub finding_line : List Frame → Finding → List ℕ
-finding_line frames finding = line (moment_text frames (place_number finding.place) ++ said_text finding)
+finding_line frames finding = let number = place_number finding.place in
+    line (field (codes "frame ") number ++ field (codes " record ") (record_at frames number)
+    ++ field (codes " time ") (nanos_at frames number) ++ codes " " ++ side_name finding.side
+    ++ codes " " ++ kind_name finding.kind ++ field (codes " stream ") (place_stream finding.place)
+    ++ codes " value " ++ signed_decimal finding.value)
 
 -- the line of a finding that is shown, nothing for another: credits are told only where the reader asks for them
 abbrev pub shown_line : (credits_shown : Bool) → List Frame → Finding → List ℕ

@@ -4,7 +4,10 @@ use Rattle.std.specs.Fmt.{decimal}
 use Rattle.audit_report.specs.Line.{line, field}
 use Rattle.audit_terms.specs.declared.sides.Side.{Side}
 use Rattle.audit_terms.specs.Side.{side_name}
+use Rattle.audit_terms.specs.Sides.{side_of}
 use Rattle.audit_terms.specs.declared.sides.Sides.{Sides}
+use Rattle.h2_frames.specs.declared.connections.Cut.{Cut}
+use Rattle.h2_frames.specs.declared.connections.Cut.TheVariants.{Http2}
 use Rattle.audit_report.specs.declared.extents.Extent.{Extent}
 use Rattle.tcp_streams.specs.declared.streams.Flow.{Flow}
 use Rattle.tcp_streams.specs.Bytes.{bytes_of}
@@ -16,6 +19,11 @@ extent_of flow = record { size = length (bytes_of flow); gap = flow.gap }
 -- the extents of both sides' flows
 abbrev pub extents_of : (client server : Flow) → Sides Extent
 extents_of client server = record { client = extent_of client; server = extent_of server }
+
+-- how many bytes of a side are left over after its last frame; 0 where the connection is not HTTP/2
+abbrev pub tail_of : Side → Cut → ℕ
+tail_of side (Http2 frames tails) = side_of side tails
+tail_of side _ = 0
 
 abbrev pub gap_text : Option ℕ → List ℕ
 gap_text None = codes "none"

@@ -1,7 +1,6 @@
 pub mod CaptureLine
 pub mod CaptureLines
 pub mod ConnectionLine
-pub mod Contents
 pub mod CutRecordLine
 pub mod EndLine
 pub mod Endpoint

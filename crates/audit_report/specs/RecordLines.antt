@@ -17,7 +17,3 @@ record_line number _ = []
 abbrev pub record_lines_from : ℕ → List Packet → List ℕ
 record_lines_from number [] = []
 record_lines_from number (packet ∷ packets) = record_line number packet ++ record_lines_from (number + 1) packets
-
--- records are numbered from 1
-abbrev pub record_lines : List Packet → List ℕ
-record_lines packets = record_lines_from 1 packets

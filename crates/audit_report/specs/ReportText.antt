@@ -1,12 +1,14 @@
 -- The report of a capture.
 use Rattle.std.specs.Prelude.{Bool, List, ◌++◌, ℕ}
 use Rattle.audit_report.specs.CaptureLines.{capture_text}
-use Rattle.audit_report.specs.Section.{Section, sections_text}
+use Rattle.audit_report.specs.Section.{sections_text}
+use Rattle.audit_report.specs.declared.audited.Audited.{Audited}
 use Rattle.packet_heads.specs.declared.packets.Packet.{Packet}
 use Rattle.pcap_records.specs.declared.capture.Records.{Records}
+use Rattle.tcp_streams.specs.declared.members.Connection.{Connection}
 use Rattle.tcp_streams.specs.declared.members.Stray.{Stray}
 
 -- what the capture holds, and then its connections in order of opening, numbered from 1
-abbrev pub report_text : Records → List Packet → List Stray → List Section → (credits_shown : Bool) → List ℕ
-report_text records packets strays sections credits_shown =
-    capture_text records packets strays ++ sections_text credits_shown 1 sections
+abbrev pub report_text : Records → List Packet → List Stray → List Connection → List Audited → (credits_shown : Bool) → List ℕ
+report_text records packets strays connections audited credits_shown =
+    capture_text records packets strays ++ sections_text credits_shown 1 connections audited

@@ -1,1 +1,4 @@
+pub mod Findings
+pub mod Packets
+pub mod Roles
 pub mod Tally

@@ -1,7 +1,8 @@
 ghost use Rattle.std.specs.Prelude.{◌≡◌, ◌++◌, OnOk, IfOk};
 ghost use Rattle.std.specs.String.{string_bytes};
-ghost use Rattle.audit_report.specs.CaptureLine.{capture_line, packet_counts};
+ghost use Rattle.audit_report.specs.CaptureLine.{capture_line};
 ghost use Rattle.audit_report.specs.CutRecordLine.{cut_record_line};
+ghost use Rattle.audit_report.specs.code.Packets.{packet_counts};
 ghost use Rattle.audit_report.specs.CaptureLines.{capture_text};
 
 use crate::numbered::push_record_lines;

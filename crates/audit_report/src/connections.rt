@@ -2,10 +2,10 @@ ghost use Rattle.std.specs.Prelude.{◌≡◌, ◌++◌, OnOk, IfOk};
 ghost use Rattle.std.specs.String.{string_bytes};
 ghost use Rattle.packet_heads.specs.declared.packets.Endpoint.{Endpoint};
 ghost use Rattle.audit_terms.specs.declared.sides.Side.{Side};
-ghost use Rattle.audit_report.specs.ConnectionLine.{contents_text, roles_text, heading_text, connection_line};
-ghost use Rattle.audit_report.specs.Contents.{contents_of, tail_of};
-ghost use Rattle.audit_report.specs.FlowLine.{extents_of, gap_text, flow_line};
+ghost use Rattle.audit_report.specs.ConnectionLine.{contents_text, heading_text, connection_line};
+ghost use Rattle.audit_report.specs.FlowLine.{extents_of, gap_text, flow_line, tail_of};
 ghost use Rattle.audit_report.specs.Section.{connection_text};
+ghost use Rattle.audit_report.specs.code.Roles.{roles_text};
 ghost use Rattle.tcp_streams.specs.Orderly.{IsOrderly};
 
 use crate::endpoints::push_endpoint;
@@ -28,8 +28,8 @@ pub fn connection_lines(
 ) -> Result<Vec<u8>, AllocError>
     requires client { IsOrderly client.now }
     requires server { IsOrderly server.now }
-    ensures { IfOk result (λ text. text.items ≡ connection_text k connection.now.client connection.now.server
-        connection.now.rec (extents_of client.now server.now) (contents_of cut.now)) }
+    ensures { IfOk result (λ text. text.items ≡ connection_text k connection.now
+        (extents_of client.now server.now) cut.now) }
 {
     let mut out = String::new(alloc);
     let extents = Extent::of_both(client, server);
@@ -46,8 +46,8 @@ pub fn push_connection_text(
     extents: &Sides<Extent>,
     cut: &Cut,
 ) -> Result<(), AllocError>
-    ensures { OnOk result (string_bytes out.new ≡ string_bytes out.old ++ connection_text k connection.now.client
-        connection.now.server connection.now.rec extents.now (contents_of cut.now)) }
+    ensures { OnOk result (string_bytes out.new ≡ string_bytes out.old ++ connection_text k connection.now
+        extents.now cut.now) }
 {
     push_connection_line(out, k, connection, cut)?;
     push_flow_line(out, Side::Client, extents.client, tail(cut, Side::Client))?;
@@ -61,8 +61,7 @@ fn push_connection_line(
     connection: &Connection,
     cut: &Cut,
 ) -> Result<(), AllocError>
-    ensures { OnOk result (string_bytes out.new ≡ string_bytes out.old ++ connection_line k connection.now.client
-        connection.now.server connection.now.rec (contents_of cut.now)) }
+    ensures { OnOk result (string_bytes out.new ≡ string_bytes out.old ++ connection_line k connection.now cut.now) }
 {
     push_heading(out, k, connection)?;
     push_word(out, " ")?;
@@ -72,15 +71,14 @@ fn push_connection_line(
 
 #[tactic(auto, using(crate::proofs::Joins::joins))]
 fn push_heading(out: &mut String, k: u64, connection: &Connection) -> Result<(), AllocError>
-    ensures { OnOk result (string_bytes out.new ≡ string_bytes out.old
-        ++ heading_text k connection.now.client connection.now.server connection.now.rec) }
+    ensures { OnOk result (string_bytes out.new ≡ string_bytes out.old ++ heading_text k connection.now) }
 {
     push_field(out, "connection ", k)?;
     push_roles(out, connection.client, connection.server)?;
     push_field(out, " record ", connection.rec as u64)
 }
 
-#[tactic(auto, using(crate::proofs::Joins::joins), unfolding(crate::specs::ConnectionLine::roles_text))]
+#[tactic(auto, using(crate::proofs::Joins::joins), unfolding(crate::specs::code::Roles::roles_text))]
 fn push_roles(out: &mut String, client: Endpoint, server: Endpoint) -> Result<(), AllocError>
     ensures { OnOk result (string_bytes out.new ≡ string_bytes out.old ++ roles_text client server) }
 {
@@ -91,7 +89,7 @@ fn push_roles(out: &mut String, client: Endpoint, server: Endpoint) -> Result<()
 }
 
 fn push_contents(out: &mut String, cut: &Cut) -> Result<(), AllocError>
-    ensures { OnOk result (string_bytes out.new ≡ string_bytes out.old ++ contents_text (contents_of cut.now)) }
+    ensures { OnOk result (string_bytes out.new ≡ string_bytes out.old ++ contents_text cut.now) }
 {
     match cut {
         Cut::Http2 { frames, .. } => push_field(out, "http2 frames ", frames.len() as u64),
@@ -125,7 +123,7 @@ fn push_gap(out: &mut String, gap: Option<u64>) -> Result<(), AllocError>
 
 // How many bytes of the side are left over after its last frame.
 fn tail(cut: &Cut, side: Side) -> u32
-    ensures { result ≡ tail_of side (contents_of cut.now) }
+    ensures { result ≡ tail_of side cut.now }
 {
     match cut {
         Cut::Http2 { tails, .. } => tails.of(side),

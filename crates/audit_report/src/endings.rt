@@ -1,7 +1,8 @@
-ghost use Rattle.std.specs.Prelude.{◌≡◌, ◌++◌, OnOk};
+ghost use Rattle.std.specs.Prelude.{◌≡◌, ◌++◌, OnOk, codes};
 ghost use Rattle.std.specs.String.{string_bytes};
+ghost use Rattle.audit_report.specs.Line.{field, line};
 ghost use Rattle.audit_report.specs.StallLine.{stall_end_text, stall_line, stall_lines};
-ghost use Rattle.audit_report.specs.EndLine.{stop_line, end_line_after, end_line};
+ghost use Rattle.audit_report.specs.EndLine.{end_line_after, end_line};
 
 use crate::words::{push_field, push_signed, push_word};
 use audit_terms::Finding;
@@ -61,7 +62,8 @@ fn push_end_line_after(out: &mut String, last: Option<Finding>) -> Result<(), Al
 
 #[tactic(auto, using(crate::proofs::Joins::joins))]
 fn push_stop_line(out: &mut String, number: u32) -> Result<(), AllocError>
-    ensures { OnOk result (string_bytes out.new ≡ string_bytes out.old ++ stop_line number) }
+    ensures { OnOk result (string_bytes out.new ≡ string_bytes out.old
+        ++ line (field (codes "audit stopped at frame ") number)) }
 {
     push_field(out, "audit stopped at frame ", number as u64)?;
     push_word(out, "\n")

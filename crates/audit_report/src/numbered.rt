@@ -1,7 +1,7 @@
 ghost use Rattle.std.specs.Prelude.{◌≡◌, ◌++◌, OnOk};
 ghost use Rattle.std.specs.String.{string_bytes};
 ghost use Rattle.packet_heads.specs.declared.packets.Refusal.{Refusal};
-ghost use Rattle.audit_report.specs.RecordLines.{record_line, record_lines};
+ghost use Rattle.audit_report.specs.RecordLines.{record_line, record_lines_from};
 
 use crate::words::{push_field, push_word};
 use packet_heads::{Packet, Packets, Refusal, Skip};
@@ -9,7 +9,7 @@ use std::alloc::AllocError;
 
 /// Adds a line for each fragment and each refused packet, under the number of its record.
 pub fn push_record_lines(out: &mut String, packets: &Packets<'_>) -> Result<(), AllocError>
-    ensures { OnOk result (string_bytes out.new ≡ string_bytes out.old ++ record_lines packets.now) }
+    ensures { OnOk result (string_bytes out.new ≡ string_bytes out.old ++ record_lines_from 1 packets.now) }
 {
     let mut at = 0;
     while at < packets.len() {

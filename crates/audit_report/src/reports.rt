@@ -2,8 +2,11 @@ ghost use Rattle.std.specs.Prelude.{◌≡◌, ◌++◌, ◌+◌, ◌<◌, ◌^�
 ghost use Rattle.std.specs.String.{string_bytes};
 ghost use Rattle.audit_terms.specs.Frame.{IsOrderly};
 ghost use Rattle.h2_frames.specs.Orderly.{HasOrderlyFrames};
-ghost use Rattle.audit_report.specs.Contents.{contents_of};
-ghost use Rattle.audit_report.specs.Section.{audit_text, findings_text, section_text, section_of, sections_of, sections_text};
+ghost use Rattle.audit_report.specs.EndLine.{end_line};
+ghost use Rattle.audit_report.specs.FindingLine.{finding_lines};
+ghost use Rattle.audit_report.specs.Section.{connection_text, findings_text, sections_text};
+ghost use Rattle.audit_report.specs.StallLine.{stall_lines};
+ghost use Rattle.split_merge.specs.Stalls.{stalls};
 ghost use Rattle.audit_report.specs.ReportText.{report_text};
 ghost use Rattle.audit_report.specs.declared.audited.Audited.{Audited};
 
@@ -33,7 +36,7 @@ pub fn report(
     requires each { length audited.now ≡ length connections.now.opened.items }
     requires orderly { All (λ (a : Audited). HasOrderlyFrames a.cut) audited.now }
     ensures { IfOk result (λ text. text.items ≡ report_text records.now packets.now connections.now.strays.items
-        (sections_of connections.now.opened.items audited.now) frames_shown) }
+        connections.now.opened.items audited.now frames_shown) }
 {
     let mut out = String::new(alloc);
     push_capture_text(&mut out, records, packets, &connections.strays)?;
@@ -51,7 +54,7 @@ fn push_sections(
     requires each { length audited.now ≡ length connections.now }
     requires orderly { All (λ (a : Audited). HasOrderlyFrames a.cut) audited.now }
     ensures { OnOk result (string_bytes out.new ≡ string_bytes out.old
-        ++ sections_text frames_shown 1 (sections_of connections.now audited.now)) }
+        ++ sections_text frames_shown 1 connections.now audited.now) }
 {
     for (i, connection) in connections.iter().enumerate() {
         push_section(
@@ -77,7 +80,8 @@ fn push_section(
 ) -> Result<(), AllocError>
     requires { HasOrderlyFrames audited.now.cut }
     ensures { OnOk result (string_bytes out.new ≡ string_bytes out.old
-        ++ section_text frames_shown k (section_of connection.now audited.now)) }
+        ++ (connection_text k connection.now audited.now.extents audited.now.cut
+        ++ findings_text frames_shown audited.now.cut audited.now.findings.items)) }
 {
     push_connection_text(out, k, connection, &audited.extents, &audited.cut)?;
     push_findings(alloc, out, &audited.cut, &audited.findings, frames_shown)
@@ -92,7 +96,7 @@ fn push_findings(
 ) -> Result<(), AllocError>
     requires { HasOrderlyFrames cut.now }
     ensures { OnOk result (string_bytes out.new ≡ string_bytes out.old
-        ++ findings_text frames_shown (contents_of cut.now) findings.now) }
+        ++ findings_text frames_shown cut.now findings.now) }
 {
     match cut {
         Cut::Http2 { frames, .. } => push_audit(alloc, out, frames, findings, frames_shown),
@@ -110,7 +114,8 @@ fn push_audit(
 ) -> Result<(), AllocError>
     requires { IsOrderly frames.now }
     ensures { OnOk result (string_bytes out.new ≡ string_bytes out.old
-        ++ audit_text frames_shown frames.now findings.now) }
+        ++ (finding_lines frames_shown frames.now findings.now ++ stall_lines (stalls frames.now findings.now)
+        ++ end_line findings.now)) }
 {
     push_finding_lines(out, findings, frames, frames_shown)?;
     let stalls = stall_pairs(alloc, findings, frames)?;

@@ -19,7 +19,7 @@ use Rattle.conn_scan.specs.Items.{item_with, items_with, items_in, IsBlock}
 use Rattle.split_merge.specs.Board.{Job, IsCut}
 use Rattle.split_merge.proofs.RoundCuts.{front_is_cut_lem, whole_is_cut_lem}
 use Rattle.split_merge.proofs.ShownMerge.{in_order-shown}
-use Rattle.job_crew.specs.Heeding.{Heeds}
+use Rattle.job_crew.specs.Heeding.{Heeds, RunLooks}
 use Rattle.audit_rounds.specs.declared.blocks.ConnectionBlock.{ConnectionBlock}
 use Rattle.audit_rounds.specs.code.Plans.{sum_job}
 
@@ -113,10 +113,12 @@ last-upto numbers last place = by_test (list_any (is_past last) numbers) where
 -- a run goes up to a place that was answered
 pub run-heeds : {L : Type 0} (answers : L → List Finding → Option ℕ → L → Type 0) (before after : L) (numbers : List ℕ)
     (whole kept : List Finding) (upto last : Option ℕ) (looks : ℕ)
-    → IsRun answers before after numbers whole kept upto last looks → Heeds answers before after upto
+    → IsRun answers before after numbers whole kept upto last looks
+    → Heeds answers (RunLooks numbers whole) before after upto
 run-heeds answers before after numbers whole kept upto last looks run = record {
   asked = run.asked;
   looked = run.looked;
+  in_time = (run.in_time, run.goes ∙ sym (ap (upto_of numbers) run.last));
   answered = λ place e. ⊎_elim
       (λ none. cc)
       (λ h. h)

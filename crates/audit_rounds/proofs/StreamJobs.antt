@@ -4,12 +4,13 @@ use Rattle.std.proofs.lemmas.Option.{slice_get-get_or, get_or_from_slice_get}
 use Rattle.std.proofs.lemmas.List.Elements.{All-take, All-drop}
 use Rattle.std.specs.Option.{option_map_or}
 use Rattle.audit_terms.specs.declared.findings.Finding.{Finding}
+use Rattle.audit_terms.specs.Look.{Asked}
 use Rattle.split_merge.specs.declared.splits.StreamRow.{StreamRow}
 use Rattle.split_merge.specs.Board.{Job, IsCut}
 use Rattle.stream_groups.specs.declared.streams.Streams.{Streams}
 use Rattle.audit_rounds.specs.declared.stream_plan.StreamJob.{StreamJob}
-use Rattle.stream_groups.specs.Streams.{IsRow, AreOpenedUpTo, rows_shown, rows_opened}
-use Rattle.audit_rounds.specs.code.StreamJobs.{IsReady, Makes, job_of, of_rows}
+use Rattle.stream_groups.specs.Streams.{IsRow, AreOpenedUpTo, RowsLook, rows_shown, rows_opened}
+use Rattle.audit_rounds.specs.code.StreamJobs.{IsReady, JobLooks, Makes, job_of, of_rows}
 use Rattle.audit_rounds.proofs.Jobs.{job-is}
 
 -- the rows of a job
@@ -51,6 +52,24 @@ module _ (connections : List Streams) (plan : List StreamJob) (number : ℕ) (d 
       subst (AreOpenedUpTo upto made)
       (of-rows rows_opened
       ∙ ap (of_rows rows_opened connections) (get_or_from_slice_get plan number job d is)) opens
+
+  -- the looks of the rows are those of the job
+  pub job-looks : (credits_shown : Bool) (asked : List Asked) (upto : Option ℕ)
+      → RowsLook credits_shown (get_or connections (get_or plan number d).connection streams)
+      (rows_in (get_or plan number d) rows) asked upto
+      → JobLooks credits_shown connections plan number asked upto
+  job-looks credits_shown asked upto looks job mine is there =
+      let same_job : job ≡ get_or plan number d = sym (get_or_from_slice_get plan number job d is) in
+      let at = subst (λ (one : StreamJob). slice_get connections one.connection ≡ Some mine) same_job there in
+      let same_streams : get_or connections (get_or plan number d).connection streams ≡ mine =
+      get_or_from_slice_get connections (get_or plan number d).connection mine streams at in
+      subst (λ (one : StreamJob). RowsLook credits_shown mine (rows_in one mine.split.now.rows.items) asked upto)
+      (sym same_job)
+      (subst (λ (s : Streams). RowsLook credits_shown s (rows_in (get_or plan number d) s.split.now.rows.items) asked upto)
+      same_streams
+      (subst (λ (rows : List StreamRow). RowsLook credits_shown
+      (get_or connections (get_or plan number d).connection streams) (rows_in (get_or plan number d) rows) asked upto)
+      same looks))
 
   -- its rows may be gone through
   pub job-rows : All IsReady connections

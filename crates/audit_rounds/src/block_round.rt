@@ -5,7 +5,7 @@ ghost use Rattle.audit_terms.specs.declared.findings.Finding.{Finding as Finding
 ghost use Rattle.audit_terms.specs.Place.{place_number};
 ghost use Rattle.split_merge.specs.Board.{Job, IsCut};
 ghost use Rattle.job_crew.specs.Heeding.{Heeds};
-ghost use Rattle.audit_rounds.specs.code.Plans.{block_job, AreReady};
+ghost use Rattle.audit_rounds.specs.code.Plans.{block_job, AreReady, BlockLooks};
 ghost use Rattle.audit_rounds.specs.code.Props.{ready-props};
 
 use crate::block_plans::ReadyBlock;
@@ -46,6 +46,8 @@ impl Round for BlockRound<'_> {
     ghost jobs = { λ round. map (block_job round.credits_shown) round.plan.now };
 
     ghost makes = { λ round job upto made. ⊤ };
+
+    ghost looks = { λ round job. BlockLooks round.credits_shown round.plan.now job };
 
     fn count(&self) -> u32 {
         self.plan.len() as u32

@@ -2,8 +2,8 @@
 //! frames does (RFC 9113, 5.4.1), for every [`Division`] and every interleaving of the workers.
 //!
 //! The work is done in rounds, each over all connections of a batch, and each of jobs that workers draw. As a job goes
-//! on, it looks where its connection stops by now, and goes no further than it has to; where it finds a connection
-//! error, it lowers the stop.
+//! on, it looks where its connection stops by now, each time that a look is due, and goes no further than it has to;
+//! where it finds a connection error, it lowers the stop.
 //!
 //! 1. In the first round, a job is a group of the streams of a connection. This tells which frames open streams.
 //! 2. What a connection shows by itself, up to its stop, is found in blocks of its frames. In the second round, blocks
@@ -30,9 +30,10 @@
 //! - [`laws::openings_are_found`] and [`laws::items_are_found`]: the numbers that streams tell, and the changes, make
 //!   the items of the pass.
 //!
-//! A wrong body that the prover refuses: changes of settings, not handed on to the blocks. Those of single rounds stand
-//! in the crates below. Tested by whole reports, in many mixes of workers, groups and block lengths: that the call succeeds
-//! where there is memory.
+//! Wrong bodies that the prover refuses: changes of settings, not handed on to the blocks; a look that answers nothing in
+//! place of the worker's, in the round over streams and in that over blocks. Those of single rounds stand in the crates
+//! below. Tested by whole reports, in many mixes of workers, groups and block lengths: that the call succeeds where there
+//! is memory.
 #![tactic(auto)]
 
 mod beginnings;

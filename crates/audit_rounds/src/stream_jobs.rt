@@ -2,7 +2,7 @@
 
 ghost use Rattle.std.specs.Prelude.{◌^◌, ◌<◌, All, length, map};
 ghost use Rattle.std.proofs.Props.{props};
-ghost use Rattle.audit_rounds.specs.code.StreamJobs.{IsReady, IsJobOf, Makes, job_of};
+ghost use Rattle.audit_rounds.specs.code.StreamJobs.{IsReady, IsJobOf, JobLooks, Makes, job_of};
 ghost use Rattle.audit_rounds.specs.code.JobProps.{frames-prop, changes-prop};
 
 use crate::stream_plan::StreamJob;
@@ -29,6 +29,8 @@ impl Round for StreamsRound<'_> {
     ghost jobs = { λ round. map (job_of round.credits_shown round.connections.now) round.plan.now };
 
     ghost makes = { λ round job upto made. Makes round.connections.now round.plan.now job upto made.items };
+
+    ghost looks = { λ round job. JobLooks round.credits_shown round.connections.now round.plan.now job };
 
     fn count(&self) -> u32 {
         self.plan.len() as u32

@@ -1,6 +1,6 @@
 //! The round in which blocks are summed.
 
-ghost use Rattle.std.specs.Prelude.{◌≡◌, ℕ, ◌-◌, ◌<◌, ◌≤◌, ◌^◌, All, IfOk, length, map, slice_get, slice_index_or, Option, Some};
+ghost use Rattle.std.specs.Prelude.{◌≡◌, ℕ, ◌-◌, ◌<◌, ◌≤◌, ◌^◌, [], All, IfOk, length, map, slice_get, slice_index_or, Option, Some};
 ghost use Rattle.audit_terms.specs.declared.findings.Finding.{Finding as FindingTerm};
 ghost use Rattle.audit_terms.specs.Place.{place_number};
 ghost use Rattle.split_merge.specs.Board.{Job, IsCut};
@@ -44,6 +44,8 @@ impl Round for SumRound<'_> {
 
     ghost makes = { λ round job upto made.
         (one : BlockTerm) → IsSum (slice_index_or round.blocks.now job one).block made };
+
+    ghost looks = { λ round job asked upto. asked ≡ [] };
 
     fn count(&self) -> u32 {
         self.blocks.len() as u32

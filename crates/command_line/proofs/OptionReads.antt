@@ -4,12 +4,12 @@ use Rattle.std.specs.Prelude.{unwrap_or, SomeIff, IsSome}
 use Rattle.std.specs.Bool.{Decides}
 use Rattle.std.specs.Str.Parse.{ParsesBool, ParsesUnsigned, ExplainsUnsignedError, HasUnsignedDigitsIfOk}
 use Rattle.std.specs.declared.num.ParseIntError.{ParseIntError}
-use Rattle.clap.specs.Words.{ReadsOne, Text, one_of, one_text, rows_of, without_minus}
+use Rattle.clap.specs.Words.{ReadsOne, Row, Text, one_of, one_text, rows_of, without_minus}
 use Rattle.clap.specs.declared.parser.matches.Found.{Found}
 use Rattle.clap.proofs.CallerReads.{signed_reads}
 use Rattle.clap.proofs.WalkLemmas.{one_text-rows}
 use Rattle.command_line.specs.declared.options.Options.{Options}
-use Rattle.command_line.specs.Asked.{IsNumberOf}
+use Rattle.command_line.specs.Asked.{IsFound, IsNumberOf}
 use Rattle.command_line.specs.Choices.{Choices, choices}
 use Rattle.command_line.specs.code.Numbers.{HasNumber}
 
@@ -64,3 +64,16 @@ flag_read E f name r none reads = rw (sym (one_text-rows f name)) (go (one_text 
 pub options_some : (o : Option Options) (P : Type 0) (v : Choices) → SomeIff (option_map choices o) P v → P → IsSome o
 options_some None P v fails holds = absurd (fails holds)
 options_some (Some x) P v made holds = refl
+
+-- options with these choices are found where the choices are
+pub found_of-choices : (found : List Row) (options : Options) (v : Choices) → choices options ≡ v
+    → IsNumberOf (codes "workers") found v.workers → IsNumberOf (codes "groups") found v.groups
+    → IsNumberOf (codes "block") found v.block
+    → Decides v.frames_shown (one_of (codes "frames") found ≡ Some (codes "true")) → IsFound found options
+found_of-choices found options v is workers groups block frames_shown = record {
+  workers = subst (IsNumberOf (codes "workers") found) (sym (ap (λ (c : Choices). c.workers) is)) workers;
+  groups = subst (IsNumberOf (codes "groups") found) (sym (ap (λ (c : Choices). c.groups) is)) groups;
+  block = subst (IsNumberOf (codes "block") found) (sym (ap (λ (c : Choices). c.block) is)) block;
+  frames_shown = subst (λ (b : Bool). Decides b (one_of (codes "frames") found ≡ Some (codes "true")))
+      (sym (ap (λ (c : Choices). c.frames_shown) is)) frames_shown;
+}

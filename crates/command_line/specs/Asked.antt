@@ -7,7 +7,7 @@ use Rattle.clap.specs.declared.error.kind.ErrorKind.{ErrorKind}
 use Rattle.clap.specs.declared.error.kind.ErrorKind.TheVariants.{DisplayHelp, DisplayVersion}
 use Rattle.command_line.specs.declared.words.Parsed.{Parsed}
 use Rattle.command_line.specs.declared.words.Parsed.TheVariants.{Run, Help, Refused, Version}
-use Rattle.command_line.specs.Choices.{Choices, choices}
+use Rattle.command_line.specs.declared.options.Options.{Options}
 use Rattle.command_line.specs.Words.{app}
 
 -- the word is the number in decimal digits, with a plus sign before it or none
@@ -20,17 +20,17 @@ abbrev pub IsNumberOf : (name : Text) → List Row → ℕ → Type 0
 IsNumberOf name found number = (word : Text) × (one_of name found ≡ Some word) × Spells word number
 
 -- the options that were found
-pub record IsFound (found : List Row) (asked : Choices) : Type 0 where
-  pub workers : IsNumberOf (codes "workers") found asked.workers
-  pub groups : IsNumberOf (codes "groups") found asked.groups
-  pub block : IsNumberOf (codes "block") found asked.block
-  pub frames_shown : Decides asked.frames_shown (one_of (codes "frames") found ≡ Some (codes "true"))
+pub record IsFound (found : List Row) (options : Options) : Type 0 where
+  pub workers : IsNumberOf (codes "workers") found options.workers
+  pub groups : IsNumberOf (codes "groups") found options.groups
+  pub block : IsNumberOf (codes "block") found options.block
+  pub frames_shown : Decides options.frames_shown (one_of (codes "frames") found ≡ Some (codes "true"))
 
 -- what is asked for: an audit where clap finds no fault in the words, with the options and the path that it finds; help
 -- or the version where that is what they ask for; why they are refused where they have another fault
 abbrev pub Asks : (words : List Text) → Parsed → Type 0
 Asks words (Run options file) = (fault_of app words ≡ [])
-    × IsFound (matches_of app words) (choices options)
+    × IsFound (matches_of app words) options
     × (option_map string_bytes file ≡ first_of (codes "FILE") (matches_of app words))
 Asks words (Help text) = IsAmong DisplayHelp (fault_of app words)
 Asks words (Version text) = IsAmong DisplayVersion (fault_of app words)

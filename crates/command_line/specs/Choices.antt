@@ -1,3 +1,4 @@
+-- What options say, without what is known of their ranges.
 use Rattle.std.specs.Prelude.{ℕ, Bool}
 use Rattle.command_line.specs.declared.options.Options.{Options}
 

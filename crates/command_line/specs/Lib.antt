@@ -2,5 +2,5 @@ pub mod Options
 pub mod Choices
 pub mod Words
 pub mod Asked
-pub mod KnownWords
+pub mod laws
 pub mod code

@@ -59,7 +59,8 @@ const VERSION: &str = "1.0.0";
 const BLAME: &str =
     "Overflow lines name the victim: see \"Who is to blame\" in README.md, or \"Who broke the rule\" in h2audit(1).";
 
-const ABOUT: &str = "Audits the HTTP/2 flow control of a classic pcap capture (Ethernet, IPv4)";
+const ABOUT: &str =
+    "Audits the HTTP/2 flow control of a classic pcap capture (Ethernet or raw IP, IPv4)";
 
 const WORKERS_HELP: &str = "Threads that share the work, from 1 to 64";
 

@@ -1,7 +1,6 @@
 ghost use Rattle.std.specs.Prelude.{IfOk, List, [], codes, map, option_map, string_bytes, ◌≡◌};
 ghost use Rattle.clap.specs.Words.{HasKind, Text, fault_of, first_of, found_of, matches_of, rows_of};
 ghost use Rattle.command_line.specs.Asked.{Asks, IsFound};
-ghost use Rattle.command_line.specs.Choices.{choices};
 ghost use Rattle.command_line.specs.Words.{app};
 ghost use Rattle.command_line.specs.code.Numbers.{HasNumbers};
 
@@ -66,7 +65,7 @@ fn unparsed(alloc: Global, error: &Error) -> Result<Parsed, AllocError>
 /// The options that clap found. It gives each number a default, and refuses one out of range.
 fn options_in(found: &ArgMatches<'_>) -> Options
     requires { HasNumbers (found_of found.now) }
-    ensures { IsFound (rows_of (found_of found.now)) (choices result) }
+    ensures { IsFound (rows_of (found_of found.now)) result }
 {
     let workers = found.get_one::<u32>(WORKERS).unwrap();
     let groups = found.get_one::<u32>(GROUPS).unwrap();

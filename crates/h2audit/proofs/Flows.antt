@@ -17,7 +17,7 @@ use Rattle.h2audit.specs.declared.flow_round.ConnectionCut.{ConnectionCut}
 use Rattle.h2audit.specs.Audited.{AreAudited, findings_of}
 use Rattle.tcp_streams.specs.declared.members.Connection.{Connection}
 use Rattle.split_merge.specs.Board.{Job, IsCut}
-use Rattle.h2audit.specs.code.Flows.{flow_jobs, AreConnectionCuts, IsConnectionCut, frames_in, frames_each, found_in, audits_of}
+use Rattle.h2audit.specs.code.Flows.{IsConnectionCut, flow_jobs, AreConnectionCuts, frames_in, frames_each, found_in, audits_of}
 
 pub flow_jobs-length : (first : ℕ) (connections : List Connection)
     → length (flow_jobs first connections) ≡ length connections

@@ -9,8 +9,8 @@ use Rattle.pcap_records.proofs.Sizes.{front_decides_lem, allowed_is_short_lem}
 use Rattle.byte_accounts.specs.Account.{HaveGiven, IsReadToEnd, IsUnwritten, OfGiven, kept, written}
 use Rattle.h2audit.specs.Account.{Tells}
 use Rattle.h2audit.specs.code.Reading.{AnswersFor}
-use Rattle.h2audit.specs.Report.{IsReport}
-use Rattle.h2audit.specs.Run.{IsJudged, IsNoReport, Leaves}
+use Rattle.h2audit.specs.Report.{IsNoReport, IsReport}
+use Rattle.h2audit.specs.laws.Run.{FaultsAreSilent, IsJudged, Leaves, RunsLeave}
 use Rattle.h2audit.specs.declared.fault.AuditFault.{AuditFault}
 use Rattle.h2audit.specs.declared.fault.AuditFault.TheVariants as fault
 use Rattle.byte_accounts.specs.declared.capture_reader.CaptureReader.{CaptureReader}
@@ -78,7 +78,6 @@ module _ {R W : Type 0} where
       (read.has_failed, λ room. (read, refusal_of_given reader None answers is), unwritten)
   tells_no_report reader writer shown fault.Read read answers unwritten is = absurd is
   tells_no_report reader writer shown fault.Write read answers unwritten is = absurd is
-  tells_no_report reader writer shown fault.Worker read answers unwritten is = absurd is
 
   -- what the accounts tell, of a reader and a writer that tell their bytes
   pub leaves_by_account : (all : List ℕ) (reader : CaptureReader R) (writer : ReportWriter W) (shown : Bool)
@@ -102,7 +101,6 @@ module _ {R W : Type 0} where
       keeps_unwritten old new writer.written writer.text.items told.1.written appends
   leaves_by_account all reader writer shown old new (Err fault.OutOfMemory) is told appends =
       keeps_unwritten old new writer.written writer.text.items told.2.written appends
-  leaves_by_account all reader writer shown old new (Err fault.Worker) is told appends = told
 
   pub judged_by_account : (all : List ℕ) (reader : CaptureReader R) (writer : ReportWriter W) (shown : Bool)
       (answer : Result Verdict AuditFault)
@@ -114,4 +112,19 @@ module _ {R W : Type 0} where
   judged_by_account all reader writer shown (Err fault.Write) is told = tt
   judged_by_account all reader writer shown (Err (fault.Pcap e)) is told = tt
   judged_by_account all reader writer shown (Err fault.Read) is told = tt
-  judged_by_account all reader writer shown (Err fault.Worker) is told = tt
+
+module _ (R W : Type 0) where
+  pub runs_leave_lem : RunsLeave R W
+  runs_leave_lem all reader writer shown old new answer told given appends = (
+    leaves_by_account all reader writer shown old new answer given told appends,
+    judged_by_account all reader writer shown answer given told,
+  )
+
+  pub faults_are_silent_lem : FaultsAreSilent R W
+  faults_are_silent_lem reader writer shown old new fault.Write told appends other = absurd (other refl)
+  faults_are_silent_lem reader writer shown old new (fault.Pcap e) told appends other =
+      keeps_unwritten old new writer.written writer.text.items told.2.written appends
+  faults_are_silent_lem reader writer shown old new fault.Read told appends other =
+      keeps_unwritten old new writer.written writer.text.items told.1.written appends
+  faults_are_silent_lem reader writer shown old new fault.OutOfMemory told appends other =
+      keeps_unwritten old new writer.written writer.text.items told.2.written appends

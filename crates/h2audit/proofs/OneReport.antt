@@ -1,16 +1,26 @@
 -- Two reports of one capture are the same.
 use Rattle.std.proofs.Common.{◌≡◌, ◌∙◌, ℕ, Bool, ◌||◌, List, [], ◌∷◌, ◌++◌, filter, length, map, Option, Some, None, refl, sym, ap, ap₂, subst}
-use Rattle.std.specs.Prelude.{not, if◌then◌else◌}
+use Rattle.std.specs.Prelude.{◌+◌, codes, not, if◌then◌else◌}
 use Rattle.std.specs.List.{list_any}
 use Rattle.audit_terms.specs.declared.findings.Finding.{Finding}
 use Rattle.audit_report.specs.declared.audited.Audited.{Audited}
 use Rattle.audit_report.specs.CaptureLine.{capture_line}
-use Rattle.audit_report.specs.RecordLines.{record_lines}
+use Rattle.audit_report.specs.RecordLines.{record_lines_from}
 use Rattle.audit_report.specs.CutRecordLine.{cut_record_line}
 use Rattle.audit_report.specs.UnopenedLines.{unopened_lines}
-use Rattle.audit_report.specs.Contents.{Contents, Http2 as HoldsFrames, contents_of}
-use Rattle.audit_report.specs.Section.{Section, section_of, sections_of, sections_text}
-use Rattle.audit_report.specs.FlowLine.{extent_of}
+use Rattle.audit_report.specs.EndLine.{end_line}
+use Rattle.audit_report.specs.Endpoint.{endpoint_text}
+use Rattle.audit_report.specs.FindingLine.{finding_lines}
+use Rattle.audit_report.specs.FlowLine.{extent_of, flow_line}
+use Rattle.audit_report.specs.Line.{field, line}
+use Rattle.audit_report.specs.Section.{connection_text, findings_text, sections_text}
+use Rattle.audit_report.specs.StallLine.{stall_lines}
+use Rattle.audit_terms.specs.Sides.{side_of}
+use Rattle.audit_terms.specs.declared.frames.Frame.{Frame}
+use Rattle.audit_terms.specs.declared.sides.Side.{Side}
+use Rattle.audit_terms.specs.declared.sides.Side.TheVariants.{Client, Server}
+use Rattle.packet_heads.specs.declared.packets.Endpoint.{Endpoint}
+use Rattle.split_merge.specs.Stalls.{stalls}
 use Rattle.audit_report.specs.declared.extents.Extent.{Extent}
 use Rattle.audit_terms.specs.declared.sides.Sides.{Sides}
 use Rattle.audit_terms.specs.Finding.{shown as shown_of}
@@ -36,7 +46,7 @@ use Rattle.tcp_streams.proofs.Belongings.{connections-shown}
 use Rattle.tcp_streams.proofs.UniqueFlow.{IsFlow-unique}
 use Rattle.h2audit.specs.Audited.{AreAudited, IsAudited, IsFlowFrom, findings_of, has_fault}
 use Rattle.audit_terms.specs.Kind.{is_fault}
-use Rattle.h2audit.specs.Laws.{OneReport}
+use Rattle.h2audit.specs.laws.OneReport.{OneReport}
 use Rattle.h2audit.specs.declared.verdict.Verdict.{Verdict}
 use Rattle.h2audit.specs.declared.verdict.Verdict.TheVariants.{Clean, Faults}
 
@@ -71,6 +81,90 @@ IsClientFlow capture packets m flow = IsFlowFrom (Some m.client_isn) capture (cl
 
 abbrev IsServerFlow : List ℕ → List Packet → Membership → Flow → Type 0
 IsServerFlow capture packets m flow = IsFlowFrom m.server_isn capture (servers packets m) flow
+
+-- ---- a section in plain lists and numbers
+
+-- what the flows hold: frames in capture order and the lengths of what is left over on each side, or why there are none
+data Contents : Type 0 where
+  HoldsFrames : (frames : List Frame) (tails : Sides ℕ) → Contents
+  IsNotHttp2 : Contents
+  HasNoPreface : Contents
+  HasNoHandshake : Contents
+
+abbrev contents_of : Cut → Contents
+contents_of (Http2 frames tails) = HoldsFrames frames.items tails
+contents_of NotHttp2 = IsNotHttp2
+contents_of NoPreface = HasNoPreface
+contents_of NoHandshake = HasNoHandshake
+
+record Section : Type 0 where
+  pub client : Endpoint
+  pub server : Endpoint
+  pub rec : ℕ
+  pub flows : Sides Extent
+  pub contents : Contents
+  pub findings : List Finding
+
+abbrev plain_contents : Contents → List ℕ
+plain_contents (HoldsFrames frames tails) = field (codes "http2 frames ") (length frames)
+plain_contents IsNotHttp2 = codes "not-http2"
+plain_contents HasNoPreface = codes "no-preface"
+plain_contents HasNoHandshake = codes "no-handshake"
+
+abbrev plain_tail : Side → Contents → ℕ
+plain_tail side (HoldsFrames frames tails) = side_of side tails
+plain_tail side _ = 0
+
+abbrev plain_findings : Bool → Contents → List Finding → List ℕ
+plain_findings shown (HoldsFrames frames tails) findings =
+    finding_lines shown frames findings ++ stall_lines (stalls frames findings) ++ end_line findings
+plain_findings shown _ findings = []
+
+abbrev plain_section : Bool → ℕ → Section → List ℕ
+plain_section shown k s =
+    (line ((field (codes "connection ") k ++ codes " client " ++ endpoint_text s.client
+    ++ codes " server " ++ endpoint_text s.server ++ field (codes " record ") s.rec)
+    ++ codes " " ++ plain_contents s.contents)
+    ++ flow_line Client s.flows.client (plain_tail Client s.contents)
+    ++ flow_line Server s.flows.server (plain_tail Server s.contents))
+    ++ plain_findings shown s.contents s.findings
+
+abbrev plain_sections : Bool → ℕ → List Section → List ℕ
+plain_sections shown k [] = []
+plain_sections shown k (s ∷ rest) = plain_section shown k s ++ plain_sections shown (k + 1) rest
+
+abbrev section_with : Connection → Sides Extent → Cut → List Finding → Section
+section_with c flows cut findings = record {
+  client = c.client;
+  server = c.server;
+  rec = c.rec;
+  flows = flows;
+  contents = contents_of cut;
+  findings = findings;
+}
+
+abbrev section_of : Connection → Audited → Section
+section_of c a = section_with c a.extents a.cut a.findings.items
+
+abbrev sections_of : List Connection → List Audited → List Section
+sections_of (c ∷ connections) (a ∷ audited) = section_of c a ∷ sections_of connections audited
+sections_of _ _ = []
+
+one-plain : (shown : Bool) (k : ℕ) (c : Connection) (flows : Sides Extent) (cut : Cut) (findings : List Finding)
+    → connection_text k c flows cut ++ findings_text shown cut findings
+    ≡ plain_section shown k (section_with c flows cut findings)
+one-plain shown k c flows (Http2 frames tails) findings = refl
+one-plain shown k c flows NotHttp2 findings = refl
+one-plain shown k c flows NoPreface findings = refl
+one-plain shown k c flows NoHandshake findings = refl
+
+all-plain : (shown : Bool) (k : ℕ) (connections : List Connection) (audited : List Audited)
+    → sections_text shown k connections audited ≡ plain_sections shown k (sections_of connections audited)
+all-plain shown k [] audited = refl
+all-plain shown k (c ∷ connections) [] = refl
+all-plain shown k (c ∷ connections) (a ∷ audited) =
+    ap₂ (λ (one rest : List ℕ). one ++ rest) (one-plain shown k c a.extents a.cut a.findings.items)
+    (all-plain shown (k + 1) connections audited)
 
 -- ---- what the flows hold
 
@@ -164,8 +258,18 @@ one_audit shown capture packets (c ∷ cs) (d ∷ ds) (a ∷ xs) (b ∷ ys) m h 
 
 abbrev text_by : Bool → List Record → Option ℕ → List Packet → List Section → List ℕ
 text_by shown rows cut packets sections =
-    (capture_line rows packets ++ record_lines packets ++ cut_record_line cut ++ unopened_lines (strays_of packets))
-    ++ sections_text shown 1 sections
+    (capture_line rows packets ++ record_lines_from 1 packets ++ cut_record_line cut ++ unopened_lines (strays_of packets))
+    ++ plain_sections shown 1 sections
+
+-- the same, of connections and what was found in them
+text-is : (shown : Bool) (rows : List Record) (cut : Option ℕ) (packets : List Packet) (connections : List Connection)
+    (audited : List Audited)
+    → (capture_line rows packets ++ record_lines_from 1 packets ++ cut_record_line cut ++ unopened_lines (strays_of packets))
+    ++ sections_text shown 1 connections audited
+    ≡ text_by shown rows cut packets (sections_of connections audited)
+text-is shown rows cut packets connections audited =
+    ap (λ rest. (capture_line rows packets ++ record_lines_from 1 packets ++ cut_record_line cut
+    ++ unopened_lines (strays_of packets)) ++ rest) (all-plain shown 1 connections audited)
 
 abbrev verdict_by : Bool → Verdict
 verdict_by faults = if faults then Faults else Clean
@@ -182,10 +286,12 @@ one_report_lem bytes shown text other verdict judged x y =
     let same = one_audit shown bytes (decide x.found.link x.found.rows.items) x.report.opened y.report.opened x.report.audited y.report.audited opened x.report.audits audits in
     let sections = sections_of x.report.opened x.report.audited in (
       x.report.spelled
+          ∙ text-is shown x.found.rows.items x.found.cut (decide x.found.link x.found.rows.items) x.report.opened x.report.audited
           ∙ ap (λ (rows : List Record). text_by shown rows x.found.cut (decide x.found.link x.found.rows.items) sections) reading.1
           ∙ ap (λ (cut : Option ℕ). text_by shown y.found.rows.items cut (decide x.found.link x.found.rows.items) sections) reading.2
           ∙ ap (λ (p : List Packet). text_by shown y.found.rows.items y.found.cut p sections) packets
           ∙ ap (λ (es : List Section). text_by shown y.found.rows.items y.found.cut (decide y.found.link y.found.rows.items) es) same.sections
+          ∙ sym (text-is shown y.found.rows.items y.found.cut (decide y.found.link y.found.rows.items) y.report.opened y.report.audited)
           ∙ sym y.report.spelled,
       x.report.judged ∙ ap verdict_by same.faults ∙ sym y.report.judged,
     )

@@ -1,7 +1,7 @@
 -- What the accounts of a run tell of its reads and writes, whatever its reader and its writer are.
-use Rattle.std.specs.Prelude.{◌≡◌, ◌≢◌, ℕ, ◌≤◌, Bool, false, List, take, None, Some, Result, Ok, Err}
+use Rattle.std.specs.Prelude.{◌≡◌, ◌≢◌, ℕ, ◌^◌, ◌≤◌, Bool, false, List, take, Option, None, Some, IfSome, Result, Ok, Err}
 use Rattle.pcap_records.specs.Refusal.{refusal}
-use Rattle.byte_accounts.specs.Account.{HasReadFailed, HasWriteFailed, IsFlushed, IsReadToEnd, IsUnwritten, OfGiven, kept, written}
+use Rattle.byte_accounts.specs.Account.{HasReadFailed, HasWriteFailed, HaveGiven, IsFlushed, IsReadToEnd, IsUnwritten, OfGiven, kept, written}
 use Rattle.byte_accounts.specs.declared.capture_reader.CaptureReader.{CaptureReader}
 use Rattle.byte_accounts.specs.declared.report_writer.ReportWriter.{ReportWriter}
 use Rattle.h2audit.specs.Report.{IsReport}
@@ -10,6 +10,10 @@ use Rattle.h2audit.specs.declared.fault.AuditFault.TheVariants as fault
 use Rattle.h2audit.specs.declared.verdict.Verdict.{Verdict}
 
 module _ {R : Type 0} where
+  -- the reads gave these bytes, where they are known, to their end or 2^31 of them
+  abbrev pub HasGiven : Option (List ℕ) → CaptureReader R → Type 0
+  HasGiven left reader = IfSome left (λ bytes. IsReadToEnd reader → HaveGiven reader (take (2 ^ 31) bytes))
+
   -- of a capture that its file header refuses no more is kept than that
   abbrev pub IsBrief : CaptureReader R → Type 0
   IsBrief reader = refusal (take 24 (kept reader)) ≢ None → reader.bytes.room ≤ 24
@@ -18,7 +22,7 @@ module _ {R W : Type 0} where
   -- the accounts at the end of a run. After a verdict the reads gave a whole capture, and the writes took its report,
   -- all of it; after a failed write they took a prefix of it. Before any other fault nothing was written: a read failed,
   -- the capture that the reads gave is refused, or memory was wanting, for its bytes or for the audit of a capture that
-  -- is not refused. No run answers that a worker was not started
+  -- is not refused
   abbrev pub Tells : CaptureReader R → ReportWriter W → (shown : Bool) → Result Verdict AuditFault → Type 0
   Tells reader writer shown (Ok verdict) =
       IsReadToEnd reader
@@ -35,4 +39,3 @@ module _ {R W : Type 0} where
       (reader.has_failed ≡ false)
       × (reader.lacked_memory ≡ false → IsReadToEnd reader × OfGiven reader (λ given. refusal given ≡ None))
       × IsUnwritten writer
-  Tells reader writer shown (Err fault.Worker) = ⊥

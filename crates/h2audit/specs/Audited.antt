@@ -1,6 +1,6 @@
 -- The audit of one connection.
-use Rattle.std.specs.Prelude.{◌≡◌, ℕ, Bool, false, if◌then◌else◌, List, [], ◌∷◌, Option, None, Some, IsTrue}
-use Rattle.std.specs.List.{list_any}
+use Rattle.std.specs.Prelude.{◌≡◌, ℕ, Bool, false, if◌then◌else◌, List, [], Option, None, Some, IsTrue}
+use Rattle.std.specs.List.{AllZip, list_any}
 use Rattle.audit_terms.specs.declared.sides.Side.{Side}
 use Rattle.audit_terms.specs.declared.sides.Side.TheVariants.{Client, Server}
 use Rattle.audit_terms.specs.declared.findings.Finding.{Finding}
@@ -54,11 +54,7 @@ pub record IsAudited (credits_shown : Bool) (capture : List ℕ) (packets : List
 
 -- each connection's audit, in order
 abbrev pub AreAudited : (credits_shown : Bool) → List ℕ → List Packet → List Connection → List Audited → Type 0
-AreAudited credits_shown capture packets [] [] = Unit {0}
-AreAudited credits_shown capture packets (connection ∷ connections) (audited ∷ rest) =
-    IsAudited credits_shown capture packets connection audited
-    × AreAudited credits_shown capture packets connections rest
-AreAudited credits_shown capture packets _ _ = ⊥
+AreAudited credits_shown capture packets = AllZip (IsAudited credits_shown capture packets)
 
 -- some finding is a breach of a rule
 abbrev pub has_fault : Audited → Bool

@@ -3,6 +3,5 @@ pub mod Account
 pub mod Program
 pub mod Audited
 pub mod Report
-pub mod Run
-pub mod Laws
+pub mod laws
 pub mod code

@@ -1,5 +1,5 @@
 -- The report of a capture.
-use Rattle.std.specs.Prelude.{◌≡◌, ℕ, Bool, List, None}
+use Rattle.std.specs.Prelude.{◌≡◌, ℕ, Bool, List, map, None, Some}
 use Rattle.pcap_records.specs.Refusal.{refusal}
 use Rattle.pcap_records.specs.Reading.{IsReading}
 use Rattle.pcap_records.specs.declared.capture.Records.{Records}
@@ -8,9 +8,10 @@ use Rattle.packet_heads.specs.declared.packets.Packet.{Packet}
 use Rattle.tcp_streams.specs.declared.members.Connection.{Connection}
 use Rattle.tcp_streams.specs.Membership.{AreConnections, strays_of}
 use Rattle.audit_report.specs.declared.audited.Audited.{Audited}
-use Rattle.audit_report.specs.Section.{sections_of}
 use Rattle.audit_report.specs.ReportText.{report_text}
 use Rattle.h2audit.specs.Audited.{AreAudited, verdict_of}
+use Rattle.h2audit.specs.declared.fault.AuditFault.{AuditFault}
+use Rattle.h2audit.specs.declared.fault.AuditFault.TheVariants as fault
 use Rattle.h2audit.specs.declared.verdict.Verdict.{Verdict}
 
 -- the packets of a capture's records
@@ -25,7 +26,7 @@ pub record IsReportOn (bytes : List ℕ) (found : Records) (shown : Bool) (text 
   pub connections : AreConnections (packets_of bytes found) opened
   pub audits : AreAudited shown bytes (packets_of bytes found) opened audited
   pub spelled : text ≡ report_text found (packets_of bytes found) (strays_of (packets_of bytes found))
-      (sections_of opened audited) shown
+      opened audited shown
   pub judged : verdict ≡ verdict_of audited
 
 -- this text is the report of the capture with these bytes, and this is its verdict
@@ -34,3 +35,9 @@ pub record IsReport (bytes : List ℕ) (shown : Bool) (text : List ℕ) (verdict
   pub taken : refusal bytes ≡ None
   pub reading : IsReading bytes found
   pub report : IsReportOn bytes found shown text verdict
+
+-- why these bytes have no report: they are refused, by this name; or they are not, and memory was wanting
+abbrev pub IsNoReport : List ℕ → AuditFault → Type 0
+IsNoReport bytes (fault.Pcap e) = refusal bytes ≡ Some e
+IsNoReport bytes fault.OutOfMemory = refusal bytes ≡ None
+IsNoReport bytes _ = ⊥

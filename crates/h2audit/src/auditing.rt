@@ -2,9 +2,7 @@ ghost use Rattle.std.specs.Prelude.{◌≡◌, ◌<◌, ◌^◌, IfOk, IfErr, Is
 ghost use Rattle.pcap_records.specs.LinkType.{is_read};
 ghost use Rattle.pcap_records.specs.Place.{AreTimely, AreWithin};
 ghost use Rattle.pcap_records.specs.code.Walk.{IsWalkIn};
-ghost use Rattle.command_line.specs.Choices.{choices};
-ghost use Rattle.h2audit.specs.Report.{IsReport, IsReportOn};
-ghost use Rattle.h2audit.specs.Run.{IsNoReport};
+ghost use Rattle.h2audit.specs.Report.{IsNoReport, IsReport, IsReportOn};
 
 use crate::connection::{audit_each, verdict_on};
 use crate::division::division;
@@ -32,7 +30,7 @@ pub fn audit(
     gate: &impl Gate,
 ) -> Result<(Vec<u8>, Verdict), AuditFault>
     ensures report { IfOk result
-        (λ r. IsReport capture.now (choices options.now).frames_shown r.0.items r.1) }
+        (λ r. IsReport capture.now options.now.frames_shown r.0.items r.1) }
     ensures refused { IfErr result (λ e. IsNoReport capture.now e) }
 {
     // A refusal takes no memory, so it comes before the parts.
@@ -57,7 +55,7 @@ pub(crate) fn audit_parts(
 ) -> Result<(Vec<u8>, Verdict), AuditFault>
     requires { IsWalkIn capture.now walk }
     ensures report { IfOk result
-        (λ r. IsReport capture.now (choices options.now).frames_shown r.0.items r.1) }
+        (λ r. IsReport capture.now options.now.frames_shown r.0.items r.1) }
     ensures refused { IfErr result (λ e. IsNoReport capture.now e) }
 {
     match walk.finish(alloc, capture) {
@@ -83,7 +81,7 @@ fn audit_records(
     requires linked { IsTrue (is_read found.now.link) }
     requires within { AreWithin (length capture.now) found.now.rows.items }
     requires timely { AreTimely found.now.rows.items }
-    ensures { IfOk result (λ r. IsReportOn capture.now found.now (choices options.now).frames_shown
+    ensures { IfOk result (λ r. IsReportOn capture.now found.now options.now.frames_shown
         r.0.items r.1) }
 {
     let made = decode_all(rt, alloc, options.workers(), found, capture)?;

@@ -7,7 +7,6 @@ ghost use Rattle.tcp_streams.specs.declared.members.Connection.{Connection};
 ghost use Rattle.audit_report.specs.declared.audited.Audited.{Audited};
 ghost use Rattle.h2_frames.specs.Orderly.{HasOrderlyFrames};
 ghost use Rattle.h2audit.specs.Audited.{AreAudited, findings_of, has_fault, verdict_of};
-ghost use Rattle.command_line.specs.Choices.{choices};
 ghost use Rattle.h2audit.specs.code.Flows.{AreConnectionCuts, frames_in, found_in, audit_with, audits_of};
 ghost use Rattle.audit_terms.specs.declared.findings.Finding.{Finding};
 ghost use Rattle.audit_terms.specs.Kind.{is_fault};
@@ -45,7 +44,7 @@ pub(crate) fn audit_each(
     requires payloads { PayloadsRise 0 (length capture.now) packets.now }
     requires times { TimesFit packets.now }
     requires members { All (λ (c : Connection). AreMembers 0 packets.now c.members.items) opened.now }
-    ensures audits { IfOk result (λ each. AreAudited (choices options.now).frames_shown capture.now
+    ensures audits { IfOk result (λ each. AreAudited options.now.frames_shown capture.now
         packets.now opened.now each.items) }
     ensures orderly { IfOk result (λ each. All (λ (a : Audited). HasOrderlyFrames a.cut) each.items) }
 {
@@ -110,7 +109,7 @@ fn find_each(
 ) -> Result<Vec<Vec<Finding>>, AllocError>
     requires { All (λ cut. HasOrderlyFrames cut.made.cut) cuts.now }
     ensures { IfOk result (λ found. map (λ one. one.items) found.items
-        ≡ found_in (choices options.now).frames_shown cuts.now) }
+        ≡ found_in options.now.frames_shown cuts.now) }
 {
     let mut frames = Vec::with_capacity(alloc, cuts.len())?;
     for cut in cuts {

@@ -16,7 +16,4 @@ pub enum AuditFault {
     /// 4: memory ran out.
     #[error("fault 4")]
     OutOfMemory,
-    /// 5: the runtime refused to start a worker thread.
-    #[error("fault 5")]
-    Worker,
 }

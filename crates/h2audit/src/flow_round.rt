@@ -3,8 +3,7 @@
 ghost use Rattle.std.specs.Prelude.{◌≡◌, IfOk};
 ghost use Rattle.audit_terms.specs.declared.sides.Side.{Side};
 ghost use Rattle.audit_terms.specs.declared.sides.Side.TheVariants.{Client, Server};
-ghost use Rattle.h2audit.specs.code.Flows.{IsConnectionCut};
-ghost use Rattle.h2audit.specs.code.Flows.{AreFlows, AreSources, IsSideFlow};
+ghost use Rattle.h2audit.specs.code.Flows.{AreFlows, AreSources, IsConnectionCut, IsSideFlow};
 
 use crate::room::{begin_room, finish_room};
 use audit_report::Extent;
@@ -119,15 +118,16 @@ impl<'a, R: Threads + Sync> Model for FlowRound<'a, R> {
 impl<R: Threads + Sync> Round for FlowRound<'_, R> {
     type Made = ConnectionCut;
 
-    ghost use Rattle.std.specs.Prelude.{◌≡◌, slice_get, Some};
+    ghost use Rattle.std.specs.Prelude.{◌≡◌, [], slice_get, Some};
     ghost use Rattle.tcp_streams.specs.declared.members.Connection.{Connection};
-    ghost use Rattle.h2audit.specs.code.Flows.{IsConnectionCut};
-    ghost use Rattle.h2audit.specs.code.Flows.{flow_jobs};
+    ghost use Rattle.h2audit.specs.code.Flows.{IsConnectionCut, flow_jobs};
 
     ghost jobs = { λ s. flow_jobs 0 s.opened };
 
     ghost makes = { λ s job upto made. (connection : Connection) → slice_get s.opened job ≡ Some connection
         → IsConnectionCut s.capture s.packets connection made };
+
+    ghost looks = { λ s job asked upto. asked ≡ [] };
 
     fn count(&self) -> u32 {
         self.opened.len() as u32

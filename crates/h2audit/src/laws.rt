@@ -1,6 +1,7 @@
 //! Laws of the definitions. The functions do nothing; their contracts are the laws.
 
-ghost use Rattle.h2audit.specs.Laws.{OneReport};
+ghost use Rattle.h2audit.specs.laws.OneReport.{OneReport};
+ghost use Rattle.h2audit.specs.laws.Run.{FaultsAreSilent, RunsLeave};
 
 pub use command_line::laws::known_words;
 
@@ -8,4 +9,15 @@ pub use command_line::laws::known_words;
 /// verdict.
 pub fn one_report()
     ensures { OneReport }
+{}
+
+/// What a run leaves in a writer that tells its bytes, where its reader tells them too: clauses `leaves` and `judged` that
+/// `run` need not have, since they follow from `tells`, `given` and `taken`.
+pub fn runs_leave<R, W>()
+    ensures { RunsLeave R W }
+{}
+
+/// After a fault other than a failed write the writer holds what it held before the run.
+pub fn faults_are_silent<R, W>()
+    ensures { FaultsAreSilent R W }
 {}

@@ -14,9 +14,12 @@
 //!   writer, also of files and pipes, clause `tells` says of these accounts (`Tells` of `specs/Account.antt`): after a
 //!   verdict the reads gave a whole capture, and the writes took all of its report and one flush; after a failed write they
 //!   took a prefix of it; before any other fault nothing was written, and a refusal is that of the bytes that were read.
-//!   Where reader and writer themselves tell their bytes, these are the ones of the accounts (`given`, `taken`, `leaves`).
-//! - [`run_program`] is the program, over words, a way to open FILE and a way to say a line: it does what the words ask for
-//!   (`Ends` of `specs/Program.antt`), and status and line are those of the answer. [`program_words`] reads the words.
+//!   Where reader and writer themselves tell their bytes, these are the ones of the accounts (`given`, `taken`); what a run
+//!   then leaves in the writer follows ([`laws::runs_leave`], [`laws::faults_are_silent`]).
+//! - [`run_program`] is the program, over words and what it is lent ([`Outside`]): a way to open FILE and to say a line, and
+//!   the accounts of standard input, of FILE and of standard output. It does what the words ask for and nothing else (`Ends`
+//!   of `specs/Program.antt`): the account of the input that they name tells what `run` tells, status and line are those of
+//!   the answer, and all else that is lent stays as it was. [`program_words`] reads the words.
 //! - [`parse`] says what the words of a command line ask for, by `clap`'s own definition of the command, and
 //!   [`Options`] refuses numbers out of range; both are `command_line`'s. [`laws::known_words`] computes seven command
 //!   lines. [`ending`] is status and line.
@@ -25,11 +28,11 @@
 //! kept (`brief`), since what follows changes no answer (`pcap_records::laws::header_refuses`). What is kept and its packets
 //! stand in parts, and nothing is copied from part to part. Round 0 has a job for each connection, which assembles both of
 //! its flows and cuts them; another thread may make room for the frames meanwhile. `audit_rounds` has the rounds after it.
-//! No answer says that a worker was not started (`IsNoReport`).
 //!
 //! Wrong bodies that the prover refuses: an empty report, a verdict by errors alone, words always refused, options not
-//! heeded. Tested, in `crate_tests`: the texts of faults; in `tests/` at the root: what the program answers to words, whole
-//! reports, long captures.
+//! heeded, "read failed" at once for FILE or for standard input, standard input read though FILE is named. Tested, in
+//! `crate_tests`: the texts of faults; in `tests/` at the root: what the program answers to words, whole reports, long
+//! captures.
 #![tactic(auto)]
 
 mod auditing;
@@ -50,7 +53,7 @@ pub use byte_accounts::{CaptureReader, ReportWriter};
 pub use command_line::{Options, Parsed, parse};
 pub use fault::AuditFault;
 pub use job_crew::{Gate, NoGate};
-pub use program::{program_words, run_program};
+pub use program::{Outside, program_words, run_program};
 pub use running::run;
 pub use status::ending;
 pub use verdict::Verdict;

@@ -1,13 +1,14 @@
-ghost use Rattle.std.specs.Prelude.{◌≡◌, ◌≢◌, [], map, IfErr, IfOk, string_bytes};
-ghost use Rattle.std.specs.Fn.{FnOnceReturnsAt};
+ghost use Rattle.std.specs.Prelude.{◌≡◌, ◌≢◌, [], map, IfErr, IfOk, Some, string_bytes};
+ghost use Rattle.std.specs.Fn.{CalledAt};
 ghost use Rattle.std.specs.Io.KnownBytes.{Appends};
 ghost use Rattle.std.specs.IoError.{error_kind};
 ghost use Rattle.std.specs.Process.{exit_status};
-ghost use Rattle.byte_accounts.specs.Account.{IsUnwritten, written};
+ghost use Rattle.byte_accounts.specs.declared.capture_reader.CaptureReader.{CaptureReader as CaptureReaderTerm};
+ghost use Rattle.byte_accounts.specs.Account.{IsUnread, IsUnwritten, written};
 ghost use Rattle.command_line.specs.Asked.{Asks};
-ghost use Rattle.command_line.specs.Choices.{choices};
-ghost use Rattle.h2audit.specs.Ending.{line_of, status_of};
-ghost use Rattle.h2audit.specs.Program.{AreNoText, Does, Ends, IsRunOn, IsShown, IsUnopened};
+ghost use Rattle.h2audit.specs.Account.{HasGiven, Tells};
+ghost use Rattle.h2audit.specs.Ending.{ending_of};
+ghost use Rattle.h2audit.specs.Program.{AreAsked, Does, Ends, IsShown, IsUnopened};
 
 use crate::fault::AuditFault;
 use crate::running::run;
@@ -33,47 +34,55 @@ pub fn program_words(rt: &(impl Env + AllocGlobal)) -> io::Result<Vec<String>> {
     Ok(words)
 }
 
-/// The program: `h2audit [--workers N] [--groups N] [--block N] [--frames] [FILE]`, with these words, over standard
-/// input and output. `open_file` opens FILE by its name, and `say` says a line on standard error.
+/// What the program is lent: a way to open FILE by its name, a way to say a line on standard error, and the accounts of its
+/// reads and writes.
+#[derive(Drop)]
+pub struct Outside<O, S, I, F, W> {
+    pub open_file: O,
+    pub say: S,
+    /// Of standard input.
+    pub input: CaptureReader<I>,
+    /// Of FILE, once it is opened.
+    pub file: Option<CaptureReader<F>>,
+    /// Of standard output.
+    pub output: ReportWriter<W>,
+}
+
+/// The program: `h2audit [--workers N] [--groups N] [--block N] [--frames] [FILE]`, with these words.
 ///
 /// The report goes to standard output, and so does help; a fault is one line on standard error. The
 /// words are judged before FILE is opened. `ending` says which exit status an audit has; words that
 /// do not parse have status 2. Unless the status is 0, 1 or 4 nothing is written to standard output.
+/// Of standard input and FILE no more than one is read, by the words.
 pub fn run_program<
-    I: Read + Drop,
+    O: FnMut(&str) -> io::Result<F>,
+    S: FnMut(&str),
+    I: Read,
     F: Read + Drop,
     W: Write,
-    O: FnOnce(&str) -> io::Result<F> + Drop,
-    S: FnOnce(&str) + Drop,
 >(
     rt: &(impl AllocGlobal + Threads + Sync + RandomSource),
     words: io::Result<Vec<String>>,
-    open_file: O,
-    input: I,
-    output: &mut ReportWriter<W>,
-    say: S,
+    outside: &mut Outside<O, S, I, F, W>,
 ) -> ExitCode
-    requires unwritten { IsUnwritten output.old }
-    requires opens { O.IsAlwaysCallable open_file }
-    requires says { S.IsAlwaysCallable say }
-    ensures words { IfOk words (λ words. Ends I (FnOnceReturnsAt O.FnOnce open_file)
-        (λ line. FnOnceReturnsAt S.FnOnce say line tt) (I.remaining input) F.remaining output.new (exit_status result)
-        (Asks (map string_bytes words.items))) }
-    ensures no_text { IfErr words (λ e. Ends I (FnOnceReturnsAt O.FnOnce open_file)
-        (λ line. FnOnceReturnsAt S.FnOnce say line tt) (I.remaining input) F.remaining output.new (exit_status result)
-        (AreNoText (error_kind e))) }
-    ensures taken { Appends (W.contents output.old.writer) (W.contents output.new.writer) (written output.new) }
+    requires unread { IsUnread outside.old.input }
+    requires unwritten { IsUnwritten outside.old.output }
+    requires opens { O.IsAlwaysCallable outside.old.open_file }
+    requires says { S.IsAlwaysCallable outside.old.say }
+    ensures ends { Ends (CalledAt O.FnMut) (λ say line. CalledAt S.FnMut say line tt) I.remaining F.remaining
+        outside.old outside.new (exit_status result) (AreAsked words) }
+    ensures taken { Appends (W.contents outside.old.output.writer) (W.contents outside.new.output.writer)
+        (written outside.new.output) }
 {
     match asked(rt.alloc(), words) {
-        Ok(asked) => answer(rt, asked, open_file, input, output, say),
-        Err(_) => end(&Err(AuditFault::OutOfMemory), say),
+        Ok(asked) => answer(rt, asked, outside),
+        Err(_) => end(&Err(AuditFault::OutOfMemory), &mut outside.say),
     }
 }
 
 /// What the program's words ask for. Words that are not text are refused.
 fn asked(alloc: Global, words: io::Result<Vec<String>>) -> Result<Parsed, AllocError>
-    ensures words { IfOk words (λ words. IfOk result (Asks (map string_bytes words.items))) }
-    ensures no_text { IfErr words (λ e. IfOk result (AreNoText (error_kind e))) }
+    ensures { IfOk result (AreAsked words) }
 {
     match words {
         Ok(words) => {
@@ -104,64 +113,70 @@ fn texts<'a>(alloc: Global, words: &'a [String]) -> Result<Vec<&'a str>, AllocEr
 }
 
 /// Does what the words ask for.
-fn answer<
-    I: Read + Drop,
-    F: Read + Drop,
-    W: Write,
-    O: FnOnce(&str) -> io::Result<F> + Drop,
-    S: FnOnce(&str) + Drop,
->(
+fn answer<O: FnMut(&str) -> io::Result<F>, S: FnMut(&str), I: Read, F: Read + Drop, W: Write>(
     rt: &(impl AllocGlobal + Threads + Sync + RandomSource),
     asked: Parsed,
-    open_file: O,
-    input: I,
-    output: &mut ReportWriter<W>,
-    say: S,
+    outside: &mut Outside<O, S, I, F, W>,
 ) -> ExitCode
-    requires unwritten { IsUnwritten output.old }
-    requires opens { O.IsAlwaysCallable open_file }
-    requires says { S.IsAlwaysCallable say }
-    ensures does { Does I (FnOnceReturnsAt O.FnOnce open_file) (λ line. FnOnceReturnsAt S.FnOnce say line tt)
-        (I.remaining input) F.remaining output.new (exit_status result) asked }
-    ensures taken { Appends (W.contents output.old.writer) (W.contents output.new.writer) (written output.new) }
+    requires unread { IsUnread outside.old.input }
+    requires unwritten { IsUnwritten outside.old.output }
+    requires opens { O.IsAlwaysCallable outside.old.open_file }
+    requires says { S.IsAlwaysCallable outside.old.say }
+    ensures does { Does (CalledAt O.FnMut) (λ say line. CalledAt S.FnMut say line tt) I.remaining F.remaining
+        outside.old outside.new (exit_status result) asked }
+    ensures taken { Appends (W.contents outside.old.output.writer) (W.contents outside.new.output.writer)
+        (written outside.new.output) }
 {
     match asked {
         Parsed::Run(options, Some(path)) => {
-            let answer = audit_input(rt, &options, open_file(path.as_str()), output);
-            end(&answer, say)
+            let opened = (outside.open_file)(path.as_str());
+            let answer = audit_file(rt, &options, opened, &mut outside.file, &mut outside.output);
+            end(&answer, &mut outside.say)
         }
         Parsed::Run(options, None) => {
-            let answer = audit_input(rt, &options, Ok(input), output);
-            end(&answer, say)
+            let answer = run(
+                rt,
+                rt.alloc(),
+                &options,
+                &mut outside.input,
+                &mut outside.output,
+                &NoGate,
+            );
+            end(&answer, &mut outside.say)
         }
         Parsed::Help(text) | Parsed::Version(text) => {
-            let answer = show(text, output);
-            end(&answer, say)
+            let answer = show(text, &mut outside.output);
+            end(&answer, &mut outside.say)
         }
         Parsed::Refused(text) => {
-            say(text.as_str().trim_end());
+            (outside.say)(text.as_str().trim_end());
             ExitCode::from(WORDS_REFUSED)
         }
     }
 }
 
-/// What the audit of an input answers. One that could not be opened is a failure to read, or want of memory.
-fn audit_input<R: Read + Drop, W: Write>(
+/// What the audit of FILE answers, and the account of its reads. One that could not be opened is a failure to read, or want
+/// of memory.
+fn audit_file<F: Read + Drop, W: Write>(
     rt: &(impl AllocGlobal + Threads + Sync + RandomSource),
     options: &Options,
-    input: io::Result<R>,
+    opened: io::Result<F>,
+    file: &mut Option<CaptureReader<F>>,
     output: &mut ReportWriter<W>,
 ) -> Result<Verdict, AuditFault>
     requires { IsUnwritten output.old }
-    ensures opened { IfOk input (λ input. IsRunOn R (R.remaining input) output.new (choices options.now).frames_shown
-        result) }
-    ensures unopened { IfErr input (λ e. IsUnopened (error_kind e) output.new result) }
+    ensures opened { IfOk opened (λ opened. (reader : CaptureReaderTerm F) × (file.new ≡ Some reader)
+        × HasGiven (F.remaining opened) reader × Tells reader output.new options.now.frames_shown result) }
+    ensures unopened { IfErr opened (λ e. (file.new ≡ file.old) × (output.new ≡ output.old)
+        × IsUnopened (error_kind e) result) }
     ensures taken { Appends (W.contents output.old.writer) (W.contents output.new.writer) (written output.new) }
 {
-    match input {
-        Ok(input) => {
-            let mut reader = CaptureReader::new(rt.alloc(), input);
-            run(rt, rt.alloc(), options, &mut reader, output, &NoGate)
+    match opened {
+        Ok(opened) => {
+            let mut reader = CaptureReader::new(rt.alloc(), opened);
+            let audited = run(rt, rt.alloc(), options, &mut reader, output, &NoGate);
+            *file = Some(reader);
+            audited
         }
         Err(error) if error.kind() == ErrorKind::OutOfMemory => Err(AuditFault::OutOfMemory),
         Err(_) => Err(AuditFault::Read),
@@ -182,10 +197,11 @@ fn show<W: Write>(text: String, output: &mut ReportWriter<W>) -> Result<Verdict,
 }
 
 /// Says what `ending` says of the answer, and gives its exit status.
-fn end<S: FnOnce(&str) + Drop>(answer: &Result<Verdict, AuditFault>, say: S) -> ExitCode
-    requires { S.IsAlwaysCallable say }
-    ensures status { exit_status result ≡ status_of answer.now }
-    ensures line { line_of answer.now ≢ [] → FnOnceReturnsAt S.FnOnce say (line_of answer.now) tt }
+fn end<S: FnMut(&str)>(answer: &Result<Verdict, AuditFault>, say: &mut S) -> ExitCode
+    requires { S.IsAlwaysCallable say.old }
+    ensures status { exit_status result ≡ (ending_of answer.now).0 }
+    ensures line { (ending_of answer.now).1 ≢ [] → CalledAt S.FnMut say.old (ending_of answer.now).1 tt say.new }
+    ensures silent { (ending_of answer.now).1 ≡ [] → say.new ≡ say.old }
 {
     let (status, line) = ending(answer);
     if !line.is_empty() {

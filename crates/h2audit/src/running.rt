@@ -1,12 +1,10 @@
-ghost use Rattle.std.specs.Prelude.{◌≡◌, ◌≢◌, ◌^◌, IfErr, IfOk, IfSome, Some, take};
-ghost use Rattle.std.specs.Io.KnownBytes.{Appends, Keeps};
+ghost use Rattle.std.specs.Prelude.{◌≡◌, IfErr, IfOk, Some};
+ghost use Rattle.std.specs.Io.KnownBytes.{Appends};
 ghost use Rattle.pcap_records.specs.Refusal.{refusal};
 ghost use Rattle.pcap_records.specs.code.Walk.{IsWalkIn};
-ghost use Rattle.byte_accounts.specs.Account.{HaveGiven, IsReadToEnd, IsUnread, IsUnwritten, kept, written};
-ghost use Rattle.h2audit.specs.Account.{IsBrief, Tells};
-ghost use Rattle.command_line.specs.Choices.{choices};
-ghost use Rattle.h2audit.specs.Report.{IsReport};
-ghost use Rattle.h2audit.specs.Run.{IsJudged, IsNoReport, Leaves};
+ghost use Rattle.byte_accounts.specs.Account.{IsReadToEnd, IsUnread, IsUnwritten, kept, written};
+ghost use Rattle.h2audit.specs.Account.{HasGiven, IsBrief, Tells};
+ghost use Rattle.h2audit.specs.Report.{IsNoReport, IsReport};
 
 use crate::auditing::audit_parts;
 use crate::fault::AuditFault;
@@ -41,16 +39,10 @@ pub fn run<R: Read, W: Write>(
 ) -> Result<Verdict, AuditFault>
     requires unread { IsUnread reader.old }
     requires unwritten { IsUnwritten writer.old }
-    ensures tells { Tells reader.new writer.new (choices options.now).frames_shown result }
-    ensures given { IfSome (R.remaining reader.old.reader) (λ bytes.
-        IsReadToEnd reader.new → HaveGiven reader.new (take (2 ^ 31) bytes)) }
+    ensures tells { Tells reader.new writer.new options.now.frames_shown result }
+    ensures given { HasGiven (R.remaining reader.old.reader) reader.new }
     ensures brief { IsReadToEnd reader.new → IsBrief reader.new }
     ensures taken { Appends (W.contents writer.old.writer) (W.contents writer.new.writer) (written writer.new) }
-    ensures leaves { IfSome (R.remaining reader.old.reader) (λ bytes. Leaves bytes (choices options.now).frames_shown
-        (W.contents writer.old.writer) (W.contents writer.new.writer) result) }
-    ensures silent { IfErr result (λ e. e ≢ AuditFault.Write
-        → Keeps (W.contents writer.old.writer) (W.contents writer.new.writer)) }
-    ensures judged { IfSome (R.remaining reader.old.reader) (λ bytes. IsJudged bytes reader.new.lacked_memory result) }
 {
     let read = read_capture(rt, alloc, options.workers(), reader)?;
     match audit_kept(rt, alloc, options, reader, read, gate) {
@@ -81,7 +73,7 @@ fn audit_kept<R: Read>(
     requires walk { IfOk read (IsWalkIn (kept reader.now)) }
     requires refused { IfErr read (λ e. refusal (kept reader.now) ≡ Some e) }
     ensures report { IfOk result (λ answer. IfOk answer
-        (λ r. IsReport (kept reader.now) (choices options.now).frames_shown r.0.items r.1)) }
+        (λ r. IsReport (kept reader.now) options.now.frames_shown r.0.items r.1)) }
     ensures refused { IfOk result (λ answer. IfErr answer (λ e. IsNoReport (kept reader.now) e)) }
 {
     match read {

@@ -1,7 +1,7 @@
 //! The program: `h2audit [--workers N] [--groups N] [--block N] [--frames] [FILE]`.
 #![tactic(auto)]
 
-use h2audit::{ReportWriter, program_words, run_program};
+use h2audit::{CaptureReader, Outside, ReportWriter, program_words, run_program};
 use std::fs::File;
 use std::process::ExitCode;
 
@@ -9,11 +9,14 @@ fn main(rt: HostRuntime) -> ExitCode {
     run_program(
         &rt,
         program_words(&rt),
-        |path| File::open(&rt, path),
-        rt.stdin(),
-        &mut ReportWriter::new(rt.alloc(), rt.stdout()),
-        |line| {
-            let _ = rt.eprintln(line);
+        &mut Outside {
+            open_file: |path: &str| File::open(&rt, path),
+            say: |line: &str| {
+                let _ = rt.eprintln(line);
+            },
+            input: CaptureReader::new(rt.alloc(), rt.stdin()),
+            file: None,
+            output: ReportWriter::new(rt.alloc(), rt.stdout()),
         },
     )
 }

@@ -14,7 +14,8 @@
 //! - [`Gate`] holds workers back before they start a job, for tests. It has no say in the answer.
 //!
 //! Of an implementor's work it asks that it keeps all findings up to a place, which is none or the answer of one of its
-//! looks (`IsCut`, `Heeds`). Work takes any look, and so cannot know of desks. A worker's look owns the worker's pass
+//! looks, and that it makes the looks that the round says are due (`IsCut`, `Heeds`). Work takes any look, and so cannot
+//! know of desks, nor answer for looks that it did not make. A worker's look owns the worker's pass
 //! while a job runs, and gives it back.
 //!
 //! A worker's promise speaks of its own parts and its own pass, so the induction over workers has one step, a join of

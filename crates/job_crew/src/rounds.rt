@@ -19,16 +19,20 @@ pub struct Work<M> {
 
 /// The jobs of one round, numbered from 0.
 ///
-/// An implementor states its jobs, as if nothing stopped them, and what may be made of each.
+/// An implementor states its jobs, as if nothing stopped them, what may be made of each, and which looks a job has to make
+/// that went up to a place.
 pub trait Round: Sync {
     type Made: Drop + Send;
 
     ghost use Rattle.std.specs.Prelude.{ℕ, List, Option};
+    ghost use Rattle.audit_terms.specs.Look.{Asked};
     ghost use Rattle.split_merge.specs.Board.{Job};
 
     ghost jobs: { Self → List Job };
 
     ghost makes: { Self → ℕ → Option ℕ → Self.Made → Type 0 };
+
+    ghost looks: { Self → ℕ → List Asked → Option ℕ → Type 0 };
 
     /// How many jobs there are.
     fn count(&self) -> u32
@@ -39,7 +43,7 @@ pub trait Round: Sync {
         requires { job < length (jobs self.now) }
         ensures { (one : Job) → slice_get (jobs self.now) job ≡ Some one → result ≡ one.connection };
 
-    /// Does a job. It looks as it goes, and may stop past the place that a look answered.
+    /// Does a job. It looks as it goes, as often as it has to, and may stop past the place that a look answered.
     fn work<L: Look>(
         &self,
         alloc: Global,
@@ -52,5 +56,5 @@ pub trait Round: Sync {
         ensures made { IfOk result (λ work. makes self.now job work.upto work.made) }
         ensures numbered { IfOk result (λ work. All (λ (found : FindingTerm). place_number found.place ≤ 2 ^ 28 - 2)
             work.findings.items) }
-        ensures looks { IfOk result (λ work. Heeds L.answers look.old look.new work.upto) };
+        ensures looks { IfOk result (λ work. Heeds L.answers (looks self.now job) look.old look.new work.upto) };
 }

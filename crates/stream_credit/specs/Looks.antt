@@ -14,7 +14,8 @@ use Rattle.audit_terms.specs.Look.{is_past}
 abbrev pub is_live : Stream → Bool
 is_live entry = is_some entry.window.client || is_some entry.window.server
 
--- the run of a stream meets its frames, and the changes that find a live window: the others change none (RFC 9113, 6.9.2)
+-- the steps of a stream's run are the stream's frames and the changes that find a live window of it (RFC 9113, 6.9.2): a change
+-- that finds none costs it nothing
 abbrev pub is_met : Stream → Step → Bool
 is_met entry step = is_some step.frame || is_live entry
 

@@ -45,10 +45,11 @@ fn meet_all<L: Look>(
 /// The findings of one stream, from its frames and all changes of its connection, and its opening.
 ///
 /// The kinds are `NotOpened`, `SettingOverflow`, `AfterEnd`, `StreamOverrun`, `ZeroStreamGrant`, `StreamOverflow`, the
-/// stalls of the stream's windows and, where credits are shown, `StreamCredit`. The run's steps are the frames, and the
-/// changes that find a live window. It looks where its connection stops before its first step and then before each
-/// 256th more; it stops before a step past the last answer, and leaves out what lies past it. Nothing else stops it:
-/// what follows a connection error of its own is there too. Credits, in bytes, stay below 2^60 in size.
+/// stalls of the stream's windows and, where credits are shown, `StreamCredit`. The run's steps are the stream's frames
+/// and the changes that find a live window of it. It looks where its connection stops before its first step and again
+/// before the next one after each 256 steps; it stops before a step past the last answer, and leaves out what lies past
+/// it. Nothing else stops it: what follows a connection error of its own is there too. Credits, in bytes, stay below
+/// 2^60 in size.
 pub fn stream_run<L: Look>(
     alloc: Global,
     part: &StreamPart<'_>,

@@ -1,8 +1,9 @@
 -- What is made of one stream, and of several.
-use Rattle.std.proofs.Common.{◌≡◌, ℕ, ◌+◌, ◌-◌, ◌^◌, ◌<◌, ◌≤◌, ◌==◌, ◌⊎◌, inl, inr, min, nat_le, leb-true, leb-false, Bool, true, false, ◌||◌, if◌then◌else◌, List, [], ◌∷◌, ◌++◌, All, Contains, get_or, take, drop, flat_map, append-nil, length, Option, Some, None, refl, sym, ap, subst, ◌∙◌, arith, true≢false}
+use Rattle.std.proofs.Common.{◌≡◌, ℕ, ◌+◌, ◌-◌, ◌^◌, ◌<◌, ◌≤◌, ◌==◌, ◌⊎◌, inl, inr, min, nat_le, leb-true, leb-false, Bool, true, false, ◌||◌, if◌then◌else◌, List, [], ◌∷◌, ◌++◌, All, Contains, get_or, take, drop, flat_map, append-nil, append_assoc, length, Option, Some, None, refl, sym, ap, subst, ◌∙◌, arith, true≢false}
 use Rattle.std.specs.Option.{option_to_list}
 use Rattle.std.specs.List.{list_any}
 use Rattle.std.proofs.Math.Seq.{take-add}
+use Rattle.std.proofs.lemmas.List.{take_more}
 use Rattle.std.proofs.lemmas.Grind.{flat_map-append}
 use Rattle.audit_core.proofs.OrderlyRest.{drop-next}
 use Rattle.std.proofs.lemmas.List.Folds.{list_any-append}
@@ -10,13 +11,13 @@ use Rattle.std.proofs.lemmas.List.Elements.{All-contains, All-contains_itself, A
 use borrow.Author.Tests.{eqb-true, ltb-true, ltb-false}
 use Rattle.audit_terms.specs.declared.findings.Finding.{Finding}
 use Rattle.audit_terms.specs.Finding.{in_order}
-use Rattle.audit_terms.specs.Look.{Asked, Looked, last_answer, LooksInTime, is_past, up_to, IsRun}
+use Rattle.audit_terms.specs.Look.{Asked, Looked, last_answer, LooksInTime, is_past, up_to, upto_of, IsRun}
 use Rattle.audit_terms.specs.Place.{place_number}
 use Rattle.stream_credit.specs.Looks.{opened_up_to}
 use Rattle.split_merge.specs.Board.{IsPast, IsCut}
 use Rattle.split_merge.proofs.RoundMembers.{contains-here, contains-later, in_order-contains}
 use Rattle.split_merge.proofs.RoundCuts.{front_is_cut_lem, whole_is_cut_lem, cuts_join_lem}
-use Rattle.job_crew.specs.Heeding.{Heeds}
+use Rattle.job_crew.specs.Heeding.{Heeds, RunLooks}
 use Rattle.std.specs.Prelude.{Result, Ok, Err, IfOk}
 use Rattle.audit_terms.specs.declared.frames.Frame.{Frame}
 use Rattle.audit_terms.specs.Frame.{IsOrderly}
@@ -27,7 +28,7 @@ use Rattle.stream_credit.specs.Looks.{step_numbers}
 use Rattle.split_merge.specs.declared.splits.StreamRow.{StreamRow}
 use Rattle.split_merge.specs.Split.{frames_at, part_of}
 use Rattle.stream_groups.specs.declared.streams.Streams.{Streams}
-use Rattle.stream_groups.specs.Streams.{lesser, AreOpenedUpTo, IsWork, IsRow, row_shown, row_opened}
+use Rattle.stream_groups.specs.Streams.{lesser, AreOpenedUpTo, IsWork, IsRow, RowLooks, RowsLook, row_shown, row_opened}
 use Rattle.stream_groups.proofs.StreamOrder.{shown-ordered}
 
 -- ---- one stream
@@ -64,10 +65,11 @@ chosen false stop place e = cc
 module _ {L : Type 0} (answers : L → List Finding → Option ℕ → L → Type 0) where
   heeds-run : (before after : L) (numbers : List ℕ) (whole kept : List Finding) (upto last_look : Option ℕ)
       (looks : ℕ) → IsRun answers before after numbers whole kept upto last_look looks
-      → Heeds answers before after upto
+      → Heeds answers (RunLooks numbers whole) before after upto
   heeds-run before after numbers whole kept upto last_look looks run = record {
     asked = run.asked;
     looked = run.looked;
+    in_time = (run.in_time, run.goes ∙ sym (ap (upto_of numbers) run.last));
     answered = λ place e.
         answered run.asked run.in_time place
         (run.last ∙ chosen (list_any (is_past last_look) numbers) last_look place (sym run.goes ∙ e));
@@ -82,7 +84,7 @@ module _ {L : Type 0} (answers : L → List Finding → Option ℕ → L → Typ
       (looks : ℕ) (opening opened : Option ℕ) → in_order whole ≡ whole
       → IsRun answers before after numbers whole kept upto last_look looks → opened ≡ opened_up_to upto opening
       → All (λ (found : Finding). place_number found.place ≤ 2 ^ 28 - 2) kept
-      → IsWork answers before after whole (option_to_list opening) upto kept (option_to_list opened)
+      → IsWork answers (RunLooks numbers whole) before after whole (option_to_list opening) upto kept (option_to_list opened)
   work-of_run before after numbers whole kept upto last_look looks opening opened o run e n = record {
     cut = cut-of whole kept upto o run.found;
     opens = subst (λ l. AreOpenedUpTo upto (option_to_list l) (option_to_list opening)) (sym e)
@@ -143,6 +145,11 @@ all-in_order P xs h k d l =
     let x = get_or (in_order xs) k d in
     All-contains P xs x h (in_order-contains xs x (All-contains_itself (in_order xs) k d l))
 
+-- the looks of one work and then of another are those of both
+abbrev pub Joins : (due due' both : List Asked → Option ℕ → Type 0) → Type 0
+Joins due due' both = (asked asked' : List Asked) (one other : Option ℕ) → due asked one → due' asked' other
+    → both (asked ++ asked') (lesser one other)
+
 module _ {L : Type 0} (answers : L → List Finding → Option ℕ → L → Type 0) where
   looked-join : (a b c : L) (asked asked' : List Asked) → Looked answers a asked b → Looked answers b asked' c
       → Looked answers a (asked ++ asked') c
@@ -171,11 +178,12 @@ module _ {L : Type 0} (answers : L → List Finding → Option ℕ → L → Typ
     by_test true l = let k = leb-true a b l in let m : a ≡ place = omega (arith, k, least) in inl (ap Some m)
     by_test false l = let k = leb-false a b l in let m : b ≡ place = omega (arith, k, least) in inr (ap Some m)
 
-  heeds-join : (a b c : L) (one other : Option ℕ) → Heeds answers a b one → Heeds answers b c other
-      → Heeds answers a c (lesser one other)
-  heeds-join a b c one other h k = record {
+  heeds-join : (due due' both : List Asked → Option ℕ → Type 0) → Joins due due' both → (a b c : L) (one other : Option ℕ)
+      → Heeds answers due a b one → Heeds answers due' b c other → Heeds answers both a c (lesser one other)
+  heeds-join due due' both join a b c one other h k = record {
     asked = h.asked ++ k.asked;
     looked = looked-join a b c h.asked k.asked h.looked k.looked;
+    in_time = join h.asked k.asked one other h.in_time k.in_time;
     answered = λ place e. by_case place (lesser-is one other place e);
   } where
     by_case : (place : ℕ) → (one ≡ Some place) ⊎ (other ≡ Some place) → Answered (h.asked ++ k.asked) place
@@ -183,29 +191,94 @@ module _ {L : Type 0} (answers : L → List Finding → Option ℕ → L → Typ
     by_case place (inr e) = at-right h.asked k.asked place (k.answered place e)
 
   -- the work of no stream
-  pub work-none : (a : L) → IsWork answers a a [] [] None [] []
-  work-none a = record {
+  pub work-none : (due : List Asked → Option ℕ → Type 0) → due [] None → (a : L) → IsWork answers due a a [] [] None [] []
+  work-none due none a = record {
     cut = whole_is_cut_lem [] None refl;
     opens = λ number h. refl;
     numbered = All-nil (λ (found : Finding). place_number found.place ≤ 2 ^ 28 - 2);
-    looks = record { asked = []; looked = refl; answered = λ place e. cc };
+    looks = record { asked = []; looked = refl; in_time = none; answered = λ place e. cc };
   }
 
   -- the work of some streams and of some more
-  pub work-join : (a b c : L) (whole whole' kept kept' : List Finding) (all all' opened opened' : List ℕ)
-      (one other : Option ℕ) → IsWork answers a b whole all one kept opened
-      → IsWork answers b c whole' all' other kept' opened'
-      → IsWork answers a c (whole ++ whole') (all ++ all') (lesser one other) (in_order (kept ++ kept'))
+  pub work-join : (due due' both : List Asked → Option ℕ → Type 0) → Joins due due' both → (a b c : L)
+      (whole whole' kept kept' : List Finding) (all all' opened opened' : List ℕ) (one other : Option ℕ)
+      → IsWork answers due a b whole all one kept opened
+      → IsWork answers due' b c whole' all' other kept' opened'
+      → IsWork answers both a c (whole ++ whole') (all ++ all') (lesser one other) (in_order (kept ++ kept'))
       (opened ++ opened')
-  work-join a b c whole whole' kept kept' all all' opened opened' one other h k = record {
+  work-join due due' both join a b c whole whole' kept kept' all all' opened opened' one other h k = record {
     cut = cuts_join_lem whole whole' kept kept' (lesser one other) one other h.cut k.cut (past-one one other)
         (past-other one other);
     opens = opens-join one other opened opened' all all' h.opens k.opens;
     numbered =
         let P = λ (found : Finding). place_number found.place ≤ 2 ^ 28 - 2 in
         all-in_order P (kept ++ kept') (All-append P kept kept' h.numbered k.numbered);
-    looks = heeds-join a b c one other h.looks k.looks;
+    looks = heeds-join due due' both join a b c one other h.looks k.looks;
   }
+
+  -- looks that are due, by another name
+  pub work-due : (due due' : List Asked → Option ℕ → Type 0)
+      → ((asked : List Asked) (upto : Option ℕ) → due asked upto → due' asked upto) → (a b : L)
+      (whole kept : List Finding) (all opened : List ℕ) (upto : Option ℕ)
+      → IsWork answers due a b whole all upto kept opened → IsWork answers due' a b whole all upto kept opened
+  work-due due due' entails a b whole kept all opened upto h = record {
+    cut = h.cut;
+    opens = h.opens;
+    numbered = h.numbered;
+    looks = record {
+      asked = h.looks.asked;
+      looked = h.looks.looked;
+      in_time = entails h.looks.asked upto h.looks.in_time;
+      answered = h.looks.answered;
+    };
+  }
+
+-- ---- the looks of one row more
+
+lesser-none : (one : Option ℕ) → lesser one None ≡ one
+lesser-none None = refl
+lesser-none (Some a) = refl
+
+lesser-assoc : (a b c : Option ℕ) → lesser (lesser a b) c ≡ lesser a (lesser b c)
+lesser-assoc None b c = refl
+lesser-assoc (Some a) None c = refl
+lesser-assoc (Some a) (Some b) None = refl
+lesser-assoc (Some a) (Some b) (Some c) =
+    let least : min (min a b) c ≡ min a (min b c) = omega arith in ap Some least
+
+rows-look : (credits_shown : Bool) (streams : Streams) (rows : List StreamRow) (row : StreamRow)
+    → Joins (RowsLook credits_shown streams rows) (RowLooks credits_shown streams row)
+    (RowsLook credits_shown streams (rows ++ row ∷ []))
+rows-look credits_shown streams [] row asked asked' one other h k = (
+  asked',
+  [],
+  other,
+  None,
+  ap (λ l. l ++ asked') h.0 ∙ sym (append-nil asked'),
+  ap (λ u. lesser u other) h.1 ∙ sym (lesser-none other),
+  k,
+  (refl, refl),
+)
+rows-look credits_shown streams (first ∷ rows) row asked asked' one other h k = (
+  h.0,
+  h.1 ++ asked',
+  h.2,
+  lesser h.3 other,
+  ap (λ l. l ++ asked') h.4 ∙ append_assoc h.0 h.1 asked',
+  ap (λ u. lesser u other) h.5 ∙ lesser-assoc h.2 h.3 other,
+  h.6,
+  rows-look credits_shown streams rows row h.1 asked' h.3 other h.7 k,
+)
+
+-- those of the rows up to one, and then of that
+pub rows-look-more : (credits_shown : Bool) (streams : Streams) (rows : List StreamRow) (at : ℕ) (d : StreamRow)
+    → at < length rows
+    → Joins (RowsLook credits_shown streams (take at rows)) (RowLooks credits_shown streams (get_or rows at d))
+    (RowsLook credits_shown streams (take (at + 1) rows))
+rows-look-more credits_shown streams rows at d within =
+    subst (λ front. Joins (RowsLook credits_shown streams (take at rows))
+    (RowLooks credits_shown streams (get_or rows at d)) (RowsLook credits_shown streams front))
+    (sym (take_more rows at d within)) (rows-look credits_shown streams (take at rows) (get_or rows at d))
 
 -- ---- a row of the split
 
@@ -226,12 +299,14 @@ module _ {L : Type 0} (answers : L → List Finding → Option ℕ → L → Typ
       run.upto run.last_look run.looks)
       → IfOk r (λ run. run.opened_at ≡ opened_up_to run.upto opening)
       → IfOk r (λ run. All (λ (found : Finding). place_number found.place ≤ 2 ^ 28 - 2) run.findings.items)
-      → IfOk r (λ run. IsWork answers before after (row_shown credits_shown streams row)
+      → IfOk r (λ run. IsWork answers (RowLooks credits_shown streams row) before after (row_shown credits_shown streams row)
       (option_to_list (row_opened streams row)) run.upto run.findings.items (option_to_list run.opened_at))
   row-work (Err e) is_row e' h k n = tt
   row-work (Ok run) is_row e h k n =
       let orderly : IsOrderly frames = subst (λ l. IsOrderly (frames_at streams.frames.now l)) (sym e) is_row.orderly in
-      subst (λ l. IsWork answers before after
+      subst (λ l. IsWork answers
+      (RunLooks (step_numbers row.stream (frames_at streams.frames.now l) streams.changes.now)
+      (shown credits_shown (stream_run row.stream (frames_at streams.frames.now l) streams.changes.now))) before after
       (shown credits_shown (stream_run row.stream (frames_at streams.frames.now l) streams.changes.now))
       (option_to_list (stream_at_end row.stream (frames_at streams.frames.now l) streams.changes.now).life.opened)
       run.upto run.findings.items (option_to_list run.opened_at)) e
@@ -241,16 +316,17 @@ module _ {L : Type 0} (answers : L → List Finding → Option ℕ → L → Typ
 
 -- ---- rows, one after the other
 
-module _ {L : Type 0} (answers : L → List Finding → Option ℕ → L → Type 0) (a b : L) where
+module _ {L : Type 0} (answers : L → List Finding → Option ℕ → L → Type 0) (due : List Asked → Option ℕ → Type 0)
+    (a b : L) where
   pub same-work : (whole whole' kept kept' : List Finding) (all all' opened opened' : List ℕ) (upto upto' : Option ℕ)
       → whole ≡ whole' → all ≡ all' → upto ≡ upto' → kept ≡ kept' → opened ≡ opened'
-      → IsWork answers a b whole all upto kept opened → IsWork answers a b whole' all' upto' kept' opened'
+      → IsWork answers due a b whole all upto kept opened → IsWork answers due a b whole' all' upto' kept' opened'
   same-work whole whole' kept kept' all all' opened opened' upto upto' p q r s t h =
-      subst (λ x. IsWork answers a b x all' upto' kept' opened') p
-      (subst (λ x. IsWork answers a b whole x upto' kept' opened') q
-      (subst (λ x. IsWork answers a b whole all x kept' opened') r
-      (subst (λ x. IsWork answers a b whole all upto x opened') s
-      (subst (λ x. IsWork answers a b whole all upto kept x) t h))))
+      subst (λ x. IsWork answers due a b x all' upto' kept' opened') p
+      (subst (λ x. IsWork answers due a b whole x upto' kept' opened') q
+      (subst (λ x. IsWork answers due a b whole all x kept' opened') r
+      (subst (λ x. IsWork answers due a b whole all upto x opened') s
+      (subst (λ x. IsWork answers due a b whole all upto kept x) t h))))
 
 -- one more of those whose lists are joined
 pub flat_map-more : {X Y : Type 0} (f : X → List Y) (xs : List X) (at : ℕ) (d : X) → at < length xs

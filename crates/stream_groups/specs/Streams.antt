@@ -1,5 +1,5 @@
 -- What the streams of a connection show and open, a row of the split for each.
-use Rattle.std.specs.Prelude.{◌≡◌, ℕ, ◌^◌, ◌-◌, ◌==◌, ◌<◌, ◌≤◌, min, Bool, false, List, All, length, Option, Some, None}
+use Rattle.std.specs.Prelude.{◌≡◌, ℕ, ◌^◌, ◌-◌, ◌==◌, ◌<◌, ◌≤◌, min, Bool, false, List, [], ◌∷◌, ◌++◌, All, length, Option, Some, None}
 use Rattle.std.specs.Option.{option_to_list}
 use Rattle.std.specs.List.{flat_map, list_any}
 use Rattle.audit_terms.specs.declared.frames.Frame.{Frame}
@@ -7,14 +7,15 @@ use Rattle.audit_terms.specs.declared.findings.Finding.{Finding}
 use Rattle.audit_terms.specs.Finding.{shown}
 use Rattle.audit_terms.specs.Frame.{IsOrderly}
 use Rattle.audit_terms.specs.InForce.{changes_of}
-use Rattle.audit_terms.specs.Look.{is_past}
+use Rattle.audit_terms.specs.Look.{Asked, is_past}
 use Rattle.audit_terms.specs.Place.{place_number}
 use Rattle.audit_terms.specs.Run.{frames_of, stream_run, stream_at_end}
 use Rattle.settings_pair.specs.Changes.{AreAcknowledged}
 use Rattle.split_merge.specs.declared.splits.StreamRow.{StreamRow}
 use Rattle.split_merge.specs.Split.{IsRange, part_of, frames_at}
 use Rattle.split_merge.specs.Board.{IsCut}
-use Rattle.job_crew.specs.Heeding.{Heeds}
+use Rattle.job_crew.specs.Heeding.{Heeds, RunLooks}
+use Rattle.stream_credit.specs.Looks.{step_numbers}
 use Rattle.stream_groups.specs.declared.streams.Streams.{Streams}
 
 -- what is shown of one stream
@@ -62,11 +63,24 @@ abbrev pub AreOpenedUpTo : (upto : Option ℕ) → (opened all : List ℕ) → T
 AreOpenedUpTo upto opened all = (number : ℕ) → is_past upto number ≡ false →
     list_any (λ one. one == number) opened ≡ list_any (λ one. one == number) all
 
--- what was made of some streams, which show `whole` and open at `openings`
-pub record IsWork {L : Type 0} (answers : L → List Finding → Option ℕ → L → Type 0) (before after : L)
-    (whole : List Finding) (openings : List ℕ) (upto : Option ℕ) (kept : List Finding) (opened : List ℕ)
+-- the looks of the run of one stream, and the place up to which it goes
+abbrev pub RowLooks : (credits_shown : Bool) → Streams → StreamRow → List Asked → (upto : Option ℕ) → Type 0
+RowLooks credits_shown streams row =
+    RunLooks (step_numbers row.stream (row_frames streams row) streams.changes.now) (row_shown credits_shown streams row)
+
+-- those of the runs of several, one run after the other, and the lesser of the places
+abbrev pub RowsLook : (credits_shown : Bool) → Streams → List StreamRow → List Asked → (upto : Option ℕ) → Type 0
+RowsLook credits_shown streams [] asked upto = (asked ≡ []) × (upto ≡ None)
+RowsLook credits_shown streams (row ∷ rows) asked upto =
+    (first : List Asked) × (rest : List Asked) × (one : Option ℕ) × (other : Option ℕ)
+    × (asked ≡ first ++ rest) × (upto ≡ lesser one other)
+    × RowLooks credits_shown streams row first one × RowsLook credits_shown streams rows rest other
+
+-- what was made of some streams, which show `whole` and open at `openings`, with the looks that are due
+pub record IsWork {L : Type 0} (answers : L → List Finding → Option ℕ → L → Type 0)
+    (due : List Asked → (upto : Option ℕ) → Type 0) (before after : L) (whole : List Finding) (openings : List ℕ) (upto : Option ℕ) (kept : List Finding) (opened : List ℕ)
     : Type 0 where
   pub cut : IsCut whole upto kept
   pub opens : AreOpenedUpTo upto opened openings
   pub numbered : All (λ (found : Finding). place_number found.place ≤ 2 ^ 28 - 2) kept
-  pub looks : Heeds answers before after upto
+  pub looks : Heeds answers due before after upto

@@ -3,7 +3,7 @@
 ghost use Rattle.std.specs.Prelude.{◌≡◌, ◌++◌, ◌<◌, IfOk, OnOk, All};
 ghost use Rattle.std.specs.Option.{option_to_list};
 ghost use Rattle.settings_pair.specs.Changes.{AreOrderly};
-ghost use Rattle.stream_groups.specs.Streams.{IsRow, IsWork, lesser, row_shown, row_opened, rows_shown, rows_opened};
+ghost use Rattle.stream_groups.specs.Streams.{IsRow, IsWork, RowLooks, RowsLook, lesser, row_shown, row_opened, rows_shown, rows_opened};
 
 use audit_terms::{Frame, Look, Place, put_in_order};
 use job_crew::Work;
@@ -29,8 +29,9 @@ fn run_of_row<L: Look>(
 ) -> Result<StreamRun, AllocError>
     requires changes { AreOrderly streams.now.changes.now }
     requires row { IsRow streams.now row.now }
-    ensures { IfOk result (λ run. IsWork L.answers look.old look.new (row_shown credits_shown streams.now row.now)
-        (option_to_list (row_opened streams.now row.now)) run.upto run.findings.items (option_to_list run.opened_at)) }
+    ensures { IfOk result (λ run. IsWork L.answers (RowLooks credits_shown streams.now row.now) look.old look.new
+        (row_shown credits_shown streams.now row.now) (option_to_list (row_opened streams.now row.now)) run.upto
+        run.findings.items (option_to_list run.opened_at)) }
 {
     let part = StreamPart {
         stream: row.stream,
@@ -75,8 +76,9 @@ pub fn run_of_rows<L: Look>(
 ) -> Result<Work<Vec<u32>>, AllocError>
     requires changes { AreOrderly streams.now.changes.now }
     requires rows { All (IsRow streams.now) rows.now }
-    ensures { IfOk result (λ work. IsWork L.answers look.old look.new (rows_shown credits_shown streams.now rows.now)
-        (rows_opened streams.now rows.now) work.upto work.findings.items work.made.items) }
+    ensures { IfOk result (λ work. IsWork L.answers (RowsLook credits_shown streams.now rows.now) look.old look.new
+        (rows_shown credits_shown streams.now rows.now) (rows_opened streams.now rows.now) work.upto
+        work.findings.items work.made.items) }
 {
     let mut work = Work {
         findings: Vec::new(alloc),

@@ -1,12 +1,15 @@
 -- The plan of the round in which blocks are gone through.
-use Rattle.std.specs.Prelude.{◌≡◌, ℕ, ◌+◌, ◌<◌, ◌==◌, Bool, if◌then◌else◌, All, List, [], ◌∷◌, ◌++◌, map, Option}
+use Rattle.std.specs.Prelude.{◌≡◌, ℕ, ◌+◌, ◌<◌, ◌==◌, Bool, if◌then◌else◌, All, List, [], ◌∷◌, ◌++◌, map, slice_get, Option, Some}
 use Rattle.audit_terms.specs.declared.findings.Finding.{Finding}
+use Rattle.audit_terms.specs.declared.frames.Frame.{Frame}
 use Rattle.audit_terms.specs.declared.items.Item.{Item}
 use Rattle.audit_terms.specs.Connection.{connection_start, block_run}
 use Rattle.audit_terms.specs.Finding.{shown}
+use Rattle.audit_terms.specs.Look.{Asked}
 use Rattle.conn_scan.specs.Items.{items_in}
 use Rattle.split_merge.specs.Board.{Job, IsSettled, findings_of_jobs}
 use Rattle.job_crew.specs.declared.parts.Part.{Part}
+use Rattle.job_crew.specs.Heeding.{RunLooks}
 use Rattle.job_crew.specs.Laid.{part_of, board_with}
 use Rattle.audit_rounds.specs.declared.blocks.ConnectionBlock.{ConnectionBlock}
 use Rattle.audit_rounds.specs.declared.block_plans.ReadyBlock.{ReadyBlock}
@@ -22,6 +25,11 @@ block_job credits_shown one = record {
   connection = one.connection;
   findings = shown credits_shown (block_run one.before (items_in one.block));
 }
+
+-- the looks that are due of a block's job are those of its run, a step for each frame
+abbrev pub BlockLooks : (credits_shown : Bool) → List ReadyBlock → (job : ℕ) → List Asked → (upto : Option ℕ) → Type 0
+BlockLooks credits_shown plan job asked upto = (one : ReadyBlock) → slice_get plan job ≡ Some one →
+    RunLooks (map (λ (frame : Frame). frame.number) one.block.frames.now) (block_job credits_shown one).findings asked upto
 
 -- all blocks may be gone through
 abbrev pub AreReady : List ReadyBlock → Type 0

@@ -2,13 +2,14 @@
 use Rattle.std.specs.Prelude.{◌≡◌, ℕ, ◌+◌, ◌^◌, ◌<◌, ◌≤◌, Bool, List, [], ◌∷◌, ◌++◌, All, map, length, slice_get, Option, Some}
 use Rattle.std.specs.Option.{option_map_or}
 use Rattle.std.specs.List.{between}
+use Rattle.audit_terms.specs.Look.{Asked}
 use Rattle.settings_pair.specs.Changes.{AreOrderly}
 use Rattle.split_merge.specs.declared.splits.StreamRow.{StreamRow}
 use Rattle.split_merge.specs.Groups.{groups}
 use Rattle.split_merge.specs.Board.{Job}
 use Rattle.stream_groups.specs.declared.streams.Streams.{Streams}
 use Rattle.audit_rounds.specs.declared.stream_plan.StreamJob.{StreamJob}
-use Rattle.stream_groups.specs.Streams.{IsRow, AreOpenedUpTo, rows_shown, rows_opened}
+use Rattle.stream_groups.specs.Streams.{IsRow, AreOpenedUpTo, RowsLook, rows_shown, rows_opened}
 
 -- the streams of a connection that may be gone through
 pub record IsReady (streams : Streams) : Type 0 where
@@ -40,6 +41,13 @@ job_of credits_shown connections job = record {
 abbrev pub Makes : List Streams → List StreamJob → (job : ℕ) → (upto : Option ℕ) → (made : List ℕ) → Type 0
 Makes connections plan number upto made = (job : StreamJob) → slice_get plan number ≡ Some job →
     AreOpenedUpTo upto made (of_rows rows_opened connections job)
+
+-- the looks that are due of a job are those of the runs of its rows
+abbrev pub JobLooks : (credits_shown : Bool) → List Streams → List StreamJob → (job : ℕ) → List Asked →
+    (upto : Option ℕ) → Type 0
+JobLooks credits_shown connections plan number asked upto = (job : StreamJob) (streams : Streams) →
+    slice_get plan number ≡ Some job → slice_get connections job.connection ≡ Some streams →
+    RowsLook credits_shown streams (between job.from job.to streams.split.now.rows.items) asked upto
 
 -- a job of this connection
 abbrev pub job_at : (connection : ℕ) → ℕ × ℕ → StreamJob

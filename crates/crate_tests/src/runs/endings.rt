@@ -5,7 +5,7 @@ use h2audit::{AuditFault, ending};
 use pcap_records::PcapFault;
 use std::alloc::{AllocError, Global};
 
-const FAULTS: [AuditFault; 10] = [
+const FAULTS: [AuditFault; 9] = [
     AuditFault::Pcap(PcapFault::ShortHeader),
     AuditFault::Pcap(PcapFault::BadMagic),
     AuditFault::Pcap(PcapFault::BadVersion),
@@ -15,7 +15,6 @@ const FAULTS: [AuditFault; 10] = [
     AuditFault::Read,
     AuditFault::Write,
     AuditFault::OutOfMemory,
-    AuditFault::Worker,
 ];
 
 const REFUSALS: [PcapFault; 6] = [
@@ -36,7 +35,6 @@ fault 1 status 5 h2audit: out of memory
 fault 2 status 4 h2audit: read failed
 fault 3 status 4 h2audit: write failed
 fault 4 status 5 h2audit: out of memory
-fault 5 status 5 h2audit: worker not started
 fault 1
 fault 2
 fault 3

@@ -52,6 +52,8 @@ impl Round for TwoStreams<'_> {
 
     ghost makes = { λ round job upto made. Unit {0} };
 
+    ghost looks = { λ round job asked upto. Unit {0} };
+
     fn count(&self) -> u32 {
         2
     }

@@ -13,10 +13,10 @@ use Rattle.h2_frames.specs.declared.connections.Cut.TheVariants.{Http2}
 use Rattle.job_crew.specs.declared.parts.Part.{Part}
 use Rattle.audit_report.specs.declared.audited.Audited.{Audited}
 use Rattle.h2audit.specs.declared.flow_round.ConnectionCut.{ConnectionCut}
-use Rattle.h2_frames.specs.Cut.{IsCut}
-use Rattle.h2_frames.specs.Orderly.{HasOrderlyFrames}
 use Rattle.audit_report.specs.FlowLine.{extents_of}
 use Rattle.audit_terms.specs.declared.sides.Sides.{Sides}
+use Rattle.h2_frames.specs.Cut.{IsCut}
+use Rattle.h2_frames.specs.Orderly.{HasOrderlyFrames}
 use Rattle.h2audit.specs.Audited.{IsFlowOf, findings_of}
 use Rattle.audit_terms.specs.declared.sides.Side.{Side}
 use Rattle.audit_terms.specs.declared.sides.Side.TheVariants.{Client, Server}
@@ -60,6 +60,16 @@ abbrev pub flow_jobs : (first : ℕ) → List Connection → List Job
 flow_jobs first [] = []
 flow_jobs first (connection ∷ connections) =
     record { connection = first; findings = [] } ∷ flow_jobs (first + 1) connections
+
+-- what the two flows of a connection hold, and how far they reach
+pub record IsConnectionCut (capture : List ℕ) (packets : List Packet) (connection : Connection) (made : ConnectionCut)
+    : Type 0 where
+  pub flows : Sides Flow
+  pub client : IsFlowOf capture packets connection Client flows.client
+  pub server : IsFlowOf capture packets connection Server flows.server
+  pub extents : made.extents ≡ extents_of flows.client flows.server
+  pub cut : IsCut flows.client flows.server made.cut
+  pub orderly : HasOrderlyFrames made.cut
 
 -- each part is what the flows of its connection hold
 abbrev pub AreConnectionCuts : List ℕ → List Packet → List Connection → List (Part ConnectionCut) → Type 0

@@ -1,9 +1,10 @@
 use Rattle.std.proofs.Common.{refl, ◌≡◌, true, false, List, [], ◌∷◌, codes, Some, None, rules}
-use Rattle.clap.specs.Words.{Text, fault_of}
+use Rattle.clap.specs.Words.{Text, fault_of, matches_of}
 use Rattle.clap.specs.declared.error.kind.ErrorKind.TheVariants.{DisplayHelp, DisplayVersion, UnknownArgument, ValueValidation}
 use Rattle.clap.proofs.OnLiterals.{clap_on_literals}
-use Rattle.command_line.specs.KnownWords.{AreFound}
+use Rattle.command_line.specs.laws.KnownWords.{AreFound}
 use Rattle.command_line.specs.Words.{app}
+use Rattle.command_line.proofs.OptionReads.{found_of-choices}
 use Rattle.command_line.proofs.laws.known_words.Goals as goal
 
 abbrev all : List Text
@@ -14,12 +15,10 @@ none_found : AreFound [] (record { workers = 4; groups = 16; block = 4096; frame
 unfolding clap_on_literals
 none_found = (
   refl,
-  record {
-    workers = (codes "4", refl, (search rules, refl));
-    groups = (codes "16", refl, (search rules, refl));
-    block = (codes "4096", refl, (search rules, refl));
-    frames_shown = (λ e. let bad : false ≡ true = e in cc, λ e. cc);
-  },
+  λ options is.
+      found_of-choices (matches_of app []) options _ is (codes "4", refl, (search rules, refl))
+      (codes "16", refl, (search rules, refl)) (codes "4096", refl, (search rules, refl))
+      (λ e. let bad : false ≡ true = e in cc, λ e. cc),
   refl,
 )
 
@@ -27,12 +26,9 @@ all_found : AreFound all (record { workers = 64; groups = 1; block = 1048576; fr
 unfolding clap_on_literals
 all_found = (
   refl,
-  record {
-    workers = (codes "64", refl, (search rules, refl));
-    groups = (codes "1", refl, (search rules, refl));
-    block = (codes "1048576", refl, (search rules, refl));
-    frames_shown = (λ _. refl, λ _. refl);
-  },
+  λ options is.
+      found_of-choices (matches_of app all) options _ is (codes "64", refl, (search rules, refl))
+      (codes "1", refl, (search rules, refl)) (codes "1048576", refl, (search rules, refl)) (λ _. refl, λ _. refl),
   refl,
 )
 

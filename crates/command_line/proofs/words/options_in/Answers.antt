@@ -1,8 +1,6 @@
-use Rattle.std.proofs.Common.{sym, subst, arith, codes}
+use Rattle.std.proofs.Common.{arith, codes}
 use Rattle.clap.specs.Words.{found_of, rows_of}
-use Rattle.command_line.specs.Asked.{IsFound}
-use Rattle.command_line.specs.Choices.{Choices}
-use Rattle.command_line.proofs.OptionReads.{number_some, number_is, flag_read, options_some}
+use Rattle.command_line.proofs.OptionReads.{number_some, number_is, flag_read, options_some, found_of-choices}
 use Rattle.command_line.proofs.words.options_in.Goals as goal
 
 pub unwrap-workers-requires : goal.unwrap-workers-requires
@@ -33,9 +31,4 @@ returns c =
     let block = number_is f (codes "block") 1048576 _ _ (omega arith) c.requires.block c.get_one-3.ensures.value c.unwrap-block.ensures in
     let shown = flag_read _ f (codes "frames") c.get_one-4.result c.get_one-4.ensures.none c.get_one-4.ensures.value in
     let made = rw c.unwrap.ensures at c.of.ensures in
-    subst (λ (asked : Choices). IsFound (rows_of f) asked) (sym made.1) (record {
-      workers = workers.1;
-      groups = groups.1;
-      block = block.1;
-      frames_shown = rw c.unwrap_or-frames_shown.ensures shown;
-    })
+    found_of-choices (rows_of f) c.unwrap.result _ made.1 workers.1 groups.1 block.1 (rw c.unwrap_or-frames_shown.ensures shown)

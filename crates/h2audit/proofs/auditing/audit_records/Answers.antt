@@ -1,14 +1,12 @@
 use Rattle.std.proofs.Common.{◌≡◌, arith, ◌∙◌, Bool, List, length, map, subst, ap, Vec, Global}
 use Rattle.parted_list.specs.Parts.{joined}
 use Rattle.audit_report.specs.declared.audited.Audited.{Audited}
-use Rattle.audit_report.specs.Section.{sections_of}
 use Rattle.audit_report.specs.ReportText.{report_text}
 use Rattle.packet_heads.specs.declared.packets.Packet.{Packet}
 use Rattle.tcp_streams.specs.declared.members.Connection.{Connection}
 use Rattle.tcp_streams.specs.declared.members.Stray.{Stray}
 use Rattle.tcp_streams.specs.Membership.{AreConnections, strays_of}
 use Rattle.h2audit.specs.Audited.{AreAudited, verdict_of}
-use Rattle.command_line.specs.Choices.{choices}
 use Rattle.h2audit.specs.Report.{packets_of}
 use Rattle.h2audit.proofs.Opened.{opened-few}
 use Rattle.h2audit.proofs.Audits.{AreAudited-length}
@@ -28,11 +26,11 @@ audit_each-requires-clause-few g c κs within =
 
 pub report-requires-clause-each : goal.report-requires-clause-each
 report-requires-clause-each g c =
-    ap length c.as_slice-3.ensures.value ∙ AreAudited-length (choices c.args.options.now).frames_shown c.args.capture.now c.in_ok-packets.packets c.as_slice-2.result.now c.in_ok-audited.audited.items c.in_ok-audited.ensures.audits ∙ ap length c.as_slice-2.ensures.value
+    ap length c.as_slice-3.ensures.value ∙ AreAudited-length c.args.options.now.frames_shown c.args.capture.now c.in_ok-packets.packets c.as_slice-2.result.now c.in_ok-audited.audited.items c.in_ok-audited.ensures.audits ∙ ap length c.as_slice-2.ensures.value
 
 pub returns : goal.returns
 returns g c =
-    let credits = (choices c.args.options.now).frames_shown in
+    let credits = c.args.options.now.frames_shown in
     let capture = c.args.capture.now in
     let packets = packets_of capture c.args.found.now in
     let opened = c.in_ok-connections.connections.opened.items in
@@ -48,9 +46,9 @@ returns g c =
       connections = subst (λ (p : List Packet). AreConnections p opened) given c.in_ok-connections.ensures.opened;
       audits = subst (λ (cs : List Connection). AreAudited credits capture packets cs audited) c.as_slice-2.ensures.value by_packets;
       spelled = c.in_ok-text.ensures
-          ∙ ap (λ (b : Bool). report_text c.args.found.now c.in_ok-packets.packets c.in_ok-connections.connections.strays.items (sections_of opened c.as_slice-3.result.now) b) c.frames_shown.ensures
-          ∙ ap (λ (p : List Packet). report_text c.args.found.now p c.in_ok-connections.connections.strays.items (sections_of opened c.as_slice-3.result.now) credits) given
-          ∙ ap (λ (s : List Stray). report_text c.args.found.now packets s (sections_of opened c.as_slice-3.result.now) credits) strays
-          ∙ ap (λ (a : List Audited). report_text c.args.found.now packets (strays_of packets) (sections_of opened a) credits) c.as_slice-3.ensures.value;
+          ∙ ap (λ (b : Bool). report_text c.args.found.now c.in_ok-packets.packets c.in_ok-connections.connections.strays.items opened c.as_slice-3.result.now b) c.frames_shown.ensures
+          ∙ ap (λ (p : List Packet). report_text c.args.found.now p c.in_ok-connections.connections.strays.items opened c.as_slice-3.result.now credits) given
+          ∙ ap (λ (s : List Stray). report_text c.args.found.now packets s opened c.as_slice-3.result.now credits) strays
+          ∙ ap (λ (a : List Audited). report_text c.args.found.now packets (strays_of packets) opened a credits) c.as_slice-3.ensures.value;
       judged = c.verdict_on-verdict.ensures ∙ ap verdict_of c.as_slice-4.ensures.value;
     }

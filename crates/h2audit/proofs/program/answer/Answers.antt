@@ -1,10 +1,28 @@
+use Rattle.std.proofs.Common.{refl}
 use Rattle.h2audit.proofs.Leaving.{match_both}
 use Rattle.h2audit.proofs.program.answer.Goals as goal
 
 pub returns-in-Run-default-Some-clause-does : goal.returns-in-Run-default-Some-clause-does
 returns-in-Run-default-Some-clause-does g c =
     let found = c.in-Run-default-Some in
-    let audited = c.audit_input-answer in
-    let opened = c.open_file.result in
-    let ended = match_both opened _ _ audited.ensures.opened audited.ensures.unopened in
-    rw (found.is, found.field-1-is) (audited.result, (opened, (c.as_str.result, c.open_file.ensures, c.as_str.ensures.value), ended), (c.end.ensures.status, c.end.ensures.line))
+    let audited = c.audit_file-answer in
+    let opened = c.open_file-opened in
+    let ended = match_both opened.result _ _ audited.ensures.opened audited.ensures.unopened in
+    rw (found.is, found.field-1-is) (
+      audited.result,
+      (
+        refl,
+        (opened.result, record { shown = c.as_str.result; shows = c.as_str.ensures.value; called = opened.ensures }, ended),
+      ),
+      (c.end.ensures.status, c.end.ensures.line, c.end.ensures.silent),
+    )
+
+pub returns-in-Run-default-None-clause-does : goal.returns-in-Run-default-None-clause-does
+returns-in-Run-default-None-clause-does g c =
+    let found = c.in-Run-default-None in
+    let ended = c.end-in-Run-default-None in
+    rw (found.is, found.field-1-is) (
+      c.run-answer.result,
+      (refl, c.run-answer.ensures.given, c.run-answer.ensures.tells),
+      (ended.ensures.status, ended.ensures.line, ended.ensures.silent),
+    )

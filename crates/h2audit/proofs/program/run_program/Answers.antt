@@ -1,11 +1,8 @@
-use Rattle.std.proofs.Common.{inr}
-use Rattle.std.proofs.lemmas.Result.{IfOk-weaker, IfErr-weaker}
+use Rattle.std.proofs.Common.{inl, inr, refl}
 use Rattle.h2audit.proofs.program.run_program.Goals as goal
 
-pub returns-in-Ok-clause-words : goal.returns-in-Ok-clause-words
-returns-in-Ok-clause-words g c =
-    IfOk-weaker c.args.words _ _ (λ words asks. inr (c.in-Ok.asked, asks, c.answer.ensures.does)) c.in-Ok.ensures.words
+pub returns-in-Ok-clause-ends : goal.returns-in-Ok-clause-ends
+returns-in-Ok-clause-ends g c = inr (c.in-Ok.asked, c.in-Ok.ensures, c.answer.ensures.does)
 
-pub returns-in-Ok-clause-no_text : goal.returns-in-Ok-clause-no_text
-returns-in-Ok-clause-no_text g c =
-    IfErr-weaker c.args.words _ _ (λ e asks. inr (c.in-Ok.asked, asks, c.answer.ensures.does)) c.in-Ok.ensures.no_text
+pub returns-in-Err-clause-ends : goal.returns-in-Err-clause-ends
+returns-in-Err-clause-ends g c = inl (refl, (c.end.ensures.status, c.end.ensures.line, c.end.ensures.silent))

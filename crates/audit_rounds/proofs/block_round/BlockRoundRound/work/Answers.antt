@@ -1,6 +1,10 @@
 use Rattle.std.proofs.Common.{◌≡◌, ◌<◌, length, map, sym, subst, arith}
 use Rattle.std.proofs.lemmas.List.{length-map}
+use Rattle.std.proofs.lemmas.Option.{get_or_from_slice_get}
+use Rattle.audit_terms.specs.declared.frames.Frame.{Frame}
 use Rattle.split_merge.specs.Board.{Job, IsCut}
+use Rattle.job_crew.specs.Heeding.{RunLooks}
+use Rattle.audit_rounds.specs.declared.block_plans.ReadyBlock.{ReadyBlock}
 use Rattle.audit_rounds.specs.code.Plans.{block_job}
 use Rattle.audit_rounds.proofs.Jobs.{job-is, block-cut-is, run-heeds}
 use Rattle.audit_rounds.proofs.block_round.BlockRoundRound.work.Goals as goal
@@ -18,4 +22,15 @@ returns-clause-cut g c = λ one is.
     c.in_ok-run.ensures.run.found)
 
 pub returns-clause-looks : goal.returns-clause-looks
-returns-clause-looks g c = run-heeds _ _ _ _ _ _ _ _ _ c.in_ok-run.ensures.run
+returns-clause-looks g c =
+    let round = c.args.self.now in
+    let heeds = run-heeds _ _ _ _ _ _ _ _ _ c.in_ok-run.ensures.run in
+    record {
+      asked = heeds.asked;
+      looked = heeds.looked;
+      in_time = λ one is.
+          subst (λ (ready : ReadyBlock). RunLooks (map (λ (frame : Frame). frame.number) ready.block.frames.now)
+          (block_job round.credits_shown ready).findings heeds.asked c.in_ok-run.run'.upto)
+          (get_or_from_slice_get round.plan.now c.args.job one _ is) heeds.in_time;
+      answered = heeds.answered;
+    }

@@ -3,7 +3,7 @@ use Rattle.std.proofs.lemmas.Option.{slice_get-get_or}
 use Rattle.std.proofs.lemmas.List.{length-map}
 use Rattle.audit_rounds.specs.declared.stream_plan.StreamJob.{StreamJob}
 use Rattle.audit_rounds.specs.code.StreamJobs.{job_of}
-use Rattle.audit_rounds.proofs.StreamJobs.{job-cut, job-makes, job-rows}
+use Rattle.audit_rounds.proofs.StreamJobs.{job-cut, job-looks, job-makes, job-rows}
 use Rattle.audit_rounds.proofs.Whole.{if_ok-then}
 use Rattle.audit_rounds.proofs.stream_jobs.StreamsRoundRound.work.Goals as goal
 
@@ -80,4 +80,15 @@ pub returns-clause-numbered : goal.returns-clause-numbered
 returns-clause-numbered g c = if_ok-then c.run_of_rows.result _ _ c.run_of_rows.ensures (λ work made. made.numbered)
 
 pub returns-clause-looks : goal.returns-clause-looks
-returns-clause-looks g c = if_ok-then c.run_of_rows.result _ _ c.run_of_rows.ensures (λ work made. made.looks)
+returns-clause-looks g c =
+    let round = c.args.self.now in
+    let number = length-map round.plan.now (job_of round.credits_shown round.connections.now) in
+    let within : c.args.job < length round.plan.now = omega arith in
+    if_ok-then c.run_of_rows.result _ _ c.run_of_rows.ensures (λ work made. record {
+      asked = made.looks.asked;
+      looked = made.looks.looked;
+      in_time = job-looks round.connections.now round.plan.now c.args.job none c.index-self-job.result c.deref.result.now
+          (round.planned c.args.job none within).connection c.deref.ensures.value round.credits_shown made.looks.asked work.upto
+          made.looks.in_time;
+      answered = made.looks.answered;
+    })

@@ -27,4 +27,6 @@ returns-clause-cut g c = λ one is.
     ]
 
 pub returns-clause-looks : goal.returns-clause-looks
-returns-clause-looks g c = run-heeds _ _ _ _ _ _ _ _ _ c.in_ok-run.ensures.run
+returns-clause-looks g c =
+    let heeds = run-heeds _ _ _ _ _ _ _ _ _ c.in_ok-run.ensures.run in
+    record { asked = heeds.asked; looked = heeds.looked; in_time = tt; answered = heeds.answered }

@@ -2,14 +2,15 @@
 use Rattle.std.specs.Prelude.{◌≡◌, true, false, List, [], ◌∷◌, Option, None, Some, codes}
 use Rattle.clap.specs.Words.{Text, fault_of, first_of, matches_of}
 use Rattle.clap.specs.declared.error.kind.ErrorKind.TheVariants.{DisplayHelp, DisplayVersion, UnknownArgument, ValueValidation}
-use Rattle.command_line.specs.Choices.{Choices}
+use Rattle.command_line.specs.Choices.{Choices, choices}
+use Rattle.command_line.specs.declared.options.Options.{Options}
 use Rattle.command_line.specs.Asked.{IsFound}
 use Rattle.command_line.specs.Words.{app}
 
 -- clap finds no fault in the words, these options and this path
 abbrev pub AreFound : (words : List Text) → Choices → (path : Option Text) → Type 0
 AreFound words asked path = (fault_of app words ≡ [])
-    × IsFound (matches_of app words) asked
+    × ((options : Options) → choices options ≡ asked → IsFound (matches_of app words) options)
     × (first_of (codes "FILE") (matches_of app words) ≡ path)
 
 pub record KnownWords : Type 0 where
