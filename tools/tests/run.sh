@@ -79,6 +79,7 @@ else
     echo "what needs it does not run: build it by 'make build' or 'make test'"
 fi
 try 'man pages and completions' tools/tests/words_test.py
+try 'definitions to believe' tools/tests/believed_test.py
 try 'recipes' tools/tests/recipes_test.py "${audits[@]}"
 try 'language of the definitions' tools/tests/definitions_language_test.py
 try 'reports by definition' tools/tests/definitions_test.py "${audits[@]}"

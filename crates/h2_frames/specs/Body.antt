@@ -6,7 +6,6 @@ use Rattle.audit_terms.specs.declared.frames.Body.TheVariants.{Content, Headers,
 use Rattle.audit_terms.specs.declared.kinds.Kind.TheVariants.{WrongSize, BadPadding, BadPriority}
 use Rattle.audit_terms.specs.FrameType.{has_flag, ack_flag, padded_flag, data_type, headers_type, priority_type, rst_stream_type, settings_type, push_promise_type, ping_type, goaway_type, window_update_type, continuation_type}
 use Rattle.h2_frames.specs.Header.{number_of_31_bits}
-use Rattle.audit_terms.specs.Settings.{packed}
 use Rattle.h2_frames.specs.Settings.{settings_of}
 
 -- the flag PRIORITY (6.2)
@@ -42,7 +41,7 @@ padded_body flags payload fields body =
 abbrev pub settings_body : ℕ → List ℕ → Body
 settings_body flags payload =
     if has_flag flags ack_flag then of_length 0 payload SettingsAck
-    else if length payload % 6 == 0 then Settings (packed (settings_of payload))
+    else if length payload % 6 == 0 then Settings (settings_of payload)
     else wrong_size payload
 
 -- by the type byte: DATA 6.1; HEADERS 6.2, where five bytes on the stream's priority follow with the flag PRIORITY;

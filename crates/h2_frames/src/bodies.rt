@@ -8,7 +8,7 @@ ghost use Rattle.h2_frames.specs.Header.{number_of_31_bits};
 
 use crate::headers::number_of_31_bits;
 use crate::settings::{SETTING_LENGTH, settings_of};
-use audit_terms::{Body, Kind, PackedSettings};
+use audit_terms::{Body, Kind, PackedSettings, Word};
 
 // The types of frames (RFC 9113, 6.1 to 6.10).
 const DATA: u8 = 0;
@@ -49,7 +49,7 @@ fn wrong_size(payload: &[u8]) -> Body
     ensures exact { result ≡ wrong_size payload.now }
     ensures promised { promised_in result < 2 ^ 31 }
 {
-    Body::Unreadable(Kind::WrongSize, payload.len() as u32)
+    Body::Unreadable(Kind::WrongSize, Word::of(payload.len() as u32))
 }
 
 /// A payload that has to be `size` bytes long.
@@ -85,7 +85,7 @@ fn padded_body(flags: u8, payload: &[u8], fields: usize, body: Body) -> Body
         return wrong_size(payload);
     }
     if payload[0] as usize > payload.len() - (fields + 1) {
-        return Body::Unreadable(Kind::BadPadding, payload[0] as u32);
+        return Body::Unreadable(Kind::BadPadding, Word::of(payload[0] as u32));
     }
     body
 }
@@ -109,7 +109,7 @@ fn priority_body(payload: &[u8]) -> Body
     if payload.len() == 5 {
         Body::Priority
     } else {
-        Body::Unreadable(Kind::BadPriority, payload.len() as u32)
+        Body::Unreadable(Kind::BadPriority, Word::of(payload.len() as u32))
     }
 }
 
@@ -140,7 +140,7 @@ fn push_promise_body(flags: u8, payload: &[u8]) -> Body
         return wrong_size(payload);
     }
     let promised = number_of_31_bits(&payload[padding..]);
-    padded_body(flags, payload, 4, Body::PushPromise(promised))
+    padded_body(flags, payload, 4, Body::PushPromise(Word::of(promised)))
 }
 
 /// GOAWAY (RFC 9113, 6.8).
@@ -163,7 +163,7 @@ fn window_update_body(payload: &[u8]) -> Body
     ensures promised { promised_in result < 2 ^ 31 }
 {
     if payload.len() == 4 {
-        Body::WindowUpdate(number_of_31_bits(payload))
+        Body::WindowUpdate(Word::of(number_of_31_bits(payload)))
     } else {
         wrong_size(payload)
     }

@@ -1,7 +1,7 @@
 -- A job that looks as it has to, and heeds the stop of its connection.
 use Rattle.std.specs.Prelude.{◌≡◌, ℕ, List, Option, None, Some, Contains}
 use Rattle.audit_terms.specs.declared.findings.Finding.{Finding}
-use Rattle.audit_terms.specs.Look.{Asked, Looked, LooksInTime, last_answer, upto_of}
+use Rattle.audit_terms.specs.runs.Look.{Asked, Looked, LooksInTime, last_answer, upto_of}
 
 -- a job made the looks that are due and no other, and where it goes up to a place, one of them answered that place
 pub record Heeds {L : Type 0} (answers : L → List Finding → Option ℕ → L → Type 0)

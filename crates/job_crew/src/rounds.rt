@@ -25,7 +25,7 @@ pub trait Round: Sync {
     type Made: Drop + Send;
 
     ghost use Rattle.std.specs.Prelude.{ℕ, List, Option};
-    ghost use Rattle.audit_terms.specs.Look.{Asked};
+    ghost use Rattle.audit_terms.specs.runs.Look.{Asked};
     ghost use Rattle.split_merge.specs.Board.{Job};
 
     ghost jobs: { Self → List Job };

@@ -3,9 +3,10 @@ use Rattle.std.specs.Prelude.{◌≡◌, ℕ, ◌+◌, ◌<◌, ◌==◌, Bool, 
 use Rattle.audit_terms.specs.declared.findings.Finding.{Finding}
 use Rattle.audit_terms.specs.declared.frames.Frame.{Frame}
 use Rattle.audit_terms.specs.declared.items.Item.{Item}
-use Rattle.audit_terms.specs.Connection.{connection_start, block_run}
+use Rattle.audit_terms.specs.Connection.{connection_start}
+use Rattle.audit_terms.specs.runs.Blocks.{block_run}
 use Rattle.audit_terms.specs.Finding.{shown}
-use Rattle.audit_terms.specs.Look.{Asked}
+use Rattle.audit_terms.specs.runs.Look.{Asked}
 use Rattle.conn_scan.specs.Items.{items_in}
 use Rattle.split_merge.specs.Board.{Job, IsSettled, findings_of_jobs}
 use Rattle.job_crew.specs.declared.parts.Part.{Part}

@@ -2,7 +2,7 @@
 use Rattle.std.specs.Prelude.{◌≡◌, ℕ, ◌+◌, ◌^◌, ◌<◌, ◌≤◌, Bool, List, [], ◌∷◌, ◌++◌, All, map, length, slice_get, Option, Some}
 use Rattle.std.specs.Option.{option_map_or}
 use Rattle.std.specs.List.{between}
-use Rattle.audit_terms.specs.Look.{Asked}
+use Rattle.audit_terms.specs.runs.Look.{Asked}
 use Rattle.settings_pair.specs.Changes.{AreOrderly}
 use Rattle.split_merge.specs.declared.splits.StreamRow.{StreamRow}
 use Rattle.split_merge.specs.Groups.{groups}

@@ -1,6 +1,6 @@
 use Rattle.std.proofs.Common.{◌≡◌, ℕ, ◌++◌, Option, List, refl, ap, subst, ◌∙◌}
 use Rattle.audit_terms.specs.declared.findings.Finding.{Finding}
-use Rattle.audit_terms.specs.Look.{Asked}
+use Rattle.audit_terms.specs.runs.Look.{Asked}
 use Rattle.stop_desk.specs.Desk.{PassView, pass_of}
 use Rattle.stop_desk.specs.Calls.{IsLook}
 use Rattle.job_crew.specs.declared.desk_looks.DeskLook.{DeskLook}
