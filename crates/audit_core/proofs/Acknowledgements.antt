@@ -8,7 +8,7 @@ use Rattle.audit_terms.specs.Side.{other}
 use Rattle.audit_terms.specs.Sides.{side_of}
 use Rattle.audit_terms.specs.Frame.{is_ack, meets}
 use Rattle.audit_terms.specs.InForce.{InForce, change_of, change_taking}
-use Rattle.audit_terms.specs.Stream.{IsAcknowledged}
+use Rattle.audit_terms.specs.runs.Streams.{IsAcknowledged}
 use Rattle.audit_core.specs.code.StreamTable.{IsOfAcknowledgement, step_at}
 
 pub step_at-acknowledged : (frame : Frame) (change : Option Change) (stream : ℕ) → IsOfAcknowledgement change frame →

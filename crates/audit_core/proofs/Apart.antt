@@ -6,7 +6,8 @@ use borrow.Author.Tests.{eq-eqb}
 use Rattle.audit_terms.specs.declared.frames.Frame.{Frame}
 use Rattle.audit_terms.specs.declared.findings.Finding.{Finding}
 use Rattle.audit_terms.specs.Finding.{comes_after}
-use Rattle.audit_terms.specs.Frame.{promised_by, IsInRange, IsOrderlyFrom, IsOrderly}
+use Rattle.audit_terms.specs.Frame.{promised_by}
+use Rattle.audit_terms.specs.runs.Orderly.{IsInRange, IsOrderlyFrom, IsOrderly}
 use Rattle.audit_core.specs.code.StreamTable.{NotAmong, AreDistinct}
 use Rattle.audit_terms.specs.Pass.{PassState, pass_start, said, full_from, full, next, first_of, streams_of}
 use Rattle.audit_core.specs.ApartLaw.{EachPair, AreApart, StandApart}

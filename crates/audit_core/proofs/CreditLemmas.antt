@@ -11,16 +11,19 @@ use Rattle.audit_terms.specs.declared.frames.Frame.{Frame}
 use Rattle.audit_terms.specs.declared.items.Step.{Step}
 use Rattle.audit_terms.specs.declared.streams.Stream.{Stream}
 use Rattle.audit_terms.specs.Sides.{side_of}
-use Rattle.audit_terms.specs.Frame.{content_by, grant_to, IsOrderlyFrom}
+use Rattle.audit_terms.specs.Frame.{content_by, grant_to}
+use Rattle.audit_terms.specs.runs.Orderly.{IsOrderlyFrom}
 use Rattle.audit_terms.specs.Life.{is_opening, is_last_of}
 use Rattle.audit_terms.specs.Window.{first_window}
 use Rattle.audit_terms.specs.Change.{new_initial}
 use Rattle.audit_terms.specs.InForce.{change_of}
 use Rattle.audit_terms.specs.Connection.{credit_after}
-use Rattle.audit_terms.specs.Stream.{step_test, counted, opens, window_ends, window_after, window_at_opening}
-use Rattle.audit_terms.specs.Pass.{PassState, pass_start, step_of, next, state_from}
+use Rattle.audit_terms.specs.Stream.{step_test, opens, window_after, window_at_opening}
+use Rattle.audit_terms.specs.code.StreamSteps.{counted, window_ends}
+use Rattle.audit_terms.specs.Pass.{PassState, pass_start, step_of, next}
+use Rattle.audit_terms.specs.runs.States.{state_from}
 use Rattle.audit_core.specs.CreditLaws.{ConnectionCreditIsSum, StreamCreditIsSum}
-use Rattle.audit_terms.specs.Credit.{content_on, since, stream_credit_sum}
+use Rattle.audit_terms.specs.laws.Credit.{content_on, since, stream_credit_sum}
 use Rattle.audit_core.proofs.Meetings.{CountsNothing, no-choice, and-false, step-grant, step-content, step-opening, step-opened}
 
 -- ---- the connection

@@ -19,19 +19,20 @@ use Rattle.audit_terms.specs.declared.items.Item.{Item}
 use Rattle.audit_terms.specs.declared.connections.ConnectionState.{ConnectionState}
 use Rattle.audit_terms.specs.declared.streams.Stream.{Stream}
 use Rattle.audit_terms.specs.declared.findings.Finding.{Finding}
-use Rattle.audit_terms.specs.Settings.{unpacked}
 use Rattle.audit_terms.specs.Side.{other, is_side}
 use Rattle.audit_terms.specs.Sides.{side_of}
 use Rattle.audit_terms.specs.Kind.{rank_of}
-use Rattle.audit_terms.specs.Place.{place_rank}
+use Rattle.audit_terms.specs.laws.Places.{place_rank}
 use Rattle.audit_terms.specs.Finding.{finding_at, say, say_of, stops, comes_after}
-use Rattle.audit_terms.specs.Frame.{is_ack, is_content, increment, content_by, grant_to, grants_nothing, meets, IsInRange, IsOrderly}
+use Rattle.audit_terms.specs.Frame.{is_ack, is_content, increment, content_by, grant_to, grants_nothing, meets}
+use Rattle.audit_terms.specs.runs.Orderly.{IsInRange, IsOrderly}
 use Rattle.audit_terms.specs.Change.{new_initial}
 use Rattle.audit_terms.specs.Window.{overflows}
 use Rattle.audit_terms.specs.LocalFault.{local_said, fault, body_said, reading_fault}
 use Rattle.audit_terms.specs.InForce.{InForce, settings_said, taken, change_of, change_taking}
 use Rattle.audit_terms.specs.Connection.{credit_after, connection_said, length_said, connection_windows_said, connection_window_said}
-use Rattle.audit_terms.specs.Stream.{opens, counted, window_at_opening, window_step, stream_said, frame_said, stream_window_said, live_window_said, opened_window_said}
+use Rattle.audit_terms.specs.Stream.{opens, window_at_opening, window_step, stream_said, frame_said, stream_window_said, live_window_said, opened_window_said}
+use Rattle.audit_terms.specs.code.StreamSteps.{counted}
 use Rattle.audit_terms.specs.Pass.{PassState, pass_start, said, full, streams_of, streams_said, step_of, item_of}
 use Rattle.audit_core.specs.ApartLaw.{EachPair, AreApart, AreApartAsErrors}
 use Rattle.audit_core.proofs.Pairs.{all-append, all-ordered, pairs-refine}
@@ -131,7 +132,7 @@ module _ (frame : Frame) (h : frame.stream < 2 ^ 31) where
   of-body : (body : Body) → AreOf frame.side (body_said frame body)
   of-body (Unreadable kind value) = of-reading_fault kind value
   of-body (SettingsBody words) =
-      of-say_of frame.side (λ identifier. fault BadSetting frame identifier ∷ []) (unpacked words).bad
+      of-say_of frame.side (λ identifier. fault BadSetting frame identifier ∷ []) words.bad
       (λ identifier. of-sender frame.side BadSetting frame.number frame.stream (pos identifier) true h refl)
   of-body _ = of-nil frame.side
 

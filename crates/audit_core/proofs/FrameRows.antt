@@ -15,13 +15,13 @@ use Rattle.audit_terms.specs.declared.items.Step.{Step}
 use Rattle.audit_terms.specs.declared.connections.ConnectionState.{ConnectionState}
 use Rattle.audit_terms.specs.declared.streams.Stream.{Stream}
 use Rattle.audit_terms.specs.declared.findings.Finding.{Finding}
-use Rattle.audit_terms.specs.Settings.{unpacked}
 use Rattle.audit_terms.specs.Side.{is_side}
 use Rattle.audit_terms.specs.Sides.{side_of}
 use Rattle.audit_terms.specs.Kind.{rank_of}
 use Rattle.audit_terms.specs.Place.{place_stream}
 use Rattle.audit_terms.specs.Finding.{finding_at, say}
-use Rattle.audit_terms.specs.Frame.{is_headers, is_promise, promised_in, IsInRange}
+use Rattle.audit_terms.specs.Frame.{is_headers, is_promise, promised_in}
+use Rattle.audit_terms.specs.runs.Orderly.{IsInRange}
 use Rattle.audit_terms.specs.LocalFault.{local_said, fault, body_said, reading_fault}
 use Rattle.audit_terms.specs.InForce.{InForce, settings_said}
 use Rattle.audit_terms.specs.Connection.{connection_said, length_said, push_said, opening_order_said, promise_order_said, connection_windows_said, connection_window_said}
@@ -59,7 +59,7 @@ module _ (frame : Frame) (h : frame.stream < 2 ^ 31) where
   rows-body : (body : Body) → AreRows (Only frame.stream) 3 4 (body_said frame body)
   rows-body (Unreadable kind value) = rows-reading_fault kind value
   rows-body (SettingsBody words) =
-      rows-say_of (Only frame.stream) 3 4 (λ identifier. fault BadSetting frame identifier ∷ []) (unpacked words).bad
+      rows-say_of (Only frame.stream) 3 4 (λ identifier. fault BadSetting frame identifier ∷ []) words.bad
       (λ identifier. said BadSetting (pos identifier) true 3 refl refl)
   rows-body _ = rows-nil _ 3 4
 

@@ -13,9 +13,11 @@ use Rattle.audit_terms.specs.Side.{is_side}
 use Rattle.audit_terms.specs.Sides.{side_of}
 use Rattle.audit_terms.specs.Frame.{is_client_headers, is_reset, promises, sends_end, meets}
 use Rattle.audit_terms.specs.Life.{is_opening, is_last_of, ends_window}
-use Rattle.audit_terms.specs.Stream.{window_after, window_at_opening, stream_after, counted, is_overflowing_grant}
+use Rattle.audit_terms.specs.Stream.{window_after, window_at_opening, stream_after}
+use Rattle.audit_terms.specs.code.StreamSteps.{counted, is_overflowing_grant}
 use Rattle.audit_terms.specs.InForce.{change_of}
-use Rattle.audit_terms.specs.Pass.{PassState, pass_start, next, state_from}
+use Rattle.audit_terms.specs.Pass.{PassState, pass_start, next}
+use Rattle.audit_terms.specs.runs.States.{state_from}
 use Rattle.audit_core.proofs.Meetings.{and-right, and-false}
 use Rattle.audit_core.specs.LiveLaw.{LiveWindowsAreOpened, LiveWindowsAreUnended}
 

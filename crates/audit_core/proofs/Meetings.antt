@@ -11,7 +11,7 @@ use Rattle.audit_terms.specs.declared.lives.StreamLife.{StreamLife}
 use Rattle.audit_terms.specs.declared.streams.Stream.{Stream}
 use Rattle.audit_terms.specs.Side.{is_side}
 use Rattle.audit_terms.specs.Frame.{is_ack, is_content, is_headers, is_promise, is_server_promise, is_client_headers, increment, content_by, grant_to, promises, meets}
-use Rattle.audit_terms.specs.Credit.{content_on}
+use Rattle.audit_terms.specs.laws.Credit.{content_on}
 use Rattle.audit_terms.specs.InForce.{InForce}
 use Rattle.audit_terms.specs.Life.{is_opening, life_after}
 use Rattle.audit_terms.specs.Stream.{step_amount, opens, life_at}

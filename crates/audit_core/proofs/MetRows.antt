@@ -9,7 +9,8 @@ use Rattle.audit_terms.specs.declared.streams.Stream.{Stream}
 use Rattle.audit_terms.specs.declared.findings.Finding.{Finding}
 use Rattle.audit_terms.specs.Frame.{is_server_promise, promised_in, promises, promised_by, meets}
 use Rattle.audit_terms.specs.Finding.{in_order}
-use Rattle.audit_terms.specs.Stream.{initial_after, stream_said, stream_after}
+use Rattle.audit_terms.specs.Stream.{stream_said, stream_after}
+use Rattle.audit_terms.specs.runs.Streams.{initial_after}
 use Rattle.audit_terms.proofs.FindingOrder.{in_order-alike, in_order-append_comm}
 use Rattle.audit_core.specs.declared.tables.StreamRow.{StreamRow}
 use Rattle.audit_core.specs.code.StreamTable.{step_at, row_said, row_after, row_said_of, row_after_of, RowsFit, RowsFitBy, bound_more}

@@ -1,7 +1,7 @@
 -- What is left of orderly frames.
-use Rattle.std.proofs.Common.{◌≡◌, ℕ, zero, suc, ◌+◌, ◌-◌, ◌^◌, ◌<◌, ◌≤◌, List, [], ◌∷◌, length, drop, get_or, refl, arith}
+use Rattle.std.proofs.Common.{◌≡◌, ℕ, zero, suc, ◌+◌, ◌-◌, ◌^◌, ◌<◌, ◌≤◌, List, [], ◌∷◌, length, drop, get_or, refl, sym, subst, ap, ◌∙◌, arith}
 use Rattle.audit_terms.specs.declared.frames.Frame.{Frame}
-use Rattle.audit_terms.specs.Frame.{IsInRange, IsOrderlyFrom}
+use Rattle.audit_terms.specs.runs.Orderly.{IsInRange, IsOrderlyFrom}
 
 -- each frame of an orderly list is in range
 pub in_range-get_or : (low : ℕ) (frames : List Frame) (i : ℕ) (d : Frame) → IsOrderlyFrom low frames →
@@ -35,3 +35,15 @@ number-get_or low frames i d h l = let r = (in_range-get_or low frames i d h l).
 pub stream-get_or : (low : ℕ) (frames : List Frame) (i : ℕ) (d : Frame) → IsOrderlyFrom low frames → i < length frames →
     (get_or frames i d).stream < 2 ^ 31
 stream-get_or low frames i d h l = (in_range-get_or low frames i d h l).stream
+
+-- the same of a frame that was read at its position
+pub in_range-at : (frames : List Frame) (i : ℕ) (frame : Frame) → frame ≡ get_or frames i frame → IsOrderlyFrom 0 frames →
+    i < length frames → IsInRange frame
+in_range-at frames i frame is h l = subst IsInRange (sym is) (in_range-get_or 0 frames i frame h l)
+
+pub number-at : (frames : List Frame) (i : ℕ) (frame : Frame) → frame ≡ get_or frames i frame → IsOrderlyFrom 0 frames →
+    i < length frames → frame.number ≤ 2 ^ 28 - 2
+number-at frames i frame is h l = let r = (in_range-at frames i frame is h l).number in omega arith
+
+pub drop-at : {X : Type 0} (xs : List X) (i : ℕ) (x : X) → x ≡ get_or xs i x → i < length xs → drop i xs ≡ x ∷ drop (i + 1) xs
+drop-at xs i x is l = drop-next xs i x l ∙ ap (λ y. y ∷ drop (i + 1) xs) (sym is)

@@ -1,5 +1,5 @@
 -- Whether a frame opens its stream in the pass: the table has a row for each stream that the frames name.
-use Rattle.std.proofs.Common.{◌≡◌, ℕ, zero, suc, ◌<◌, ◌==◌, Bool, true, false, not, ◌&&◌, ◌||◌, List, [], ◌∷◌, length, filter, get_or, refl, sym, ap, ◌∙◌, arith, ◌%◌, is_none, Some, None, if◌then◌else◌, true≢false}
+use Rattle.std.proofs.Common.{◌≡◌, ℕ, zero, suc, ◌<◌, ◌==◌, Bool, true, false, not, ◌&&◌, ◌||◌, List, [], ◌∷◌, length, filter, get_or, refl, sym, ap, subst, ◌∙◌, arith, ◌%◌, is_none, Some, None, if◌then◌else◌, true≢false}
 use Rattle.std.specs.List.{list_any}
 use Rattle.std.specs.Option.{option_map_or}
 use borrow.Author.Tests.{eqb-true, eq-eqb}
@@ -114,8 +114,9 @@ module _ (state : PassState) (frame : Frame) where
     step false e = ap (λ a. a && is_opened) (h e)
 
 -- the row of a frame's stream says whether the frame opens it
-pub opens-frame : (state : PassState) (frames : List Frame) (i : ℕ) (d : Frame) → i < length frames →
-    list_any (row_opens (get_or frames i d)) (rows_at state (streams_of frames))
-    ≡ opens_stream state (get_or frames i d)
-opens-frame state frames i d l =
-    opens-by state (get_or frames i d) (streams_of frames) (among-streams_of frames i d l)
+pub opens-frame : (state : PassState) (frames : List Frame) (i : ℕ) (frame : Frame) → frame ≡ get_or frames i frame →
+    i < length frames →
+    list_any (row_opens frame) (rows_at state (streams_of frames)) ≡ opens_stream state frame
+opens-frame state frames i frame is l =
+    subst (λ one. list_any (row_opens one) (rows_at state (streams_of frames)) ≡ opens_stream state one) (sym is)
+    (opens-by state (get_or frames i frame) (streams_of frames) (among-streams_of frames i frame l))

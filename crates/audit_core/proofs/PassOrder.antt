@@ -4,7 +4,8 @@ use Rattle.audit_terms.specs.declared.frames.Frame.{Frame}
 use Rattle.audit_terms.specs.declared.findings.Finding.{Finding}
 use Rattle.audit_terms.specs.Sides.{side_of}
 use Rattle.audit_terms.specs.Finding.{comes_after, in_order}
-use Rattle.audit_terms.specs.Frame.{promised_in, promises, promised_by, IsInRange, IsOrderlyFrom, IsOrderly}
+use Rattle.audit_terms.specs.Frame.{promised_in, promises, promised_by}
+use Rattle.audit_terms.specs.runs.Orderly.{IsInRange, IsOrderlyFrom, IsOrderly}
 use Rattle.audit_terms.specs.LocalFault.{local_said}
 use Rattle.audit_terms.specs.InForce.{settings_said}
 use Rattle.audit_terms.specs.Connection.{connection_said}

@@ -8,7 +8,7 @@ use Rattle.audit_terms.specs.declared.connections.ConnectionState.{ConnectionSta
 use Rattle.audit_terms.specs.declared.findings.Finding.{Finding}
 use Rattle.audit_terms.specs.Sides.{side_of}
 use Rattle.audit_terms.specs.Finding.{finding_at, say, in_order}
-use Rattle.audit_terms.specs.Frame.{IsOrderly}
+use Rattle.audit_terms.specs.runs.Orderly.{IsOrderly}
 use Rattle.audit_terms.specs.LocalFault.{local_said}
 use Rattle.audit_terms.specs.InForce.{InForce, settings_said}
 use Rattle.audit_terms.specs.Connection.{connection_said}

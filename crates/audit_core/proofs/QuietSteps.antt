@@ -14,7 +14,9 @@ use Rattle.audit_terms.specs.Finding.{say_of}
 use Rattle.audit_terms.specs.Sides.{side_of}
 use Rattle.audit_terms.specs.Change.{new_initial}
 use Rattle.audit_terms.specs.Window.{is_used_up}
-use Rattle.audit_terms.specs.Stream.{counted, window_step, live_window_said, window_after, stream_window_said, stream_said, stream_after, initial_after}
+use Rattle.audit_terms.specs.Stream.{window_step, live_window_said, window_after, stream_window_said, stream_said, stream_after}
+use Rattle.audit_terms.specs.code.StreamSteps.{counted}
+use Rattle.audit_terms.specs.runs.Streams.{initial_after}
 
 -- a step of a change alone, or of nothing
 abbrev pub bare_step : ℕ → Option Change → Step

@@ -6,11 +6,13 @@ use Rattle.audit_terms.specs.declared.settings.Settings.{Settings}
 use Rattle.audit_terms.specs.declared.frames.Frame.{Frame}
 use Rattle.audit_terms.specs.declared.items.Change.{Change}
 use Rattle.audit_terms.specs.declared.items.Step.{Step}
-use Rattle.audit_terms.specs.Frame.{meets, IsOrderlyFrom}
+use Rattle.audit_terms.specs.Frame.{meets}
+use Rattle.audit_terms.specs.runs.Orderly.{IsOrderlyFrom}
 use Rattle.audit_terms.specs.Change.{change_by}
-use Rattle.audit_terms.specs.InForce.{InForce, in_force_after, change_taking, taken, changes_from}
+use Rattle.audit_terms.specs.InForce.{InForce, in_force_after, change_taking, taken}
+use Rattle.audit_terms.specs.runs.Changes.{changes_from}
 use Rattle.audit_terms.specs.Pass.{step_of}
-use Rattle.audit_terms.specs.Run.{frames_of, frame_step, change_step, with_change, steps_of}
+use Rattle.audit_terms.specs.runs.Streams.{frames_of, frame_step, change_step, with_change, steps_of}
 
 -- all numbers at or above one
 abbrev pub FramesFrom : (low : ℕ) → List Frame → Type 0

@@ -7,7 +7,8 @@ use Rattle.audit_terms.specs.declared.sides.Side.TheVariants.{Client, Server}
 use Rattle.audit_terms.specs.declared.kinds.Kind.{Kind}
 use Rattle.audit_terms.specs.declared.findings.Finding.{Finding}
 use Rattle.audit_terms.specs.Kind.{rank_of}
-use Rattle.audit_terms.specs.Place.{place_of, place_rank, place_stream}
+use Rattle.audit_terms.specs.Place.{place_of, place_stream}
+use Rattle.audit_terms.specs.laws.Places.{place_rank}
 use Rattle.audit_terms.specs.Finding.{finding_at, say, say_of}
 use Rattle.audit_core.specs.ApartLaw.{AreApart, StandApart}
 use Rattle.audit_core.proofs.Pairs.{all-append, all-map, across-by, pairs-append}

@@ -4,7 +4,7 @@ use Rattle.std.specs.List.{AllByRecursion}
 use Rattle.audit_terms.specs.declared.frames.Frame.{Frame}
 use Rattle.audit_terms.specs.declared.findings.Finding.{Finding}
 use Rattle.audit_terms.specs.Finding.{stops}
-use Rattle.audit_terms.specs.Frame.{IsOrderly}
+use Rattle.audit_terms.specs.runs.Orderly.{IsOrderly}
 use Rattle.audit_terms.specs.Pass.{full}
 
 -- each element stands so to every later one

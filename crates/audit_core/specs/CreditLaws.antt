@@ -3,9 +3,9 @@ use Rattle.std.specs.Prelude.{◌≡◌, ℕ, ℤ, ◌<◌, List, Some}
 use Rattle.audit_terms.specs.declared.sides.Side.{Side}
 use Rattle.audit_terms.specs.declared.frames.Frame.{Frame}
 use Rattle.audit_terms.specs.Sides.{side_of}
-use Rattle.audit_terms.specs.Frame.{IsOrderly}
-use Rattle.audit_terms.specs.Pass.{state_after}
-use Rattle.audit_terms.specs.Credit.{connection_credit_sum, stream_credit_sum}
+use Rattle.audit_terms.specs.runs.Orderly.{IsOrderly}
+use Rattle.audit_terms.specs.runs.States.{state_after}
+use Rattle.audit_terms.specs.laws.Credit.{connection_credit_sum, stream_credit_sum}
 
 -- each side's connection window: all of that side's content counts, whatever its stream
 abbrev pub ConnectionCreditIsSum : Type 0

@@ -6,14 +6,19 @@ use Rattle.audit_terms.specs.declared.frames.Body.TheVariants.{Settings as Setti
 use Rattle.audit_terms.specs.Finding.{finding_at}
 use Rattle.audit_terms.specs.FrameType.{data_type, headers_type, priority_type, rst_stream_type, settings_type, push_promise_type, ping_type, ack_flag, end_stream_flag, end_headers_flag, padded_flag}
 use Rattle.audit_terms.specs.Pass.{pass}
-use Rattle.audit_terms.specs.Settings.{packed, no_settings}
-use Rattle.audit_core.specs.Script.{scripted, data_frame, headers_frame, open_headers_frame, continuation_frame, priority_frame, reset_frame, update_frame, promise_frame, ping_frame, goaway_frame, unknown_frame, settings_frame, max_frame_size_frame, ack_frame, unreadable_frame, without_credits, audit_of, all_of, all_with_credits_of}
+use Rattle.audit_terms.specs.Settings.{no_settings}
+use Rattle.audit_core.specs.Script.{scripted, data_frame, headers_frame, open_headers_frame, continuation_frame, open_continuation_frame, priority_frame, reset_frame, update_frame, promise_frame, ping_frame, goaway_frame, unknown_frame, settings_frame, max_frame_size_frame, ack_frame, unreadable_frame, without_credits, audit_of, all_of, all_with_credits_of}
 
 -- a first frame that acknowledges is no SETTINGS of its side's preface; one of wrong size is SETTINGS all the same
 abbrev pub FirstFrameAcknowledges : Type 0
 FirstFrameAcknowledges =
     without_credits (pass (settings_frame 1 Client ∷ ack_frame 2 Server ∷ []))
     ≡ finding_at BadPreface 2 0 Server (pos 4) ∷ []
+
+-- the client begins with a PING
+abbrev pub ClientBeginsWithPing : Type 0
+ClientBeginsWithPing =
+    without_credits (pass (ping_frame 1 Client ∷ [])) ≡ finding_at BadPreface 1 0 Client (pos 6) ∷ []
 
 abbrev pub FirstFrameUnreadable : Type 0
 FirstFrameUnreadable =
@@ -26,6 +31,23 @@ BlockGoesOn =
     audit_of (
     open_headers_frame 5 Client 1 0 ∷ ping_frame 6 Server ∷ continuation_frame 7 Client 1 0
     ∷ scripted 8 Server push_promise_type 0 1 4 (PushPromise 2) ∷ continuation_frame 9 Server 1 0 ∷ []) ≡ []
+
+-- and also by CONTINUATION without END_HEADERS
+abbrev pub BlockOfThreeFrames : Type 0
+BlockOfThreeFrames =
+    audit_of (
+    open_headers_frame 5 Client 1 0 ∷ open_continuation_frame 6 Client 1 0 ∷ continuation_frame 7 Client 1 0 ∷ []) ≡ []
+
+-- DATA of the block's own stream breaks it, and so does a frame of unknown type
+abbrev pub BlockBrokenByData : Type 0
+BlockBrokenByData =
+    audit_of (open_headers_frame 5 Client 1 0 ∷ data_frame 6 Client 1 0 ∷ [])
+    ≡ finding_at BrokenBlock 6 1 Client (pos 0) ∷ []
+
+abbrev pub BlockBrokenByUnknown : Type 0
+BlockBrokenByUnknown =
+    audit_of (open_headers_frame 5 Client 1 0 ∷ unknown_frame 6 Client 1 0 ∷ [])
+    ≡ finding_at BrokenBlock 6 1 Client (pos 10) ∷ []
 
 -- CONTINUATION with no open block, and on another stream than the block's
 abbrev pub NoBlockOpen : Type 0
@@ -55,7 +77,7 @@ WrongStreams =
     all_of (
     data_frame 5 Client 0 0 ∷ headers_frame 6 Client 0 ∷ priority_frame 7 Client 0 ∷ reset_frame 8 Client 0
     ∷ promise_frame 9 Server 0 2 ∷ continuation_frame 10 Client 0 0
-    ∷ scripted 11 Server settings_type 0 1 0 (SettingsBody (packed no_settings))
+    ∷ scripted 11 Server settings_type 0 1 0 (SettingsBody no_settings)
     ∷ scripted 12 Client settings_type ack_flag 1 0 SettingsAck
     ∷ scripted 13 Client ping_type 0 1 8 Ping ∷ goaway_frame 14 Server 1 8
     ∷ update_frame 15 Server 0 1 ∷ unknown_frame 16 Client 0 1 ∷ unknown_frame 17 Client 1 1 ∷ [])
@@ -72,13 +94,19 @@ TooLongFrames =
     all_of (
     open_headers_frame 5 Client 1 16385 ∷ continuation_frame 6 Client 1 16385
     ∷ scripted 7 Server push_promise_type end_headers_flag 1 16385 (PushPromise 2)
-    ∷ scripted 8 Client settings_type 0 0 16386 (SettingsBody (packed no_settings))
+    ∷ scripted 8 Client settings_type 0 0 16386 (SettingsBody no_settings)
     ∷ goaway_frame 9 Server 0 16385 ∷ unknown_frame 10 Client 0 16385
     ∷ unreadable_frame 11 Server ping_type 0 0 16385 WrongSize 16385 ∷ [])
     ≡ finding_at TooLong 5 1 Client (pos 16385) ∷ finding_at TooLong 6 1 Client (pos 16385)
     ∷ finding_at TooLong 7 1 Server (pos 16385) ∷ finding_at TooLong 8 0 Client (pos 16386)
     ∷ finding_at TooLong 9 0 Server (pos 16385) ∷ finding_at TooLong 10 0 Client (pos 16385)
     ∷ finding_at TooLong 11 0 Server (pos 16385) ∷ finding_at WrongSize 11 0 Server (pos 16385) ∷ []
+
+-- a SETTINGS above the limit on a stream ends the audit by its length, before its stream is judged
+abbrev pub TooLongSettingsOnStream : Type 0
+TooLongSettingsOnStream =
+    audit_of (scripted 5 Client settings_type 0 1 16386 (SettingsBody no_settings) ∷ [])
+    ≡ finding_at TooLong 5 1 Client (pos 16386) ∷ []
 
 -- frames above the limit of all other types, readable or not
 abbrev pub LongFrames : Type 0

@@ -4,6 +4,8 @@ pub mod StreamUses
 pub mod SingleFaults
 pub mod FrameFaults
 pub mod WindowUses
+pub mod SettingsUses
+pub mod ServerWindows
 pub mod Promises
 pub mod KindTable
 pub mod CreditLaws

@@ -3,7 +3,7 @@ use Rattle.std.specs.Prelude.{ℕ, List, OnSome, IsSome, IsFalse}
 use Rattle.audit_terms.specs.declared.sides.Side.{Side}
 use Rattle.audit_terms.specs.declared.frames.Frame.{Frame}
 use Rattle.audit_terms.specs.Sides.{side_of}
-use Rattle.audit_terms.specs.Pass.{state_after}
+use Rattle.audit_terms.specs.runs.States.{state_after}
 
 -- after any frames a window that is live is of a stream that is opened
 abbrev pub LiveWindowsAreOpened : Type 0

@@ -4,13 +4,15 @@ use Rattle.std.specs.List.{flat_map}
 use Rattle.audit_terms.specs.declared.frames.Frame.{Frame}
 use Rattle.audit_terms.specs.declared.items.Item.{Item}
 use Rattle.audit_terms.specs.declared.findings.Finding.{Finding}
-use Rattle.audit_terms.specs.Frame.{IsOrderly}
+use Rattle.audit_terms.specs.runs.Orderly.{IsOrderly}
 use Rattle.audit_terms.specs.Finding.{in_order}
-use Rattle.audit_terms.specs.LocalFault.{local_run}
-use Rattle.audit_terms.specs.InForce.{settings_run}
+use Rattle.audit_terms.specs.runs.LocalFaults.{local_run}
+use Rattle.audit_terms.specs.runs.Changes.{settings_run}
 use Rattle.audit_terms.specs.Connection.{connection_start}
-use Rattle.audit_terms.specs.Pass.{full, streams_of, items_of}
-use Rattle.audit_terms.specs.Run.{group_run, block_runs}
+use Rattle.audit_terms.specs.Pass.{full, streams_of}
+use Rattle.audit_terms.specs.runs.States.{items_of}
+use Rattle.audit_terms.specs.runs.Streams.{group_run}
+use Rattle.audit_terms.specs.runs.Blocks.{block_runs}
 
 -- consecutive parts of a list, joined
 abbrev pub joined : {A : Type 0} → List (List A) → List A

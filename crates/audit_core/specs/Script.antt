@@ -8,7 +8,7 @@ use Rattle.audit_terms.specs.declared.frames.Body.TheVariants.{Content, Headers,
 use Rattle.audit_terms.specs.declared.frames.Frame.{Frame}
 use Rattle.audit_terms.specs.declared.kinds.Kind.{Kind}
 use Rattle.audit_terms.specs.declared.findings.Finding.{Finding}
-use Rattle.audit_terms.specs.Settings.{packed, no_settings}
+use Rattle.audit_terms.specs.Settings.{no_settings}
 use Rattle.audit_terms.specs.Kind.{rank_of}
 use Rattle.audit_terms.specs.FrameType.{data_type, headers_type, priority_type, rst_stream_type, settings_type, push_promise_type, ping_type, goaway_type, window_update_type, continuation_type, end_stream_flag, ack_flag, end_headers_flag, padded_flag}
 use Rattle.audit_terms.specs.Pass.{full, pass}
@@ -57,6 +57,10 @@ abbrev pub continuation_frame : ℕ → Side → (stream length : ℕ) → Frame
 continuation_frame number side stream length =
     scripted number side continuation_type end_headers_flag stream length Continuation
 
+-- CONTINUATION without END_HEADERS, which leaves its field block open
+abbrev pub open_continuation_frame : ℕ → Side → (stream length : ℕ) → Frame
+open_continuation_frame number side stream length = scripted number side continuation_type 0 stream length Continuation
+
 -- PRIORITY
 abbrev pub priority_frame : ℕ → Side → (stream : ℕ) → Frame
 priority_frame number side stream = scripted number side priority_type 0 stream 5 Priority
@@ -88,11 +92,11 @@ ping_frame number side = scripted number side ping_type 0 0 8 Ping
 
 -- an empty SETTINGS
 abbrev pub settings_frame : ℕ → Side → Frame
-settings_frame number side = scripted number side settings_type 0 0 0 (SettingsBody (packed no_settings))
+settings_frame number side = scripted number side settings_type 0 0 0 (SettingsBody no_settings)
 
 -- SETTINGS of one pair
 abbrev pub setting_frame : ℕ → Side → Settings → Frame
-setting_frame number side settings = scripted number side settings_type 0 0 6 (SettingsBody (packed settings))
+setting_frame number side settings = scripted number side settings_type 0 0 6 (SettingsBody settings)
 
 -- the pair is an initial window
 abbrev pub initial_window_frame : ℕ → Side → (initial : ℕ) → Frame

@@ -3,7 +3,7 @@ use Rattle.std.specs.Prelude.{◌≡◌, pos, [], ◌∷◌, ◌++◌, Some}
 use Rattle.audit_terms.specs.declared.sides.Side.TheVariants.{Client, Server}
 use Rattle.audit_terms.specs.declared.kinds.Kind.TheVariants.{BadPreface, BrokenBlock, BadPadding, BadSetting, LongFrame, TooLong, StreamOverflow, StreamCredit, WrongStream, BadPriority}
 use Rattle.audit_terms.specs.Finding.{finding_at}
-use Rattle.audit_terms.specs.Settings.{packed, no_settings}
+use Rattle.audit_terms.specs.Settings.{no_settings}
 use Rattle.audit_core.specs.Script.{scripted, headers_frame, data_frame, padded_data_frame, reset_frame, update_frame, ping_frame, settings_frame, unreadable_frame, without_credits, audit_of, audit_with_credits_of}
 use Rattle.audit_terms.specs.FrameType.{data_type, headers_type, priority_type, settings_type, end_headers_flag, padded_flag}
 use Rattle.audit_terms.specs.declared.frames.Body.TheVariants.{Headers, Settings as SettingsBody}
@@ -35,7 +35,7 @@ GoodPadding = audit_of (headers_frame 5 Client 1 ∷ padded_data_frame 6 Client 
 abbrev pub BadSettingFound : Type 0
 BadSettingFound =
     audit_of (scripted 5 Server settings_type 0 0 6
-    (SettingsBody (packed (record no_settings { bad = Some 4 }))) ∷ [])
+    (SettingsBody (record no_settings { bad = Some 4 })) ∷ [])
     ≡ finding_at BadSetting 5 0 Server (pos 4) ∷ []
 
 -- DATA and HEADERS one byte longer than the limit

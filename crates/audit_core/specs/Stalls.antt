@@ -1,5 +1,5 @@
 -- Worked examples of windows: stalls, overruns, overflows, grants of 0.
-use Rattle.std.specs.Prelude.{◌≡◌, pos, ◌-ℤ◌, List, [], ◌∷◌, ◌++◌, Some}
+use Rattle.std.specs.Prelude.{◌≡◌, pos, ◌-ℤ◌, List, [], ◌∷◌, ◌++◌, map, Some}
 use Rattle.audit_terms.specs.declared.sides.Side.TheVariants.{Client, Server}
 use Rattle.audit_terms.specs.declared.frames.Frame.{Frame}
 use Rattle.audit_terms.specs.declared.findings.Finding.{Finding}
@@ -9,7 +9,7 @@ use Rattle.audit_terms.specs.Settings.{no_settings}
 use Rattle.audit_core.specs.Script.{headers_frame, data_frame, padded_data_frame, update_frame, initial_window_frame, ack_frame, unreadable_frame, opening_frames, audit_of, audit_with_credits_of}
 use Rattle.audit_terms.specs.FrameType.{window_update_type}
 use Rattle.audit_terms.specs.Change.{change_by}
-use Rattle.audit_terms.specs.InForce.{changes_of}
+use Rattle.audit_terms.specs.runs.Changes.{changes_of}
 
 -- all of the first 65,535 bytes of credit, padding included, are sent
 abbrev pub padded_stall_script : List Frame
@@ -25,6 +25,10 @@ padded_stall_findings =
 
 abbrev pub PaddedStall : Type 0
 PaddedStall = audit_of padded_stall_script ≡ padded_stall_findings
+
+-- where they stand: frame 9, ranks 22 and 24, the connection and stream 1
+abbrev pub StallPlaces : Type 0
+StallPlaces = map (λ (found : Finding). found.place) padded_stall_findings ≡ 0x0000_009b_0000_0000 ∷ 0x0000_009c_0000_0001 ∷ []
 
 -- the same with the credit lines
 abbrev pub PaddedStallCredits : Type 0

@@ -5,9 +5,9 @@ use Rattle.std.specs.List.{AllByRecursion, flat_map}
 use Rattle.audit_terms.specs.declared.frames.Frame.{Frame}
 use Rattle.audit_terms.specs.declared.items.Change.{Change}
 use Rattle.audit_terms.specs.declared.items.Step.{Step}
-use Rattle.audit_terms.specs.Frame.{IsOrderly}
-use Rattle.audit_terms.specs.InForce.{changes_of}
-use Rattle.audit_terms.specs.Run.{frames_of, steps_of}
+use Rattle.audit_terms.specs.runs.Orderly.{IsOrderly}
+use Rattle.audit_terms.specs.runs.Changes.{changes_of}
+use Rattle.audit_terms.specs.runs.Streams.{frames_of, steps_of}
 use Rattle.audit_core.specs.ApartLaw.{EachPair}
 
 -- each number is below every later one

@@ -3,7 +3,7 @@ use Rattle.std.specs.Prelude.{◌≡◌, true, false, List, [], ◌∷◌, ◌++
 use Rattle.std.specs.List.{AllByRecursion}
 use Rattle.audit_terms.specs.declared.frames.Frame.{Frame}
 use Rattle.audit_terms.specs.declared.findings.Finding.{Finding}
-use Rattle.audit_terms.specs.Frame.{IsOrderly}
+use Rattle.audit_terms.specs.runs.Orderly.{IsOrderly}
 use Rattle.audit_terms.specs.Finding.{stops, in_order, upto_stop}
 use Rattle.audit_terms.specs.Pass.{full}
 

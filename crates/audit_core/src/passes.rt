@@ -1,5 +1,5 @@
 ghost use Rattle.std.specs.Prelude.{◌≡◌, IfOk};
-ghost use Rattle.audit_terms.specs.Frame.{IsOrderly};
+ghost use Rattle.audit_terms.specs.runs.Orderly.{IsOrderly};
 ghost use Rattle.audit_terms.specs.Pass.{pass};
 
 use crate::settings::SettingsSoFar;
@@ -40,7 +40,8 @@ pub fn one_pass(alloc: Global, frames: &[Frame]) -> Result<Vec<Finding>, AllocEr
 }
 
 ghost use Rattle.std.specs.Prelude.{◌++◌, ◌&&◌, is_none, pos, OnOk};
-ghost use Rattle.audit_terms.specs.Frame.{IsInRange, is_ack};
+ghost use Rattle.audit_terms.specs.Frame.{is_ack};
+ghost use Rattle.audit_terms.specs.runs.Orderly.{IsInRange};
 ghost use Rattle.audit_terms.specs.Finding.{finding_at, say};
 
 /// Adds an acknowledgement that brings no change (RFC 9113, 6.5.3).

@@ -1,6 +1,6 @@
 ghost use Rattle.std.specs.Prelude.{◌≡◌, ℕ, ◌+◌, ◌-◌, ◌^◌, ◌≤◌, ◌++◌, IfOk, OnOk, map, nat_eq, false};
 ghost use Rattle.audit_terms.specs.Finding.{in_order};
-ghost use Rattle.audit_terms.specs.Stream.{initial_after};
+ghost use Rattle.audit_terms.specs.runs.Streams.{initial_after};
 ghost use Rattle.std.specs.HashMap.{get};
 ghost use Rattle.std.specs.List.{flat_map, list_any};
 ghost use Rattle.audit_core.specs.code.StreamTable.{IsOfAcknowledgement, step_at, item_at, row_opens, row_said, row_after, row_said_of, row_after_of, streams_in, idle_rows, with_stream, RowFits, RowsFit, RowsFitBy, bound_more, IsIndex};

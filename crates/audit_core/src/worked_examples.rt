@@ -2,17 +2,20 @@
 //! from `pass` of `specs/Pass.antt` by proof. The functions do nothing; each contract is the example.
 //!
 //! The scripts and the expected findings stand in `specs/`, in the modules named with each group.
-ghost use Rattle.audit_core.specs.Stalls.{PaddedStall, PaddedStallCredits, PaddingCounts, StallEndsThenOverrun, ConnectionAtLargest, ConnectionOverflows, NegativeWindow, NegativeWindowChanges, SettingOverflows, ZeroGrants, ShortGrant};
+ghost use Rattle.audit_core.specs.Stalls.{PaddedStall, StallPlaces, PaddedStallCredits, PaddingCounts, StallEndsThenOverrun, ConnectionAtLargest, ConnectionOverflows, NegativeWindow, NegativeWindowChanges, SettingOverflows, ZeroGrants, ShortGrant};
 ghost use Rattle.audit_core.specs.StreamUses.{WithdrawnFindings, FindingsPastTheStop, FirstErrorBelowOverflow, AfterEndAndReset, IdentifierOrder, UnmatchedAcknowledgement, TwoOpenings};
 ghost use Rattle.audit_core.specs.SingleFaults.{BadPrefaceFound, BrokenBlockFound, BadPaddingFound, GoodPadding, BadSettingFound, LongFrameFound, TooLongFound, StreamOverflowFound, WrongStreamFound, BadPriorityFound, DataAfterPeerReset, EmptyDataAtZero};
-ghost use Rattle.audit_core.specs.FrameFaults.{FirstFrameAcknowledges, FirstFrameUnreadable, BlockGoesOn, NoBlockOpen, BlockOfOtherStream, BlockOfOtherSide, BrokenBlockEnds, WrongStreams, TooLongFrames, LongFrames, FrameLimits, UnreadableFrames};
+ghost use Rattle.audit_core.specs.FrameFaults.{ClientBeginsWithPing, FirstFrameAcknowledges, FirstFrameUnreadable, BlockGoesOn, BlockOfThreeFrames, BlockBrokenByData, BlockBrokenByUnknown, NoBlockOpen, BlockOfOtherStream, BlockOfOtherSide, BrokenBlockEnds, WrongStreams, TooLongFrames, TooLongSettingsOnStream, LongFrames, FrameLimits, UnreadableFrames};
 ghost use Rattle.audit_core.specs.WindowUses.{OverrunAboveZero, LastCredit, StallBelowZero, StallOfBothSides, OneInitialWindow, EndUsesUpWindow, OpenedAndEnded, HeadersAfterEnd, HeadersAfterReset, HeadersAfterPeerEnd, ResetOnIdle, ServerHeaders, EvenHeaders, ZeroGrantAfterEnd};
+ghost use Rattle.audit_core.specs.SettingsUses.{InitialWindowStays, FrameLimitStays, PushStaysForbidden, UnmatchedTakesNothing, BadSettingOfClient, ServerEnablesPush};
+ghost use Rattle.audit_core.specs.ServerWindows.{ServerOverrunsStream, ServerOverrunsConnection, ServerOverflowsStream, ServerOverflowsBySetting};
 ghost use Rattle.audit_core.specs.Promises.{Promised, PromisedCredits, PushForbidden, PushForbiddenCredits, PushUntilAcknowledged, PushAllowedAgain, PushOfServer, PromisesFall, OddPromise, OddPromiseCredits, PromiseOfZero, HeadersBelowPromise, HeadersBelowHeaders, PromiseOnIdle, PromiseOnIdleOpens, PromiseOnZero, PromiseOfItself, PromiseOnPromised, ThreeFaults, PromiseAfterReset, PromiseAfterOwnReset, PromisedTwice, PushedStall, PushedStallCredits, PromisedGrant, ClientPromise, ClientPromiseOpensNothing};
 ghost use Rattle.audit_core.specs.KindTable.{KindsAreTabled, ErrorKinds, FaultKinds, StallEndKinds, StallBeginKinds, CreditKinds};
 
 /// All credit of the connection and of a stream is sent, padding included (6.9.1).
 pub fn padded_stall()
     ensures padded_stall { PaddedStall }
+    ensures places { StallPlaces }
     ensures padded_stall_credits { PaddedStallCredits }
     ensures padding_counts { PaddingCounts }
 {}
@@ -68,7 +71,8 @@ pub fn identifier_order()
 
 /// An acknowledgement with no settings to take (6.5.3).
 pub fn unmatched_ack()
-    ensures { UnmatchedAcknowledgement }
+    ensures found { UnmatchedAcknowledgement }
+    ensures takes_nothing { UnmatchedTakesNothing }
 {}
 
 /// Each opening makes the windows of both sides live (6.9.2).
@@ -92,9 +96,26 @@ pub fn bad_padding()
     ensures good_padding { GoodPadding }
 {}
 
-/// A setting out of range (6.5.2).
+/// A setting out of range, of either side, and one in range (6.5.2).
 pub fn bad_setting()
-    ensures { BadSettingFound }
+    ensures of_server { BadSettingFound }
+    ensures of_client { BadSettingOfClient }
+    ensures enables_push { ServerEnablesPush }
+{}
+
+/// A SETTINGS without a value leaves the one in force (6.5.2, 6.5.3).
+pub fn settings_stay()
+    ensures initial { InitialWindowStays }
+    ensures limit { FrameLimitStays }
+    ensures push { PushStaysForbidden }
+{}
+
+/// The server sends more than is left, and its windows rise above the largest (6.9, 6.9.1, 6.9.2).
+pub fn windows_of_server()
+    ensures stream { ServerOverrunsStream }
+    ensures connection { ServerOverrunsConnection }
+    ensures grant { ServerOverflowsStream }
+    ensures setting { ServerOverflowsBySetting }
 {}
 
 /// DATA above the frame limit (4.2).
@@ -140,6 +161,7 @@ pub fn empty_data_at_zero()
 
 /// A first frame that acknowledges, and one that cannot be read (3.4).
 pub fn first_frames()
+    ensures of_client { ClientBeginsWithPing }
     ensures acknowledges { FirstFrameAcknowledges }
     ensures unreadable { FirstFrameUnreadable }
 {}
@@ -147,6 +169,9 @@ pub fn first_frames()
 /// Field blocks that go on, and CONTINUATION frames that go on with none (4.3, 6.10).
 pub fn continuations()
     ensures goes_on { BlockGoesOn }
+    ensures of_three { BlockOfThreeFrames }
+    ensures by_data { BlockBrokenByData }
+    ensures by_unknown { BlockBrokenByUnknown }
     ensures none_open { NoBlockOpen }
     ensures other_stream { BlockOfOtherStream }
     ensures other_side { BlockOfOtherSide }
@@ -161,6 +186,7 @@ pub fn wrong_streams()
 /// Frames above the limit, by type and stream, and limits from their acknowledgement on (4.2, 6.5.3).
 pub fn frame_lengths()
     ensures too_long { TooLongFrames }
+    ensures settings { TooLongSettingsOnStream }
     ensures long { LongFrames }
     ensures limits { FrameLimits }
 {}

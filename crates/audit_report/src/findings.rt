@@ -1,6 +1,6 @@
 ghost use Rattle.std.specs.Prelude.{◌≡◌, ◌++◌, OnOk, IfOk};
 ghost use Rattle.std.specs.String.{string_bytes};
-ghost use Rattle.audit_terms.specs.Frame.{IsOrderly};
+ghost use Rattle.audit_terms.specs.runs.Orderly.{IsOrderly};
 ghost use Rattle.split_merge.specs.FrameLookup.{frame_numbered};
 ghost use Rattle.audit_report.specs.FindingLine.{moment_text, said_text, finding_line, shown_line, finding_lines};
 

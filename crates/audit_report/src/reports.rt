@@ -1,6 +1,6 @@
 ghost use Rattle.std.specs.Prelude.{◌≡◌, ◌++◌, ◌+◌, ◌<◌, ◌^◌, OnOk, IfOk, All, length};
 ghost use Rattle.std.specs.String.{string_bytes};
-ghost use Rattle.audit_terms.specs.Frame.{IsOrderly};
+ghost use Rattle.audit_terms.specs.runs.Orderly.{IsOrderly};
 ghost use Rattle.h2_frames.specs.Cut.{HasOrderlyFrames};
 ghost use Rattle.audit_report.specs.Contents.{contents_of};
 ghost use Rattle.audit_report.specs.Section.{audit_text, findings_text, section_text, section_of, sections_of, sections_text};

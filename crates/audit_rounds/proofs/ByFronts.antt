@@ -8,7 +8,7 @@ use Rattle.std.proofs.lemmas.Simd.{map-map}
 use Rattle.audit_terms.specs.declared.findings.Finding.{Finding}
 use Rattle.audit_terms.specs.declared.frames.Frame.{Frame}
 use Rattle.audit_terms.specs.Finding.{stops, shown}
-use Rattle.audit_terms.specs.Frame.{IsOrderly}
+use Rattle.audit_terms.specs.runs.Orderly.{IsOrderly}
 use Rattle.audit_terms.specs.Pass.{pass}
 use Rattle.audit_rounds.specs.code.EarlyStops.{front_of, has_stopped, later_of, chosen_of}
 use Rattle.audit_rounds.proofs.Cuts.{orderly-take}

@@ -11,9 +11,11 @@ use Rattle.audit_terms.specs.declared.frames.Frame.{Frame}
 use Rattle.audit_terms.specs.declared.items.Change.{Change}
 use Rattle.audit_terms.specs.declared.items.Item.{Item}
 use Rattle.audit_terms.specs.declared.sides.Side.TheVariants.{Client, Server}
-use Rattle.audit_terms.specs.Connection.{connection_start, block_run, connection_said, connection_after, connection_after_all}
+use Rattle.audit_terms.specs.Connection.{connection_start, connection_said, connection_after}
+use Rattle.audit_terms.specs.runs.Blocks.{block_run, connection_after_all}
 use Rattle.audit_terms.specs.Finding.{in_order, shown}
-use Rattle.audit_terms.specs.Frame.{is_headers, IsOrderly, IsOrderlyFrom}
+use Rattle.audit_terms.specs.Frame.{is_headers}
+use Rattle.audit_terms.specs.runs.Orderly.{IsOrderly, IsOrderlyFrom}
 use Rattle.audit_terms.specs.code.Room.{HasRoom}
 use Rattle.settings_pair.specs.Changes.{AreOrderlyFrom}
 use Rattle.block_scan.specs.List.{items_of}

@@ -11,7 +11,8 @@ use Rattle.audit_terms.specs.Finding.{in_order, stops, upto_stop, is_shown, show
 use Rattle.audit_terms.specs.Frame.{promised_by, meets}
 use Rattle.audit_terms.specs.InForce.{change_of, settings_said}
 use Rattle.audit_terms.specs.LocalFault.{local_said}
-use Rattle.audit_terms.specs.Pass.{PassState, pass_start, first_of, full_from, item_of, next, pass, said, state_from, step_of, streams_of, streams_said}
+use Rattle.audit_terms.specs.Pass.{PassState, pass_start, first_of, full_from, item_of, next, pass, said, step_of, streams_of, streams_said}
+use Rattle.audit_terms.specs.runs.States.{state_from}
 use Rattle.audit_terms.specs.Stream.{idle_stream, stream_said, stream_after}
 use Rattle.audit_core.specs.code.StreamTable.{is_among, with_stream}
 use Rattle.audit_core.proofs.NamedStreams.{without, named-more, named-first}

@@ -11,11 +11,12 @@ use Rattle.std.proofs.Math.ListN.{get_or-append}
 use Rattle.std.proofs.Math.Seq.{get_or-append_seam}
 use Rattle.audit_terms.specs.declared.findings.Finding.{Finding}
 use Rattle.audit_terms.specs.declared.frames.Frame.{Frame}
-use Rattle.audit_terms.specs.Connection.{connection_start, block_run}
+use Rattle.audit_terms.specs.Connection.{connection_start}
+use Rattle.audit_terms.specs.runs.Blocks.{block_run}
 use Rattle.audit_terms.specs.Finding.{in_order, upto_stop, shown}
-use Rattle.audit_terms.specs.Frame.{IsOrderly, IsOrderlyFrom}
-use Rattle.audit_terms.specs.InForce.{changes_of}
-use Rattle.audit_terms.specs.Look.{is_past}
+use Rattle.audit_terms.specs.runs.Orderly.{IsOrderly, IsOrderlyFrom}
+use Rattle.audit_terms.specs.runs.Changes.{changes_of}
+use Rattle.audit_terms.specs.runs.Look.{is_past}
 use Rattle.audit_terms.specs.Pass.{pass}
 use Rattle.settings_pair.specs.Changes.{AreOrderly}
 use Rattle.stop_desk.specs.Stop.{IsStop}

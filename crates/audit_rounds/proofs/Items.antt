@@ -9,9 +9,12 @@ use Rattle.audit_terms.specs.declared.settings.Settings.{Settings}
 use Rattle.audit_terms.specs.declared.frames.Frame.{Frame}
 use Rattle.audit_terms.specs.declared.items.Change.{Change}
 use Rattle.audit_terms.specs.declared.items.Item.{Item}
-use Rattle.audit_terms.specs.Frame.{is_headers, IsOrderlyFrom}
-use Rattle.audit_terms.specs.InForce.{InForce, in_force_after, change_of, change_taking, taken, changes_from, changes_of}
-use Rattle.audit_terms.specs.Pass.{PassState, pass_start, next, items_of, items_from}
+use Rattle.audit_terms.specs.Frame.{is_headers}
+use Rattle.audit_terms.specs.runs.Orderly.{IsOrderlyFrom}
+use Rattle.audit_terms.specs.InForce.{InForce, in_force_after, change_of, change_taking, taken}
+use Rattle.audit_terms.specs.runs.Changes.{changes_from, changes_of}
+use Rattle.audit_terms.specs.Pass.{PassState, pass_start, next}
+use Rattle.audit_terms.specs.runs.States.{items_of, items_from}
 use Rattle.conn_scan.specs.Items.{is_marked, change_at}
 use Rattle.audit_rounds.specs.Items.{ItemsAreFound}
 use Rattle.audit_rounds.proofs.Openings.{openings_are_found_lem}

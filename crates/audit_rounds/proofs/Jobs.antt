@@ -7,10 +7,11 @@ use Rattle.audit_terms.specs.declared.connections.ConnectionState.{ConnectionSta
 use Rattle.audit_terms.specs.declared.findings.Finding.{Finding}
 use Rattle.audit_terms.specs.declared.frames.Frame.{Frame}
 use Rattle.audit_terms.specs.declared.items.Change.{Change}
-use Rattle.audit_terms.specs.Connection.{block_run, connection_said, connection_after}
+use Rattle.audit_terms.specs.Connection.{connection_said, connection_after}
+use Rattle.audit_terms.specs.runs.Blocks.{block_run}
 use Rattle.audit_terms.specs.Finding.{in_order, shown, comes_after}
-use Rattle.audit_terms.specs.Frame.{IsOrderlyFrom}
-use Rattle.audit_terms.specs.Look.{Asked, last_answer, is_past, upto_of, up_to, IsRun}
+use Rattle.audit_terms.specs.runs.Orderly.{IsOrderlyFrom}
+use Rattle.audit_terms.specs.runs.Look.{Asked, last_answer, is_past, upto_of, up_to, IsRun}
 use Rattle.audit_terms.proofs.FindingOrder.{comes_after_is}
 use Rattle.audit_terms.proofs.OrderedLists.{IsInOrder, ordered-in_order, in_order-append, in_order-ordered}
 use Rattle.audit_terms.proofs.SaidPlaces.{AreFrom, at-connection, at-in_order, from-at, from-from, from-append, precedes-at}

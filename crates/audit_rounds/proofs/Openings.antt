@@ -14,12 +14,16 @@ use Rattle.audit_terms.specs.declared.items.Item.{Item}
 use Rattle.audit_terms.specs.declared.items.Step.{Step}
 use Rattle.audit_terms.specs.declared.lives.StreamLife.{StreamLife}
 use Rattle.audit_terms.specs.declared.streams.Stream.{Stream}
-use Rattle.audit_terms.specs.Frame.{meets, promises, is_headers, is_promise, is_client_headers, IsOrderly, IsOrderlyFrom}
-use Rattle.audit_terms.specs.InForce.{initial_in_force, in_force_after, change_of, changes_of}
+use Rattle.audit_terms.specs.Frame.{meets, promises, is_headers, is_promise, is_client_headers}
+use Rattle.audit_terms.specs.runs.Orderly.{IsOrderly, IsOrderlyFrom}
+use Rattle.audit_terms.specs.InForce.{initial_in_force, in_force_after, change_of}
+use Rattle.audit_terms.specs.runs.Changes.{changes_of}
 use Rattle.audit_terms.specs.Life.{is_opening, life_after}
-use Rattle.audit_terms.specs.Stream.{idle_stream, stream_after, stream_after_all, initial_after}
-use Rattle.audit_terms.specs.Pass.{PassState, pass_start, next, step_of, opens_stream, streams_of, items_from, state_from, state_after}
-use Rattle.audit_terms.specs.Run.{frames_of, stream_at_end}
+use Rattle.audit_terms.specs.Stream.{idle_stream, stream_after}
+use Rattle.audit_terms.specs.runs.Streams.{stream_after_all, initial_after}
+use Rattle.audit_terms.specs.Pass.{PassState, pass_start, next, step_of, opens_stream, streams_of}
+use Rattle.audit_terms.specs.runs.States.{items_from, state_from, state_after}
+use Rattle.audit_terms.specs.runs.Streams.{frames_of, stream_at_end}
 use Rattle.audit_core.proofs.QuietSteps.{stream_after-quiet}
 use Rattle.audit_core.proofs.StreamSteps.{step_if_any, steps_from, steps_of-steps_from}
 use Rattle.audit_core.proofs.StreamsMet.{streams_met_lem}

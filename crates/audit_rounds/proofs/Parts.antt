@@ -6,8 +6,9 @@ use Rattle.std.proofs.Math.Seq.{take-add}
 use Rattle.std.proofs.lemmas.Grind.{flat_map-append}
 use Rattle.audit_terms.specs.declared.frames.Frame.{Frame}
 use Rattle.audit_terms.specs.declared.items.Change.{Change}
-use Rattle.audit_terms.specs.Frame.{meets, is_ack, IsOrderly, IsOrderlyFrom}
-use Rattle.audit_terms.specs.Run.{frames_of}
+use Rattle.audit_terms.specs.Frame.{meets, is_ack}
+use Rattle.audit_terms.specs.runs.Orderly.{IsOrderly, IsOrderlyFrom}
+use Rattle.audit_terms.specs.runs.Streams.{frames_of}
 use Rattle.settings_pair.specs.Changes.{AreAcknowledged}
 use Rattle.audit_core.proofs.OrderlyRest.{drop-next}
 

@@ -9,18 +9,20 @@ use Rattle.audit_terms.specs.declared.frames.Body.TheVariants.{Settings as Setti
 use Rattle.audit_terms.specs.declared.frames.Frame.{Frame}
 use Rattle.audit_terms.specs.declared.findings.Finding.{Finding}
 use Rattle.audit_terms.specs.declared.sides.Side.TheVariants.{Client}
-use Rattle.audit_terms.specs.Settings.{unpacked}
 use Rattle.audit_terms.specs.Side.{is_side}
 use Rattle.audit_terms.specs.Sides.{side_of}
 use Rattle.audit_terms.specs.Frame.{is_ack}
 use Rattle.audit_terms.specs.FrameType.{push_promise_type}
 use Rattle.audit_terms.specs.Finding.{in_order, upto_stop, shown, finding_at, say, say_of}
 use Rattle.audit_terms.specs.Kind.{is_credit}
-use Rattle.audit_terms.specs.LocalFault.{local_said, local_run, local_run_from, no_previous, previous_after, body_said, reading_fault, fault, is_settings, breaks_block, is_on_wrong_stream}
-use Rattle.audit_terms.specs.InForce.{InForce, taken, settings_said, settings_run, settings_run_from, initial_in_force, in_force_after, changes_of}
+use Rattle.audit_terms.specs.LocalFault.{local_said, no_previous, previous_after, body_said, reading_fault, fault, is_settings, breaks_block, is_on_wrong_stream}
+use Rattle.audit_terms.specs.runs.LocalFaults.{local_run, local_run_from}
+use Rattle.audit_terms.specs.InForce.{InForce, taken, settings_said, initial_in_force, in_force_after}
+use Rattle.audit_terms.specs.runs.Changes.{settings_run, settings_run_from, changes_of}
 use Rattle.audit_terms.specs.Connection.{connection_start}
 use Rattle.audit_terms.specs.Pass.{full, streams_of}
-use Rattle.audit_terms.specs.Run.{frames_of, stream_run, group_run, block_runs}
+use Rattle.audit_terms.specs.runs.Streams.{frames_of, stream_run, group_run}
+use Rattle.audit_terms.specs.runs.Blocks.{block_runs}
 use Rattle.audit_core.specs.PartsLaw.{joined}
 use Rattle.audit_core.proofs.PartsLemmas.{parts_make_full_lem}
 use Rattle.split_merge.proofs.ShownMerge.{shown-append, shown-flat_map, in_order-shown, merge-shown}
@@ -62,7 +64,7 @@ module _ (c : Bool) where
 
   whole-body : (frame : Frame) (body : Body) → Whole (body_said frame body)
   whole-body frame (Unreadable kind value) = whole-reading kind frame value
-  whole-body frame (SettingsBody words) = whole-bad frame (unpacked words).bad
+  whole-body frame (SettingsBody words) = whole-bad frame words.bad
   whole-body frame _ = refl
 
   whole-local_said : (previous : Option Frame) (frame : Frame) → Whole (local_said previous frame)

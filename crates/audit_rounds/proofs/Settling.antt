@@ -7,13 +7,16 @@ use Rattle.audit_terms.specs.declared.findings.Finding.{Finding}
 use Rattle.audit_terms.specs.declared.frames.Frame.{Frame}
 use Rattle.audit_terms.specs.declared.items.Change.{Change}
 use Rattle.audit_terms.specs.declared.items.Item.{Item}
-use Rattle.audit_terms.specs.Connection.{connection_start, connection_said, connection_after, connection_after_all, block_run}
+use Rattle.audit_terms.specs.Connection.{connection_start, connection_said, connection_after}
+use Rattle.audit_terms.specs.runs.Blocks.{connection_after_all, block_run}
 use Rattle.audit_terms.specs.Finding.{in_order, upto_stop, is_shown, shown}
-use Rattle.audit_terms.specs.Frame.{is_headers, IsOrderly, IsOrderlyFrom}
-use Rattle.audit_terms.specs.InForce.{settings_run, changes_of}
-use Rattle.audit_terms.specs.LocalFault.{local_run}
-use Rattle.audit_terms.specs.Look.{is_past}
-use Rattle.audit_terms.specs.Pass.{pass, streams_of, items_of}
+use Rattle.audit_terms.specs.Frame.{is_headers}
+use Rattle.audit_terms.specs.runs.Orderly.{IsOrderly, IsOrderlyFrom}
+use Rattle.audit_terms.specs.runs.Changes.{settings_run, changes_of}
+use Rattle.audit_terms.specs.runs.LocalFaults.{local_run}
+use Rattle.audit_terms.specs.runs.Look.{is_past}
+use Rattle.audit_terms.specs.Pass.{pass, streams_of}
+use Rattle.audit_terms.specs.runs.States.{items_of}
 use Rattle.audit_terms.specs.Place.{place_number}
 use Rattle.audit_terms.proofs.FindingOrder.{in_order-append_comm, in_order-alike}
 use Rattle.audit_core.specs.PartsLaw.{joined}

@@ -13,11 +13,13 @@ use Rattle.audit_terms.specs.declared.findings.Finding.{Finding}
 use Rattle.audit_terms.specs.declared.items.Change.{Change}
 use Rattle.audit_terms.specs.declared.sides.Sides.{Sides}
 use Rattle.audit_terms.specs.Finding.{in_order, shown}
-use Rattle.audit_terms.specs.Frame.{IsOrderly, IsOrderlyFrom}
-use Rattle.audit_terms.specs.InForce.{InForce, changes_of, in_force_after, initial_in_force, settings_run, settings_run_from, settings_said}
-use Rattle.audit_terms.specs.LocalFault.{local_run, local_run_from, local_said, no_previous, previous_after}
+use Rattle.audit_terms.specs.runs.Orderly.{IsOrderly, IsOrderlyFrom}
+use Rattle.audit_terms.specs.InForce.{InForce, in_force_after, initial_in_force, settings_said}
+use Rattle.audit_terms.specs.runs.Changes.{changes_of, settings_run, settings_run_from}
+use Rattle.audit_terms.specs.LocalFault.{local_said, no_previous, previous_after}
+use Rattle.audit_terms.specs.runs.LocalFaults.{local_run, local_run_from}
 use Rattle.audit_terms.specs.Pass.{streams_of}
-use Rattle.audit_terms.specs.Run.{frames_of, stream_at_end, stream_run}
+use Rattle.audit_terms.specs.runs.Streams.{frames_of, stream_at_end, stream_run}
 use Rattle.audit_terms.specs.Sides.{side_of}
 use Rattle.audit_core.proofs.OrderlyRest.{length-orderly}
 use Rattle.audit_terms.proofs.SaidPlaces.{AreAt, AreWithin, at-in_order, at-local, at-settings}

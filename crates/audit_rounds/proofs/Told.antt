@@ -7,11 +7,11 @@ use Rattle.std.proofs.lemmas.List.Folds.{list_any-append}
 use Rattle.std.proofs.lemmas.List.Sorted.{list_any-IsPermutation}
 use borrow.Author.Tests.{eqb-true}
 use Rattle.audit_terms.specs.declared.frames.Frame.{Frame}
-use Rattle.audit_terms.specs.InForce.{changes_of}
-use Rattle.audit_terms.specs.Look.{is_past}
+use Rattle.audit_terms.specs.runs.Changes.{changes_of}
+use Rattle.audit_terms.specs.runs.Look.{is_past}
 use Rattle.audit_terms.specs.Pass.{streams_of}
 use Rattle.audit_terms.specs.Place.{place_number}
-use Rattle.audit_terms.specs.Run.{frames_of, stream_at_end}
+use Rattle.audit_terms.specs.runs.Streams.{frames_of, stream_at_end}
 use Rattle.stream_credit.specs.Looks.{opened_up_to}
 use Rattle.audit_rounds.specs.Openings.{opening_of, openings_of}
 use Rattle.audit_rounds.specs.Settling.{AgreeWithin, RunUpto, openings_told, Reaches, OpeningsAreTold}

@@ -12,7 +12,7 @@ use Rattle.audit_terms.specs.declared.frames.Frame.{Frame}
 use Rattle.audit_terms.specs.declared.items.Item.{Item}
 use Rattle.audit_terms.specs.code.Room.{HasRoom}
 use Rattle.audit_terms.specs.Connection.{connection_start}
-use Rattle.audit_terms.specs.Frame.{IsOrderly}
+use Rattle.audit_terms.specs.runs.Orderly.{IsOrderly}
 use Rattle.audit_core.proofs.OrderlyRest.{length-orderly}
 use Rattle.conn_scan.specs.Block.{BlockFits}
 use Rattle.conn_scan.specs.Items.{NeverFallFrom}

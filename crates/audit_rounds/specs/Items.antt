@@ -2,9 +2,10 @@
 use Rattle.std.specs.Prelude.{◌≡◌, ℕ, List}
 use Rattle.std.specs.List.Sorted.{IsPermutation}
 use Rattle.audit_terms.specs.declared.frames.Frame.{Frame}
-use Rattle.audit_terms.specs.Frame.{IsOrderly}
-use Rattle.audit_terms.specs.InForce.{changes_of}
-use Rattle.audit_terms.specs.Pass.{streams_of, items_of}
+use Rattle.audit_terms.specs.runs.Orderly.{IsOrderly}
+use Rattle.audit_terms.specs.runs.Changes.{changes_of}
+use Rattle.audit_terms.specs.Pass.{streams_of}
+use Rattle.audit_terms.specs.runs.States.{items_of}
 use Rattle.conn_scan.specs.Items.{items_with}
 use Rattle.audit_rounds.specs.Openings.{openings_of}
 

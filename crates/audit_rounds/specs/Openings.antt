@@ -4,10 +4,11 @@ use Rattle.std.specs.Option.{option_to_list}
 use Rattle.std.specs.List.{flat_map}
 use Rattle.audit_terms.specs.declared.frames.Frame.{Frame}
 use Rattle.audit_terms.specs.declared.items.Item.{Item}
-use Rattle.audit_terms.specs.Frame.{IsOrderly}
-use Rattle.audit_terms.specs.InForce.{changes_of}
-use Rattle.audit_terms.specs.Pass.{streams_of, items_of}
-use Rattle.audit_terms.specs.Run.{frames_of, stream_at_end}
+use Rattle.audit_terms.specs.runs.Orderly.{IsOrderly}
+use Rattle.audit_terms.specs.runs.Changes.{changes_of}
+use Rattle.audit_terms.specs.Pass.{streams_of}
+use Rattle.audit_terms.specs.runs.States.{items_of}
+use Rattle.audit_terms.specs.runs.Streams.{frames_of, stream_at_end}
 use Rattle.conn_scan.specs.Items.{is_marked}
 
 -- the number of the frame that opens the stream, if one does

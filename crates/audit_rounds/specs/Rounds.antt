@@ -4,13 +4,14 @@ use Rattle.std.specs.List.{flat_map}
 use Rattle.audit_terms.specs.declared.frames.Frame.{Frame}
 use Rattle.audit_terms.specs.declared.items.Item.{Item}
 use Rattle.audit_terms.specs.declared.findings.Finding.{Finding}
-use Rattle.audit_terms.specs.Frame.{IsOrderly}
+use Rattle.audit_terms.specs.runs.Orderly.{IsOrderly}
 use Rattle.audit_terms.specs.Finding.{in_order, upto_stop, shown}
-use Rattle.audit_terms.specs.LocalFault.{local_run}
-use Rattle.audit_terms.specs.InForce.{settings_run}
+use Rattle.audit_terms.specs.runs.LocalFaults.{local_run}
+use Rattle.audit_terms.specs.runs.Changes.{settings_run}
 use Rattle.audit_terms.specs.Connection.{connection_start}
-use Rattle.audit_terms.specs.Pass.{pass, streams_of, items_of}
-use Rattle.audit_terms.specs.Run.{block_runs}
+use Rattle.audit_terms.specs.Pass.{pass, streams_of}
+use Rattle.audit_terms.specs.runs.States.{items_of}
+use Rattle.audit_terms.specs.runs.Blocks.{block_runs}
 use Rattle.audit_core.specs.PartsLaw.{joined}
 use Rattle.stream_groups.specs.Streams.{shown_of}
 

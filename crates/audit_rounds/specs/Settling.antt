@@ -6,14 +6,15 @@ use Rattle.std.specs.List.{flat_map, list_any}
 use Rattle.std.specs.List.Sorted.{IsPermutation}
 use Rattle.audit_terms.specs.declared.frames.Frame.{Frame}
 use Rattle.audit_terms.specs.declared.findings.Finding.{Finding}
-use Rattle.audit_terms.specs.Connection.{connection_start, block_run}
+use Rattle.audit_terms.specs.Connection.{connection_start}
+use Rattle.audit_terms.specs.runs.Blocks.{block_run}
 use Rattle.audit_terms.specs.Finding.{in_order, upto_stop, shown}
-use Rattle.audit_terms.specs.Frame.{IsOrderly}
-use Rattle.audit_terms.specs.InForce.{settings_run, changes_of}
-use Rattle.audit_terms.specs.LocalFault.{local_run}
-use Rattle.audit_terms.specs.Look.{is_past}
+use Rattle.audit_terms.specs.runs.Orderly.{IsOrderly}
+use Rattle.audit_terms.specs.runs.Changes.{settings_run, changes_of}
+use Rattle.audit_terms.specs.runs.LocalFaults.{local_run}
+use Rattle.audit_terms.specs.runs.Look.{is_past}
 use Rattle.audit_terms.specs.Pass.{pass, streams_of}
-use Rattle.audit_terms.specs.Run.{frames_of, stream_at_end}
+use Rattle.audit_terms.specs.runs.Streams.{frames_of, stream_at_end}
 use Rattle.conn_scan.specs.Items.{items_with, NeverFallFrom}
 use Rattle.split_merge.specs.Board.{IsLeast, StopsAt}
 use Rattle.stream_credit.specs.Looks.{opened_up_to}

@@ -4,7 +4,8 @@ ghost use Rattle.std.specs.Prelude.{◌≡◌, ℕ, ◌<◌, ◌++◌, [], All, 
 ghost use Rattle.std.specs.Bool.{OnFalse};
 ghost use Rattle.audit_terms.specs.declared.findings.Finding.{Finding as FindingTerm};
 ghost use Rattle.audit_terms.specs.declared.items.Item.{Item as ItemTerm};
-ghost use Rattle.audit_terms.specs.Connection.{connection_start, block_run};
+ghost use Rattle.audit_terms.specs.Connection.{connection_start};
+ghost use Rattle.audit_terms.specs.runs.Blocks.{block_run};
 ghost use Rattle.audit_terms.specs.Finding.{shown};
 ghost use Rattle.block_scan.specs.List.{items_of};
 ghost use Rattle.conn_scan.specs.Items.{items_in};

@@ -2,7 +2,8 @@
 //! through in another, each from the state that the sums of the blocks before it lead to.
 
 ghost use Rattle.std.specs.Prelude.{◌≡◌, ℕ, ◌++◌, ◌<◌, All, IfOk, map, length, slice_index_or};
-ghost use Rattle.audit_terms.specs.Connection.{connection_start, block_run};
+ghost use Rattle.audit_terms.specs.Connection.{connection_start};
+ghost use Rattle.audit_terms.specs.runs.Blocks.{block_run};
 ghost use Rattle.audit_terms.specs.Finding.{in_order, upto_stop, shown};
 ghost use Rattle.stop_desk.specs.Stop.{IsStop};
 ghost use Rattle.split_merge.specs.Board.{Job};

@@ -3,7 +3,7 @@
 
 ghost use Rattle.std.specs.Prelude.{◌≡◌, ◌<◌, ◌≤◌, [], ◌∷◌, ◌++◌, All, IfOk, OnOk, length, map};
 ghost use Rattle.std.specs.Thread.{IsSync};
-ghost use Rattle.audit_terms.specs.Frame.{IsOrderly};
+ghost use Rattle.audit_terms.specs.runs.Orderly.{IsOrderly};
 ghost use Rattle.audit_terms.specs.Finding.{in_order, upto_stop, shown};
 ghost use Rattle.audit_terms.specs.Pass.{pass};
 ghost use Rattle.audit_rounds.specs.Settling.{frames_within};

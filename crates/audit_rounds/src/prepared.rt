@@ -2,7 +2,7 @@
 
 ghost use Rattle.std.specs.Prelude.{◌≡◌, ◌<◌, ◌^◌, IfOk, length};
 ghost use Rattle.std.specs.Thread.{IsSync};
-ghost use Rattle.audit_terms.specs.Frame.{IsOrderly};
+ghost use Rattle.audit_terms.specs.runs.Orderly.{IsOrderly};
 ghost use Rattle.split_merge.specs.Split.{IsSplit};
 ghost use Rattle.audit_rounds.specs.code.MadeReady.{IsTold};
 ghost use Rattle.audit_rounds.specs.code.Prepared.{IsPrepared, found_before};

@@ -9,7 +9,7 @@ use Rattle.audit_terms.specs.declared.items.Change.{Change}
 use Rattle.audit_terms.specs.declared.items.Step.{Step}
 use Rattle.audit_terms.specs.Frame.{is_ack, is_content, increment, content_by, grant_to}
 use Rattle.audit_terms.specs.Change.{new_initial}
-use Rattle.audit_terms.specs.Stream.{IsAcknowledged}
+use Rattle.audit_terms.specs.runs.Streams.{IsAcknowledged}
 
 ack-only : (body : Body) → is_ack body ≡ true → (increment body ≡ 0) × (is_content body ≡ false)
 ack-only SettingsAck e = (refl, refl)

@@ -1,8 +1,9 @@
--- Settings in range are the same after they were packed.
-use Rattle.std.proofs.Common.{◌≡◌, ℕ, suc, ◌+◌, ◌*◌, ◌/◌, ◌%◌, ◌^◌, ◌<◌, Option, None, Some, refl, ap, ◌∙◌, arith}
-use Rattle.std.specs.Option.{ForSome}
+-- Settings are the same after they were kept in words.
+use Rattle.std.proofs.Common.{◌≡◌, ℕ, suc, ◌+◌, ◌*◌, ◌/◌, ◌%◌, ◌≤◌, Option, None, Some, refl, ap, sym, subst, ◌∙◌, arith}
+use Rattle.std.specs.Prelude.{unwrap_or}
 use Rattle.audit_terms.specs.declared.settings.Settings.{Settings}
-use Rattle.audit_terms.specs.Settings.{one_more, one_less, PackingKeeps}
+use Rattle.audit_terms.specs.declared.settings.PackedSettings.TheInside.{Inside}
+use Rattle.audit_terms.specs.code.Packing.{one_more, one_less, mark, marked, packed, unpacked, IsPacked}
 
 back : (value : Option ℕ) → one_less (one_more value) ≡ value
 back None = refl
@@ -10,25 +11,58 @@ back (Some value) =
     let next : value + 1 ≡ suc value = omega arith in
     ap one_less next
 
-below : (bound : ℕ) (value : Option ℕ) → ForSome value (λ n. n < bound) → one_more value < bound + 1
-below bound None h = omega arith
-below bound (Some value) h = let l = h value refl in omega (arith, l)
+kept : (value : Option ℕ) → marked (mark value) (unwrap_or value 0) ≡ value
+kept None = refl
+kept (Some value) = refl
+
+little : (value : Option ℕ) → mark value ≤ 1
+little None = omega arith
+little (Some value) = omega arith
 
 same : {a b c d a' b' c' d' : Option ℕ} → a ≡ a' → b ≡ b' → c ≡ c' → d ≡ d' →
     (let left : Settings = record { push = a; initial = b; max_frame = c; bad = d } in
     let right : Settings = record { push = a'; initial = b'; max_frame = c'; bad = d' } in left ≡ right)
 same p q r s = cc
 
-pub packing_keeps : PackingKeeps
-packing_keeps settings h =
+pub packing_keeps : (settings : Settings) → unpacked (packed settings) ≡ settings
+packing_keeps settings =
     let bad = one_more settings.bad in
-    let push = one_more settings.push in
-    let long = one_more settings.max_frame in
-    let few : push < 3 = below 2 settings.push (λ n e. let l = h.push n e in omega (arith, l)) in
-    let short : long < 2 ^ 24 + 1 = below (2 ^ 24) settings.max_frame h.max_frame in
-    let word = (bad * 2 ^ 2 + push) * 2 ^ 25 + long in
-    let push_is : word / 2 ^ 25 % 2 ^ 2 ≡ push = omega (arith, few, short) in
-    let long_is : word % 2 ^ 25 ≡ long = omega (arith, few, short) in
-    let bad_is : word / 2 ^ 27 ≡ bad = omega (arith, few, short) in
-    same (ap one_less push_is ∙ back settings.push) (back settings.initial)
-    (ap one_less long_is ∙ back settings.max_frame) (ap one_less bad_is ∙ back settings.bad)
+    let long = mark settings.max_frame in
+    let first = mark settings.initial in
+    let push = mark settings.push in
+    let little_long : long ≤ 1 = little settings.max_frame in
+    let little_first : first ≤ 1 = little settings.initial in
+    let little_push : push ≤ 1 = little settings.push in
+    let marks = ((bad * 2 + long) * 2 + first) * 2 + push in
+    let push_is : marks % 2 ≡ push = omega (arith, little_push) in
+    let first_is : marks / 2 % 2 ≡ first = omega (arith, little_push, little_first) in
+    let long_is : marks / 4 % 2 ≡ long = omega (arith, little_push, little_first, little_long) in
+    let bad_is : marks / 8 ≡ bad = omega (arith, little_push, little_first, little_long) in
+    same
+    (ap (λ m. marked m (unwrap_or settings.push 0)) push_is ∙ kept settings.push)
+    (ap (λ m. marked m (unwrap_or settings.initial 0)) first_is ∙ kept settings.initial)
+    (ap (λ m. marked m (unwrap_or settings.max_frame 0)) long_is ∙ kept settings.max_frame)
+    (ap one_less bad_is ∙ back settings.bad)
+
+fields : {marks push initial max_frame marks' push' initial' max_frame' : ℕ} → marks ≡ marks' → push ≡ push' → initial ≡ initial' →
+    max_frame ≡ max_frame' →
+    (let left : Inside = record { marks = marks; push = push; initial = initial; max_frame = max_frame } in
+    let right : Inside = record { marks = marks'; push = push'; initial = initial'; max_frame = max_frame' } in left ≡ right)
+fields p q r s = cc
+
+-- fields that were made as `packed` makes them
+pub packed_fields : (settings : Settings) {bad push initial max_frame : ℕ} {push-word initial-word max_frame-word : ℕ}
+    → bad ≡ one_more settings.bad → max_frame ≡ mark settings.max_frame → initial ≡ mark settings.initial → push ≡ mark settings.push
+    → push-word ≡ unwrap_or settings.push 0 → initial-word ≡ unwrap_or settings.initial 0
+    → max_frame-word ≡ unwrap_or settings.max_frame 0
+    → (let made : Inside = record {
+      marks = ((bad * 2 + max_frame) * 2 + initial) * 2 + push;
+      push = push-word;
+      initial = initial-word;
+      max_frame = max_frame-word;
+    } in
+    made ≡ packed settings)
+packed_fields settings b m i p pw iw mw = fields (rw (b, m, i, p) refl) pw iw mw
+
+pub packed-IsPacked : (settings : Settings) (made : Inside) → made ≡ packed settings → IsPacked made
+packed-IsPacked settings made is = subst IsPacked (sym is) (ap packed (packing_keeps settings))

@@ -4,7 +4,8 @@ use Rattle.std.specs.declared.cmp.Ordering.{Ordering}
 use Rattle.std.specs.declared.cmp.Ordering.TheVariants.{Less, Equal, Greater}
 use Rattle.std.specs.Ordering.{nat_cmp, ordering_then, MatchOrdering}
 use Rattle.std.specs.Cmp.{ranked, nat_cmp_is}
-use Rattle.audit_terms.specs.Place.{place_of, IsPlaceable, PlacesAreInOrder}
+use Rattle.audit_terms.specs.Place.{place_of}
+use Rattle.audit_terms.specs.laws.Places.{IsPlaceable, PlacesAreInOrder}
 
 module _ (number rank stream number' rank' stream' : ℕ) (here : IsPlaceable number rank stream) (there : IsPlaceable number' rank' stream') where
   by_parts : (a b c : Ordering) →

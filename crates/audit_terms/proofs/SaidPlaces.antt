@@ -16,17 +16,16 @@ use Rattle.audit_terms.specs.declared.items.Step.{Step}
 use Rattle.audit_terms.specs.declared.connections.ConnectionState.{ConnectionState}
 use Rattle.audit_terms.specs.declared.streams.Stream.{Stream}
 use Rattle.audit_terms.specs.declared.findings.Finding.{Finding}
-use Rattle.audit_terms.specs.Settings.{unpacked}
 use Rattle.audit_terms.specs.Kind.{rank_of}
 use Rattle.audit_terms.specs.Order.{put_by}
 use Rattle.audit_terms.specs.Finding.{finding_at, say, say_of, comes_after, in_order}
-use Rattle.audit_terms.specs.Frame.{IsInRange}
+use Rattle.audit_terms.specs.runs.Orderly.{IsInRange}
 use Rattle.audit_terms.specs.LocalFault.{local_said, fault, body_said, reading_fault}
 use Rattle.audit_terms.specs.InForce.{InForce, settings_said}
 use Rattle.audit_terms.specs.Connection.{connection_said, connection_windows_said, connection_window_said}
 use Rattle.audit_terms.specs.Stream.{WindowStep, stream_said, frame_said, stream_window_said, live_window_said, opened_window_said}
 use Rattle.audit_terms.specs.Place.{place_number}
-use Rattle.audit_terms.specs.Look.{found_before}
+use Rattle.audit_terms.specs.runs.Look.{found_before}
 use Rattle.audit_terms.proofs.OrderedLists.{NoneBefore, Precedes}
 use Rattle.audit_terms.proofs.FindingOrder.{comes_after_is}
 
@@ -137,7 +136,7 @@ module _ (frame : Frame) (h : frame.stream < 2 ^ 31) where
   at-body : (body : Body) → AreAt frame.number (body_said frame body)
   at-body (Unreadable kind value) = at-reading_fault kind value
   at-body (SettingsBody words) =
-      at-say_of frame.number (λ identifier. fault BadSetting frame identifier ∷ []) (unpacked words).bad
+      at-say_of frame.number (λ identifier. fault BadSetting frame identifier ∷ []) words.bad
       (λ identifier. at-finding BadSetting frame.number frame.stream frame.side (pos identifier) [] h (at-nil _))
   at-body _ = at-nil _
 

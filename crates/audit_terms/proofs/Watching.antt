@@ -5,7 +5,7 @@ use Rattle.std.proofs.lemmas.List.Folds.{list_any-append}
 use Rattle.audit_terms.specs.declared.findings.Finding.{Finding}
 use Rattle.audit_terms.specs.declared.looks.Watch.{Watch}
 use Rattle.audit_terms.specs.Place.{place_number}
-use Rattle.audit_terms.specs.Look.{Asked, Looked, last_answer, is_past, found_before, up_to, steps_between, LooksOn, LooksInTime, IsRun}
+use Rattle.audit_terms.specs.runs.Look.{Asked, Looked, last_answer, is_past, found_before, up_to, steps_between, LooksOn, LooksInTime, IsRun}
 use Rattle.audit_terms.specs.code.Watch.{Watches, IsStopped, NeverFallFrom}
 
 looked-on : {L : Type 0} (answers : L → List Finding → Option ℕ → L → Type 0) (a b d : L) (asked : List Asked)

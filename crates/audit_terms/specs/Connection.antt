@@ -1,6 +1,6 @@
 -- The connection: each side's connection window, the order of opened streams, the length of frames
 -- (RFC 9113, 4.2, 5.1.1, 6.9).
-use Rattle.std.specs.Prelude.{ℕ, ℤ, pos, ◌%◌, ◌+ℤ◌, ◌-ℤ◌, max, Bool, ◌==◌, ◌&&◌, ◌||◌, not, nat_lt, nat_le, if◌then◌else◌, List, [], ◌∷◌, ◌++◌}
+use Rattle.std.specs.Prelude.{ℕ, ℤ, pos, ◌%◌, ◌+ℤ◌, ◌-ℤ◌, max, Bool, ◌==◌, ◌&&◌, ◌||◌, not, nat_lt, nat_le, if◌then◌else◌, List, ◌++◌}
 use Rattle.std.specs.Ordering.{int_eq}
 use Rattle.audit_terms.specs.declared.sides.Side.{Side}
 use Rattle.audit_terms.specs.declared.sides.Side.TheVariants.{Client, Server}
@@ -16,7 +16,7 @@ use Rattle.audit_terms.specs.FrameType.{headers_type, settings_type, push_promis
 use Rattle.audit_terms.specs.Frame.{is_headers, is_server_promise, promised_in, content_by, grant_to, grants_nothing}
 use Rattle.audit_terms.specs.Window.{first_window, overflows, overruns, stall_begins, stall_ends}
 use Rattle.audit_terms.specs.Change.{new_limit, new_push}
-use Rattle.audit_terms.specs.Finding.{finding_at, say, in_order}
+use Rattle.audit_terms.specs.Finding.{finding_at, say}
 
 -- the greatest frame length at the start (4.2, 6.5.2)
 abbrev pub first_limit : ℕ
@@ -113,13 +113,3 @@ connection_said now item =
     ++ opening_order_said now.opened item
     ++ promise_order_said now.promised item.frame
     ++ connection_windows_said now.credit item.frame
-
--- the connection after some items
-abbrev pub connection_after_all : ConnectionState → List Item → ConnectionState
-connection_after_all now [] = now
-connection_after_all now (item ∷ items) = connection_after_all (connection_after now item) items
-
--- the run of a block of items, from the connection before it, with no stop
-abbrev pub block_run : ConnectionState → List Item → List Finding
-block_run now [] = []
-block_run now (item ∷ items) = in_order (connection_said now item) ++ block_run (connection_after now item) items

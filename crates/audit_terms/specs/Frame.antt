@@ -1,6 +1,6 @@
 -- What a frame does to windows, streams and settings (RFC 9113, 4 and 6). These rules go by the body:
 -- a frame whose payload cannot be read does nothing.
-use Rattle.std.specs.Prelude.{ℕ, ◌+◌, ◌-◌, ◌%◌, ◌^◌, ◌<◌, ◌≤◌, Bool, true, false, ◌==◌, ◌&&◌, ◌||◌, not, if◌then◌else◌, List, [], ◌∷◌}
+use Rattle.std.specs.Prelude.{ℕ, ◌%◌, Bool, true, false, ◌==◌, ◌&&◌, ◌||◌, not, if◌then◌else◌, List, [], ◌∷◌}
 use Rattle.audit_terms.specs.declared.sides.Side.{Side}
 use Rattle.audit_terms.specs.declared.sides.Side.TheVariants.{Client, Server}
 use Rattle.audit_terms.specs.declared.settings.Settings.{Settings}
@@ -8,7 +8,6 @@ use Rattle.audit_terms.specs.declared.frames.Body.{Body}
 use Rattle.audit_terms.specs.declared.frames.Body.TheVariants.{Content, Headers, RstStream, Settings as SettingsBody, SettingsAck, PushPromise, WindowUpdate}
 use Rattle.audit_terms.specs.declared.frames.Frame.{Frame}
 use Rattle.audit_terms.specs.Side.{other, is_side}
-use Rattle.audit_terms.specs.Settings.{unpacked}
 use Rattle.audit_terms.specs.FrameType.{has_flag, end_stream_flag}
 
 -- DATA (6.1)
@@ -47,7 +46,7 @@ is_zero_grant body = is_update body && (increment body == 0)
 
 -- the settings of a SETTINGS frame (6.5), none of any other
 abbrev pub settings_in : Body → List Settings
-settings_in (SettingsBody words) = unpacked words ∷ []
+settings_in (SettingsBody settings) = settings ∷ []
 settings_in _ = []
 
 -- the promised stream of a PUSH_PROMISE (6.6), 0 of any other
@@ -104,20 +103,3 @@ sends_reset d frame = is_side d frame.side && is_reset frame.body
 -- frames that only an opened stream carries (5.1)
 abbrev pub needs_opening : Frame → Bool
 needs_opening frame = is_content frame.body || is_headers frame.body || is_reset frame.body || is_update frame.body
-
--- the ranges of what a frame holds: 28 bits of number, 31 bits of stream, 24 bits of length (4.1), a time below 2^63
-pub record IsInRange (frame : Frame) : Type 0 where
-  pub number : frame.number < 2 ^ 28 - 1
-  pub stream : frame.stream < 2 ^ 31
-  pub promised : promised_in frame.body < 2 ^ 31
-  pub length : frame.length < 2 ^ 24
-  pub nanos : frame.nanos < 2 ^ 63
-
--- each frame in range, the first numbered `low` or above, each further one above the one before it
-abbrev pub IsOrderlyFrom : (low : ℕ) → List Frame → Type 0
-IsOrderlyFrom low [] = Unit {0}
-IsOrderlyFrom low (frame ∷ frames) = (low ≤ frame.number) × IsInRange frame × IsOrderlyFrom (frame.number + 1) frames
-
--- frames in range, their numbers strictly rising
-abbrev pub IsOrderly : List Frame → Type 0
-IsOrderly frames = IsOrderlyFrom 0 frames

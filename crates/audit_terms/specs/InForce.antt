@@ -1,6 +1,5 @@
 -- Settings in force (RFC 9113, 6.5.3): the acknowledgements of one side answer the SETTINGS of the other in their order.
-use Rattle.std.specs.Prelude.{ℕ, pos, ◌+◌, ◌&&◌, if◌then◌else◌, List, [], ◌∷◌, ◌++◌, slice_get, Option, Some, None, is_some, is_none}
-use Rattle.std.specs.Option.{option_to_list}
+use Rattle.std.specs.Prelude.{ℕ, pos, ◌+◌, ◌&&◌, if◌then◌else◌, List, [], ◌++◌, slice_get, Option, Some, None, is_some, is_none}
 use Rattle.audit_terms.specs.declared.sides.Sides.{Sides}
 use Rattle.audit_terms.specs.declared.kinds.Kind.TheVariants.{UnmatchedAck}
 use Rattle.audit_terms.specs.declared.settings.Settings.{Settings}
@@ -55,21 +54,3 @@ in_force_after now frame = record {
 abbrev pub settings_said : InForce → Frame → List Finding
 settings_said now frame =
     say (is_ack frame.body && is_none (taken now frame)) (finding_at UnmatchedAck frame.number frame.stream frame.side (pos 0))
-
--- the changes that a list of frames brings
-abbrev pub changes_from : InForce → List Frame → List Change
-changes_from now [] = []
-changes_from now (frame ∷ frames) = option_to_list (change_of now frame) ++ changes_from (in_force_after now frame) frames
-
--- the changes that a connection's frames bring
-abbrev pub changes_of : List Frame → List Change
-changes_of frames = changes_from initial_in_force frames
-
--- the acknowledgements among some frames that take nothing
-abbrev pub settings_run_from : InForce → List Frame → List Finding
-settings_run_from now [] = []
-settings_run_from now (frame ∷ frames) = settings_said now frame ++ settings_run_from (in_force_after now frame) frames
-
--- the acknowledgements of a connection's frames that take nothing
-abbrev pub settings_run : List Frame → List Finding
-settings_run frames = settings_run_from initial_in_force frames

@@ -15,7 +15,6 @@ pub mod InForce
 pub mod Connection
 pub mod Stream
 pub mod Pass
-pub mod Credit
-pub mod Run
-pub mod Look
+pub mod laws
+pub mod runs
 pub mod code

@@ -12,8 +12,7 @@ use Rattle.audit_terms.specs.declared.findings.Finding.{Finding}
 use Rattle.audit_terms.specs.Side.{is_side}
 use Rattle.audit_terms.specs.Sides.{side_of, each_side}
 use Rattle.audit_terms.specs.FrameType.{data_type, headers_type, priority_type, rst_stream_type, settings_type, push_promise_type, ping_type, goaway_type, continuation_type, ack_flag, end_headers_flag, has_flag}
-use Rattle.audit_terms.specs.Settings.{unpacked}
-use Rattle.audit_terms.specs.Finding.{finding_at, say, say_of, in_order}
+use Rattle.audit_terms.specs.Finding.{finding_at, say, say_of}
 
 -- a SETTINGS frame that is no acknowledgement, as each side's first frame is to be (3.4)
 abbrev pub is_settings : Frame → Bool
@@ -61,7 +60,7 @@ reading_fault _ frame value = []
 -- what the body shows: a payload that cannot be read, or a setting out of range (6.5.2)
 abbrev pub body_said : Frame → Body → List Finding
 body_said frame (Unreadable kind value) = reading_fault kind frame value
-body_said frame (SettingsBody words) = say_of (λ identifier. fault BadSetting frame identifier ∷ []) (unpacked words).bad
+body_said frame (SettingsBody settings) = say_of (λ identifier. fault BadSetting frame identifier ∷ []) settings.bad
 body_said frame _ = []
 
 -- the findings of a frame, given the frame of its side just before it; a client promises nothing (8.4)
@@ -80,13 +79,3 @@ previous_after previous frame = each_side (λ d. if is_side d frame.side then So
 -- no frame of either side
 abbrev pub no_previous : Sides (Option Frame)
 no_previous = each_side (λ _. None)
-
--- the local faults of a list of frames, from the last frame of each side before it
-abbrev pub local_run_from : Sides (Option Frame) → List Frame → List Finding
-local_run_from previous [] = []
-local_run_from previous (frame ∷ frames) =
-    in_order (local_said (side_of frame.side previous) frame) ++ local_run_from (previous_after previous frame) frames
-
--- the local faults of a connection's frames
-abbrev pub local_run : List Frame → List Finding
-local_run frames = local_run_from no_previous frames

@@ -98,21 +98,3 @@ full frames = full_from (streams_of frames) pass_start frames
 -- one pass over a connection's frames: all findings up to and including the first connection error
 abbrev pub pass : List Frame → List Finding
 pass frames = upto_stop (full frames)
-
--- the state after some frames
-abbrev pub state_from : PassState → List Frame → PassState
-state_from state [] = state
-state_from state (frame ∷ frames) = state_from (next state frame) frames
-
--- the state after a connection's frames
-abbrev pub state_after : List Frame → PassState
-state_after frames = state_from pass_start frames
-
--- the items of some frames
-abbrev pub items_from : PassState → List Frame → List Item
-items_from state [] = []
-items_from state (frame ∷ frames) = item_of state frame ∷ items_from (next state frame) frames
-
--- the items of a connection's frames
-abbrev pub items_of : List Frame → List Item
-items_of frames = items_from pass_start frames

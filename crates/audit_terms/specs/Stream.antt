@@ -1,6 +1,6 @@
 -- One stream: its opening, its ends and the windows of both sides on it (RFC 9113, 5.1, 6.1, 6.4, 6.9, 6.9.1, 6.9.2).
-use Rattle.std.specs.Prelude.{◌≡◌, ℕ, ℤ, pos, ◌+ℤ◌, ◌-ℤ◌, Bool, true, false, ◌&&◌, ◌||◌, not, nat_lt, if◌then◌else◌, List, [], ◌∷◌, ◌++◌, Option, Some, None, is_some}
-use Rattle.std.specs.Option.{option_map_or, ForSome}
+use Rattle.std.specs.Prelude.{ℕ, ℤ, pos, ◌+ℤ◌, ◌-ℤ◌, Bool, false, ◌&&◌, ◌||◌, not, nat_lt, if◌then◌else◌, List, [], ◌∷◌, ◌++◌, Option, Some, None, is_some}
+use Rattle.std.specs.Option.{option_map_or}
 use Rattle.std.specs.Ordering.{int_eq}
 use Rattle.audit_terms.specs.declared.sides.Side.{Side}
 use Rattle.audit_terms.specs.declared.sides.Side.TheVariants.{Client, Server}
@@ -8,17 +8,16 @@ use Rattle.audit_terms.specs.declared.sides.Sides.{Sides}
 use Rattle.audit_terms.specs.declared.kinds.Kind.{Kind}
 use Rattle.audit_terms.specs.declared.kinds.Kind.TheVariants.{NotOpened, SettingOverflow, AfterEnd, StreamOverrun, ZeroStreamGrant, StreamOverflow, StreamStallEnd, StreamStallBegin, StreamCredit}
 use Rattle.audit_terms.specs.declared.frames.Frame.{Frame}
-use Rattle.audit_terms.specs.declared.items.Change.{Change}
 use Rattle.audit_terms.specs.declared.items.Step.{Step}
 use Rattle.audit_terms.specs.declared.lives.StreamLife.{StreamLife}
 use Rattle.audit_terms.specs.declared.streams.Stream.{Stream}
 use Rattle.audit_terms.specs.declared.findings.Finding.{Finding}
 use Rattle.audit_terms.specs.Sides.{side_of, each_side}
-use Rattle.audit_terms.specs.Frame.{is_ack, is_zero_grant, content_by, grant_to}
+use Rattle.audit_terms.specs.Frame.{is_zero_grant, content_by, grant_to}
 use Rattle.audit_terms.specs.Life.{idle_life, is_opening, life_after, is_last_of, ends_window, is_not_opened, is_after_end}
 use Rattle.audit_terms.specs.Window.{is_used_up, overflows, overruns}
 use Rattle.audit_terms.specs.Change.{new_initial}
-use Rattle.audit_terms.specs.Finding.{finding_at, say, say_of, in_order}
+use Rattle.audit_terms.specs.Finding.{finding_at, say, say_of}
 
 -- a stream that is not opened
 abbrev pub idle_stream : Stream
@@ -32,10 +31,6 @@ step_test test step = option_map_or test step.frame false
 abbrev pub step_amount : (Frame → ℕ) → Step → ℕ
 step_amount amount step = option_map_or amount step.frame 0
 
--- a frame that brings a change is an acknowledgement (6.5.3)
-abbrev pub IsAcknowledged : Step → Type 0
-IsAcknowledged step = ForSome step.change (λ _. ForSome step.frame (λ frame. is_ack frame.body ≡ true))
-
 -- a finding of the stream at the step's number
 abbrev pub stream_finding : Kind → (stream : ℕ) → Step → Side → ℤ → Finding
 stream_finding kind stream step side value = finding_at kind step.number stream side value
@@ -48,37 +43,36 @@ opens stream entry step = step_test (is_opening stream entry.life) step
 abbrev pub life_at : (stream : ℕ) → Stream → Step → StreamLife
 life_at stream entry step = option_map_or (life_after stream entry.life) step.frame entry.life
 
--- what the step moves a live window of side d by: what is granted to it, less what is sent through it (6.9, 6.9.1), and the new
--- initial window minus the old (6.9.2)
-abbrev pub window_moved : Side → (stream : ℕ) → Sides ℕ → Step → ℤ
-window_moved d stream initial step =
-    (pos (step_amount (grant_to d stream) step) -ℤ pos (step_amount (content_by d) step))
-    +ℤ (pos (new_initial step.change d (side_of d initial)) -ℤ pos (side_of d initial))
+-- a live window at a step
+pub record WindowStep : Type 0 where
+  pub before : ℤ  -- the credit before the step
+  pub counted : ℤ  -- the credit once the step is counted
+  pub overflowing : Bool  -- does a grant bring it above the largest?
+  pub last : ℤ  -- the last credit that is known
+  pub after : Option ℤ  -- the credit after the step, where the window lives on
 
--- the credit of a live window once the step is counted
-abbrev pub counted : Side → (stream : ℕ) → Sides ℕ → Step → (before : ℤ) → ℤ
-counted d stream initial step before = before +ℤ window_moved d stream initial step
-
--- a grant that would bring the window above the largest (6.9.1)
-abbrev pub is_overflowing_grant : Side → (stream : ℕ) → Sides ℕ → Step → (before : ℤ) → Bool
-is_overflowing_grant d stream initial step before =
-    nat_lt 0 (step_amount (grant_to d stream) step) && overflows before (counted d stream initial step before)
-
--- the last credit that is known of a live window: an overflowing grant is not added
-abbrev pub last_credit : Side → (stream : ℕ) → Sides ℕ → Step → (before : ℤ) → ℤ
-last_credit d stream initial step before =
-    if is_overflowing_grant d stream initial step before then before else counted d stream initial step before
-
--- a live window of side d ends with a frame that ends it, or with an overflowing grant
-abbrev pub window_ends : Side → (stream : ℕ) → Sides ℕ → Step → (before : ℤ) → Bool
-window_ends d stream initial step before =
-    step_test (ends_window d) step || is_overflowing_grant d stream initial step before
+-- the window of side d at the step, from its credit before it. The step moves it by what is granted to it, less what is sent
+-- through it (6.9, 6.9.1), and by the new initial window minus the old (6.9.2). A grant that would bring it above the largest
+-- is not added, and ends it (6.9.1), as does a frame that ends it
+abbrev pub window_step : Side → (stream : ℕ) → Sides ℕ → Step → (before : ℤ) → WindowStep
+window_step d stream initial step before =
+    let granted = step_amount (grant_to d stream) step in
+    let by_frame = pos granted -ℤ pos (step_amount (content_by d) step) in
+    let by_change = pos (new_initial step.change d (side_of d initial)) -ℤ pos (side_of d initial) in
+    let counted = before +ℤ (by_frame +ℤ by_change) in
+    let overflowing = nat_lt 0 granted && overflows before counted in
+    record {
+      before = before;
+      counted = counted;
+      overflowing = overflowing;
+      last = (if overflowing then before else counted);
+      after = (if step_test (ends_window d) step || overflowing then None else Some counted);
+    }
 
 -- the window of side d after the step, from its credit before it; one that is not live has none
 abbrev pub window_after : Side → (stream : ℕ) → Sides ℕ → Step → Option ℤ → Option ℤ
 window_after d stream initial step None = None
-window_after d stream initial step (Some before) =
-    if window_ends d stream initial step before then None else Some (counted d stream initial step before)
+window_after d stream initial step (Some before) = (window_step d stream initial step before).after
 
 -- the window of side d at the opening: the initial window in force, unless the side sends nothing more
 abbrev pub window_at_opening : Side → (stream : ℕ) → Sides ℕ → Step → Option ℤ
@@ -101,24 +95,6 @@ frame_said stream entry step frame =
     ++ say (is_after_end entry.life frame) (stream_finding AfterEnd stream step frame.side (pos frame.code))
     ++ say (is_zero_grant frame.body && is_some entry.life.opened)
     (stream_finding ZeroStreamGrant stream step frame.side (pos 0))
-
--- a live window at a step
-pub record WindowStep : Type 0 where
-  pub before : ℤ  -- the credit before the step
-  pub counted : ℤ  -- the credit once the step is counted
-  pub overflowing : Bool  -- does a grant bring it above the largest?
-  pub last : ℤ  -- the last credit that is known
-  pub after : Option ℤ  -- the credit after the step, where the window lives on
-
--- the window of side d at the step, from its credit before it
-abbrev pub window_step : Side → (stream : ℕ) → Sides ℕ → Step → (before : ℤ) → WindowStep
-window_step d stream initial step before = record {
-  before = before;
-  counted = counted d stream initial step before;
-  overflowing = is_overflowing_grant d stream initial step before;
-  last = last_credit d stream initial step before;
-  after = window_after d stream initial step (Some before);
-}
 
 -- is the window live and its credit used up?
 abbrev pub is_stalled : Option ℤ → Bool
@@ -157,20 +133,3 @@ stream_said stream initial entry step =
     say_of (frame_said stream entry step) step.frame
     ++ stream_window_said Client stream initial entry step
     ++ stream_window_said Server stream initial entry step
-
--- the initial windows in force after a change
-abbrev pub initial_after : Option Change → Sides ℕ → Sides ℕ
-initial_after change initial = each_side (λ d. new_initial change d (side_of d initial))
-
--- the findings of a stream over some steps, with no stop
-abbrev pub stream_run_from : (stream : ℕ) → Sides ℕ → Stream → List Step → List Finding
-stream_run_from stream initial entry [] = []
-stream_run_from stream initial entry (step ∷ steps) =
-    in_order (stream_said stream initial entry step)
-    ++ stream_run_from stream (initial_after step.change initial) (stream_after stream initial entry step) steps
-
--- the stream after some steps
-abbrev pub stream_after_all : (stream : ℕ) → Sides ℕ → Stream → List Step → Stream
-stream_after_all stream initial entry [] = entry
-stream_after_all stream initial entry (step ∷ steps) =
-    stream_after_all stream (initial_after step.change initial) (stream_after stream initial entry step) steps

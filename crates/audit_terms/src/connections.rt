@@ -29,7 +29,8 @@ pub struct ConnectionState {
 
 impl ConnectionState {
     ghost use Rattle.audit_terms.specs.Sides.{side_of, each_side};
-    ghost use Rattle.audit_terms.specs.Frame.{IsInRange, content_by};
+    ghost use Rattle.audit_terms.specs.Frame.{content_by};
+    ghost use Rattle.audit_terms.specs.runs.Orderly.{IsInRange};
     ghost use Rattle.audit_terms.specs.code.Room.{HasRoom};
     ghost use Rattle.audit_terms.specs.Connection.{connection_start, credit_after, connection_window_said, connection_windows_said};
 
@@ -198,7 +199,8 @@ impl ConnectionState {
 }
 
 ghost use Rattle.std.specs.Prelude.{max, if◌then◌else◌};
-ghost use Rattle.audit_terms.specs.Frame.{IsInRange, promised_in};
+ghost use Rattle.audit_terms.specs.Frame.{promised_in};
+ghost use Rattle.audit_terms.specs.runs.Orderly.{IsInRange};
 ghost use Rattle.audit_terms.specs.Sides.{side_of, each_side};
 ghost use Rattle.audit_terms.specs.Change.{new_limit, new_push};
 ghost use Rattle.audit_terms.specs.Connection.{is_length_fatal, length_said, push_said, opening_order_said, promise_order_said, is_opened_by_headers};
@@ -261,7 +263,8 @@ fn say_length(found: &mut Vec<Finding>, limit: u32, frame: &Frame) -> Result<(),
     } else {
         Kind::LongFrame
     };
-    let long = limit < frame.length;
+    let length = frame.length.get();
+    let long = limit < length;
     say_at(
         found,
         long,
@@ -269,7 +272,7 @@ fn say_length(found: &mut Vec<Finding>, limit: u32, frame: &Frame) -> Result<(),
         frame.number,
         frame.stream,
         frame.side,
-        frame.length,
+        length,
     )
 }
 

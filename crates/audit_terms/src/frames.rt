@@ -3,6 +3,7 @@ ghost use Rattle.std.specs.Prelude.{◌≡◌, ℕ};
 use crate::kinds::Kind;
 use crate::settings::PackedSettings;
 use crate::sides::Side;
+use crate::widths::{Length, Word};
 
 /// The type bytes that rules of an audit name (RFC 9113, 6).
 pub const DATA: u8 = 0;
@@ -41,16 +42,16 @@ pub enum Body {
     Settings(PackedSettings),
     SettingsAck,
     /// PUSH_PROMISE, with the promised stream.
-    PushPromise(u32),
+    PushPromise(Word),
     Ping,
     GoAway,
     /// WINDOW_UPDATE, with the increment in bytes.
-    WindowUpdate(u32),
+    WindowUpdate(Word),
     Continuation,
     /// A frame of a type that RFC 9113 does not define.
     Unknown,
     /// A frame whose payload cannot be read: wrong-size, bad-padding or bad-priority, with the finding's value.
-    Unreadable(Kind, u32),
+    Unreadable(Kind, Word),
 }
 
 impl Body {
@@ -91,7 +92,7 @@ impl Body {
         ensures { result ≡ increment self.now }
     {
         match self {
-            Body::WindowUpdate(amount) => *amount,
+            Body::WindowUpdate(amount) => amount.get(),
             _ => 0,
         }
     }
@@ -107,7 +108,7 @@ impl Body {
         ensures { result ≡ promised_in self.now }
     {
         match self {
-            Body::PushPromise(stream) => *stream,
+            Body::PushPromise(stream) => stream.get(),
             _ => 0,
         }
     }
@@ -120,19 +121,19 @@ impl Body {
     }
 }
 
-/// A frame of one connection, in capture order. The single bytes stand last, so that it takes 40 bytes.
+/// A frame of one connection, in capture order. What needs no alignment stands last, so that it takes 40 bytes.
 #[derive(Clone, Copy)]
 pub struct Frame {
     /// Its number in the connection, from 1.
     pub number: u32,
     /// The record at which its last byte arrived.
     pub rec: u32,
-    /// The stream identifier, 31 bits; 0 is the connection.
-    pub stream: u32,
-    /// The length of the payload in bytes, 24 bits.
-    pub length: u32,
     /// When its record was captured, in nanoseconds.
     pub nanos: u64,
+    /// The stream identifier, 31 bits; 0 is the connection.
+    pub stream: u32,
+    /// The length of the payload in bytes.
+    pub length: Length,
     pub body: Body,
     /// Who sent it.
     pub side: Side,
@@ -141,6 +142,8 @@ pub struct Frame {
     /// The flags byte.
     pub flags: u8,
 }
+
+const _: () = prove!(size_of::<Frame>() == 40);
 
 impl Frame {
     ghost use Rattle.audit_terms.specs.Frame.{content_by, grant_to, grants_nothing, sends_end, sends_reset, is_server_promise, is_client_headers, promises, promised_by, meets, needs_opening};
@@ -152,7 +155,7 @@ impl Frame {
         ensures { result ≡ content_by side self.now }
     {
         if side == self.side && self.body.is_content() {
-            self.length
+            self.length.get()
         } else {
             0
         }

@@ -1,21 +1,22 @@
 //! The vocabulary of an HTTP/2 flow-control audit (RFC 9113, sections 4 to 6): frames, places and findings, and the
 //! definitions that every part of the audit cites.
 //!
-//! `specs/` holds the rules, each beside its section of the RFC: what a frame shows by itself (`LocalFault`), the values
-//! of a SETTINGS frame and how a frame keeps them (`Settings`, 6.5.2), settings in force (`InForce`, 6.5.3), the life of
-//! a stream (`Life`, 5.1), both sides' windows (`Connection` and `Stream`, 6.9), the pass over all frames of a
-//! connection and where it ends (`Pass`, 5.4.1), what a stream, a group or a block shows by itself (`Run`), credit as a
-//! closed sum (`Credit`), and when a run looks for the stop of its connection (`Look`).
+//! `specs/` holds the rules, each beside its section of the RFC: what a frame shows by itself (`LocalFault`), settings in
+//! force (`InForce`, 6.5.3), the life of a stream (`Life`, 5.1), both sides' windows (`Connection` and `Stream`, 6.9), and
+//! the pass over all frames of a connection and where it ends (`Pass`, 5.4.1). `specs/runs/` has what parts of a pass show
+//! by themselves, and when a run looks for the stop of its connection; `specs/laws/` what laws say, as credit in closed
+//! form. The contracts of the program's calls rest on neither of the two.
 //!
 //! - [`Frame`], [`Change`], [`Item`] and [`Step`] are what an audit reads: frames, and what they bring.
 //! - [`Stream`], [`StreamLife`] and [`ConnectionState`] are a stream and a connection between two frames, and their
 //!   calls count one frame as the definitions say; so do [`say_local`] and [`say_window`]. The plain pass and the
 //!   rounds take them from here: both say each rule by the same code, and differ only in how they walk.
+//! - [`PackedSettings`], [`Word`] and [`Length`] need no alignment, so that a frame takes 40 bytes; contracts see the
+//!   settings and the numbers that they hold.
 //! - [`Place`], [`Kind`] and [`Finding`] say where a finding stands, what it says and whether it stops the audit;
 //!   [`put_in_order`], [`cut_at_stop`], [`keep_up_to`] and [`keep_shown`] order findings, end them and drop credits.
 //! - [`Look`] and [`Watch`]: a run asks where its connection stops before its first step and before each 256th more.
-//! - [`laws`]: places stand in the order of frame number, rank and stream, and none is all ones; settings in range are
-//!   the same after they were packed in two words.
+//! - [`laws`]: places stand in the order of frame number, rank and stream, and none is all ones.
 //!
 //! Each contract gives exactly what its definition says. The order of findings goes on from the place to side, kind and
 //! value, so it is total, and putting in order asks for no condition. A step with a change has an acknowledgement for
@@ -41,6 +42,7 @@ mod places;
 mod settings;
 mod sides;
 mod streams;
+mod widths;
 mod windows;
 
 pub use connections::{ConnectionState, FIRST_LIMIT};
@@ -56,4 +58,5 @@ pub use places::Place;
 pub use settings::{PackedSettings, Settings};
 pub use sides::{Side, Sides};
 pub use streams::Stream;
+pub use widths::{Length, Word};
 pub use windows::{FIRST_WINDOW, initial_after, say_window};

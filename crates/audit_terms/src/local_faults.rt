@@ -1,5 +1,5 @@
 ghost use Rattle.std.specs.Prelude.{◌≡◌, ℕ, ◌^◌, ◌<◌, ◌++◌, OnOk};
-ghost use Rattle.audit_terms.specs.Frame.{IsInRange};
+ghost use Rattle.audit_terms.specs.runs.Orderly.{IsInRange};
 ghost use Rattle.audit_terms.specs.LocalFault.{is_settings, leaves_block_open, breaks_block, needs_stream, needs_connection, is_on_wrong_stream, reading_fault, body_said, local_said, previous_after};
 
 use crate::findings::{Finding, say_if};
@@ -140,7 +140,7 @@ fn say_body(found: &mut Vec<Finding>, frame: &Frame) -> Result<(), AllocError>
     ensures { OnOk result (found.new.items ≡ found.old.items ++ body_said frame.now frame.now.body) }
 {
     match frame.body {
-        Body::Unreadable(kind, value) => say_unreadable(found, kind, frame, value),
+        Body::Unreadable(kind, value) => say_unreadable(found, kind, frame, value.get()),
         Body::Settings(settings) => match settings.bad() {
             Some(identifier) => {
                 found.push(fault(Kind::BadSetting, frame, u32::from(identifier)))?;

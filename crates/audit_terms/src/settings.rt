@@ -1,9 +1,12 @@
-ghost use Rattle.std.specs.Prelude.{◌≡◌, ℕ, ◌+◌, ◌^◌, ◌<◌};
+ghost use Rattle.std.specs.Prelude.{◌≡◌, ℕ, ◌≤◌};
 ghost use Rattle.std.specs.Option.{ForSome};
-ghost use Rattle.audit_terms.specs.Settings.{AreInRange, no_settings, one_less, one_more, packed, unpacked};
+ghost use Rattle.audit_terms.specs.Settings.{no_settings};
 
-/// The values of one SETTINGS frame that matter here (RFC 9113, 6.5.2): of each setting the last value in range, and
-/// the identifier of the first pair whose value is out of range.
+use crate::widths::Word;
+use std::marker::Model;
+
+/// The values of one SETTINGS frame that matter here (RFC 9113, 6.5.2): of each setting the last value, and the
+/// identifier of the first pair whose value is out of range.
 #[derive(Clone, Copy)]
 pub struct Settings {
     /// SETTINGS_ENABLE_PUSH (2).
@@ -30,73 +33,103 @@ impl Settings {
     }
 }
 
-/// Settings in two words, as a frame keeps them: a connection has many frames. Each value stands there as one more
-/// than it is, and 0 where there is none.
+/// Settings as a frame keeps them, in 13 bytes: a connection has many frames. A contract sees the settings.
 #[derive(Clone, Copy)]
 pub struct PackedSettings {
-    initial: u32,
-    /// From the top the identifier out of range, ENABLE_PUSH in 2 bits, and the greatest length in 25 bits.
-    others: u32,
+    /// Which of the words below hold a value, in three bits; before them one more than the identifier out of range, or 0.
+    marks: u8,
+    push: Word,
+    initial: Word,
+    max_frame: Word,
 }
 
-/// How many numbers the bits of the greatest length can say.
-const LENGTHS: u32 = 0x200_0000;
+impl Model for PackedSettings {
+    ghost use Rattle.audit_terms.specs.declared.settings.Settings.{Settings};
+
+    ghost Value = { Settings };
+
+    ghost use Rattle.audit_terms.specs.code.Packing.{packed, unpacked, IsPacked};
+
+    ghost view = { unpacked };
+
+    ghost invariant = { IsPacked };
+
+    ghost inverse = { packed };
+
+    ghost inverse_ok = { λ _ is. is };
+}
+
+ghost use Rattle.audit_terms.specs.code.Packing.{mark, marked, one_less, one_more};
 
 impl PackedSettings {
-    /// The words of settings.
+    /// Keeps settings. The identifiers whose values have a range are at most 5.
     pub fn of(settings: &Settings) -> Self
-        requires { AreInRange settings.now }
-        ensures value { result ≡ packed settings.now }
-        ensures same { unpacked result ≡ settings.now }
+        requires { ForSome settings.now.bad (λ identifier. identifier ≤ 5) }
+        ensures { result ≡ settings.now }
     {
-        let bad = match settings.bad {
-            Some(identifier) => u32::from(identifier) + 1,
-            None => 0,
-        };
+        let marks = (one_more(settings.bad) * 2 + mark(settings.max_frame)) * 2;
         PackedSettings {
-            initial: one_more(settings.initial),
-            others: (bad * 4 + one_more(settings.push)) * LENGTHS + one_more(settings.max_frame),
+            marks: (marks + mark(settings.initial)) * 2 + mark(settings.push),
+            push: Word::of(settings.push.unwrap_or(0)),
+            initial: Word::of(settings.initial.unwrap_or(0)),
+            max_frame: Word::of(settings.max_frame.unwrap_or(0)),
         }
     }
 
-    /// The settings of these words.
-    pub fn settings(&self) -> Settings
-        ensures { result ≡ unpacked self.now }
+    /// The settings.
+    pub fn settings(self) -> Settings
+        ensures { result ≡ self }
     {
-        let (others, max_frame) = (self.others / LENGTHS, self.others % LENGTHS);
         Settings {
-            push: one_less(others % 4),
-            initial: one_less(self.initial),
-            max_frame: one_less(max_frame),
-            bad: self.bad(),
+            push: marked(self.marks % 2, self.push),
+            initial: marked(self.marks / 2 % 2, self.initial),
+            max_frame: marked(self.marks / 4 % 2, self.max_frame),
+            bad: one_less(self.marks / 8),
         }
     }
 
     /// The identifier of the first pair out of range.
-    pub fn bad(&self) -> Option<u16>
-        ensures { result ≡ (unpacked self.now).bad }
+    pub fn bad(self) -> Option<u16>
+        ensures { result ≡ self.bad }
     {
-        match one_less(self.others / LENGTHS / 4) {
-            Some(identifier) => Some(identifier as u16),
-            None => None,
-        }
+        one_less(self.marks / 8)
     }
 }
 
-/// A value as a number that is one more, and 0 where there is none.
-fn one_more(value: Option<u32>) -> u32
-    requires { ForSome value (λ value. value < 2 ^ 31) }
-    ensures { result ≡ one_more value }
+/// One more than an identifier, and 0 where there is none.
+fn one_more(identifier: Option<u16>) -> u8
+    requires { ForSome identifier (λ identifier. identifier ≤ 5) }
+    ensures { result ≡ one_more identifier }
 {
-    match value {
-        Some(value) => value + 1,
+    match identifier {
+        Some(identifier) => identifier as u8 + 1,
         None => 0,
     }
 }
 
-/// The value of such a number.
-fn one_less(number: u32) -> Option<u32>
+/// The identifier of such a number.
+fn one_less(number: u8) -> Option<u16>
     ensures { result ≡ one_less number }
 {
-    number.checked_sub(1)
+    u16::from(number).checked_sub(1)
+}
+
+/// 1 where there is a value.
+fn mark(value: Option<u32>) -> u8
+    ensures { result ≡ mark value }
+{
+    match value {
+        Some(_) => 1,
+        None => 0,
+    }
+}
+
+/// The value in a word, if it is marked.
+fn marked(mark: u8, word: Word) -> Option<u32>
+    ensures { result ≡ marked mark word }
+{
+    match mark {
+        0 => None,
+        _ => Some(word.get()),
+    }
 }

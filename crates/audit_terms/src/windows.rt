@@ -4,7 +4,9 @@ ghost use Rattle.audit_terms.specs.Sides.{side_of};
 ghost use Rattle.audit_terms.specs.Change.{new_initial};
 ghost use Rattle.audit_terms.specs.Finding.{say_of};
 ghost use Rattle.audit_terms.specs.Frame.{content_by};
-ghost use Rattle.audit_terms.specs.Stream.{IsAcknowledged, step_amount, counted, is_overflowing_grant, window_ends, window_after, window_at_opening, window_step, live_window_said, opened_window_said, initial_after};
+ghost use Rattle.audit_terms.specs.Stream.{step_amount, window_after, window_at_opening, window_step, live_window_said, opened_window_said};
+ghost use Rattle.audit_terms.specs.runs.Streams.{IsAcknowledged, initial_after};
+ghost use Rattle.audit_terms.specs.code.StreamSteps.{counted, is_overflowing_grant, window_ends};
 ghost use Rattle.audit_terms.specs.code.Room.{HasRoom, WindowHasRoom};
 ghost use Rattle.audit_terms.specs.Window.{is_used_up};
 
@@ -165,7 +167,8 @@ struct LiveStep {
 }
 
 impl LiveStep {
-    ghost use Rattle.audit_terms.specs.Stream.{step_amount, counted, is_overflowing_grant, last_credit, window_after, live_window_said, is_stalled};
+    ghost use Rattle.audit_terms.specs.Stream.{step_amount, window_after, live_window_said, is_stalled};
+    ghost use Rattle.audit_terms.specs.code.StreamSteps.{counted, is_overflowing_grant, last_credit};
     ghost use Rattle.std.specs.Prelude.{◌&&◌, not, is_some};
     ghost use Rattle.audit_terms.specs.Frame.{content_by, grant_to};
     ghost use Rattle.audit_terms.specs.Window.{overflows, overruns};

@@ -5,7 +5,8 @@ use Rattle.std.specs.List.{AllByRecursion}
 use Rattle.audit_terms.specs.declared.sides.Side.TheVariants.{Client, Server}
 use Rattle.audit_terms.specs.declared.connections.ConnectionState.{ConnectionState}
 use Rattle.audit_terms.specs.declared.items.Item.{Item}
-use Rattle.audit_terms.specs.Connection.{connection_after, connection_after_all}
+use Rattle.audit_terms.specs.Connection.{connection_after}
+use Rattle.audit_terms.specs.runs.Blocks.{connection_after_all}
 use Rattle.audit_terms.specs.code.Room.{HasRoom}
 use Rattle.block_scan.specs.List.{items_of}
 use Rattle.conn_scan.specs.SideCredit.{change_of}

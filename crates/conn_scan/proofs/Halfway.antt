@@ -8,10 +8,11 @@ use Rattle.audit_terms.specs.declared.frames.Frame.{Frame}
 use Rattle.audit_terms.specs.declared.items.Change.{Change}
 use Rattle.audit_terms.specs.declared.items.Item.{Item}
 use Rattle.audit_terms.specs.declared.looks.Watch.{Watch}
-use Rattle.audit_terms.specs.Connection.{connection_said, connection_after, block_run}
+use Rattle.audit_terms.specs.Connection.{connection_said, connection_after}
+use Rattle.audit_terms.specs.runs.Blocks.{block_run}
 use Rattle.audit_terms.specs.Finding.{in_order, is_shown, shown}
-use Rattle.audit_terms.specs.Frame.{IsOrderlyFrom}
-use Rattle.audit_terms.specs.Look.{found_before, up_to, steps_between, IsRun}
+use Rattle.audit_terms.specs.runs.Orderly.{IsOrderlyFrom}
+use Rattle.audit_terms.specs.runs.Look.{found_before, up_to, steps_between, IsRun}
 use Rattle.audit_terms.specs.Place.{place_number}
 use Rattle.audit_terms.specs.code.Watch.{Watches, IsStopped, NeverFallFrom}
 use Rattle.audit_terms.proofs.Watching.{ends, is-cut}

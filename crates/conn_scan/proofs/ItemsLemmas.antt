@@ -7,9 +7,12 @@ use Rattle.audit_terms.specs.declared.frames.Frame.{Frame}
 use Rattle.audit_terms.specs.declared.settings.Settings.{Settings}
 use Rattle.audit_terms.specs.declared.items.Change.{Change}
 use Rattle.audit_terms.specs.declared.items.Item.{Item}
-use Rattle.audit_terms.specs.Frame.{is_headers, IsOrderlyFrom}
-use Rattle.audit_terms.specs.InForce.{InForce, taken, change_taking, change_of, in_force_after, changes_from}
-use Rattle.audit_terms.specs.Pass.{PassState, pass_start, item_of, next, items_from}
+use Rattle.audit_terms.specs.Frame.{is_headers}
+use Rattle.audit_terms.specs.runs.Orderly.{IsOrderlyFrom}
+use Rattle.audit_terms.specs.InForce.{InForce, taken, change_taking, change_of, in_force_after}
+use Rattle.audit_terms.specs.runs.Changes.{changes_from}
+use Rattle.audit_terms.specs.Pass.{PassState, pass_start, item_of, next}
+use Rattle.audit_terms.specs.runs.States.{items_from}
 use Rattle.conn_scan.specs.Items.{is_marked, change_at, item_with, items_with}
 use Rattle.conn_scan.specs.ItemsLaw.{ItemsAreThePass, AreSplit, ItemsOfBlocksJoin}
 

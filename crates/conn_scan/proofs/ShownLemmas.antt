@@ -18,7 +18,8 @@ use Rattle.audit_terms.specs.Frame.{is_content, content_by, grant_to, grants_not
 use Rattle.audit_terms.specs.Window.{largest_window, is_used_up, overflows, overruns, stall_ends, stall_begins}
 use Rattle.audit_terms.specs.Change.{new_limit}
 use Rattle.audit_terms.specs.Finding.{say, in_order, shown}
-use Rattle.audit_terms.specs.Connection.{credit_after, length_said, connection_window_said, connection_said, connection_after, block_run}
+use Rattle.audit_terms.specs.Connection.{credit_after, length_said, connection_window_said, connection_said, connection_after}
+use Rattle.audit_terms.specs.runs.Blocks.{block_run}
 use Rattle.audit_terms.proofs.FindingLists.{each-append, each-in_order, each-said}
 use Rattle.conn_scan.specs.Latest.{length_by, longest_by}
 use Rattle.conn_scan.specs.Clear.{connections, is_usable, keeps_credit, grants_something, openings_rise, promises_allowed, promises_rise, ClearShowsCredit}

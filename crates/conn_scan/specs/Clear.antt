@@ -11,7 +11,8 @@ use Rattle.audit_terms.specs.Sides.{side_of}
 use Rattle.audit_terms.specs.Frame.{is_server_promise, promised_in}
 use Rattle.audit_terms.specs.Window.{largest_window}
 use Rattle.audit_terms.specs.Finding.{shown}
-use Rattle.audit_terms.specs.Connection.{is_opened_by_headers, connection_after, block_run}
+use Rattle.audit_terms.specs.Connection.{is_opened_by_headers, connection_after}
+use Rattle.audit_terms.specs.runs.Blocks.{block_run}
 use Rattle.conn_scan.specs.Latest.{grants_zero, longest_by}
 
 -- the connection on entry, and after every item

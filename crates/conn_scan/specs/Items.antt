@@ -4,7 +4,8 @@ use Rattle.std.specs.List.{list_any, find}
 use Rattle.audit_terms.specs.declared.frames.Frame.{Frame}
 use Rattle.audit_terms.specs.declared.items.Change.{Change}
 use Rattle.audit_terms.specs.declared.items.Item.{Item}
-use Rattle.audit_terms.specs.Frame.{is_headers, IsOrderly}
+use Rattle.audit_terms.specs.Frame.{is_headers}
+use Rattle.audit_terms.specs.runs.Orderly.{IsOrderly}
 pub use Rattle.audit_terms.specs.code.Watch.{NeverFallFrom}
 use Rattle.settings_pair.specs.Changes.{AreOrderly}
 use Rattle.conn_scan.specs.declared.block_items.Block.{Block}

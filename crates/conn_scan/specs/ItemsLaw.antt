@@ -4,9 +4,9 @@ use Rattle.std.specs.List.{AllByRecursion}
 use Rattle.audit_terms.specs.declared.frames.Frame.{Frame}
 use Rattle.audit_terms.specs.declared.items.Change.{Change}
 use Rattle.audit_terms.specs.declared.items.Item.{Item}
-use Rattle.audit_terms.specs.Frame.{IsOrderly}
-use Rattle.audit_terms.specs.InForce.{changes_of}
-use Rattle.audit_terms.specs.Pass.{items_of}
+use Rattle.audit_terms.specs.runs.Orderly.{IsOrderly}
+use Rattle.audit_terms.specs.runs.Changes.{changes_of}
+use Rattle.audit_terms.specs.runs.States.{items_of}
 use Rattle.conn_scan.specs.Items.{is_marked, items_with}
 
 -- the HEADERS among the numbers are those that open their streams

@@ -3,7 +3,7 @@ use Rattle.std.specs.Prelude.{◌≡◌, ℕ, ◌+◌, ◌*◌, pos, Bool, true,
 use Rattle.audit_terms.specs.declared.sides.Side.{Side}
 use Rattle.audit_terms.specs.declared.sides.Side.TheVariants.{Client, Server}
 use Rattle.audit_terms.specs.declared.kinds.Kind.TheVariants.{ConnectionStallBegin, ConnectionStallEnd}
-use Rattle.audit_terms.specs.Settings.{packed, no_settings}
+use Rattle.audit_terms.specs.Settings.{no_settings}
 use Rattle.audit_terms.specs.declared.frames.Body.{Body}
 use Rattle.audit_terms.specs.declared.frames.Body.TheVariants.{Content, Headers, Settings as SettingsBody, SettingsAck, WindowUpdate}
 use Rattle.audit_terms.specs.declared.frames.Frame.{Frame}
@@ -11,10 +11,11 @@ use Rattle.audit_terms.specs.declared.items.Item.{Item}
 use Rattle.audit_terms.specs.declared.findings.Finding.{Finding}
 use Rattle.audit_terms.specs.FrameType.{data_type, headers_type, settings_type, window_update_type}
 use Rattle.audit_terms.specs.Finding.{finding_at, shown}
-use Rattle.audit_terms.specs.InForce.{changes_of}
-use Rattle.audit_terms.specs.Connection.{connection_start, connection_after_all}
-use Rattle.audit_terms.specs.Pass.{items_of}
-use Rattle.audit_terms.specs.Run.{block_runs}
+use Rattle.audit_terms.specs.runs.Changes.{changes_of}
+use Rattle.audit_terms.specs.Connection.{connection_start}
+use Rattle.audit_terms.specs.runs.Blocks.{connection_after_all}
+use Rattle.audit_terms.specs.runs.States.{items_of}
+use Rattle.audit_terms.specs.runs.Blocks.{block_runs}
 use Rattle.conn_scan.specs.Items.{items_with}
 use Rattle.conn_scan.specs.Clear.{is_clear}
 
@@ -37,8 +38,8 @@ data_frame number length = scripted number Client data_type 1 length Content
 -- both sides send empty settings and acknowledge them; frames 5 to 9 use up the credit
 abbrev pub stall_script : List Frame
 stall_script =
-    scripted 1 Client settings_type 0 0 (SettingsBody (packed no_settings))
-    ∷ scripted 2 Server settings_type 0 0 (SettingsBody (packed no_settings))
+    scripted 1 Client settings_type 0 0 (SettingsBody no_settings)
+    ∷ scripted 2 Server settings_type 0 0 (SettingsBody no_settings)
     ∷ scripted 3 Client settings_type 0 0 SettingsAck ∷ scripted 4 Server settings_type 0 0 SettingsAck
     ∷ scripted 5 Client headers_type 1 0 Headers
     ∷ data_frame 6 16384 ∷ data_frame 7 16384 ∷ data_frame 8 16384 ∷ data_frame 9 16383

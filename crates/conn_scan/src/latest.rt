@@ -60,7 +60,7 @@ fn length_by(side: Side, item: &Item) -> u32
     ensures { result ≡ length_by side item.now }
 {
     if side == item.frame.side {
-        item.frame.length
+        item.frame.length.get()
     } else {
         0
     }

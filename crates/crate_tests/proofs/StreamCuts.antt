@@ -3,9 +3,9 @@ use Rattle.std.proofs.Common.{◌≡◌, ℕ, zero, suc, ◌-◌, ◌^◌, ◌�
 use Rattle.audit_terms.specs.declared.findings.Finding.{Finding}
 use Rattle.audit_terms.specs.declared.items.Change.{Change}
 use Rattle.audit_terms.specs.Finding.{shown}
-use Rattle.audit_terms.specs.Look.{IsRun}
+use Rattle.audit_terms.specs.runs.Look.{IsRun}
 use Rattle.audit_terms.specs.Place.{place_number}
-use Rattle.audit_terms.specs.Run.{stream_run}
+use Rattle.audit_terms.specs.runs.Streams.{stream_run}
 use Rattle.split_merge.specs.Board.{Job, IsCut}
 use Rattle.stream_credit.specs.declared.parts.StreamPart.{StreamPart}
 use Rattle.stream_credit.specs.Part.{part_frames, IsPart}

@@ -3,7 +3,7 @@
 use Rattle.std.specs.Prelude.{◌≡◌, ℕ, List, [], ◌∷◌, ◌++◌, map, replicate, Option, Some, None}
 use Rattle.audit_terms.specs.declared.frames.Body.{Body}
 use Rattle.audit_terms.specs.declared.frames.Body.TheVariants.{Content, Headers, Priority, RstStream, Settings as SettingsBody, SettingsAck, PushPromise, Ping, GoAway, WindowUpdate, Continuation, Unknown, Unreadable}
-use Rattle.audit_terms.specs.Settings.{packed, no_settings}
+use Rattle.audit_terms.specs.Settings.{no_settings}
 use Rattle.audit_terms.specs.declared.kinds.Kind.TheVariants.{WrongSize, BadPadding, BadPriority}
 use Rattle.h2_frames.specs.Body.{body_of}
 use Rattle.h2_frames.specs.Settings.{settings_of}
@@ -74,8 +74,8 @@ Increments =
 abbrev pub SettingsLengths : Type 0
 SettingsLengths =
     map (body_of 4 0) (all_zeros (0 ∷ 5 ∷ 6 ∷ 7 ∷ 12 ∷ []))
-    ≡ SettingsBody (packed no_settings) ∷ Unreadable WrongSize 5 ∷ SettingsBody (packed no_settings) ∷ Unreadable WrongSize 7
-    ∷ SettingsBody (packed no_settings) ∷ []
+    ≡ SettingsBody no_settings ∷ Unreadable WrongSize 5 ∷ SettingsBody no_settings ∷ Unreadable WrongSize 7
+    ∷ SettingsBody no_settings ∷ []
 
 abbrev pub SettingsAckLengths : Type 0
 SettingsAckLengths =
@@ -111,7 +111,7 @@ PushRange =
     map settings_of (pair 2 0 0 0 0 ∷ pair 2 0 0 0 1 ∷ pair 2 0 0 0 2 ∷ [])
     ≡ record no_settings { push = Some 0 }
     ∷ record no_settings { push = Some 1 }
-    ∷ record no_settings { bad = Some 2 }
+    ∷ record no_settings { push = Some 2; bad = Some 2 }
     ∷ []
 
 -- INITIAL_WINDOW_SIZE (4) is at most 2^31 - 1
@@ -119,17 +119,17 @@ abbrev pub InitialWindowRange : Type 0
 InitialWindowRange =
     map settings_of (pair 4 127 255 255 255 ∷ pair 4 128 0 0 0 ∷ [])
     ≡ record no_settings { initial = Some 2147483647 }
-    ∷ record no_settings { bad = Some 4 }
+    ∷ record no_settings { initial = Some 2147483648; bad = Some 4 }
     ∷ []
 
 -- MAX_FRAME_SIZE (5) is from 2^14 to 2^24 - 1
 abbrev pub MaxFrameSizeRange : Type 0
 MaxFrameSizeRange =
     map settings_of (pair 5 0 0 63 255 ∷ pair 5 0 0 64 0 ∷ pair 5 0 255 255 255 ∷ pair 5 1 0 0 0 ∷ [])
-    ≡ record no_settings { bad = Some 5 }
+    ≡ record no_settings { max_frame = Some 16383; bad = Some 5 }
     ∷ record no_settings { max_frame = Some 16384 }
     ∷ record no_settings { max_frame = Some 16777215 }
-    ∷ record no_settings { bad = Some 5 }
+    ∷ record no_settings { max_frame = Some 16777216; bad = Some 5 }
     ∷ []
 
 -- identifiers have 16 bits; those that an audit does not use have no range
@@ -138,14 +138,22 @@ OtherSettings =
     map settings_of (pair 3 255 255 255 255 ∷ pair 1 0 0 0 0 ∷ (1 ∷ 4 ∷ 0 ∷ 0 ∷ 0 ∷ 3 ∷ []) ∷ [])
     ≡ no_settings ∷ no_settings ∷ no_settings ∷ []
 
--- repeated pairs: the last value in range of an identifier counts, and the first pair out of range is named, also where
--- a later one of its identifier is in range
+-- repeated pairs: the last value of an identifier counts, in range or not, and the first pair out of range is named, also
+-- where a later one of its identifier is in range
 abbrev pub FirstPairOutOfRange : Type 0
 FirstPairOutOfRange =
     settings_of (pair 4 128 0 0 0 ++ pair 2 0 0 0 5 ++ pair 4 0 0 0 7 ++ pair 5 0 0 64 0 ++ [])
-    ≡ record { push = None; initial = Some 7; max_frame = Some 16384; bad = Some 4 }
+    ≡ record { push = Some 5; initial = Some 7; max_frame = Some 16384; bad = Some 4 }
 
 abbrev pub LaterPairOutOfRange : Type 0
 LaterPairOutOfRange =
     settings_of (pair 2 0 0 0 1 ++ pair 4 0 0 0 7 ++ pair 5 0 0 0 1 ++ pair 4 128 0 0 0 ++ [])
-    ≡ record { push = Some 1; initial = Some 7; max_frame = None; bad = Some 5 }
+    ≡ record { push = Some 1; initial = Some 2147483648; max_frame = Some 1; bad = Some 5 }
+
+-- 000400000064 000480000000, and 000500000005
+abbrev pub LastValueOutOfRange : Type 0
+LastValueOutOfRange =
+    map settings_of ((pair 4 0 0 0 100 ++ pair 4 128 0 0 0) ∷ pair 5 0 0 0 5 ∷ [])
+    ≡ record no_settings { initial = Some 2147483648; bad = Some 4 }
+    ∷ record no_settings { max_frame = Some 5; bad = Some 5 }
+    ∷ []

@@ -1,7 +1,7 @@
 -- Jobs of which each is a stream of the first connection, to which settings bring nothing.
 use Rattle.std.specs.Prelude.{true, []}
 use Rattle.audit_terms.specs.Finding.{shown}
-use Rattle.audit_terms.specs.Run.{stream_run}
+use Rattle.audit_terms.specs.runs.Streams.{stream_run}
 use Rattle.split_merge.specs.Board.{Job}
 use Rattle.stream_credit.specs.declared.parts.StreamPart.{StreamPart}
 use Rattle.stream_credit.specs.Part.{part_frames}

@@ -1,7 +1,7 @@
 //! Worked examples of frames, which stand with their answers in `specs/Bodies.antt` and `specs/Frames.antt`. The
 //! functions do nothing; each contract is the example.
 
-ghost use Rattle.crate_tests.specs.Bodies.{Continuations, Data, FirstPairOutOfRange, GoAwayLengths, HeadersPadded, HeadersPlain, HeadersWithBoth, HeadersWithPriority, Increments, InitialWindowRange, LaterPairOutOfRange, MaxFrameSizeRange, OtherSettings, PaddedData, PaddedPushPromises, PingLengths, PriorityLengths, PushPromises, PushRange, RstStreamLengths, SettingsAckLengths, SettingsLengths, UnknownTypes, WindowUpdateLengths};
+ghost use Rattle.crate_tests.specs.Bodies.{Continuations, Data, FirstPairOutOfRange, GoAwayLengths, HeadersPadded, HeadersPlain, HeadersWithBoth, HeadersWithPriority, Increments, InitialWindowRange, LastValueOutOfRange, LaterPairOutOfRange, MaxFrameSizeRange, OtherSettings, PaddedData, PaddedPushPromises, PingLengths, PriorityLengths, PushPromises, PushRange, RstStreamLengths, SettingsAckLengths, SettingsLengths, UnknownTypes, WindowUpdateLengths};
 ghost use Rattle.crate_tests.specs.Frames.{FrameHeaders, FramesInOrder, LastByteArrives, PrefaceOctets};
 
 /// The connection preface of a client (RFC 9113, 3.4).
@@ -48,6 +48,7 @@ pub fn setting_values()
     ensures other_settings { OtherSettings }
     ensures first_pair_out_of_range { FirstPairOutOfRange }
     ensures later_pair_out_of_range { LaterPairOutOfRange }
+    ensures last_value_out_of_range { LastValueOutOfRange }
 {}
 
 /// The order in which frames were captured.

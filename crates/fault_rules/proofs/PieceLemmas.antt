@@ -15,9 +15,10 @@ use Rattle.audit_terms.specs.declared.frames.Frame.{Frame}
 use Rattle.audit_terms.specs.declared.findings.Finding.{Finding}
 use Rattle.audit_terms.specs.Side.{is_side}
 use Rattle.audit_terms.specs.Sides.{side_of}
-use Rattle.audit_terms.specs.Frame.{IsInRange, IsOrderlyFrom}
+use Rattle.audit_terms.specs.runs.Orderly.{IsInRange, IsOrderlyFrom}
 use Rattle.audit_terms.specs.Finding.{in_order}
-use Rattle.audit_terms.specs.LocalFault.{local_said, previous_after, no_previous, local_run_from, local_run}
+use Rattle.audit_terms.specs.LocalFault.{local_said, previous_after, no_previous}
+use Rattle.audit_terms.specs.runs.LocalFaults.{local_run_from, local_run}
 use Rattle.fault_rules.specs.code.Pieces.{previous_after_all, last_from, before_piece, piece_run}
 
 -- the local faults of two lists of frames, one after the other

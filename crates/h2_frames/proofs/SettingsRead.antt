@@ -44,9 +44,9 @@ bad_cons s later = by (is_in_range s)
 pub with_later-step : (settings : Settings) (s : Setting) (later : List Setting) →
     with_later (with_setting settings s) later ≡ with_later settings (s ∷ later)
 with_later-step settings s later =
-    let push = value_step (last_value 2 later) ((s.identifier == 2) && is_in_range s) s.value settings.push in
-    let initial = value_step (last_value 4 later) ((s.identifier == 4) && is_in_range s) s.value settings.initial in
-    let max_frame = value_step (last_value 5 later) ((s.identifier == 5) && is_in_range s) s.value settings.max_frame in
+    let push = value_step (last_value 2 later) (s.identifier == 2) s.value settings.push in
+    let initial = value_step (last_value 4 later) (s.identifier == 4) s.value settings.initial in
+    let max_frame = value_step (last_value 5 later) (s.identifier == 5) s.value settings.max_frame in
     let bad = bad_step settings.bad (is_in_range s) s.identifier (first_bad later)
     ∙ ap (option_or settings.bad) (sym (bad_cons s later)) in
     same push initial max_frame bad

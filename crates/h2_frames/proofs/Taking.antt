@@ -9,7 +9,7 @@ use Rattle.h2_frames.specs.code.Merge.{is_server_first, merged}
 use Rattle.h2_frames.specs.code.Pieces.{bytes_of}
 use Rattle.h2_frames.specs.code.Steps.{IsReadable}
 use Rattle.h2_frames.proofs.Merging.{length-numbered, numbered-orderly}
-use Rattle.audit_terms.specs.Frame.{IsOrderly}
+use Rattle.audit_terms.specs.runs.Orderly.{IsOrderly}
 use Rattle.h2_frames.specs.code.Unread.{AreAhead, AreLeft, AreLeftAfter, AreMerged, IsNext, IsReady, weight}
 
 client_first : (f : Frame) (next : Option Frame) (server : Unread) (xs ys : List Frame) (tail : List ℕ) →

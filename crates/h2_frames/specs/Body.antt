@@ -6,7 +6,6 @@ use Rattle.audit_terms.specs.declared.frames.Body.TheVariants.{Content, Headers,
 use Rattle.audit_terms.specs.declared.kinds.Kind.TheVariants.{WrongSize, BadPadding, BadPriority}
 use Rattle.audit_terms.specs.FrameType.{has_flag, ack_flag, padded_flag, data_type, headers_type, priority_type, rst_stream_type, settings_type, push_promise_type, ping_type, goaway_type, window_update_type, continuation_type}
 use Rattle.h2_frames.specs.Header.{number_of_31_bits}
-use Rattle.audit_terms.specs.Settings.{packed}
 use Rattle.h2_frames.specs.Settings.{settings_of}
 
 -- the flag PRIORITY (6.2)
@@ -62,7 +61,7 @@ priority_body payload = if length payload == 5 then Priority else Unreadable Bad
 abbrev pub settings_body : ℕ → List ℕ → Body
 settings_body flags payload =
     if has_flag flags ack_flag then of_length 0 payload SettingsAck
-    else if length payload % 6 == 0 then Settings (packed (settings_of payload))
+    else if length payload % 6 == 0 then Settings (settings_of payload)
     else wrong_size payload
 
 -- PUSH_PROMISE (6.6): the promised stream stands behind the length of the padding

@@ -6,7 +6,7 @@ use Rattle.tcp_streams.specs.Bytes.{bytes_of}
 use Rattle.audit_terms.specs.declared.sides.Side.TheVariants.{Client, Server}
 use Rattle.audit_terms.specs.declared.sides.Sides.{Sides}
 use Rattle.audit_terms.specs.declared.frames.Frame.{Frame}
-use Rattle.audit_terms.specs.Frame.{IsOrderly}
+use Rattle.audit_terms.specs.runs.Orderly.{IsOrderly}
 use Rattle.h2_frames.specs.declared.connections.Cut.{Cut}
 use Rattle.h2_frames.specs.declared.connections.Cut.TheVariants.{Http2, NotHttp2, NoPreface, NoHandshake}
 use Rattle.h2_frames.specs.declared.spelling.Spelled.{Spelled}

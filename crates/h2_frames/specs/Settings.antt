@@ -23,11 +23,11 @@ is_in_range s =
     else if s.identifier == 5 then nat_le (2 ^ 14) s.value && nat_le s.value (2 ^ 24 - 1)
     else true
 
--- the value of the last pair of the identifier that is in range
+-- the value of the last pair of the identifier, in range or not
 abbrev pub last_value : ℕ → List Setting → Option ℕ
 last_value identifier [] = None
 last_value identifier (s ∷ later) =
-    option_or (last_value identifier later) (if (s.identifier == identifier) && is_in_range s then Some s.value else None)
+    option_or (last_value identifier later) (if s.identifier == identifier then Some s.value else None)
 
 -- the identifier of the first pair that is out of range
 abbrev pub first_bad : List Setting → Option ℕ

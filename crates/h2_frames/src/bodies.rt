@@ -6,7 +6,7 @@ ghost use Rattle.h2_frames.specs.Body.{body_of, data_body, field_block_body, go_
 
 use crate::headers::number_of_31_bits;
 use crate::settings::{SETTING_LENGTH, settings_of};
-use audit_terms::{Body, Kind, PackedSettings};
+use audit_terms::{Body, Kind, PackedSettings, Word};
 
 // The types of frames (RFC 9113, 6.1 to 6.10).
 const DATA: u8 = 0;
@@ -47,7 +47,7 @@ fn wrong_size(payload: &[u8]) -> Body
     ensures exact { result ≡ wrong_size payload.now }
     ensures promised { promised_in result < 2 ^ 31 }
 {
-    Body::Unreadable(Kind::WrongSize, payload.len() as u32)
+    Body::Unreadable(Kind::WrongSize, Word::of(payload.len() as u32))
 }
 
 /// A payload that has to be `size` bytes long.
@@ -76,7 +76,7 @@ fn data_body(flags: u8, payload: &[u8]) -> Body
     match payload.first() {
         None => wrong_size(payload),
         Some(&padding) if padding as usize >= payload.len() => {
-            Body::Unreadable(Kind::BadPadding, padding as u32)
+            Body::Unreadable(Kind::BadPadding, Word::of(padding as u32))
         }
         Some(_) => Body::Content,
     }
@@ -101,7 +101,7 @@ fn field_block_body(flags: u8, payload: &[u8], fields: usize, body: Body) -> Bod
         return wrong_size(payload);
     }
     if payload[0] as usize > payload.len() - (fields + 1) {
-        return Body::Unreadable(Kind::BadPadding, payload[0] as u32);
+        return Body::Unreadable(Kind::BadPadding, Word::of(payload[0] as u32));
     }
     body
 }
@@ -125,7 +125,7 @@ fn priority_body(payload: &[u8]) -> Body
     if payload.len() == 5 {
         Body::Priority
     } else {
-        Body::Unreadable(Kind::BadPriority, payload.len() as u32)
+        Body::Unreadable(Kind::BadPriority, Word::of(payload.len() as u32))
     }
 }
 
@@ -155,7 +155,7 @@ fn push_promise_body(flags: u8, payload: &[u8]) -> Body
         return wrong_size(payload);
     }
     let promised = number_of_31_bits(&payload[padding..]);
-    field_block_body(flags, payload, 4, Body::PushPromise(promised))
+    field_block_body(flags, payload, 4, Body::PushPromise(Word::of(promised)))
 }
 
 /// GOAWAY (RFC 9113, 6.8).
@@ -178,7 +178,7 @@ fn window_update_body(payload: &[u8]) -> Body
     ensures promised { promised_in result < 2 ^ 31 }
 {
     if payload.len() == 4 {
-        Body::WindowUpdate(number_of_31_bits(payload))
+        Body::WindowUpdate(Word::of(number_of_31_bits(payload)))
     } else {
         wrong_size(payload)
     }

@@ -1,5 +1,5 @@
 ghost use Rattle.std.specs.Prelude.{◌≡◌, ◌+◌, ◌<◌, ◌≤◌, ◌^◌, ℕ, List, [], ◌∷◌, length, IfOk, IfSome, IfNone};
-ghost use Rattle.audit_terms.specs.Frame.{IsOrderly};
+ghost use Rattle.audit_terms.specs.runs.Orderly.{IsOrderly};
 ghost use Rattle.audit_terms.specs.declared.frames.Frame.{Frame};
 ghost use Rattle.h2_frames.specs.CaptureOrder.{comes_after, numbered};
 ghost use Rattle.h2_frames.specs.code.Merge.{is_server_first};
@@ -71,9 +71,15 @@ pub(crate) fn in_capture_order(
 {
     let mut frames = room;
     frames.clear();
-    while let Some(mut frame) = take_first(client, server)? {
-        frame.number = frames.len() as u32 + 1;
-        frames.push(frame)?;
+    while let Some(frame) = take_first(client, server)? {
+        // Named here, since the proof of a loop over frames has to be told of their bodies' type.
+        let body = frame.body;
+        let number = frames.len() as u32 + 1;
+        frames.push(Frame {
+            number,
+            body,
+            ..frame
+        })?;
     }
     Ok(frames)
 }

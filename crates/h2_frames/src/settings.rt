@@ -57,7 +57,6 @@ fn with_setting(settings: Settings, setting: Setting) -> Settings
     let mut settings = settings;
     if !setting.is_in_range() {
         settings.bad = settings.bad.or(Some(setting.identifier));
-        return settings;
     }
     match setting.identifier {
         ENABLE_PUSH => settings.push = Some(setting.value),

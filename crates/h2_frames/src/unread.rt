@@ -8,7 +8,7 @@ ghost use Rattle.h2_frames.specs.code.Steps.{arrivals_from};
 use crate::headers::HEADER_LENGTH;
 use crate::pieces::Pieces;
 use crate::spelling::Spelled;
-use audit_terms::{Frame, Side};
+use audit_terms::{Frame, Length, Side};
 use std::alloc::{AllocError, Global};
 use tcp_streams::Arrival;
 
@@ -38,13 +38,14 @@ fn arrivals_of_frame(arrivals: &[Arrival], offset: u64, length: u64) -> &[Arriva
 impl Spelled {
     /// The frame as a side sent it and as it was captured.
     fn captured(self, side: Side, number: u32, arrival: Arrival) -> Frame
+        requires { self.header.length < 2 ^ 24 }
         ensures { result ≡ captured side number arrival self }
     {
         Frame {
             number,
             rec: arrival.rec,
             stream: self.header.stream,
-            length: self.header.length,
+            length: Length::of(self.header.length),
             nanos: arrival.nanos,
             body: self.body,
             side,

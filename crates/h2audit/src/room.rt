@@ -1,6 +1,6 @@
 //! Memory for the frames of a connection, made by another thread before it is needed.
 
-use audit_terms::{Body, Frame, Side};
+use audit_terms::{Body, Frame, Length, Side};
 use std::alloc::Global;
 use std::thread::{JoinHandle, Threads, spawn};
 use tcp_streams::Connection;
@@ -41,20 +41,22 @@ fn used_room(alloc: Global, count: usize) -> Vec<Frame> {
     let Ok(mut room) = Vec::with_capacity(alloc, count) else {
         return Vec::new(alloc);
     };
-    let _ = room.resize(count, FILLER);
+    let _ = room.resize(count, filler());
     room.clear();
     room
 }
 
 /// A frame that is written to use memory. It has bytes other than 0, since memory for zeros may be handed out unused.
-const FILLER: Frame = Frame {
-    number: 1,
-    rec: 1,
-    stream: 0,
-    length: 0,
-    nanos: 0,
-    body: Body::Unknown,
-    side: Side::Client,
-    code: 0,
-    flags: 0,
-};
+fn filler() -> Frame {
+    Frame {
+        number: 1,
+        rec: 1,
+        nanos: 0,
+        stream: 0,
+        length: Length::of(0),
+        body: Body::Unknown,
+        side: Side::Client,
+        code: 0,
+        flags: 0,
+    }
+}

@@ -2,7 +2,7 @@
 use Rattle.std.proofs.Common.{◌≡◌, ℕ, ◌<◌, List, [], ◌++◌, length, refl, sym, ap, subst, ◌∙◌, ◌⊎◌, inl, inr, Option, Some, Contains, slice_get, get_or, All}
 use Rattle.std.proofs.lemmas.Option.{slice_get-get_or}
 use Rattle.std.proofs.lemmas.List.Elements.{Contains-append_left, Contains-append_right, Contains-append_cases}
-use Rattle.audit_terms.specs.Look.{Asked}
+use Rattle.audit_terms.specs.runs.Look.{Asked}
 use Rattle.stop_desk.specs.Desk.{DeskId, PassView, pass_of, IsConnection}
 use Rattle.split_merge.specs.Board.{Job, StopsAt, IsCut}
 use Rattle.split_merge.proofs.RoundMembers.{contains-got}

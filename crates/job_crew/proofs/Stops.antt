@@ -3,7 +3,7 @@ use Rattle.std.proofs.Common.{◌≡◌, ℕ, Bool, true, false, List, [], ◌�
 use Rattle.std.proofs.lemmas.List.Elements.{Contains-append_left, Contains-append_right, Contains-append_cases}
 use Rattle.audit_terms.specs.declared.findings.Finding.{Finding}
 use Rattle.audit_terms.specs.Finding.{stops, in_order}
-use Rattle.audit_terms.specs.Look.{Asked, Looked}
+use Rattle.audit_terms.specs.runs.Look.{Asked, Looked}
 use Rattle.stop_desk.specs.Desk.{PassView, pass_of}
 use Rattle.stop_desk.specs.Calls.{IsLook}
 use Rattle.split_merge.specs.Board.{StopsAt, IsCut}

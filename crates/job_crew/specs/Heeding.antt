@@ -1,7 +1,7 @@
 -- A job that heeds the stop of its connection.
 use Rattle.std.specs.Prelude.{◌≡◌, ℕ, List, Option, Some, Contains}
 use Rattle.audit_terms.specs.declared.findings.Finding.{Finding}
-use Rattle.audit_terms.specs.Look.{Asked, Looked}
+use Rattle.audit_terms.specs.runs.Look.{Asked, Looked}
 
 -- a job made some looks and no other, and where it goes up to a place, one of them answered that place
 pub record Heeds {L : Type 0} (answers : L → List Finding → Option ℕ → L → Type 0) (before after : L)

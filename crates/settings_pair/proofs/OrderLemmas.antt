@@ -7,8 +7,10 @@ use Rattle.std.proofs.lemmas.List.Elements.{All-from_recursion}
 use Rattle.audit_terms.specs.declared.settings.Settings.{Settings}
 use Rattle.audit_terms.specs.declared.frames.Frame.{Frame}
 use Rattle.audit_terms.specs.declared.items.Change.{Change}
-use Rattle.audit_terms.specs.Frame.{is_ack, IsInRange, IsOrderlyFrom, IsOrderly}
-use Rattle.audit_terms.specs.InForce.{InForce, initial_in_force, changes_of, taken, change_taking, in_force_after, changes_from}
+use Rattle.audit_terms.specs.Frame.{is_ack}
+use Rattle.audit_terms.specs.runs.Orderly.{IsInRange, IsOrderlyFrom, IsOrderly}
+use Rattle.audit_terms.specs.InForce.{InForce, initial_in_force, taken, change_taking, in_force_after}
+use Rattle.audit_terms.specs.runs.Changes.{changes_of, changes_from}
 use Rattle.settings_pair.specs.Changes.{AreOrderlyFrom, AreOrderly, AreAcknowledged}
 
 orderly-lower : (low lower : ℕ) (changes : List Change) → lower ≤ low → AreOrderlyFrom low changes → AreOrderlyFrom lower changes

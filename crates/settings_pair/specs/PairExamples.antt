@@ -8,8 +8,8 @@ use Rattle.audit_terms.specs.declared.frames.Body.TheVariants.{Content, Headers,
 use Rattle.audit_terms.specs.declared.frames.Frame.{Frame}
 use Rattle.audit_terms.specs.declared.items.Change.{Change}
 use Rattle.audit_terms.specs.FrameType.{data_type, headers_type, settings_type, window_update_type, ack_flag}
-use Rattle.audit_terms.specs.Settings.{packed, no_settings}
-use Rattle.audit_terms.specs.InForce.{changes_of, settings_run}
+use Rattle.audit_terms.specs.Settings.{no_settings}
+use Rattle.audit_terms.specs.runs.Changes.{changes_of, settings_run}
 use Rattle.audit_terms.specs.Finding.{finding_at}
 
 -- a frame without length
@@ -30,7 +30,7 @@ scripted number side code flags stream body = record {
 abbrev pub settings_frame : ℕ → Side → (initial : Option ℕ) → Frame
 settings_frame number side initial =
     scripted number side settings_type 0 0
-    (SettingsBody (packed (record no_settings { initial = initial })))
+    (SettingsBody (record no_settings { initial = initial }))
 
 abbrev pub ack_frame : ℕ → Side → Frame
 ack_frame number side = scripted number side settings_type ack_flag 0 SettingsAck

@@ -6,7 +6,7 @@ use Rattle.std.specs.List.Sorted.{IsNonDecreasingBy, IsPartitionPoint}
 use Rattle.std.specs.Ordering.{nat_cmp, ordering_index}
 use Rattle.std.specs.declared.cmp.Ordering.TheVariants.{Less, Equal, Greater}
 use Rattle.audit_terms.specs.declared.frames.Frame.{Frame}
-use Rattle.audit_terms.specs.Frame.{IsInRange, IsOrderlyFrom}
+use Rattle.audit_terms.specs.runs.Orderly.{IsInRange, IsOrderlyFrom}
 use Rattle.split_merge.specs.FrameLookup.{frame_numbered}
 
 -- each frame's number is at least the bound

@@ -55,11 +55,8 @@ notes-append position (x ∷ xs) ys =
     ∙ ap (λ l. own ++ l) (sym (append_assoc promised (notes_from (position + 1) xs) _))
     ∙ sym (append_assoc own (promised ++ notes_from (position + 1) xs) _)
 
-module _ (frames : List Frame) (i at p : ℕ) (d : Frame) (within : i < length frames) (at_is : at ≡ i)
-    (p_is : p ≡ promised_by (get_or frames i d)) where
-  abbrev pub frame : Frame
-  frame = get_or frames i d
-
+module _ (frames : List Frame) (i at p : ℕ) (frame : Frame) (is : frame ≡ get_or frames i frame) (within : i < length frames)
+    (at_is : at ≡ i) (p_is : p ≡ promised_by frame) where
   abbrev pub came : List (ℕ × ℕ)
   came = notes_from 0 (take i frames)
 
@@ -69,7 +66,7 @@ module _ (frames : List Frame) (i at p : ℕ) (d : Frame) (within : i < length f
   pub noted-more : notes_from 0 (take (i + 1) frames) ≡ (came ++ noted frame.stream at) ++ noted p at
   noted-more =
       let long : 0 + length (take i frames) ≡ at = omega (arith, length-take-le i frames (omega (arith, within)), at_is) in
-      ap (notes_from 0) (take_more frames i d within) ∙ notes-push 0 at (take i frames) frame long
+      ap (notes_from 0) (take_more frames i frame within ∙ ap (λ one. take i frames ++ one ∷ []) (sym is)) ∙ notes-push 0 at (take i frames) frame long
       ∙ ap (λ q. (came ++ noted frame.stream at) ++ noted q at) (sym p_is)
 
   pub second-parts : ((came ++ noted frame.stream at) ++ noted p at) ++ later ≡ notes_from 0 frames

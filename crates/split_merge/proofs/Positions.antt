@@ -5,7 +5,7 @@ use Rattle.std.proofs.lemmas.List.{append_assoc, length-append}
 use borrow.Author.Tests.{eqb-true}
 use Rattle.audit_terms.specs.declared.frames.Frame.{Frame}
 use Rattle.audit_terms.specs.Frame.{is_server_promise, promised_in, promises, promised_by, meets}
-use Rattle.audit_terms.specs.Run.{frames_of}
+use Rattle.audit_terms.specs.runs.Streams.{frames_of}
 use Rattle.split_merge.specs.Split.{positions_from, positions_of, frames_at}
 use Rattle.split_merge.specs.code.Visits.{noted, notes_from, noted_positions}
 use Rattle.split_merge.proofs.Visited.{where_so, noted_positions-append, noted_positions-one, append-none}

@@ -4,7 +4,7 @@ use Rattle.std.specs.List.{All, between, flat_map}
 use Rattle.audit_terms.specs.declared.frames.Frame.{Frame}
 use Rattle.audit_terms.specs.Frame.{meets}
 use Rattle.audit_terms.specs.Pass.{streams_of}
-use Rattle.audit_terms.specs.Run.{frames_of}
+use Rattle.audit_terms.specs.runs.Streams.{frames_of}
 use Rattle.split_merge.specs.declared.splits.StreamRow.{StreamRow}
 use Rattle.split_merge.specs.declared.splits.SplitFrames.{SplitFrames}
 

@@ -1,5 +1,5 @@
 ghost use Rattle.std.specs.Prelude.{◌≡◌, ℕ, ◌++◌, if◌then◌else◌, IfOk, OnOk, pos, Some};
-ghost use Rattle.audit_terms.specs.Frame.{IsOrderly};
+ghost use Rattle.audit_terms.specs.runs.Orderly.{IsOrderly};
 ghost use Rattle.audit_terms.specs.Place.{place_stream};
 ghost use Rattle.split_merge.specs.FrameLookup.{nanos_at};
 ghost use Rattle.split_merge.specs.Stalls.{is_end_of, stall_of, stalls};
@@ -97,5 +97,8 @@ fn time_of(frames: &[Frame], number: u32) -> i64
     requires { IsOrderly frames.now }
     ensures { result ≡ pos (nanos_at frames.now number) }
 {
-    frame_at(frames, number).map_or(0, |frame| frame.nanos as i64)
+    match frame_at(frames, number) {
+        Some(frame) => frame.nanos as i64,
+        None => 0,
+    }
 }

@@ -1,6 +1,7 @@
 -- A stop as a word of the desk.
 use Rattle.std.specs.Prelude.{ℕ, ◌-◌, ◌^◌, ◌<◌, Option, Some, None, if◌then◌else◌, nat_lt, ⊤}
-use Rattle.audit_terms.specs.Place.{place_of, no_place}
+use Rattle.audit_terms.specs.Place.{place_of}
+use Rattle.audit_terms.specs.laws.Places.{no_place}
 
 -- the first word past all places, whose frame numbers end at 2^28 - 2
 abbrev pub past_places : ℕ

@@ -10,8 +10,8 @@ use Rattle.audit_terms.specs.declared.items.Change.{Change}
 use Rattle.audit_terms.specs.declared.items.Step.{Step}
 use Rattle.audit_terms.specs.declared.findings.Finding.{Finding}
 use Rattle.audit_terms.specs.Frame.{is_ack}
-use Rattle.audit_terms.specs.Run.{change_step}
-use Rattle.audit_terms.specs.Stream.{initial_after}
+use Rattle.audit_terms.specs.runs.Streams.{change_step}
+use Rattle.audit_terms.specs.runs.Streams.{initial_after}
 use Rattle.audit_terms.specs.code.Watch.{NeverFallFrom}
 use Rattle.settings_pair.specs.Changes.{AreOrderlyFrom}
 use Rattle.stream_credit.specs.declared.left.Left.{Left}

@@ -9,7 +9,7 @@ use Rattle.audit_terms.specs.declared.sides.Sides.{Sides}
 use Rattle.audit_terms.specs.declared.frames.Frame.{Frame}
 use Rattle.audit_terms.specs.declared.items.Change.{Change}
 use Rattle.audit_terms.specs.Frame.{is_ack}
-use Rattle.audit_terms.specs.Stream.{initial_after}
+use Rattle.audit_terms.specs.runs.Streams.{initial_after}
 use Rattle.settings_pair.specs.Changes.{AreOrderlyFrom}
 use Rattle.stream_credit.specs.code.Left.{after_changes, after_each, passed, left_from, change_at, left_after}
 use Rattle.stream_credit.specs.code.Merged.{AcknowledgesAt, Acknowledge}

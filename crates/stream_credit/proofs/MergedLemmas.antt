@@ -7,7 +7,7 @@ use Rattle.std.proofs.lemmas.Bool.Decides.{nat_tests}
 use Rattle.audit_terms.specs.declared.frames.Frame.{Frame}
 use Rattle.audit_terms.specs.declared.items.Change.{Change}
 use Rattle.audit_terms.specs.declared.items.Step.{Step}
-use Rattle.audit_terms.specs.Run.{frame_step, change_step, with_change, steps_of}
+use Rattle.audit_terms.specs.runs.Streams.{frame_step, change_step, with_change, steps_of}
 use Rattle.settings_pair.specs.Changes.{AreOrderlyFrom, AreAcknowledged}
 use Rattle.stream_credit.specs.code.Left.{passed, left_from, change_at, left_after}
 use Rattle.stream_credit.specs.code.Merged.{joined_step, frame_with, merged_at, merged, AcknowledgesAt, Acknowledge}

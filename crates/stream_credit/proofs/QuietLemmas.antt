@@ -22,7 +22,8 @@ use Rattle.audit_terms.specs.Frame.{is_zero_grant, content_by, grant_to, sends_e
 use Rattle.audit_terms.specs.Life.{ends_window, is_not_opened, is_after_end}
 use Rattle.audit_terms.specs.Window.{is_used_up, overflows, overruns}
 use Rattle.audit_terms.specs.Finding.{say, say_of, in_order, shown}
-use Rattle.audit_terms.specs.Stream.{stream_finding, counted, frame_said, is_overflowing_grant, window_step, window_after, live_window_said, stream_window_said, stream_said, stream_after, is_stalled}
+use Rattle.audit_terms.specs.Stream.{stream_finding, frame_said, window_step, window_after, live_window_said, stream_window_said, stream_said, stream_after, is_stalled}
+use Rattle.audit_terms.specs.code.StreamSteps.{counted, is_overflowing_grant}
 use Rattle.audit_terms.specs.code.Room.{HasRoom, WindowHasRoom}
 use Rattle.audit_terms.proofs.FindingLists.{each-in_order}
 use Rattle.stream_credit.specs.declared.quiet.Move.{Move}

@@ -13,11 +13,12 @@ use Rattle.audit_terms.specs.declared.streams.Stream.{Stream}
 use Rattle.audit_terms.specs.declared.findings.Finding.{Finding}
 use Rattle.audit_terms.specs.Place.{place_number}
 use Rattle.audit_terms.specs.Finding.{shown}
-use Rattle.audit_terms.specs.Frame.{IsOrderlyFrom, IsOrderly}
+use Rattle.audit_terms.specs.runs.Orderly.{IsOrderlyFrom, IsOrderly}
 use Rattle.audit_terms.specs.InForce.{initial_in_force}
-use Rattle.audit_terms.specs.Look.{up_to, IsRun}
-use Rattle.audit_terms.specs.Run.{frame_step, change_step, steps_of, stream_run, stream_at_end}
-use Rattle.audit_terms.specs.Stream.{idle_stream, stream_run_from, stream_after_all}
+use Rattle.audit_terms.specs.runs.Look.{up_to, IsRun}
+use Rattle.audit_terms.specs.runs.Streams.{frame_step, change_step, steps_of, stream_run, stream_at_end}
+use Rattle.audit_terms.specs.Stream.{idle_stream}
+use Rattle.audit_terms.specs.runs.Streams.{stream_run_from, stream_after_all}
 use Rattle.audit_terms.specs.code.Watch.{Watches, NeverFallFrom}
 use Rattle.audit_terms.proofs.Watching.{ends, is-cut}
 use Rattle.settings_pair.specs.Changes.{AreOrderlyFrom, AreOrderly, AreAcknowledged}

@@ -7,8 +7,9 @@ use Rattle.audit_terms.specs.declared.streams.Stream.{Stream}
 use Rattle.audit_terms.specs.declared.findings.Finding.{Finding}
 use Rattle.audit_terms.specs.Place.{place_number}
 use Rattle.audit_terms.specs.Finding.{in_order, is_shown, shown}
-use Rattle.audit_terms.specs.Look.{found_before}
-use Rattle.audit_terms.specs.Stream.{stream_said, stream_after, initial_after, stream_run_from}
+use Rattle.audit_terms.specs.runs.Look.{found_before}
+use Rattle.audit_terms.specs.Stream.{stream_said, stream_after}
+use Rattle.audit_terms.specs.runs.Streams.{initial_after, stream_run_from}
 use Rattle.audit_terms.proofs.FindingLists.{each-append, each-filter, each-in_order, each-weaker}
 use Rattle.audit_terms.proofs.SaidPlaces.{at-stream, before-front, numbered-at}
 use Rattle.stream_credit.specs.code.Walk.{numbers_of}

@@ -16,7 +16,9 @@ use Rattle.std.specs.Ordering.{int_eq}
 use Rattle.audit_terms.specs.declared.kinds.Kind.TheVariants.{SettingOverflow, StreamOverrun, StreamOverflow, StreamStallEnd, StreamStallBegin, StreamCredit}
 use Rattle.audit_terms.specs.Window.{is_used_up, overflows, overruns}
 use Rattle.audit_terms.specs.Finding.{say, say_of, in_order, is_shown, shown}
-use Rattle.audit_terms.specs.Stream.{stream_finding, counted, window_step, live_window_said, stream_said, stream_after, initial_after}
+use Rattle.audit_terms.specs.Stream.{stream_finding, window_step, live_window_said, stream_said, stream_after}
+use Rattle.audit_terms.specs.code.StreamSteps.{counted}
+use Rattle.audit_terms.specs.runs.Streams.{initial_after}
 use Rattle.audit_terms.proofs.FindingLists.{each-append, each-in_order}
 use Rattle.audit_terms.specs.declared.frames.Frame.{Frame}
 use Rattle.stream_credit.specs.declared.walks.Walk.{Walk}

@@ -18,9 +18,10 @@ use Rattle.audit_terms.specs.declared.findings.Finding.{Finding}
 use Rattle.audit_terms.specs.Sides.{side_of, each_side}
 use Rattle.audit_terms.specs.Life.{life_after}
 use Rattle.audit_terms.specs.Finding.{in_order, is_shown, shown}
-use Rattle.audit_terms.specs.Look.{is_past, found_before}
-use Rattle.audit_terms.specs.Run.{change_step}
-use Rattle.audit_terms.specs.Stream.{initial_after, stream_after, stream_said, stream_run_from, stream_after_all}
+use Rattle.audit_terms.specs.runs.Look.{is_past, found_before}
+use Rattle.audit_terms.specs.runs.Streams.{change_step}
+use Rattle.audit_terms.specs.Stream.{stream_after, stream_said}
+use Rattle.audit_terms.specs.runs.Streams.{initial_after, stream_run_from, stream_after_all}
 use Rattle.audit_terms.specs.code.Room.{WindowHasRoom}
 use Rattle.audit_terms.specs.code.Watch.{Watches, IsStopped, NeverFallFrom}
 use Rattle.stream_credit.specs.declared.walks.Walk.{Walk}

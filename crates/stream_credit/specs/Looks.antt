@@ -6,9 +6,10 @@ use Rattle.audit_terms.specs.declared.items.Change.{Change}
 use Rattle.audit_terms.specs.declared.items.Step.{Step}
 use Rattle.audit_terms.specs.declared.streams.Stream.{Stream}
 use Rattle.audit_terms.specs.InForce.{initial_in_force}
-use Rattle.audit_terms.specs.Stream.{idle_stream, initial_after, stream_after}
-use Rattle.audit_terms.specs.Run.{steps_of}
-use Rattle.audit_terms.specs.Look.{is_past}
+use Rattle.audit_terms.specs.Stream.{idle_stream, stream_after}
+use Rattle.audit_terms.specs.runs.Streams.{initial_after}
+use Rattle.audit_terms.specs.runs.Streams.{steps_of}
+use Rattle.audit_terms.specs.runs.Look.{is_past}
 
 -- does a window of the stream live?
 abbrev pub is_live : Stream → Bool

@@ -11,8 +11,8 @@ use Rattle.audit_terms.specs.FrameType.{window_update_type}
 use Rattle.audit_terms.specs.Finding.{finding_at, shown}
 use Rattle.audit_terms.specs.Kind.{rank_of}
 use Rattle.audit_terms.specs.Place.{place_of}
-use Rattle.audit_terms.specs.Look.{found_before, up_to, upto_of}
-use Rattle.audit_terms.specs.Run.{frames_of, stream_run}
+use Rattle.audit_terms.specs.runs.Look.{found_before, up_to, upto_of}
+use Rattle.audit_terms.specs.runs.Streams.{frames_of, stream_run}
 use Rattle.stream_credit.specs.Looks.{step_numbers, opened_up_to}
 use Rattle.stream_credit.specs.Part.{frames_at}
 use Rattle.stream_life.specs.Script.{scripted, data_frame, headers_frame, reset_frame, promise_frame}

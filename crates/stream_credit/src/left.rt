@@ -1,6 +1,6 @@
 ghost use Rattle.std.specs.Prelude.{◌≡◌, ℕ};
 ghost use Rattle.audit_terms.specs.declared.sides.Sides.{Sides};
-ghost use Rattle.audit_terms.specs.Stream.{initial_after};
+ghost use Rattle.audit_terms.specs.runs.Streams.{initial_after};
 ghost use Rattle.settings_pair.specs.Changes.{AreOrderlyFrom};
 ghost use Rattle.stream_credit.specs.code.Left.{after_changes, passed, left_from, change_at, left_after, IsInForce};
 

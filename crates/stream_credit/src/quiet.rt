@@ -30,7 +30,7 @@ pub(crate) fn move_of(stream: u32, life: &StreamLife, frame: &Frame) -> Option<M
     match frame.body {
         Body::Content => sent(life, frame),
         Body::Headers => sent(life, frame),
-        Body::WindowUpdate(increment) => granted(stream, frame, increment),
+        Body::WindowUpdate(increment) => granted(stream, frame, increment.get()),
         _ => None,
     }
 }

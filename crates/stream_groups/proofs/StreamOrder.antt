@@ -7,10 +7,11 @@ use Rattle.audit_terms.specs.declared.items.Change.{Change}
 use Rattle.audit_terms.specs.declared.items.Step.{Step}
 use Rattle.audit_terms.specs.declared.streams.Stream.{Stream}
 use Rattle.audit_terms.specs.Finding.{comes_after, in_order, shown}
-use Rattle.audit_terms.specs.Frame.{IsOrderly, IsOrderlyFrom}
+use Rattle.audit_terms.specs.runs.Orderly.{IsOrderly, IsOrderlyFrom}
 use Rattle.audit_terms.specs.InForce.{initial_in_force}
-use Rattle.audit_terms.specs.Run.{frame_step, with_change, steps_of, stream_run}
-use Rattle.audit_terms.specs.Stream.{idle_stream, initial_after, stream_after, stream_said, stream_run_from}
+use Rattle.audit_terms.specs.runs.Streams.{frame_step, with_change, steps_of, stream_run}
+use Rattle.audit_terms.specs.Stream.{idle_stream, stream_after, stream_said}
+use Rattle.audit_terms.specs.runs.Streams.{initial_after, stream_run_from}
 use Rattle.audit_terms.proofs.OrderedLists.{IsInOrder, in_order-ordered, in_order-append, ordered-in_order}
 use Rattle.audit_terms.proofs.FindingOrder.{comes_after_is}
 use Rattle.audit_terms.proofs.SaidPlaces.{AreFrom, at-in_order, at-stream, from-append, from-at, from-from, precedes-at}

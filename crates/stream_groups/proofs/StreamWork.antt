@@ -10,7 +10,7 @@ use Rattle.std.proofs.lemmas.List.Elements.{All-contains, All-contains_itself, A
 use borrow.Author.Tests.{eqb-true, ltb-true, ltb-false}
 use Rattle.audit_terms.specs.declared.findings.Finding.{Finding}
 use Rattle.audit_terms.specs.Finding.{in_order}
-use Rattle.audit_terms.specs.Look.{Asked, Looked, last_answer, LooksInTime, is_past, up_to, IsRun}
+use Rattle.audit_terms.specs.runs.Look.{Asked, Looked, last_answer, LooksInTime, is_past, up_to, IsRun}
 use Rattle.audit_terms.specs.Place.{place_number}
 use Rattle.stream_credit.specs.Looks.{opened_up_to}
 use Rattle.split_merge.specs.Board.{IsPast, IsCut}
@@ -19,9 +19,9 @@ use Rattle.split_merge.proofs.RoundCuts.{front_is_cut_lem, whole_is_cut_lem, cut
 use Rattle.job_crew.specs.Heeding.{Heeds}
 use Rattle.std.specs.Prelude.{Result, Ok, Err, IfOk}
 use Rattle.audit_terms.specs.declared.frames.Frame.{Frame}
-use Rattle.audit_terms.specs.Frame.{IsOrderly}
+use Rattle.audit_terms.specs.runs.Orderly.{IsOrderly}
 use Rattle.audit_terms.specs.Finding.{shown}
-use Rattle.audit_terms.specs.Run.{stream_run, stream_at_end}
+use Rattle.audit_terms.specs.runs.Streams.{stream_run, stream_at_end}
 use Rattle.stream_credit.specs.declared.parts.StreamRun.{StreamRun}
 use Rattle.stream_credit.specs.Looks.{step_numbers}
 use Rattle.split_merge.specs.declared.splits.StreamRow.{StreamRow}

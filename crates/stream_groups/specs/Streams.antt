@@ -5,11 +5,11 @@ use Rattle.std.specs.List.{flat_map, list_any}
 use Rattle.audit_terms.specs.declared.frames.Frame.{Frame}
 use Rattle.audit_terms.specs.declared.findings.Finding.{Finding}
 use Rattle.audit_terms.specs.Finding.{shown}
-use Rattle.audit_terms.specs.Frame.{IsOrderly}
-use Rattle.audit_terms.specs.InForce.{changes_of}
-use Rattle.audit_terms.specs.Look.{is_past}
+use Rattle.audit_terms.specs.runs.Orderly.{IsOrderly}
+use Rattle.audit_terms.specs.runs.Changes.{changes_of}
+use Rattle.audit_terms.specs.runs.Look.{is_past}
 use Rattle.audit_terms.specs.Place.{place_number}
-use Rattle.audit_terms.specs.Run.{frames_of, stream_run, stream_at_end}
+use Rattle.audit_terms.specs.runs.Streams.{frames_of, stream_run, stream_at_end}
 use Rattle.settings_pair.specs.Changes.{AreAcknowledged}
 use Rattle.split_merge.specs.declared.splits.StreamRow.{StreamRow}
 use Rattle.split_merge.specs.Split.{IsRange, part_of, frames_at}

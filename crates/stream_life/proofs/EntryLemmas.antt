@@ -12,8 +12,10 @@ use Rattle.audit_terms.specs.declared.streams.Stream.{Stream}
 use Rattle.audit_terms.specs.Sides.{side_of, each_side}
 use Rattle.audit_terms.specs.Life.{is_opening, is_last_of, ends_window}
 use Rattle.audit_terms.specs.InForce.{initial_in_force}
-use Rattle.audit_terms.specs.Stream.{idle_stream, is_overflowing_grant, counted, window_at_opening, window_after, initial_after, stream_after, stream_after_all}
-use Rattle.audit_terms.specs.Run.{change_step, with_change, steps_of, stream_at_end}
+use Rattle.audit_terms.specs.Stream.{idle_stream, window_at_opening, window_after, stream_after}
+use Rattle.audit_terms.specs.code.StreamSteps.{is_overflowing_grant, counted}
+use Rattle.audit_terms.specs.runs.Streams.{initial_after, stream_after_all}
+use Rattle.audit_terms.specs.runs.Streams.{change_step, with_change, steps_of, stream_at_end}
 use Rattle.stream_life.specs.Life.{StreamByFrames, unmet, is_live_after, after_all}
 use Rattle.stream_life.specs.Entry.{overflows_over, has_overflowed, IsSameLife, LifeIsTheEntry}
 

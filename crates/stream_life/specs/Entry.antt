@@ -9,8 +9,10 @@ use Rattle.audit_terms.specs.declared.items.Step.{Step}
 use Rattle.audit_terms.specs.declared.streams.Stream.{Stream}
 use Rattle.audit_terms.specs.Sides.{side_of}
 use Rattle.audit_terms.specs.InForce.{initial_in_force}
-use Rattle.audit_terms.specs.Stream.{idle_stream, is_overflowing_grant, initial_after, stream_after}
-use Rattle.audit_terms.specs.Run.{steps_of, stream_at_end}
+use Rattle.audit_terms.specs.Stream.{idle_stream, stream_after}
+use Rattle.audit_terms.specs.code.StreamSteps.{is_overflowing_grant}
+use Rattle.audit_terms.specs.runs.Streams.{initial_after}
+use Rattle.audit_terms.specs.runs.Streams.{steps_of, stream_at_end}
 use Rattle.stream_life.specs.Life.{StreamByFrames, unmet, after_all}
 
 -- does some step grant the live window of side d more than the largest window holds?

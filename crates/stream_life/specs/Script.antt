@@ -5,7 +5,7 @@ use Rattle.audit_terms.specs.declared.frames.Body.{Body}
 use Rattle.audit_terms.specs.declared.frames.Body.TheVariants.{Content, Headers, RstStream, PushPromise}
 use Rattle.audit_terms.specs.declared.frames.Frame.{Frame}
 use Rattle.audit_terms.specs.FrameType.{data_type, headers_type, rst_stream_type, push_promise_type, end_stream_flag}
-use Rattle.audit_terms.specs.Run.{frames_of}
+use Rattle.audit_terms.specs.runs.Streams.{frames_of}
 use Rattle.stream_life.specs.declared.lives.LifeOutcome.{LifeOutcome}
 use Rattle.stream_life.specs.Life.{StreamByFrames, unmet, after, after_all, outcome_of}
 

@@ -4,8 +4,8 @@ use Rattle.std.specs.Prelude.{◌≡◌, ◌++◌, List, Vec, All, map}
 use denote.Ref.{Bor}
 use Rattle.audit_terms.specs.declared.findings.Finding.{Finding}
 use Rattle.audit_terms.specs.declared.frames.Frame.{Frame}
-use Rattle.audit_terms.specs.LocalFault.{local_run}
-use Rattle.audit_terms.specs.InForce.{changes_of, settings_run}
+use Rattle.audit_terms.specs.runs.LocalFaults.{local_run}
+use Rattle.audit_terms.specs.runs.Changes.{changes_of, settings_run}
 use Rattle.settings_pair.specs.Changes.{AreOrderly, AreAcknowledged}
 use Rattle.audit_rounds.specs.declared.prepared.Prepared.{Prepared}
 use Rattle.audit_rounds.specs.declared.prepared.Told.{Told}

@@ -2,7 +2,8 @@
 use Rattle.std.specs.Prelude.{◌≡◌, ℕ, ◌+◌, ◌<◌, ◌==◌, Bool, if◌then◌else◌, All, List, [], ◌∷◌, ◌++◌, map, Option}
 use Rattle.audit_terms.specs.declared.findings.Finding.{Finding}
 use Rattle.audit_terms.specs.declared.items.Item.{Item}
-use Rattle.audit_terms.specs.Connection.{connection_start, block_run}
+use Rattle.audit_terms.specs.Connection.{connection_start}
+use Rattle.audit_terms.specs.runs.Blocks.{block_run}
 use Rattle.audit_terms.specs.Finding.{shown}
 use Rattle.conn_scan.specs.Items.{items_in}
 use Rattle.split_merge.specs.Board.{Job, IsSettled, findings_of_jobs}

@@ -1,9 +1,9 @@
 -- A connection made ready for the rounds.
 use Rattle.std.specs.Prelude.{◌≡◌, ◌++◌, List}
 use Rattle.audit_terms.specs.declared.findings.Finding.{Finding}
-use Rattle.audit_terms.specs.Frame.{IsOrderly}
-use Rattle.audit_terms.specs.LocalFault.{local_run}
-use Rattle.audit_terms.specs.InForce.{changes_of, settings_run}
+use Rattle.audit_terms.specs.runs.Orderly.{IsOrderly}
+use Rattle.audit_terms.specs.runs.LocalFaults.{local_run}
+use Rattle.audit_terms.specs.runs.Changes.{changes_of, settings_run}
 use Rattle.settings_pair.specs.Changes.{AreOrderly, AreAcknowledged}
 use Rattle.split_merge.specs.Split.{IsSplit}
 use Rattle.audit_rounds.specs.declared.prepared.Prepared.{Prepared}

@@ -6,7 +6,7 @@ use Rattle.audit_terms.specs.declared.connections.ConnectionState.{ConnectionSta
 use Rattle.audit_terms.specs.declared.frames.Frame.{Frame}
 use Rattle.audit_terms.specs.declared.items.Change.{Change}
 use Rattle.audit_terms.specs.declared.items.Item.{Item}
-use Rattle.audit_terms.specs.Frame.{IsInRange, IsOrderlyFrom}
+use Rattle.audit_terms.specs.runs.Orderly.{IsInRange, IsOrderlyFrom}
 use Rattle.settings_pair.specs.Changes.{AreOrderlyFrom}
 use Rattle.conn_scan.specs.declared.block_items.Block.{Block}
 use Rattle.conn_scan.specs.Items.{items_in, IsBlock, NeverFallFrom}

@@ -5,7 +5,8 @@ use Rattle.audit_terms.specs.declared.sides.Side.TheVariants.{Client, Server}
 use Rattle.audit_terms.specs.declared.connections.ConnectionState.{ConnectionState}
 use Rattle.audit_terms.specs.declared.items.Item.{Item}
 use Rattle.audit_terms.specs.Frame.{promised_in}
-use Rattle.audit_terms.specs.Connection.{credit_after, connection_after, connection_after_all, is_opened_by_headers, is_even_promise}
+use Rattle.audit_terms.specs.Connection.{credit_after, connection_after, is_opened_by_headers, is_even_promise}
+use Rattle.audit_terms.specs.runs.Blocks.{connection_after_all}
 use Rattle.block_scan.specs.Laws.{SummaryLaws, summary_of}
 use Rattle.block_scan.specs.List.{state_after, states_before}
 use Rattle.block_scan.specs.Both.{pair, join_both, advance_both, FitBoth}

@@ -1,15 +1,18 @@
 //! Frames of scripts, and whether they are in range and in order.
 
 ghost use Rattle.std.specs.Prelude.{◌≡◌, ◌<◌, ◌^◌, true};
-ghost use Rattle.audit_terms.specs.Frame.{IsInRange, IsOrderly, promised_in};
+ghost use Rattle.audit_terms.specs.Frame.{promised_in};
+ghost use Rattle.audit_terms.specs.runs.Orderly.{IsInRange, IsOrderly};
 
-use audit_core::{Body, Frame, PackedSettings, Settings, Side};
+use audit_core::{Body, Frame, Length, PackedSettings, Settings, Side};
 
 /// END_HEADERS of HEADERS.
 const END_HEADERS: u8 = 4;
 
 /// A frame of a script, without flags.
-fn frame(number: u32, side: Side, code: u8, stream: u32, length: u32, body: Body) -> Frame {
+fn frame(number: u32, side: Side, code: u8, stream: u32, length: u32, body: Body) -> Frame
+    requires { length < 2 ^ 24 }
+{
     Frame {
         number,
         side,
@@ -18,7 +21,7 @@ fn frame(number: u32, side: Side, code: u8, stream: u32, length: u32, body: Body
         code,
         flags: 0,
         stream,
-        length,
+        length: Length::of(length),
         body,
     }
 }
@@ -32,7 +35,9 @@ pub fn headers(number: u32, side: Side, stream: u32) -> Frame {
 }
 
 /// DATA of some bytes.
-pub fn data(number: u32, side: Side, stream: u32, length: u32) -> Frame {
+pub fn data(number: u32, side: Side, stream: u32, length: u32) -> Frame
+    requires { length < 2 ^ 24 }
+{
     frame(number, side, 0, stream, length, Body::Content)
 }
 
@@ -51,7 +56,7 @@ fn has_small_promise(body: &Body) -> bool
     ensures { result ≡ true → promised_in body.now < 2 ^ 31 }
 {
     match body {
-        Body::PushPromise(stream) => *stream < 0x8000_0000,
+        Body::PushPromise(stream) => stream.get() < 0x8000_0000,
         _ => true,
     }
 }
@@ -64,7 +69,7 @@ fn is_in_range(frame: &Frame) -> bool
     }
     frame.number < 0x0fff_ffff
         && frame.stream < 0x8000_0000
-        && frame.length < 0x0100_0000
+        && frame.length.get() < 0x0100_0000
         && frame.nanos < 0x8000_0000_0000_0000
 }
 

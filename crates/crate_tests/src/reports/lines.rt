@@ -1,12 +1,12 @@
 //! The calls that answer some lines of a report.
 
 ghost use Rattle.std.specs.Prelude.{◌≡◌, ◌+◌, ◌*◌, ◌<◌, ◌^◌, length, IfOk};
-ghost use Rattle.audit_terms.specs.Frame.{IsInRange};
+ghost use Rattle.audit_terms.specs.runs.Orderly.{IsInRange};
 ghost use Rattle.tcp_streams.specs.Arrivals.{IsOrderly};
 
 use crate::answer::Answer;
 use audit_report::{capture_lines, connection_lines, finding_line};
-use audit_terms::{Body, Finding, Frame, Kind, Place, Side, Sides};
+use audit_terms::{Body, Finding, Frame, Kind, Length, Place, Side, Sides, Word};
 use h2_frames::Cut;
 use packet_heads::{Endpoint, Packet, Packets, Refusal, Segment, Skip};
 use pcap_records::{Record, Records};
@@ -130,8 +130,8 @@ fn frame(number: u32) -> Frame
         code: 8,
         flags: 0,
         stream: 0,
-        length: 4,
-        body: Body::WindowUpdate(2147418113),
+        length: Length::of(4),
+        body: Body::WindowUpdate(Word::of(2147418113)),
     }
 }
 

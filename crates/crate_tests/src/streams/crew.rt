@@ -2,13 +2,14 @@
 
 ghost use Rattle.std.specs.Prelude.{◌≡◌, ◌<◌, [], ◌∷◌};
 ghost use Rattle.std.proofs.Props.{props};
-ghost use Rattle.audit_terms.specs.Frame.{IsInRange, promised_in};
+ghost use Rattle.audit_terms.specs.Frame.{promised_in};
+ghost use Rattle.audit_terms.specs.runs.Orderly.{IsInRange};
 ghost use Rattle.audit_rounds.specs.code.JobProps.{frames-prop};
 ghost use Rattle.stream_credit.specs.Part.{IsPart};
 ghost use Rattle.crate_tests.specs.StreamJobs.{job_of};
 
 use crate::answer::Answer;
-use audit_terms::{Body, Finding, Frame, Kind, Look, Place, Side};
+use audit_terms::{Body, Finding, Frame, Kind, Length, Look, Place, Side};
 use job_crew::{NoGate, Round, Settled, Work, settle};
 use std::alloc::{AllocError, Global};
 use std::thread::Threads;
@@ -31,7 +32,7 @@ fn frame(number: u32, side: Side, code: u8, stream: u32, body: Body) -> Frame
         code,
         flags: 0,
         stream,
-        length: 0,
+        length: Length::of(0),
         body,
     }
 }

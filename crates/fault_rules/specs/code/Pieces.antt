@@ -6,7 +6,8 @@ use Rattle.audit_terms.specs.declared.sides.Sides.{Sides}
 use Rattle.audit_terms.specs.declared.frames.Frame.{Frame}
 use Rattle.audit_terms.specs.declared.findings.Finding.{Finding}
 use Rattle.audit_terms.specs.Side.{is_side}
-use Rattle.audit_terms.specs.LocalFault.{previous_after, no_previous, local_run_from}
+use Rattle.audit_terms.specs.LocalFault.{previous_after, no_previous}
+use Rattle.audit_terms.specs.runs.LocalFaults.{local_run_from}
 
 -- the last frame of each side after some frames, from those before them
 abbrev pub previous_after_all : Sides (Option Frame) → List Frame → Sides (Option Frame)

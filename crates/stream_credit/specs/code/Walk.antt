@@ -8,12 +8,13 @@ use Rattle.audit_terms.specs.declared.items.Step.{Step}
 use Rattle.audit_terms.specs.declared.streams.Stream.{Stream}
 use Rattle.audit_terms.specs.declared.findings.Finding.{Finding}
 use Rattle.audit_terms.specs.Sides.{side_of}
-use Rattle.audit_terms.specs.Frame.{IsOrderlyFrom}
+use Rattle.audit_terms.specs.runs.Orderly.{IsOrderlyFrom}
 use Rattle.audit_terms.specs.Place.{place_number}
 use Rattle.audit_terms.specs.Finding.{in_order, shown}
-use Rattle.audit_terms.specs.Look.{found_before}
-use Rattle.audit_terms.specs.Run.{change_step}
-use Rattle.audit_terms.specs.Stream.{initial_after, stream_said, stream_after, stream_run_from, stream_after_all}
+use Rattle.audit_terms.specs.runs.Look.{found_before}
+use Rattle.audit_terms.specs.runs.Streams.{change_step}
+use Rattle.audit_terms.specs.Stream.{stream_said, stream_after}
+use Rattle.audit_terms.specs.runs.Streams.{initial_after, stream_run_from, stream_after_all}
 use Rattle.audit_terms.specs.code.Room.{WindowHasRoom}
 use Rattle.audit_terms.specs.code.Watch.{Watches, IsStopped, NeverFallFrom}
 use Rattle.settings_pair.specs.Changes.{AreOrderlyFrom}

@@ -1,4 +1,4 @@
-use Rattle.std.proofs.Common.{◌≡◌, pos, ◌+◌, ◌-◌, ◌*◌, ◌^◌, drop, get_or, refl, sym, ap, ◌∙◌, subst, arith, Option}
+use Rattle.std.proofs.Common.{◌≡◌, pos, ◌+◌, ◌-◌, ◌*◌, ◌^◌, drop, refl, sym, ap, ◌∙◌, subst, arith, Option}
 use Rattle.std.specs.List.{list_any}
 use Rattle.std.proofs.lemmas.List.{drop_all}
 use Rattle.std.proofs.lemmas.Int.{ints}
@@ -15,7 +15,7 @@ use Rattle.audit_core.specs.code.StreamTable.{IsOfAcknowledgement, RowsFit, row_
 use Rattle.audit_core.proofs.Acknowledgements.{change_of-acknowledged}
 use Rattle.audit_terms.specs.Finding.{upto_stop}
 use Rattle.audit_terms.specs.Pass.{pass_start, next, streams_of, item_of}
-use Rattle.audit_core.proofs.OrderlyRest.{in_range-get_or, number-get_or, length-orderly, drop-next}
+use Rattle.audit_core.proofs.OrderlyRest.{in_range-at, number-at, length-orderly, drop-at}
 use Rattle.audit_terms.proofs.Bounds.{room-wider}
 use Rattle.audit_core.proofs.OneRow.{all_fit-wider}
 use Rattle.audit_core.proofs.PassOrder.{streams-streams_of}
@@ -49,14 +49,14 @@ loop-frame-init c =
     }
 
 pub say_local-requires : goal.say_local-requires
-say_local-requires c = in_range-get_or 0 c.args.frames.now c.loop-frame.frame-index _ c.requires c.loop-frame-test.true
+say_local-requires c = in_range-at c.args.frames.now c.loop-frame.frame-index _ c.frame-item.is c.requires c.loop-frame-test.true
 
 pub say_unmatched-requires : goal.say_unmatched-requires
-say_unmatched-requires c = in_range-get_or 0 c.args.frames.now c.loop-frame.frame-index _ c.requires c.loop-frame-test.true
+say_unmatched-requires c = in_range-at c.args.frames.now c.loop-frame.frame-index _ c.frame-item.is c.requires c.loop-frame-test.true
 
 pub meet-requires-in-loop-frame-clause-frame : goal.meet-requires-in-loop-frame-clause-frame
 meet-requires-in-loop-frame-clause-frame c =
-    rw c.item_at-item.ensures (in_range-get_or 0 c.args.frames.now c.loop-frame.frame-index _ c.requires c.loop-frame-test.true)
+    rw c.item_at-item.ensures (in_range-at c.args.frames.now c.loop-frame.frame-index _ c.frame-item.is c.requires c.loop-frame-test.true)
 
 pub meet-requires-in-loop-frame-clause-client : goal.meet-requires-in-loop-frame-clause-client
 meet-requires-in-loop-frame-clause-client c =
@@ -69,7 +69,7 @@ meet-requires-in-loop-frame-clause-server c =
     room-wider (2 ^ 17 + c.loop-frame.frame-index * 2 ^ 32) (2 ^ 60) _ (omega arith) c.loop-frame.invariant.server
 
 pub meet-requires-in-loop-frame-2-clause-numbered : goal.meet-requires-in-loop-frame-2-clause-numbered
-meet-requires-in-loop-frame-2-clause-numbered c = number-get_or 0 c.args.frames.now c.loop-frame.frame-index _ c.requires c.loop-frame-test.true
+meet-requires-in-loop-frame-2-clause-numbered c = number-at c.args.frames.now c.loop-frame.frame-index _ c.frame-item.is c.requires c.loop-frame-test.true
 
 pub meet-requires-in-loop-frame-2-clause-fits : goal.meet-requires-in-loop-frame-2-clause-fits
 meet-requires-in-loop-frame-2-clause-fits c =
@@ -79,7 +79,7 @@ meet-requires-in-loop-frame-2-clause-fits c =
 pub meet-requires-in-loop-frame-2-clause-acknowledged : goal.meet-requires-in-loop-frame-2-clause-acknowledged
 meet-requires-in-loop-frame-2-clause-acknowledged c =
     let old = c.loop-frame.invariant in
-    let frame = get_or c.args.frames.now c.loop-frame.frame-index _ in
+    let frame : Frame = c.frame-item.result in
     subst (λ change. IsOfAcknowledgement change frame)
     (sym (c.in_ok-change.ensures.change ∙ ap (λ (f : InForce). change_of f frame) old.in_force))
     (change_of-acknowledged old.state.in_force frame)
@@ -87,13 +87,13 @@ meet-requires-in-loop-frame-2-clause-acknowledged c =
 pub loop-frame-preserved : goal.loop-frame-preserved
 loop-frame-preserved c =
     let old = c.loop-frame.invariant in
-    let frame = get_or c.args.frames.now c.loop-frame.frame-index _ in
+    let frame : Frame = c.frame-item.result in
     let names = streams_of c.args.frames.now in
     let rows = c.loop-frame.streams.rows.items in
     let initial = c.initial-initial.ensures ∙ ap (λ (f : InForce). f.initial) old.in_force in
     let change = c.in_ok-change.ensures.change ∙ ap (λ (f : InForce). change_of f frame) old.in_force in
     let opens = ap (list_any (row_opens frame)) old.table
-    ∙ opens-frame old.state c.args.frames.now c.loop-frame.frame-index _ c.loop-frame-test.true in
+    ∙ opens-frame old.state c.args.frames.now c.loop-frame.frame-index frame c.frame-item.is c.loop-frame-test.true in
     let met : Item = c.item_at-item.result in
     let item : met ≡ item_of old.state frame = c.item_at-item.ensures
     ∙ same_item old.state frame names c.initial-initial.result c.in_ok-change.change rows initial change old.table
@@ -111,7 +111,7 @@ loop-frame-preserved c =
       index = c.in_ok-meet-2.ensures.index;
       rows = rows-more _ c.loop-frame.found.items c.meet-in-loop-frame-2.new.found.items names old.state frame
           (drop c.loop-frame.frame-index c.args.frames.now) (drop (c.loop-frame.frame-index + 1) c.args.frames.now)
-          (drop-next c.args.frames.now c.loop-frame.frame-index _ c.loop-frame-test.true)
+          (drop-at c.args.frames.now c.loop-frame.frame-index frame c.frame-item.is c.loop-frame-test.true)
           (parts-more old.state frame names c.initial-initial.result c.in_ok-change.change rows initial change old.table
           c.of-in-loop-frame.result c.loop-frame.connection met
           (c.of-in-loop-frame.ensures ∙ ap (λ (p : Sides (Option Frame)). side_of frame.side p) old.previous) old.connection item

@@ -1,5 +1,5 @@
 use Rattle.audit_terms.specs.Finding.{shown}
-use Rattle.audit_terms.specs.Connection.{block_run}
+use Rattle.audit_terms.specs.runs.Blocks.{block_run}
 use Rattle.conn_scan.specs.Block.{BlockFits}
 use Rattle.conn_scan.specs.Items.{items_in}
 use Rattle.conn_scan.specs.code.Walk.{walked}

@@ -1,22 +1,25 @@
-use Rattle.std.proofs.Common.{◌≡◌, ◌+◌, ◌++◌, ◌∷◌, drop, get_or, append_assoc, subst, sym, ap, ◌∙◌}
+use Rattle.std.proofs.Common.{◌≡◌, ◌+◌, ◌++◌, ◌∷◌, drop, append_assoc, subst, sym, ap, ◌∙◌}
 use Rattle.std.specs.List.{AllByRecursion}
 use Rattle.std.proofs.lemmas.List.{drop_more}
+use Rattle.audit_terms.specs.declared.frames.Frame.{Frame}
 use Rattle.audit_terms.specs.Sides.{side_of}
-use Rattle.audit_terms.specs.Frame.{IsInRange}
+use Rattle.audit_terms.specs.runs.Orderly.{IsInRange}
 use Rattle.audit_terms.specs.Finding.{in_order}
-use Rattle.audit_terms.specs.LocalFault.{local_said, previous_after, local_run_from}
+use Rattle.audit_terms.specs.LocalFault.{local_said, previous_after}
+use Rattle.audit_terms.specs.runs.LocalFaults.{local_run_from}
 use Rattle.fault_rules.proofs.pieces.faults_after.Goals as goal
 
 pub loop-frame-preserved : goal.loop-frame-preserved
 loop-frame-preserved c =
     let frames = c.args.frames.now in
     let k = c.loop-frame.frame-index in
-    let frame = get_or frames k _ in
+    let frame : Frame = c.frame-item.result in
     let rest = drop (k + 1) frames in
     let found = c.loop-frame.found.items in
     let met : c.meet.new.previous ≡ previous_after c.loop-frame.previous frame = c.meet.ensures in
     let before = side_of frame.side c.loop-frame.previous in
-    let left : drop k frames ≡ frame ∷ rest = drop_more frames k _ c.loop-frame-test.true in
+    let left : drop k frames ≡ frame ∷ rest = drop_more frames k frame c.loop-frame-test.true
+    ∙ ap (λ (one : Frame). one ∷ rest) (sym c.frame-item.is) in
     record {
       in_range = (subst (AllByRecursion IsInRange) left c.loop-frame.invariant.in_range).1;
       found = ap (λ said. said ++ local_run_from c.meet.new.previous rest) c.in_ok-add_faults.ensures

@@ -1,7 +1,10 @@
-use Rattle.std.proofs.Common.{sym, subst}
-use Rattle.audit_terms.specs.Settings.{AreInRange}
-use Rattle.h2_frames.proofs.SettingsRanges.{settings-in_range}
+use Rattle.std.proofs.Common.{sym, subst, ◌≤◌}
+use Rattle.std.specs.Option.{ForSome}
+use Rattle.audit_terms.specs.declared.settings.Settings.{Settings}
+use Rattle.h2_frames.proofs.SettingsRanges.{settings-bad}
 use Rattle.h2_frames.proofs.bodies.settings_body.Goals as goal
 
 pub of-requires : goal.of-requires
-of-requires c = subst AreInRange (sym c.settings_of.ensures) (settings-in_range c.args.payload.now)
+of-requires c =
+    let P : Settings → Type 0 = λ settings. ForSome settings.bad (λ identifier. identifier ≤ 5) in
+    subst P (sym c.settings_of.ensures) (settings-bad c.args.payload.now)

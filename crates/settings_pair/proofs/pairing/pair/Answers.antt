@@ -1,10 +1,12 @@
 use Rattle.std.proofs.Common.{◌≡◌, ◌+◌, ◌∷◌, ◌++◌, drop, append_assoc, refl, sym, ap, subst, ◌∙◌, arith}
 use Rattle.std.specs.Option.{option_to_list}
 use Rattle.std.proofs.lemmas.List.{append-nil, drop_all}
-use Rattle.audit_terms.specs.Frame.{IsOrderlyFrom}
-use Rattle.audit_terms.specs.InForce.{initial_in_force, in_force_after, change_of, changes_from, settings_said, settings_run_from}
+use Rattle.audit_terms.specs.declared.frames.Frame.{Frame}
+use Rattle.audit_terms.specs.runs.Orderly.{IsOrderlyFrom}
+use Rattle.audit_terms.specs.InForce.{initial_in_force, in_force_after, change_of, settings_said}
+use Rattle.audit_terms.specs.runs.Changes.{changes_from, settings_run_from}
 use Rattle.settings_pair.specs.code.Waiting.{IsWaiting}
-use Rattle.settings_pair.proofs.FrameByFrame.{frame_at, drop-next, take-next}
+use Rattle.settings_pair.proofs.FrameByFrame.{drop-at, take-at}
 use Rattle.settings_pair.proofs.WaitingLemmas.{waiting-at_start}
 use Rattle.settings_pair.proofs.OrderLemmas.{found-orderly, found-acknowledged}
 use Rattle.settings_pair.proofs.pairing.pair.Goals as goal
@@ -34,16 +36,16 @@ loop-at-preserved c =
     let frames = c.args.frames.now in
     let at = c.loop-at.at in
     let i = c.loop-at.invariant in
-    let frame = frame_at frames at in
+    let frame : Frame = c.index-frames-at.result in
     let after = in_force_after i.now frame in
     let rest = drop (at + 1) frames in
-    let left : drop at frames ≡ frame ∷ rest = drop-next frames at _ c.loop-at-test.true in
+    let left : drop at frames ≡ frame ∷ rest = drop-at frames at frame c.index-frames-at.is c.loop-at-test.true in
     let met = c.in_ok-meet.ensures in
     let orderly : IsOrderlyFrom i.low (frame ∷ rest) = subst (IsOrderlyFrom i.low) left i.orderly in
     record {
       now = after;
       low = frame.number + 1;
-      waiting = subst (λ seen. IsWaiting after seen c.meet.new.waiting) (sym (take-next frames at _ c.loop-at-test.true)) (met.waiting i.now i.waiting);
+      waiting = subst (λ seen. IsWaiting after seen c.meet.new.waiting) (sym (take-at frames at frame c.index-frames-at.is c.loop-at-test.true)) (met.waiting i.now i.waiting);
       orderly = orderly.2;
       changes = ap (λ l. l ++ changes_from after rest) (met.changes i.now i.waiting)
           ∙ append_assoc _ (option_to_list (change_of i.now frame)) _

@@ -1,4 +1,5 @@
-use Rattle.std.proofs.Common.{◌∙◌, ap, not}
+use Rattle.std.proofs.Common.{◌∙◌, ap, sym, not}
+use Rattle.audit_terms.specs.declared.frames.Body.TheVariants.{WindowUpdate}
 use Rattle.stream_credit.proofs.QuietLemmas.{content-move, headers-move, update-move}
 use Rattle.stream_credit.proofs.quiet.move_of.Goals as goal
 
@@ -14,6 +15,7 @@ returns-in-Headers c = λ one e.
 
 pub returns-in-WindowUpdate : goal.returns-in-WindowUpdate
 returns-in-WindowUpdate c = λ one e.
-    update-move c.args.stream c.args.life.now c.args.frame.now one c.in-WindowUpdate.increment c.in-WindowUpdate.is
+    update-move c.args.stream c.args.life.now c.args.frame.now one c.get.result
+    (c.in-WindowUpdate.is ∙ ap (λ amount. WindowUpdate amount) (sym c.get.ensures))
     (c.is_none.ensures ∙ ap not c.if-is_none.false)
     (c.granted.ensures.own one e) (c.granted.ensures.grants one e) (c.granted.ensures.moves one e) (c.granted.ensures.small one e)

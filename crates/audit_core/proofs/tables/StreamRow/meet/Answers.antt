@@ -1,5 +1,5 @@
 use Rattle.std.proofs.Common.{sym, subst}
-use Rattle.audit_terms.specs.Stream.{IsAcknowledged}
+use Rattle.audit_terms.specs.runs.Streams.{IsAcknowledged}
 use Rattle.audit_core.proofs.Acknowledgements.{step_at-acknowledged}
 use Rattle.audit_core.proofs.tables.StreamRow.meet.Goals as goal
 

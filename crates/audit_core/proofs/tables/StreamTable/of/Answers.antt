@@ -1,8 +1,9 @@
-use Rattle.std.proofs.Common.{◌+◌, ◌++◌, drop, get_or, refl, sym, ap, ◌∙◌}
+use Rattle.std.proofs.Common.{◌+◌, ◌++◌, drop, refl, sym, ap, ◌∙◌}
+use Rattle.audit_terms.specs.declared.frames.Frame.{Frame}
 use Rattle.audit_terms.specs.Frame.{promised_by}
 use Rattle.audit_terms.specs.Pass.{first_of, streams_of}
 use Rattle.audit_core.specs.code.StreamTable.{with_stream, streams_in}
-use Rattle.audit_core.proofs.OrderlyRest.{drop-next}
+use Rattle.audit_core.proofs.OrderlyRest.{drop-at}
 use Rattle.audit_core.proofs.NamedStreams.{without, named-more, named-first, index-empty}
 use Rattle.audit_core.proofs.tables.StreamTable.of.Goals as goal
 
@@ -18,7 +19,7 @@ loop-frame-init c =
 pub loop-frame-preserved : goal.loop-frame-preserved
 loop-frame-preserved c =
     let seen = streams_in c.loop-frame.table.rows.items in
-    let frame = get_or c.args.frames.now c.loop-frame.frame-index _ in
+    let frame : Frame = c.frame-item.result in
     let rest = drop (c.loop-frame.frame-index + 1) c.args.frames.now in
     let own = with_stream frame.stream seen in
     let both = c.in_ok-note-2.ensures.named
@@ -31,6 +32,6 @@ loop-frame-preserved c =
           ∙ named-more (promised_by frame) own (streams_of rest)
           ∙ named-more frame.stream seen (first_of (promised_by frame) (streams_of rest))
           ∙ ap (λ l. seen ++ without seen (streams_of l))
-          (sym (drop-next c.args.frames.now c.loop-frame.frame-index _ c.loop-frame-test.true))
+          (sym (drop-at c.args.frames.now c.loop-frame.frame-index frame c.frame-item.is c.loop-frame-test.true))
           ∙ c.loop-frame.invariant.named;
     }

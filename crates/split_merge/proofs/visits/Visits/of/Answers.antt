@@ -1,5 +1,6 @@
-use Rattle.std.proofs.Common.{◌+◌, ◌*◌, ◌++◌, length, take, drop, get_or, sym, ap, ◌∙◌, subst, arith}
+use Rattle.std.proofs.Common.{◌+◌, ◌*◌, ◌∷◌, [], ◌++◌, length, take, drop, sym, ap, ◌∙◌, subst, arith}
 use Rattle.std.proofs.lemmas.List.{append-nil, at_drop_all, take_all, take_more, drop_more, length-take-le}
+use Rattle.audit_terms.specs.declared.frames.Frame.{Frame}
 use Rattle.audit_terms.specs.Frame.{promised_by}
 use Rattle.audit_terms.specs.Pass.{first_of, streams_of}
 use Rattle.split_merge.specs.code.Visits.{streams_in, with_stream, noted, notes_from, total_of, IsTableOf}
@@ -40,7 +41,7 @@ loop-frame-preserved c =
     let i = c.loop-frame.frame-index in
     let within = c.loop-frame-test.true in
     let seen = streams_in c.loop-frame.table.rows.items in
-    let frame = get_or frames i _ in
+    let frame : Frame = c.frame-item.result in
     let rest = drop (i + 1) frames in
     let own = with_stream frame.stream seen in
     let both = c.in_ok-note-2.ensures.named
@@ -50,7 +51,7 @@ loop-frame-preserved c =
     let twice = c.in_ok-note-2.ensures.room (2 * i + 1) once in
     let front = take i frames in
     let long = length-take-le i frames (omega (arith, within)) in
-    let notes = take_more frames i _ within in
+    let notes = take_more frames i frame within ∙ ap (λ (one : Frame). front ++ one ∷ []) (sym c.frame-item.is) in
     record {
       table = subst (λ l. IsTableOf l c.note-in-loop-frame.new.self)
           (ap (λ p. (notes_from 0 front ++ noted frame.stream i) ++ noted p i) c.promised_by.ensures
@@ -60,7 +61,7 @@ loop-frame-preserved c =
       named = ap (λ l. l ++ without l (streams_of rest)) both
           ∙ named-more (promised_by frame) own (streams_of rest)
           ∙ named-more frame.stream seen (first_of (promised_by frame) (streams_of rest))
-          ∙ ap (λ l. seen ++ without seen (streams_of l)) (sym (drop_more frames i _ within))
+          ∙ ap (λ l. seen ++ without seen (streams_of l)) (sym (drop_more frames i frame within ∙ ap (λ (one : Frame). one ∷ rest) (sym c.frame-item.is)))
           ∙ c.loop-frame.invariant.named;
       room = record {
         rows = omega (arith, twice.rows);

@@ -1,7 +1,7 @@
 use Rattle.std.proofs.Common.{◌+◌, ◌≤◌, ◌++◌, ◌∙◌, ap, map, drop, length, arith}
 use Rattle.std.proofs.lemmas.Bool.{OnTrue_at, OnFalse_at}
 use Rattle.std.proofs.lemmas.List.{drop_all}
-use Rattle.audit_terms.specs.Run.{change_step}
+use Rattle.audit_terms.specs.runs.Streams.{change_step}
 use Rattle.stream_credit.specs.Looks.{is_met}
 use Rattle.stream_credit.proofs.WalkLemmas.{changes-next, changes-after, changes-end, next-initial, next-live}
 use Rattle.stream_credit.proofs.walks.Walk.meet_each.Goals as goal

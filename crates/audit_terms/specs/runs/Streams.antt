@@ -1,17 +1,41 @@
--- What a stream, a group of streams and a block of frames show by themselves, with no stop.
-use Rattle.std.specs.Prelude.{ℕ, ◌==◌, nat_lt, if◌then◌else◌, List, [], ◌∷◌, ◌++◌, filter, map, Some, None}
+-- What a stream and a group of streams show by themselves, with no stop.
+use Rattle.std.specs.Prelude.{◌≡◌, ℕ, true, ◌==◌, nat_lt, if◌then◌else◌, List, [], ◌∷◌, ◌++◌, filter, map, Option, Some, None}
 use Rattle.std.specs.List.{flat_map}
+use Rattle.std.specs.Option.{ForSome}
+use Rattle.audit_terms.specs.declared.sides.Sides.{Sides}
 use Rattle.audit_terms.specs.declared.frames.Frame.{Frame}
 use Rattle.audit_terms.specs.declared.items.Change.{Change}
-use Rattle.audit_terms.specs.declared.items.Item.{Item}
 use Rattle.audit_terms.specs.declared.items.Step.{Step}
-use Rattle.audit_terms.specs.declared.connections.ConnectionState.{ConnectionState}
 use Rattle.audit_terms.specs.declared.streams.Stream.{Stream}
 use Rattle.audit_terms.specs.declared.findings.Finding.{Finding}
-use Rattle.audit_terms.specs.Frame.{meets}
-use Rattle.audit_terms.specs.InForce.{initial_in_force, changes_of}
-use Rattle.audit_terms.specs.Connection.{connection_after_all, block_run}
-use Rattle.audit_terms.specs.Stream.{idle_stream, stream_run_from, stream_after_all}
+use Rattle.audit_terms.specs.Sides.{side_of, each_side}
+use Rattle.audit_terms.specs.Frame.{is_ack, meets}
+use Rattle.audit_terms.specs.Change.{new_initial}
+use Rattle.audit_terms.specs.InForce.{initial_in_force}
+use Rattle.audit_terms.specs.Finding.{in_order}
+use Rattle.audit_terms.specs.Stream.{idle_stream, stream_after, stream_said}
+use Rattle.audit_terms.specs.runs.Changes.{changes_of}
+
+-- a frame that brings a change is an acknowledgement (6.5.3)
+abbrev pub IsAcknowledged : Step → Type 0
+IsAcknowledged step = ForSome step.change (λ _. ForSome step.frame (λ frame. is_ack frame.body ≡ true))
+
+-- the initial windows in force after a change
+abbrev pub initial_after : Option Change → Sides ℕ → Sides ℕ
+initial_after change initial = each_side (λ d. new_initial change d (side_of d initial))
+
+-- the findings of a stream over some steps, with no stop
+abbrev pub stream_run_from : (stream : ℕ) → Sides ℕ → Stream → List Step → List Finding
+stream_run_from stream initial entry [] = []
+stream_run_from stream initial entry (step ∷ steps) =
+    in_order (stream_said stream initial entry step)
+    ++ stream_run_from stream (initial_after step.change initial) (stream_after stream initial entry step) steps
+
+-- the stream after some steps
+abbrev pub stream_after_all : (stream : ℕ) → Sides ℕ → Stream → List Step → Stream
+stream_after_all stream initial entry [] = entry
+stream_after_all stream initial entry (step ∷ steps) =
+    stream_after_all stream (initial_after step.change initial) (stream_after stream initial entry step) steps
 
 -- the frames that one stream meets
 abbrev pub frames_of : (stream : ℕ) → List Frame → List Frame
@@ -51,8 +75,3 @@ stream_at_end stream frames changes =
 -- the findings of a group of streams, from the connection's frames
 abbrev pub group_run : List Frame → List ℕ → List Finding
 group_run frames streams = flat_map (λ stream. stream_run stream (frames_of stream frames) (changes_of frames)) streams
-
--- the findings of consecutive blocks, each from the connection before it
-abbrev pub block_runs : ConnectionState → List (List Item) → List Finding
-block_runs now [] = []
-block_runs now (block ∷ blocks) = block_run now block ++ block_runs (connection_after_all now block) blocks
