@@ -1,129 +1,337 @@
 #!/usr/bin/env python3
 """Lists the definitions that the contracts of the program's calls rest on, in reading order.
 
-    python3 tools/believed.py            prints each module with its lines
+    python3 tools/believed.py            prints each module that is reached, and in it each definition with its lines
     python3 tools/believed.py --write    puts list and sums into README.md and docs/PROOFS.md
+    python3 tools/believed.py --check    fails where these two say something else
 
-It begins at the modules that the contracts of the program's calls name (ROOTS) and follows their imports through the specs/ of
-all crates. Crates and modules each come after those that they cite. Lines are counted without imports, blank lines and
-comments. No definition may rest on specs/code/, the bookkeeping of code: that is an error. The structs and enums of which the
-definitions speak are named at the end, by the files that declare them, and so are the toolchain's modules; neither is counted.
+It begins at the names in the contracts of the calls that the program makes (CALLS) and in the views of the types that
+these contracts show (VIEWS), and follows each name to its definition, by the imports of the file in which it stands. So
+exactly the definitions that are reached are listed, whatever else their files hold. A crate comes after those that it
+cites, a module after those that it imports. Lines are counted without imports, blank lines and comments. No definition
+may rest on specs/code/, the bookkeeping of code: that is an error. The structs and enums of which the definitions speak
+are named at the end, by the files that declare them, and so are the toolchain's modules; neither is counted.
 """
 
 import pathlib
 import re
 import sys
+from dataclasses import dataclass, field
 
-ROOTS = ["parted_list.Parts", "h2audit.Report", "h2audit.Run", "h2audit.Account", "byte_accounts.Bytes", "h2audit.Program", "command_line.Asked"]
+CALLS = {
+    "h2audit/src/auditing.rt": ["audit"],
+    "h2audit/src/running.rt": ["run"],
+    "h2audit/src/program.rt": ["program_words", "run_program"],
+    "h2audit/src/status.rt": ["ending"],
+    "command_line/src/words.rt": ["parse"],
+}
+VIEWS = {"byte_accounts/src/kept_bytes.rt": ["KeptBytes"]}
+
 TOP = pathlib.Path(__file__).resolve().parent.parent
-CRATES = TOP / "crates"
-IMPORT = re.compile(r"^[ \t]*(?:pub[ \t]+)?use[ \t]+Rattle\.(\w+)\.specs\.(\w+(?:\.\w+)*)(?:[ \t]+as[ \t]+\w+)?(?:\.?\{[^}]*\})?", re.M)
+IMPORT = re.compile(
+    r"^[ \t]*(?:ghost[ \t]+|pub[ \t]+)*use[ \t]+Rattle\.(?P<crate>\w+)\.(?P<room>\w+)\.(?P<path>\w+(?:\.\w+)*)"
+    r"(?:[ \t]+as[ \t]+(?P<alias>\w+)|\.\{(?P<names>[^}]*)\})?;?[ \t]*$",
+    re.M,
+)
+NAME = re.compile(r"^\s*(?:(?:abbrev|unfoldable|pub|record|data)\s+)*(?P<name>[^\s(){}:=]+)")
+TOKEN = re.compile(r"[^\s(){}\[\];,]+")
 LIST = re.compile(r"(<!-- believed -->\n).*?(<!-- end of believed -->)", re.S)
 SUMS = re.compile(r"[\d,]+ lines in [\d,]+ modules")
 
 
+class Astray(Exception):
+    """A name or a module that cannot be followed."""
+
+
+@dataclass
+class Definition:
+    """One definition of a module: where it begins, and its lines without comments."""
+
+    name: str
+    at: int
+    lines: list[str]
+    around: tuple[int, ...] = ()
+
+
+@dataclass
+class Module:
+    """One file of definitions. `around` are lines of the file that open a group, as `module _ .. where`."""
+
+    crate: str
+    file: pathlib.Path
+    names: dict[str, tuple[str, str, str]] = field(default_factory=dict)
+    aliases: dict[str, tuple[str, str]] = field(default_factory=dict)
+    definitions: dict[str, Definition] = field(default_factory=dict)
+    around: dict[int, str] = field(default_factory=dict)
+
+
+def bare(line: str) -> str:
+    """The line without its comment."""
+    return re.sub(r"(^|\s)--(\s.*)?$", "", line).rstrip()
+
+
+def read_imports(text: str, module: Module) -> str:
+    """Notes what the imports of a file name, and gives the rest of it, line by line. Others are the toolchain's."""
+    for found in IMPORT.finditer(text):
+        crate, path = found["crate"], found["path"]
+        if found["room"] != "specs":
+            continue
+        if found["alias"] or found["names"] is None:
+            module.aliases[found["alias"] or path.rpartition(".")[2]] = (crate, path)
+        for name in (found["names"] or "").split(","):
+            own, _, here = (part.strip() for part in name.partition(" as "))
+            if own:
+                module.names[here or own] = (crate, path, own)
+    rest = IMPORT.sub("", text)
+    for line in re.findall(r"^[ \t]*(?:pub[ \t]+)?use[ \t]+Rattle\..*", rest, re.M):
+        raise Astray(f"{module.file} has an import that is not understood: {line.strip()}")
+    return re.sub(r"^[ \t]*(?:pub[ \t]+)?use[ \t].*", "", rest, flags=re.M)
+
+
+def read_module(crates: pathlib.Path, crate: str, file: pathlib.Path) -> Module:
+    """The definitions of a file: each is a run of lines between blank ones, and named at its first line."""
+    module = Module(crate, file)
+    rest = read_imports(file.read_text(encoding="utf-8"), module).splitlines()
+    here: Definition | None = None
+    groups: tuple[int, ...] = ()
+    for at, line in enumerate(map(bare, rest), 1):
+        if not line:
+            here = here if rest[at - 1].strip() else None
+        elif line.startswith("module _") or goes_on(module, groups, at):
+            groups = (at,) if line.startswith("module _") else groups + (at,)
+            module.around[at] = line
+            here = None
+        elif here:
+            here.lines.append(line)
+        else:
+            named = NAME.match(line)
+            if not named:
+                raise Astray(f"{file.relative_to(crates)}:{at} begins no definition")
+            here = Definition(named["name"], at, [line], groups if line.startswith(" ") else ())
+            if here.name in module.definitions:
+                raise Astray(f"{file.relative_to(crates)}:{at} defines {here.name} again")
+            module.definitions[here.name] = here
+    for one in list(module.definitions.values()):
+        if re.match(r"\s*pub data ", one.lines[0]):
+            for line in one.lines[1:]:
+                made = NAME.match(line)
+                if made and line.startswith("  "):
+                    module.definitions.setdefault(made["name"], one)
+    return module
+
+
+def goes_on(module: Module, groups: tuple[int, ...], at: int) -> bool:
+    """Is this line a further one of those that open a group?"""
+    return bool(groups) and groups[-1] == at - 1 and not module.around[at - 1].endswith("where")
+
+
+def bound(clause: str) -> set[str]:
+    """The variables that a clause binds: in the patterns before its `=`, by λ, by `let`, and as (name : type)."""
+    names: set[str] = set()
+    head, equals, _ = clause.partition(" =")
+    if equals and ":" not in head.split("λ")[0]:
+        names.update(TOKEN.findall(head)[1:])
+    for group in re.findall(r"[({]([^(){}:]*?) : ", clause) + re.findall(r"λ ([^.]*)\.", clause):
+        names.update(re.findall(r"[^\s(){},]+", group))
+    names.update(re.findall(r"\blet (\S+)", clause))
+    return names
+
+
+def clauses_of(lines: list[str]) -> list[str]:
+    """A definition's signature and its clauses: each begins at the least indentation."""
+    least = min(len(line) - len(line.lstrip()) for line in lines)
+    found: list[str] = []
+    for line in lines:
+        if found and len(line) - len(line.lstrip()) > least:
+            found[-1] += "\n" + line
+        else:
+            found.append(line)
+    return found
+
+
+def words_of(text: str) -> set[str]:
+    """The names in a text: no fields behind a dot, no fields of a record that is made, no variables that it binds."""
+    free: set[str] = set()
+    text = re.sub(r"λ ([^.]*)\.(?=\s)", r"λ \1 .", text)
+    text = re.sub(r"(?:(?<=[{;])|^) +[^\s(){};:]+(?= = )", " ", text, flags=re.M)
+    for token in TOKEN.findall(text):
+        free.add(token.partition(".")[0] if not token.startswith(".") else "")
+        free.add(token)
+    return free
+
+
 class Reading:
-    """The modules below ROOTS, each after those that it cites, and what else they name."""
+    """What is reached from some names: modules, each with the definitions that are reached in it."""
 
-    def __init__(self, roots):
-        self.modules, self.types, self.library, self.cited, self.seen = [], [], [], {}, set()
-        for root in roots:
-            crate, _, path = root.partition(".")
-            self.read(crate, found(crate, path, "the list of roots"))
+    def __init__(self, crates: pathlib.Path):
+        self.crates = crates
+        self.read: dict[pathlib.Path, Module] = {}
+        self.reached: dict[pathlib.Path, set[str]] = {}
+        self.types: set[str] = set()
+        self.library: set[str] = set()
 
-    def read(self, crate, file):
-        """Takes the modules that this one imports, and then this one."""
-        if file in self.seen:
+    def module(self, crate: str, path: str, where: str) -> Module:
+        file = (self.crates / crate / "specs").joinpath(*path.split(".")).with_suffix(".antt")
+        if not file.is_file():
+            raise Astray(f"{where} names {crate}.{path}, and there is no such module")
+        if file not in self.read:
+            self.read[file] = read_module(self.crates, crate, file)
+        return self.read[file]
+
+    def follow(self, crate: str, path: str, name: str, where: str) -> None:
+        """Takes what an import leads to: a definition, a type of the code, or a word of the toolchain."""
+        if not (self.crates / crate).is_dir():
+            self.library.add(f"{crate}.{path}")
+        elif path.startswith("declared"):
+            self.types.add(declared(self.crates, crate, path))
+        elif path.startswith("code."):
+            raise Astray(f"{where} rests on bookkeeping of code: {crate}.{path}.{name}")
+        else:
+            self.take(self.module(crate, path, where), name, where)
+
+    def take(self, module: Module, name: str, where: str) -> None:
+        if name not in module.definitions:
+            raise Astray(f"{where} names {name} of {module.file.relative_to(self.crates)}, which does not define it")
+        one = module.definitions[name]
+        reached = self.reached.setdefault(module.file, set())
+        if one.name in reached:
             return
-        self.seen.add(file)
-        cited = self.cited.setdefault(crate, [])
-        for below, path in IMPORT.findall(file.read_text(encoding="utf-8")):
-            note(cited, below)
-            if not (CRATES / below).is_dir():
-                note(self.library, f"{below}.{path}")
-            elif path.startswith("declared."):
-                note(self.types, declared(below, path))
-            elif path.startswith("code."):
-                sys.exit(f"{shown(file)} rests on bookkeeping of code: {below}.{path}")
-            else:
-                self.read(below, found(below, path, shown(file)))
-        self.modules.append((crate, file))
+        reached.add(one.name)
+        here = f"{module.file.relative_to(self.crates)}:{one.at}"
+        for line in one.around:
+            self.names(module, module.around[line], set(), here)
+        for clause in clauses_of(one.lines):
+            self.names(module, clause, bound(clause) - {one.name}, here)
 
-    def by_crate(self):
-        """Each crate with its modules and their lines, a crate after those that it cites."""
-        order = []
+    def names(self, module: Module, text: str, variables: set[str], here: str) -> None:
+        """Follows each name of a text that is not one of its variables."""
+        for word in sorted(words_of(text) - variables):
+            head, _, name = word.partition(".")
+            if word in module.definitions:
+                self.take(module, word, here)
+            elif word in module.names:
+                self.follow(*module.names[word], here)
+            elif name and head in module.aliases and head not in variables:
+                self.follow(*module.aliases[head], name.partition(".")[0], here)
 
-        def visit(crate):
-            for below in self.cited.get(crate, []):
-                if below != crate and below not in order:
+    def root(self, file: str, name: str) -> None:
+        """Begins at the contract of a function of this name, or at the view of a type."""
+        text = (self.crates / file).read_text(encoding="utf-8")
+        module = Module(file.partition("/")[0], self.crates / file)
+        read_imports(text, module)
+        begins = re.search(rf"^(?:pub fn {name}\b|impl Model for {name}\b)", text, re.M)
+        if not begins:
+            raise Astray(f"{file} has no contract or view of {name}")
+        ends = re.compile(r"^\}|^\{", re.M).search(text, begins.end())
+        said = clause(text[begins.start() : ends.start() if ends else None])
+        self.names(module, " ".join(said), set(), f"{file}: {name}")
+
+    def by_crate(self) -> list[tuple[str, list[tuple[Module, list[Definition], int]]]]:
+        """Each crate with its modules, their definitions that are reached and how many lines these are."""
+        order: list[pathlib.Path] = []
+        done: set[pathlib.Path] = set()
+
+        def visit(file: pathlib.Path) -> None:
+            if file in done:
+                return
+            done.add(file)
+            module = self.read[file]
+            for crate, path in [named[:2] for named in module.names.values()] + list(module.aliases.values()):
+                below = (self.crates / crate / "specs").joinpath(*path.split(".")).with_suffix(".antt")
+                if below in self.reached:
                     visit(below)
-            note(order, crate)
+            order.append(file)
 
-        for crate, _ in self.modules:
-            visit(crate)
-        return [(crate, [(file, lines(file)) for of, file in self.modules if of == crate]) for crate in order if crate in self.cited]
+        for file in self.reached:
+            visit(file)
+        crates = list(dict.fromkeys(self.read[file].crate for file in order))
+        return [(crate, [self.row(file) for file in order if self.read[file].crate == crate]) for crate in crates]
 
-
-def note(names, name):
-    if name not in names:
-        names.append(name)
-
-
-def found(crate, path, where):
-    """The file of a module; the path may go on with names inside it."""
-    parts = path.split(".")
-    for length in range(len(parts), 0, -1):
-        file = (CRATES / crate / "specs").joinpath(*parts[:length]).with_suffix(".antt")
-        if file.is_file():
-            return file
-    sys.exit(f"{where} names {crate}.{path}, and there is no such module")
+    def row(self, file: pathlib.Path) -> tuple[Module, list[Definition], int]:
+        module = self.read[file]
+        mine = [one for name, one in module.definitions.items() if name == one.name and name in self.reached[file]]
+        around = {line for one in mine for line in one.around}
+        return module, mine, len(around) + sum(len(one.lines) for one in mine)
 
 
-def declared(crate, path):
+def clause(text: str) -> list[str]:
+    """What stands in the clauses and members of a declaration, between its braces."""
+    found, at = [], 0
+    for begins in re.finditer(r"\b(?:requires|ensures|ghost)\b[^{};\n]*\{", text):
+        if begins.start() < at:
+            continue
+        depth, at = 1, begins.end()
+        while depth and at < len(text):
+            depth += {"{": 1, "}": -1}.get(text[at], 0)
+            at += 1
+        found.append(text[begins.end() : at - 1])
+    return found
+
+
+def declared(crates: pathlib.Path, crate: str, path: str) -> str:
     """The file of the code that declares the type of a path declared.MODULE..TYPE."""
     parts = path.split(".")[1:]
     for length in range(len(parts) - 1, 0, -1):
-        file = (CRATES / crate / "src").joinpath(*parts[:length]).with_suffix(".rt")
+        file = (crates / crate / "src").joinpath(*parts[:length]).with_suffix(".rt")
         if file.is_file():
-            return file
-    return CRATES / crate / "src" / "lib.rt"
+            return file.relative_to(crates).as_posix()
+    return f"{crate}/src/lib.rt"
 
 
-def lines(file):
-    """How many lines of a module say something: no imports, no blank lines, no comments."""
-    text = IMPORT.sub("", file.read_text(encoding="utf-8"))
-    return sum(1 for line in text.splitlines() if line.strip() and not line.strip().startswith("--"))
+def table(rows: list[tuple[str, list[tuple[Module, list[Definition], int]]]]) -> str:
+    lines = ["| crate | modules of its `specs/` | lines |", "|---|---|---|"]
+    for crate, modules in rows:
+        names = ", ".join(shown(module.file) for module, _, _ in modules)
+        lines.append(f"| `{crate}` | {names} | {sum(count for _, _, count in modules)} |")
+    return "\n".join(lines) + "\n"
 
 
-def shown(file):
-    return file.relative_to(CRATES).as_posix()
+def shown(file: pathlib.Path) -> str:
+    """The name of a module in its crate's specs/."""
+    return file.as_posix().rpartition("/specs/")[2].removesuffix(".antt")
 
 
-def table(crates):
-    rows = ["| crate | modules of its `specs/` | lines |", "|---|---|---|"]
-    for crate, modules in crates:
-        names = ", ".join(shown(file).split("/specs/")[1].removesuffix(".antt") for file, _ in modules)
-        rows.append(f"| `{crate}` | {names} | {sum(count for _, count in modules)} |")
-    return "\n".join(rows) + "\n"
+def written(text: str, rows: str, sums: str) -> str:
+    return SUMS.sub(sums, LIST.sub(lambda it: it[1] + rows + it[2], text))
 
 
-def main():
-    reading = Reading(ROOTS)
-    crates = reading.by_crate()
-    counts = [count for _, modules in crates for _, count in modules]
+def read(crates: pathlib.Path, calls: dict[str, list[str]]) -> Reading:
+    reading = Reading(crates)
+    for file, names in calls.items():
+        for name in names:
+            reading.root(file, name)
+    return reading
+
+
+def main() -> int:
+    try:
+        reading = read(TOP / "crates", CALLS | VIEWS)
+    except Astray as reason:
+        print(f"believed.py: {reason}", file=sys.stderr)
+        return 1
+    rows = reading.by_crate()
+    counts = [count for _, modules in rows for _, _, count in modules]
     sums = f"{sum(counts):,} lines in {len(counts)} modules"
-    if sys.argv[1:] == ["--write"]:
+    if sys.argv[1:] in (["--write"], ["--check"]):
         for file in (TOP / "README.md", TOP / "docs" / "PROOFS.md"):
-            text = file.read_text(encoding="utf-8")
-            file.write_text(SUMS.sub(sums, LIST.sub(lambda it: it[1] + table(crates) + it[2], text)), encoding="utf-8")
-        return
-    for _, modules in crates:
-        for file, count in modules:
-            print(f"{count:6} {shown(file)}")
+            before = file.read_text(encoding="utf-8")
+            after = written(before, table(rows), sums)
+            if sys.argv[1] == "--write":
+                file.write_text(after, encoding="utf-8")
+            elif before != after:
+                print(f"believed.py: {file.relative_to(TOP)} does not say {sums}: run --write", file=sys.stderr)
+                return 1
+        return 0
+    for crate, modules in rows:
+        for module, mine, count in modules:
+            print(f"{count:5} {module.file.relative_to(TOP / 'crates').as_posix()}")
+            for one in mine:
+                print(f"{len(one.lines):9} {one.name}, line {one.at}")
     print(f"{sums}, without imports, blank lines and comments")
-    print("types:", *sorted(shown(file) for file in reading.types))
+    print("types:", *sorted(reading.types))
     print("of the toolchain:", *sorted(reading.library))
+    return 0
 
 
 if __name__ == "__main__":
-    main()
+    sys.exit(main())

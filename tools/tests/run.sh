@@ -65,6 +65,7 @@ else
     audits=()
 fi
 try 'man pages and completions' tools/tests/words_test.py
+try 'definitions to believe' tools/tests/believed_test.py
 try 'recipes' tools/tests/recipes_test.py "${audits[@]}"
 try 'pictures' tools/tests/plot_test.py
 try 'library example' tools/tests/library_example_test.py

@@ -1,0 +1,162 @@
+#!/usr/bin/python3
+"""Tests of tools/believed.py: what it reaches and refuses in small definitions, and that documents agree with it."""
+
+import importlib.util
+import pathlib
+import subprocess
+import sys
+import tempfile
+import unittest
+
+TOP = pathlib.Path(__file__).resolve().parents[2]
+FOUND = importlib.util.spec_from_file_location("believed", TOP / "tools" / "believed.py")
+believed = importlib.util.module_from_spec(FOUND)
+sys.modules["believed"] = believed
+FOUND.loader.exec_module(believed)
+
+CODE = """\
+ghost use Rattle.std.specs.Prelude.{◌≡◌};
+ghost use Rattle.app.specs.Answer.{answer, unasked};
+ghost use Rattle.app.specs.Other as other;
+
+/// Not called: its contract is none of the program's.
+pub fn idle() -> u8
+    ensures { result ≡ unasked }
+{
+    0
+}
+
+pub fn call(input: u8) -> u8
+    requires { other.IsAllowed input }
+    ensures { result ≡ answer input }
+{
+    input
+}
+"""
+
+ANSWER = """\
+-- What is answered.
+use Rattle.std.specs.Prelude.{ℕ, ◌+◌}
+use Rattle.base.specs.Words.{twice as double, thrice}
+use Rattle.app.specs.declared.shapes.Shape.{Shape}
+
+-- not reached
+abbrev pub unasked : ℕ
+unasked = thrice 1
+
+-- `step` is reached through this one, `width` is a variable here, and `height` a field
+abbrev pub answer : (width : ℕ) → ℕ
+answer width =
+    -- a comment within
+    let shape : Shape = record { height = double width; depth = 1 } in
+    step shape.height  -- and one behind it
+
+abbrev step : ℕ → ℕ
+step n = n + 1
+
+abbrev pub width : ℕ
+width = 1
+
+abbrev pub height : ℕ
+height = 2
+"""
+
+OTHER = """\
+use Rattle.std.specs.Prelude.{ℕ, ◌≡◌}
+
+module _ {A : Type 0} where
+  -- of a group
+  pub record IsAllowed (input : ℕ) : Type 0 where
+    pub small : input ≡ 0
+    pub even : input ≡ 2
+
+  abbrev pub IsOther : A → Type 0
+  IsOther a = a ≡ a
+"""
+
+WORDS = """\
+use Rattle.std.specs.Prelude.{ℕ, ◌+◌}
+
+abbrev pub twice : ℕ → ℕ
+twice n = n + n
+
+abbrev pub thrice : ℕ → ℕ
+thrice n = n + (n + n)
+"""
+
+FILES = {
+    "app/src/lib.rt": CODE,
+    "app/src/shapes.rt": "",
+    "app/specs/Answer.antt": ANSWER,
+    "app/specs/Other.antt": OTHER,
+    "base/specs/Words.antt": WORDS,
+    "base/specs/code/Steps.antt": "abbrev pub inner : Type 1\ninner = Type 0\n",
+}
+
+
+class Reach(unittest.TestCase):
+    def setUp(self) -> None:
+        room = tempfile.TemporaryDirectory()
+        self.addCleanup(room.cleanup)
+        self.crates = pathlib.Path(room.name)
+        for name, text in FILES.items():
+            self.write(name, text)
+
+    def write(self, name: str, text: str) -> None:
+        file = self.crates / name
+        file.parent.mkdir(parents=True, exist_ok=True)
+        file.write_text(text, encoding="utf-8")
+
+    def rows(self) -> list[tuple[str, list[str], int]]:
+        reading = believed.read(self.crates, {"app/src/lib.rt": ["call"]})
+        return [
+            (f"{crate}.{believed.shown(module.file)}", [one.name for one in mine], count)
+            for crate, modules in reading.by_crate()
+            for module, mine, count in modules
+        ]
+
+    def test_reached(self) -> None:
+        """The base comes first; counted are signatures, clauses and fields, and the line that opens a group."""
+        self.assertEqual(
+            self.rows(),
+            [
+                ("base.Words", ["twice"], 2),
+                ("app.Answer", ["answer", "step"], 6),
+                ("app.Other", ["IsAllowed"], 4),
+            ],
+        )
+
+    def test_types(self) -> None:
+        self.assertEqual(believed.read(self.crates, {"app/src/lib.rt": ["call"]}).types, {"app/src/shapes.rt"})
+
+    def refused(self, reason: str) -> None:
+        with self.assertRaisesRegex(believed.Astray, reason):
+            self.rows()
+
+    def test_bookkeeping(self) -> None:
+        words = WORDS.replace("use ", "use Rattle.base.specs.code.Steps.{inner}\nuse ", 1)
+        self.write("base/specs/Words.antt", words.replace("n + n\n", "inner\n", 1))
+        self.refused("^base/specs/Words.antt:4 rests on bookkeeping of code: base.code.Steps.inner$")
+
+    def test_no_definition(self) -> None:
+        self.write("base/specs/Words.antt", WORDS.replace("twice", "double"))
+        self.refused("names twice of base/specs/Words.antt, which does not define it")
+
+    def test_no_module(self) -> None:
+        (self.crates / "base/specs/Words.antt").unlink()
+        self.refused("names base.Words, and there is no such module")
+
+    def test_no_call(self) -> None:
+        with self.assertRaisesRegex(believed.Astray, "app/src/lib.rt has no contract or view of gone"):
+            believed.read(self.crates, {"app/src/lib.rt": ["gone"]})
+
+
+class Documents(unittest.TestCase):
+    def test_written(self) -> None:
+        """README.md and docs/PROOFS.md say what is reached today."""
+        run = subprocess.run([sys.executable, TOP / "tools" / "believed.py", "--check"], capture_output=True, text=True)
+        self.assertEqual((run.returncode, run.stderr), (0, ""))
+
+
+if __name__ == "__main__":
+    unittest.main()
