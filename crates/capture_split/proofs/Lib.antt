@@ -1,0 +1,5 @@
+pub mod Buffer
+pub mod Given
+pub mod Growth
+pub mod Standing
+pub mod Turns

@@ -1,0 +1,4 @@
+pub mod Dealt
+pub mod Pair
+pub mod Parts
+pub mod code
