@@ -51,18 +51,18 @@ module _ {W : Type 0} (contents : W → Option (List ℕ)) where
       → IsDealt contents d first new bytes
   settled d first new records x bytes are whole number part enough header left parts = elim (cases_eq d.left 0) [
     | inl done ↦ record {
-        records = records ++ x ∷ [];
-        front = [];
-        are = are ∙ sym (append-nil (concat records ++ x) ∙ refl) ∙ ap (λ (l : List ℕ). l ++ []) (sym (concat-snoc records x));
-        stands = record {
-          whole = all-snoc (IsRecord (order_of d.is_little)) records x whole ((header, omega (arith, left, done)), omega (arith, left, done));
-          between = λ _. (refl, number ∙ sym (length-append records (x ∷ [])));
-          within = λ some. absurd (omega (arith, some, done));
-        };
-        parts = AllGrow-named contents first new _ _ _ _
-        (λ i. sym (given_from-empty d.link (length first) (λ n b. b) i 1 (records ++ x ∷ [])))
-        (λ i. sym (given_from-empty d.link (length first) (λ n b. big_bytes 8 n) i 1 (records ++ x ∷ []))) parts;
-      }
+      records = records ++ x ∷ [];
+      front = [];
+      are = are ∙ sym (append-nil (concat records ++ x) ∙ refl) ∙ ap (λ (l : List ℕ). l ++ []) (sym (concat-snoc records x));
+      stands = record {
+        whole = all-snoc (IsRecord (order_of d.is_little)) records x whole ((header, omega (arith, left, done)), omega (arith, left, done));
+        between = λ _. (refl, number ∙ sym (length-append records (x ∷ [])));
+        within = λ some. absurd (omega (arith, some, done));
+      };
+      parts = AllGrow-named contents first new _ _ _ _
+          (λ i. sym (given_from-empty d.link (length first) (λ n b. b) i 1 (records ++ x ∷ [])))
+          (λ i. sym (given_from-empty d.link (length first) (λ n b. big_bytes 8 n) i 1 (records ++ x ∷ []))) parts;
+    }
     | inr more ↦
         let some : 0 < d.left = omega (arith, more) in
         record {
@@ -99,13 +99,13 @@ module _ {W : Type 0} (contents : W → Option (List ℕ)) where
       was.stands.whole w.number (w.part ∙ sym same_part)
       (λ _. omega (arith, sum, w.enough)) (omega (arith, sum, w.enough))
       (let captured = captured-more d.is_little was.front chunk (omega (arith, w.enough)) in
-        omega (arith, sum, w.left, captured, count))
+      omega (arith, sum, w.left, captured, count))
       (AllGrow-named contents first new _ _ _ _
-        (λ i. ap (λ (p : ℕ). part_bytes d.link (length first) i was.records was.front ++ (if p == i then chunk else [])) w.part
-          ∙ bytes-more d.link (length first) i was.records was.front chunk d.number w.enough w.number)
-        (λ i. ap (λ (p : ℕ). part_numbers d.link (length first) i was.records was.front ++ (if p == i then [] else [])) w.part
-          ∙ numbers-more d.link (length first) i was.records was.front chunk d.number w.enough w.number)
-        grown)
+      (λ i. ap (λ (p : ℕ). part_bytes d.link (length first) i was.records was.front ++ (if p == i then chunk else [])) w.part
+      ∙ bytes-more d.link (length first) i was.records was.front chunk d.number w.enough w.number)
+      (λ i. ap (λ (p : ℕ). part_numbers d.link (length first) i was.records was.front ++ (if p == i then [] else [])) w.part
+      ∙ numbers-more d.link (length first) i was.records was.front chunk d.number w.enough w.number)
+      grown)
 
   -- a record was begun, and its first bytes were dealt
   pub dealt_first : (d e : Dealer) (first old mid new : List (Part W)) (bytes unread : List ℕ) (n : ℕ) → d.left ≡ 0
@@ -140,11 +140,11 @@ module _ {W : Type 0} (contents : W → Option (List ℕ)) where
       let parts : AllGrow contents first old (λ i. part_bytes d.link (length first) i was.records [])
       (λ i. part_numbers d.link (length first) i was.records []) =
       subst (λ (f : List ℕ). AllGrow contents first old (λ i. part_bytes d.link (length first) i was.records f)
-        (λ i. part_numbers d.link (length first) i was.records f)) w.0 was.parts in
+      (λ i. part_numbers d.link (length first) i was.records f)) w.0 was.parts in
       let of_link : AllGrow contents first old (λ i. part_bytes e.link (length first) i was.records [])
       (λ i. part_numbers e.link (length first) i was.records []) =
       subst (λ (link : ℕ). AllGrow contents first old (λ i. part_bytes link (length first) i was.records [])
-        (λ i. part_numbers link (length first) i was.records [])) (sym same.0) parts in
+      (λ i. part_numbers link (length first) i was.records [])) (sym same.0) parts in
       let grown = AllGrow-one contents first mid new e.part _ _ chunk []
       (AllGrow-one contents first old mid e.part _ _ [] (big_bytes 8 e.number) of_link begun) one in
       settled (record e { left = e.left - n }) first new was.records chunk (bytes ++ chunk)
@@ -154,11 +154,11 @@ module _ {W : Type 0} (contents : W → Option (List ℕ)) where
       (λ more. omega (arith, more, size, count, left, enough)) long
       (omega (arith, size, count, left, captured_same))
       (AllGrow-named contents first new _ _ _ _
-        (λ i. ap (λ (p : ℕ). (part_bytes e.link (length first) i was.records [] ++ (if p == i then [] else [])) ++ (if p == i then chunk else [])) at
-          ∙ bytes-first e.link (length first) i was.records chunk e.number some next)
-        (λ i. ap (λ (p : ℕ). (part_numbers e.link (length first) i was.records [] ++ (if p == i then big_bytes 8 e.number else [])) ++ (if p == i then [] else [])) at
-          ∙ numbers-first e.link (length first) i was.records chunk e.number some next)
-        grown)
+      (λ i. ap (λ (p : ℕ). (part_bytes e.link (length first) i was.records [] ++ (if p == i then [] else [])) ++ (if p == i then chunk else [])) at
+      ∙ bytes-first e.link (length first) i was.records chunk e.number some next)
+      (λ i. ap (λ (p : ℕ). (part_numbers e.link (length first) i was.records [] ++ (if p == i then big_bytes 8 e.number else [])) ++ (if p == i then [] else [])) at
+      ∙ numbers-first e.link (length first) i was.records chunk e.number some next)
+      grown)
 
   -- the end of a capture, where no bytes are left
   pub dealt_all : (d : Dealer) (first new : List (Part W)) (bytes : List ℕ)
@@ -198,7 +198,7 @@ module _ {W : Type 0} (contents : W → Option (List ℕ)) where
       let parts : AllGrow contents first old (λ i. part_bytes d.link (length first) i was.records [])
       (λ i. part_numbers d.link (length first) i was.records []) =
       subst (λ (f : List ℕ). AllGrow contents first old (λ i. part_bytes d.link (length first) i was.records f)
-        (λ i. part_numbers d.link (length first) i was.records f)) w.0 was.parts in
+      (λ i. part_numbers d.link (length first) i was.records f)) w.0 was.parts in
       let grown = AllGrow-one contents first mid new e.part _ _ rest []
       (AllGrow-one contents first old mid e.part _ _ [] (big_bytes 8 e.number) parts begun) one in
       record {
@@ -210,11 +210,11 @@ module _ {W : Type 0} (contents : W → Option (List ℕ)) where
           none_left = cut;
         };
         parts = AllGrow-named contents first new _ _ _ _
-        (λ i. ap (λ (p : ℕ). (part_bytes d.link (length first) i was.records [] ++ (if p == i then [] else [])) ++ (if p == i then rest else [])) at
-          ∙ bytes-first d.link (length first) i was.records rest e.number some next)
-        (λ i. ap (λ (p : ℕ). (part_numbers d.link (length first) i was.records [] ++ (if p == i then big_bytes 8 e.number else [])) ++ (if p == i then [] else [])) at
-          ∙ numbers-first d.link (length first) i was.records rest e.number some next)
-        grown;
+            (λ i. ap (λ (p : ℕ). (part_bytes d.link (length first) i was.records [] ++ (if p == i then [] else [])) ++ (if p == i then rest else [])) at
+            ∙ bytes-first d.link (length first) i was.records rest e.number some next)
+            (λ i. ap (λ (p : ℕ). (part_numbers d.link (length first) i was.records [] ++ (if p == i then big_bytes 8 e.number else [])) ++ (if p == i then [] else [])) at
+            ∙ numbers-first d.link (length first) i was.records rest e.number some next)
+            grown;
       }
 
   -- before the first byte

@@ -24,7 +24,7 @@ module _ {W R : Type 0} (contents : W → Option (List ℕ)) (left : R → Optio
   last_turn d e old new before now after unread read was = record {
     given = was.given;
     consumed = subst (Consumes (left before) (left after)) (append-nil (was.given ++ unread))
-    (Consumes-trans (left before) (left now) (left after) (was.given ++ unread) [] was.consumed read);
+        (Consumes-trans (left before) (left now) (left after) (was.given ++ unread) [] was.consumed read);
     none_whole = was.none_whole;
     dealt = was.dealt;
   }
@@ -40,9 +40,9 @@ module _ {W R : Type 0} (contents : W → Option (List ℕ)) (left : R → Optio
   next_turn d e f old mid new before now after unread more dealt rest read same cut step was = record {
     given = was.given ++ dealt;
     consumed = subst (Consumes (left before) (left after))
-    (append_assoc was.given unread more ∙ ap (λ (l : List ℕ). was.given ++ l) same ∙ sym (append_assoc was.given dealt rest))
-    (Consumes-trans (left before) (left now) (left after) (was.given ++ unread) more was.consumed read);
+        (append_assoc was.given unread more ∙ ap (λ (l : List ℕ). was.given ++ l) same ∙ sym (append_assoc was.given dealt rest))
+        (Consumes-trans (left before) (left now) (left after) (was.given ++ unread) more was.consumed read);
     none_whole = cut;
     dealt = λ first bytes is. subst (IsDealt contents f first new) (append_assoc bytes was.given dealt)
-    (step first (bytes ++ was.given) (was.dealt first bytes is));
+        (step first (bytes ++ was.given) (was.dealt first bytes is));
   }

@@ -244,7 +244,8 @@ impl Dealer {
         parts: &mut [Part<W>],
     ) -> Result<(), SplitFault>
         requires { self.old.part < length parts.old }
-        ensures { OnOk result ((first : List (Part W)) (bytes : List ℕ)
+        ensures part { self.new.part < length parts.new }
+        ensures split { OnOk result ((first : List (Part W)) (bytes : List ℕ)
             → (0 < length rest.now → (self.old.left ≡ 0) × ¬ BeginsWithRecord (order_of self.old.is_little) rest.now)
             → IsDealt W.contents self.old first parts.old bytes
             → AreSplit W.contents (order_of self.old.is_little) self.old.link (bytes ++ rest.now) first parts.new) }

@@ -63,7 +63,8 @@ pub fn split_last<R: Read, W: Write + Drop>(
 ) -> Result<(), SplitFault>
     requires part { dealer.old.part < length parts.old }
     requires buffer { 98 ≤ length buffer.old }
-    ensures { OnOk result ((given : List ℕ)
+    ensures part { dealer.new.part < length parts.new }
+    ensures split { OnOk result ((given : List ℕ)
         × Consumes (R.remaining reader.old) (R.remaining reader.new) given
         × IsAtEnd (R.remaining reader.new)
         × ((first : List (Part W)) (bytes : List ℕ)

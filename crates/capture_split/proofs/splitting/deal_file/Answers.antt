@@ -28,7 +28,7 @@ returns-in-Ok-eq0-clause-turned g c =
     subst (λ (k : ℕ). Consumes (left before.reader) (left c.read.new.self) (take k c.read.new.buf)) c.in-Ok-eq0.field-0-test c.in-Ok-eq0.ensures.bytes.0 in
     subst (HasTurned g.W.Write.contents left c.args.dealer.now before.dealer c.args.parts.now before.parts c.args.reader.now c.read.new.self) (sym same)
     (last_turn g.W.Write.contents left c.args.dealer.now before.dealer c.args.parts.now before.parts c.args.reader.now before.reader c.read.new.self
-      (take a before.buffer) read before.invariant.turned)
+    (take a before.buffer) read before.invariant.turned)
 
 pub loop-preserved : goal.loop-preserved
 loop-preserved g c =
@@ -45,9 +45,9 @@ loop-preserved g c =
       link = search rules;
       little = search rules;
       turned = next_turn g.W.Write.contents g.R.Read.remaining c.args.dealer.now before.dealer c.deal_buffer.new.dealer c.args.parts.now before.parts
-      c.deal_buffer.new.parts c.args.reader.now before.reader c.read.new.self (take a before.buffer) (take c.in-Ok.count c.read.new.buf)
-      (take (a + c.in-Ok.count - n) whole) (take n c.deal_buffer.new.buffer) read.bytes.0
-      (sym (read_behind a (length before.buffer - a) c.in-Ok.count before.buffer c.read.new.buf within read.bound.0) ∙ done.moved)
-      (λ some. done.rest (omega (arith, some, length-take n c.deal_buffer.new.buffer)))
-      done.dealt before.invariant.turned;
+          c.deal_buffer.new.parts c.args.reader.now before.reader c.read.new.self (take a before.buffer) (take c.in-Ok.count c.read.new.buf)
+          (take (a + c.in-Ok.count - n) whole) (take n c.deal_buffer.new.buffer) read.bytes.0
+          (sym (read_behind a (length before.buffer - a) c.in-Ok.count before.buffer c.read.new.buf within read.bound.0) ∙ done.moved)
+          (λ some. done.rest (omega (arith, some, length-take n c.deal_buffer.new.buffer)))
+          done.dealt before.invariant.turned;
     }

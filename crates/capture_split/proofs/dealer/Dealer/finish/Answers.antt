@@ -8,16 +8,16 @@ use Rattle.capture_split.proofs.Given.{front-rest}
 use Rattle.capture_split.proofs.Standing.{dealt_all, dealt_rest}
 use Rattle.capture_split.proofs.dealer.Dealer.finish.Goals as goal
 
-pub returns-then-is_empty : goal.returns-then-is_empty
-returns-then-is_empty g c = λ first bytes cut was.
+pub returns-then-is_empty-clause-split : goal.returns-then-is_empty-clause-split
+returns-then-is_empty-clause-split g c = λ first bytes cut was.
     let d = c.args.self.now in
     let none : length c.args.rest.now ≡ 0 = eqb-true _ _ (sym c.is_empty.ensures ∙ c.if-is_empty.true) in
     let same : bytes ≡ bytes ++ c.args.rest.now = sym (append-nil bytes) ∙ ap (λ (l : List ℕ). bytes ++ l) (sym (nil_from_length c.args.rest.now none)) in
     subst (λ (l : List ℕ). AreSplit g.W.Write.contents (order_of d.is_little) d.link l first c.args.parts.now) same
     (dealt_all g.W.Write.contents d first c.args.parts.now bytes was)
 
-pub returns : goal.returns
-returns g c = λ first bytes cut was.
+pub returns-clause-split : goal.returns-clause-split
+returns-clause-split g c = λ first bytes cut was.
     let rest : List ℕ = c.args.rest.now in
     let e = c.enter.new.self in
     let entered = c.in_ok-enter.ensures in
