@@ -1,9 +1,8 @@
 -- How parts grow, step by step.
-use Rattle.std.proofs.Common.{◌≡◌, ◌≢◌, ℕ, ◌+◌, ◌<◌, ◌≤◌, ◌^◌, ◌==◌, ◌∙◌, Bool, true, false, if◌then◌else◌, Option, None, Some, List, [], ◌∷◌, ◌++◌, length, get_or, refl, sym, ap, subst, arith, append-nil, length-append, inl, inr, is_some}
+use Rattle.std.proofs.Common.{◌≡◌, ℕ, ◌+◌, ◌≤◌, ◌^◌, ◌==◌, ◌∙◌, Bool, true, false, if◌then◌else◌, Option, List, [], ◌++◌, length, get_or, refl, sym, subst, arith, append-nil, length-append, inl, inr, is_some}
 use Rattle.std.specs.Prelude.{IsNone, IsSome}
-use Rattle.std.specs.Io.KnownBytes.{Appends}
 use Rattle.std.proofs.KnownBytes.{Appends-trans, Appends-nil}
-use Rattle.std.proofs.lemmas.Bool.{cond-false, cond-true, eq-eqb, ne_eqb, cases_eq, cases_Bool, both_ways}
+use Rattle.std.proofs.lemmas.Bool.{eq-eqb, ne_eqb, cases_eq, cases_Bool, both_ways}
 use Rattle.capture_split.specs.Parts.{AllGrow, Grows}
 use Rattle.capture_split.specs.code.Dealing.{OneGrows}
 use Rattle.capture_split.specs.declared.part.Part.{Part}

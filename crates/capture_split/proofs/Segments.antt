@@ -1,13 +1,12 @@
 -- A packet that holds a segment names its endpoints in its front.
-use Rattle.std.proofs.Common.{◌≡◌, ◌+◌, ◌-◌, ◌*◌, ◌/◌, ◌%◌, ◌^◌, ◌<◌, ◌≤◌, ◌==◌, ◌&&◌, ◌∙◌, ℕ, min, not, nat_lt, Bool, true, false, if◌then◌else◌, Option, Some, None, List, [], ◌∷◌, ◌++◌, length, take, drop, slice_index, unwrap_or, refl, sym, ap, subst, arith, length-drop}
+use Rattle.std.proofs.Common.{◌≡◌, ◌+◌, ◌-◌, ◌*◌, ◌/◌, ◌%◌, ◌^◌, ◌<◌, ◌≤◌, ◌==◌, ◌∙◌, ℕ, not, Bool, true, false, if◌then◌else◌, Some, None, List, [], ◌∷◌, ◌++◌, length, take, drop, slice_index, unwrap_or, refl, sym, ap, subst, arith, length-drop}
 use Rattle.std.proofs.Math.Nat.{mod-lt}
-use Rattle.std.proofs.lemmas.Bool.{and_from, cond-true, eq-eqb, eqb-true, le-ltb, ltb-false, not-false}
+use Rattle.std.proofs.lemmas.Bool.{and_from, cond-true, le-ltb, ltb-false, not-false}
 use Rattle.std.proofs.lemmas.List.{drop-take, get_or-take, length-take}
 use Rattle.byteorder.specs.Endian.{big_number}
 use Rattle.byteorder.specs.Numbers.{big_from-take}
 use Rattle.pcap_records.specs.LinkType.{raw_ip}
-use Rattle.pcap_records.specs.declared.capture.Record.{Record}
-use Rattle.packet_heads.specs.Decision.{decision_on, is_partial, segment_of}
+use Rattle.packet_heads.specs.Decision.{is_partial, segment_of}
 use Rattle.packet_heads.specs.Ethernet.{ethernet_lines, header_length, is_tagged}
 use Rattle.packet_heads.specs.Ipv4 as ipv4
 use Rattle.packet_heads.specs.Lines.{first_answer}
@@ -18,7 +17,7 @@ use Rattle.packet_heads.specs.declared.packets.Packet.{Packet}
 use Rattle.packet_heads.specs.declared.packets.Packet.TheVariants as packets
 use Rattle.packet_heads.specs.declared.packets.Segment.{Segment}
 use Rattle.capture_split.specs.Laws.{SegmentsName}
-use Rattle.capture_split.specs.Pair.{front_of, names_endpoints, pair_in, pair_of}
+use Rattle.capture_split.specs.Pair.{front_of, names_endpoints, pair_in}
 use Rattle.capture_split.specs.declared.pair.Pair.{Pair}
 
 -- ---- a table of which every line passes a packet over

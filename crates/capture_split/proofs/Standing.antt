@@ -6,10 +6,9 @@ use Rattle.std.proofs.lemmas.List.{length-take-le}
 use Rattle.std.proofs.lemmas.List.Folds.{concat-append}
 use Rattle.byteorder.specs.Endian.{big_bytes}
 use Rattle.byteorder.specs.Numbers.{big_from-append, little_from-append}
-use Rattle.pcap_records.specs.FileHeader.{ByteOrder}
 use Rattle.pcap_records.specs.Record.{BeginsWithRecord, captured_length}
 use Rattle.pcap_records.proofs.Fronts.{ReadsFirst, in_front}
-use Rattle.capture_split.specs.Dealt.{IsRecord, given, given_from, part_at, part_bytes, part_numbers}
+use Rattle.capture_split.specs.Dealt.{IsRecord, part_at, part_bytes, part_numbers}
 use Rattle.capture_split.specs.Parts.{AllGrow, AreSplit}
 use Rattle.capture_split.specs.code.Dealing.{IsDealt, OneGrows, order_of}
 use Rattle.capture_split.specs.declared.dealer.Dealer.{Dealer}

@@ -1,4 +1,4 @@
-use Rattle.std.proofs.Common.{◌≡◌, ◌==◌, ◌∙◌, ℕ, List, [], if◌then◌else◌, refl, sym}
+use Rattle.std.proofs.Common.{◌==◌, ◌∙◌, ℕ, refl, sym}
 use Rattle.std.proofs.lemmas.Bool.{cond-false, cond-true, eq-eqb, ne_eqb}
 use Rattle.capture_split.specs.Dealt.{part_at}
 use Rattle.capture_split.proofs.Given.{given-some}

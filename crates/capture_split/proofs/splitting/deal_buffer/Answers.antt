@@ -1,5 +1,4 @@
-use Rattle.std.proofs.Common.{◌≡◌, ◌+◌, ◌-◌, ◌≤◌, ◌<◌, ◌∙◌, ℕ, List, ◌++◌, length, take, drop, sym, ap, subst, arith}
-use Rattle.std.specs.List.{copy_within}
+use Rattle.std.proofs.Common.{◌≡◌, ◌-◌, ◌≤◌, ◌∙◌, ℕ, List, ◌++◌, length, take, drop, sym, ap, subst, arith}
 use Rattle.std.proofs.lemmas.List.{length-take-le, take-take}
 use Rattle.pcap_records.specs.Record.{BeginsWithRecord}
 use Rattle.capture_split.specs.code.Dealing.{IsDealt, order_of}

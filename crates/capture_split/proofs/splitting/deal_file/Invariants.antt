@@ -1,4 +1,4 @@
-use Rattle.std.proofs.Common.{◌≡◌, ◌<◌, ◌≤◌, length, take}
+use Rattle.std.proofs.Common.{◌≡◌, ◌<◌, length, take}
 use Rattle.capture_split.specs.code.Dealing.{HasTurned}
 use Rattle.capture_split.proofs.splitting.deal_file.Given as goal
 

@@ -1,4 +1,4 @@
-use Rattle.std.proofs.Common.{◌≡◌, ◌∙◌, ℕ, List, [], Option, Some, None, IfSome, sym, ap, subst}
+use Rattle.std.proofs.Common.{◌≡◌, ℕ, List, [], Option, Some, None, IfSome, subst}
 use Rattle.pcap_records.specs.FileHeader.{ByteOrder, format_of, link_of, number_of}
 use Rattle.pcap_records.specs.declared.format.Format.{Format}
 use Rattle.capture_split.specs.Parts.{AreSplit}

@@ -1,4 +1,4 @@
-use Rattle.std.proofs.Common.{◌≡◌, ◌++◌, ℕ, Bool, List, take, sym, subst, append_assoc}
+use Rattle.std.proofs.Common.{◌++◌, ℕ, Bool, List, take, subst, append_assoc}
 use Rattle.capture_split.specs.Parts.{AreSplit}
 use Rattle.capture_split.specs.code.Dealing.{order_of}
 use Rattle.capture_split.proofs.splitting.split_last.Goals as goal

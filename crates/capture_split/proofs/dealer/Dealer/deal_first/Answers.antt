@@ -1,4 +1,4 @@
-use Rattle.std.proofs.Common.{◌++◌, take, List, sym, subst, rules}
+use Rattle.std.proofs.Common.{◌++◌, take, sym, subst}
 use Rattle.capture_split.specs.code.Dealing.{IsDealt}
 use Rattle.capture_split.specs.declared.dealer.Dealer.{Dealer}
 use Rattle.capture_split.proofs.Standing.{dealt_first}

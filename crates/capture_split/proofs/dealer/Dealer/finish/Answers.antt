@@ -1,9 +1,9 @@
-use Rattle.std.proofs.Common.{◌≡◌, ◌+◌, ◌-◌, ◌<◌, ◌∙◌, ℕ, List, [], ◌++◌, length, take, drop, min, sym, ap, subst, rules, arith, append-nil}
+use Rattle.std.proofs.Common.{◌≡◌, ◌-◌, ◌<◌, ◌∙◌, ℕ, List, ◌++◌, length, take, drop, min, sym, ap, subst, arith, append-nil}
 use Rattle.std.proofs.lemmas.Bool.{eqb-true, eqb-false}
 use Rattle.std.proofs.lemmas.List.{nil_from_length}
 use Rattle.capture_split.specs.Parts.{AreSplit}
 use Rattle.capture_split.specs.Pair.{front_of, pair_of, part_of}
-use Rattle.capture_split.specs.code.Dealing.{IsDealt, order_of}
+use Rattle.capture_split.specs.code.Dealing.{order_of}
 use Rattle.capture_split.proofs.Given.{front-rest}
 use Rattle.capture_split.proofs.Standing.{dealt_all, dealt_rest}
 use Rattle.capture_split.proofs.dealer.Dealer.finish.Goals as goal
