@@ -5,8 +5,8 @@ from part_report import PartReport
 
 # These findings are nobody's breach; any other makes h2audit's status 1.
 NO_FAULTS = frozenset((
-    b'connection-stall-begin', b'connection-stall-end', b'stream-stall-begin', b'stream-stall-end',
-    b'connection-credit', b'stream-credit'))
+    b"connection-stall-begin", b"connection-stall-end", b"stream-stall-begin", b"stream-stall-end",
+    b"connection-credit", b"stream-credit"))
 # So many lines are written at once.
 LINES = 1_024
 
@@ -19,11 +19,11 @@ class Connection:
         self.report = report
         words = report.line.split()
         try:
-            if words[0] != b'connection' or words[6] != b'record':
+            if words[0] != b"connection" or words[6] != b"record":
                 raise ValueError
             self.client, self.server = words[3], words[5]
             self.record = report.numbers.whole(int(words[7]))
-            self.kind = b' '.join(words[8:])
+            self.kind = b" ".join(words[8:])
         except (ValueError, IndexError):
             raise report.broken() from None
         report.advance()
@@ -40,28 +40,28 @@ class Writer:
     def write(self, connection: Connection, number: int) -> None:
         """Writes a connection under this number."""
         report = connection.report
-        lines = [b'connection %d client %b server %b record %d %b\n' % (
+        lines = [b"connection %d client %b server %b record %d %b\n" % (
             number, connection.client, connection.server, connection.record, connection.kind)]
         line = lines[0]
-        while report.line and not report.line.startswith(b'connection '):
+        while report.line and not report.line.startswith(b"connection "):
             line = report.advance()
-            if line.startswith(b'frame '):
+            if line.startswith(b"frame "):
                 line = self.renumbered(report, line)
             lines.append(line)
             if len(lines) == LINES:
-                self.output.write(b''.join(lines))
+                self.output.write(b"".join(lines))
                 lines.clear()
-        self.output.write(b''.join(lines))
-        if not line.startswith(b'audit ' if connection.kind.startswith(b'http2') else b'flow '):
+        self.output.write(b"".join(lines))
+        if not line.startswith(b"audit " if connection.kind.startswith(b"http2") else b"flow "):
             raise report.broken()
 
     def renumbered(self, report: PartReport, line: bytes) -> bytes:
         """A finding, with its record's number in the whole."""
         try:
-            _, frame, _, record, rest = line.split(b' ', 4)
+            _, frame, _, record, rest = line.split(b" ", 4)
             number = report.numbers.whole(int(record))
             if not self.has_faults:
-                self.has_faults = rest.split(b' ', 4)[3] not in NO_FAULTS
+                self.has_faults = rest.split(b" ", 4)[3] not in NO_FAULTS
         except (ValueError, IndexError):
             raise report.broken() from None
-        return b'frame %b record %d %b' % (frame, number, rest)
+        return b"frame %b record %d %b" % (frame, number, rest)

@@ -8,7 +8,7 @@ from pathlib import Path
 from merging import merge_reports
 from split_folder import Refusal, SplitFolder
 
-VERSION = '1.0.0'
+VERSION = "1.0.0"
 STATUS_REFUSED = 3
 STATUS_FAILED = 4
 
@@ -16,13 +16,13 @@ STATUS_FAILED = 4
 def command() -> argparse.ArgumentParser:
     """The command line."""
     parser = argparse.ArgumentParser(
-        prog='h2audit-merge',
-        description='Merges the reports of the parts of a capture into the report of the whole, on standard output.')
-    parser.add_argument('--standing', action='store_true',
-                        help='merge the parts that stand, where h2audit-split refused some')
-    parser.add_argument('--version', action='version', version=f'h2audit-merge {VERSION}')
-    parser.add_argument('folder', metavar='DIR', type=Path,
-                        help='the folder of h2audit-split, with the report of each part in part-NNN.report')
+        prog="h2audit-merge",
+        description="Merges the reports of the parts of a capture into the report of the whole, on standard output.")
+    parser.add_argument("--standing", action="store_true",
+                        help="merge the parts that stand, where h2audit-split refused some")
+    parser.add_argument("--version", action="version", version=f"h2audit-merge {VERSION}")
+    parser.add_argument("folder", metavar="DIR", type=Path,
+                        help="the folder of h2audit-split, with the report of each part in part-NNN.report")
     return parser
 
 
@@ -42,12 +42,13 @@ def main(words: list[str]) -> int:
             sys.stdout.buffer.flush()
         return 1 if has_faults else 0
     except Refusal as refusal:
-        print(f'h2audit-merge: {refusal}', file=sys.stderr)
+        print(f"h2audit-merge: {refusal}", file=sys.stderr)
         return STATUS_REFUSED
     except BrokenPipeError:
         os.dup2(os.open(os.devnull, os.O_WRONLY), sys.stdout.fileno())
-        print('h2audit-merge: write failed', file=sys.stderr)
+        print("h2audit-merge: write failed", file=sys.stderr)
         return STATUS_FAILED
     except OSError as error:
-        print(f'h2audit-merge: {error.strerror or error}: {error.filename or "standard output"}', file=sys.stderr)
+        what = error.filename or "standard output"
+        print(f"h2audit-merge: {error.strerror or error}: {what}", file=sys.stderr)
         return STATUS_FAILED

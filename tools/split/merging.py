@@ -26,8 +26,8 @@ def merge_reports(reports: list[PartReport], output: BinaryIO) -> bool:
 def write_head(reports: list[PartReport], output: BinaryIO) -> None:
     """Writes the first line: each count is the sum of those of the parts, since a record is in one part."""
     sums = [sum(counts) for counts in zip(*(report.head() for report in reports))]
-    words = b' '.join(b'%b %d' % (word, count) for word, count in zip(HEAD, sums))
-    output.write(b'capture ' + words + b'\n')
+    words = b" ".join(b"%b %d" % (word, count) for word, count in zip(HEAD, sums))
+    output.write(b"capture " + words + b"\n")
 
 
 def write_connections(reports: list[PartReport], output: BinaryIO) -> bool:

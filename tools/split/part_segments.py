@@ -10,7 +10,7 @@ RECORD_HEADER = 16
 PIECE = 1_048_576
 # Headers of a frame with a tag, of a datagram and of a segment, each the longest.
 HEADERS = 18 + 60 + 60
-LITTLE_ENDIAN = (b'\xd4\xc3\xb2\xa1', b'\x4d\x3c\xb2\xa1')
+LITTLE_ENDIAN = (b"\xd4\xc3\xb2\xa1", b"\x4d\x3c\xb2\xa1")
 
 
 class PartSegments:
@@ -18,13 +18,13 @@ class PartSegments:
 
     def __init__(self, path: Path) -> None:
         """Opens the part, which h2audit has read before."""
-        self.file = path.open('rb', buffering=0)
+        self.file = path.open("rb", buffering=0)
         header = self.file.read(FILE_HEADER)
-        order = '<' if header[:4] in LITTLE_ENDIAN else '>'
-        self.link = struct.unpack(order + 'I', header[20:24])[0] & 0xFFFF
-        self.lengths = struct.Struct(order + '8xII')
+        order = "<" if header[:4] in LITTLE_ENDIAN else ">"
+        self.link = struct.unpack(order + "I", header[20:24])[0] & 0xFFFF
+        self.lengths = struct.Struct(order + "8xII")
         self.record = 0
-        self.buffer = b''
+        self.buffer = b""
         self.at = 0
 
     def find(self, sender: tuple[bytes, bytes], receiver: tuple[bytes, bytes]) -> int:
@@ -59,12 +59,12 @@ class PartSegments:
         behind = self.at + count - len(self.buffer)
         if behind > 0:
             self.file.seek(behind, 1)
-            self.buffer = b''
+            self.buffer = b""
             self.at = 0
         else:
             self.at += count
 
-    def __enter__(self) -> 'PartSegments':
+    def __enter__(self) -> "PartSegments":
         return self
 
     def __exit__(self, kind: type[BaseException] | None, error: BaseException | None,
@@ -79,8 +79,8 @@ def segment_pair(link: int, front: bytes, captured: int, original: int) -> tuple
     if start < 0 or length < 20 or front[start] >> 4 != 4:
         return None
     header = 4 * (front[start] & 0x0F)
-    total, = struct.unpack_from('>H', front, start + 2)
-    flags, = struct.unpack_from('>H', front, start + 6)
+    total, = struct.unpack_from(">H", front, start + 2)
+    flags, = struct.unpack_from(">H", front, start + 6)
     if header < 20 or header > length or 0 < total < header:
         return None
     if total > length and captured >= original:
@@ -103,5 +103,5 @@ def datagram_start(link: int, front: bytes) -> int:
         return 0
     if len(front) < 14:
         return -1
-    start = 18 if front[12:14] == b'\x81\x00' else 14
-    return start if len(front) >= start and front[start - 2:start] == b'\x08\x00' else -1
+    start = 18 if front[12:14] == b"\x81\x00" else 14
+    return start if len(front) >= start and front[start - 2:start] == b"\x08\x00" else -1

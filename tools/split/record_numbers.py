@@ -21,10 +21,10 @@ class RecordNumbers:
         size = os.fstat(self.file).st_size
         if size % NUMBER:
             self.close()
-            raise Refusal(f'{path} is no list of record numbers')
+            raise Refusal(f"{path} is no list of record numbers")
         self.count = size // NUMBER
         self.first = 0
-        self.block = array('Q')
+        self.block = array("Q")
 
     def whole(self, record: int) -> int:
         """The number in the whole of a record of the part; both count from 1."""
@@ -37,14 +37,14 @@ class RecordNumbers:
     def read(self, index: int) -> None:
         """Reads the block with this index."""
         if not 0 <= index < self.count:
-            raise Refusal(f'{self.path} has no record {index + 1}')
+            raise Refusal(f"{self.path} has no record {index + 1}")
         self.first = index - index % BLOCK
         data = os.pread(self.file, BLOCK * NUMBER, self.first * NUMBER)
-        self.block = array('Q', data[:len(data) - len(data) % NUMBER])
-        if sys.byteorder == 'little':
+        self.block = array("Q", data[:len(data) - len(data) % NUMBER])
+        if sys.byteorder == "little":
             self.block.byteswap()
         if index - self.first >= len(self.block):
-            raise Refusal(f'{self.path} has no record {index + 1}')
+            raise Refusal(f"{self.path} has no record {index + 1}")
 
     def close(self) -> None:
         """Closes the file."""

@@ -12,10 +12,10 @@ from part_segments import PartSegments
 
 def unopened_pairs(report: PartReport) -> Iterator[tuple[int, bytes]]:
     """The lines of such pairs, each with the number of its first segment's record in the whole."""
-    if not report.line.startswith(b'unopened '):
+    if not report.line.startswith(b"unopened "):
         return
     with PartSegments(report.capture) as segments:
-        while report.line.startswith(b'unopened '):
+        while report.line.startswith(b"unopened "):
             words = report.line.split()
             try:
                 record = segments.find(endpoint(words[1]), endpoint(words[2]))
@@ -29,8 +29,8 @@ def unopened_pairs(report: PartReport) -> Iterator[tuple[int, bytes]]:
 
 def endpoint(text: bytes) -> tuple[bytes, bytes]:
     """The address and the port of an endpoint, as headers have them."""
-    address, port = text.split(b':')
-    parts = bytes(int(part) for part in address.split(b'.'))
+    address, port = text.split(b":")
+    parts = bytes(int(part) for part in address.split(b"."))
     if len(parts) != 4:
         raise ValueError
-    return parts, int(port).to_bytes(2, 'big')
+    return parts, int(port).to_bytes(2, "big")
