@@ -86,7 +86,7 @@ class Claims:
                     found = factor.kind(values)
                     if isinstance(found, Data):
                         if of_numbers and factor.name and found.name == "ℕ":
-                            return least([*results, self.some(factor, later + waiting[at + 1:], values)])
+                            return least([*results, self.some(factor, later + waiting[at + 1 :], values)])
                         self.witness(factor, values)
                         continue
                 except NotYet:
@@ -110,6 +110,7 @@ class Claims:
 
     def some(self, factor: Factor, factors: list[Factor], values: Values) -> bool | None:
         """Whether the factors hold of some number."""
+
         def claim(number):
             values[factor.place] = number
             return self.aside(self.holds, factors, values)

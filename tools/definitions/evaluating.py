@@ -10,6 +10,7 @@ from .ranges import Remembering
 from .reading import Function as Clauses
 from .reading import Module, Record, Term
 from .values import Data, Function, Made, Stuck, Value, apply, filled, known
+from .words import LOOPS
 
 Test = Callable[[Value, Values], bool]  # puts the parts of a value that a pattern names among the values at hand
 
@@ -51,8 +52,10 @@ class Definitions(Names, Claims):
                     return body(values)
             raise Stuck(f"{module.name}: no clause of {definition.name} for {arguments}")
 
-        recurs = any(mentions(body, definition.name) for _, body in definition.clauses)
-        function.run = Remembering(run, self.kept, number_in(definition)) if recurs else run
+        loops = any(mentions(body, {definition.name, *LOOPS}) for _, body in definition.clauses)
+        function.run = run
+        if loops:
+            function.run = Remembering(run, self.kept, number_in(definition))
         return function if arity else run()
 
     def tests(self, patterns: Sequence[Term], scope: Scope) -> list[tuple[int, Test]]:
@@ -268,11 +271,11 @@ def number_in(definition: Clauses) -> int | None:
     return None
 
 
-def mentions(term: Any, name: str) -> bool:
+def mentions(term: Any, names: set[str]) -> bool:
     if isinstance(term, Term) and term.kind == "name":
-        return term.parts[0] == name
+        return term.parts[0] in names
     parts = term.values() if isinstance(term, dict) else term if isinstance(term, (tuple, list)) else ()
-    return any(mentions(part, name) for part in parts)
+    return any(mentions(part, names) for part in parts)
 
 
 def called(function: Function, parts: list[Claim]) -> Claim:

@@ -99,7 +99,7 @@ class Each(AtOnce):
 
 def element(items: tuple[Value, ...], place: int | Range) -> Value:
     """The element of a list at a place below its length."""
-    return Each(place, items[place.low:int(place.high)]) if isinstance(place, Range) else items[place]
+    return Each(place, items[place.low : int(place.high)]) if isinstance(place, Range) else items[place]
 
 
 def answers(claim: Callable[[int | Range], bool | None]) -> Iterator[bool | None]:
@@ -129,8 +129,8 @@ def identity(value: Value) -> Value:
 
 
 class Remembering:
-    """A function that recurs, over a number where its argument of this place is one. What it gave for the same
-    arguments is kept. On a range of numbers it is what it is at the least, where it is that at each further one,
+    """A function that goes over lists or, where its argument of this place is one, over a number. What it gave for the
+    same arguments is kept. On a range of numbers it is what it is at the least, where it is that at each further one,
     supposed that it is at the one before."""
 
     def __init__(self, run: Callable[..., Value], kept: dict[tuple, tuple], place: int | None):
@@ -156,7 +156,7 @@ class Remembering:
 
     def on_range(self, arguments, number):
         def at(value):
-            return *arguments[:self.place], value, *arguments[self.place + 1:]
+            return *arguments[: self.place], value, *arguments[self.place + 1 :]
 
         first = self(*at(number.low))
         further = Range(number.variable, number.low + 1, number.high, number.more)
