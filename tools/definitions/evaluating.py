@@ -203,6 +203,8 @@ class Definitions(Names, Claims):
             return special(self, *parts)
         function = self.term(head, scope)
         found = function([]) if head.kind == "name" and head.parts[0] not in scope.names else None
+        if not isinstance(found, Data) and any(map(is_claim, arguments)):
+            scope.fail(term, "a claim as an argument")
         if isinstance(found, Function) and len(parts) == found.arity:
             return called(found, parts)
         return lambda values: apply(function(values), *[part(values) for part in parts])
@@ -269,6 +271,13 @@ def number_in(definition: Clauses) -> int | None:
             if pattern.kind == "call" and pattern.parts[0].parts[0] == "suc":
                 return place
     return None
+
+
+def is_claim(term: Term) -> bool:
+    """Whether a term is a claim by its form. As an argument it would be evaluated though it is not made."""
+    if term.kind == "call" and term.parts[0].kind == "name":
+        return term.parts[0].parts[0] in ("◌≡◌", "◌≢◌", "◌⊎◌", "¬◌")
+    return term.kind in ("product", "function type")
 
 
 def mentions(term: Any, names: set[str]) -> bool:

@@ -11,7 +11,7 @@ from typing import Callable, Iterator
 from .values import Value
 
 EVER = float("inf")
-PIECES = 1_000_000  # a claim of more pieces is not shown
+PIECES = 100_000  # a claim of more pieces is not shown
 VARIABLES = itertools.count()
 
 
@@ -134,7 +134,7 @@ class Remembering:
     supposed that it is at the one before."""
 
     def __init__(self, run: Callable[..., Value], kept: dict[tuple, tuple], place: int | None):
-        self.run, self.kept, self.place, self.busy = run, kept, place, False
+        self.run, self.kept, self.place, self.busy, self.supposes = run, kept, place, False, False
 
     def key_of(self, arguments):
         return self, *map(identity, arguments)
@@ -158,14 +158,20 @@ class Remembering:
         def at(value):
             return *arguments[: self.place], value, *arguments[self.place + 1 :]
 
+        if self.supposes:
+            number.each()
         first = self(*at(number.low))
+        if number.low + 1 == number.high:
+            return first
         further = Range(number.variable, number.low + 1, number.high, number.more)
         supposed = self.key_of(at(further - 1))
         self.kept[supposed] = arguments, first
+        self.supposes = True
         try:
             if self.run(*at(further)) != first:
                 raise Split(number.variable, number.low + 1 - number.more)
         finally:
+            self.supposes = False
             del self.kept[supposed]
         if number.high != EVER:
             self.kept[self.key_of(at(number.high - 1))] = arguments, first

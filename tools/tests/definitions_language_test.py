@@ -30,6 +30,10 @@ double : ℕ → ℕ
 double zero = 0
 double (suc n) = 2 + double n
 
+count : ℕ → ℕ → ℕ
+count zero so_far = so_far
+count (suc n) so_far = count n (so_far + 1)
+
 sum : List ℕ → ℕ
 sum [] = 0
 sum (x ∷ xs) = x + sum xs
@@ -132,7 +136,11 @@ CLAIMS = [
     ("(n : ℕ) → n < 2 ^ 31 → stays n ≡ (if nat_lt 6 n then 7 else 6)", False),
     ("(n : ℕ) → n < 300 → double n ≡ n + n", True),
     ("(n : ℕ) → n < 300 → double n ≡ n + 2", False),
+    ("(n : ℕ) → n < 50 → count n 0 ≡ n", True),
+    ("(n : ℕ) → n < 50 → count n 1 ≡ n", False),
     # lists that an equation gives
+    ("(xs : List ℕ) × ((n : ℕ) × (n < length xs) × (n ≡ 5)) × (xs ≡ 1 ∷ [])", False),
+    ("(xs : List ℕ) × ((n : ℕ) × (n < length xs) × (n ≡ 0)) × (xs ≡ 1 ∷ [])", True),
     ("(rest : List ℕ) × (1 ∷ [] ++ rest ≡ 1 ∷ 2 ∷ [])", True),
     ("(rest : List ℕ) × (3 ∷ [] ++ rest ≡ 1 ∷ 2 ∷ [])", False),
     ("(rest : List ℕ) × (length rest ≡ 1) × (1 ∷ [] ++ rest ≡ 1 ∷ 2 ∷ [])", True),
