@@ -182,7 +182,8 @@ def misled(number: int, jobs: list[Job]) -> str:
     plain = getattr(search, name)
     setattr(search, name, lambda *arguments: spoil(plain(*arguments)))
     try:
-        said = [answer(Reader(), job.capture, job.credits_shown) for job in jobs]
+        reader = Reader()
+        said = [answer(reader, job.capture, job.credits_shown) for job in jobs]
     finally:
         setattr(search, name, plain)
     wrong = [job.name for job, text in zip(jobs, said) if text != job.wanted and not text.startswith("not shown: ")]
