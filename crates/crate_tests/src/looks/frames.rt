@@ -15,7 +15,7 @@ fn listed(alloc: Global) -> Result<Vec<Frame>, AllocError> {
     let mut frames = Vec::new(alloc);
     frames.push(headers(1, Side::Client, 1))?;
     for number in 2..=FRAMES {
-        frames.push(data(number, Side::Client, 1, 1))?;
+        frames.extend_from_slice(&[data(number, Side::Client, 1, 1)])?;
     }
     Ok(frames)
 }
