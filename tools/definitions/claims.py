@@ -32,8 +32,12 @@ def least(claims: Iterable[bool | None]) -> bool | None:
 
 def greatest(claims: Iterable[bool | None]) -> bool | None:
     """Whether some holds."""
-    found = set(claims)
-    return True if True in found else None if None in found else False
+    found: bool | None = False
+    for claim in claims:
+        if claim is True:
+            return True
+        found = None if claim is None else found
+    return found
 
 
 class Claims:
@@ -84,17 +88,18 @@ class Claims:
             for at, factor in enumerate(waiting):
                 try:
                     found = factor.kind(values)
-                    if isinstance(found, Data):
-                        if of_numbers and factor.name and found.name == "ℕ":
-                            return least([*results, self.some(factor, later + waiting[at + 1:], values)])
+                    is_number = of_numbers and isinstance(found, Data) and found.name == "ℕ" and factor.name
+                    if isinstance(found, Data) and not is_number:
                         self.witness(factor, values)
-                        continue
                 except NotYet:
                     later.append(factor)
                     continue
-                results.append(found)
-                if found is not True and not self.depth:
-                    self.failed.append(factor.label)
+                if is_number:
+                    return least([*results, self.some(factor, later + waiting[at + 1 :], values)])
+                if not isinstance(found, Data):
+                    results.append(found)
+                if found in (False, None):
+                    self.failed += [] if self.depth else [factor.label]
                 if found is False:
                     return False if proposed == self.proposed else None
             if len(later) == len(waiting):
@@ -110,6 +115,7 @@ class Claims:
 
     def some(self, factor: Factor, factors: list[Factor], values: Values) -> bool | None:
         """Whether the factors hold of some number."""
+
         def claim(number):
             values[factor.place] = number
             return self.aside(self.holds, factors, values)

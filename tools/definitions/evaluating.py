@@ -10,6 +10,7 @@ from .ranges import Remembering
 from .reading import Function as Clauses
 from .reading import Module, Record, Term
 from .values import Data, Function, Made, Stuck, Value, apply, filled, known
+from .words import LOOPS
 
 Test = Callable[[Value, Values], bool]  # puts the parts of a value that a pattern names among the values at hand
 
@@ -51,8 +52,10 @@ class Definitions(Names, Claims):
                     return body(values)
             raise Stuck(f"{module.name}: no clause of {definition.name} for {arguments}")
 
-        recurs = any(mentions(body, definition.name) for _, body in definition.clauses)
-        function.run = Remembering(run, self.kept, number_in(definition)) if recurs else run
+        loops = any(mentions(body, {definition.name, *LOOPS}) for _, body in definition.clauses)
+        function.run = run
+        if loops:
+            function.run = Remembering(run, self.kept, number_in(definition))
         return function if arity else run()
 
     def tests(self, patterns: Sequence[Term], scope: Scope) -> list[tuple[int, Test]]:
@@ -200,6 +203,8 @@ class Definitions(Names, Claims):
             return special(self, *parts)
         function = self.term(head, scope)
         found = function([]) if head.kind == "name" and head.parts[0] not in scope.names else None
+        if not isinstance(found, Data) and any(map(is_claim, arguments)):
+            scope.fail(term, "a claim as an argument")
         if isinstance(found, Function) and len(parts) == found.arity:
             return called(found, parts)
         return lambda values: apply(function(values), *[part(values) for part in parts])
@@ -268,11 +273,18 @@ def number_in(definition: Clauses) -> int | None:
     return None
 
 
-def mentions(term: Any, name: str) -> bool:
+def is_claim(term: Term) -> bool:
+    """Whether a term is a claim by its form. As an argument it would be evaluated though it is not made."""
+    if term.kind == "call" and term.parts[0].kind == "name":
+        return term.parts[0].parts[0] in ("◌≡◌", "◌≢◌", "◌⊎◌", "¬◌")
+    return term.kind in ("product", "function type")
+
+
+def mentions(term: Any, names: set[str]) -> bool:
     if isinstance(term, Term) and term.kind == "name":
-        return term.parts[0] == name
+        return term.parts[0] in names
     parts = term.values() if isinstance(term, dict) else term if isinstance(term, (tuple, list)) else ()
-    return any(mentions(part, name) for part in parts)
+    return any(mentions(part, names) for part in parts)
 
 
 def called(function: Function, parts: list[Claim]) -> Claim:

@@ -3,7 +3,8 @@
 import pathlib
 from typing import NoReturn
 
-from .reading import Function, Module, Record, Term, Unreadable, read
+from .reading import Function, Module, Record, Term, read
+from .tokens import Unreadable
 from .values import Data, Made, Value
 from .words import word
 

@@ -11,7 +11,7 @@ from typing import Callable, Iterator
 from .values import Value
 
 EVER = float("inf")
-PIECES = 1_000_000  # a claim of more pieces is not shown
+PIECES = 100_000  # a claim of more pieces is not shown
 VARIABLES = itertools.count()
 
 
@@ -99,7 +99,7 @@ class Each(AtOnce):
 
 def element(items: tuple[Value, ...], place: int | Range) -> Value:
     """The element of a list at a place below its length."""
-    return Each(place, items[place.low:int(place.high)]) if isinstance(place, Range) else items[place]
+    return Each(place, items[place.low : int(place.high)]) if isinstance(place, Range) else items[place]
 
 
 def answers(claim: Callable[[int | Range], bool | None]) -> Iterator[bool | None]:
@@ -129,12 +129,12 @@ def identity(value: Value) -> Value:
 
 
 class Remembering:
-    """A function that recurs, over a number where its argument of this place is one. What it gave for the same
-    arguments is kept. On a range of numbers it is what it is at the least, where it is that at each further one,
+    """A function that goes over lists or, where its argument of this place is one, over a number. What it gave for the
+    same arguments is kept. On a range of numbers it is what it is at the least, where it is that at each further one,
     supposed that it is at the one before."""
 
     def __init__(self, run: Callable[..., Value], kept: dict[tuple, tuple], place: int | None):
-        self.run, self.kept, self.place, self.busy = run, kept, place, False
+        self.run, self.kept, self.place, self.busy, self.supposes = run, kept, place, False, False
 
     def key_of(self, arguments):
         return self, *map(identity, arguments)
@@ -156,16 +156,22 @@ class Remembering:
 
     def on_range(self, arguments, number):
         def at(value):
-            return *arguments[:self.place], value, *arguments[self.place + 1:]
+            return *arguments[: self.place], value, *arguments[self.place + 1 :]
 
+        if self.supposes:
+            number.each()
         first = self(*at(number.low))
+        if number.low + 1 == number.high:
+            return first
         further = Range(number.variable, number.low + 1, number.high, number.more)
         supposed = self.key_of(at(further - 1))
         self.kept[supposed] = arguments, first
+        self.supposes = True
         try:
             if self.run(*at(further)) != first:
                 raise Split(number.variable, number.low + 1 - number.more)
         finally:
+            self.supposes = False
             del self.kept[supposed]
         if number.high != EVER:
             self.kept[self.key_of(at(number.high - 1))] = arguments, first

@@ -10,7 +10,8 @@ import pathlib
 import re
 from typing import NamedTuple, NoReturn
 
-TOKEN = re.compile(r'(?P<space>\s+|--[^\n]*)|"(?:[^"\\\n]|\\[nrt"\\])*"|[(){};,@.«»]|[^\s(){}.;,@"«»]+')
+from .tokens import Token, Unreadable, items_of, tokens_of
+
 NUMBER = re.compile(r"(0[xbo])?[0-9a-fA-F_]+")
 USE = re.compile(r"(?:pub )?use ([^\s{]+?)\.?(?:\{([^}]*)\}| as (\S+))?")
 ESCAPES = {"n": "\n", "r": "\r", "t": "\t", '"': '"', "\\": "\\"}
@@ -21,24 +22,22 @@ RESERVED = set(
 )
 
 # Infix words: how tightly each binds, and the side to which it groups.
-INFIX = {
-    "⊎": (1, "right"), "×": (2, "right"), "≡": (4, ""), "≢": (4, ""), "+ℤ": (6, "left"), "-ℤ": (6, "left"),
-    "||": (30, "left"), "&&": (35, "left"), "==": (40, ""), "<": (50, ""), "≤": (50, ""), "+": (65, "left"),
-    "-": (65, "left"), "++": (65, "left"), "∷": (67, "right"), "*": (70, "left"), "/": (70, "left"), "%": (70, "left"),
-    "^": (75, "right"),
-}
+STRENGTHS = [
+    (1, "right", "⊎"),
+    (2, "right", "×"),
+    (4, "", "≡ ≢"),
+    (6, "left", "+ℤ -ℤ"),
+    (30, "left", "||"),
+    (35, "left", "&&"),
+    (40, "", "=="),
+    (50, "", "< ≤"),
+    (65, "left", "+ - ++"),
+    (67, "right", "∷"),
+    (70, "left", "* / %"),
+    (75, "right", "^"),
+]
+INFIX = {word: (strength, side) for strength, side, words in STRENGTHS for word in words.split()}
 IF = 5  # `if a then b else c` binds as tightly
-
-
-class Unreadable(Exception):
-    """Text outside of the part that is read, or a name without a meaning."""
-
-
-class Token(NamedTuple):
-    text: str
-    line: int
-    column: int
-    joined: bool  # is there no space before it?
 
 
 class Term(NamedTuple):
@@ -63,32 +62,6 @@ class Module(NamedTuple):
     definitions: dict[str, Function | Record]
     constructors: set[str]
     uses: dict[str, tuple[tuple[str, ...], str | None]]  # of a name its module and name there; None for a module itself
-
-
-def tokens_of(text: str, name: str) -> list[Token]:
-    tokens, line, begin, end, joined = [], 1, 0, 0, False
-    for found in TOKEN.finditer(text):
-        if found.start() != end:
-            break
-        end = found.end()
-        if not found["space"]:
-            tokens.append(Token(found[0], line, found.start() - begin, joined))
-        joined = not found["space"]
-        if "\n" in found[0]:
-            line, begin = line + found[0].count("\n"), found.start() + found[0].rindex("\n") + 1
-    if end != len(text):
-        raise Unreadable(f"{name}:{line}: no word of the language: {text[end:end + 20].split()[0]}")
-    return tokens
-
-
-def items_of(tokens: list[Token]) -> list[list[Token]]:
-    """The items of a block: each begins a line, in the column of the first."""
-    items: list[list[Token]] = []
-    for before, token in zip([None, *tokens], tokens):
-        if before is None or token.line > before.line and token.column <= tokens[0].column and token.text != "}":
-            items.append([])
-        items[-1].append(token)
-    return items
 
 
 class Reader:
@@ -237,7 +210,7 @@ class Reader:
         else:
             self.at -= 1
             made = self.made("name", self.word())
-        while self.peek() == "." and all(token.joined for token in self.tokens[self.at:self.at + 2]):
+        while self.peek() == "." and all(token.joined for token in self.tokens[self.at : self.at + 2]):
             self.at += 2
             made = self.made("field", made, self.peek(-1))
         return made
@@ -265,9 +238,9 @@ class Reader:
             self.record(module)
         elif start == "data":
             for item in self.block():
-                module.constructors.update(token.text for token in item[:[token.text for token in item].index(":")])
+                module.constructors.update(token.text for token in item[: [token.text for token in item].index(":")])
         elif start == "module":
-            if any(token.text == "(" for token in self.tokens[:self.texts().index("where")]):
+            if any(token.text == "(" for token in self.tokens[: self.texts().index("where")]):
                 self.fail("a section with parameters")
             for item in self.block():
                 read_item(item, self.name, module)
@@ -279,7 +252,7 @@ class Reader:
 
     def block(self) -> list[list[Token]]:
         """The items after `where`."""
-        return items_of(self.tokens[self.texts().index("where") + 1:])
+        return items_of(self.tokens[self.texts().index("where") + 1 :])
 
     def record(self, module: Module) -> None:
         self.take("record")

@@ -8,6 +8,7 @@ from typing import Callable, NamedTuple, TypeVar
 
 from .evaluating import Definitions
 from .search import Search
+from .tokens import Unreadable
 from .values import Hole, Made, NotYet, Stuck, Value, apply
 
 TOP = pathlib.Path(__file__).resolve().parents[2]
@@ -19,6 +20,7 @@ ENTRIES = {
     "refusal": "pcap_records.Refusal.refusal",
     "IsReport": "h2audit.Report.IsReport",
     "packets_of": "h2audit.Report.packets_of",
+    "ending_of": "h2audit.Ending.ending_of",
     "status_of": "h2audit.Ending.status_of",
     "line_of": "h2audit.Ending.line_of",
     "header_of": "h2_frames.Header.header_of",
@@ -77,8 +79,16 @@ class Reader:
         return self.answer(Made("Ok", verdict.value), bytes(text.value))
 
     def answer(self, ended: Value, text: bytes) -> Answer:
-        status, line = self.ask("status_of", ended), bytes(self.ask("line_of", ended))
-        return Answer(status, line and line + b"\n", text)
+        status, line = self.ending(ended)
+        return Answer(status, bytes((*line, *b"\n")) if line else b"", text)
+
+    def ending(self, ended: Value) -> tuple[int, Value]:
+        """The exit status and the line on standard error, which one definition gives or two."""
+        try:
+            both = self.ask("ending_of", ended)
+            return both["0"], both["1"]
+        except Unreadable:
+            return self.ask("status_of", ended), self.ask("line_of", ended)
 
     def frame(self, number: int, side: str, octets: bytes) -> Value:
         """The frame that these bytes spell. It is captured in the record of its number, at as many microseconds."""

@@ -31,7 +31,7 @@ def records(values):
     order = "little" if capture[0] in (0xD4, 0x4D) else "big"
     at, rows = 24, []
     while at + 16 <= len(capture):
-        at += 16 + int.from_bytes(bytes(capture[at + 8:at + 12]), order)
+        at += 16 + int.from_bytes(bytes(capture[at + 8 : at + 12]), order)
         if at <= len(capture):
             rows.append(hole())
     return {"link": hole(), "rows": listed(rows), "cut": hole()}
@@ -48,16 +48,20 @@ class Search:
     """The witnesses of one capture. It asks the definitions for the packets, and reads the bytes itself."""
 
     def __init__(self, packets_of):
-        self.packets_of, self.packets, self.table = packets_of, None, {
-            "found": records,
-            "opened": self.opened,
-            "audited": self.audited,
-            "flows": self.flows,
-            "client_frames": lambda values: frames(joined(values["client"])[len(PREFACE):]),
-            "server_frames": lambda values: frames(joined(values["server"])),
-            "header": lambda values: values["bytes"][:9],
-            "payload": lambda values: values["bytes"][9:9 + length(values["bytes"])],
-        }
+        self.packets_of, self.packets, self.table = (
+            packets_of,
+            None,
+            {
+                "found": records,
+                "opened": self.opened,
+                "audited": self.audited,
+                "flows": self.flows,
+                "client_frames": lambda values: frames(joined(values["client"])[len(PREFACE) :]),
+                "server_frames": lambda values: frames(joined(values["server"])),
+                "header": lambda values: values["bytes"][:9],
+                "payload": lambda values: values["bytes"][9 : 9 + length(values["bytes"])],
+            },
+        )
 
     def propose(self, label, values):
         found = self.table.get(label.rpartition(".")[2])
@@ -86,8 +90,10 @@ class Search:
         return tuple(opened)
 
     def audited(self, values):
-        return tuple({"extents": hole(), "cut": cut(self.flows_of(of, values["bytes"])), "findings": {"items": hole()}}
-                     for of in values["opened"])
+        return tuple(
+            {"extents": hole(), "cut": cut(self.flows_of(of, values["bytes"])), "findings": {"items": hole()}}
+            for of in values["opened"]
+        )
 
     def flows(self, values):
         return self.flows_of(values["connection"], values["capture"])
@@ -99,8 +105,10 @@ class Search:
             if segment["rec"] in members:
                 sides["client" if segment["from"] == connection["client"] else "server"].append(segment)
         server = connection["server_isn"]
-        return {"client": flow(capture, sides["client"], connection["client_isn"]),
-                "server": flow(capture, sides["server"], server.parts[0] if server.parts else None)}
+        return {
+            "client": flow(capture, sides["client"], connection["client_isn"]),
+            "server": flow(capture, sides["server"], server.parts[0] if server.parts else None),
+        }
 
 
 def connection(opening):
@@ -161,6 +169,6 @@ def frames(octets):
     """As many frames as stand whole in these bytes."""
     found = []
     while len(octets) >= 9 and len(octets) >= 9 + length(octets):
-        octets = octets[9 + length(octets):]
+        octets = octets[9 + length(octets) :]
         found.append({"header": hole(), "body": hole()})
     return tuple(found)

@@ -47,7 +47,8 @@ class Function:
     __slots__ = ("arity", "run", "held", "kept")
 
     def __init__(self, arity: int, run: Callable[..., Value], held: tuple[Value, ...] = ()):
-        self.arity, self.run, self.held, self.kept = arity, run, held, {}
+        self.arity, self.run, self.held = arity, run, held
+        self.kept: dict[int, Value] = {}
 
 
 class Hole:

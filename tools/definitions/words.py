@@ -113,6 +113,7 @@ WORDS: dict[str, Callable[..., Value]] = {
     "concat": lambda xs: tuple([y for x in xs for y in known(x)]),
     "map": lambda f, xs: tuple([apply(f, x) for x in xs]),
     "flat_map": lambda f, xs: tuple([y for x in xs for y in apply(f, x)]),
+    "filter_map": lambda f, xs: tuple([y for x in xs for y in known(apply(f, x)).parts]),  # the values that f gives
     "filter": lambda p, xs: tuple([x for x in xs if apply(p, x)]),
     "find": lambda p, xs: next((some(x) for x in xs if apply(p, x)), NONE),  # the first that passes
     "list_any": lambda p, xs: any(apply(p, x) for x in xs),
@@ -120,6 +121,7 @@ WORDS: dict[str, Callable[..., Value]] = {
     "count_by": lambda p, xs: len([x for x in xs if apply(p, x)]),
     "sum_by": lambda f, xs: sum(apply(f, x) for x in xs),
     "fold": folded,  # f over the items, from a
+    "enumerate_from": lambda n, xs: tuple([{"0": at, "1": x} for at, x in enumerate(xs, n)]),  # with numbers from n on
     "reverse": lambda xs: xs[::-1],
     "replicate": lambda n, x: (x,) * n,
     "take": lambda n, xs: xs[:n],
@@ -155,6 +157,7 @@ WORDS: dict[str, Callable[..., Value]] = {
     "AllZip": lambda claim, xs, ys: len(xs) == len(ys) and least(map(partial(apply, claim), xs, ys)),  # at each place
 }
 LAZY = ("◌∷◌", "◌++◌")  # these take what is not known yet
+LOOPS = {"map", "flat_map", "filter_map", "filter", "find", "list_any", "list_all", "count_by", "sum_by", "fold"}
 
 
 def strict(run: Callable[..., Value], arity: int) -> Callable[..., Value]:

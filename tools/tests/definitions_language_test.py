@@ -1,6 +1,6 @@
 #!/usr/bin/python3
-"""Reads small definitions by tools/definitions, and compares what they say with what is written here by hand: of claims whether they
-are shown (True), refuted (False) or neither (None), and of text that cannot be read the file and the line."""
+"""Reads small definitions by tools/definitions, and compares what they say with what is written here by hand: of claims
+whether they are shown (True), refuted (False) or neither (None), of text that cannot be read the file and the line."""
 
 import pathlib
 import sys
@@ -9,13 +9,14 @@ import tempfile
 sys.path.insert(0, str(pathlib.Path(__file__).resolve().parents[1]))
 
 from definitions.evaluating import Definitions  # noqa: E402
-from definitions.reading import Unreadable  # noqa: E402
 from definitions.running import deeply  # noqa: E402
+from definitions.tokens import Unreadable  # noqa: E402
 from definitions.values import NotYet, Stuck  # noqa: E402
 
-PRELUDE = """use Rattle.std.specs.Prelude.{ℕ, zero, suc, ◌+◌, ◌-◌, ◌*◌, ◌/◌, ◌%◌, ◌^◌, ◌<◌, ◌≤◌, ◌≡◌, ◌≢◌, ◌⊎◌, ◌==◌, ◌&&◌, ◌||◌, not, nat_lt,
-    Bool, true, false, if◌then◌else◌, IsTrue, IsSomeAnd, IfSome, List, [], ◌∷◌, ◌++◌, length, take, drop, map, find, slice_get,
-    slice_index, Option, Some, None, ℤ, pos, ◌+ℤ◌, ◌-ℤ◌, codes}
+PRELUDE = """use Rattle.std.specs.Prelude.{ℕ, zero, suc, ◌+◌, ◌-◌, ◌*◌, ◌/◌, ◌%◌, ◌^◌, ◌<◌, ◌≤◌, ◌==◌, nat_lt, ℤ, pos, ◌+ℤ◌}
+use Rattle.std.specs.Prelude.{◌-ℤ◌, ◌≡◌, ◌≢◌, ◌⊎◌, Bool, true, false, not, ◌&&◌, ◌||◌, if◌then◌else◌, IsTrue, List, []}
+use Rattle.std.specs.Prelude.{◌∷◌, ◌++◌, length, take, drop, map, find, slice_get, slice_index, Option, Some, None, codes}
+use Rattle.std.specs.Prelude.{IsSomeAnd, IfSome}
 use Rattle.std.specs.Fmt.{decimal, signed_decimal}
 """
 
@@ -28,6 +29,10 @@ stays (suc n) = if nat_lt 4 n then 7 else stays n
 double : ℕ → ℕ
 double zero = 0
 double (suc n) = 2 + double n
+
+count : ℕ → ℕ → ℕ
+count zero so_far = so_far
+count (suc n) so_far = count n (so_far + 1)
 
 sum : List ℕ → ℕ
 sum [] = 0
@@ -75,58 +80,118 @@ record IsFront (whole front : List ℕ) (size : ℕ) : Type 0 where
 # Claims, and whether each is shown.
 CLAIMS = [
     # infix words
-    ("2 + 3 * 4 ≡ 14", True), ("2 ^ 3 ^ 2 ≡ 512", True), ("7 - 2 - 1 ≡ 4", True), ("1 - 2 ≡ 0", True), ("17 / 3 % 3 ≡ 2", True),
-    ("1 ∷ 2 ∷ [] ++ 3 ∷ [] ≡ 1 ∷ 2 ∷ 3 ∷ []", True), ("IsTrue (true || true && false)", True), ("pos 1 -ℤ pos 3 +ℤ pos 1 ≡ pos 0 -ℤ pos 1", True),
-    ("IsTrue (1 + 1 == 2 && not (nat_lt 2 2))", True), ("1 ≡ 2", False), ("1 ≢ 2", True), ("0x1f ≡ 31", True),
-    ("decimal 120 ++ signed_decimal (pos 1 -ℤ pos 9) ≡ codes \"120-8\"", True),
+    ("2 + 3 * 4 ≡ 14", True),
+    ("2 ^ 3 ^ 2 ≡ 512", True),
+    ("7 - 2 - 1 ≡ 4", True),
+    ("1 - 2 ≡ 0", True),
+    ("17 / 3 % 3 ≡ 2", True),
+    ("1 ∷ 2 ∷ [] ++ 3 ∷ [] ≡ 1 ∷ 2 ∷ 3 ∷ []", True),
+    ("IsTrue (true || true && false)", True),
+    ("pos 1 -ℤ pos 3 +ℤ pos 1 ≡ pos 0 -ℤ pos 1", True),
+    ("IsTrue (1 + 1 == 2 && not (nat_lt 2 2))", True),
+    ("1 ≡ 2", False),
+    ("1 ≢ 2", True),
+    ("0x1f ≡ 31", True),
+    ('decimal 120 ++ signed_decimal (pos 1 -ℤ pos 9) ≡ codes "120-8"', True),
     # functions, records, data
     ("kind 0 [] ∷ kind 5 [] ∷ kind 1 (4 ∷ []) ∷ kind 2 (4 ∷ []) ∷ [] ≡ 1 ∷ 2 ∷ 7 ∷ 4 ∷ []", True),
-    ("map shade (Red ∷ Grey 5 ∷ []) ≡ 0 ∷ 5 ∷ []", True), ("map Grey (1 ∷ []) ≡ Grey 1 ∷ []", True), ("Red ≡ Grey 0", False),
-    ("(record origin { y = 3 }).y ≡ 3", True), ("record origin { y = 0 } ≡ origin", True), ("origin ≡ record { x = 1; y = 0 }", False),
-    ("let n = 4 in sum (map (λ k. k * n) (1 ∷ 2 ∷ [])) ≡ 12", True), ("(if false then 1 else if true then 2 else 3) ≡ 2", True),
-    ("(1, true).0 ≡ 1", True), ("slice_index (5 ∷ []) 1 ≡ 0", True), ("take 9 (1 ∷ []) ≡ 1 ∷ []", True), ("drop 2 (1 ∷ []) ≡ []", True),
-    ("find (nat_lt 2) (1 ∷ 3 ∷ 4 ∷ []) ≡ Some 3", True), ("slice_get (1 ∷ []) 1 ≡ None", True),
+    ("map shade (Red ∷ Grey 5 ∷ []) ≡ 0 ∷ 5 ∷ []", True),
+    ("map Grey (1 ∷ []) ≡ Grey 1 ∷ []", True),
+    ("Red ≡ Grey 0", False),
+    ("(record origin { y = 3 }).y ≡ 3", True),
+    ("record origin { y = 0 } ≡ origin", True),
+    ("origin ≡ record { x = 1; y = 0 }", False),
+    ("let n = 4 in sum (map (λ k. k * n) (1 ∷ 2 ∷ [])) ≡ 12", True),
+    ("(if false then 1 else if true then 2 else 3) ≡ 2", True),
+    ("(1, true).0 ≡ 1", True),
+    ("slice_index (5 ∷ []) 1 ≡ 0", True),
+    ("take 9 (1 ∷ []) ≡ 1 ∷ []", True),
+    ("drop 2 (1 ∷ []) ≡ []", True),
+    ("find (nat_lt 2) (1 ∷ 3 ∷ 4 ∷ []) ≡ Some 3", True),
+    ("slice_get (1 ∷ []) 1 ≡ None", True),
     # all numbers, and some
-    ("(n : ℕ) → n < 10 → n < 11", True), ("(n : ℕ) → n < 11 → n < 10", False), ("(n : ℕ) → n < 2 ^ 31 → n % 2 ^ 32 ≡ n", True),
+    ("(n : ℕ) → n < 10 → n < 11", True),
+    ("(n : ℕ) → n < 11 → n < 10", False),
+    ("(n : ℕ) → n < 2 ^ 31 → n % 2 ^ 32 ≡ n", True),
     ("(n : ℕ) → (n + (2 ^ 32 - 5)) % 2 ^ 32 ≡ (if nat_lt n 5 then n + (2 ^ 32 - 5) else n - 5)", False),
     ("(n : ℕ) → n < 2 ^ 32 → (n + (2 ^ 32 - 5)) % 2 ^ 32 ≡ (if nat_lt n 5 then n + (2 ^ 32 - 5) else n - 5)", True),
-    ("(n : ℕ) → n < 5 → n * n ≡ n", False), ("(n : ℕ) → n * 2 ≡ n", None), ("(n : ℕ) → n < 4 → IsTrue (n == 1)", False),
-    ("(n : ℕ) × (5 < n) × (n < 7)", True), ("(n : ℕ) × (5 < n) × (n < 6)", False), ("(n : ℕ) × (n ≡ 2 ^ 31 - 1)", True),
-    ("¬ ((n : ℕ) × (5 < n) × (n < 6))", True), ("(n : ℕ) → n < 9 → (k : ℕ) → k < n → k < 8", True),
-    ("(n : ℕ) → n < 9 → (k : ℕ) × (k ≡ n)", True), ("(k : ℕ) × ((n : ℕ) → n < 3 → k ≡ n)", False), ("(n k : ℕ) → n < k → n < 5", None),
-    ("(n : ℕ) → n < 3 → IsSomeAnd (slice_get (4 ∷ 5 ∷ 6 ∷ []) n) (λ x. slice_get (0 ∷ 4 ∷ 5 ∷ 6 ∷ []) (n + 1) ≡ Some x)", True),
+    ("(n : ℕ) → n < 5 → n * n ≡ n", False),
+    ("(n : ℕ) → n * 2 ≡ n", None),
+    ("(n : ℕ) → n < 4 → IsTrue (n == 1)", False),
+    ("(n : ℕ) × (5 < n) × (n < 7)", True),
+    ("(n : ℕ) × (5 < n) × (n < 6)", False),
+    ("(n : ℕ) × (n ≡ 2 ^ 31 - 1)", True),
+    ("¬ ((n : ℕ) × (5 < n) × (n < 6))", True),
+    ("(n : ℕ) → n < 9 → (k : ℕ) → k < n → k < 8", True),
+    ("(n : ℕ) → n < 9 → (k : ℕ) × (k ≡ n)", True),
+    ("(k : ℕ) × ((n : ℕ) → n < 3 → k ≡ n)", False),
+    ("(n k : ℕ) → n < k → n < 5", None),
+    (
+        "(n : ℕ) → n < 2 → IsSomeAnd (slice_get (4 ∷ 5 ∷ []) n) (λ x. slice_get (0 ∷ 4 ∷ 5 ∷ []) (n + 1) ≡ Some x)",
+        True,
+    ),
     ("(n : ℕ) → n < 3 → slice_get (4 ∷ 5 ∷ 6 ∷ []) n ≡ slice_get (4 ∷ 5 ∷ 7 ∷ []) n", False),
     # by induction
     ("(n : ℕ) → n < 2 ^ 31 → stays n ≡ (if nat_lt 5 n then 7 else 6)", True),
-    ("(n : ℕ) → n < 2 ^ 31 → stays n ≡ (if nat_lt 6 n then 7 else 6)", False), ("(n : ℕ) → n < 300 → double n ≡ n + n", True),
+    ("(n : ℕ) → n < 2 ^ 31 → stays n ≡ (if nat_lt 6 n then 7 else 6)", False),
+    ("(n : ℕ) → n < 300 → double n ≡ n + n", True),
     ("(n : ℕ) → n < 300 → double n ≡ n + 2", False),
+    ("(n : ℕ) → n < 50 → count n 0 ≡ n", True),
+    ("(n : ℕ) → n < 50 → count n 1 ≡ n", False),
     # lists that an equation gives
-    ("(rest : List ℕ) × (1 ∷ [] ++ rest ≡ 1 ∷ 2 ∷ [])", True), ("(rest : List ℕ) × (3 ∷ [] ++ rest ≡ 1 ∷ 2 ∷ [])", False),
+    ("(xs : List ℕ) × ((n : ℕ) × (n < length xs) × (n ≡ 5)) × (xs ≡ 1 ∷ [])", False),
+    ("(xs : List ℕ) × ((n : ℕ) × (n < length xs) × (n ≡ 0)) × (xs ≡ 1 ∷ [])", True),
+    ("(rest : List ℕ) × (1 ∷ [] ++ rest ≡ 1 ∷ 2 ∷ [])", True),
+    ("(rest : List ℕ) × (3 ∷ [] ++ rest ≡ 1 ∷ 2 ∷ [])", False),
     ("(rest : List ℕ) × (length rest ≡ 1) × (1 ∷ [] ++ rest ≡ 1 ∷ 2 ∷ [])", True),
     ("(rest : List ℕ) × (length rest ≡ 5) × (1 ∷ [] ++ rest ≡ 1 ∷ 2 ∷ [])", False),
-    ("(rest : List ℕ) × (rest ≡ []) × (rest ≡ 1 ∷ [])", False), ("IsFront (1 ∷ 2 ∷ 3 ∷ []) (1 ∷ 2 ∷ []) 2", True),
-    ("IsFront (1 ∷ 2 ∷ 3 ∷ []) (1 ∷ 2 ∷ []) 3", False), ("IsFront (1 ∷ 2 ∷ 3 ∷ []) (2 ∷ []) 1", False),
+    ("(rest : List ℕ) × (rest ≡ []) × (rest ≡ 1 ∷ [])", False),
+    ("IsFront (1 ∷ 2 ∷ 3 ∷ []) (1 ∷ 2 ∷ []) 2", True),
+    ("IsFront (1 ∷ 2 ∷ 3 ∷ []) (1 ∷ 2 ∷ []) 3", False),
+    ("IsFront (1 ∷ 2 ∷ 3 ∷ []) (2 ∷ []) 1", False),
     ("¬ IsFront (1 ∷ 2 ∷ 3 ∷ []) (2 ∷ []) 1", True),
     # lists of which nothing is known
-    ("(rest : List ℕ) → ¬ (3 ∷ [] ++ rest ≡ 1 ∷ 2 ∷ [])", True), ("(rest : List ℕ) → ¬ (1 ∷ [] ++ rest ≡ 1 ∷ 2 ∷ [])", None),
-    ("(rest : List ℕ) → rest ≡ []", None), ("(rest : List ℕ) → ¬ (rest ≡ [])", None), ("(b : Bool) → IsTrue b", None),
-    ("(xs : List ℕ) × (length xs ≡ 1)", None), ("¬ ((xs : List ℕ) × (length xs ≡ 1))", None),
+    ("(rest : List ℕ) → ¬ (3 ∷ [] ++ rest ≡ 1 ∷ 2 ∷ [])", True),
+    ("(rest : List ℕ) → ¬ (1 ∷ [] ++ rest ≡ 1 ∷ 2 ∷ [])", None),
+    ("(rest : List ℕ) → rest ≡ []", None),
+    ("(rest : List ℕ) → ¬ (rest ≡ [])", None),
+    ("(b : Bool) → IsTrue b", None),
+    ("(xs : List ℕ) × (length xs ≡ 1)", None),
+    ("¬ ((xs : List ℕ) × (length xs ≡ 1))", None),
     ("(xs : List ℕ) × (xs ≡ [] ⊎ xs ≡ 1 ∷ []) × (length xs ≡ 1)", None),
-    ("¬ ((xs : List ℕ) × (xs ≡ [] ⊎ xs ≡ 1 ∷ []) × (length xs ≡ 1))", None), ("(xs : List ℕ) × ((n : ℕ) → n < 3 → xs ≡ n ∷ [])", None),
-    ("(xs : List ℕ) × (xs ≡ [] → 1 ≡ 2)", None), ("(xs : List ℕ) × ¬ (xs ≡ [])", None),
+    ("¬ ((xs : List ℕ) × (xs ≡ [] ⊎ xs ≡ 1 ∷ []) × (length xs ≡ 1))", None),
+    ("(xs : List ℕ) × ((n : ℕ) → n < 3 → xs ≡ n ∷ [])", None),
+    ("(xs : List ℕ) × (xs ≡ [] → 1 ≡ 2)", None),
+    ("(xs : List ℕ) × ¬ (xs ≡ [])", None),
     # conditions and alternatives
-    ("PointsAreFew", None), ("¬ PointsAreFew", None), ("SomePoint", True), ("Wrong", False),
-    ("1 ≡ 2 → 3 ≡ 4", True), ("1 ≡ 1 → 3 ≡ 4", False), ("1 ≡ 2 ⊎ 1 ≡ 1", True), ("1 ≡ 2 ⊎ 1 ≡ 3", False), ("(1 ≡ 1) × (1 ≡ 2) × (1 ≡ 1)", False),
-    ("((b : Bool) → IsTrue b) → 1 ≡ 2", None), ("1 ≡ 1 ⊎ ((b : Bool) → IsTrue b)", True), ("IfSome (Some 3) (λ n. n < 3)", False),
+    ("PointsAreFew", None),
+    ("¬ PointsAreFew", None),
+    ("SomePoint", True),
+    ("Wrong", False),
+    ("1 ≡ 2 → 3 ≡ 4", True),
+    ("1 ≡ 1 → 3 ≡ 4", False),
+    ("1 ≡ 2 ⊎ 1 ≡ 1", True),
+    ("1 ≡ 2 ⊎ 1 ≡ 3", False),
+    ("(1 ≡ 1) × (1 ≡ 2) × (1 ≡ 1)", False),
+    ("((b : Bool) → IsTrue b) → 1 ≡ 2", None),
+    ("1 ≡ 1 ⊎ ((b : Bool) → IsTrue b)", True),
+    ("IfSome (Some 3) (λ n. n < 3)", False),
 ]
 
 # Texts that cannot be read, with the line of what is wrong and a part of what is said.
 UNREADABLE = [
-    ("a : ℕ\na = elim 1 [ zero ↦ 2 ]", 2, "a name is missing before elim"), ("a : ℕ\na = (1", 2, ") is missing"), ("a : ℕ\na = b", 2, "b has no meaning"),
-    ("a : ℕ\na = 1\n\nb : ℕ → ℕ\nb = λ. 2 2 )", 5, ""), ("a : ℕ → ℕ\na x y = 1\na x = 2", 3, "different numbers of arguments"),
-    ("a : ℕ\na =\n  if 1 then 2", 3, "else is missing"), ("a : Type 0\na = 1 ≡ 2 ≡ 3", 2, "without parentheses"), ("a : ℕ\na = pos.unknown", 2, ""),
-    ("a : ℕ\na = 1\nmodule _ (n : ℕ) where\n  b : ℕ\n  b = n", 3, "a section with parameters"), ("use Rattle.std.specs.Prelude.{merge}\na : ℕ\na = merge", 3, "no meaning"),
-    ("a : ℕ\na = f.g 1\n  where f = 1", 3, "where is not expected"), ("a : List ℕ → ℕ\na (1 ∷ x) = 2", 2, "no pattern"),
+    ("a : ℕ\na = elim 1 [ zero ↦ 2 ]", 2, "a name is missing before elim"),
+    ("a : ℕ\na = (1", 2, ") is missing"),
+    ("a : ℕ\na = b", 2, "b has no meaning"),
+    ("a : ℕ\na = 1\n\nb : ℕ → ℕ\nb = λ. 2 2 )", 5, ""),
+    ("a : ℕ → ℕ\na x y = 1\na x = 2", 3, "different numbers of arguments"),
+    ("a : ℕ\na =\n  if 1 then 2", 3, "else is missing"),
+    ("a : Type 0\na = 1 ≡ 2 ≡ 3", 2, "without parentheses"),
+    ("a : ℕ\na = pos.unknown", 2, ""),
+    ("a : ℕ\na = 1\nmodule _ (n : ℕ) where\n  b : ℕ\n  b = n", 3, "a section with parameters"),
+    ("use Rattle.std.specs.Prelude.{merge}\na : ℕ\na = merge", 3, "no meaning"),
+    ("a : ℕ\na = f.g 1\n  where f = 1", 3, "where is not expected"),
+    ("a : List ℕ → ℕ\na (1 ∷ x) = 2", 2, "no pattern"),
 ]
 
 
@@ -161,7 +226,11 @@ def main() -> int:
     for text, line, part in UNREADABLE:
         if not said(text).startswith(f"small/specs/Text.antt:{line}: ") or part not in said(text):
             wrong.append(f"{text!r}: {said(text)}")
-    print(*wrong, f"{len(CLAIMS)} claims, {len(UNREADABLE)} texts that cannot be read: {len(wrong)} wrong", sep="\n" if wrong else "")
+    print(
+        *wrong,
+        f"{len(CLAIMS)} claims, {len(UNREADABLE)} texts that cannot be read: {len(wrong)} wrong",
+        sep="\n" if wrong else "",
+    )
     return 1 if wrong else 0
 
 

@@ -1,11 +1,11 @@
 #!/usr/bin/python3
-"""Computes reports from the definitions (tools/by-definition), and compares them with those that are known and with the program's.
+"""Computes reports from the definitions (tools/by-definition), and compares them with known ones and with the program's.
 
     tools/tests/definitions_test.py [--seed N] [PROGRAM]
 
-The captures are those of examples/ up to 4,000 bytes, each row of tests/reports, and with PROGRAM 300 random captures and 1,000 random
-connections, in which all 27 kinds of findings occur; the seed is printed. Then ten definitions are changed, one in each layer, and
-the search for witnesses is misled: each time a report has to be another one, or not shown.
+The captures are those of examples/ up to 4,000 bytes, each row of tests/reports, and with PROGRAM 300 random captures and
+1,000 random connections, in which all 27 kinds of findings occur; the seed is printed. Then ten definitions are changed,
+one in each layer, and the search for witnesses is misled: each time a report has to be another one, or not shown.
 """
 
 import argparse
@@ -39,9 +39,13 @@ KINDS = 27
 CHANGES = [
     ("pcap_records/specs/Record.antt", "start = at + 16", "start = at + 12"),
     ("packet_heads/specs/Tcp.antt", "slice_index segment 13) 4 == 1", "slice_index segment 13) 5 == 1"),
-    ("tcp_streams/specs/Sequence.antt", "if nat_lt b.rec a.rec then Some b else Some a", "if nat_lt a.rec b.rec then Some b else Some a"),
+    (
+        "tcp_streams/specs/Sequence.antt",
+        "if nat_lt b.rec a.rec then Some b else Some a",
+        "if nat_lt a.rec b.rec then Some b else Some a",
+    ),
     ("tcp_streams/specs/Pair.antt", "(a.address == b.address) && (a.port == b.port)", "a.address == b.address"),
-    ("h2_frames/specs/Body.antt", "if nat_le (length payload) (pad_length payload)", "if nat_lt (length payload) (pad_length payload)"),
+    ("h2_frames/specs/Body.antt", "if length payload == 5 then Priority", "if length payload == 4 then Priority"),
     ("h2_frames/specs/CaptureOrder.antt", "nat_lt y.rec x.rec", "nat_lt x.rec y.rec"),
     ("audit_terms/specs/Window.antt", "int_le credit (pos 0)", "int_lt credit (pos 0)"),
     ("audit_terms/specs/Finding.antt", "if stops x then x ∷ []", "if stops x then []"),
@@ -56,8 +60,20 @@ SPOILED = [
     ("flow", lambda found: {**found, "gap": Made("None")}),
     ("flow", lambda found: {**found, "gap": Made("Some", 0)}),
     ("flow", lambda found: {**found, "arrivals": {"items": found["arrivals"]["items"][1:]}}),
-    ("flow", lambda found: {**found, "pieces": {"items": [{"now": piece["now"][:-1]} for piece in found["pieces"]["items"]]}}),
-    ("flow", lambda found: {**found, "pieces": {"items": [{"now": (0, *piece["now"][1:])} for piece in found["pieces"]["items"]]}}),
+    (
+        "flow",
+        lambda found: {
+            **found,
+            "pieces": {"items": [{"now": piece["now"][:-1]} for piece in found["pieces"]["items"]]},
+        },
+    ),
+    (
+        "flow",
+        lambda found: {
+            **found,
+            "pieces": {"items": [{"now": (0, *piece["now"][1:])} for piece in found["pieces"]["items"]]},
+        },
+    ),
     ("cut", lambda found: Made("NotHttp2")),
     ("cut", lambda found: Made("NoPreface")),
     ("cut", lambda found: Made("NoHandshake")),
@@ -87,14 +103,21 @@ def examples() -> Iterator[Job]:
         if file.stat().st_size <= LARGE:
             status = f"status {int(file.stem in reports_test.FAULTY)}\n"
             for ending, credits_shown in ((".report", False), (".frames.report", True)):
-                yield Job(file.stem + ending, file.read_bytes(), credits_shown, status + file.with_suffix(ending).read_text())
+                yield Job(
+                    file.stem + ending, file.read_bytes(), credits_shown, status + file.with_suffix(ending).read_text()
+                )
 
 
 def rows() -> Iterator[Job]:
     for name, row in reports_test.rows():
         script, _, wanted = row.partition("-- ")
         credits_shown = not wanted.startswith("findings ")
-        yield Job(name, capture_of(script), credits_shown, reports_test.lines_of(wanted.removeprefix("findings "), credits_shown))
+        yield Job(
+            name,
+            capture_of(script),
+            credits_shown,
+            reports_test.lines_of(wanted.removeprefix("findings "), credits_shown),
+        )
 
 
 def randoms(seed: int) -> Iterator[Job]:
@@ -109,7 +132,9 @@ def done(jobs: list[Job], program: str | None) -> list[tuple[str, str]]:
     for job in jobs:
         said = answer(reader, job.capture, job.credits_shown)
         wanted = job.wanted or reports_test.answer_of(program, ["--frames"], job.capture)
-        found.append(("" if said == wanted else f"{job.name}: the definitions say\n{said}and it should be\n{wanted}", said))
+        found.append(
+            ("" if said == wanted else f"{job.name}: the definitions say\n{said}and it should be\n{wanted}", said)
+        )
     return found
 
 
@@ -124,7 +149,12 @@ def compared(jobs: list[Job], program: str | None) -> tuple[int, str]:
     start, parts = time.monotonic(), 16
     found = [one for part in in_parallel(done, [jobs[at::parts] for at in range(parts)], program) for one in part]
     wrong = [fault for fault, _ in found if fault]
-    print(*wrong, f"{len(jobs)} captures in {time.monotonic() - start:.0f} s: {len(wrong)} wrong", sep="\n" if wrong else "", flush=True)
+    print(
+        *wrong,
+        f"{len(jobs)} captures in {time.monotonic() - start:.0f} s: {len(wrong)} wrong",
+        sep="\n" if wrong else "",
+        flush=True,
+    )
     return len(wrong), "".join(said for _, said in found)
 
 
@@ -147,12 +177,13 @@ def changed(change: tuple[str, str, str], jobs: list[Job]) -> str:
 
 
 def misled(number: int, jobs: list[Job]) -> str:
-    """What is wrong with the answers where the search is misled: each but those that it doesn't touch should not be shown."""
+    """What is wrong with the answers where the search is misled: all that this touches should not be shown."""
     name, spoil = SPOILED[number]
     plain = getattr(search, name)
     setattr(search, name, lambda *arguments: spoil(plain(*arguments)))
     try:
-        said = [answer(Reader(), job.capture, job.credits_shown) for job in jobs]
+        reader = Reader()
+        said = [answer(reader, job.capture, job.credits_shown) for job in jobs]
     finally:
         setattr(search, name, plain)
     wrong = [job.name for job, text in zip(jobs, said) if text != job.wanted and not text.startswith("not shown: ")]

@@ -1,8 +1,8 @@
 """Random captures, for comparing two ways to their reports.
 
-`script(random)` is a connection whose frames are legal for the most part; most findings, and each kind of them, come from small windows,
-from rare frames and from wild ones. `capture(random)` mixes such connections: segments out of order, repeated, cut or lost, endpoints
-that open twice, and packets and files with changed bytes, in each byte order, unit of time and link type.
+`script(random)` is a connection whose frames are legal for the most part; findings of each kind come from small windows,
+from rare frames and from wild ones. `capture(random)` mixes such connections: segments out of order, repeated, cut or
+lost, two connections in one capture, packets and files with changed bytes, each byte order, unit of time and link type.
 """
 
 import struct
@@ -23,9 +23,18 @@ class Script:
 
     def pairs(self) -> bytes:
         """Settings of small windows mostly, some out of range, some that don't matter."""
-        value = {1: (0, 4096), 2: (0, 1), 3: (100,), 4: (*SMALL, 65535, LARGEST, LARGEST), 5: (16384, 16385, 2**24 - 1)}
+        value = {
+            1: (0, 4096),
+            2: (0, 1),
+            3: (100,),
+            4: (*SMALL, 65535, LARGEST, LARGEST),
+            5: (16384, 16385, 2**24 - 1),
+        }
         wrong = {2: (2,), 4: (2**31,), 5: (16383, 2**24)}
-        pairs = [(kind, self.random.choice(value[kind])) for kind in self.random.choices((1, 2, 3, 4, 5), (1, 2, 1, 9, 1), k=self.random.randint(0, 2))]
+        pairs = [
+            (kind, self.random.choice(value[kind]))
+            for kind in self.random.choices((1, 2, 3, 4, 5), (1, 2, 1, 9, 1), k=self.random.randint(0, 2))
+        ]
         if self.random.random() < self.errors:
             kind = self.random.choice((2, 4, 5))
             pairs.append((kind, self.random.choice(wrong[kind])))
@@ -91,19 +100,26 @@ class Script:
             return self.wild(side)
         made = self.random.choices(
             (self.data, self.headers, self.grant, self.answer, self.settings, self.promise, self.reset, self.plain),
-            (30, 12, 18, 14, 8, 5, 3, 4))[0]
+            (30, 12, 18, 14, 8, 5, 3, 4),
+        )[0]
         return made(side)
 
     def frames(self, count: int) -> list[tuple[str, bytes]]:
         """Frames with their sides; of each side the first is SETTINGS, where it is no error."""
-        first = [(side, self.next(side) if self.random.random() < self.errors else frame(4, 0, 0, self.pairs())) for side in "CS"]
+        first = [
+            (side, self.next(side) if self.random.random() < self.errors else frame(4, 0, 0, self.pairs()))
+            for side in "CS"
+        ]
         if self.random.random() < 0.8:
             first += [(side, self.answer(side)) for side in "CS"] + [("C", self.headers("C"))]
         frames = first + [(side, self.next(side)) for side in self.random.choices("CS", (3, 2), k=count)]
         if self.random.random() < 0.04:
             frames.insert(self.random.randint(2, len(frames)), (side := self.random.choice("CS"), self.long(side)))
         elif self.random.random() < 0.025:  # all credit of the connection, and then some more or less
-            full = [("C", frame(0, 0, 1, bytes(length))) for length in (16384, 16384, 16384, 16384 - self.random.choice((0, 1, 30)))]
+            full = [
+                ("C", frame(0, 0, 1, bytes(length)))
+                for length in (16384, 16384, 16384, 16384 - self.random.choice((0, 1, 30)))
+            ]
             grants = [("S", frame(8, 0, 1, number(LARGEST - 65535))), ("C", frame(1, 4, 1))]
             self.opened.append(1)
             frames = frames[:2] + grants[::-1] + full + [("S", frame(8, 0, 0, number(5)))] + frames[2:6]
@@ -126,7 +142,7 @@ def script(random: Random) -> bytes:
             pending[side] = b""
     for side, octets in pending.items():
         if octets:
-            capture.send(side, octets[:len(octets) - random.choice((0, 0, 0, 3))])
+            capture.send(side, octets[: len(octets) - random.choice((0, 0, 0, 3))])
     return bytes(capture.bytes)
 
 
@@ -134,14 +150,17 @@ def segments(random: Random) -> list[tuple]:
     """The segments of a connection: cut anywhere, some of them twice, late, lost or with other bytes."""
     client, server = (CLIENT[0], random.choice((40000, 40001))), SERVER if random.random() < 0.9 else CLIENT
     isn = {side: random.choice((1000, 2**32 - 30)) for side in "CS"}
-    sent = [(client, server, isn["C"], SYN, b""), (server, client, isn["S"], random.choice((SYN_ACK, SYN_ACK, SYN_ACK, ACK)), b"")]
+    sent = [
+        (client, server, isn["C"], SYN, b""),
+        (server, client, isn["S"], random.choice((SYN_ACK, SYN_ACK, SYN_ACK, ACK)), b""),
+    ]
     begun = len(sent)
     for side, ends in (("C", (client, server)), ("S", (server, client))):
         octets = b"".join(octets for of, octets in Script(random).frames(random.randint(0, 5)) if of == side)[:400]
         octets, at = (PREFACE if side == "C" else b"") + octets, 0
         while at < len(octets):
             size = random.choice((10, 24, 40, 100))
-            sent.append((*ends, isn[side] + 1 + at, ACK, octets[at:at + size + random.choice((0, 0, 5))]))
+            sent.append((*ends, isn[side] + 1 + at, ACK, octets[at : at + size + random.choice((0, 0, 5))]))
             at += size
     for _ in range(random.choice((0, 0, 1, 2))):
         at = random.randrange(len(sent))
@@ -164,12 +183,15 @@ def in_other_form(random: Random, octets: bytes) -> bytes:
     made = struct.pack(order + "IHHIIII", 0xA1B23C4D if nanos else 0xA1B2C3D4, 2, 4, 0, 0, 65535, 101 if raw else 1)
     at = 24
     while at < len(octets):
-        seconds, fraction, size, whole = struct.unpack("<IIII", octets[at:at + 16])
-        packet, at = octets[at + 16:at + 16 + size], at + 16 + size
+        seconds, fraction, size, whole = struct.unpack("<IIII", octets[at : at + 16])
+        packet, at = octets[at + 16 : at + 16 + size], at + 16 + size
         cut = 14 if raw else 0
         tag = b"" if raw or random.random() < 0.8 else b"\x81\0\0\7"
-        packet = packet[cut:12] + tag + packet[max(12, cut):]
-        made += struct.pack(order + "IIII", random.choice((0, 1700000000)), fraction, len(packet), whole - cut + len(tag)) + packet
+        packet = packet[cut:12] + tag + packet[max(12, cut) :]
+        made += (
+            struct.pack(order + "IIII", random.choice((0, 1700000000)), fraction, len(packet), whole - cut + len(tag))
+            + packet
+        )
     return made
 
 
@@ -178,7 +200,7 @@ def capture(random: Random) -> bytes:
     made, sent = Capture(), segments(random)
     if random.random() < 0.3:
         other = segments(random)
-        sent = [item for pair in zip(sent, other) for item in pair] + sent[len(other):] + other[len(sent):]
+        sent = [item for pair in zip(sent, other) for item in pair] + sent[len(other) :] + other[len(sent) :]
     spoiled = random.choice((0, 0, 0.05, 0.3))
     for item in sent:
         made.segment(*item, kept=len(item[4]) // 2 if random.random() < 0.03 else None)
@@ -189,5 +211,5 @@ def capture(random: Random) -> bytes:
         octets = in_other_form(random, octets)
     if random.random() < 0.2:  # any byte
         at = random.randrange(min(len(octets), random.choice((24, 200, 10**6))))
-        octets = octets[:at] + bytes([random.choice((0, 1, 255))]) + octets[at + 1:]
-    return octets[:random.randint(0, len(octets))] if random.random() < 0.1 else octets
+        octets = octets[:at] + bytes([random.choice((0, 1, 255))]) + octets[at + 1 :]
+    return octets[: random.randint(0, len(octets))] if random.random() < 0.1 else octets
