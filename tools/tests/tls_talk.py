@@ -8,6 +8,7 @@ import datetime
 import pathlib
 import ssl
 import struct
+import subprocess
 import tempfile
 
 from cryptography import x509
@@ -33,12 +34,22 @@ def certificate(folder, kind):
     return path
 
 
+def dh_parameters(folder):
+    """Those of RFC 7919, for suites with DHE."""
+    path = pathlib.Path(folder, "dh.pem")
+    if not path.exists():
+        words = "openssl genpkey -genparam -algorithm DH -pkeyopt group:ffdhe2048 -out".split()
+        subprocess.run([*words, path], check=True, capture_output=True)
+    return path
+
+
 def contexts(certificates, key_log, version, ciphers=None):
     """Contexts of a client and of a server, which writes no key log: the client's is enough."""
     client, server = ssl.SSLContext(ssl.PROTOCOL_TLS_CLIENT), ssl.SSLContext(ssl.PROTOCOL_TLS_SERVER)
     client.check_hostname, client.verify_mode = False, ssl.CERT_NONE
     for path in certificates:
         server.load_cert_chain(path)
+    server.load_dh_params(dh_parameters(certificates[0].parent))
     for one in (client, server):
         one.minimum_version = one.maximum_version = version
         one.set_ciphers((ciphers or "ALL") + ":@SECLEVEL=0")
