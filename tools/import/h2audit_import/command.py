@@ -8,6 +8,7 @@ from typing import Iterator, NoReturn, TextIO
 
 from .errors import Refused
 from .importing import Counts, Importer, scan_for_secrets
+from .jobs import ManyProcesses
 from .key_log import Keys, read_key_log
 from .map_file import Map
 from .private_files import written
@@ -40,7 +41,9 @@ def keys_of(program: str, key_logs: list[str], files: list[str]) -> tuple[Keys, 
 
 
 def stage_of(keys: Keys, more_keys: bool, jobs: int, output: Output) -> Stage:
-    return OneProcess(keys, more_keys, output)
+    if jobs == 1:
+        return OneProcess(keys, more_keys, output)
+    return ManyProcesses(keys, more_keys, output, jobs)
 
 
 def imported(program: str, asked: Namespace, output: Output) -> Counts:

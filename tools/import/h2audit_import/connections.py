@@ -27,6 +27,9 @@ class Sink(Protocol):
 
     def emit(self, arrival: Arrival, original: int, datagram: bytes) -> None: ...
 
+    def take_turn(self, opening: int) -> None:
+        """What is emitted next is of the connection that opened at this packet, until the next segment."""
+
 
 class Context:
     """What all connections share."""

@@ -5,7 +5,7 @@ import stat
 import sys
 import tempfile
 from contextlib import contextmanager
-from typing import BinaryIO, Iterator
+from typing import IO, Iterator
 
 BUFFER = 1 << 20
 
@@ -19,7 +19,7 @@ def is_special(path: str) -> bool:
 
 
 @contextmanager
-def written(path: str) -> Iterator[BinaryIO]:
+def written(path: str) -> Iterator[IO[bytes]]:
     """A file to write. It takes its name once it is whole; before that, it goes with any error or signal."""
     if path == "-":
         yield sys.stdout.buffer
@@ -41,7 +41,7 @@ def written(path: str) -> Iterator[BinaryIO]:
 
 
 @contextmanager
-def nameless() -> Iterator[tuple[BinaryIO, str]]:
+def nameless() -> Iterator[tuple[IO[bytes], str]]:
     """A temporary file without a name, which goes with the process however that ends, and a path to open it by."""
     with tempfile.TemporaryFile(buffering=BUFFER, prefix="h2audit-") as file:
         yield file, f"/proc/{os.getpid()}/fd/{file.fileno()}"

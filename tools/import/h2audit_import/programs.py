@@ -5,8 +5,8 @@ import os
 import signal
 import sys
 import time
-from typing import Callable, Iterator, NoReturn
 from contextlib import contextmanager
+from typing import Callable, Iterator, NoReturn
 
 from . import VERSION
 from .errors import Interrupted, Refused

@@ -50,6 +50,7 @@ class Table:
         """Goes on with what waited for keys, in the order of openings."""
         for connection in self.open.values():
             if connection.tls and connection.tls.handshake.waits_for_key:
+                self.context.sink.take_turn(connection.opening)
                 connection.tls.advance()
 
     def finish(self, connection: Connection) -> None:
@@ -58,6 +59,7 @@ class Table:
 
     def finish_all(self) -> None:
         for connection in list(self.open.values()):
+            self.context.sink.take_turn(connection.opening)
             self.finish(connection)
 
     @property
