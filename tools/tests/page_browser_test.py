@@ -381,7 +381,7 @@ class Large(InBrowser):
 
 def write_pictures():
     browser = Browser()
-    browser.command("Emulation.setDeviceMetricsOverride", width=1100, height=1060, deviceScaleFactor=1, mobile=False)
+    browser.command("Emulation.setDeviceMetricsOverride", width=1100, height=1170, deviceScaleFactor=1, mobile=False)
     with tempfile.TemporaryDirectory() as folder:
         path = pathlib.Path(folder, "page.html")
         subprocess.run([PROGRAM, EXAMPLES / f"{PICTURED}.frames.report", "-o", path, "--title", TITLE], check=True)
