@@ -32,7 +32,7 @@ def audited(audit: Audit) -> list[str]:
     faults = sum(len(one.faults) for one in connections)
     broken = sum(1 for one in connections if one.faults)
     stalls = sum(len(one.stalls) for one in connections)
-    said = [f"The capture has {count(capture.records, 'record')}, {capture.segments:,} of them TCP segments over IPv4.",
+    said = [f"The capture has {count(capture.records, 'record')}, {capture.segments:,} of them TCP segments.",
             f"{count(len(connections), 'connection was', 'connections were')} opened in it; HTTP/2 was spoken in "
             f"{len(http2):,}, with {count(frames, 'frame')}."]
     if not http2:
@@ -52,7 +52,7 @@ def doubts(audit: Audit) -> list[str]:
         (capture.snapped, f"{count(capture.snapped, 'segment')} kept fewer bytes than the packet had (snapped)."),
         (capture.refused, f"{count(capture.refused, 'packet')} could not be read (refused)."),
         (capture.fragments, f"{count(capture.fragments, 'IP fragment')} were passed over."),
-        (capture.not_ipv4, f"{count(capture.not_ipv4, 'packet')} of other networks than IPv4 were passed over."),
+        (capture.not_ipv4, f"{count(capture.not_ipv4, 'packet')} of other network protocols were passed over."),
         (audit.unopened, f"{count(audit.unopened, 'pair')} of endpoints had {count(audit.unopened_segments, 'segment')} "
                          "of connections that began before the capture, which are not audited."),
         (audit.cut, f"The capture ends within record {audit.cut}."),
@@ -113,7 +113,7 @@ def whom_to_ask(connection: Connection, stall: Note) -> str:
 def verdict(one: Connection) -> str:
     """How the audit of a connection ended."""
     if one.opening.form != "http2":
-        return FORMS.get(one.opening.form, one.opening.form)
+        return FORMS.get(one.opening.form, f"not audited: {one.opening.form.removeprefix('refused ')}")
     said = [count(len(one.faults), "fault") if one.faults else "no fault"]
     if one.stalls:
         said.append(count(len(one.stalls), "stall"))

@@ -120,6 +120,8 @@ class Examples(unittest.TestCase):
     def test_nothing_audited(self):
         text = page_of(HEAD + "connection 1 client 1.2.3.4:5 server 1.2.3.4:6 record 1 not-http2\n" + BOTH_FLOWS)
         self.assertIn("Nothing was audited", text)
+        text = page_of(HEAD + "connection 1 client [::1]:5 server [::1]:6 record 1 refused no-key\n")
+        self.assertIn("Verdict: not audited: no-key.", text)
 
     def test_doubts(self):
         text = page_of(HEAD.replace("snapped 0", "snapped 3") + "record 9 cut\nunopened 1.2.3.4:5 1.2.3.4:6 segments 2\n"

@@ -131,9 +131,12 @@ class Lines(unittest.TestCase):
         self.assertEqual(found, [tuple(line) for line in read if isinstance(line, lines.Stall)])
         self.assertFalse([note for note in begins if "stall" not in sentence(note)])
 
-    def test_ipv6(self):
-        line = b"connection 1 client [2001:db8::1]:40000 server [2001:db8::2]:443 record 1 http2 frames 2"
-        self.assertEqual(lines.read_line(line.decode()).client, "[2001:db8::1]:40000")
+    def test_reports_of_imports(self):
+        """Addresses of IPv6, and connections that were not decrypted."""
+        line = "connection 1 client [2001:db8::1]:40000 server [2001:db8::2]:443 record 1 "
+        self.assertEqual(lines.read_line(line + "http2 frames 2").client, "[2001:db8::1]:40000")
+        for reason in ("refused no-key", "refused cipher-suite 0x1302"):
+            self.assertEqual(lines.read_line(line + reason).form, reason)
 
     def refuses(self, text, why):
         with self.assertRaisesRegex(lines.Refused, why):
