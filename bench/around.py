@@ -1,9 +1,10 @@
 #!/usr/bin/python3
 """Measures h2audit-page and h2audit-comment: around.py PROGRAM
 
-For captures of 40 and of 160 MB, prints the time and the peak of memory of h2audit-comment, and of editcap with one comment beside it,
-which both write pcapng. Then, for captures of some shapes, whose reports of PROGRAM with --frames have about a million lines, the same
-of h2audit-page, the size of its page, and the least of five times until Chromium shows its charts.
+For captures of 40 and of 160 MB, prints the time and the peak of memory of h2audit-comment, and of editcap with one
+comment beside it, which both write pcapng. Then, for captures of some shapes, whose reports of PROGRAM with --frames
+have about a million lines, the same of h2audit-page, the size of its page, and the least of five times until Chromium
+shows its charts.
 """
 import os
 import pathlib
@@ -23,7 +24,7 @@ from browser import Browser
 PAGES = (("chatty", 10), ("small", 42), ("streams", 85), ("connections", 230), ("calls", 260))
 CAPTURES = (("bulk", 40), ("bulk", 160), ("small", 40), ("small", 160))
 OPENINGS = 5
-# A report of 400 windows with 48,000 stalls, written by a process of its own: its memory would count as that of what it starts.
+# A report of 400 windows with 48,000 stalls, written by a process of its own: what it takes would count for the next.
 STALLS = "import sys; from page_test import large; sys.stdout.write(large(400, 2400, 20))"
 
 
@@ -47,8 +48,11 @@ def measure_page(browser, shape, report):
     with open(report, "rb") as file:
         lines = sum(1 for _ in file)
     opened = min(browser.load(page) for _ in range(OPENINGS))
-    print(f"{shape:12} {lines:9,} lines {wall:6.1f} s {cpu:6.1f} s of processor {peak:6.0f} MB, page "
-          f"{os.path.getsize(page) / 1e6:.2f} MB, opened in {opened:.2f} s", flush=True)
+    print(
+        f"{shape:12} {lines:9,} lines {wall:6.1f} s {cpu:6.1f} s of processor {peak:6.0f} MB, page "
+        f"{os.path.getsize(page) / 1e6:.2f} MB, opened in {opened:.2f} s",
+        flush=True,
+    )
 
 
 def measure_comment(shape, capture, report):
@@ -56,8 +60,11 @@ def measure_comment(shape, capture, report):
     comment = [str(TOP / "tools" / "h2audit-comment"), "-", str(report), "-o", out]
     for name, words in (("h2audit-comment", comment), ("editcap -a", ["editcap", "-a", "1:one", "-", out])):
         wall, cpu, peak = once(words, capture)
-        print(f"{shape:12} {os.path.getsize(capture) / 1e6:6.0f} MB, {name:15} {wall:6.2f} s {cpu:6.2f} s of processor {peak:6.0f} MB",
-              flush=True)
+        print(
+            f"{shape:12} {os.path.getsize(capture) / 1e6:6.0f} MB, {name:15} "
+            f"{wall:6.2f} s {cpu:6.2f} s of processor {peak:6.0f} MB",
+            flush=True,
+        )
 
 
 def main():
