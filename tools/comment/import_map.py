@@ -22,6 +22,7 @@ LONGEST_LINE = 65536
 @dataclass
 class ImportMap:
     """The files, and of the records that were asked for, (file, packet)."""
+
     files: dict[int, bytes] = field(default_factory=dict)
     records: dict[int, tuple[int, int]] = field(default_factory=dict)
 

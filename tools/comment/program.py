@@ -40,8 +40,12 @@ def arguments(words: list[str]) -> argparse.Namespace:
     parser.add_argument("capture", metavar="CAPTURE", help="pcap or pcapng, also packed by gzip; - is standard input")
     parser.add_argument("report", metavar="REPORT", help="what h2audit says of it; - is standard input")
     parser.add_argument("-o", "--output", required=True, metavar="FILE", help="the new capture; - is standard output")
-    parser.add_argument("-m", "--map", metavar="MAP",
-                        help="of the import that made the audited capture from CAPTURE: comments go to CAPTURE's packets")
+    parser.add_argument(
+        "-m",
+        "--map",
+        metavar="MAP",
+        help="of the import that made the audited capture from CAPTURE: comments go to CAPTURE's packets",
+    )
     parser.add_argument("--credit", action="store_true", help="comment the credit lines too")
     asked = parser.parse_args(words)
     if [asked.capture, asked.report, asked.map].count("-") > 1:

@@ -29,7 +29,9 @@ def arguments(words: list[str]) -> argparse.Namespace:
     parser = Words(prog=NAME, description=__doc__, formatter_class=argparse.RawDescriptionHelpFormatter)
     parser.add_argument("report", metavar="REPORT", help="with credit lines for charts; - is standard input")
     parser.add_argument("-o", "--output", required=True, metavar="FILE", help="the page; - is standard output")
-    parser.add_argument("-t", "--title", metavar="TITLE", help="the heading of the page; without it the name of the report")
+    parser.add_argument(
+        "-t", "--title", metavar="TITLE", help="the heading of the page; without it the name of the report"
+    )
     return parser.parse_args(words)
 
 

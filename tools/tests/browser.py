@@ -8,8 +8,17 @@ from selenium import webdriver
 from selenium.webdriver.chrome.options import Options
 from selenium.webdriver.chrome.service import Service
 
-WORDS = ["--headless=new", "--window-size=1200,1000", "--disable-gpu", "--disable-dev-shm-usage", "--hide-scrollbars",
-         "--force-device-scale-factor=1", "--force-color-profile=srgb", "--no-first-run", "--disable-background-networking"]
+WORDS = [
+    "--headless=new",
+    "--window-size=1200,1000",
+    "--disable-gpu",
+    "--disable-dev-shm-usage",
+    "--hide-scrollbars",
+    "--force-device-scale-factor=1",
+    "--force-color-profile=srgb",
+    "--no-first-run",
+    "--disable-background-networking",
+]
 PATIENCE = 30
 
 
@@ -31,7 +40,9 @@ class Browser:
         return self.driver.execute_cdp_cmd(name, words)
 
     def scheme(self, name, media=""):
-        self.command("Emulation.setEmulatedMedia", media=media, features=[{"name": "prefers-color-scheme", "value": name}])
+        self.command(
+            "Emulation.setEmulatedMedia", media=media, features=[{"name": "prefers-color-scheme", "value": name}]
+        )
 
     def scripts(self, are_on):
         self.command("Emulation.setScriptExecutionDisabled", value=not are_on)
@@ -62,4 +73,6 @@ class Browser:
     def requests(self):
         """What was asked for since the last time, but for the pages themselves."""
         entries = [json.loads(entry["message"])["message"] for entry in self.driver.get_log("performance")]
-        return [entry["params"]["request"]["url"] for entry in entries if entry["method"] == "Network.requestWillBeSent"]
+        return [
+            entry["params"]["request"]["url"] for entry in entries if entry["method"] == "Network.requestWillBeSent"
+        ]
