@@ -77,7 +77,6 @@ WORDS: dict[str, Callable[..., Value]] = {
     "◌≤◌": lambda a, b: a <= b,
     "nat_lt": lambda a, b: a < b,
     "nat_le": lambda a, b: a <= b,
-    "nat_eq": lambda a, b: a == b,
     "◌==◌": lambda a, b: a == b,
     "bit_and": lambda a, b: a & b,
     "bit_at": lambda a, i: a // 2**i % 2,  # bit i, from the lowest, which is 0
@@ -95,7 +94,6 @@ WORDS: dict[str, Callable[..., Value]] = {
     "true": lambda: True,
     "false": lambda: False,
     "not": lambda a: not a,
-    "cond": lambda a, b, c: b if a else c,
     # orders
     "nat_cmp": compared,
     "int_cmp": compared,
@@ -103,8 +101,6 @@ WORDS: dict[str, Callable[..., Value]] = {
     "then_cmp": lambda r, s, x, y: after_equal(apply(r, x, y), apply(s, x, y)),  # by r, then by s
     "on": lambda f, r, x, y: apply(r, apply(f, x), apply(f, y)),  # r of what f makes of both
     "is_gt": lambda a: a == GREATER,
-    "is_lt": lambda a: a == LESS,
-    "is_eq": lambda a: a == EQUAL,
     # lists
     "[]": lambda: (),
     "◌∷◌": lambda x, xs: (x, *known(xs)),  # one element and then the others
@@ -112,18 +108,15 @@ WORDS: dict[str, Callable[..., Value]] = {
     "length": len,
     "concat": lambda xs: tuple([y for x in xs for y in known(x)]),
     "map": lambda f, xs: tuple([apply(f, x) for x in xs]),
-    "flat_map": lambda f, xs: tuple([y for x in xs for y in apply(f, x)]),
+    "flat_map": lambda f, xs: tuple([y for x in xs for y in known(apply(f, x))]),
     "filter_map": lambda f, xs: tuple([y for x in xs for y in known(apply(f, x)).parts]),  # the values that f gives
     "filter": lambda p, xs: tuple([x for x in xs if apply(p, x)]),
     "find": lambda p, xs: next((some(x) for x in xs if apply(p, x)), NONE),  # the first that passes
     "list_any": lambda p, xs: any(apply(p, x) for x in xs),
-    "list_all": lambda p, xs: all(apply(p, x) for x in xs),
     "count_by": lambda p, xs: len([x for x in xs if apply(p, x)]),
     "sum_by": lambda f, xs: sum(apply(f, x) for x in xs),
     "fold": folded,  # f over the items, from a
     "enumerate_from": lambda n, xs: tuple([{"0": at, "1": x} for at, x in enumerate(xs, n)]),  # with numbers from n on
-    "reverse": lambda xs: xs[::-1],
-    "replicate": lambda n, x: (x,) * n,
     "take": lambda n, xs: xs[:n],
     "drop": lambda n, xs: xs[n:],
     "slice_range": lambda xs, a, b: xs[a:b] if a < b else (),  # from a up to b
@@ -149,7 +142,6 @@ WORDS: dict[str, Callable[..., Value]] = {
     "IsTrue": lambda a: a,
     "IsFalse": lambda a: not a,
     "IsSome": lambda o: o != NONE,
-    "IsNone": lambda o: o == NONE,
     "IsSomeAnd": lambda o, claim: option(o, False, lambda x: apply(claim, x)),  # there is a value, and it holds of that
     "IfSome": lambda o, claim: option(o, True, lambda x: apply(claim, x)),  # it holds of a value, if there is one
     "ForSome": lambda o, claim: option(o, True, lambda x: apply(claim, x)),
@@ -157,7 +149,7 @@ WORDS: dict[str, Callable[..., Value]] = {
     "AllZip": lambda claim, xs, ys: len(xs) == len(ys) and least(map(partial(apply, claim), xs, ys)),  # at each place
 }
 LAZY = ("◌∷◌", "◌++◌")  # these take what is not known yet
-LOOPS = {"map", "flat_map", "filter_map", "filter", "find", "list_any", "list_all", "count_by", "sum_by", "fold"}
+LOOPS = {"map", "flat_map", "filter_map", "filter", "find", "list_any", "count_by", "sum_by", "fold"}
 
 
 def strict(run: Callable[..., Value], arity: int) -> Callable[..., Value]:

@@ -1,11 +1,13 @@
 #!/usr/bin/python3
 """Computes reports from the definitions (tools/by-definition), and compares them with known ones and with the program's.
 
-    tools/tests/definitions_test.py [--seed N] [PROGRAM]
+    tools/tests/definitions_test.py                     known reports
+    tools/tests/definitions_test.py [--seed N] PROGRAM  the program's
 
-The captures are those of examples/ up to 4,000 bytes, each row of tests/reports, and with PROGRAM 300 random captures and
-1,000 random connections, in which all 27 kinds of findings occur; the seed is printed. Then ten definitions are changed,
-one in each layer, and the search for witnesses is misled: each time a report has to be another one, or not shown.
+The known ones are those of examples/ up to 4,000 bytes and of each row of tests/reports. Then ten definitions are changed,
+one in each layer, and the search for witnesses is misled: each time a report has to be another one, or not shown. The
+program is asked for those of 300 random captures and 1,000 random connections, in which all 27 kinds of findings occur;
+the seed is printed.
 """
 
 import argparse
@@ -192,24 +194,34 @@ def misled(number: int, jobs: list[Job]) -> str:
     return ""
 
 
+def as_known() -> bool:
+    """Whether reports are those that are known, and changes and wrong witnesses are seen."""
+    known = [*examples(), *rows()]
+    wrong, _ = compared(known, None)
+    small = [job for job in known if len(job.capture) <= 1300]
+    faults = in_parallel(changed, CHANGES, small) + in_parallel(misled, range(len(SPOILED)), small[::4])
+    print("".join(faults), end="")
+    print(f"{len(CHANGES)} changed definitions, {len(SPOILED)} wrong witnesses: {sum(map(bool, faults))} not seen")
+    return not wrong and not any(faults)
+
+
+def as_program(program: str, seed: int) -> bool:
+    """Whether reports of random captures are the program's."""
+    print(f"seed {seed}")
+    wrong, text = compared(list(randoms(seed)), program)
+    kinds = set(re.findall(r"^frame .* (?:client|server) (\S+) stream", text, re.M))
+    print(f"{len(kinds)} of {KINDS} kinds of findings occur")
+    return not wrong and len(kinds) == KINDS
+
+
 def main() -> int:
     parser = argparse.ArgumentParser(description=__doc__, formatter_class=argparse.RawDescriptionHelpFormatter)
     parser.add_argument("--seed", type=int, default=1)
     parser.add_argument("program", nargs="?")
     options = parser.parse_args()
-    known = [*examples(), *rows()]
-    wrong, _ = compared(known, None)
     if options.program:
-        print(f"seed {options.seed}")
-        more, text = compared(list(randoms(options.seed)), str(pathlib.Path(options.program).resolve()))
-        kinds = set(re.findall(r"^frame .* (?:client|server) (\S+) stream", text, re.M))
-        wrong += more + (len(kinds) != KINDS)
-        print(f"{len(kinds)} of {KINDS} kinds of findings occur")
-    small = [job for job in known if len(job.capture) <= 1300]
-    faults = in_parallel(changed, CHANGES, small) + in_parallel(misled, range(len(SPOILED)), small[::4])
-    print("".join(faults), end="")
-    print(f"{len(CHANGES)} changed definitions, {len(SPOILED)} wrong witnesses: {sum(map(bool, faults))} not seen")
-    return 1 if wrong or any(faults) else 0
+        return not as_program(str(pathlib.Path(options.program).resolve()), options.seed)
+    return not as_known()
 
 
 if __name__ == "__main__":

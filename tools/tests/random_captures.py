@@ -113,9 +113,9 @@ class Script:
         if self.random.random() < 0.8:
             first += [(side, self.answer(side)) for side in "CS"] + [("C", self.headers("C"))]
         frames = first + [(side, self.next(side)) for side in self.random.choices("CS", (3, 2), k=count)]
-        if self.random.random() < 0.04:
+        if self.random.random() < 0.03:
             frames.insert(self.random.randint(2, len(frames)), (side := self.random.choice("CS"), self.long(side)))
-        elif self.random.random() < 0.025:  # all credit of the connection, and then some more or less
+        elif self.random.random() < 0.015:  # all credit of the connection, and then some more or less
             full = [
                 ("C", frame(0, 0, 1, bytes(length)))
                 for length in (16384, 16384, 16384, 16384 - self.random.choice((0, 1, 30)))
@@ -135,7 +135,7 @@ def script(random: Random) -> bytes:
     """A connection, with one or some frames of a side in a segment."""
     capture, pending = Capture(), {"C": PREFACE, "S": b""}
     opened(random, capture)
-    for side, octets in Script(random).frames(random.randint(2, 14)):
+    for side, octets in Script(random).frames(random.randint(2, 10)):
         pending[side] += octets
         if random.random() < 0.7:
             capture.send(side, pending[side])

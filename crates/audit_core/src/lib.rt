@@ -29,7 +29,7 @@ mod tables;
 pub mod worked_examples;
 
 pub use audit_terms::{
-    Body, Change, Finding, Frame, Item, Kind, Length, PackedSettings, Place, Settings, Side, Sides, Step,
-    Stream,
+    Body, Change, Finding, Frame, Item, Kind, Length, PackedSettings, Place, Settings, Side, Sides,
+    Step, Stream,
 };
 pub use passes::one_pass;

@@ -56,7 +56,11 @@ pub packed_fields : (settings : Settings) {bad push initial max_frame : ℕ} {pu
     → push-word ≡ unwrap_or settings.push 0 → initial-word ≡ unwrap_or settings.initial 0
     → max_frame-word ≡ unwrap_or settings.max_frame 0
     → (let made : Inside = record {
-      marks = ((bad * 2 + max_frame) * 2 + initial) * 2 + push; push = push-word; initial = initial-word; max_frame = max_frame-word } in
+      marks = ((bad * 2 + max_frame) * 2 + initial) * 2 + push;
+      push = push-word;
+      initial = initial-word;
+      max_frame = max_frame-word;
+    } in
     made ≡ packed settings)
 packed_fields settings b m i p pw iw mw = fields (rw (b, m, i, p) refl) pw iw mw
 

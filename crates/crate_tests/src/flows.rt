@@ -11,7 +11,10 @@ use std::alloc::Global;
 use std::random::RandomSource;
 use std::thread::Threads;
 
-pub fn answers(rt: &(impl Sync + Threads + RandomSource), alloc: Global) -> [(&'static str, Answer); 3] {
+pub fn answers(
+    rt: &(impl Sync + Threads + RandomSource),
+    alloc: Global,
+) -> [(&'static str, Answer); 3] {
     [
         ("overlaps_and_gap", overlaps_and_gap(rt, alloc)),
         ("random_segments", random_segments(rt, alloc)),

@@ -116,14 +116,7 @@ fn find_each(
         frames.push(frames_in(&cut.made.cut))?;
     }
     let credits_shown = options.frames_shown();
-    let found = findings_of_each(
-        rt,
-        alloc,
-        division,
-        gate,
-        credits_shown,
-        frames.as_slice(),
-    )?;
+    let found = findings_of_each(rt, alloc, division, gate, credits_shown, frames.as_slice())?;
     Ok(found)
 }
 

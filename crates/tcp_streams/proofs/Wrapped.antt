@@ -88,9 +88,9 @@ ArrivesAt o = IsSomeAnd (arrival_at arrived o) (λ (a : Arrival). IsArrivalOf a 
 flow-is : IsFlow letters (brought opened) (codes "abcdEF") arrived None
 flow-is = record {
   run = record {
-      within = omega arith;
-      covered = below_six (λ o. IsSome (brought opened o)) refl refl refl refl refl refl;
-      longest = λ _. refl;
+    within = omega arith;
+    covered = below_six (λ o. IsSome (brought opened o)) refl refl refl refl refl refl;
+    longest = λ _. refl;
   };
   bytes_are = below_six AreBytesAt refl refl refl refl refl refl;
   rises = (lit< tt, lit< tt, refl);

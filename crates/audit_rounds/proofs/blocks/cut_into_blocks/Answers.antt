@@ -1,6 +1,7 @@
 use Rattle.std.proofs.Common.{◌≡◌, ◌+◌, ◌-◌, length, take, sym, ap, ◌∙◌, subst}
 use Rattle.std.proofs.lemmas.List.{length_push}
-use Rattle.audit_rounds.specs.code.Blocks.{AreCut, wholes}
+use Rattle.conn_scan.specs.declared.block_items.Block.{Block}
+use Rattle.audit_rounds.specs.code.Blocks.{AddsBlocks, AreCut, wholes}
 use Rattle.audit_rounds.proofs.Layouts.{cut-next}
 use Rattle.audit_rounds.proofs.blocks.cut_into_blocks.Goals as goal
 
@@ -19,8 +20,9 @@ loop-connection-preserved c =
     record {
       number = ap length c.in_ok-push.ensures.items ∙ length_push counts _ ∙ ap (λ n. n + 1) i.number;
       cut = subst (λ counts. AreCut 0 (take (at + 1) (wholes all)) counts new) (sym c.in_ok-push.ensures.items)
-          (cut-next all at _ counts old new c.len.result (c.len-in-loop-connection.result - c.len-before.result)
-          c.loop-connection-test.true (c.len.ensures ∙ c.loop-connection.counts.ok.0) i.cut adds
+          (cut-next all at c.connection-item.result counts old new c.len.result (c.len-in-loop-connection.result - c.len-before.result)
+          c.loop-connection-test.true (c.len.ensures ∙ c.loop-connection.counts.ok.0) i.cut
+          (subst (λ (one : Block). AddsBlocks c.len.result one old new) c.connection-item.is adds)
           (λ k. after k - before k));
       short = adds.short i.short;
     }

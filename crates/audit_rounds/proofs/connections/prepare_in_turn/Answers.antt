@@ -3,6 +3,7 @@ use Rattle.std.proofs.lemmas.List.{take_all}
 use Rattle.std.proofs.lemmas.List.Elements.{All-push}
 use Rattle.audit_terms.specs.declared.findings.Finding.{Finding}
 use Rattle.audit_terms.specs.declared.frames.Frame.{Frame}
+use Rattle.audit_terms.specs.runs.Orderly.{IsOrderly}
 use Rattle.audit_rounds.specs.declared.prepared.Prepared.{Prepared}
 use Rattle.audit_rounds.specs.code.Prepared.{IsPrepared, found_before}
 use Rattle.audit_rounds.proofs.Fronts.{ready-more, before-more}
@@ -18,7 +19,8 @@ loop-frames-preserved g c =
     let more = c.in_ok-push.ensures.prepared in
     record {
       within = omega (arith, within);
-      frames = rw more (ready-more made ready c.args.connections.now at.frames-index _ within c.in_ok-ready.ensures.frames
+      frames = rw more (ready-more made ready c.args.connections.now at.frames-index c.frames-item.result within
+          (c.in_ok-ready.ensures.frames ∙ ap (λ (frames : Bor (List Frame)). frames.now) c.frames-item.is)
           at.invariant.frames);
       prepared = subst (All IsPrepared) (sym more)
           (All-push IsPrepared made ready at.invariant.prepared c.in_ok-ready.ensures.prepared);
@@ -40,7 +42,8 @@ loop-frames-init g c =
 pub prepare-requires : goal.prepare-requires
 prepare-requires g c = (
   c.type_bounds.sync-R,
-  (c.requires.workers, c.requires.frames c.loop-frames.frames-index _ c.loop-frames-test.true),
+  (c.requires.workers, subst (λ (frames : Bor (List Frame)). IsOrderly frames.now) (sym c.frames-item.is)
+      (c.requires.frames c.loop-frames.frames-index c.frames-item.result c.loop-frames-test.true)),
 )
 
 pub returns : goal.returns

@@ -1,0 +1,6 @@
+pub mod Buffer
+pub mod Given
+pub mod Growth
+pub mod Segments
+pub mod Standing
+pub mod Turns

@@ -1,0 +1,12 @@
+/// Why a capture was not split to its end.
+#[derive(Clone, Copy)]
+pub enum SplitFault {
+    /// A file that is not the last ends within a record.
+    CutRecord,
+    /// A read failed.
+    Read,
+    /// A write failed.
+    Write,
+    /// More than 2^64 records, or as many reads.
+    TooLong,
+}

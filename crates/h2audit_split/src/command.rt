@@ -1,0 +1,106 @@
+//! The command line of the program.
+
+ghost use Rattle.std.specs.Prelude.{◌<◌};
+
+use crate::failure::Failure;
+use clap::error::ErrorKind;
+use clap::{Arg, ArgAction, ArgMatches, Command, Error, value_parser};
+use std::alloc::{AllocError, Global};
+
+/// The most parts: two files of each are open at a time.
+const MOST_PARTS: i64 = 500;
+
+/// The version of the program.
+const VERSION: &str = "1.0.0";
+
+const ABOUT: &str =
+    "Splits a capture of any size into captures that h2audit reads, by pairs of endpoints";
+
+/// What the words of the command line ask for.
+#[derive(Drop)]
+pub enum Asked {
+    Split(Words),
+    Text(String),
+}
+
+#[derive(Drop)]
+pub struct Words {
+    pub parts: usize,
+    pub folder: String,
+    pub files: Vec<String>,
+    pub ghost some: { 0 < parts },
+}
+
+/// Reads the words of the command line, without the program's name.
+pub fn parse_words(alloc: Global, words: &[&str]) -> Result<Asked, Failure> {
+    match matches(alloc, words) {
+        Ok(found) => Ok(Asked::Split(words_in(alloc, &found)?)),
+        Err(error) => unparsed(alloc, &error),
+    }
+}
+
+fn unparsed(alloc: Global, error: &Error) -> Result<Asked, Failure> {
+    let kind = error.kind();
+    if kind == ErrorKind::OutOfMemory {
+        return Err(Failure::OutOfMemory);
+    }
+    let text = error.to_string(alloc)?;
+    match kind {
+        ErrorKind::DisplayHelp | ErrorKind::DisplayVersion => Ok(Asked::Text(text)),
+        _ => Err(Failure::Words(text)),
+    }
+}
+
+fn words_in(alloc: Global, found: &ArgMatches<'_>) -> Result<Words, AllocError> {
+    let parts = found.get_one::<u32>("parts").unwrap_or(1);
+    let folder = String::from_str(alloc, found.get_str("output").unwrap_or(""))?;
+    let mut files = Vec::new(alloc);
+    if let Some(paths) = found.get_strs("FILE") {
+        for path in paths {
+            files.push(String::from_str(alloc, path)?)?;
+        }
+    }
+    Ok(Words {
+        parts: parts.max(1) as usize,
+        folder,
+        files,
+    })
+}
+
+fn matches<'a>(alloc: Global, words: &'a [&'a str]) -> Result<ArgMatches<'a>, Error> {
+    let command = Command::new(alloc, "h2audit-split")
+        .version(VERSION)
+        .about(ABOUT)
+        .no_binary_name(true)
+        .arg(parts_option(alloc))?
+        .arg(output_option(alloc))?
+        .arg(file_words(alloc))?;
+    command.try_get_matches_from(words)
+}
+
+fn parts_option<'a>(alloc: Global) -> Arg<'a> {
+    Arg::new(alloc, "parts")
+        .long("parts")
+        .action(ArgAction::Set)
+        .value_name("N")
+        .value_parser(value_parser!(u32).range(1..=MOST_PARTS))
+        .required(true)
+        .help("How many parts to make, from 1 to 500")
+}
+
+fn output_option<'a>(alloc: Global) -> Arg<'a> {
+    Arg::new(alloc, "output")
+        .short('o')
+        .long("output")
+        .action(ArgAction::Set)
+        .value_name("DIR")
+        .required(true)
+        .help("The folder for the parts, which must not exist")
+}
+
+fn file_words<'a>(alloc: Global) -> Arg<'a> {
+    Arg::new(alloc, "FILE")
+        .action(ArgAction::Append)
+        .num_args(0..)
+        .help("The files of the capture, in order; standard input is read without them")
+}

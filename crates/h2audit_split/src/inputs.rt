@@ -1,0 +1,94 @@
+//! The files that the program reads.
+
+ghost use Rattle.std.specs.Prelude.{◌<◌, ◌≤◌, length};
+
+use crate::failure::Failure;
+use capture_split::{Dealer, Part, SplitFault, link_type, read_header, split_file, split_last};
+use pcap_records::refusal;
+use std::alloc::Global;
+use std::fs::File;
+use std::io::{Read, Write};
+use std::rt::Files;
+
+/// A file header.
+pub type Header = [u8; 24];
+
+/// The header of a file, or why the capture that it begins is refused.
+pub fn begin<R: Read>(reader: &mut R) -> Result<Header, Failure> {
+    let mut header = [0; 24];
+    let count = read_header(reader, &mut header)?;
+    match refusal(&header[..count]) {
+        Some(fault) => Err(Failure::from(fault)),
+        None => Ok(header),
+    }
+}
+
+pub fn open<R: Files + AllocGlobal>(rt: &R, path: &str) -> Result<R::File, Failure> {
+    match File::open(rt, path) {
+        Ok(file) => Ok(file),
+        Err(_) => Err(Failure::Path("cannot open", String::from_str(rt.alloc(), path)?)),
+    }
+}
+
+/// Splits a later file of a capture that began with this header.
+pub fn split_later<R: Files + AllocGlobal, W: Write + Drop>(
+    rt: &R,
+    path: &str,
+    header: &Header,
+    is_last: bool,
+    dealer: &mut Dealer,
+    buffer: &mut [u8],
+    parts: &mut [Part<W>],
+) -> Result<(), Failure>
+    requires part { dealer.old.part < length parts.old }
+    requires buffer { 98 ≤ length buffer.old }
+    ensures { dealer.new.part < length parts.new }
+{
+    let mut file = open(rt, path)?;
+    match begin(&mut file) {
+        Ok(later) => {
+            if later[..4] != header[..4] {
+                return Err(refused(rt.alloc(), path, "another-format"));
+            }
+            if link_type(&later) != link_type(header) {
+                return Err(refused(rt.alloc(), path, "another-link-type"));
+            }
+        }
+        Err(Failure::Capture(name)) => return Err(refused(rt.alloc(), path, name)),
+        Err(failure) => return Err(failure),
+    }
+    split_named(rt, path, &mut file, is_last, dealer, buffer, parts)
+}
+
+/// Splits what stands behind the header of a file.
+pub fn split_named<R: AllocGlobal, F: Read, W: Write + Drop>(
+    rt: &R,
+    path: &str,
+    file: &mut F,
+    is_last: bool,
+    dealer: &mut Dealer,
+    buffer: &mut [u8],
+    parts: &mut [Part<W>],
+) -> Result<(), Failure>
+    requires part { dealer.old.part < length parts.old }
+    requires buffer { 98 ≤ length buffer.old }
+    ensures { dealer.new.part < length parts.new }
+{
+    let split = if is_last {
+        split_last(dealer, file, buffer, parts)
+    } else {
+        split_file(dealer, file, buffer, parts)
+    };
+    match split {
+        Ok(()) => Ok(()),
+        Err(SplitFault::CutRecord) => Err(refused(rt.alloc(), path, "cut-record")),
+        Err(fault) => Err(Failure::from(fault)),
+    }
+}
+
+fn refused(alloc: Global, path: &str, name: &'static str) -> Failure {
+    match String::from_str(alloc, path) {
+        Ok(path) => Failure::File(path, name),
+        Err(_) => Failure::OutOfMemory,
+    }
+}

@@ -1,0 +1,5 @@
+# Completions of h2audit-merge for fish.
+
+complete -c h2audit-merge -l standing -d 'Merge the parts that stand'
+complete -c h2audit-merge -s h -l help -d 'Print the usage, and nothing else'
+complete -c h2audit-merge -l version -d 'Print the version, and nothing else'
