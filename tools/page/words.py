@@ -41,7 +41,7 @@ def audited(audit: Audit) -> list[str]:
         return said + ["Nothing was audited, so nothing is said of flow control."]
     said.append(f"{count(faults, 'fault')} in {count(broken, 'connection')}." if faults else "No rule was broken.")
     said.append(
-        f"{count(stalls, 'stall')}: so often a side used up its credit and had to wait."
+        f"{count(stalls, 'stall')}: a side used up its credit and had to wait."
         if stalls
         else "No side used up its credit."
     )

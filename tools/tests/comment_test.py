@@ -1,9 +1,12 @@
 #!/usr/bin/python3
 """Tests of h2audit-comment: what tshark says of captures before and after, and by which name bad input is refused."""
 
+import contextlib
 import gzip
+import io
 import os
 import pathlib
+import random
 import re
 import struct
 import subprocess
@@ -17,6 +20,7 @@ EXAMPLES = TOP / "examples"
 sys.path[:0] = [str(TOP / "tools"), str(TOP / "tools" / "tests")]
 sys.dont_write_bytecode = True
 
+from comment.program import main
 from pcapng_blocks import (
     block,
     classic,
@@ -431,6 +435,29 @@ class BadInput(InFolder):
         self.assertEqual(capture.stat().st_mode & 0o777, 0o640)
         again = run(capture, self.data(b"no report"), "-o", capture)
         self.assertEqual((again.returncode, sorted(comments(capture))), (3, [12, 14]))
+
+    def test_damaged_files(self):
+        """Whatever bytes are changed, there is a capture or a reason, and never a traceback."""
+        records, link = records_of(self.CAPTURE)
+        blocks = b"".join([section(), interface("<", link)] + [packet("<", 0, micros(one), one) for one in records])
+        chance = random.Random(1)
+        for good in (self.CAPTURE.read_bytes(), blocks, gzip.compress(blocks), CAPTURE_REPORT.read_bytes()):
+            for _ in range(50):
+                data = bytearray(good)
+                for _ in range(chance.randrange(1, 4)):
+                    data[chance.randrange(min(len(data), 2000))] = chance.choice(
+                        (0, 1, 255, 10, 48, chance.randrange(256))
+                    )
+                is_report = good[:7] == b"capture"
+                words = (
+                    [str(self.CAPTURE), str(self.data(data))]
+                    if is_report
+                    else [str(self.data(data)), str(CAPTURE_REPORT)]
+                )
+                with contextlib.redirect_stderr(io.StringIO()) as said:
+                    status = main([*words, "-o", str(self.out)])
+                self.assertIn(status, (0, 3))
+                self.assertLessEqual(said.getvalue().count("\n"), 1)
 
     def test_closed_pipe(self):
         words = [PROGRAM, self.CAPTURE, CAPTURE_REPORT]

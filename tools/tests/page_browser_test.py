@@ -263,6 +263,8 @@ class Hands(InBrowser):
         self.changed(self.whole)
         self.assertRegex(self.said(), r"^Frame 17, .*: credit 0 bytes")
         self.assertEqual(self.browser.driver.switch_to.active_element.get_attribute("id"), "chart-0")
+        self.find('tr[data-frame="10"] td:last-child').click()
+        self.assertRegex(self.said(), r"^Frame 10, ")
         self.find('tr[data-frame="24"] a').send_keys(Keys.ENTER)
         place = self.browser.driver.switch_to.active_element
         self.assertIn("stream 3", place.text)

@@ -8,6 +8,7 @@ import html.parser
 import io
 import json
 import pathlib
+import random
 import re
 import subprocess
 import sys
@@ -254,6 +255,18 @@ class Hostile(unittest.TestCase):
                 line = f"frame {frame} record {time} time {time} client {kind} stream {stream} value {value}\n"
                 status, said = answer(opening + line)
                 self.assertIn(status, (0, 3), (line, said))
+
+    def test_damaged_reports(self):
+        """Whatever bytes are changed, there is a page or a reason, and never a traceback."""
+        good = (EXAMPLES / "stream_overrun_go.frames.report").read_bytes()
+        chance = random.Random(1)
+        for _ in range(150):
+            data = bytearray(good)
+            for _ in range(chance.randrange(1, 4)):
+                data[chance.randrange(len(data))] = chance.choice(b"0159- \nabz")
+            status, said = answer(data.decode())
+            self.assertIn(status, (0, 3))
+            self.assertLessEqual(said.count("\n"), 1)
 
     def test_frames_that_go_back(self):
         line = "frame {} record 1 time 1 client stream-credit stream 1 value 1\n"

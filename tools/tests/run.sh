@@ -86,7 +86,8 @@ try 'known reports by definition' tools/tests/definitions_test.py
 [[ ${#audits[@]} -eq 0 ]] || try 'random reports by definition' tools/tests/definitions_test.py "$built"
 try 'pictures' tools/tests/plot_test.py
 try 'lines of reports, and who is to blame' tools/tests/report_test.py
-try 'comments of packets' tools/tests/comment_test.py
+try 'comments of packets' tools/tests/comment_test.py Examples Forms
+try 'comments of packets: maps and bad input' tools/tests/comment_test.py Maps BadInput
 try 'page' tools/tests/page_test.py
 try 'page in a browser' tools/tests/page_browser_test.py
 try 'library example' tools/tests/library_example_test.py

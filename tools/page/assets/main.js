@@ -129,7 +129,7 @@ function listen() {
   field("filters").addEventListener("submit", event => event.preventDefault());
   document.addEventListener("click", event => {
     const row = event.target.closest("tr[data-frame]");
-    if (row && event.target.closest("a") && go(row)) event.preventDefault();
+    if (row && !String(getSelection()) && go(row)) event.preventDefault();
   });
   matchMedia("(prefers-color-scheme: dark)").addEventListener("change", () => drawn.forEach(chart => chart.draw()));
   addEventListener("beforeprint", () => document.querySelectorAll("figure.window").forEach((figure, number) => {
@@ -147,4 +147,6 @@ async function start() {
   document.documentElement.dataset.ready = "true";
 }
 
-start();
+start().catch(why => {
+  field("no-charts").textContent = `The charts cannot be shown in this browser: ${why.message}`;
+});
