@@ -28,15 +28,28 @@ on_root() {
     dpkg --root="$work/root" --force-not-root "$@" 2> >(grep -v 'files list file for package' >&2)
 }
 
-# The programs, their completions and the packages of Python that they share.
+# The programs beside h2audit, by what follows their names.
+beside=(-any -comment -import -page -plot)
+
+# The programs and their completions for bash.
 installed() {
-    printf './%s/bin/h2audit%s\n' "$1" '' "$1" -comment "$1" -page "$1" -plot
-    printf './%s/share/bash-completion/completions/h2audit%s\n' "$1" '' "$1" -comment "$1" -page "$1" -plot
+    printf "./$1/bin/h2audit%s\n" '' "${beside[@]}"
+    printf "./$1/share/bash-completion/completions/h2audit%s\n" '' "${beside[@]}"
 }
 
 # By the repository, and not by the Makefile: each module and asset that git knows.
 modules() {
-    git ls-files tools/report tools/comment tools/page | sed "s,^tools,./$1/share/h2audit,"
+    git ls-files tools/comment tools/import tools/page tools/report | sed "s,^tools,./$1/share/h2audit,"
+}
+
+# The completions for fish, and the man pages, with what ends their names: words FOLDER and ENDING.
+pages() {
+    printf "./$1/share/fish/vendor_completions.d/h2audit%s.fish\n" '' "${beside[@]}"
+    printf "./$1/share/man/man1/h2audit%s$2\n" '' "${beside[@]}"
+}
+
+in_order() {
+    LC_ALL=C sort
 }
 
 test_install() {
@@ -44,9 +57,9 @@ test_install() {
     same 'installed files' "$({
         installed opt/h2audit
         modules opt/h2audit
-        printf './opt/h2audit/share/%s\n' fish/vendor_completions.d/h2audit{-comment,-page,-plot,}.fish \
-            man/man1/h2audit{-comment,-page,-plot,}.1 zsh/site-functions/_h2audit
-    } | LC_ALL=C sort)" "$(files_below "$work/dest")"
+        pages opt/h2audit .1
+        echo ./opt/h2audit/share/zsh/site-functions/_h2audit
+    } | in_order)" "$(files_below "$work/dest")"
     cmp "$program" "$work/dest/opt/h2audit/bin/h2audit"
 }
 
@@ -64,10 +77,9 @@ test_package() {
     same 'files of the package' "$({
         installed usr
         modules usr
-        printf './usr/share/%s\n' doc/h2audit/{changelog.gz,copyright} \
-            fish/vendor_completions.d/h2audit{-comment,-page,-plot,}.fish \
-            man/man1/h2audit{-comment,-page,-plot,}.1.gz zsh/vendor-completions/_h2audit
-    } | LC_ALL=C sort)" "$(files_below "$work/root")"
+        pages usr .1.gz
+        printf './usr/share/%s\n' doc/h2audit/{changelog.gz,copyright} zsh/vendor-completions/_h2audit
+    } | in_order)" "$(files_below "$work/root")"
     run_installed
     on_root --purge h2audit > /dev/null
     same 'files that are left' '' "$(files_below "$work/root")"
@@ -84,6 +96,8 @@ run_installed() {
     "$work/root/usr/bin/h2audit-plot" examples/negative_window.frames.report > "$work/picture.svg"
     "$work/root/usr/bin/h2audit-comment" examples/negative_window.pcap examples/negative_window.report -o "$work/c.pcapng"
     "$work/root/usr/bin/h2audit-page" examples/negative_window.frames.report -o "$work/page.html"
+    "$work/root/usr/bin/h2audit-import" -o "$work/made.pcap" -k tests/tls/nghttp-nghttpd-13.keys tests/tls/nghttp-nghttpd-13.pcap
+    "$work/root/usr/bin/h2audit-any" examples/negative_window.pcap > /dev/null
     mandoc -Tmarkdown "$work/root/usr/share/man/man1/h2audit.1.gz" | grep '# EXIT STATUS' > /dev/null ||
         fail 'the manual of the package cannot be read'
 }

@@ -12,6 +12,8 @@ cd "$(dirname "$0")/../.."
 needed=(python3-matplotlib mandoc lintian zsh fish gawk mawk original-awk tshark binutils gcc libc6-dev)
 # Of the page and its tests.
 needed+=(libjs-dygraphs chromium chromium-driver python3-selenium)
+# Of imports and their tests.
+needed+=(python3-cryptography python3-zstandard zstd tcpdump openssl)
 built=crates/h2audit_cli/out/h2audit_cli
 work=$(mktemp -d)
 trap 'rm -r "$work"' EXIT
@@ -91,6 +93,10 @@ try 'comments of packets: maps and bad input' tools/tests/comment_test.py Maps B
 try 'page' tools/tests/page_test.py
 try 'page in a browser' tools/tests/page_browser_test.py
 try 'library example' tools/tests/library_example_test.py
+try 'captures of TLS' tools/tests/import_test.py "${audits[@]}"
+try 'forms of captures' tools/tests/import_forms_test.py
+try 'cipher suites, resumption, PSK, early data' tools/tests/import_tls_test.py "${audits[@]}"
+try 'mutated captures and key logs' tools/tests/import_mutations_test.py
 try 'install and package' tools/tests/package_test.sh "$program"
 try_built 'refused growths, threads, reads and writes' tools/tests/refusals_test.py "$built"
 try_built 'threads that are started' tools/tests/threads_test.py "$built"

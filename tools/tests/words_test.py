@@ -17,7 +17,7 @@ TOP = pathlib.Path(__file__).resolve().parents[2]
 MAN = TOP / "tools" / "man"
 COMPLETIONS = TOP / "tools" / "completions"
 HELP_OF_H2AUDIT = TOP / "tests" / "help.txt"
-OPTION = re.compile(r"(?<![\w-])(--[a-z][a-z-]*)")
+OPTION = re.compile(r"(?<![\w-])(--[a-z][a-z0-9-]*)")
 
 
 def output_of(*words, **more):
@@ -33,7 +33,7 @@ def options_of(name):
     return sorted(set(OPTION.findall(text)))
 
 
-PROGRAMS = {name: options_of(name) for name in ("h2audit", "h2audit-comment", "h2audit-page", "h2audit-plot")}
+PROGRAMS = {name: options_of(name) for name in ("h2audit", "h2audit-any", "h2audit-comment", "h2audit-import", "h2audit-page", "h2audit-plot")}
 
 
 class Version(unittest.TestCase):
@@ -54,7 +54,7 @@ class Man(unittest.TestCase):
     def test_options(self):
         for name, options in PROGRAMS.items():
             tags = re.findall(r"^\.It (Fl .*)", (MAN / f"{name}.1").read_text(), re.M)
-            named = sorted("--" + word for tag in tags for word in re.findall(r"Fl \\-([a-z-]+)", tag))
+            named = sorted("--" + word for tag in tags for word in re.findall(r"Fl \\-([a-z][a-z0-9-]*)", tag))
             self.assertEqual(named, options)
 
 
@@ -83,6 +83,9 @@ class Bash(unittest.TestCase):
         self.assertEqual(self.offered("h2audit", "--frames", "READ"), ["README.md"])
         self.assertEqual(self.offered("h2audit-comment", "--map", "READ"), ["README.md"])
         self.assertEqual(self.offered("h2audit-page", "--title", "READ"), [""])
+        self.assertEqual(self.offered("h2audit-import", "--jobs", "6"), ["6", "60", "61", "62", "63", "64"])
+        self.assertEqual(self.offered("h2audit-import", "-k", "READ"), ["README.md"])
+        self.assertEqual(self.offered("h2audit-any", "--groups", "10"), ["1024"])
 
 
 class Fish(unittest.TestCase):
@@ -103,6 +106,8 @@ class Fish(unittest.TestCase):
         self.assertEqual(self.offered("h2audit --block 104"), ["1048576"])
         self.assertEqual(sorted(self.offered("h2audit-plot --format ")), ["png", "svg"])
         self.assertIn("README.md", self.offered("h2audit READ"))
+        self.assertIn("README.md", self.offered("h2audit-any -k READ"))
+        self.assertEqual(self.offered("h2audit-import --jobs 6"), ["6", "60", "61", "62", "63", "64"])
 
 
 class Zsh(unittest.TestCase):
@@ -157,7 +162,9 @@ class Zsh(unittest.TestCase):
         """Each option is found from its beginning, and the whole list has no other."""
         for name, options in PROGRAMS.items():
             for option in options:
-                self.assertEqual(self.completed(f"{name} {option[:-1]}").rstrip("="), f"{name} {option}")
+                is_clear = sum(other.startswith(option[:-1]) for other in options) == 1
+                beginning = option[:-1] if is_clear else option
+                self.assertEqual(self.completed(f"{name} {beginning}").rstrip("="), f"{name} {option}")
             found = {self.completed(f"{name} --", tabs).rstrip("=") for tabs in range(1, len(options) + 2)}
             self.assertEqual(sorted(word.split()[1] for word in found), options)
 
@@ -167,6 +174,8 @@ class Zsh(unittest.TestCase):
         self.assertEqual(self.completed("h2audit --block=104"), "h2audit --block=1048576")
         self.assertEqual(self.completed("h2audit-plot --format=p"), "h2audit-plot --format=png")
         self.assertEqual(self.completed("h2audit READ"), "h2audit README.md")
+        self.assertEqual(self.completed("h2audit-any --groups=10"), "h2audit-any --groups=1024")
+        self.assertEqual(self.completed("h2audit-import --key-log=READ"), "h2audit-import --key-log=README.md")
 
 
 if __name__ == "__main__":

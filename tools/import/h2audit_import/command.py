@@ -8,7 +8,6 @@ from typing import Iterator, NoReturn, TextIO
 
 from .errors import Refused
 from .importing import Counts, Importer, scan_for_secrets
-from .jobs import ManyProcesses
 from .key_log import Keys, read_key_log
 from .map_file import Map
 from .private_files import written
@@ -43,6 +42,8 @@ def keys_of(program: str, key_logs: list[str], files: list[str]) -> tuple[Keys, 
 def stage_of(keys: Keys, more_keys: bool, jobs: int, output: Output) -> Stage:
     if jobs == 1:
         return OneProcess(keys, more_keys, output)
+    from .jobs import ManyProcesses  # what it needs takes time to load
+
     return ManyProcesses(keys, more_keys, output, jobs)
 
 

@@ -21,16 +21,8 @@ def items_of(source: Source) -> Iterator[ReadItem]:
     if magic == pcapng.MAGIC:
         return pcapng.read(source)
     if len(magic) == 4 and pcap.order_of(magic):
-        return known_links(pcap.read(source))
+        return pcap.read(source)
     raise Refused("bad-magic" if len(magic) == 4 else "short-header")
-
-
-def known_links(items: Iterator[ReadItem]) -> Iterator[ReadItem]:
-    """A pcap file has one link type, and is refused where that cannot be read."""
-    for item in items:
-        if isinstance(item, Packet) and item.link is not None and item.link not in READ:
-            raise Refused(f"link-type {item.link}")
-        yield item
 
 
 class Counts(NamedTuple):

@@ -20,7 +20,7 @@ from .flows import Arrival
 from .internet import Segment
 from .key_log import Keys
 from .outcomes import Outcome, Unopened
-from .programs import SIGNALS
+from .private_files import SIGNALS
 from .stages import Output
 from .table import Table
 

@@ -1,13 +1,15 @@
 """Files that hold plaintext: their owner alone may read them, and none is left behind half-written."""
 
 import os
+import signal
 import stat
 import sys
 import tempfile
-from contextlib import contextmanager
+from contextlib import contextmanager, suppress
 from typing import IO, Iterator
 
 BUFFER = 1 << 20
+SIGNALS = (signal.SIGINT, signal.SIGTERM, signal.SIGHUP)
 
 
 def is_special(path: str) -> bool:
@@ -30,14 +32,20 @@ def written(path: str) -> Iterator[IO[bytes]]:
             yield file
         return
     target = os.path.realpath(path)
-    number, temporary = tempfile.mkstemp(prefix=f".{os.path.basename(target)}.", dir=os.path.dirname(target))
+    before = signal.pthread_sigmask(signal.SIG_BLOCK, SIGNALS)
     try:
-        with open(number, "wb", buffering=BUFFER) as file:
-            yield file
-        os.replace(temporary, target)
-    except BaseException:
-        os.unlink(temporary)
-        raise
+        number, temporary = tempfile.mkstemp(prefix=f".{os.path.basename(target)}.", dir=os.path.dirname(target))
+        try:
+            signal.pthread_sigmask(signal.SIG_SETMASK, before)  # from here on a signal finds the file to remove
+            with open(number, "wb", buffering=BUFFER) as file:
+                yield file
+            os.replace(temporary, target)
+        except BaseException:
+            with suppress(FileNotFoundError):
+                os.unlink(temporary)
+            raise
+    finally:
+        signal.pthread_sigmask(signal.SIG_SETMASK, before)
 
 
 @contextmanager
