@@ -1,0 +1,50 @@
+"""h2audit-any: imports captures, audits what is made, and prints the report of the original."""
+
+import sys
+from argparse import Namespace
+from typing import NoReturn
+
+from .audit import Audit, audit_by, program_named
+from .command import imported
+from .private_files import nameless
+from .programs import NOTHING_READ, number, run, say, words_of
+from .report import Original, brought_back
+from .stages import Output
+from .writer import Writer
+
+PROGRAM = "h2audit-any"
+DESCRIPTION = """Audits the HTTP/2 flow control of captures as people have them: TLS with its key log, pcapng, IPv6, cooked
+packets, several files. Prints h2audit's report, with the packet numbers and addresses of the original."""
+
+
+def options_of(asked: Namespace) -> list[str]:
+    """The options that are h2audit's."""
+    numbers = [("--workers", asked.workers), ("--groups", asked.groups), ("--block", asked.block)]
+    words = [f"{name}={value}" for name, value in numbers if value is not None]
+    return words + ["--frames"] * asked.frames
+
+
+def audited(asked: Namespace, audit: Audit) -> int:
+    original = Original()
+    with nameless() as (file, path):
+        counts = imported(PROGRAM, asked, Output(Writer(file), original))
+        file.flush()
+        with audit(path, options_of(asked)) as report:
+            for line in brought_back(report.lines, original):
+                sys.stdout.write(line)
+    if report.status == 0 and counts.read == 0:
+        say(PROGRAM, "no connection could be read")
+        return NOTHING_READ
+    return report.status
+
+
+def main() -> NoReturn:
+    parser = words_of(PROGRAM, DESCRIPTION)
+    parser.add_argument("--workers", type=number(1, 64), metavar="N", help="h2audit's threads, 1 to 64")
+    parser.add_argument("--groups", type=number(1, 1024), metavar="N", help="h2audit's groups of streams, 1 to 1024")
+    parser.add_argument("--block", type=number(1, 1048576), metavar="N", help="frames in a block of h2audit, 1 to 1048576")
+    parser.add_argument("--frames", action="store_true", help="also show the credit of each window after each frame that changes it")
+    parser.add_argument("--h2audit", metavar="PROGRAM", help="the program that audits; without it H2AUDIT of the environment,\n"
+                        "the h2audit beside this program, or that of the path")  # fmt: skip
+    asked = parser.parse_args()
+    run(PROGRAM, lambda: audited(asked, audit_by(program_named(asked.h2audit))))

@@ -1,0 +1,124 @@
+"""What h2audit-import and h2audit-any share: words, statuses, messages, signals and progress."""
+
+import argparse
+import os
+import signal
+import sys
+import time
+from typing import Callable, Iterator, NoReturn
+from contextlib import contextmanager
+
+from . import VERSION
+from .errors import Interrupted, Refused
+
+USAGE, CAPTURE_REFUSED, IO_FAILED, NO_MEMORY, NOTHING_READ = 2, 3, 4, 5, 6
+MOST_JOBS = 64
+SIGNALS = (signal.SIGINT, signal.SIGTERM, signal.SIGHUP)
+SECONDS_BEFORE_PROGRESS, SECONDS_BETWEEN = 2.0, 0.5
+
+
+class Words(argparse.ArgumentParser):
+    """A command line of which one line says what is wrong with it."""
+
+    def error(self, message: str) -> NoReturn:
+        self.exit(USAGE, f"{self.prog}: {message}\n")
+
+
+def number(least: int, most: int) -> Callable[[str], int]:
+    """What takes a word for a whole number in this range."""
+
+    def number_of(word: str) -> int:
+        if not (word.isascii() and word.isdigit() and len(word) < 10 and least <= int(word) <= most):
+            raise argparse.ArgumentTypeError(f"'{word}' is no number from {least} to {most}")
+        return int(word)
+
+    return number_of
+
+
+def words_of(program: str, description: str) -> Words:
+    """The options that both programs have."""
+    parser = Words(prog=program, description=description, allow_abbrev=False, formatter_class=argparse.RawTextHelpFormatter)
+    parser.add_argument("files", nargs="*", default=[], metavar="FILE",
+                        help="pcap or pcapng, also in gzip or zstd; standard input without one, or as -")  # fmt: skip
+    parser.add_argument("-k", "--key-log", action="append", default=[], metavar="KEYLOG",
+                        help="secrets of TLS connections, as SSLKEYLOGFILE gets them; may stand several times")  # fmt: skip
+    parser.add_argument("-j", "--jobs", type=number(1, MOST_JOBS), default=1, metavar="N",
+                        help=f"processes that decrypt, 1 to {MOST_JOBS}; 1 without it")  # fmt: skip
+    parser.add_argument("-V", "--version", action="version", version=f"{program} {VERSION}",
+                        help="print the name and the version, and nothing else")  # fmt: skip
+    return parser
+
+
+class Progress:
+    """A line on standard error that says how far the work is, on a terminal alone and after some seconds."""
+
+    def __init__(self, program: str) -> None:
+        self.program = program
+        self.is_shown = sys.stderr.isatty()
+        self.next = time.monotonic() + SECONDS_BEFORE_PROGRESS
+        self.width = 0
+
+    def __call__(self, packets: int) -> None:
+        if self.is_shown and time.monotonic() >= self.next:
+            self.next = time.monotonic() + SECONDS_BETWEEN
+            self.show(f"{self.program}: {packets:,} packets")
+
+    def show(self, text: str) -> None:
+        sys.stderr.write("\r" + text.ljust(self.width))
+        sys.stderr.flush()
+        self.width = len(text)
+
+    def end(self) -> None:
+        if self.width:
+            sys.stderr.write("\r" + " " * self.width + "\r")
+            sys.stderr.flush()
+
+
+def interrupt(number: int, _frame: object) -> NoReturn:
+    raise Interrupted(number)
+
+
+@contextmanager
+def signals_raise() -> Iterator[None]:
+    """Signals become exceptions, so that what is half-written goes."""
+    before = {one: signal.signal(one, interrupt) for one in SIGNALS if signal.getsignal(one) is not signal.SIG_IGN}
+    try:
+        yield
+    finally:
+        for one, handler in before.items():
+            signal.signal(one, handler)
+
+
+def say(program: str, message: str) -> None:
+    print(f"{program}: {message}", file=sys.stderr)
+
+
+def run(program: str, work: Callable[[], int]) -> NoReturn:
+    """Does the work, and ends with its status, or with that of what went wrong and one line that says it."""
+    status = IO_FAILED
+    try:
+        with signals_raise():
+            status = work()
+    except Refused as why:
+        status = CAPTURE_REFUSED
+        say(program, f"capture refused: {why}")
+    except OSError as why:
+        name = why.filename.decode(errors="replace") if isinstance(why.filename, bytes) else why.filename
+        say(program, f"{name or 'input or output'}: {why.strerror}")
+    except MemoryError:
+        status = NO_MEMORY
+        say(program, "out of memory")
+    except Interrupted as why:
+        signal.signal(why.args[0], signal.SIG_DFL)
+        os.kill(os.getpid(), why.args[0])
+    leave(status)
+
+
+def leave(status: int) -> NoReturn:
+    """Ends without a second complaint where standard output is a closed pipe."""
+    try:
+        sys.stdout.flush()
+    except OSError:
+        sys.stdout = open(os.devnull, "w")
+        status = IO_FAILED
+    sys.exit(status)

@@ -1,0 +1,53 @@
+"""What makes the capture of the segments: in this process, or (in ``jobs``) in several."""
+
+from typing import Protocol
+
+from .connections import Context
+from .flows import Arrival
+from .internet import Segment
+from .key_log import Keys
+from .map_file import Map
+from .outcomes import Outcome, Unopened
+from .table import Table
+from .writer import Writer
+
+
+class Stage(Protocol):
+    """Takes segments and secrets in the order of the capture."""
+
+    def segment(self, arrival: Arrival, segment: Segment) -> None: ...
+
+    def secrets(self, packet: int, text: bytes) -> None: ...
+
+    def finish(self, packet: int) -> tuple[list[Outcome], list[Unopened]]: ...
+
+
+class Output:
+    """The capture that is made, with the records of its map."""
+
+    def __init__(self, writer: Writer, map_file: Map) -> None:
+        self.writer, self.map = writer, map_file
+
+    def emit(self, arrival: Arrival, original: int, datagram: bytes) -> None:
+        self.writer.write(arrival, original, datagram)
+        self.map.record(self.writer.count, arrival[0])
+
+
+class OneProcess:
+    """Makes the capture here."""
+
+    def __init__(self, keys: Keys, more_keys: bool, output: Output) -> None:
+        self.keys = keys
+        self.table = Table(Context(keys, more_keys, output))
+
+    def segment(self, arrival: Arrival, segment: Segment) -> None:
+        self.table.take(arrival, segment)
+
+    def secrets(self, packet: int, text: bytes) -> None:
+        if self.table.context.more_keys:
+            self.keys.add_text(text)
+            self.table.keys_came()
+
+    def finish(self, packet: int) -> tuple[list[Outcome], list[Unopened]]:
+        self.table.finish_all()
+        return self.table.outcomes, self.table.unopened

@@ -1,0 +1,169 @@
+"""Reads the plaintext of a TLS connection, from its records in the order in which they were completed.
+
+Which keys a record needs is known by what both sides said before it (RFC 8446, 2 and 4; RFC 5246, 7.3). A record whose keys
+depend on something that has not come yet waits, and with it all later plaintext, so that this keeps the order of completion.
+"""
+
+from collections import deque
+from typing import Callable, TypeAlias
+
+from . import hellos
+from .errors import Stopped
+from .flows import Arrival, Flow
+from .handshake import Handshake, Stage
+from .key_log import Keys
+from .tls_records import ALERT, APPLICATION_DATA, CHANGE_CIPHER_SPEC, HANDSHAKE, Records
+
+MOST_WAITING = 64 << 20
+Emit: TypeAlias = Callable[[int, bytes, Arrival], None]
+
+
+class Waiting:
+    """A record in its place, and its content once it is known."""
+
+    __slots__ = ("side", "arrival", "header", "body", "content")
+
+    def __init__(self, side: int, arrival: Arrival, header: bytes, body: bytes) -> None:
+        self.side, self.arrival, self.header, self.body = side, arrival, header, body
+        self.content: bytes | None = None
+
+
+class Side:
+    """One side of a TLS connection: its bytes, its records, and how far its plaintext goes."""
+
+    def __init__(self, index: int) -> None:
+        self.index = index
+        self.flow, self.records = Flow(), Records()
+        self.unread: deque[Waiting] = deque()
+        self.end: str | None = None  # why reading ended before the bytes did
+        self.end_arrival: Arrival | None = None
+
+
+class TlsConnection:
+    """Takes the segments of both sides, and emits plaintext."""
+
+    def __init__(self, keys: Keys, more_keys: bool, emit: Emit) -> None:
+        self.handshake = Handshake(keys, more_keys)
+        self.emit = emit
+        self.sides = (Side(0), Side(1))
+        self.queue: deque[Waiting] = deque()
+        self.waiting_bytes = 0
+        self.refused: str | None = None
+        self.count = 0  # records of application data that held some
+
+    def segment(self, index: int, offset: int, data: bytes, arrival: Arrival) -> None:
+        side = self.sides[index]
+        if self.refused or side.end:
+            return
+        data = side.flow.add(offset, data, arrival)
+        if not data:
+            return
+        for header, body in side.records.add(data):
+            self.record(side, arrival, header, body)
+        if side.records.is_broken:
+            self.stop(side, "not-tls", arrival)
+
+    def record(self, side: Side, arrival: Arrival, header: bytes, body: bytes) -> None:
+        if side.end or self.refused:
+            return
+        if not self.queue:
+            content = self.read(side, arrival, header, body)
+            if content is not None:
+                self.deliver(side.index, content, arrival)
+                return
+        waiting = Waiting(side.index, arrival, header, body)
+        self.queue.append(waiting)
+        side.unread.append(waiting)
+        self.waiting_bytes += len(body)
+        self.advance()
+        if self.waiting_bytes > MOST_WAITING and not self.handshake.waits_for_key:
+            self.stop(side, "handshake-unfinished", arrival)
+
+    def read(self, side: Side, arrival: Arrival, header: bytes, body: bytes) -> bytes | None:
+        """The content of a record; none where it has to wait, and nothing where its side ends."""
+        try:
+            return self.handshake.read(side.index, header, body)
+        except hellos.Malformed:
+            self.stop(side, "not-tls", arrival)
+        except Stopped as why:
+            self.stop(side, str(why), arrival)
+        return b""
+
+    def advance(self) -> None:
+        """Reads what can be read by now, and delivers it up to the first record that still waits."""
+        moved = True
+        while moved and not self.refused:
+            moved = False
+            for side in self.sides:
+                while side.unread and self.read_first(side):
+                    moved = True
+        while self.queue and self.queue[0].content is not None:
+            first = self.queue.popleft()
+            self.waiting_bytes -= len(first.body)
+            self.deliver(first.side, first.content or b"", first.arrival)
+
+    def read_first(self, side: Side) -> bool:
+        first = side.unread[0]
+        content = self.read(side, first.arrival, first.header, first.body)
+        if content is None:
+            return False
+        first.content = content
+        if side.unread:
+            side.unread.popleft()
+        return True
+
+    def deliver(self, index: int, content: bytes, arrival: Arrival) -> None:
+        if content and not self.refused:
+            self.count += 1
+            self.emit(index, content, arrival)
+
+    def stop(self, side: Side, why: str, arrival: Arrival) -> None:
+        """Ends a side; where no record of the connection was ever opened, all of it."""
+        if side.end is None:
+            side.end, side.end_arrival = why, arrival
+        if not self.handshake.opened:
+            self.refuse(why)
+            return
+        for waiting in side.unread:
+            waiting.content = b""
+        side.unread.clear()
+
+    def refuse(self, why: str) -> None:
+        self.refused = why
+        self.queue.clear()
+        for side in self.sides:
+            side.unread.clear()
+            side.flow, side.records = Flow(), Records()
+
+    def finish(self, is_snapped: bool, has_answer: bool) -> None:
+        """Ends the connection with the capture: no further key comes, and nothing that was lost."""
+        if self.refused:
+            return
+        self.handshake.more_keys = False
+        self.advance()
+        for side in self.sides:
+            if side.unread and not self.refused and self.handshake.opened:
+                self.stop(side, "handshake-unfinished", side.unread[0].arrival)
+        if not self.refused and not self.count:
+            self.refused = self.why_nothing(is_snapped, has_answer)
+        self.advance()
+
+    def why_nothing(self, is_snapped: bool, has_answer: bool) -> str | None:
+        """Why there is no plaintext; none where the handshake was whole, and nothing was said."""
+        ends = [side.end for side in self.sides if side.end]
+        holes = [side.flow.next for side in self.sides if side.flow.behind_hole]
+        tails = [len(side.records.held) for side in self.sides if side.records.held]
+        if not has_answer:
+            return "no-handshake"
+        if ends:
+            return ends[0]
+        if is_snapped and (holes or tails):
+            return "snapped"
+        if holes:
+            return f"gap {holes[0]}"
+        if tails:
+            return f"tail {tails[0]}"
+        if self.handshake.stage(0) is Stage.TRAFFIC and self.handshake.stage(1) is Stage.TRAFFIC:
+            return None
+        alert = self.handshake.alert
+        return "handshake-unfinished" if alert is None else f"alert {alert}"
