@@ -23,7 +23,7 @@ PASSED_OVER = re.compile(rf"record ({NUMBER}) (fragment|cut|refused [a-z0-9-]+)"
 UNOPENED = re.compile(rf"unopened (\S+) (\S+) segments ({NUMBER})")
 CONNECTION = re.compile(
     rf"connection ({NUMBER}) client (\S+) server (\S+) record ({NUMBER}) "
-    rf"(?:(http2) frames ({NUMBER})|(not-http2|no-preface|no-handshake))")
+    rf"(?:(http2) frames ({NUMBER})|(not-http2|no-preface|no-handshake|refused [a-z0-9-]+(?: [a-z0-9-]+)?))")
 FLOW = re.compile(rf"flow {SIDE} bytes ({NUMBER}) gap (none|{NUMBER}) tail ({NUMBER})")
 FINDING = re.compile(
     rf"frame ({NUMBER}) record ({NUMBER}) time ({NUMBER}) {SIDE} ([a-z-]+) stream ({NUMBER}) value (-?{NUMBER})")
