@@ -48,8 +48,14 @@ install: $(PROGRAM)
 	install -D -m 755 $(PROGRAM) $(DESTDIR)$(PREFIX)/bin/h2audit
 	install -D -m 755 -t $(DESTDIR)$(PREFIX)/bin tools/h2audit-plot
 	install -D -m 644 -t $(share)/man/man1 tools/man/h2audit.1 tools/man/h2audit-plot.1
+	install -D -m 755 -t $(DESTDIR)$(PREFIX)/bin tools/h2audit-fleet
+	install -D -m 644 -t $(share)/h2audit/fleet tools/fleet/*.py tools/fleet/schema.sql
+	install -D -m 644 -t $(share)/h2audit/report tools/report/*.py
+	install -D -m 644 -t $(share)/man/man1 tools/man/h2audit-fleet.1
+	install -D -m 644 -t $(share)/fish/vendor_completions.d tools/completions/h2audit-fleet.fish
 	install -D -m 644 tools/completions/h2audit.bash $(share)/bash-completion/completions/h2audit
 	ln -sf h2audit $(share)/bash-completion/completions/h2audit-plot
+	ln -sf h2audit $(share)/bash-completion/completions/h2audit-fleet
 	install -D -m 644 -t $(DESTDIR)$(ZSHDIR) tools/completions/_h2audit
 	install -D -m 644 -t $(share)/fish/vendor_completions.d tools/completions/h2audit.fish tools/completions/h2audit-plot.fish
 

@@ -9,6 +9,7 @@ set -euo pipefail
 cd "$(dirname "$0")/../.."
 
 needed=(python3-matplotlib mandoc lintian zsh fish gawk mawk original-awk tshark binutils)
+needed+=(python3-distributed python3-cryptography sqlite3 parallel openssl iproute2)
 built=crates/h2audit_cli/out/h2audit_cli
 work=$(mktemp -d)
 trap 'rm -r "$work"' EXIT
@@ -68,6 +69,11 @@ try 'man pages and completions' tools/tests/words_test.py
 try 'recipes' tools/tests/recipes_test.py "${audits[@]}"
 try 'pictures' tools/tests/plot_test.py
 try 'library example' tools/tests/library_example_test.py
+try 'many captures: tables' tools/tests/fleet_test.py "${audits[@]}" Tables
+try 'many captures: course' tools/tests/fleet_test.py Course
+try 'many captures: names and refusals' tools/tests/fleet_test.py Words
+try 'many captures: a cluster' tools/tests/fleet_cluster_test.py
+try 'many captures: without daemons' tools/tests/fleet_collect_test.py "${audits[@]}"
 try 'install and package' tools/tests/package_test.sh "$program"
 [[ ${#audits[@]} -eq 0 ]] || try 'refused growths, threads, reads and writes' tools/tests/refusals_test.py "$built"
 echo 'test-tools: all passed'

@@ -33,7 +33,7 @@ def options_of(name):
     return sorted(set(OPTION.findall(text)))
 
 
-PROGRAMS = {name: options_of(name) for name in ("h2audit", "h2audit-plot")}
+PROGRAMS = {name: options_of(name) for name in ("h2audit", "h2audit-plot", "h2audit-fleet")}
 
 
 class Version(unittest.TestCase):
@@ -81,6 +81,8 @@ class Bash(unittest.TestCase):
         self.assertEqual(self.offered("h2audit", "--block", "10"), ["1024", "1048576"])
         self.assertEqual(self.offered("h2audit-plot", "--format", ""), ["svg", "png"])
         self.assertEqual(self.offered("h2audit", "--frames", "READ"), ["README.md"])
+        self.assertEqual(self.offered("h2audit-fleet", "--import", "a"), ["auto", "always"])
+        self.assertEqual(self.offered("h2audit-fleet", "--reports", "exam"), ["examples"])
 
 
 class Fish(unittest.TestCase):
@@ -101,6 +103,7 @@ class Fish(unittest.TestCase):
         self.assertEqual(self.offered("h2audit --block 104"), ["1048576"])
         self.assertEqual(sorted(self.offered("h2audit-plot --format ")), ["png", "svg"])
         self.assertIn("README.md", self.offered("h2audit READ"))
+        self.assertEqual(sorted(self.offered("h2audit-fleet --import a")), ["always", "auto"])
 
 
 class Zsh(unittest.TestCase):
@@ -155,7 +158,9 @@ class Zsh(unittest.TestCase):
         """Each option is found from its beginning, and the whole list has no other."""
         for name, options in PROGRAMS.items():
             for option in options:
-                self.assertEqual(self.completed(f"{name} {option[:-1]}").rstrip("="), f"{name} {option}")
+                is_clear = sum(other.startswith(option[:-1]) for other in options) == 1
+                beginning = option[:-1] if is_clear else option
+                self.assertEqual(self.completed(f"{name} {beginning}").rstrip("="), f"{name} {option}")
             found = {self.completed(f"{name} --", tabs).rstrip("=") for tabs in range(1, len(options) + 2)}
             self.assertEqual(sorted(word.split()[1] for word in found), options)
 
@@ -165,6 +170,7 @@ class Zsh(unittest.TestCase):
         self.assertEqual(self.completed("h2audit --block=104"), "h2audit --block=1048576")
         self.assertEqual(self.completed("h2audit-plot --format=p"), "h2audit-plot --format=png")
         self.assertEqual(self.completed("h2audit READ"), "h2audit README.md")
+        self.assertEqual(self.completed("h2audit-fleet --import=n"), "h2audit-fleet --import=never")
 
 
 if __name__ == "__main__":
