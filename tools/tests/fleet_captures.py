@@ -113,10 +113,13 @@ class Machine:
         return {**os.environ, "PATH": f"{self.bin}:/usr/bin:/bin", "FLEET_ORDERS": str(self.folder / "orders.json"),
                 "TMPDIR": str(self.folder / "temporary")}
 
-    def start(self, *words: object, before: tuple[str, ...] = (), **more: object) -> subprocess.Popen:
+    def write_orders(self) -> None:
         orders = {"program": self.program, "notes": str(self.folder / "notes"), "acts": self.acts,
                   "answers": {sample.digest: [sample.status, sample.error, sample.report] for sample in self.samples}}
         (self.folder / "orders.json").write_text(json.dumps(orders))
+
+    def start(self, *words: object, before: tuple[str, ...] = (), **more: object) -> subprocess.Popen:
+        self.write_orders()
         return subprocess.Popen(
             [*before, FLEET, "--db", self.database, *map(os.fspath, words)], env=self.surroundings, cwd=self.folder,
             stdout=subprocess.PIPE, stderr=subprocess.PIPE, stdin=subprocess.DEVNULL, text=True, **more)
