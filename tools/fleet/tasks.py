@@ -127,7 +127,9 @@ def by_program(words: list[str], file: int, order: Order, is_fed: bool = True) -
     with tempfile.TemporaryFile() as output:
         run = programs.run(words, file, output, order["timeout"], is_fed)
         answer = verdict(run) | {"program": words[0], "sha256": run.digest or digest, "size": run.size or size}
-        return answer | (kept(output) if answer["outcome"] == "audited" else {})
+        if answer["outcome"] == "refused" and output.seek(0, os.SEEK_END):
+            answer["outcome"] = "partial"
+        return answer | (kept(output) if answer["outcome"] in ("audited", "partial") else {})
 
 
 def verdict(run: programs.Run) -> Answer:

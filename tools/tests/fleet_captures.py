@@ -22,6 +22,8 @@ import generate  # noqa: E402
 import reports_test  # noqa: E402
 
 FLEET = TOP / "tools" / "h2audit-fleet"
+# The first word of a test may name h2audit.
+PROGRAM = str(pathlib.Path(sys.argv.pop(1)).resolve()) if len(sys.argv) > 1 and os.access(sys.argv[1], os.X_OK) else None
 STAND_IN = TOP / "tools" / "tests" / "fleet_stand_in"
 
 

@@ -6,17 +6,13 @@ without, a program that stands in for it answers what was written by hand.
 """
 
 import os
-import pathlib
 import re
 import subprocess
-import sys
 import unittest
 
-from fleet_captures import STAND_IN, TOP, Machine, by_hand
+from fleet_captures import PROGRAM, STAND_IN, TOP, Machine, by_hand
+from fleet_test import names, rows_by_hand
 
-PROGRAM = str(pathlib.Path(sys.argv.pop(1)).resolve()) if len(sys.argv) > 1 and os.access(sys.argv[1], os.X_OK) else None
-
-from fleet_test import names, rows_by_hand  # noqa: E402
 
 BLOCK = re.compile(r"^```\n(.*?)^```$", re.M | re.S)
 EXAMPLES = ("stream_overrun_go", "use_after_reset", "connection_overflow_nginx", "lost_segment", "stream_stalls_nghttpd")

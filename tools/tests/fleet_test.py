@@ -7,7 +7,6 @@ PROGRAM more captures are generated, and their answers are those of PROGRAM alon
 
 import hashlib
 import os
-import pathlib
 import shutil
 import signal
 import subprocess
@@ -15,13 +14,12 @@ import sys
 import time
 import unittest
 
-from fleet_captures import TOP, Machine, Sample, by_hand, generated
+from fleet_captures import PROGRAM, TOP, Machine, Sample, by_hand, generated
 
 sys.path.insert(0, str(TOP / "tools"))
 
-from fleet import names  # noqa: E402
+from fleet import names, tasks  # noqa: E402
 
-PROGRAM = str(pathlib.Path(sys.argv.pop(1)).resolve()) if len(sys.argv) > 1 and os.access(sys.argv[1], os.X_OK) else None
 CAPTURES = 200
 OTHER = {"client": "server", "server": "client"}
 OVERFLOWS = ("connection-overflow", "stream-overflow", "setting-overflow")

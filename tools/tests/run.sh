@@ -73,6 +73,7 @@ try 'many captures: tables' tools/tests/fleet_test.py "${audits[@]}" Tables
 try 'many captures: course' tools/tests/fleet_test.py Course
 try 'many captures: names and refusals' tools/tests/fleet_test.py Words
 try 'many captures: a cluster' tools/tests/fleet_cluster_test.py
+try 'many captures: imports and parts' tools/tests/fleet_parts_test.py "${audits[@]}"
 try 'many captures: without daemons' tools/tests/fleet_collect_test.py "${audits[@]}"
 try 'install and package' tools/tests/package_test.sh "$program"
 [[ ${#audits[@]} -eq 0 ]] || try 'refused growths, threads, reads and writes' tools/tests/refusals_test.py "$built"
