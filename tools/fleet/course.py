@@ -30,6 +30,8 @@ NO_WORKER_SECONDS = 60.0
 # Tasks that wait at the workers, for each that runs; and large captures whose parts take room at once.
 AHEAD = 3
 MOST_LARGE = 2
+# Small captures go together, so many and of so many bytes at most.
+MOST_TOGETHER, BYTES_TOGETHER = 32, 4000000
 FIRST, USUAL, LAST = 10, 0, -10
 WORKER_LOST = "worker-lost"
 
@@ -69,6 +71,7 @@ class Limits:
 
 
 Enter = Callable[[Capture, Answer], None]
+Follow = Callable[[Any], None]
 
 
 class Course:
@@ -76,7 +79,8 @@ class Course:
 
     def __init__(self, client: Client, order: Order, limits: Limits, enter: Enter) -> None:
         self.client, self.order, self.limits, self.enter = client, order, limits, enter
-        self.done: queue.SimpleQueue[tuple[Capture, Future, Callable[[Answer], None]]] = queue.SimpleQueue()
+        self.done: queue.SimpleQueue[Future] = queue.SimpleQueue()
+        self.flying: dict[Future, Follow] = {}
         self.waiting: deque[Capture] = deque()
         self.held: deque[Capture] = deque()
         self.suspects: deque[Capture] = deque()
@@ -103,12 +107,24 @@ class Course:
     def fill(self) -> None:
         """Begins as many captures as keep all workers busy; of large ones a few, since their parts take room."""
         room = AHEAD * max(self.seen_threads(), 1)
-        while self.on_way < room and (capture := self.next_capture()):
-            self.on_way += 1
-            self.begin(capture)
+        while len(self.flying) < room and (captures := self.next_captures(room)):
+            self.on_way += len(captures)
+            self.begin_all(captures)
         if not self.on_way and self.suspects:
             self.on_way += 1
             self.begin(self.suspects.popleft())
+
+    def next_captures(self, room: int) -> list[Capture]:
+        """The next capture; where it is small, with others, but never with so many that a worker would have none."""
+        first = self.next_capture()
+        if first is None or first.parts:
+            return [first] if first else []
+        captures, left = [first], BYTES_TOGETHER - (first.found.size or 0)
+        most = min(MOST_TOGETHER, 1 + len(self.waiting) // room)
+        while len(captures) < most and self.waiting and not self.waiting[0].parts and (self.waiting[0].found.size or 0) <= left:
+            captures.append(self.waiting.popleft())
+            left -= captures[-1].found.size or 0
+        return captures
 
     def next_capture(self) -> Capture | None:
         if self.held and self.large < MOST_LARGE:
@@ -134,6 +150,16 @@ class Course:
             raise Lost("no worker is left")
         return self.threads
 
+    def begin_all(self, captures: list[Capture]) -> None:
+        if len(captures) == 1:
+            self.begin(captures[0])
+            return
+        for capture in captures:
+            capture.tries += 1
+        paths = [capture.found.path for capture in captures]
+        future = self.client.submit(tasks.audit_all, paths, self.order, pure=False, priority=USUAL)
+        self.fly(future, partial(self.after_all, captures))
+
     def begin(self, capture: Capture) -> None:
         capture.tries += 1
         path = capture.found.path
@@ -151,41 +177,47 @@ class Course:
     def submit(self, capture: Capture, after: Callable[[Capture, Answer], None], work: Callable[..., Answer], *words: Any,
                tries: int = 1) -> None:
         priority = LAST if max(capture.tries, tries) > 1 else FIRST if capture.parts else USUAL
-        future = self.client.submit(work, *words, pure=False, priority=priority, key=None)
+        future = self.client.submit(work, *words, pure=False, priority=priority)
         capture.futures.add(future)
-        follow = partial(after, capture)
-        future.add_done_callback(lambda done: self.done.put((capture, done, follow)))
+        self.fly(future, partial(after, capture))
+
+    def fly(self, future: Future, follow: Follow) -> None:
+        self.flying[future] = follow
+        future.add_done_callback(self.done.put)
 
     def take(self) -> None:
         """Goes on with what is done by now, and waits a tick for the first of it."""
-        wait = TICK_SECONDS
+        wait: float = TICK_SECONDS
         while True:
             try:
-                capture, future, follow = self.done.get(timeout=wait) if wait else self.done.get_nowait()
+                future = self.done.get(timeout=wait) if wait else self.done.get_nowait()
             except queue.Empty:
                 return
             wait = 0
-            self.go_on(capture, future, follow)
+            if future in self.flying:
+                self.go_on(future)
 
-    def go_on(self, capture: Capture, future: Future, follow: Callable[[Answer], None]) -> None:
-        if future not in capture.futures:
-            return
+    def go_on(self, future: Future) -> None:
         if future.status == "cancelled":
             raise Lost("the scheduler went away")
         try:
             answer = future.result(timeout=RESULT_SECONDS)
         except TimeoutError:
             # The worker that held the result is gone, and another makes it anew.
-            future.add_done_callback(lambda done: self.done.put((capture, done, follow)))
+            future.add_done_callback(self.done.put)
             return
         except KilledWorker:
             answer = {"outcome": "failed", "reason": WORKER_LOST}
         except Exception as why:  # whatever a worker raised, also where its Python is another
             answer = {"outcome": "failed", "reason": f"worker-failed {type(why).__name__}"}
-        capture.futures.discard(future)
-        follow(answer)
+        self.flying.pop(future)(answer)
 
     # What follows a task
+
+    def after_all(self, captures: list[Capture], answers: list[Answer] | Answer) -> None:
+        """Where several were lost together, each has lost its worker."""
+        for place, capture in enumerate(captures):
+            self.after_whole(capture, answers if isinstance(answers, dict) else answers[place])
 
     def after_whole(self, capture: Capture, answer: Answer) -> None:
         capture.seconds += answer.get("seconds") or 0.0
@@ -255,8 +287,9 @@ class Course:
         """Gives up what a try took: its place, the tasks that are left of it, and the room of its parts."""
         self.on_way -= 1
         self.large -= bool(capture.parts)
-        if capture.futures:
-            self.client.cancel(list(capture.futures))
+        left = [future for future in capture.futures if self.flying.pop(future, None)]
+        if left:
+            self.client.cancel(left)
         if capture.folder:
             shutil.rmtree(capture.folder, ignore_errors=True)
         capture.futures, capture.folder, capture.split = set(), None, {}

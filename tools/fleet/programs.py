@@ -69,8 +69,11 @@ def run(words: Sequence[str], source: int | None, output: IO[bytes], seconds: fl
 @contextmanager
 def child_of(words: Sequence[str], has_input: bool, handed: tuple[int, ...], output: IO[bytes],
              said: IO[bytes]) -> Iterator[subprocess.Popen[bytes]]:
-    """A child in a session of its own, which keys of the terminal do not reach, and which ends with its worker."""
-    tied = ["setpriv", "--pdeathsig", "KILL", "--"] if shutil.which("setpriv") else []
+    """A child in a session of its own, which keys of the terminal do not reach.
+
+    It does not outlive its worker for long: one that is fed comes to the end of its capture, and any other is tied to the worker.
+    """
+    tied = [] if has_input or not shutil.which("setpriv") else ["setpriv", "--pdeathsig", "KILL", "--"]
     child = subprocess.Popen(
         [*tied, *words], stdin=subprocess.PIPE if has_input else subprocess.DEVNULL, stdout=output, stderr=said, bufsize=0,
         pass_fds=handed, start_new_session=True)

@@ -1,6 +1,7 @@
 """What a worker does with a capture. Each task answers with a dictionary of plain values, also where it fails.
 
     audit     one capture by one program, as h2audit alone audits it
+    audit_all several small ones, with an answer for each
     split     a large capture into parts, in a folder that all workers share
     part      the audit of one part
     merge     the reports of the parts into that of the whole
@@ -85,6 +86,11 @@ def worker_name() -> str:
 def audit(path: bytes, order: Order, parts: int = 0) -> Answer:
     """The audit of one capture; of a large one that has to be imported, in so many parts."""
     return on_capture(path, lambda file, _: audit_file(file, order, parts))
+
+
+def audit_all(paths: list[bytes], order: Order) -> list[Answer]:
+    """The audits of several small captures, since a task costs more than each of them."""
+    return [audit(path, order) for path in paths]
 
 
 def audit_file(file: int, order: Order, parts: int = 0) -> Answer:

@@ -49,6 +49,7 @@ def tools_folder(folder, program, awk):
     bin_of.mkdir()
     (bin_of / "h2audit").symlink_to(program)
     (bin_of / "h2audit-plot").symlink_to(TOP / "tools" / "h2audit-plot")
+    (bin_of / "h2audit-fleet").symlink_to(TOP / "tools" / "h2audit-fleet")
     (bin_of / "awk").symlink_to(shutil.which(awk))
     return bin_of
 
