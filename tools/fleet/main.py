@@ -20,10 +20,11 @@ from report.command import IO_FAILED, MISSING, OK, REFUSED, failed, io_reason
 NAME = "h2audit-fleet"
 FAULTS = 1
 SIGNALLED = 128
+SIGNALS = (signal.SIGINT, signal.SIGTERM, signal.SIGHUP)
 
 
 class Interruption:
-    """Ctrl-C and SIGTERM, as something to ask for. A second one ends the program at once."""
+    """Ctrl-C, SIGTERM and a terminal that goes, as something to ask for. A second one ends the program at once."""
 
     def __init__(self) -> None:
         self.signal = 0
@@ -34,7 +35,8 @@ class Interruption:
 
     @contextmanager
     def watched(self) -> Iterator["Interruption"]:
-        before = {number: signal.signal(number, self.note) for number in (signal.SIGINT, signal.SIGTERM)}
+        heard = [number for number in SIGNALS if signal.getsignal(number) is not signal.SIG_IGN]
+        before = {number: signal.signal(number, self.note) for number in heard}
         try:
             yield self
         finally:

@@ -6,13 +6,16 @@ PROGRAM more captures are generated, and their answers are those of PROGRAM alon
 """
 
 import hashlib
+import http.client
 import os
+import re
 import shutil
 import signal
 import subprocess
 import sys
 import time
 import unittest
+import urllib.request
 
 from fleet_captures import PROGRAM, TOP, Machine, Sample, by_hand, generated
 
@@ -193,6 +196,10 @@ class Course(unittest.TestCase):
         machine.acts = {sample.digest: ["sleep", 0.5] for sample in machine.samples}
         child = machine.start("--jobs", "2", "captures", start_new_session=True)
         until(lambda: machine.database.exists() and count(machine) >= 5)
+        addresses = listening(child.pid)
+        self.assertTrue(addresses)
+        self.assertEqual({address.rpartition(":")[0] for address in addresses}, {"127.0.0.1"})
+        self.assertEqual([address for address in addresses if answers_http(address)], [])
         os.killpg(child.pid, signal.SIGINT)
         _, error = child.communicate(timeout=30)
         self.assertEqual((child.returncode, error), (130, "h2audit-fleet: ended early: --resume goes on with the database\n"))
@@ -211,7 +218,7 @@ class Course(unittest.TestCase):
     def test_resumed(self) -> None:
         """What failed, is new or has changed is audited, and nothing else; rows of what a capture was before are gone."""
         machine = self.machine(12)
-        failed, changed, new = machine.samples[:3]
+        failed, changed, new, touched = machine.samples[:4]
         machine.acts[failed.digest] = ["status", 5, 1]
         other = next(sample for sample in by_hand() if sample.name == "stream_overrun_go")
         new_name = machine.captures / f"{new.name}.pcap"
@@ -219,11 +226,12 @@ class Course(unittest.TestCase):
         self.assertEqual(machine.run("--retries", "0", "--jobs", "2", "captures")[0], 3)
         new_name.write_bytes(new.capture)
         (machine.captures / f"{changed.name}.pcap").write_bytes(other.capture)
+        os.utime(machine.captures / f"{touched.name}.pcap", (1, 1))
         shutil.rmtree(machine.folder / "notes")
         (machine.folder / "notes").mkdir()
         machine.samples.append(other)
         self.assertEqual(machine.run("--resume", "--jobs", "2", "captures")[0], 1)
-        self.assertEqual(set(machine.notes()), {failed.digest, other.digest, new.digest})
+        self.assertEqual(set(machine.notes()), {failed.digest, other.digest, new.digest, touched.digest})
         rows = machine.ask("SELECT kind, value, broke, faults.record FROM faults WHERE path LIKE ?", f"%/{changed.name}.pcap")
         self.assertEqual(rows, [("stream-overrun", -5000, "client", 12)])
         self.assertEqual(machine.ask("PRAGMA foreign_key_check"), [])
@@ -317,6 +325,25 @@ def until(is_done) -> None:
             return
         time.sleep(0.1)
     raise AssertionError("it does not come to pass")
+
+
+def listening(session: int) -> list[str]:
+    """The addresses at which processes of a session wait for others."""
+    found = []
+    for line in subprocess.run(["ss", "-Hltnp"], capture_output=True, text=True, check=True).stdout.splitlines():
+        process = re.search(r"pid=(\d+)", line)
+        if process and os.path.exists(f"/proc/{process[1]}") and os.getsid(int(process[1])) == session:
+            found.append(line.split()[3])
+    return found
+
+
+def answers_http(address: str) -> bool:
+    """Whether a web server shows anything there to whoever asks."""
+    try:
+        with urllib.request.urlopen(f"http://{address}/health", timeout=5) as answer:
+            return answer.status == 200
+    except (OSError, http.client.HTTPException):
+        return False
 
 
 def count(machine: Machine) -> int:
