@@ -7,8 +7,8 @@ PROGRAM = crates/h2audit_cli/out/h2audit_cli
 # The capture whose report "make believed" computes from the definitions.
 RUN ?= examples/negative_window.pcap
 # Programs in Python beside it, and the packages that they share.
-PYTHON_PROGRAMS = h2audit-any h2audit-comment h2audit-import h2audit-page h2audit-plot
-PYTHON_PACKAGES = comment import/h2audit_import page page/assets report
+PYTHON_PROGRAMS = h2audit-any h2audit-comment h2audit-fleet h2audit-import h2audit-page h2audit-plot
+PYTHON_PACKAGES = comment fleet import/h2audit_import page page/assets report
 FIRST = examples/negative_window_tomcat.pcap examples/stream_overrun_go.pcap
 SOURCES := crates.txt $(shell find crates -name out -prune -o -name '*.rt' -print -o -name '*.antt' -print)
 

@@ -90,9 +90,28 @@ _h2audit_any() {
     esac
 }
 
+_h2audit_fleet() {
+    local word=${COMP_WORDS[COMP_CWORD]} before=${COMP_WORDS[COMP_CWORD - 1]}
+    local options='--db --list --resume --reports --collect --keys --import --timeout --retries --split-above --scratch --jobs'
+    options+=' --dashboard --scheduler --tls-ca --tls-cert --tls-key --unencrypted --version --help -k -j -V -h'
+    case $before in
+    --import) _h2audit_offer -W 'auto always never' -- "$word" ;;
+    --split-above) _h2audit_offer -W '0 256 512 1024' -- "$word" ;;
+    --reports | --collect | --scratch) _h2audit_offer -d -- "$word" ;;
+    --timeout | --retries | --jobs | -j | --dashboard | --scheduler) COMPREPLY=() ;;
+    *)
+        case $word in
+        -*) _h2audit_offer -W "$options" -- "$word" ;;
+        *) _h2audit_offer -f -- "$word" ;;
+        esac
+        ;;
+    esac
+}
+
 complete -o filenames -F _h2audit h2audit
 complete -o filenames -F _h2audit_comment h2audit-comment
 complete -o filenames -F _h2audit_page h2audit-page
 complete -o filenames -F _h2audit_plot h2audit-plot
 complete -o filenames -F _h2audit_import h2audit-import
 complete -o filenames -F _h2audit_any h2audit-any
+complete -o filenames -F _h2audit_fleet h2audit-fleet

@@ -29,7 +29,7 @@ on_root() {
 }
 
 # The programs beside h2audit, by what follows their names.
-beside=(-any -comment -import -page -plot)
+beside=(-any -comment -fleet -import -page -plot)
 
 # The programs and their completions for bash.
 installed() {
@@ -39,7 +39,7 @@ installed() {
 
 # By the repository, and not by the Makefile: each module and asset that git knows.
 modules() {
-    git ls-files tools/comment tools/import tools/page tools/report | sed "s,^tools,./$1/share/h2audit,"
+    git ls-files tools/comment tools/fleet tools/import tools/page tools/report | sed "s,^tools,./$1/share/h2audit,"
 }
 
 # The completions for fish, and the man pages, with what ends their names: words FOLDER and ENDING.
@@ -98,6 +98,7 @@ run_installed() {
     "$work/root/usr/bin/h2audit-page" examples/negative_window.frames.report -o "$work/page.html"
     "$work/root/usr/bin/h2audit-import" -o "$work/made.pcap" -k tests/tls/nghttp-nghttpd-13.keys tests/tls/nghttp-nghttpd-13.pcap
     "$work/root/usr/bin/h2audit-any" examples/negative_window.pcap > /dev/null
+    "$work/root/usr/bin/h2audit-fleet" --version > /dev/null
     mandoc -Tmarkdown "$work/root/usr/share/man/man1/h2audit.1.gz" | grep '# EXIT STATUS' > /dev/null ||
         fail 'the manual of the package cannot be read'
 }

@@ -48,7 +48,7 @@ def tools_folder(folder, program, awk):
     bin_of = pathlib.Path(folder, awk)
     bin_of.mkdir()
     (bin_of / "h2audit").symlink_to(program)
-    for name in ("h2audit-any", "h2audit-comment", "h2audit-import", "h2audit-page", "h2audit-plot"):
+    for name in ("h2audit-any", "h2audit-comment", "h2audit-fleet", "h2audit-import", "h2audit-page", "h2audit-plot"):
         (bin_of / name).symlink_to(TOP / "tools" / name)
     (bin_of / "awk").symlink_to(shutil.which(awk))
     return bin_of

@@ -14,6 +14,8 @@ needed=(python3-matplotlib mandoc lintian zsh fish gawk mawk original-awk tshark
 needed+=(libjs-dygraphs chromium chromium-driver python3-selenium)
 # Of imports and their tests.
 needed+=(python3-cryptography python3-zstandard zstd tcpdump openssl)
+# Of many captures and their tests.
+needed+=(python3-distributed sqlite3 parallel iproute2)
 built=crates/h2audit_cli/out/h2audit_cli
 work=$(mktemp -d)
 trap 'rm -r "$work"' EXIT
@@ -97,6 +99,12 @@ try 'captures of TLS' tools/tests/import_test.py "${audits[@]}"
 try 'forms of captures' tools/tests/import_forms_test.py
 try 'cipher suites, resumption, PSK, early data' tools/tests/import_tls_test.py "${audits[@]}"
 try 'mutated captures and key logs' tools/tests/import_mutations_test.py
+try 'many captures: tables' tools/tests/fleet_test.py "${audits[@]}" Tables
+try 'many captures: course' tools/tests/fleet_test.py Course
+try 'many captures: names and refusals' tools/tests/fleet_test.py Words
+try 'many captures: a cluster' tools/tests/fleet_cluster_test.py
+try 'many captures: imports and parts' tools/tests/fleet_parts_test.py "${audits[@]}"
+try 'many captures: without daemons' tools/tests/fleet_collect_test.py "${audits[@]}"
 try 'install and package' tools/tests/package_test.sh "$program"
 try_built 'refused growths, threads, reads and writes' tools/tests/refusals_test.py "$built"
 try_built 'threads that are started' tools/tests/threads_test.py "$built"

@@ -33,7 +33,8 @@ def options_of(name):
     return sorted(set(OPTION.findall(text)))
 
 
-PROGRAMS = {name: options_of(name) for name in ("h2audit", "h2audit-any", "h2audit-comment", "h2audit-import", "h2audit-page", "h2audit-plot")}
+BESIDE = ("h2audit-any", "h2audit-comment", "h2audit-fleet", "h2audit-import", "h2audit-page", "h2audit-plot")
+PROGRAMS = {name: options_of(name) for name in ("h2audit", *BESIDE)}
 
 
 class Version(unittest.TestCase):
@@ -86,6 +87,8 @@ class Bash(unittest.TestCase):
         self.assertEqual(self.offered("h2audit-import", "--jobs", "6"), ["6", "60", "61", "62", "63", "64"])
         self.assertEqual(self.offered("h2audit-import", "-k", "READ"), ["README.md"])
         self.assertEqual(self.offered("h2audit-any", "--groups", "10"), ["1024"])
+        self.assertEqual(self.offered("h2audit-fleet", "--import", "a"), ["auto", "always"])
+        self.assertEqual(self.offered("h2audit-fleet", "--reports", "exam"), ["examples"])
 
 
 class Fish(unittest.TestCase):
@@ -108,6 +111,7 @@ class Fish(unittest.TestCase):
         self.assertIn("README.md", self.offered("h2audit READ"))
         self.assertIn("README.md", self.offered("h2audit-any -k READ"))
         self.assertEqual(self.offered("h2audit-import --jobs 6"), ["6", "60", "61", "62", "63", "64"])
+        self.assertEqual(sorted(self.offered("h2audit-fleet --import a")), ["always", "auto"])
 
 
 class Zsh(unittest.TestCase):
@@ -176,6 +180,7 @@ class Zsh(unittest.TestCase):
         self.assertEqual(self.completed("h2audit READ"), "h2audit README.md")
         self.assertEqual(self.completed("h2audit-any --groups=10"), "h2audit-any --groups=1024")
         self.assertEqual(self.completed("h2audit-import --key-log=READ"), "h2audit-import --key-log=README.md")
+        self.assertEqual(self.completed("h2audit-fleet --import=n"), "h2audit-fleet --import=never")
 
 
 if __name__ == "__main__":
