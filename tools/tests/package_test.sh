@@ -32,21 +32,29 @@ installed() {
     cat << END
 ./$1/bin/h2audit
 ./$1/bin/h2audit-plot
+./$1/bin/h2audit-split
+./$1/bin/h2audit-merge
 ./$1/share/bash-completion/completions/h2audit
 ./$1/share/bash-completion/completions/h2audit-plot
+./$1/share/bash-completion/completions/h2audit-split
+./$1/share/bash-completion/completions/h2audit-merge
 END
+    (cd tools/split && printf "./$1/share/h2audit/split/%s\n" *.py)
 }
 
 test_install() {
-    make --no-print-directory install PROGRAM="$program" DESTDIR="$work/dest" PREFIX=/opt/h2audit > /dev/null
-    same 'installed files' "$(installed opt/h2audit
-        printf './opt/h2audit/share/%s\n' fish/vendor_completions.d/h2audit{-plot,}.fish \
-            man/man1/h2audit{-plot,}.1 zsh/site-functions/_h2audit)" "$(files_below "$work/dest")"
+    make --no-print-directory install PROGRAM="$program" SPLIT="$program" DESTDIR="$work/dest" PREFIX=/opt/h2audit > /dev/null
+    same 'installed files' "$({
+        installed opt/h2audit
+        printf './opt/h2audit/share/%s\n' fish/vendor_completions.d/h2audit{-plot,-split,-merge,}.fish \
+            man/man1/h2audit{-plot,-split,-merge,}.1 zsh/site-functions/_h2audit{,-split}
+    } | LC_ALL=C sort)" "$(files_below "$work/dest")"
     cmp "$program" "$work/dest/opt/h2audit/bin/h2audit"
+    "$work/dest/opt/h2audit/bin/h2audit-merge" --version
 }
 
 build() {
-    make --no-print-directory deb PROGRAM="$program" PACKAGES="$1"
+    make --no-print-directory deb PROGRAM="$program" SPLIT="$program" PACKAGES="$1"
 }
 
 test_package() {
@@ -56,9 +64,12 @@ test_package() {
     lintian --allow-root --fail-on error,warning "$package"
     prepare_root
     on_root --install "$package" > /dev/null
-    same 'files of the package' "$(installed usr
-        printf './usr/share/%s\n' doc/h2audit/{changelog.gz,copyright} fish/vendor_completions.d/h2audit{-plot,}.fish \
-            man/man1/h2audit{-plot,}.1.gz zsh/vendor-completions/_h2audit)" "$(files_below "$work/root")"
+    same 'files of the package' "$({
+        installed usr
+        printf './usr/share/%s\n' doc/h2audit/{changelog.gz,copyright} \
+            fish/vendor_completions.d/h2audit{-plot,-split,-merge,}.fish \
+            man/man1/h2audit{-plot,-split,-merge,}.1.gz zsh/vendor-completions/_h2audit{,-split}
+    } | LC_ALL=C sort)" "$(files_below "$work/root")"
     run_installed
     on_root --purge h2audit > /dev/null
     same 'files that are left' '' "$(files_below "$work/root")"

@@ -1,7 +1,8 @@
 #!/usr/bin/python3
 """Tests of the man pages and of the completions, each by its own program: all of them name the programs' options.
 
-The options of h2audit are those of its help text, which a test of the gate pins; those of h2audit-plot are in its --help.
+The options of h2audit and h2audit-split are those of their help texts, which tests of the gate pin; those of the scripts
+are in their --help.
 """
 
 import os
@@ -16,7 +17,10 @@ import unittest
 TOP = pathlib.Path(__file__).resolve().parents[2]
 MAN = TOP / "tools" / "man"
 COMPLETIONS = TOP / "tools" / "completions"
-HELP_OF_H2AUDIT = TOP / "tests" / "help.txt"
+HELP_TEXTS = {"h2audit": TOP / "tests" / "help.txt", "h2audit-split": TOP / "tests" / "split_help.txt"}
+SCRIPTS = {"h2audit-plot": TOP / "tools" / "h2audit-plot", "h2audit-merge": TOP / "tools" / "split" / "h2audit-merge"}
+# Where the completions for bash stand.
+BASH = {"h2audit-plot": "h2audit", "h2audit-merge": "h2audit-split"}
 OPTION = re.compile(r"(?<![\w-])(--[a-z][a-z-]*)")
 
 
@@ -26,14 +30,14 @@ def output_of(*words, **more):
 
 def options_of(name):
     """The long options of a program's help."""
-    if name == "h2audit":
-        text = HELP_OF_H2AUDIT.read_text()
+    if name in HELP_TEXTS:
+        text = HELP_TEXTS[name].read_text()
     else:
-        text = output_of(TOP / "tools" / name, "--help").split("\noptions:\n")[1]
+        text = output_of(SCRIPTS[name], "--help").split("\noptions:\n")[1]
     return sorted(set(OPTION.findall(text)))
 
 
-PROGRAMS = {name: options_of(name) for name in ("h2audit", "h2audit-plot")}
+PROGRAMS = {name: options_of(name) for name in (*HELP_TEXTS, *SCRIPTS)}
 
 
 class Version(unittest.TestCase):
@@ -67,7 +71,8 @@ class Bash(unittest.TestCase):
             "$(complete -p "$1" | sed 's/.*-F \\([a-z0-9_]*\\) .*/\\1/')"
             printf '%s\\n' "${COMPREPLY[@]}"
         """
-        return output_of("bash", "-euc", script, "bash", COMPLETIONS / "h2audit.bash", *words, cwd=TOP).split("\n")[:-1]
+        file = COMPLETIONS / f"{BASH.get(words[0], words[0])}.bash"
+        return output_of("bash", "-euc", script, "bash", file, *words, cwd=TOP).split("\n")[:-1]
 
     def test_options(self):
         for name, options in PROGRAMS.items():
@@ -81,6 +86,9 @@ class Bash(unittest.TestCase):
         self.assertEqual(self.offered("h2audit", "--block", "10"), ["1024", "1048576"])
         self.assertEqual(self.offered("h2audit-plot", "--format", ""), ["svg", "png"])
         self.assertEqual(self.offered("h2audit", "--frames", "READ"), ["README.md"])
+        self.assertEqual(self.offered("h2audit-split", "--parts", "5"), ["500"])
+        self.assertEqual(self.offered("h2audit-split", "-o", "parts", "READ"), ["README.md"])
+        self.assertEqual(self.offered("h2audit-merge", "exam"), ["examples"])
 
 
 class Fish(unittest.TestCase):
@@ -101,6 +109,7 @@ class Fish(unittest.TestCase):
         self.assertEqual(self.offered("h2audit --block 104"), ["1048576"])
         self.assertEqual(sorted(self.offered("h2audit-plot --format ")), ["png", "svg"])
         self.assertIn("README.md", self.offered("h2audit READ"))
+        self.assertEqual(self.offered("h2audit-split --parts 50"), ["500"])
 
 
 class Zsh(unittest.TestCase):
@@ -165,6 +174,8 @@ class Zsh(unittest.TestCase):
         self.assertEqual(self.completed("h2audit --block=104"), "h2audit --block=1048576")
         self.assertEqual(self.completed("h2audit-plot --format=p"), "h2audit-plot --format=png")
         self.assertEqual(self.completed("h2audit READ"), "h2audit README.md")
+        self.assertEqual(self.completed("h2audit-split --parts=50"), "h2audit-split --parts=500")
+        self.assertEqual(self.completed("h2audit-merge exam").rstrip("/"), "h2audit-merge examples")
 
 
 if __name__ == "__main__":
