@@ -16,7 +16,7 @@ import tempfile
 from parts import parts_of, records_of
 
 TOP = pathlib.Path(__file__).resolve().parents[1]
-MERGE = TOP / "tools" / "split" / "h2audit-merge"
+MERGE = TOP / "tools" / "h2audit-merge"
 HELP = (pathlib.Path(__file__).parent / "split_help.txt").read_text()
 PREFACE = b"PRI * HTTP/2.0\r\n\r\nSM\r\n\r\n" + bytes.fromhex("000000 04 00 00000000")
 DATA = bytes.fromhex("000005 00 00 00000001") + b"hello"

@@ -108,10 +108,36 @@ _h2audit_fleet() {
     esac
 }
 
+_h2audit_split() {
+    local word=${COMP_WORDS[COMP_CWORD]} before=${COMP_WORDS[COMP_CWORD - 1]}
+    # "--parts=4" is three words, since "=" is among the word breaks.
+    [[ $word == = ]] && word=
+    [[ $before == = ]] && before=${COMP_WORDS[COMP_CWORD - 2]}
+    case $before in
+    --parts) _h2audit_offer -W '2 4 8 16 32 64 128 256 500' -- "$word" ;;
+    *)
+        case $word in
+        -*) _h2audit_offer -W '--parts --output --help --version -o -h -V' -- "$word" ;;
+        *) _h2audit_offer -f -- "$word" ;;
+        esac
+        ;;
+    esac
+}
+
+_h2audit_merge() {
+    local word=${COMP_WORDS[COMP_CWORD]}
+    case $word in
+    -*) _h2audit_offer -W '--standing --help --version -h' -- "$word" ;;
+    *) _h2audit_offer -d -- "$word" ;;
+    esac
+}
+
 complete -o filenames -F _h2audit h2audit
+complete -o filenames -F _h2audit_any h2audit-any
 complete -o filenames -F _h2audit_comment h2audit-comment
+complete -o filenames -F _h2audit_fleet h2audit-fleet
+complete -o filenames -F _h2audit_import h2audit-import
+complete -o filenames -F _h2audit_merge h2audit-merge
 complete -o filenames -F _h2audit_page h2audit-page
 complete -o filenames -F _h2audit_plot h2audit-plot
-complete -o filenames -F _h2audit_import h2audit-import
-complete -o filenames -F _h2audit_any h2audit-any
-complete -o filenames -F _h2audit_fleet h2audit-fleet
+complete -o filenames -F _h2audit_split h2audit-split

@@ -29,7 +29,7 @@ on_root() {
 }
 
 # The programs beside h2audit, by what follows their names.
-beside=(-any -comment -fleet -import -page -plot)
+beside=(-any -comment -fleet -import -merge -page -plot -split)
 
 # The programs and their completions for bash.
 installed() {
@@ -39,7 +39,7 @@ installed() {
 
 # By the repository, and not by the Makefile: each module and asset that git knows.
 modules() {
-    git ls-files tools/comment tools/fleet tools/import tools/page tools/report | sed "s,^tools,./$1/share/h2audit,"
+    git ls-files tools/{comment,fleet,import,page,report,split} | sed "s,^tools,./$1/share/h2audit,"
 }
 
 # The completions for fish, and the man pages, with what ends their names: words FOLDER and ENDING.
@@ -53,7 +53,8 @@ in_order() {
 }
 
 test_install() {
-    make --no-print-directory install PROGRAM="$program" DESTDIR="$work/dest" PREFIX=/opt/h2audit > /dev/null
+    make --no-print-directory install PROGRAM="$program" SPLIT="$program" DESTDIR="$work/dest" \
+        PREFIX=/opt/h2audit > /dev/null
     same 'installed files' "$({
         installed opt/h2audit
         modules opt/h2audit
@@ -61,10 +62,11 @@ test_install() {
         echo ./opt/h2audit/share/zsh/site-functions/_h2audit
     } | in_order)" "$(files_below "$work/dest")"
     cmp "$program" "$work/dest/opt/h2audit/bin/h2audit"
+    "$work/dest/opt/h2audit/bin/h2audit-merge" --version
 }
 
 build() {
-    make --no-print-directory deb PROGRAM="$program" PACKAGES="$1"
+    make --no-print-directory deb PROGRAM="$program" SPLIT="$program" PACKAGES="$1"
 }
 
 test_package() {
@@ -99,6 +101,7 @@ run_installed() {
     "$work/root/usr/bin/h2audit-import" -o "$work/made.pcap" -k tests/tls/nghttp-nghttpd-13.keys tests/tls/nghttp-nghttpd-13.pcap
     "$work/root/usr/bin/h2audit-any" examples/negative_window.pcap > /dev/null
     "$work/root/usr/bin/h2audit-fleet" --version > /dev/null
+    "$work/root/usr/bin/h2audit-split" --help > /dev/null
     mandoc -Tmarkdown "$work/root/usr/share/man/man1/h2audit.1.gz" | grep '# EXIT STATUS' > /dev/null ||
         fail 'the manual of the package cannot be read'
 }
