@@ -13,11 +13,16 @@ import signal
 import stat
 import struct
 import subprocess
+import sys
 import tempfile
 import time
 import unittest
 
 import import_tools as tools
+
+sys.path.insert(0, str(tools.TOP / "tools" / "import"))
+
+from h2audit_import.flows import Flow  # noqa: E402
 
 NAME = "nghttp-nghttpd-13"
 PCAP = tools.capture_named(NAME).read_bytes()
@@ -275,6 +280,36 @@ def enhanced_in(data):
             high, low, captured, original = struct.unpack_from("<IIII", data, at + 12)
             yield tools.Packet(high << 32 | low, data[at + 28 : at + 28 + captured], original)
         at += length
+
+
+class Flows(unittest.TestCase):
+    """The reassembly of one side, beside a model that keeps of each offset the first byte that came for it."""
+
+    def test_model(self):
+        seed = random.randrange(1 << 32)
+        dice = random.Random(seed)
+        for _ in range(3000):
+            flow, first, given_out = Flow(), {}, b""
+            for packet in range(dice.randrange(1, 12)):
+                offset, data = dice.randrange(20), dice.randbytes(dice.randrange(1, 9))
+                for at, byte in enumerate(data, offset):
+                    first.setdefault(at, byte)
+                given_out += flow.add(offset, data, (packet, 0))
+                run = next(at for at in range(100) if at not in first)
+                self.assertEqual(given_out, bytes(first[at] for at in range(run)), seed)
+                self.assertEqual((flow.next, flow.behind_hole is not None), (run, max(first) > run), seed)
+
+    def test_end_of_offsets(self):
+        flow = Flow()
+        flow.next = (1 << 31) - 2
+        self.assertEqual((flow.add((1 << 31) - 2, b"abcd", (1, 0)), flow.next), (b"ab", 1 << 31))
+
+    def test_limit(self):
+        """What is held behind a hole is let go at 64 MiB, and the hole stays one."""
+        flow = Flow()
+        for at in range(1100):
+            flow.add(1 + (at << 16), bytes(1 << 16), (at, 0))
+        self.assertEqual((flow.held, flow.behind_hole, flow.add(0, b"a", (2000, 0))), ([], (0, 0), b""))
 
 
 class Secrets(unittest.TestCase):
