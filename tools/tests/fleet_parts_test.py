@@ -18,7 +18,7 @@ from fleet_test import tasks
 
 SPLIT = TOP / "crates" / "h2audit_split" / "out" / "h2audit_split"
 STAND_IN = TOP / "tools" / "tests" / "split_stand_in"
-MERGE = next((path for path in (TOP / "tools" / "h2audit-merge", TOP / "tools" / "split" / "h2audit-merge") if path.exists()), None)
+MERGE = TOP / "tools" / "h2audit-merge"
 
 
 def over_ipv6(script: str) -> bytes:
@@ -46,8 +46,7 @@ class Beside(unittest.TestCase):
         programs = {"h2audit": PROGRAM, "h2audit-any": TOP / "tools" / "h2audit-any", "h2audit-merge": MERGE,
                     "h2audit-split": SPLIT if SPLIT.exists() else STAND_IN}
         for name, program in programs.items():
-            if program:
-                (self.machine.bin / name).symlink_to(program)
+            (self.machine.bin / name).symlink_to(program)
 
     def large(self) -> pathlib.Path:
         path = self.machine.captures / "large.pcap"
@@ -99,7 +98,6 @@ class Imports(Beside):
         self.assertEqual(self.machine.ask("SELECT outcome, reason FROM captures"), [("refused", "bad-magic")])
 
 
-@unittest.skipUnless(MERGE, "parts: there is no h2audit-merge")
 class Parts(Beside):
     def test_any(self) -> None:
         """h2audit-any --parts prints the report of the whole, byte for byte, with credit lines too."""

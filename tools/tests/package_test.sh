@@ -1,5 +1,5 @@
 #!/usr/bin/env bash
-# Tests `make install` and `make deb`: package_test.sh PROGRAM
+# Tests `make install` and `make deb`: package_test.sh PROGRAM [SPLIT]
 #
 # The package is judged by lintian, and installed and removed under a folder that knows the machine's own packages: so
 # dpkg judges what it depends on, and nothing of the machine changes.
@@ -7,6 +7,7 @@ set -euo pipefail
 cd "$(dirname "$0")/../.."
 
 program=$(realpath "$1")
+split=$(realpath "${2-$1}")
 work=$(mktemp -d)
 trap 'rm -r "$work"' EXIT
 
@@ -37,9 +38,9 @@ installed() {
     printf "./$1/share/bash-completion/completions/h2audit%s\n" '' "${beside[@]}"
 }
 
-# By the repository, and not by the Makefile: each module and asset that git knows.
+# By the repository, and not by the Makefile: each module and asset.
 modules() {
-    git ls-files tools/{comment,fleet,import,page,report,split} | sed "s,^tools,./$1/share/h2audit,"
+    (cd tools && find comment fleet import page report split -name __pycache__ -prune -o -type f -printf "./$1/share/h2audit/%p\n")
 }
 
 # The completions for fish, and the man pages, with what ends their names: words FOLDER and ENDING.
@@ -53,8 +54,7 @@ in_order() {
 }
 
 test_install() {
-    make --no-print-directory install PROGRAM="$program" SPLIT="$program" DESTDIR="$work/dest" \
-        PREFIX=/opt/h2audit > /dev/null
+    make --no-print-directory install PROGRAM="$program" SPLIT="$split" DESTDIR="$work/dest" PREFIX=/opt/h2audit > /dev/null
     same 'installed files' "$({
         installed opt/h2audit
         modules opt/h2audit
@@ -66,7 +66,7 @@ test_install() {
 }
 
 build() {
-    make --no-print-directory deb PROGRAM="$program" SPLIT="$program" PACKAGES="$1"
+    make --no-print-directory deb PROGRAM="$program" SPLIT="$split" PACKAGES="$1"
 }
 
 test_package() {

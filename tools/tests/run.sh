@@ -1,6 +1,7 @@
 #!/usr/bin/env bash
-# Tests what stands around the program: pictures, comments, pages, man pages, completions, recipes, the Debian package and
-# the example of the library. And what the program answers where memory, threads, reads and writes are refused.
+# Tests what stands around the program: imports, comments, pages, pictures, many captures, man pages, completions, recipes,
+# the Debian package and the example of the library. And what the program answers where memory, threads, reads and writes
+# are refused.
 #
 # It proves nothing, and builds the library's example alone. Where the program is not built, or is older than its
 # sources, the recipes read the stored reports of examples/, and install and package have another program in its place;
@@ -17,6 +18,7 @@ needed+=(python3-cryptography python3-zstandard zstd tcpdump openssl)
 # Of many captures and their tests.
 needed+=(python3-distributed sqlite3 parallel iproute2)
 built=crates/h2audit_cli/out/h2audit_cli
+split=crates/h2audit_split/out/h2audit_split
 work=$(mktemp -d)
 trap 'rm -r "$work"' EXIT
 
@@ -82,12 +84,13 @@ else
     audits=()
     echo "what needs it does not run: build it by 'make build' or 'make test'"
 fi
+make -q "$split" > /dev/null 2>&1 || split=$program
 try 'man pages and completions' tools/tests/words_test.py
 try 'definitions to believe' tools/tests/believed_test.py
 try 'recipes' tools/tests/recipes_test.py "${audits[@]}"
 try 'language of the definitions' tools/tests/definitions_language_test.py
 try 'known reports by definition' tools/tests/definitions_test.py
-[[ ${#audits[@]} -eq 0 ]] || try 'random reports by definition' tools/tests/definitions_test.py "$built"
+try_built 'random reports by definition' tools/tests/definitions_test.py "$built"
 try 'pictures' tools/tests/plot_test.py
 try 'lines of reports, and who is to blame' tools/tests/report_test.py
 try 'comments of packets' tools/tests/comment_test.py Examples Forms
@@ -103,9 +106,9 @@ try 'many captures: tables' tools/tests/fleet_test.py "${audits[@]}" Tables
 try 'many captures: course' tools/tests/fleet_test.py Course
 try 'many captures: names and refusals' tools/tests/fleet_test.py Words
 try 'many captures: a cluster' tools/tests/fleet_cluster_test.py
-try 'many captures: imports and parts' tools/tests/fleet_parts_test.py "${audits[@]}"
+try_built 'many captures: imports and parts' tools/tests/fleet_parts_test.py "$built"
 try 'many captures: without daemons' tools/tests/fleet_collect_test.py "${audits[@]}"
-try 'install and package' tools/tests/package_test.sh "$program"
+try 'install and package' tools/tests/package_test.sh "$program" "$split"
 try_built 'refused growths, threads, reads and writes' tools/tests/refusals_test.py "$built"
 try_built 'threads that are started' tools/tests/threads_test.py "$built"
 [[ ${#left_out[@]} -eq 0 ]] || fail "did not run, for want of the program: $(printf '%s; ' "${left_out[@]}")"
