@@ -89,10 +89,13 @@ fn push_moment(out: &mut String, number: u32, frames: &[Frame]) -> Result<(), Al
     requires { IsOrderly frames.now }
     ensures { OnOk result (string_bytes out.new ≡ string_bytes out.old ++ moment_text frames.now number) }
 {
-    let frame = frame_of(frames, number);
+    let (record, nanos) = match frame_of(frames, number) {
+        Some(frame) => (frame.rec, frame.nanos),
+        None => (0, 0),
+    };
     push_field(out, "frame ", number as u64)?;
-    push_field(out, " record ", frame.map_or(0, |frame| frame.rec) as u64)?;
-    push_field(out, " time ", frame.map_or(0, |frame| frame.nanos))
+    push_field(out, " record ", record as u64)?;
+    push_field(out, " time ", nanos)
 }
 
 #[tactic(auto, using(crate::proofs::Joins::joins))]

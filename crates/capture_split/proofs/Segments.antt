@@ -1,24 +1,55 @@
 -- A packet that holds a segment names its endpoints in its front.
-use Rattle.std.proofs.Common.{◌≡◌, ◌+◌, ◌-◌, ◌*◌, ◌/◌, ◌%◌, ◌^◌, ◌<◌, ◌≤◌, ◌==◌, ◌∙◌, ℕ, not, Bool, true, false, if◌then◌else◌, Some, None, List, [], ◌∷◌, ◌++◌, length, take, drop, slice_index, unwrap_or, refl, sym, ap, subst, arith, length-drop}
+use Rattle.std.proofs.Common.{◌≡◌, ◌+◌, ◌-◌, ◌*◌, ◌/◌, ◌%◌, ◌^◌, ◌<◌, ◌≤◌, ◌==◌, ◌∙◌, ◌&&◌, ◌||◌, nat_lt, ℕ, not, find, Bool, true, false, if◌then◌else◌, Some, None, List, [], ◌∷◌, ◌++◌, length, take, drop, slice_index, refl, sym, ap, subst, arith, length-drop}
+use Rattle.std.specs.Option.{option_map_or}
 use Rattle.std.proofs.Math.Nat.{mod-lt}
 use Rattle.std.proofs.lemmas.Bool.{and_from, cond-true, le-ltb, ltb-false, not-false}
 use Rattle.std.proofs.lemmas.List.{drop-take, get_or-take, length-take}
 use Rattle.byteorder.specs.Endian.{big_number}
 use Rattle.byteorder.specs.Numbers.{big_from-take}
 use Rattle.pcap_records.specs.LinkType.{raw_ip}
-use Rattle.packet_heads.specs.Decision.{is_partial, segment_of}
-use Rattle.packet_heads.specs.Ethernet.{ethernet_lines, header_length, is_tagged}
+use Rattle.packet_heads.specs.Decision.{is_partial, segment_of, decision_lines}
+use Rattle.packet_heads.specs.Ethernet.{header_length, is_tagged, ether_type}
 use Rattle.packet_heads.specs.Ipv4 as ipv4
-use Rattle.packet_heads.specs.Lines.{first_answer}
-use Rattle.packet_heads.specs.Link.{datagram_start, link_lines, raw_lines}
+use Rattle.packet_heads.specs.Link.{datagram_start}
 use Rattle.packet_heads.specs.Tcp as tcp
 use Rattle.packet_heads.specs.code.Standing.{IsPassedOver}
 use Rattle.packet_heads.specs.declared.packets.Packet.{Packet}
 use Rattle.packet_heads.specs.declared.packets.Packet.TheVariants as packets
 use Rattle.packet_heads.specs.declared.packets.Segment.{Segment}
+use Rattle.packet_heads.specs.declared.packets.Skip.TheVariants.{NotIpv4, Fragment, NotTcp}
+use Rattle.packet_heads.specs.declared.packets.Refusal.TheVariants.{ShortEthernet, ShortIpv4, BadVersion, BadHeaderLength, BadTotalLength, PastEnd, ShortTcp, BadDataOffset}
 use Rattle.capture_split.specs.Laws.{SegmentsName}
 use Rattle.capture_split.specs.Pair.{front_of, names_endpoints, pair_in}
 use Rattle.capture_split.specs.declared.pair.Pair.{Pair}
+
+-- ---- the lines of the packet decision, of the link, of IPv4 and of TCP
+
+abbrev link_lines : Bool → List ℕ → List (Bool × Packet)
+link_lines raw packet =
+    (if raw then length packet == 0 else nat_lt (length packet) (header_length packet), packets.Refused (if raw then ShortIpv4 else ShortEthernet))
+    ∷ (if raw then ipv4.version packet == 6 else not (ether_type packet == 0x0800), packets.Skipped NotIpv4)
+    ∷ []
+
+abbrev ipv4_lines : Bool → List ℕ → List (Bool × Packet)
+ipv4_lines partial datagram =
+    (nat_lt (length datagram) 20, packets.Refused ShortIpv4)
+    ∷ (not (ipv4.version datagram == 4), packets.Refused BadVersion)
+    ∷ (nat_lt (ipv4.header_words datagram) 5 || nat_lt (length datagram) (ipv4.header_length datagram), packets.Refused BadHeaderLength)
+    ∷ (not (ipv4.total_length datagram == 0) && nat_lt (ipv4.total_length datagram) (ipv4.header_length datagram), packets.Refused BadTotalLength)
+    ∷ (nat_lt (length datagram) (ipv4.total_length datagram) && not partial, packets.Refused PastEnd)
+    ∷ (ipv4.is_fragment datagram, packets.Skipped Fragment)
+    ∷ (not (ipv4.protocol datagram == 6), packets.Skipped NotTcp)
+    ∷ []
+
+abbrev tcp_lines : List ℕ → List (Bool × Packet)
+tcp_lines segment =
+    (nat_lt (length segment) 20, packets.Refused ShortTcp)
+    ∷ (nat_lt (tcp.data_offset segment) 5 || nat_lt (length segment) (tcp.header_length segment), packets.Refused BadDataOffset)
+    ∷ []
+
+all_lines : (raw partial : Bool) (packet datagram segment : List ℕ)
+    → decision_lines raw partial packet datagram segment ≡ (link_lines raw packet ++ ipv4_lines partial datagram) ++ tcp_lines segment
+all_lines raw partial packet datagram segment = refl
 
 -- ---- a table of which every line passes a packet over
 
@@ -33,10 +64,6 @@ AllFalse (line ∷ later) = (line.0 ≡ false) × AllFalse later
 over-append : (xs ys : List (Bool × Packet)) → AllOver xs → AllOver ys → AllOver (xs ++ ys)
 over-append [] ys p q = q
 over-append (x ∷ xs) ys p q = (p.0, over-append xs ys p.1 q)
-
-over-if : (b : Bool) (xs ys : List (Bool × Packet)) → AllOver xs → AllOver ys → AllOver (if b then xs else ys)
-over-if true xs ys p q = p
-over-if false xs ys p q = q
 
 false-left : (xs ys : List (Bool × Packet)) → AllFalse (xs ++ ys) → AllFalse xs
 false-left [] ys p = tt
@@ -57,7 +84,8 @@ same_segment x s e = ap (λ (p : Packet). segment_or p x) e
 
 -- a segment is answered where no line applies
 none_applies : (lines : List (Bool × Packet)) → AllOver lines → (x s : Segment)
-    → unwrap_or (first_answer lines) (packets.Segment x) ≡ packets.Segment s → AllFalse lines × (x ≡ s)
+    → option_map_or (λ (line : Bool × Packet). line.1) (find (λ (line : Bool × Packet). line.0) lines) (packets.Segment x)
+    ≡ packets.Segment s → AllFalse lines × (x ≡ s)
 none_applies [] over x s e = (tt, same_segment x s e)
 none_applies ((true, a) ∷ later) over x s e = absurd (subst IsPassedOver e over.0)
 none_applies ((false, a) ∷ later) over x s e =
@@ -126,8 +154,8 @@ destination_ports a b s fits fits_too =
 
 -- ---- the front of a datagram that no line passes over
 
-module _ (k : ℕ) (d : List ℕ) (many : 64 ≤ k) (partial : Bool) (ip : AllFalse (ipv4.ipv4_lines partial d))
-    (segment : AllFalse (tcp.tcp_lines (ipv4.segment_bytes d))) where
+module _ (k : ℕ) (d : List ℕ) (many : 64 ≤ k) (partial : Bool) (ip : AllFalse (ipv4_lines partial d))
+    (segment : AllFalse (tcp_lines (ipv4.segment_bytes d))) where
   h : ℕ
   h = ipv4.header_length d
 
@@ -188,12 +216,11 @@ module _ (k : ℕ) (d : List ℕ) (many : 64 ≤ k) (partial : Bool) (ip : AllFa
 
 -- ---- from the decision to the front
 
-lines_over : (link : ℕ) (packet d segment : List ℕ) (partial : Bool)
-    → AllOver ((link_lines link packet ++ ipv4.ipv4_lines partial d) ++ tcp.tcp_lines segment)
-lines_over link packet d segment partial =
-    over-append _ _
-    (over-append _ _ (over-if (link == raw_ip) (raw_lines packet) (ethernet_lines packet) (tt, (tt, tt)) (tt, (tt, tt)))
-    (tt, (tt, (tt, (tt, (tt, (tt, (tt, tt))))))))
+lines_over : (raw : Bool) (packet d segment : List ℕ) (partial : Bool)
+    → AllOver ((link_lines raw packet ++ ipv4_lines partial d) ++ tcp_lines segment)
+lines_over raw packet d segment partial =
+    over-append (link_lines raw packet ++ ipv4_lines partial d) (tcp_lines segment)
+    (over-append (link_lines raw packet) (ipv4_lines partial d) (tt, (tt, tt)) (tt, (tt, (tt, (tt, (tt, (tt, (tt, tt))))))))
     (tt, (tt, tt))
 
 pub segments_name_lem : SegmentsName
@@ -201,11 +228,12 @@ segments_name_lem link number row packet s e =
     let start : ℕ = datagram_start link packet in
     let d : List ℕ = drop start packet in
     let partial : Bool = is_partial row in
-    let tables = link_lines link packet ++ ipv4.ipv4_lines partial d in
-    let last = tcp.tcp_lines (ipv4.segment_bytes d) in
-    let none = none_applies (tables ++ last) (lines_over link packet d (ipv4.segment_bytes d) partial)
+    let raw : Bool = link == raw_ip in
+    let tables = link_lines raw packet ++ ipv4_lines partial d in
+    let last = tcp_lines (ipv4.segment_bytes d) in
+    let none = none_applies (tables ++ last) (lines_over raw packet d (ipv4.segment_bytes d) partial)
     (segment_of number row (row.start + start) d) s e in
-    let ip = false-right (link_lines link packet) (ipv4.ipv4_lines partial d) (false-left tables last none.0) in
+    let ip = false-right (link_lines raw packet) (ipv4_lines partial d) (false-left tables last none.0) in
     let segment = false-right tables last none.0 in
     let k : ℕ = 82 - start in
     let small : start ≤ 18 = start_small link packet in
