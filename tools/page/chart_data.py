@@ -148,7 +148,7 @@ def steps(numbers: Iterable[int]) -> Iterator[int]:
 
 def onward(times: Iterable[int]) -> Iterator[int]:
     """Times for a chart, which cannot go back: where the capture's clock did, they stand still."""
-    latest = None
+    latest: int | None = None
     for time in times:
         latest = time if latest is None else max(latest, time)
         yield latest
