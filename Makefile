@@ -42,7 +42,7 @@ proved-h2audit_cli:
 # The toolchain's own libraries come proved.
 proved-%: ;
 
-# Puts the program in place as h2audit, with h2audit-plot, man pages and completions.
+# Puts the program in place as h2audit, with those beside it, man pages and completions.
 install: share = $(DESTDIR)$(PREFIX)/share
 install: $(PROGRAM)
 	install -D -m 755 $(PROGRAM) $(DESTDIR)$(PREFIX)/bin/h2audit
@@ -56,6 +56,12 @@ install: $(PROGRAM)
 	install -D -m 644 tools/completions/h2audit.bash $(share)/bash-completion/completions/h2audit
 	ln -sf h2audit $(share)/bash-completion/completions/h2audit-plot
 	ln -sf h2audit $(share)/bash-completion/completions/h2audit-fleet
+	install -D -m 755 -t $(DESTDIR)$(PREFIX)/bin tools/h2audit-import tools/h2audit-any
+	install -D -m 644 -t $(share)/h2audit/import/h2audit_import tools/import/h2audit_import/*.py
+	install -D -m 644 -t $(share)/man/man1 tools/man/h2audit-import.1 tools/man/h2audit-any.1
+	install -D -m 644 -t $(share)/fish/vendor_completions.d tools/completions/h2audit-import.fish tools/completions/h2audit-any.fish
+	ln -sf h2audit $(share)/bash-completion/completions/h2audit-import
+	ln -sf h2audit $(share)/bash-completion/completions/h2audit-any
 	install -D -m 644 -t $(DESTDIR)$(ZSHDIR) tools/completions/_h2audit
 	install -D -m 644 -t $(share)/fish/vendor_completions.d tools/completions/h2audit.fish tools/completions/h2audit-plot.fish
 

@@ -1,4 +1,4 @@
-# Completions of h2audit and h2audit-plot for bash.
+# Completions of h2audit, h2audit-plot, h2audit-import and h2audit-any for bash.
 
 # The words that compgen finds with these arguments, one a line.
 _h2audit_offer() {
@@ -56,6 +56,40 @@ _h2audit_fleet() {
     esac
 }
 
+_h2audit_import() {
+    local word=${COMP_WORDS[COMP_CWORD]} before=${COMP_WORDS[COMP_CWORD - 1]}
+    local options='--key-log -k --jobs -j --output -o --map -m --help -h --version -V'
+    [[ $word == = ]] && word=
+    [[ $before == = ]] && before=${COMP_WORDS[COMP_CWORD - 2]}
+    case $before in
+    --jobs | -j) _h2audit_offer -W "$(echo {1..64})" -- "$word" ;;
+    *)
+        case $word in
+        -*) _h2audit_offer -W "$options" -- "$word" ;;
+        *) _h2audit_offer -f -- "$word" ;;
+        esac
+        ;;
+    esac
+}
+
+_h2audit_any() {
+    local word=${COMP_WORDS[COMP_CWORD]} before=${COMP_WORDS[COMP_CWORD - 1]}
+    local options='--key-log -k --jobs -j --workers --groups --block --frames --parts --h2audit --help -h --version -V'
+    case $before in
+    --jobs | -j) _h2audit_offer -W "$(echo {1..64})" -- "$word" ;;
+    --parts) _h2audit_offer -W '2 4 8 16' -- "$word" ;;
+    --key-log | -k | --h2audit) _h2audit_offer -f -- "$word" ;;
+    *)
+        case $word in
+        -*) _h2audit_offer -W "$options" -- "$word" ;;
+        *) _h2audit ;;
+        esac
+        ;;
+    esac
+}
+
 complete -o filenames -F _h2audit_fleet h2audit-fleet
 complete -o filenames -F _h2audit h2audit
 complete -o filenames -F _h2audit_plot h2audit-plot
+complete -o filenames -F _h2audit_import h2audit-import
+complete -o filenames -F _h2audit_any h2audit-any

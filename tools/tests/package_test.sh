@@ -31,17 +31,21 @@ on_root() {
 installed() {
     cat << END
 ./$1/bin/h2audit
+./$1/bin/h2audit-any
 ./$1/bin/h2audit-fleet
+./$1/bin/h2audit-import
 ./$1/bin/h2audit-plot
 ./$1/share/bash-completion/completions/h2audit
+./$1/share/bash-completion/completions/h2audit-any
 ./$1/share/bash-completion/completions/h2audit-fleet
+./$1/share/bash-completion/completions/h2audit-import
 ./$1/share/bash-completion/completions/h2audit-plot
 END
 }
 
 # The modules of the programs in Python.
 modules() {
-    (cd tools && printf "./$1/share/h2audit/%s\n" {fleet,report}/*.py fleet/schema.sql)
+    (cd tools && printf "./$1/share/h2audit/%s\n" {fleet,import/h2audit_import,report}/*.py fleet/schema.sql)
 }
 
 in_order() {
@@ -52,8 +56,8 @@ test_install() {
     make --no-print-directory install PROGRAM="$program" DESTDIR="$work/dest" PREFIX=/opt/h2audit > /dev/null
     same 'installed files' "$({ installed opt/h2audit
         modules opt/h2audit
-        printf './opt/h2audit/share/%s\n' fish/vendor_completions.d/h2audit{-fleet,-plot,}.fish \
-            man/man1/h2audit{-fleet,-plot,}.1 zsh/site-functions/_h2audit; } | in_order)" "$(files_below "$work/dest")"
+        printf './opt/h2audit/share/%s\n' fish/vendor_completions.d/h2audit{-any,-fleet,-import,-plot,}.fish \
+            man/man1/h2audit{-any,-fleet,-import,-plot,}.1 zsh/site-functions/_h2audit; } | in_order)" "$(files_below "$work/dest")"
     cmp "$program" "$work/dest/opt/h2audit/bin/h2audit"
 }
 
@@ -70,8 +74,8 @@ test_package() {
     on_root --install "$package" > /dev/null
     same 'files of the package' "$({ installed usr
         modules usr
-        printf './usr/share/%s\n' doc/h2audit/{changelog.gz,copyright} fish/vendor_completions.d/h2audit{-fleet,-plot,}.fish \
-            man/man1/h2audit{-fleet,-plot,}.1.gz zsh/vendor-completions/_h2audit; } | in_order)" "$(files_below "$work/root")"
+        printf './usr/share/%s\n' doc/h2audit/{changelog.gz,copyright} fish/vendor_completions.d/h2audit{-any,-fleet,-import,-plot,}.fish \
+            man/man1/h2audit{-any,-fleet,-import,-plot,}.1.gz zsh/vendor-completions/_h2audit; } | in_order)" "$(files_below "$work/root")"
     run_installed
     on_root --purge h2audit > /dev/null
     same 'files that are left' '' "$(files_below "$work/root")"
@@ -87,6 +91,8 @@ run_installed() {
     "$work/root/usr/bin/h2audit" --help > /dev/null
     "$work/root/usr/bin/h2audit-plot" examples/negative_window.frames.report > "$work/picture.svg"
     "$work/root/usr/bin/h2audit-fleet" --version > /dev/null
+    "$work/root/usr/bin/h2audit-import" -o "$work/made.pcap" -k tests/tls/nghttp-nghttpd-13.keys tests/tls/nghttp-nghttpd-13.pcap
+    "$work/root/usr/bin/h2audit-any" examples/negative_window.pcap > /dev/null
     mandoc -Tmarkdown "$work/root/usr/share/man/man1/h2audit.1.gz" | grep '# EXIT STATUS' > /dev/null ||
         fail 'the manual of the package cannot be read'
 }

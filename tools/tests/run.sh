@@ -8,8 +8,9 @@
 set -euo pipefail
 cd "$(dirname "$0")/../.."
 
-needed=(python3-matplotlib mandoc lintian zsh fish gawk mawk original-awk tshark binutils)
-needed+=(python3-distributed python3-cryptography sqlite3 parallel openssl iproute2)
+needed=(python3-matplotlib mandoc lintian zsh fish gawk mawk original-awk tshark binutils
+    python3-cryptography python3-zstandard zstd tcpdump openssl)
+needed+=(python3-distributed sqlite3 parallel iproute2)
 built=crates/h2audit_cli/out/h2audit_cli
 work=$(mktemp -d)
 trap 'rm -r "$work"' EXIT
@@ -69,6 +70,10 @@ try 'man pages and completions' tools/tests/words_test.py
 try 'recipes' tools/tests/recipes_test.py "${audits[@]}"
 try 'pictures' tools/tests/plot_test.py
 try 'library example' tools/tests/library_example_test.py
+try 'captures of TLS' tools/tests/import_test.py "${audits[@]}"
+try 'forms of captures' tools/tests/import_forms_test.py
+try 'cipher suites, resumption, PSK, early data' tools/tests/import_tls_test.py "${audits[@]}"
+try 'mutated captures and key logs' tools/tests/import_mutations_test.py
 try 'many captures: tables' tools/tests/fleet_test.py "${audits[@]}" Tables
 try 'many captures: course' tools/tests/fleet_test.py Course
 try 'many captures: names and refusals' tools/tests/fleet_test.py Words

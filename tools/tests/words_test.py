@@ -17,7 +17,7 @@ TOP = pathlib.Path(__file__).resolve().parents[2]
 MAN = TOP / "tools" / "man"
 COMPLETIONS = TOP / "tools" / "completions"
 HELP_OF_H2AUDIT = TOP / "tests" / "help.txt"
-OPTION = re.compile(r"(?<![\w-])(--[a-z][a-z-]*)")
+OPTION = re.compile(r"(?<![\w-])(--[a-z][a-z0-9-]*)")
 
 
 def output_of(*words, **more):
@@ -33,7 +33,7 @@ def options_of(name):
     return sorted(set(OPTION.findall(text)))
 
 
-PROGRAMS = {name: options_of(name) for name in ("h2audit", "h2audit-plot", "h2audit-fleet")}
+PROGRAMS = {name: options_of(name) for name in ("h2audit", "h2audit-plot", "h2audit-import", "h2audit-any", "h2audit-fleet")}
 
 
 class Version(unittest.TestCase):
@@ -54,7 +54,7 @@ class Man(unittest.TestCase):
     def test_options(self):
         for name, options in PROGRAMS.items():
             tags = re.findall(r"^\.It (Fl .*)", (MAN / f"{name}.1").read_text(), re.M)
-            named = sorted("--" + word for tag in tags for word in re.findall(r"Fl \\-([a-z-]+)", tag))
+            named = sorted("--" + word for tag in tags for word in re.findall(r"Fl \\-([a-z][a-z0-9-]*)", tag))
             self.assertEqual(named, options)
 
 
@@ -81,6 +81,9 @@ class Bash(unittest.TestCase):
         self.assertEqual(self.offered("h2audit", "--block", "10"), ["1024", "1048576"])
         self.assertEqual(self.offered("h2audit-plot", "--format", ""), ["svg", "png"])
         self.assertEqual(self.offered("h2audit", "--frames", "READ"), ["README.md"])
+        self.assertEqual(self.offered("h2audit-import", "--jobs", "6"), ["6", "60", "61", "62", "63", "64"])
+        self.assertEqual(self.offered("h2audit-import", "-k", "READ"), ["README.md"])
+        self.assertEqual(self.offered("h2audit-any", "--groups", "10"), ["1024"])
         self.assertEqual(self.offered("h2audit-fleet", "--import", "a"), ["auto", "always"])
         self.assertEqual(self.offered("h2audit-fleet", "--reports", "exam"), ["examples"])
 
@@ -103,6 +106,8 @@ class Fish(unittest.TestCase):
         self.assertEqual(self.offered("h2audit --block 104"), ["1048576"])
         self.assertEqual(sorted(self.offered("h2audit-plot --format ")), ["png", "svg"])
         self.assertIn("README.md", self.offered("h2audit READ"))
+        self.assertIn("README.md", self.offered("h2audit-any -k READ"))
+        self.assertEqual(self.offered("h2audit-import --jobs 6"), ["6", "60", "61", "62", "63", "64"])
         self.assertEqual(sorted(self.offered("h2audit-fleet --import a")), ["always", "auto"])
 
 
@@ -170,6 +175,8 @@ class Zsh(unittest.TestCase):
         self.assertEqual(self.completed("h2audit --block=104"), "h2audit --block=1048576")
         self.assertEqual(self.completed("h2audit-plot --format=p"), "h2audit-plot --format=png")
         self.assertEqual(self.completed("h2audit READ"), "h2audit README.md")
+        self.assertEqual(self.completed("h2audit-any --groups=10"), "h2audit-any --groups=1024")
+        self.assertEqual(self.completed("h2audit-import --key-log=READ"), "h2audit-import --key-log=README.md")
         self.assertEqual(self.completed("h2audit-fleet --import=n"), "h2audit-fleet --import=never")
 
 

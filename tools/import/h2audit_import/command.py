@@ -40,7 +40,11 @@ def keys_of(program: str, key_logs: list[str], files: list[str]) -> tuple[Keys, 
 
 
 def stage_of(keys: Keys, more_keys: bool, jobs: int, output: Output) -> Stage:
-    return OneProcess(keys, more_keys, output)
+    if jobs == 1:
+        return OneProcess(keys, more_keys, output)
+    from .jobs import ManyProcesses  # what it needs takes time to load
+
+    return ManyProcesses(keys, more_keys, output, jobs)
 
 
 def imported(program: str, asked: Namespace, output: Output) -> Counts:

@@ -12,7 +12,7 @@ from .key_log import Keys
 from .key_schedule import TrafficKeys, key_block, next_secret, traffic_keys
 from .protection import DOES_NOT_OPEN, Opener, Tls13, tls12_opener
 from .suites import Suite, suite_of
-from .tls_records import ALERT, APPLICATION_DATA, CHANGE_CIPHER_SPEC, HANDSHAKE, HEARTBEAT
+from .tls_records import ALERT, APPLICATION_DATA, CHANGE_CIPHER_SPEC, HANDSHAKE
 
 CLIENT, SERVER = 0, 1
 

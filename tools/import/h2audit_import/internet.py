@@ -98,7 +98,7 @@ class Decoder:
             self.stand_ins.meet_class_e()
         end = min(total, captured) if total else captured
         is_snapped = total > captured or (total == 0 and len(data) < original)
-        return tcp(data[start:] if start else data, header, end, original - start, is_snapped)
+        return tcp(data[start:] if start else data, header, end, max(original - start, 0), is_snapped)
 
     def ipv6(self, data: bytes, start: int, original: int) -> Segment | str:
         if len(data) - start < 40:

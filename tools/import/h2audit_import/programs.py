@@ -5,15 +5,15 @@ import os
 import signal
 import sys
 import time
-from typing import Callable, Iterator, NoReturn
 from contextlib import contextmanager
+from typing import Callable, Iterator, NoReturn
 
 from . import VERSION
 from .errors import Interrupted, Refused
+from .private_files import SIGNALS
 
 USAGE, CAPTURE_REFUSED, IO_FAILED, NO_MEMORY, NOTHING_READ = 2, 3, 4, 5, 6
 MOST_JOBS = 64
-SIGNALS = (signal.SIGINT, signal.SIGTERM, signal.SIGHUP)
 SECONDS_BEFORE_PROGRESS, SECONDS_BETWEEN = 2.0, 0.5
 
 

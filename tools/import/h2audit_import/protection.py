@@ -128,7 +128,9 @@ class Blocks:
 def block_cipher(name: str, key: bytes) -> algorithms.AES | algorithms.Camellia | algorithms.TripleDES | None:
     if name == "NULL":
         return None
-    return {"AES": algorithms.AES, "CAMELLIA": algorithms.Camellia, "3DES": algorithms.TripleDES}[name](key)
+    if name == "AES":
+        return algorithms.AES(key)
+    return algorithms.Camellia(key) if name == "CAMELLIA" else algorithms.TripleDES(key)
 
 
 def additional_data(sequence: int, header: bytes, length: int) -> bytes:
@@ -141,4 +143,6 @@ def additional_data(sequence: int, header: bytes, length: int) -> bytes:
 def tls12_opener(suite: Suite, keys: TrafficKeys, is_encrypted_first: bool) -> Opener:
     if suite.mac is not None:
         return Blocks(suite, keys, is_encrypted_first)
-    return Poly1305(suite, keys) if suite.mode == "POLY1305" else ExplicitNonce(suite, keys)
+    if suite.mode == "POLY1305":
+        return Poly1305(suite, keys)
+    return ExplicitNonce(suite, keys)

@@ -12,7 +12,7 @@ from .errors import Stopped
 from .flows import Arrival, Flow
 from .handshake import Handshake, Stage
 from .key_log import Keys
-from .tls_records import ALERT, APPLICATION_DATA, CHANGE_CIPHER_SPEC, HANDSHAKE, Records
+from .tls_records import Records
 
 MOST_WAITING = 64 << 20
 Emit: TypeAlias = Callable[[int, bytes, Arrival], None]
