@@ -9,6 +9,8 @@ cd "$(dirname "$0")/../.."
 program=$(realpath "$1")
 work=$(mktemp -d)
 trap 'rm -r "$work"' EXIT
+# Stands in for h2audit-split: which program it is does not matter here.
+cp "$program" "$work/split"
 
 fail() {
     echo "$1"
@@ -43,7 +45,7 @@ END
 }
 
 test_install() {
-    make --no-print-directory install PROGRAM="$program" SPLIT="$program" DESTDIR="$work/dest" PREFIX=/opt/h2audit > /dev/null
+    make --no-print-directory install PROGRAM="$program" SPLIT="$work/split" DESTDIR="$work/dest" PREFIX=/opt/h2audit > /dev/null
     same 'installed files' "$({
         installed opt/h2audit
         printf './opt/h2audit/share/%s\n' fish/vendor_completions.d/h2audit{-plot,-split,-merge,}.fish \
@@ -54,7 +56,7 @@ test_install() {
 }
 
 build() {
-    make --no-print-directory deb PROGRAM="$program" SPLIT="$program" PACKAGES="$1"
+    make --no-print-directory deb PROGRAM="$program" SPLIT="$work/split" PACKAGES="$1"
 }
 
 test_package() {
