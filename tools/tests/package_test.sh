@@ -7,9 +7,11 @@ set -euo pipefail
 cd "$(dirname "$0")/../.."
 
 program=$(realpath "$1")
-split=$(realpath "${2-$1}")
 work=$(mktemp -d)
 trap 'rm -r "$work"' EXIT
+# Without SPLIT a copy of PROGRAM stands in for it.
+split=$work/split
+cp "${2-$1}" "$split"
 
 fail() {
     echo "$1"
