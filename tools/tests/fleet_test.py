@@ -11,6 +11,7 @@ import os
 import re
 import shutil
 import signal
+import sqlite3
 import subprocess
 import sys
 import time
@@ -316,6 +317,21 @@ class Words(unittest.TestCase):
         status, said, error = self.machine.run("--jobs", "1", "captures")
         self.assertEqual((status, said), (5, ""))
         self.assertRegex(error, r"^h2audit-fleet: worker tls://\S+ has no program h2audit\n$")
+
+
+class Schema(unittest.TestCase):
+    def test_documented(self) -> None:
+        """The document names each table, column and view, and the versions of the schema."""
+        base = sqlite3.connect(":memory:")
+        base.executescript((TOP / "tools" / "fleet" / "schema.sql").read_text())
+        text = (TOP / "docs" / "FLEET.md").read_text()
+        named = set(re.findall(r"`([a-z0-9_]+)`", text)) | {"capture"}
+        named |= {f"{side}_{word}" for side in ("client", "server") for word in ("bytes", "gap", "tail")}
+        for kind, name in base.execute("SELECT type, name FROM sqlite_master WHERE type IN ('table', 'view')"):
+            columns = {row[1] for row in base.execute(f"PRAGMA table_info({name})")} if kind == "table" else set()
+            self.assertEqual(({name} | columns) - named, set(), name)
+        self.assertIn(f"schema, {base.execute('PRAGMA user_version').fetchone()[0]};", text)
+        self.assertIn(f"is {base.execute('PRAGMA application_id').fetchone()[0]}.", text)
 
 
 def until(is_done) -> None:

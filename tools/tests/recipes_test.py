@@ -3,8 +3,8 @@
 
     tools/tests/recipes_test.py [PROGRAM]
 
-A command is a block ```sh that a block ```text follows. It is run by bash at the top of the repository, once with each awk
-that is installed. The name h2audit is that of PROGRAM, and those of the programs beside it are of tools/. Without PROGRAM, h2audit is
+A command is a block ```sh that a block ```text follows. It is run by bash at the top of the repository, with an awk in it once
+for each awk that is installed. The name h2audit is that of PROGRAM, and those of the programs beside it are of tools/. Without PROGRAM, h2audit is
 a stand-in that prints the stored reports of examples/, and commands of h2audit-any are left out.
 """
 
@@ -72,7 +72,7 @@ def main(words):
         for awk in AWKS:
             bin_of = tools_folder(folder, program, awk)
             for place, command, wanted in recipes():
-                if not words and "h2audit-any" in command:
+                if awk != AWKS[0] and "awk" not in command or not words and "h2audit-any" in command:
                     continue
                 number += 1
                 found = printed(command, bin_of)

@@ -104,7 +104,7 @@ try 'cipher suites, resumption, PSK, early data' tools/tests/import_tls_test.py 
 try 'mutated captures and key logs' tools/tests/import_mutations_test.py
 try 'many captures: tables' tools/tests/fleet_test.py "${audits[@]}" Tables
 try 'many captures: course' tools/tests/fleet_test.py Course
-try 'many captures: names and refusals' tools/tests/fleet_test.py Words
+try 'many captures: names and refusals' tools/tests/fleet_test.py Words Schema
 try 'many captures: a cluster' tools/tests/fleet_cluster_test.py
 try_built 'many captures: imports and parts' tools/tests/fleet_parts_test.py "$built"
 try 'many captures: without daemons' tools/tests/fleet_collect_test.py "${audits[@]}"
