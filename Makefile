@@ -86,7 +86,7 @@ test:
 	tests/reports_test.py $(PROGRAM) $(PROGRAM).by-rattle
 	tests/split_test.py $(PROGRAM) $(SPLIT) $(SPLIT).by-rattle
 
-# Tests what stands around the program: pictures, man pages, completions, recipes and package. It proves nothing.
+# Tests what stands around the core: the programs in Python, man pages, completions, recipes and package. It proves nothing.
 test-tools:
 	tools/tests/run.sh
 
