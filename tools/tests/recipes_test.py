@@ -5,7 +5,7 @@
 
 A command is a block ```sh that a block ```text follows. It is run by bash at the top of the repository, where it has an awk
 once with each that is installed. The name h2audit is that of PROGRAM, and those of the programs beside it are of tools/.
-Without PROGRAM, h2audit is a stand-in that prints the stored reports of examples/, and commands of h2audit-any are left out.
+Without PROGRAM, h2audit is a stand-in that prints the stored reports of examples/, and commands that import are left out.
 """
 
 import os
@@ -19,6 +19,7 @@ import tempfile
 TOP = pathlib.Path(__file__).resolve().parents[2]
 PAIR = re.compile(r"^```sh\n(.*?)^```\n+```text\n(.*?)^```$", re.M | re.S)
 LINK = re.compile(r"\]\(([^)#:]+)(?:#[^)]*)?\)")
+IMPORTS = re.compile("h2audit-(any|import) ")
 AWKS = [awk for awk in ("mawk", "gawk", "original-awk") if shutil.which(awk)]
 
 
@@ -72,7 +73,7 @@ def main(words):
         for awk in AWKS:
             bin_of = tools_folder(folder, program, awk)
             for place, command, wanted in recipes():
-                if awk != AWKS[0] and "awk" not in command or not words and "h2audit-any" in command:
+                if awk != AWKS[0] and "awk" not in command or not words and IMPORTS.search(command):
                     continue
                 number += 1
                 found = printed(command, bin_of)
