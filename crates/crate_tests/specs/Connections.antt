@@ -36,7 +36,7 @@ other_client = endpoint 1 40001
 abbrev other_server : Endpoint
 other_server = endpoint 2 81
 
-abbrev by_ports : List Segment
+abbrev pub by_ports : List Segment
 by_ports =
     syn 1 client server 1000
     ∷ syn 2 other_client server 1000
@@ -58,9 +58,8 @@ PortsTellApart =
     ∷ [])
 
 -- one pair opened twice: from the second SYN on all is the second connection's, whatever the sequence numbers
-abbrev pub OpenedTwice : Type 0
-OpenedTwice =
-    AreOpened (
+abbrev pub opened_twice : List Segment
+opened_twice =
     syn 1 client server 1000
     ∷ syn_ack 2 server client 5000
     ∷ plain 3 client server 1001
@@ -68,13 +67,17 @@ OpenedTwice =
     ∷ plain 5 client server 1004
     ∷ syn_ack 6 server client 8000
     ∷ plain 7 server client 5001
-    ∷ []) (
+    ∷ []
+
+abbrev pub OpenedTwice : Type 0
+OpenedTwice =
+    AreOpened opened_twice (
     opened client server 1 1000 (Some 5000) (1 ∷ 2 ∷ 3 ∷ [])
     ∷ opened client server 4 9000 (Some 8000) (4 ∷ 5 ∷ 6 ∷ 7 ∷ [])
     ∷ [])
 
 -- strays of two pairs: each is named by its first, and counts those of both directions up to the opening
-abbrev strays_of_two : List Segment
+abbrev pub strays_of_two : List Segment
 strays_of_two =
     plain 1 server client 5001
     ∷ plain 2 other_client server 1001
@@ -96,40 +99,54 @@ abbrev pub OpenedAfterStrays : Type 0
 OpenedAfterStrays = AreOpened strays_of_two (opened client server 4 2000 None (4 ∷ 5 ∷ []) ∷ [])
 
 -- a SYN with the number of the last opening repeats it; with that of an earlier one it opens
-abbrev pub RepeatedSyn : Type 0
-RepeatedSyn =
-    AreOpened (
+abbrev pub repeated_syn : List Segment
+repeated_syn =
     syn 1 client server 7
     ∷ syn 2 client server 7
     ∷ syn 3 client server 8
     ∷ syn 4 client server 7
-    ∷ []) (
+    ∷ []
+
+abbrev pub RepeatedSyn : Type 0
+RepeatedSyn =
+    AreOpened repeated_syn (
     opened client server 1 7 None (1 ∷ 2 ∷ [])
     ∷ opened client server 3 8 None (3 ∷ [])
     ∷ opened client server 4 7 None (4 ∷ [])
     ∷ [])
 
 -- a SYN from the other end opens a connection with the roles changed, also with the same number
+abbrev pub from_the_other_end : List Segment
+from_the_other_end =
+    syn 1 client server 1000 ∷ syn 2 server client 1000 ∷ plain 3 client server 1001 ∷ []
+
 abbrev pub SynFromTheOtherEnd : Type 0
 SynFromTheOtherEnd =
-    AreOpened (syn 1 client server 1000 ∷ syn 2 server client 1000 ∷ plain 3 client server 1001 ∷ []) (
+    AreOpened from_the_other_end (
     opened client server 1 1000 None (1 ∷ [])
     ∷ opened server client 2 1000 None (2 ∷ 3 ∷ [])
     ∷ [])
 
 -- the first SYN with ACK of the server gives its number: none of the client's, and no later one
-abbrev pub FirstSynAckOfTheServer : Type 0
-FirstSynAckOfTheServer =
-    AreOpened (
+abbrev pub three_syn_acks : List Segment
+three_syn_acks =
     syn 1 client server 1000
     ∷ syn_ack 2 client server 4000
     ∷ syn_ack 3 server client 5000
     ∷ syn_ack 4 server client 7000
-    ∷ []) (
+    ∷ []
+
+abbrev pub FirstSynAckOfTheServer : Type 0
+FirstSynAckOfTheServer =
+    AreOpened three_syn_acks (
     opened client server 1 1000 (Some 5000) (1 ∷ 2 ∷ 3 ∷ 4 ∷ []) ∷ [])
 
 -- where both ends are one, all is the client's
+abbrev pub one_endpoint : List Segment
+one_endpoint =
+    syn 1 client client 1000 ∷ syn_ack 2 client client 5000 ∷ plain 3 client client 1001 ∷ []
+
 abbrev pub OneEndpoint : Type 0
 OneEndpoint =
-    AreOpened (syn 1 client client 1000 ∷ syn_ack 2 client client 5000 ∷ plain 3 client client 1001 ∷ [])
+    AreOpened one_endpoint
     (opened client client 1 1000 None (1 ∷ 2 ∷ 3 ∷ []) ∷ [])

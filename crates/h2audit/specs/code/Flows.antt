@@ -61,16 +61,6 @@ flow_jobs first [] = []
 flow_jobs first (connection ∷ connections) =
     record { connection = first; findings = [] } ∷ flow_jobs (first + 1) connections
 
--- what the two flows of a connection hold, and how far they reach
-pub record IsConnectionCut (capture : List ℕ) (packets : List Packet) (connection : Connection) (made : ConnectionCut)
-    : Type 0 where
-  pub flows : Sides Flow
-  pub client : IsFlowOf capture packets connection Client flows.client
-  pub server : IsFlowOf capture packets connection Server flows.server
-  pub extents : made.extents ≡ extents_of flows.client flows.server
-  pub cut : IsCut flows.client flows.server made.cut
-  pub orderly : HasOrderlyFrames made.cut
-
 -- each part is what the flows of its connection hold
 abbrev pub AreConnectionCuts : List ℕ → List Packet → List Connection → List (Part ConnectionCut) → Type 0
 AreConnectionCuts capture packets [] [] = Unit {0}

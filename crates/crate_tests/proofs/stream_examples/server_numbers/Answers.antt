@@ -1,5 +1,7 @@
 use Rattle.tcp_streams.proofs.Belongings.{connections-shown}
+use Rattle.crate_tests.specs.Captured.{packets}
+use Rattle.crate_tests.specs.Connections.{three_syn_acks}
 use Rattle.crate_tests.proofs.stream_examples.server_numbers.Goals as goal
 
 pub returns : goal.returns
-returns c = λ found are. connections-shown _ found are
+returns c = λ found are. connections-shown (packets three_syn_acks) found are
