@@ -15,7 +15,7 @@ import time
 
 HERE = pathlib.Path(__file__).resolve().parent
 IMPORT = HERE.parent / "tools" / "h2audit-import"
-SIZES = {"bulk": 40.0, "small": 2.0, "many": 10.0}
+SIZES = {"bulk": 40.0, "small": 0.5, "many": 6.0}
 TAP = """
 local data, number = Field.new("tls.app_data_proto"), 0
 local plain = Dissector.get("data")
