@@ -78,7 +78,7 @@ class PartSegments:
 
 
 def segment_pair(link: int, front: bytes, captured: int, original: int) -> tuple[bytes, bytes] | None:
-    """The addresses and the ports of the segment in a packet, of which the headers are given; none where it is passed over."""
+    """Addresses and ports of the segment in a packet, of which the headers are given; none where it is passed over."""
     start = datagram_start(link, front)
     length = captured - start
     if start < 0 or length < 20 or front[start] >> 4 != 4:
