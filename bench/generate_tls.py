@@ -21,7 +21,12 @@ def frame(kind, flags, stream, payload=b""):
 
 def begin(talk):
     talk.shake_hands()
-    talk.say(0, PREFACE + frame(4, 0, 0, struct.pack(">HI", 4, 1 << 30)) + frame(8, 0, 0, struct.pack(">I", (1 << 31) - 1 - 65535)))
+    talk.say(
+        0,
+        PREFACE
+        + frame(4, 0, 0, struct.pack(">HI", 4, 1 << 30))
+        + frame(8, 0, 0, struct.pack(">I", (1 << 31) - 1 - 65535)),
+    )
     talk.say(1, frame(4, 0, 0) + frame(4, 1, 0))
     talk.say(0, frame(4, 1, 0) + frame(1, 4, 1, b"\x82"))
     talk.say(1, frame(1, 4, 1, b"\x88"))

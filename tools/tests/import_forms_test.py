@@ -77,7 +77,11 @@ def interface(link, *options):
 
 
 def enhanced(number, ticks, one, order="<"):
-    return block(6, struct.pack(order + "IIIII", number, ticks >> 32, ticks & 0xFFFFFFFF, len(one.data), one.original) + one.data, order)
+    return block(
+        6,
+        struct.pack(order + "IIIII", number, ticks >> 32, ticks & 0xFFFFFFFF, len(one.data), one.original) + one.data,
+        order,
+    )
 
 
 def secrets():
@@ -108,16 +112,22 @@ class Files(unittest.TestCase):
             paths[2].write_bytes(gzip.compress(tools.pcap_of(PACKETS[15:], ETHERNET)))
             made = tools.imported(*KEYS, *paths)
         starts = {1: 0, 2: 6, 3: 15}
-        packets = {number: (starts[file] + packet,) * 2 for number, (file, packet) in tools.packet_of_each_record(made).items()}
+        packets = {
+            number: (starts[file] + packet,) * 2 for number, (file, packet) in tools.packet_of_each_record(made).items()
+        }
         self.assertEqual([row.split()[1:] for row in tools.rows_of(made)], [row.split()[1:] for row in WANTED])
-        self.assertEqual([packets[number][0] for number, _, _ in tools.payloads(made)], [int(row.split()[0]) for row in WANTED])
+        self.assertEqual(
+            [packets[number][0] for number, _, _ in tools.payloads(made)], [int(row.split()[0]) for row in WANTED]
+        )
         self.assertTrue(tools.lines_of(made, "file")[0].endswith("/a%20b%25.pcap"))
 
     def test_sections_and_clocks(self):
         """Two sections, of either byte order; clocks of 2^-10 s and of 10^-9 s with an offset."""
         first = section() + interface(105) + interface(ETHERNET, option(9, b"\x8a"), option(14, struct.pack("<q", 100)))
         data = first + b"".join(enhanced(1, 5 * 1024 + 512, one) for one in PACKETS[:10])
-        data += block(0x0A0D0D0A, struct.pack(">IHHq", 0x1A2B3C4D, 1, 0, -1), ">") + block(1, struct.pack(">HHI", 1, 0, 0), ">")
+        data += block(0x0A0D0D0A, struct.pack(">IHHq", 0x1A2B3C4D, 1, 0, -1), ">") + block(
+            1, struct.pack(">HHI", 1, 0, 0), ">"
+        )
         data += b"".join(enhanced(0, one.nanos // 1000, one, ">") for one in PACKETS[10:])
         made = given(data, *KEYS)
         self.assertEqual(tools.rows_of(made), WANTED)
@@ -126,7 +136,10 @@ class Files(unittest.TestCase):
     def test_secrets_after_packets(self):
         """Keys that come last, on standard input too, where a capture cannot be read twice; processes change nothing."""
         packets = b"".join(enhanced(0, one.nanos // 1000, one) for one in PACKETS)
-        for data in (section() + interface(ETHERNET) + packets + secrets(), section() + interface(ETHERNET) + secrets() + packets):
+        for data in (
+            section() + interface(ETHERNET) + packets + secrets(),
+            section() + interface(ETHERNET) + secrets() + packets,
+        ):
             for words in ([], ["-j", "2"]):
                 self.assertEqual(tools.rows_of(given(data, *words)), WANTED)
 
@@ -173,19 +186,33 @@ class Links(unittest.TestCase):
                  (b"\x06\x00" + bytes(6), 44), (b"\x06\x04" + bytes(22), 51)]  # fmt: skip
         for extensions, first in forms:
             for link, front in ((1, bytes(12) + b"\x86\xdd"), (229, b""), (101, b""), (0, b"\x1e\x00\x00\x00")):
-                packets = [one._replace(data=front + one.data, original=one.original + len(front)) for one in in_ipv6(extensions, first)]
+                packets = [
+                    one._replace(data=front + one.data, original=one.original + len(front))
+                    for one in in_ipv6(extensions, first)
+                ]
                 made = given(tools.pcap_of(packets, link), *KEYS)
                 self.assertEqual(tools.rows_of(made), WANTED)
-                self.assertEqual(tools.lines_of(made, "address"), ["address 240.0.0.1 2001:db8::1", "address 240.0.0.2 2001:db8::2"])
+                self.assertEqual(
+                    tools.lines_of(made, "address"), ["address 240.0.0.1 2001:db8::1", "address 240.0.0.2 2001:db8::2"]
+                )
         self.assertIn("client [2001:db8::1]:38292 server [2001:db8::2]:21001", tools.lines_of(made, "connection")[0])
 
     def test_passed_over(self):
         """What is no segment is counted, and named where it might have been one."""
         one = datagrams()[5]
         fragment = one.data[:6] + b"\x20\x00" + one.data[8:]
-        packets = [fragment, one.data[:19], one.data[:9] + b"\x11" + one.data[10:], b"\x75" + one.data[1:], in_ipv6(b"\x06\x00\x00\x09" + bytes(4), 44)[5].data]
+        packets = [
+            fragment,
+            one.data[:19],
+            one.data[:9] + b"\x11" + one.data[10:],
+            b"\x75" + one.data[1:],
+            in_ipv6(b"\x06\x00\x00\x09" + bytes(4), 44)[5].data,
+        ]
         made = given(tools.pcap_of([*datagrams(), *(tools.Packet(0, data, len(data)) for data in packets)], RAW), *KEYS)
-        self.assertEqual(tools.lines_of(made, "capture"), ["capture records 28 segments 23 snapped 0 not-ipv4 0 fragments 2 not-tcp 1 refused 2"])
+        self.assertEqual(
+            tools.lines_of(made, "capture"),
+            ["capture records 28 segments 23 snapped 0 not-ipv4 0 fragments 2 not-tcp 1 refused 2"],
+        )
         self.assertEqual(tools.lines_of(made, "passed"), [
             "passed file 1 packet 24 fragment", "passed file 1 packet 25 refused short-ipv4",
             "passed file 1 packet 27 refused bad-version", "passed file 1 packet 28 fragment",
@@ -201,7 +228,14 @@ def pieces_of(packet, dice):
     at = dice.randrange(start + 1, len(data))
     sequence = int.from_bytes(data[24:28], "big") + at - start
     front = data[:2] + struct.pack(">H", at) + data[4:at]
-    back = data[:2] + struct.pack(">H", start + len(data) - at) + data[4:24] + struct.pack(">I", sequence & 0xFFFFFFFF) + data[28:start] + data[at:]
+    back = (
+        data[:2]
+        + struct.pack(">H", start + len(data) - at)
+        + data[4:24]
+        + struct.pack(">I", sequence & 0xFFFFFFFF)
+        + data[28:start]
+        + data[at:]
+    )
     return [packet._replace(data=part, original=len(part)) for part in (front, back)]
 
 
@@ -256,7 +290,9 @@ class Order(unittest.TestCase):
     def test_begins_late(self):
         made = given(tools.pcap_of(list(in_raw("key-updates"))[12:], RAW), *tools.key_log_of("key-updates"))
         self.assertEqual((made.status, tools.lines_of(made, "connection")), (6, []))
-        self.assertEqual(tools.lines_of(made, "unopened"), ["unopened 127.0.0.1:21014 127.0.0.1:33106 file 1 packet 1 segments 99"])
+        self.assertEqual(
+            tools.lines_of(made, "unopened"), ["unopened 127.0.0.1:21014 127.0.0.1:33106 file 1 packet 1 segments 99"]
+        )
 
 
 def in_raw(name):
@@ -327,7 +363,11 @@ class Secrets(unittest.TestCase):
         for one in (signal.SIGTERM, signal.SIGINT, signal.SIGHUP):
             for words in ([], ["-j", "2"]):
                 with tempfile.TemporaryDirectory() as folder:
-                    child = subprocess.Popen([tools.IMPORT, *words, "-o", f"{folder}/out", "-m", f"{folder}/map"], stdin=subprocess.PIPE, stderr=subprocess.PIPE)
+                    child = subprocess.Popen(
+                        [tools.IMPORT, *words, "-o", f"{folder}/out", "-m", f"{folder}/map"],
+                        stdin=subprocess.PIPE,
+                        stderr=subprocess.PIPE,
+                    )
                     child.stdin.write(PCAP[:20000])
                     child.stdin.flush()
                     deadline = time.monotonic() + 30

@@ -27,7 +27,18 @@ FRAMES = {
     "stream-overrun-go": [201], "two-interfaces": [21], "secrets-inside": [35], "zstd": [35],
 }  # fmt: skip
 NGHTTP_LOGS = ("nghttp-nghttpd-13", "small-window-v6", "loss-and-reordering")
-TYPES = ("DATA", "HEADERS", "PRIORITY", "RST_STREAM", "SETTINGS", "PUSH_PROMISE", "PING", "GOAWAY", "WINDOW_UPDATE", "CONTINUATION")
+TYPES = (
+    "DATA",
+    "HEADERS",
+    "PRIORITY",
+    "RST_STREAM",
+    "SETTINGS",
+    "PUSH_PROMISE",
+    "PING",
+    "GOAWAY",
+    "WINDOW_UPDATE",
+    "CONTINUATION",
+)
 needs_program = unittest.skipUnless(PROGRAM, "h2audit is not built")
 
 
@@ -81,7 +92,9 @@ class Records(unittest.TestCase):
             client, server = tools.flows(made_of(name))
             options = ["-o", f"tls.keylog_file:{tools.CAPTURES / (name + '.keys')}", "-o", "tcp.reassemble_out_of_order:TRUE",
                        "-o", "tcp.try_heuristic_first:TRUE", "-q", "-z", "follow,tls,yaml,0"]  # fmt: skip
-            run = subprocess.run(["tshark", "-n", "-r", tools.capture_named(name), *options], capture_output=True, text=True)
+            run = subprocess.run(
+                ["tshark", "-n", "-r", tools.capture_named(name), *options], capture_output=True, text=True
+            )
             self.assertEqual(followed(run.stdout, made_of(name)), [client, server], name)
 
 
@@ -115,7 +128,9 @@ class Outcomes(unittest.TestCase):
             keys.write(wrong)
             keys.flush()
             made = tools.imported("-k", keys.name, tools.capture_named(name))
-        self.assertEqual((made.status, tools.lines_of(made, "connection")[0].split(" packet ")[1]), (6, "1 refused wrong-key"))
+        self.assertEqual(
+            (made.status, tools.lines_of(made, "connection")[0].split(" packet ")[1]), (6, "1 refused wrong-key")
+        )
         self.assertEqual(list(tools.payloads(made)), [])
 
     def test_no_key(self):
@@ -135,7 +150,6 @@ def report_of(name):
 
 
 class Reports(unittest.TestCase):
-
     @needs_program
     def test_stored(self):
         """Reports as they were read and compared with the truth of each capture."""
@@ -147,7 +161,9 @@ class Reports(unittest.TestCase):
                     path.write_text(text)
                 self.assertEqual(text, path.read_text())
                 wanted = {"stream-overrun-go": 1, "snapped-96": 6}.get(name, 0)
-                self.assertEqual((status, said), (wanted, "" if wanted < 6 else "h2audit-any: no connection could be read\n"))
+                self.assertEqual(
+                    (status, said), (wanted, "" if wanted < 6 else "h2audit-any: no connection could be read\n")
+                )
 
     @needs_program
     def test_frames(self):

@@ -18,7 +18,6 @@ import socket
 import ssl
 import subprocess
 import sys
-import tempfile
 import time
 import unittest
 
@@ -85,16 +84,26 @@ class Suites(Folder):
 
     def test_tls13(self):
         """Each suite, by OpenSSL's configuration, since the ssl module cannot choose among them."""
-        for suite in ("AES_128_GCM_SHA256", "AES_256_GCM_SHA384", "CHACHA20_POLY1305_SHA256", "AES_128_CCM_SHA256", "AES_128_CCM_8_SHA256"):
+        for suite in (
+            "AES_128_GCM_SHA256",
+            "AES_256_GCM_SHA384",
+            "CHACHA20_POLY1305_SHA256",
+            "AES_128_CCM_SHA256",
+            "AES_128_CCM_8_SHA256",
+        ):
             with self.subTest(suite):
                 configuration = self.path("openssl.cnf")
-                configuration.write_text(f"openssl_conf = a\n[a]\nssl_conf = b\n[b]\nsystem_default = c\n[c]\nCiphersuites = TLS_{suite}\n")
+                configuration.write_text(
+                    f"openssl_conf = a\n[a]\nssl_conf = b\n[b]\nsystem_default = c\n[c]\nCiphersuites = TLS_{suite}\n"
+                )
                 run = subprocess.run([sys.executable, __file__, "--talk", self.folder], capture_output=True, text=True,
                                      env={**os.environ, "OPENSSL_CONF": str(configuration)})  # fmt: skip
                 self.assertEqual((run.returncode, run.stderr), (0, ""))
                 made = tools.imported("-k", self.path("13.keys"), self.path("13.pcap"))
                 self.assertIn(f" tls 1.3 TLS_{suite} ", tools.lines_of(made, "connection")[0])
-                self.assertEqual(joined(tools.payloads(made)), joined((0, *one) for one in tls_talk.payloads_of(EXAMPLE)))
+                self.assertEqual(
+                    joined(tools.payloads(made)), joined((0, *one) for one in tls_talk.payloads_of(EXAMPLE))
+                )
 
     def test_resumed(self):
         """Resumption in TLS 1.2 by a ticket: the second connection has no certificate, and a line of its own in the key log."""
@@ -121,7 +130,11 @@ class Suites(Folder):
             _, _ = self.talk(version, None, said)
             data = bytearray(self.path("one.pcap").read_bytes())
             packets, _ = tools.read_pcap(bytes(data))
-            large = [at for at, one in enumerate(packets) if 40 + 100 < len(one.data) < 40 + 140 and one.data[20:22] == b"\x01\xbb"]
+            large = [
+                at
+                for at, one in enumerate(packets)
+                if 40 + 100 < len(one.data) < 40 + 140 and one.data[20:22] == b"\x01\xbb"
+            ]
             wanted = packets[large[-2]].data
             at = data.rindex(wanted) + len(wanted) - 1
             data[at] ^= 1
@@ -146,7 +159,11 @@ class Frames(Folder):
         """What examples/ say in the clear has the same findings when it is said over TLS, but for packets and times."""
         for path in sorted(tools.EXAMPLES.glob("*.pcap")):
             wanted = path.with_suffix(".report").read_text()
-            if "gap none" not in wanted or wanted.count("connection ") != wanted.count("connection-") + 1 or "unopened" in wanted:
+            if (
+                "gap none" not in wanted
+                or wanted.count("connection ") != wanted.count("connection-") + 1
+                or "unopened" in wanted
+            ):
                 continue
             capture, keys = tls_talk.Capture(), self.path("e.keys")
             keys.write_bytes(b"")
@@ -241,7 +258,10 @@ class Servers(Folder):
         made = self.run_openssl("early", ["-early_data"], clients)
         self.assertEqual(self.said(made), [b"hello\n", b"early\n", b"hello\n"])
         self.assertEqual(tools.lines_of(made, "early-data"), ["early-data accepted 1 rejected 0"])
-        for name, words in (("late", ["-early_data", "-max_early_data", "0"]), ("retry", ["-early_data", "-groups", "P-384"])):
+        for name, words in (
+            ("late", ["-early_data", "-max_early_data", "0"]),
+            ("retry", ["-early_data", "-groups", "P-384"]),
+        ):
             with self.subTest(name):
                 made = self.run_openssl(name, words, [["-tls1_3", "-sess_in", session, "-early_data", early]])
                 self.assertEqual(self.said(made), [b"hello\n"])

@@ -97,7 +97,10 @@ def stood_in(endpoint, addresses):
 def rows_of(made):
     """As the files of records have it: packet, side, SHA-1 and length of each record's plaintext."""
     packets = packet_of_each_record(made)
-    return [f"{packets[number][1]} {side} {hashlib.sha1(data).hexdigest()} {len(data)}" for number, side, data in payloads(made)]
+    return [
+        f"{packets[number][1]} {side} {hashlib.sha1(data).hexdigest()} {len(data)}"
+        for number, side, data in payloads(made)
+    ]
 
 
 def flows(made, of="tls"):

@@ -91,7 +91,11 @@ def work(asked: Namespace) -> int:
 
 def main() -> NoReturn:
     parser = words_of(PROGRAM, DESCRIPTION)
-    parser.add_argument("-o", "--output", required=True, metavar="OUT.pcap", help="the capture that is made; - is standard output")
-    parser.add_argument("-m", "--map", metavar="MAP", help="which packet made each record, and what became of each connection")
+    parser.add_argument(
+        "-o", "--output", required=True, metavar="OUT.pcap", help="the capture that is made; - is standard output"
+    )
+    parser.add_argument(
+        "-m", "--map", metavar="MAP", help="which packet made each record, and what became of each connection"
+    )
     asked = parser.parse_args()
     run(PROGRAM, lambda: work(asked))

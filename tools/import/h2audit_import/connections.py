@@ -1,7 +1,7 @@
 """A connection of the capture, by h2audit's rules (docs/AUDIT_RULES.md, 3), and what is written of it.
 
-It is undecided until the first bytes of a side are there: what begins like TLS is read as TLS, all else goes through as it stands.
-Of a TLS connection its openings are written, and a segment for the plaintext of each record.
+It is undecided until the first bytes of a side are there: what begins like TLS is read as TLS, all else goes
+through as it stands. Of a TLS connection its openings are written, and a segment for the plaintext of each record.
 """
 
 import enum
@@ -25,7 +25,8 @@ MODULO = 0xFFFFFFFF
 class Sink(Protocol):
     """What takes the packets of the capture that is made."""
 
-    def emit(self, arrival: Arrival, original: int, datagram: bytes) -> None: ...
+    def emit(self, arrival: Arrival, original: int, datagram: bytes) -> None:
+        ...
 
     def take_turn(self, opening: int) -> None:
         """What is emitted next is of the connection that opened at this packet, until the next segment."""
@@ -67,7 +68,20 @@ def without_payload(segment: Segment) -> bytes:
 class Connection:
     """An opening with all segments that belong to it."""
 
-    __slots__ = ("opening", "context", "ends", "initial", "mode", "flows", "held", "cost", "tls", "is_snapped", "sent", "ends_at")
+    __slots__ = (
+        "opening",
+        "context",
+        "ends",
+        "initial",
+        "mode",
+        "flows",
+        "held",
+        "cost",
+        "tls",
+        "is_snapped",
+        "sent",
+        "ends_at",
+    )
 
     def __init__(self, arrival: Arrival, segment: Segment, context: Context) -> None:
         self.opening, self.context = arrival[0], context

@@ -1,8 +1,9 @@
-"""Several processes that make the capture, each of its own connections; the result is that of one process, byte for byte.
+"""Several processes that make the capture, each of its own connections; the result is that of one process, byte for
+byte.
 
-The parent reads packets and finds their segments. It sends them in rounds, to the worker of their connection; a worker answers
-each round with what is to be written, in the order of the packets at which it was known. The parent merges the answers of a round
-by these packets, and writes.
+The parent reads packets and finds their segments. It sends them in rounds, to the worker of their connection; a
+worker answers each round with what is to be written, in the order of the packets at which it was known. The parent
+merges the answers of a round by these packets, and writes.
 """
 
 import marshal
@@ -32,7 +33,9 @@ Row: TypeAlias = tuple[int, int, Arrival, int, bytes]
 
 
 class Gathered:
-    """What a worker has to write in a round: the step at which it is known, the connection's turn in it, and the packet."""
+    """What a worker has to write in a round: the step at which it is known, the connection's turn in it, and the
+    packet.
+    """
 
     def __init__(self) -> None:
         self.rows: list[Row] = []
@@ -87,7 +90,9 @@ def work(pipe: Pipe, others: list[Pipe], keys: Keys, more_keys: bool) -> None:
 
 
 class Lane:
-    """A worker as the parent sees it: its pipe, what is to be sent, and the answers that a thread of its own takes in."""
+    """A worker as the parent sees it: its pipe, what is to be sent, and the answers that a thread of its own takes
+    in.
+    """
 
     def __init__(self, pipe: Pipe) -> None:
         self.pipe = pipe
@@ -141,7 +146,10 @@ class ManyProcesses:
             self.send()
 
     def new_owner(self, ends: bytes) -> Lane:
-        """A new pair goes to the worker with the least to do so far. Which one it is changes nothing that is written."""
+        """A new pair goes to the worker with the least to do so far.
+
+        Which one it is changes nothing that is written.
+        """
         lane = min(self.lanes, key=lambda one: one.load)
         lane.load += ROUND_BYTES >> 8
         self.owners[ends] = self.owners[swapped(ends)] = lane

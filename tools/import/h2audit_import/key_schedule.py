@@ -1,4 +1,6 @@
-"""From secrets to keys: the key schedule of TLS 1.3 (RFC 8446, 7) and the key block of TLS 1.2 (RFC 5246, 5 and 6.3)."""
+"""From secrets to keys: the key schedule of TLS 1.3 (RFC 8446, 7) and the key block of TLS 1.2 (RFC 5246, 5 and
+6.3).
+"""
 
 import struct
 from typing import NamedTuple
@@ -21,7 +23,8 @@ class TrafficKeys(NamedTuple):
 def expand_labels(algorithm: hashes.HashAlgorithm, secret: bytes, wanted: list[tuple[bytes, int]]) -> list[bytes]:
     """HKDF-Expand-Label with an empty context, of labels and lengths (RFC 8446, 7.1).
 
-    No length is above that of the hash, so each is one step of HKDF-Expand (RFC 5869, 2.3), and all begin from one keyed hash.
+    No length is above that of the hash, so each is one step of HKDF-Expand (RFC 5869, 2.3), and all begin from one
+    keyed hash.
     """
     keyed = hmac.HMAC(secret, algorithm)
     made = []
@@ -58,8 +61,13 @@ def pseudo_random(algorithm: hashes.HashAlgorithm, secret: bytes, seed: bytes, l
     return made[:length]
 
 
-def key_block(suite: Suite, master: bytes, client_random: bytes, server_random: bytes) -> tuple[TrafficKeys, TrafficKeys]:
-    """The keys of client and server in TLS 1.2, in the order of RFC 5246, 6.3. Its CBC suites have no IV in the block."""
+def key_block(
+    suite: Suite, master: bytes, client_random: bytes, server_random: bytes
+) -> tuple[TrafficKeys, TrafficKeys]:
+    """The keys of client and server in TLS 1.2, in the order of RFC 5246, 6.3.
+
+    Its CBC suites have no IV in the block.
+    """
     iv_length = {"GCM": 4, "CCM": 4, "CCM_8": 4, "POLY1305": NONCE_LENGTH}.get(suite.mode, 0)
     lengths = [suite.mac_length] * 2 + [suite.key_length] * 2 + [iv_length] * 2
     block = pseudo_random(suite.hash, master, b"key expansion" + server_random + client_random, sum(lengths))

@@ -37,7 +37,9 @@ def number(least: int, most: int) -> Callable[[str], int]:
 
 def words_of(program: str, description: str) -> Words:
     """The options that both programs have."""
-    parser = Words(prog=program, description=description, allow_abbrev=False, formatter_class=argparse.RawTextHelpFormatter)
+    parser = Words(
+        prog=program, description=description, allow_abbrev=False, formatter_class=argparse.RawTextHelpFormatter
+    )
     parser.add_argument("files", nargs="*", default=[], metavar="FILE",
                         help="pcap or pcapng, also in gzip or zstd; standard input without one, or as -")  # fmt: skip
     parser.add_argument("-k", "--key-log", action="append", default=[], metavar="KEYLOG",

@@ -30,7 +30,9 @@ class Table:
         else:
             self.stray(arrival, segment)
 
-    def opened(self, arrival: Arrival, segment: Segment, before: tuple[Connection, int] | None) -> tuple[Connection, int]:
+    def opened(
+        self, arrival: Arrival, segment: Segment, before: tuple[Connection, int] | None
+    ) -> tuple[Connection, int]:
         """A new connection. One that its pair had before has all its segments now."""
         if before and before[0].opening in self.open and not self.context.more_keys:
             self.finish(before[0])

@@ -1,7 +1,8 @@
 """Reads the plaintext of a TLS connection, from its records in the order in which they were completed.
 
-Which keys a record needs is known by what both sides said before it (RFC 8446, 2 and 4; RFC 5246, 7.3). A record whose keys
-depend on something that has not come yet waits, and with it all later plaintext, so that this keeps the order of completion.
+Which keys a record needs is known by what both sides said before it (RFC 8446, 2 and 4; RFC 5246, 7.3). A record
+whose keys depend on something that has not come yet waits, and with it all later plaintext, so that this keeps the
+order of completion.
 """
 
 from collections import deque

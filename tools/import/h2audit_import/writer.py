@@ -1,4 +1,6 @@
-"""Writes the capture that is made: classic pcap of nanoseconds, link type 101 (raw IP), numbers in the order of most machines."""
+"""Writes the capture that is made: classic pcap of nanoseconds, link type 101 (raw IP), numbers in the order of
+most machines.
+"""
 
 import struct
 from typing import IO
