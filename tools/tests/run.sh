@@ -103,7 +103,8 @@ try 'forms of captures' tools/tests/import_forms_test.py
 try 'cipher suites, resumption, PSK, early data' tools/tests/import_tls_test.py "${audits[@]}"
 try 'mutated captures and key logs' tools/tests/import_mutations_test.py
 try 'many captures: tables' tools/tests/fleet_test.py "${audits[@]}" Tables
-try 'many captures: course' tools/tests/fleet_test.py Course
+try 'many captures: lost workers, memory, time' tools/tests/fleet_test.py Course.test_{killed_worker,worker_killed_each_time,memory_and_time}
+try 'many captures: Ctrl-C and resumption' tools/tests/fleet_test.py Course.test_{interrupted,resumed}
 try 'many captures: names and refusals' tools/tests/fleet_test.py Words Schema
 try 'many captures: a cluster' tools/tests/fleet_cluster_test.py
 try_built 'many captures: imports and parts' tools/tests/fleet_parts_test.py "$built"
