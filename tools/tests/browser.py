@@ -1,7 +1,9 @@
 """A headless Chromium for tests, driven by Selenium, with what it said and what it asked the network for."""
 
+import contextlib
 import json
 import os
+import pathlib
 import time
 
 from selenium import webdriver
@@ -53,6 +55,23 @@ class Browser:
         self.driver.get(f"file://{path}")
         self.until(is_ready)
         return time.monotonic() - start
+
+    def processor_seconds(self):
+        """What its processes that draw pages have taken of the processor, by their numbers (proc(5))."""
+        parents, seconds = {}, {}
+        for folder in pathlib.Path("/proc").glob("[0-9]*"):
+            with contextlib.suppress(OSError):
+                words = (folder / "stat").read_text().rpartition(")")[2].split()
+                parents[int(folder.name)] = int(words[1])
+                if b"--type=renderer" in (folder / "cmdline").read_bytes():
+                    seconds[int(folder.name)] = (int(words[11]) + int(words[12])) / os.sysconf("SC_CLK_TCK")
+        return {number: spent for number, spent in seconds.items() if self.has_made(number, parents)}
+
+    def has_made(self, number, parents):
+        """Is a process below that of the driver?"""
+        while number and number != self.driver.service.process.pid:
+            number = parents.get(number, 0)
+        return number != 0
 
     def run(self, script, *words):
         return self.driver.execute_script(script, *words)

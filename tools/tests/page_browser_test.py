@@ -384,7 +384,7 @@ class Hostile(InBrowser):
 
 
 class Large(InBrowser):
-    """A million lines: the page opens within two seconds, and hundreds of streams can be searched."""
+    """A million lines: the page opens within two seconds of the processor, and hundreds of streams can be searched."""
 
     def test_a_million_lines(self):
         report = large(400, 2400, 20)
@@ -392,9 +392,7 @@ class Large(InBrowser):
         path = self.made(report)
         self.assertLess(path.stat().st_size, 5 * 10**6)
         self.judge_marks(path.read_text())
-        # The machine may be busy with other work, so the best of five counts.
-        seconds = min(self.browser.load(path) for _ in range(5))
-        self.assertLess(seconds, 2)
+        self.assertLess(min(self.work_of(path) for _ in range(3)), 2)
         self.drawn()
         self.assertEqual(self.find("#found").text.split(",")[0], "400 of 400 windows")
         self.find("#stream").send_keys("777")
@@ -407,6 +405,14 @@ class Large(InBrowser):
         self.find("#search").send_keys(" ")
         self.find("#more").click()
         self.assertEqual(len(self.browser.driver.find_elements(By.TAG_NAME, "figure")), 18)
+
+    def work_of(self, path):
+        """The processor seconds in which the browser draws a page: the wall's say little on a busy machine."""
+        before = self.browser.processor_seconds()
+        self.browser.load(path)
+        spent = max(seconds - before.get(number, 0) for number, seconds in self.browser.processor_seconds().items())
+        self.assertGreater(spent, 0)
+        return spent
 
     def judge_marks(self, text):
         """Every stall is in the charts: those of 400 windows, one for each 20 lines."""

@@ -93,10 +93,12 @@ try 'known reports by definition' tools/tests/definitions_test.py
 try_built 'random reports by definition' tools/tests/definitions_test.py "$built"
 try 'pictures' tools/tests/plot_test.py
 try 'lines of reports, and who is to blame' tools/tests/report_test.py
-try 'comments of packets' tools/tests/comment_test.py Examples Forms
+try 'comments of packets: examples' tools/tests/comment_test.py Examples
+try 'comments of packets: forms of captures' tools/tests/comment_test.py Forms
 try 'comments of packets: maps and bad input' tools/tests/comment_test.py Maps BadInput
 try 'page' tools/tests/page_test.py
-try 'page in a browser' tools/tests/page_browser_test.py
+try 'page in a browser' tools/tests/page_browser_test.py Examples Hands Schemes Hostile
+try 'page of a million lines in a browser' tools/tests/page_browser_test.py Large
 try 'library example' tools/tests/library_example_test.py
 try 'captures of TLS' tools/tests/import_test.py "${audits[@]}"
 try 'forms of captures' tools/tests/import_forms_test.py
