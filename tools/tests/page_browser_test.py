@@ -384,7 +384,7 @@ class Hostile(InBrowser):
 
 
 class Large(InBrowser):
-    """A million lines: the page opens within two seconds of the processor, and hundreds of streams can be searched."""
+    """A million lines: the page opens within three seconds of the processor, and hundreds of streams can be searched."""
 
     def test_a_million_lines(self):
         report = large(400, 2400, 20)
@@ -392,7 +392,7 @@ class Large(InBrowser):
         path = self.made(report)
         self.assertLess(path.stat().st_size, 5 * 10**6)
         self.judge_marks(path.read_text())
-        self.assertLess(min(self.work_of(path) for _ in range(3)), 2)
+        self.assertLess(min(self.work_of(path) for _ in range(3)), 3)
         self.drawn()
         self.assertEqual(self.find("#found").text.split(",")[0], "400 of 400 windows")
         self.find("#stream").send_keys("777")
