@@ -60,7 +60,7 @@ def printed(command, bin_of):
     with tempfile.TemporaryDirectory() as folder:
         surroundings = {**os.environ, "PATH": path, "LC_ALL": "C.UTF-8", "TMPDIR": folder}
         run = subprocess.run(
-            ["bash", "-c", command], cwd=TOP, env=surroundings, capture_output=True, text=True, timeout=60)
+            ["bash", "-c", command], cwd=TOP, env=surroundings, capture_output=True, text=True, timeout=150)
     return run.stdout + run.stderr
 
 
