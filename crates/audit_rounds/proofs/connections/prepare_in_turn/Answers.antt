@@ -42,8 +42,11 @@ loop-frames-init g c =
 pub prepare-requires : goal.prepare-requires
 prepare-requires g c = (
   c.type_bounds.sync-R,
-  (c.requires.workers, subst (λ (frames : Bor (List Frame)). IsOrderly frames.now) (sym c.frames-item.is)
-      (c.requires.frames c.loop-frames.frames-index c.frames-item.result c.loop-frames-test.true)),
+  (
+    c.requires.workers,
+    subst (λ (frames : Bor (List Frame)). IsOrderly frames.now) (sym c.frames-item.is)
+        (c.requires.frames c.loop-frames.frames-index c.frames-item.result c.loop-frames-test.true),
+  ),
 )
 
 pub returns : goal.returns
