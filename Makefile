@@ -4,11 +4,13 @@ PACKAGES ?= out
 # How much the toolchain does at once: a check takes up to some 3 GB.
 RT_JOBS ?= $(shell nproc)
 PROGRAM = crates/h2audit_cli/out/h2audit_cli
+SPLIT = crates/h2audit_split/out/h2audit_split
 # The capture whose report "make believed" computes from the definitions.
 RUN ?= examples/negative_window.pcap
-# Programs in Python beside it, and the packages that they share.
-PYTHON_PROGRAMS = h2audit-plot h2audit-comment h2audit-page
-PYTHON_PACKAGES = report comment page page/assets
+# Programs in Python beside these, and the packages that they share.
+PYTHON_PROGRAMS = h2audit-any h2audit-comment h2audit-fleet h2audit-import h2audit-merge h2audit-page h2audit-plot
+PYTHON_PACKAGES = comment fleet import/h2audit_import page page/assets report split
+BESIDE = $(PYTHON_PROGRAMS) h2audit-split
 FIRST = examples/negative_window_tomcat.pcap examples/stream_overrun_go.pcap
 SOURCES := crates.txt $(shell find crates -name out -prune -o -name '*.rt' -print -o -name '*.antt' -print)
 
@@ -23,11 +25,16 @@ run:
 	@echo 'Nothing of this build was proved. "make build" proves the program and builds it (some 18 minutes on four cores),'
 	@echo 'and "make install" puts it in place as h2audit.'
 
-# Proves all that the program stands on, builds it, and leaves it as PROGRAM.
-build: $(PROGRAM)
+# Proves all that the programs stand on, builds them, and leaves them as PROGRAM and SPLIT.
+build: $(PROGRAM) $(SPLIT)
 
 $(PROGRAM): $(SOURCES)
 	@$(MAKE) --no-print-directory --jobs=$(RT_JOBS) proved-h2audit_cli
+	@touch $@
+	@echo 'built: $@'
+
+$(SPLIT): $(SOURCES)
+	@$(MAKE) --no-print-directory --jobs=$(RT_JOBS) proved-h2audit_split
 	@touch $@
 	@echo 'built: $@'
 
@@ -44,37 +51,42 @@ $(patsubst crates/%/src/lib.rt,proved-%,$(wildcard crates/*/src/lib.rt)):
 proved-h2audit_cli:
 	@cd crates/h2audit_cli && $(call quietly,rt run -- --help)
 
+proved-h2audit_split:
+	@cd crates/h2audit_split && $(call quietly,rt run -- --help)
+
 # The toolchain's own libraries come proved.
 proved-%: ;
 
-# Puts the program in place as h2audit, with the programs beside it, man pages and completions.
+# Puts the programs in place as h2audit and h2audit-split, with those in Python, man pages and completions.
 install: share = $(DESTDIR)$(PREFIX)/share
-install: $(PROGRAM)
+install: $(PROGRAM) $(SPLIT)
 	install -D -m 755 $(PROGRAM) $(DESTDIR)$(PREFIX)/bin/h2audit
+	install -D -m 755 $(SPLIT) $(DESTDIR)$(PREFIX)/bin/h2audit-split
 	install -D -m 755 -t $(DESTDIR)$(PREFIX)/bin $(PYTHON_PROGRAMS:%=tools/%)
 	$(foreach folder,$(PYTHON_PACKAGES),install -D -m 644 -t $(share)/h2audit/$(folder) \
 		$(filter-out %/__pycache__,$(wildcard tools/$(folder)/*.*)) &&) true
-	install -D -m 644 -t $(share)/man/man1 tools/man/h2audit.1 $(PYTHON_PROGRAMS:%=tools/man/%.1)
+	install -D -m 644 -t $(share)/man/man1 tools/man/h2audit.1 $(BESIDE:%=tools/man/%.1)
 	install -D -m 644 tools/completions/h2audit.bash $(share)/bash-completion/completions/h2audit
-	$(foreach name,$(PYTHON_PROGRAMS),ln -sf h2audit $(share)/bash-completion/completions/$(name) &&) true
+	$(foreach name,$(BESIDE),ln -sf h2audit $(share)/bash-completion/completions/$(name) &&) true
 	install -D -m 644 -t $(DESTDIR)$(ZSHDIR) tools/completions/_h2audit
-	install -D -m 644 -t $(share)/fish/vendor_completions.d tools/completions/h2audit.fish $(PYTHON_PROGRAMS:%=tools/completions/%.fish)
+	install -D -m 644 -t $(share)/fish/vendor_completions.d tools/completions/h2audit.fish $(BESIDE:%=tools/completions/%.fish)
 
 # Builds a Debian package of what is installed, in the folder PACKAGES.
-deb: $(PROGRAM)
+deb: $(PROGRAM) $(SPLIT)
 	@stage=$$(mktemp -d) && trap 'rm -r "$$stage"' EXIT && chmod 755 "$$stage" && mkdir -p $(PACKAGES) && \
 		$(MAKE) --no-print-directory install DESTDIR="$$stage" PREFIX=/usr \
 		ZSHDIR=/usr/share/zsh/vendor-completions > /dev/null && \
 		tools/package/build_deb.sh "$$stage" "$(abspath $(PACKAGES))"
 
 # The gate: proves every crate from nothing, tries the must-fail edits, runs the tests and the programs; and asks the
-# program, as both compilers built it, for whole reports.
+# programs, as both compilers built them, for whole reports and for parts.
 test:
 	RT_JOBS=$(RT_JOBS) rt ci
 	tests/command_test.py $(PROGRAM) $(PROGRAM).by-rattle
 	tests/reports_test.py $(PROGRAM) $(PROGRAM).by-rattle
+	tests/split_test.py $(PROGRAM) $(SPLIT) $(SPLIT).by-rattle
 
-# Tests what stands around the program: pictures, man pages, completions, recipes and package. It proves nothing.
+# Tests what stands around the core: the programs in Python, man pages, completions, recipes and package. It proves nothing.
 test-tools:
 	tools/tests/run.sh
 

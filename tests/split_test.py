@@ -16,7 +16,7 @@ import tempfile
 from parts import parts_of, records_of
 
 TOP = pathlib.Path(__file__).resolve().parents[1]
-MERGE = TOP / "tools" / "split" / "h2audit-merge"
+MERGE = TOP / "tools" / "h2audit-merge"
 HELP = (pathlib.Path(__file__).parent / "split_help.txt").read_text()
 PREFACE = b"PRI * HTTP/2.0\r\n\r\nSM\r\n\r\n" + bytes.fromhex("000000 04 00 00000000")
 DATA = bytes.fromhex("000005 00 00 00000001") + b"hello"
@@ -229,12 +229,40 @@ def refusals(program):
     return wrong
 
 
+def merge_refusals(audit, program):
+    """What h2audit-merge says of folders in which something is missing or does not fit."""
+    capture = passed_over_first() + Traffic(9).capture("<", 0xA1B2C3D4, 101, 200)[24:]
+    damages = [
+        (lambda parts: (parts / "split.txt").unlink(), "no split.txt"),
+        (lambda parts: (parts / "split.txt").write_bytes(b"parts 3\n"), "is no summary"),
+        (lambda parts: (parts / "split.txt").write_text("h2audit-split 1\nparts 3\npart 2 refused too-large\n"), "part 2 was refused"),
+        (lambda parts: (parts / "part-002.report").unlink(), "part-002.report is missing"),
+        (lambda parts: (parts / "part-002.report").write_bytes(b""), "line 1 is not"),
+        (lambda parts: (parts / "part-002.report").write_bytes((parts / "part-001.report").read_bytes()), "is not"),
+        (lambda parts: (parts / "part-002.report").write_bytes((parts / "part-002.report").read_bytes()[:-9]), "is not one of"),
+        (lambda parts: (parts / "part-003.records").write_bytes(b"1234567"), "is no list"),
+        (lambda parts: (parts / "part-003.records").write_bytes(b""), "is not the report of this part"),
+        (lambda parts: (parts / "part-001.pcap").write_bytes(b""), "has no file header"),
+        (lambda parts: (parts / "part-001.pcap").write_bytes(capture[:24]), "is not one of"),
+    ]
+    wrong = []
+    for damage, text in damages:
+        with tempfile.TemporaryDirectory() as made:
+            parts = split(program, pathlib.Path(made), 3, capture, [])
+            merged(audit, parts, 3, [])
+            damage(parts)
+            status, _, said = run(MERGE, parts)
+            if status != 3 or text not in said.decode() or said.count(b"\n") != 1:
+                wrong.append(f"merge, {text}: {status} {said.decode()!r}")
+    return wrong
+
+
 def main(audit, programs):
     wrong = []
     audit, programs = pathlib.Path(audit).resolve(), [pathlib.Path(program).resolve() for program in programs]
     count = 0
     for program in programs:
-        wrong += refusals(program)
+        wrong += refusals(program) + merge_refusals(audit, program)
         for turn, (name, capture) in enumerate(captures()):
             wrong += check_capture(audit, program, name, capture, turn)
             count += 1

@@ -1,12 +1,12 @@
 #!/usr/bin/env python3
-"""Lists the definitions that the contracts of the program's calls rest on, in reading order.
+"""Lists the definitions that the contracts of the programs' calls rest on, in reading order.
 
     python3 tools/believed.py            prints each module that is reached, and in it each definition with its lines
     python3 tools/believed.py --write    puts list and sums into README.md and docs/PROOFS.md
     python3 tools/believed.py --check    fails where these two say something else
     python3 tools/believed.py --used     marks the modules that standard input names, one in a line (by-definition --modules)
 
-It begins at the names in the contracts of the calls that the program makes (CALLS) and in the views of the types that
+It begins at the names in the contracts of the calls that the programs make (CALLS) and in the views of the types that
 these contracts show (VIEWS), and follows each name to its definition, by the imports of the file in which it stands. So
 exactly the definitions that are reached are listed, whatever else their files hold. A crate comes after those that it
 cites, a module after those that it imports. Lines are counted without imports, blank lines and comments. No definition
@@ -25,6 +25,8 @@ CALLS = {
     "h2audit/src/program.rt": ["program_words", "run_program"],
     "h2audit/src/status.rt": ["ending"],
     "command_line/src/words.rt": ["parse"],
+    "capture_split/src/splitting.rt": ["split_capture"],
+    "capture_split/src/laws.rt": ["one_part", "segments_name", "either_order"],
 }
 VIEWS = {"byte_accounts/src/kept_bytes.rt": ["KeptBytes"]}
 

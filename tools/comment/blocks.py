@@ -59,7 +59,7 @@ def options_in(order: str, area: bytes) -> Iterator[tuple[int, int, bytes]]:
             return
         if at + 4 + length > len(area):
             raise capture_refused("bad-options")
-        yield at, code, area[at + 4:at + 4 + length]
+        yield at, code, area[at + 4 : at + 4 + length]
         at += 4 + length + -length % 4
 
 
@@ -74,8 +74,8 @@ def with_comments(order: str, area: bytes, comments: list[bytes]) -> bytes:
 
 def commented_packet(order: str, packet: bytes, comments: list[bytes]) -> bytes:
     """An Enhanced Packet Block, or the Packet Block of old, with comments."""
-    kind, = struct.unpack_from(order + "I", packet)
-    captured, = struct.unpack_from(order + "I", packet, 20)
+    (kind,) = struct.unpack_from(order + "I", packet)
+    (captured,) = struct.unpack_from(order + "I", packet, 20)
     end = PACKET_HEAD + captured + -captured % 4
     if end > len(packet) - 4:
         raise capture_refused("bad-block")

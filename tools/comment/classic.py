@@ -6,14 +6,30 @@ import struct
 from typing import BinaryIO
 
 from comment.blocks import (
-    BYTE_ORDER, INTERFACE, LONGEST_PACKET, PACKET, SECTION, TIME_RESOLUTION, UNKNOWN_LENGTH, Cut, block, option, padded,
-    read_exactly, with_comments)
+    BYTE_ORDER,
+    INTERFACE,
+    LONGEST_PACKET,
+    PACKET,
+    SECTION,
+    TIME_RESOLUTION,
+    UNKNOWN_LENGTH,
+    Cut,
+    block,
+    option,
+    padded,
+    read_exactly,
+    with_comments,
+)
 from comment.notes import Comments
 from comment.refusals import capture_refused
 
 # The order of bytes, and the digits of a second's fraction, by the first four bytes.
-FORMATS = {bytes.fromhex("d4c3b2a1"): ("<", 6), bytes.fromhex("a1b2c3d4"): (">", 6),
-           bytes.fromhex("4d3cb2a1"): ("<", 9), bytes.fromhex("a1b23c4d"): (">", 9)}
+FORMATS = {
+    bytes.fromhex("d4c3b2a1"): ("<", 6),
+    bytes.fromhex("a1b2c3d4"): (">", 6),
+    bytes.fromhex("4d3cb2a1"): ("<", 9),
+    bytes.fromhex("a1b23c4d"): (">", 9),
+}
 
 
 def copy_classic(capture: BinaryIO, magic: bytes, comments: Comments, out: BinaryIO) -> tuple[int, bool]:
@@ -60,7 +76,7 @@ def record_after(capture: BinaryIO, order: str, head: bytes) -> Record:
 def packet_block(order: str, digits: int, record: Record, number: int, comments: Comments) -> bytes:
     seconds, fraction, length, data = record
     time = seconds * 10**digits + fraction
-    found = comments.of(number, time * 10**(9 - digits))
+    found = comments.of(number, time * 10 ** (9 - digits))
     head = struct.pack(order + "IIIII", 0, time >> 32, time & 0xFFFFFFFF, len(data), length)
     options = with_comments(order, b"", found) if found else b""
     return block(order, PACKET, head + padded(data) + options)

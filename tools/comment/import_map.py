@@ -4,7 +4,7 @@ from __future__ import annotations
 
 import os
 import re
-from collections.abc import Iterator
+from collections.abc import Callable, Iterator
 from dataclasses import dataclass, field
 from typing import BinaryIO
 from urllib.parse import unquote_to_bytes
@@ -22,6 +22,7 @@ LONGEST_LINE = 65536
 @dataclass
 class ImportMap:
     """The files, and of the records that were asked for, (file, packet)."""
+
     files: dict[int, bytes] = field(default_factory=dict)
     records: dict[int, tuple[int, int]] = field(default_factory=dict)
 
@@ -79,7 +80,8 @@ def file_of(found: ImportMap, capture: str) -> int:
     if len(found.files) == 1:
         return next(iter(found.files))
     name = os.fsencode(capture)
-    for form in (os.path.realpath, os.path.basename):
+    forms: tuple[Callable[[bytes], bytes], ...] = (os.path.realpath, os.path.basename)
+    for form in forms:
         same = [number for number, path in found.files.items() if form(path) == form(name)]
         if len(same) == 1:
             return same[0]

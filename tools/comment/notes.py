@@ -43,7 +43,7 @@ class Comments:
             if nanos not in (None, self.notes[self.at].finding.time):
                 raise report_refused(f"packet {packet} has another time than the report says: is it of this capture?")
             self.at += 1
-        return list(bounded(self.notes[begin:self.at]))
+        return list(bounded(self.notes[begin : self.at]))
 
     def finish(self, packets: int) -> None:
         """After the last packet: each note has to have found its own."""
@@ -53,7 +53,7 @@ class Comments:
 
 
 def bounded(notes: list[Note]) -> Iterator[bytes]:
-    """The comments of one packet; where they are more than a block can hold, the last one says how many are left out."""
+    """The comments of one packet; where a block cannot hold them, the last one says how many are left out."""
     size = 0
     for number, note in enumerate(notes):
         comment = f"h2audit: {sentence(note)}".encode()

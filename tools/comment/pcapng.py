@@ -7,8 +7,21 @@ from collections.abc import Iterator
 from typing import BinaryIO
 
 from comment.blocks import (
-    BYTE_ORDER, INTERFACE, LONGEST_PACKET, OLD_PACKET, PACKET, SECTION, SIMPLE_PACKET, TIME_OFFSET, TIME_RESOLUTION,
-    UNKNOWN_LENGTH, Cut, commented_packet, options_in, read_exactly)
+    BYTE_ORDER,
+    INTERFACE,
+    LONGEST_PACKET,
+    OLD_PACKET,
+    PACKET,
+    SECTION,
+    SIMPLE_PACKET,
+    TIME_OFFSET,
+    TIME_RESOLUTION,
+    UNKNOWN_LENGTH,
+    Cut,
+    commented_packet,
+    options_in,
+    read_exactly,
+)
 from comment.notes import Comments
 from comment.refusals import capture_refused
 
@@ -30,7 +43,7 @@ class Copy:
 
     def copied(self, one: bytes) -> bytes:
         """A block as it is written."""
-        kind, = struct.unpack_from(self.order + "I", one)
+        (kind,) = struct.unpack_from(self.order + "I", one)
         if kind == SECTION:
             self.clocks = []
             return with_unknown_length(self.order, one)
@@ -48,7 +61,7 @@ class Copy:
         if len(one) < 32:
             raise capture_refused("bad-block")
         self.number += 1
-        interface, = struct.unpack_from(self.order + ("I" if kind == PACKET else "H"), one, 8)
+        (interface,) = struct.unpack_from(self.order + ("I" if kind == PACKET else "H"), one, 8)
         high, low = struct.unpack_from(self.order + "II", one, 12)
         if interface >= len(self.clocks):
             raise capture_refused("no-interface")
@@ -77,7 +90,7 @@ def blocks_of(capture: BinaryIO, copy: Copy) -> Iterator[bytes]:
         if head.startswith(MAGIC):
             head += read_exactly(capture, 4)
             copy.order = order_of(head[8:])
-        length, = struct.unpack_from(copy.order + "I", head, 4)
+        (length,) = struct.unpack_from(copy.order + "I", head, 4)
         if length % 4 or length < max(12, len(head) + 4) or length > LONGEST_BLOCK:
             raise capture_refused("bad-block")
         one = head + read_exactly(capture, length - len(head))
@@ -102,7 +115,7 @@ def with_unknown_length(order: str, section: bytes) -> bytes:
 
 
 def clock_of(order: str, interface: bytes) -> tuple[int, int] | None:
-    """Nanoseconds of a unit of an interface's times, and their offset in seconds; None where a unit is no whole number."""
+    """Nanoseconds of a unit of an interface's times, and their offset in seconds; None if a unit is less than one."""
     if len(interface) < 20:
         raise capture_refused("bad-block")
     resolution, offset = MICROSECONDS, 0
@@ -110,8 +123,8 @@ def clock_of(order: str, interface: bytes) -> tuple[int, int] | None:
         if code == TIME_RESOLUTION and len(value) == 1:
             resolution = value[0]
         elif code == TIME_OFFSET and len(value) == 8:
-            offset, = struct.unpack(order + "q", value)
-    return (10**(9 - resolution), offset) if resolution <= 9 else None
+            (offset,) = struct.unpack(order + "q", value)
+    return (10 ** (9 - resolution), offset) if resolution <= 9 else None
 
 
 def nanos(clock: tuple[int, int] | None, time: int) -> int | None:

@@ -14,16 +14,12 @@ reading or writing failed. What went wrong is one line on standard error.
 from __future__ import annotations
 
 import argparse
-import contextlib
-import os
-import sys
-import tempfile
-from collections.abc import Iterator
 from typing import BinaryIO
 
 from report.command import IO_FAILED, OK, REFUSED, Words, failed, io_reason, opened
 from report.lines import Refused as ReportRefused
 from report.notes import Note
+from report.output import written
 
 from comment.classic import FORMATS, copy_classic
 from comment.import_map import place_notes, read_map
@@ -40,8 +36,12 @@ def arguments(words: list[str]) -> argparse.Namespace:
     parser.add_argument("capture", metavar="CAPTURE", help="pcap or pcapng, also packed by gzip; - is standard input")
     parser.add_argument("report", metavar="REPORT", help="what h2audit says of it; - is standard input")
     parser.add_argument("-o", "--output", required=True, metavar="FILE", help="the new capture; - is standard output")
-    parser.add_argument("-m", "--map", metavar="MAP",
-                        help="of the import that made the audited capture from CAPTURE: comments go to CAPTURE's packets")
+    parser.add_argument(
+        "-m",
+        "--map",
+        metavar="MAP",
+        help="of the import that made the audited capture from CAPTURE: comments go to CAPTURE's packets",
+    )
     parser.add_argument("--credit", action="store_true", help="comment the credit lines too")
     asked = parser.parse_args(words)
     if [asked.capture, asked.report, asked.map].count("-") > 1:
@@ -61,51 +61,6 @@ def copied(capture: BinaryIO, comments: Comments, out: BinaryIO) -> str | None:
         raise capture_refused("short-header" if len(magic) < 4 else "bad-magic")
     comments.finish(packets)
     return f"the capture ends within packet {packets + 1:,}, which is left out" if is_cut else None
-
-
-@contextlib.contextmanager
-def written(path: str) -> Iterator[BinaryIO]:
-    """The file of this name, which is there only once it is whole; or standard output for -."""
-    if path == "-":
-        yield sys.stdout.buffer
-        sys.stdout.buffer.flush()
-    elif os.path.exists(path) and not os.path.isfile(path):
-        with open(path, "wb") as file:
-            yield file
-    else:
-        with whole_file(path) as file:
-            yield file
-
-
-@contextlib.contextmanager
-def whole_file(path: str) -> Iterator[BinaryIO]:
-    target = os.path.realpath(path)
-    with open_beside(target) as file:
-        try:
-            yield file
-            file.close()
-            os.chmod(file.name, mode_of(target))
-            os.replace(file.name, target)
-        except BaseException:
-            os.unlink(file.name)
-            raise
-
-
-def open_beside(target: str):  # type: ignore[no-untyped-def]
-    """A new file in the folder of the target, so that it can take the target's place."""
-    try:
-        return tempfile.NamedTemporaryFile(dir=os.path.dirname(target), prefix=".h2audit-", delete=False)
-    except OSError as why:
-        raise OSError(why.errno, why.strerror, target) from None
-
-
-def mode_of(target: str) -> int:
-    """The rights that a file has which is written anew."""
-    if os.path.exists(target):
-        return os.stat(target).st_mode & 0o777
-    mask = os.umask(0)
-    os.umask(mask)
-    return 0o666 & ~mask
 
 
 def placed(notes: list[Note], asked: argparse.Namespace) -> tuple[list[Note], int]:

@@ -24,9 +24,9 @@ class Rejoined(io.RawIOBase):
         return True
 
     def readinto(self, room: memoryview) -> int:  # type: ignore[override]
-        part = self.begin[:len(room)] or self.rest.read(len(room))
-        self.begin = self.begin[len(part):]
-        room[:len(part)] = part
+        part = self.begin[: len(room)] or self.rest.read(len(room))
+        self.begin = self.begin[len(part) :]
+        room[: len(part)] = part
         return len(part)
 
 
@@ -50,7 +50,7 @@ class Unzipped(io.RawIOBase):
             if not self.packed:
                 return 0
             if part := self.inflate(len(room)):
-                room[:len(part)] = part
+                room[: len(part)] = part
                 return len(part)
 
     def inflate(self, most: int) -> bytes:

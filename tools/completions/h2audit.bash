@@ -59,7 +59,87 @@ _h2audit_page() {
     esac
 }
 
+_h2audit_import() {
+    local word=${COMP_WORDS[COMP_CWORD]} before=${COMP_WORDS[COMP_CWORD - 1]}
+    local options='--key-log -k --jobs -j --output -o --map -m --help -h --version -V'
+    [[ $word == = ]] && word=
+    [[ $before == = ]] && before=${COMP_WORDS[COMP_CWORD - 2]}
+    case $before in
+    --jobs | -j) _h2audit_offer -W "$(echo {1..64})" -- "$word" ;;
+    *)
+        case $word in
+        -*) _h2audit_offer -W "$options" -- "$word" ;;
+        *) _h2audit_offer -f -- "$word" ;;
+        esac
+        ;;
+    esac
+}
+
+_h2audit_any() {
+    local word=${COMP_WORDS[COMP_CWORD]} before=${COMP_WORDS[COMP_CWORD - 1]}
+    local options='--key-log -k --jobs -j --workers --groups --block --frames --parts --h2audit --help -h --version -V'
+    [[ $before == = ]] && before=${COMP_WORDS[COMP_CWORD - 2]}
+    case $before in
+    --parts) _h2audit_offer -W '2 4 8 16 32 64 128 256 500' -- "$word" ;;
+    --jobs | -j) _h2audit_offer -W "$(echo {1..64})" -- "$word" ;;
+    --key-log | -k | --h2audit) _h2audit_offer -f -- "$word" ;;
+    *)
+        case $word in
+        -*) _h2audit_offer -W "$options" -- "$word" ;;
+        *) _h2audit ;;
+        esac
+        ;;
+    esac
+}
+
+_h2audit_fleet() {
+    local word=${COMP_WORDS[COMP_CWORD]} before=${COMP_WORDS[COMP_CWORD - 1]}
+    local options='--db --list --resume --reports --collect --keys --import --timeout --retries --split-above --scratch --jobs'
+    options+=' --dashboard --scheduler --tls-ca --tls-cert --tls-key --unencrypted --version --help -k -j -V -h'
+    case $before in
+    --import) _h2audit_offer -W 'auto always never' -- "$word" ;;
+    --split-above) _h2audit_offer -W '0 256 512 1024' -- "$word" ;;
+    --reports | --collect | --scratch) _h2audit_offer -d -- "$word" ;;
+    --timeout | --retries | --jobs | -j | --dashboard | --scheduler) COMPREPLY=() ;;
+    *)
+        case $word in
+        -*) _h2audit_offer -W "$options" -- "$word" ;;
+        *) _h2audit_offer -f -- "$word" ;;
+        esac
+        ;;
+    esac
+}
+
+_h2audit_split() {
+    local word=${COMP_WORDS[COMP_CWORD]} before=${COMP_WORDS[COMP_CWORD - 1]}
+    # "--parts=4" is three words, since "=" is among the word breaks.
+    [[ $word == = ]] && word=
+    [[ $before == = ]] && before=${COMP_WORDS[COMP_CWORD - 2]}
+    case $before in
+    --parts) _h2audit_offer -W '2 4 8 16 32 64 128 256 500' -- "$word" ;;
+    *)
+        case $word in
+        -*) _h2audit_offer -W '--parts --output --help --version -o -h -V' -- "$word" ;;
+        *) _h2audit_offer -f -- "$word" ;;
+        esac
+        ;;
+    esac
+}
+
+_h2audit_merge() {
+    local word=${COMP_WORDS[COMP_CWORD]}
+    case $word in
+    -*) _h2audit_offer -W '--standing --help --version -h' -- "$word" ;;
+    *) _h2audit_offer -d -- "$word" ;;
+    esac
+}
+
 complete -o filenames -F _h2audit h2audit
+complete -o filenames -F _h2audit_any h2audit-any
 complete -o filenames -F _h2audit_comment h2audit-comment
+complete -o filenames -F _h2audit_fleet h2audit-fleet
+complete -o filenames -F _h2audit_import h2audit-import
+complete -o filenames -F _h2audit_merge h2audit-merge
 complete -o filenames -F _h2audit_page h2audit-page
 complete -o filenames -F _h2audit_plot h2audit-plot
+complete -o filenames -F _h2audit_split h2audit-split

@@ -8,7 +8,6 @@ from typing import Callable, NamedTuple, TypeVar
 
 from .evaluating import Definitions
 from .search import Search
-from .tokens import Unreadable
 from .values import Hole, Made, NotYet, Stuck, Value, apply
 
 TOP = pathlib.Path(__file__).resolve().parents[2]
@@ -21,8 +20,6 @@ ENTRIES = {
     "IsReport": "h2audit.Report.IsReport",
     "packets_of": "h2audit.Report.packets_of",
     "ending_of": "h2audit.Ending.ending_of",
-    "status_of": "h2audit.Ending.status_of",
-    "line_of": "h2audit.Ending.line_of",
     "header_of": "h2_frames.Header.header_of",
     "body_of": "h2_frames.Body.body_of",
     "captured": "h2_frames.CaptureOrder.captured",
@@ -79,16 +76,10 @@ class Reader:
         return self.answer(Made("Ok", verdict.value), bytes(text.value))
 
     def answer(self, ended: Value, text: bytes) -> Answer:
-        status, line = self.ending(ended)
+        """What the program ends with: its status, its line on standard error, and the report."""
+        ending = self.ask("ending_of", ended)
+        status, line = ending["0"], ending["1"]
         return Answer(status, bytes((*line, *b"\n")) if line else b"", text)
-
-    def ending(self, ended: Value) -> tuple[int, Value]:
-        """The exit status and the line on standard error, which one definition gives or two."""
-        try:
-            both = self.ask("ending_of", ended)
-            return both["0"], both["1"]
-        except Unreadable:
-            return self.ask("status_of", ended), self.ask("line_of", ended)
 
     def frame(self, number: int, side: str, octets: bytes) -> Value:
         """The frame that these bytes spell. It is captured in the record of its number, at as many microseconds."""

@@ -38,7 +38,7 @@ control() {
     (cd "$stage" && find usr -type f -print0 | LC_ALL=C sort -z | xargs -0 md5sum > DEBIAN/md5sums)
 }
 
-strip --strip-unneeded --remove-section=.comment --remove-section=.note "$stage/usr/bin/h2audit"
+strip --strip-unneeded --remove-section=.comment --remove-section=.note "$stage"/usr/bin/h2audit{,-split}
 documents
 control
 find "$stage" -exec touch --no-dereference --date="@$SOURCE_DATE_EPOCH" {} +

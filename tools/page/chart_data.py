@@ -32,6 +32,7 @@ MARGIN = 0.9
 @dataclass
 class Packed:
     """What stands in the page, and what a reader has to know of it."""
+
     text: str
     windows: list[Window]
     points: int
@@ -44,8 +45,14 @@ def packed(audit: Audit) -> Packed:
     windows = [window for window in audit.windows if window.frames]
     whole = [series_of(window) for window in windows]
     shown, series, compressed = fitting(audit, windows, whole)
-    return Packed(base64.b64encode(compressed).decode(), shown, sum(len(one.frames) for one in series),
-                  sum(one.whole for one in whole), sum(one.merged for one in series), len(windows) - len(shown))
+    return Packed(
+        base64.b64encode(compressed).decode(),
+        shown,
+        sum(len(one.frames) for one in series),
+        sum(one.whole for one in whole),
+        sum(one.merged for one in series),
+        len(windows) - len(shown),
+    )
 
 
 Shown = tuple[list[Window], list[Series], bytes]
@@ -55,8 +62,11 @@ def fitting(audit: Audit, windows: list[Window], whole: list[Series]) -> Shown:
     """The first that is small enough: all points, fewer points, fewer windows without trouble, fewer marks."""
     troubled = sum(1 for window in windows if window.stalls or window.faults)
     number = min(len(windows), max(troubled, MOST_WINDOWS))
-    for points, marks, least in [*((points, UNBOUNDED, len(windows)) for points in POINTS), (POINTS[-1], UNBOUNDED, troubled),
-                                 *((POINTS[-1], marks, 1) for marks in MARKS)]:
+    for points, marks, least in [
+        *((points, UNBOUNDED, len(windows)) for points in POINTS),
+        (POINTS[-1], UNBOUNDED, troubled),
+        *((POINTS[-1], marks, 1) for marks in MARKS),
+    ]:
         found = cut(audit, windows[:number], whole, points, marks)
         while len(found[2]) > MOST_BYTES and number > least:
             number = max(least, int(number * MARGIN * MOST_BYTES / len(found[2])))
@@ -67,7 +77,7 @@ def fitting(audit: Audit, windows: list[Window], whole: list[Series]) -> Shown:
 
 
 def cut(audit: Audit, windows: list[Window], whole: list[Series], points: int, marks: int) -> Shown:
-    series = [thinned(one, points, marks) for one in whole[:len(windows)]]
+    series = [thinned(one, points, marks) for one in whole[: len(windows)]]
     return windows, series, zlib.compress(json_of(audit, windows, series))
 
 
@@ -76,8 +86,11 @@ def json_of(audit: Audit, windows: list[Window], series: list[Series]) -> bytes:
     used = sorted({places[id(window.connection)] for window in windows})
     new = {place: number for number, place in enumerate(used)}
     kinds = sorted({kind for one in series for _, kind, _ in one.faults})
-    times = [step for window, one in zip(windows, series)
-             for step in steps(onward(time - window.connection.start for time in one.times))]
+    times = [
+        step
+        for window, one in zip(windows, series)
+        for step in steps(onward(time - window.connection.start for time in one.times))
+    ]
     unit = gcd(*times) or 1
     said = {
         "connections": [connection_of(audit, place) for place in used],
@@ -88,7 +101,9 @@ def json_of(audit: Audit, windows: list[Window], series: list[Series]) -> bytes:
         "times": [time // unit for time in times],
         "credits": [step for one in series for step in steps(one.credits)],
         "stalls": [step for one in series for step in stall_steps(one)],
-        "faults": [number for one in series for at, kind, value in one.faults for number in (at, kinds.index(kind), value)],
+        "faults": [
+            number for one in series for at, kind, value in one.faults for number in (at, kinds.index(kind), value)
+        ],
     }
     return json.dumps(said, separators=(",", ":")).encode()
 
@@ -100,8 +115,16 @@ def connection_of(audit: Audit, place: int) -> list[object]:
 
 def window_of(window: Window, connection: int, series: Series) -> list[object]:
     """Its connection, side and stream; how many points, stalls and faults follow; and its trouble in words."""
-    return [connection, int(window.side == "server"), window.stream, len(series.frames), len(series.stalls),
-            len(series.faults), trouble_of(window), len(window.stalls)]
+    return [
+        connection,
+        int(window.side == "server"),
+        window.stream,
+        len(series.frames),
+        len(series.stalls),
+        len(series.faults),
+        trouble_of(window),
+        len(window.stalls),
+    ]
 
 
 def trouble_of(window: Window) -> str:
@@ -125,7 +148,7 @@ def steps(numbers: Iterable[int]) -> Iterator[int]:
 
 def onward(times: Iterable[int]) -> Iterator[int]:
     """Times for a chart, which cannot go back: where the capture's clock did, they stand still."""
-    latest = None
+    latest: int | None = None
     for time in times:
         latest = time if latest is None else max(latest, time)
         yield latest

@@ -25,8 +25,10 @@ def source_hash(text: str) -> str:
 
 def policy(scripts: list[str], styles: list[str]) -> str:
     """Only these scripts run and only these styles count; nothing is fetched, framed or sent (CSP level 3)."""
-    return ("default-src 'none'; base-uri 'none'; form-action 'none'; "
-            f"script-src {' '.join(map(source_hash, scripts))}; style-src {' '.join(map(source_hash, styles))}")
+    return (
+        "default-src 'none'; base-uri 'none'; form-action 'none'; "
+        f"script-src {' '.join(map(source_hash, scripts))}; style-src {' '.join(map(source_hash, styles))}"
+    )
 
 
 def page(audit: Audit, title: str, library: Library) -> str:
@@ -34,18 +36,30 @@ def page(audit: Audit, title: str, library: Library) -> str:
     own = "(() => {\n\"use strict\";\n" + "\n".join(map(asset, SCRIPTS)) + "\n})();\n"
     scripts = [library.script, own] if charts else []
     styles = [library.style, asset("page.css")]
-    return "".join(["<!DOCTYPE html>\n<html lang=\"en\">\n", head(title, policy(scripts, styles), styles),
-                    body(audit, title, charts), licence(library) if charts else "",
-                    *[element("script", Markup(script)) for script in scripts], "</body>\n</html>\n"])
+    return "".join(
+        [
+            "<!DOCTYPE html>\n<html lang=\"en\">\n",
+            head(title, policy(scripts, styles), styles),
+            body(audit, title, charts),
+            licence(library) if charts else "",
+            *[element("script", Markup(script)) for script in scripts],
+            "</body>\n</html>\n",
+        ]
+    )
 
 
 def head(title: str, rules: str, styles: list[str]) -> Markup:
-    return element("head", [
-        Markup('<meta charset="utf-8">\n'),
-        Markup(f'<meta http-equiv="Content-Security-Policy" content="{rules}">\n'),
-        Markup('<meta name="viewport" content="width=device-width, initial-scale=1">\n'),
-        Markup('<meta name="referrer" content="no-referrer">\n<meta name="color-scheme" content="light dark">\n'),
-        element("title", title), *[element("style", Markup(style)) for style in styles]])
+    return element(
+        "head",
+        [
+            Markup('<meta charset="utf-8">\n'),
+            Markup(f'<meta http-equiv="Content-Security-Policy" content="{rules}">\n'),
+            Markup('<meta name="viewport" content="width=device-width, initial-scale=1">\n'),
+            Markup('<meta name="referrer" content="no-referrer">\n<meta name="color-scheme" content="light dark">\n'),
+            element("title", title),
+            *[element("style", Markup(style)) for style in styles],
+        ],
+    )
 
 
 def body(audit: Audit, title: str, charts: Packed | None) -> Markup:
@@ -53,7 +67,13 @@ def body(audit: Audit, title: str, charts: Packed | None) -> Markup:
     shown = [section(one, choice) for one in audit.connections if id(one) in choice.sections]
     main = [summary(audit), left_out(choice, audit.lines), chart_section(audit, charts), connections(audit), *shown]
     about = element("p", "Made by h2audit-page from a report of h2audit. The rules are those of RFC 9113, HTTP/2.")
-    return Markup("<body>\n" + element("header", [element("h1", title), about]) + "\n" + element("main", main, class_="large" if choice.left_out else None) + "\n")
+    return Markup(
+        "<body>\n"
+        + element("header", [element("h1", title), about])
+        + "\n"
+        + element("main", main, class_="large" if choice.left_out else None)
+        + "\n"
+    )
 
 
 def chart_section(audit: Audit, charts: Packed | None) -> Markup:
@@ -62,9 +82,13 @@ def chart_section(audit: Audit, charts: Packed | None) -> Markup:
         windows = any(one.opening.form == "http2" for one in audit.connections)
         said = "The report has no credit lines, so there are no charts. Make it with h2audit --frames to have them."
         return element("section", [*parts, element("p", said)], id="charts") if windows else Markup("")
-    parts += [element("p", Markup("Charts need JavaScript; the tables below do not."), id="no-charts"),
-              thinning(charts), asset_markup("filters.html"), element("div", "", id="windows"),
-              element("script", Markup(charts.text), type="text/plain", id="chart-data")]
+    parts += [
+        element("p", Markup("Charts need JavaScript; the tables below do not."), id="no-charts"),
+        thinning(charts),
+        asset_markup("filters.html"),
+        element("div", "", id="windows"),
+        element("script", Markup(charts.text), type="text/plain", id="chart-data"),
+    ]
     return element("section", parts, id="charts")
 
 
@@ -76,8 +100,10 @@ def thinning(charts: Packed) -> Markup:
     """Whether the charts have every credit line, and what is left out where they have not."""
     said = []
     if charts.points < charts.points_in_report:
-        said.append(f"The charts are thinned: of {charts.points_in_report:,} credit lines they have {charts.points:,} points, "
-                    "among them both ends of every stall, every fault, and the least and the greatest credit of each stretch. ")
+        said.append(
+            f"The charts are thinned: of {charts.points_in_report:,} credit lines they have {charts.points:,} points, "
+            "among them both ends of every stall, every fault, and the least and the greatest credit of each stretch. "
+        )
     if charts.joined:
         said.append(f"{charts.joined:,} stalls and faults stand so near others that they share a shade or a mark. ")
     if charts.left_out:
@@ -86,5 +112,8 @@ def thinning(charts: Packed) -> Markup:
 
 
 def licence(library: Library) -> Markup:
-    said = [element("summary", f"Charts by dygraphs {library.version}, MIT licence"), element("pre", library.licence, tabindex="0")]
+    said = [
+        element("summary", f"Charts by dygraphs {library.version}, MIT licence"),
+        element("pre", library.licence, tabindex="0"),
+    ]
     return element("footer", element("details", said))

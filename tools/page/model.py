@@ -8,8 +8,7 @@ from dataclasses import dataclass, field
 from typing import BinaryIO
 
 from report.blame import CREDIT_KINDS, STALL_BEGIN
-from report.lines import (
-    Audited, Capture, Finding, Flow, Opening, PassedOver, Refused, Stall, Unopened, read_lines)
+from report.lines import Audited, Capture, Finding, Flow, Opening, PassedOver, Refused, Stall, Unopened, read_lines
 from report.notes import Note, Pairing
 
 # The credit of a connection's window before any line (RFC 9113, 6.9.2).
@@ -19,6 +18,7 @@ FIRST_CONNECTION_CREDIT = 65535
 @dataclass(slots=True)
 class Window:
     """One side's window: its credit lines, and the notes of its stalls and faults."""
+
     connection: Connection
     side: str
     stream: int
@@ -31,7 +31,9 @@ class Window:
     @property
     def waits(self) -> list[int]:
         """The nanoseconds of each stall; one without an end goes up to the connection's last finding."""
-        return [self.connection.end - stall.finding.time if stall.waited is None else stall.waited for stall in self.stalls]
+        return [
+            self.connection.end - stall.finding.time if stall.waited is None else stall.waited for stall in self.stalls
+        ]
 
     @property
     def trouble(self) -> tuple[int, int, int]:
@@ -105,6 +107,7 @@ class Connection:
 @dataclass
 class Audit:
     """A whole report."""
+
     capture: Capture
     lines: int = 0
     fragments: int = 0

@@ -13,10 +13,10 @@ from __future__ import annotations
 
 import argparse
 import os
-import sys
 
 from report.command import IO_FAILED, MISSING, OK, REFUSED, Words, failed, io_reason, opened
 from report.lines import Refused
+from report.output import written
 
 from page.document import page
 from page.library import Missing, library
@@ -29,7 +29,9 @@ def arguments(words: list[str]) -> argparse.Namespace:
     parser = Words(prog=NAME, description=__doc__, formatter_class=argparse.RawDescriptionHelpFormatter)
     parser.add_argument("report", metavar="REPORT", help="with credit lines for charts; - is standard input")
     parser.add_argument("-o", "--output", required=True, metavar="FILE", help="the page; - is standard output")
-    parser.add_argument("-t", "--title", metavar="TITLE", help="the heading of the page; without it the name of the report")
+    parser.add_argument(
+        "-t", "--title", metavar="TITLE", help="the heading of the page; without it the name of the report"
+    )
     return parser.parse_args(words)
 
 
@@ -41,21 +43,14 @@ def title_of(asked: argparse.Namespace) -> str:
     return "Audit of HTTP/2 flow control: " + os.path.basename(asked.report).encode(errors="replace").decode()
 
 
-def write_page(text: str, path: str) -> None:
-    if path == "-":
-        sys.stdout.buffer.write(text.encode())
-        sys.stdout.buffer.flush()
-        return
-    with open(path, "wb") as file:
-        file.write(text.encode())
-
-
 def main(words: list[str]) -> int:
     asked = arguments(words)
     try:
         with opened(asked.report) as report:
             audit = read_audit(report)
-        write_page(page(audit, title_of(asked), library()), asked.output)
+        text = page(audit, title_of(asked), library())
+        with written(asked.output) as out:
+            out.write(text.encode())
     except Refused as why:
         return failed(NAME, REFUSED, f"report refused: {why}")
     except Missing as why:

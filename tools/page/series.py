@@ -1,4 +1,4 @@
-"""The points of a window's chart, and how a long one is thinned: no stall's end, no fault and no extreme is left out."""
+"""The points of a window's chart, and how a long one is thinned: stalls, faults and extremes stay."""
 
 from __future__ import annotations
 
@@ -12,6 +12,7 @@ from page.model import Window
 @dataclass(slots=True)
 class Series:
     """Points by frame, time and credit; the stalls as pairs of points (an open one has no second), faults by points."""
+
     frames: array[int]
     times: array[int]
     credits: array[int]
@@ -64,8 +65,10 @@ def marks(window: Window, frames: array[int]) -> tuple[list[tuple[int, int | Non
     def place(frame: int) -> int:
         return bisect_left(frames, frame)
 
-    stalls = [(place(stall.finding.frame), place(stall.other.finding.frame) if stall.other else None)
-              for stall in window.stalls]
+    stalls = [
+        (place(stall.finding.frame), place(stall.other.finding.frame) if stall.other else None)
+        for stall in window.stalls
+    ]
     faults = [(place(note.finding.frame), note.finding.kind, note.finding.value) for note in window.faults]
     return stalls, faults
 
@@ -82,11 +85,14 @@ def thinned(whole: Series, most: int, most_marks: int) -> Series:
     order = sorted(kept)
     new = {at: place for place, at in enumerate(order)}
     return Series(
-        array("q", (whole.frames[at] for at in order)), array("q", (whole.times[at] for at in order)),
+        array("q", (whole.frames[at] for at in order)),
+        array("q", (whole.times[at] for at in order)),
         array("q", (whole.credits[at] for at in order)),
         [(new[begin], None if end is None else new[end]) for begin, end in stalls],
-        [(new[at], kind, value) for at, kind, value in faults], whole.whole,
-        len(whole.stalls) - len(stalls) + len(whole.faults) - len(faults))
+        [(new[at], kind, value) for at, kind, value in faults],
+        whole.whole,
+        len(whole.stalls) - len(stalls) + len(whole.faults) - len(faults),
+    )
 
 
 def extremes(credits: array[int], most: int) -> set[int]:
@@ -94,7 +100,7 @@ def extremes(credits: array[int], most: int) -> set[int]:
     length = max(2, -(-2 * len(credits) // max(most, 2)))
     kept = {0, len(credits) - 1}
     for begin in range(0, len(credits), length):
-        stretch = credits[begin:begin + length]
+        stretch = credits[begin : begin + length]
         kept.update((begin + stretch.index(min(stretch)), begin + stretch.index(max(stretch))))
     return kept
 
@@ -103,8 +109,10 @@ def joined(whole: Series, most: int) -> list[tuple[int, int | None]]:
     """The stalls; where there are more than `most`, those that are nearest together share one shade."""
     if len(whole.stalls) <= most:
         return whole.stalls
-    gaps = sorted(whole.frames[after[0]] - whole.frames[before[1] or before[0]]
-                  for before, after in zip(whole.stalls, whole.stalls[1:]))
+    gaps = sorted(
+        whole.frames[after[0]] - whole.frames[before[1] or before[0]]
+        for before, after in zip(whole.stalls, whole.stalls[1:])
+    )
     widest = gaps[len(whole.stalls) - most - 1]
     shades = [whole.stalls[0]]
     for begin, end in whole.stalls[1:]:
@@ -121,5 +129,10 @@ def one_in_each(whole: Series, most: int) -> list[tuple[int, str, int]]:
     if len(whole.faults) <= most:
         return whole.faults
     length = -(-len(whole.faults) // most)
-    return [fault for begin in range(0, len(whole.faults), length)
-            for fault in {kind: (at, kind, value) for at, kind, value in reversed(whole.faults[begin:begin + length])}.values()]
+    return [
+        fault
+        for begin in range(0, len(whole.faults), length)
+        for fault in {
+            kind: (at, kind, value) for at, kind, value in reversed(whole.faults[begin : begin + length])
+        }.values()
+    ]

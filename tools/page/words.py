@@ -32,14 +32,19 @@ def audited(audit: Audit) -> list[str]:
     faults = sum(len(one.faults) for one in connections)
     broken = sum(1 for one in connections if one.faults)
     stalls = sum(len(one.stalls) for one in connections)
-    said = [f"The capture has {count(capture.records, 'record')}, {capture.segments:,} of them TCP segments over IPv4.",
-            f"{count(len(connections), 'connection was', 'connections were')} opened in it; HTTP/2 was spoken in "
-            f"{len(http2):,}, with {count(frames, 'frame')}."]
+    said = [
+        f"The capture has {count(capture.records, 'record')}, {capture.segments:,} of them TCP segments.",
+        f"{count(len(connections), 'connection was', 'connections were')} opened in it; HTTP/2 was spoken in "
+        f"{len(http2):,}, with {count(frames, 'frame')}.",
+    ]
     if not http2:
         return said + ["Nothing was audited, so nothing is said of flow control."]
     said.append(f"{count(faults, 'fault')} in {count(broken, 'connection')}." if faults else "No rule was broken.")
-    said.append(f"{count(stalls, 'stall')}: so often a side used up its credit and had to wait." if stalls else
-                "No side used up its credit.")
+    said.append(
+        f"{count(stalls, 'stall')}: a side used up its credit and had to wait."
+        if stalls
+        else "No side used up its credit."
+    )
     return said
 
 
@@ -48,13 +53,19 @@ def doubts(audit: Audit) -> list[str]:
     capture = audit.capture
     gaps = sum(1 for one in audit.connections if any(flow.gap is not None for flow in one.flows))
     lacks = [
-        (gaps, f"In {count(gaps, 'connection')} bytes are missing (a gap). What is found behind a gap may not have happened."),
+        (
+            gaps,
+            f"In {count(gaps, 'connection')} bytes are missing (a gap). What is found behind it may not have happened.",
+        ),
         (capture.snapped, f"{count(capture.snapped, 'segment')} kept fewer bytes than the packet had (snapped)."),
         (capture.refused, f"{count(capture.refused, 'packet')} could not be read (refused)."),
         (capture.fragments, f"{count(capture.fragments, 'IP fragment')} were passed over."),
-        (capture.not_ipv4, f"{count(capture.not_ipv4, 'packet')} of other networks than IPv4 were passed over."),
-        (audit.unopened, f"{count(audit.unopened, 'pair')} of endpoints had {count(audit.unopened_segments, 'segment')} "
-                         "of connections that began before the capture, which are not audited."),
+        (capture.not_ipv4, f"{count(capture.not_ipv4, 'packet')} of other network protocols were passed over."),
+        (
+            audit.unopened,
+            f"{count(audit.unopened, 'pair')} of endpoints had {count(audit.unopened_segments, 'segment')} "
+            "of connections that began before the capture, which are not audited.",
+        ),
         (audit.cut, f"The capture ends within record {audit.cut}."),
     ]
     return [said for number, said in lacks if number]
@@ -63,6 +74,7 @@ def doubts(audit: Audit) -> list[str]:
 @dataclass(frozen=True)
 class Breach:
     """Who broke which rule, how often, in how many connections, and where first."""
+
     side: str
     kind: str
     section: str
@@ -77,7 +89,9 @@ def breaches(audit: Audit) -> list[Breach]:
     connections: Counter[tuple[str, str, str]] = Counter()
     first: dict[tuple[str, str, str], tuple[Connection, Note]] = {}
     for one in audit.connections:
-        broken = Counter((note.finding.who_broke_it or "", note.finding.kind, section_of(note.finding)) for note in one.faults)
+        broken = Counter(
+            (note.finding.who_broke_it or "", note.finding.kind, section_of(note.finding)) for note in one.faults
+        )
         times.update(broken)
         connections.update(broken.keys())
         for note in one.faults:
@@ -113,7 +127,7 @@ def whom_to_ask(connection: Connection, stall: Note) -> str:
 def verdict(one: Connection) -> str:
     """How the audit of a connection ended."""
     if one.opening.form != "http2":
-        return FORMS.get(one.opening.form, one.opening.form)
+        return FORMS.get(one.opening.form, f"not audited: {one.opening.form.removeprefix('refused ')}")
     said = [count(len(one.faults), "fault") if one.faults else "no fault"]
     if one.stalls:
         said.append(count(len(one.stalls), "stall"))
@@ -125,10 +139,13 @@ def verdict(one: Connection) -> str:
 
 
 def flow_words(one: Connection) -> list[str]:
-    return [f"The {flow.side} sent {count(flow.bytes, 'byte')} that were captured without a hole"
-            + (f"; bytes are missing from offset {flow.gap:,} on" if flow.gap is not None else "")
-            + (f"; the last {count(flow.tail, 'byte')} are no whole frame" if flow.tail else "") + "."
-            for flow in one.flows]
+    return [
+        f"The {flow.side} sent {count(flow.bytes, 'byte')} that were captured without a hole"
+        + (f"; bytes are missing from offset {flow.gap:,} on" if flow.gap is not None else "")
+        + (f"; the last {count(flow.tail, 'byte')} are no whole frame" if flow.tail else "")
+        + "."
+        for flow in one.flows
+    ]
 
 
 def clock(nanos: int) -> str:

@@ -14,8 +14,18 @@ if TYPE_CHECKING:
 
 OTHER_SIDE = {"client": "server", "server": "client"}
 NAMED, OTHER, NOBODY = "the named side", "the other side", "nobody"
-FRAME_TYPES = ("DATA", "HEADERS", "PRIORITY", "RST_STREAM", "SETTINGS", "PUSH_PROMISE", "PING", "GOAWAY",
-               "WINDOW_UPDATE", "CONTINUATION")
+FRAME_TYPES = (
+    "DATA",
+    "HEADERS",
+    "PRIORITY",
+    "RST_STREAM",
+    "SETTINGS",
+    "PUSH_PROMISE",
+    "PING",
+    "GOAWAY",
+    "WINDOW_UPDATE",
+    "CONTINUATION",
+)
 PUSH_PROMISE, CONTINUATION = 5, 9
 SETTINGS = {2: "ENABLE_PUSH", 4: "INITIAL_WINDOW_SIZE", 5: "MAX_FRAME_SIZE"}
 
@@ -27,6 +37,7 @@ class Kind:
     The sentence is over these words: {side} and {other}, {window} as "on stream 1" or "of the connection", {stream},
     {value} and its size without a sign, {amount}; and a frame's type by the value, {type}.
     """
+
     blame: str
     sections: str
     sentence: str
@@ -44,17 +55,25 @@ KINDS = {
     "broken-block": Kind(NAMED, "4.3, 6.10", "{side} sent {type} on stream {stream}, which breaks a field block"),
     "too-long": Kind(NAMED, "4.2", LIMIT),
     "wrong-stream": Kind(NAMED, "6.1 to 6.10", "{side} sent {type} on stream {stream}, where it may not stand"),
-    "wrong-size": Kind(NAMED, "4.2, 6.1 to 6.9", "{side} sent a frame of {amount} bytes, which its type does not allow"),
-    "bad-padding": Kind(NAMED, "4.2, 6.1 to 6.9", "{side} sent a frame with {amount} bytes of padding, which it cannot hold"),
+    "wrong-size": Kind(
+        NAMED, "4.2, 6.1 to 6.9", "{side} sent a frame of {amount} bytes, which its type does not allow"
+    ),
+    "bad-padding": Kind(
+        NAMED, "4.2, 6.1 to 6.9", "{side} sent a frame with {amount} bytes of padding, which it cannot hold"
+    ),
     "bad-setting": Kind(NAMED, "6.5.2", "{side} announced a value of {setting} out of its range"),
     "push": Kind(NAMED, "6.5.2, 8.4", "{side} sent a PUSH_PROMISE that it may not send"),
     "not-opened": Kind(NAMED, "5.1, 6.6", "{side} sent {type} on stream {stream}, which was not opened for it"),
-    "id-not-greater": Kind(NAMED, "5.1.1, 6.6", "{side} opened or promised stream {stream}, "
-                           "which is not above its stream {amount}, or not of its kind"),
+    "id-not-greater": Kind(
+        NAMED,
+        "5.1.1, 6.6",
+        "{side} opened or promised stream {stream}, " "which is not above its stream {amount}, or not of its kind",
+    ),
     "zero-connection-grant": Kind(NAMED, "6.9", "{side} granted 0 bytes for the connection"),
     "connection-overflow": Kind(OTHER, "6.9.1", OVERFLOW),
-    "setting-overflow": Kind(OTHER, "6.9.2", "{other} sent settings that take {side}'s credit {window} to {value}, "
-                             "above 2^31 - 1"),
+    "setting-overflow": Kind(
+        OTHER, "6.9.2", "{other} sent settings that take {side}'s credit {window} to {value}, " "above 2^31 - 1"
+    ),
     "long-frame": Kind(NAMED, "4.2", LIMIT),
     "after-end": Kind(NAMED, "5.1", "{side} sent {type} on stream {stream} after it had ended its side of it"),
     "connection-overrun": Kind(NAMED, "6.9.1", OVERRUN),
@@ -112,10 +131,15 @@ def what_happened(finding: Finding) -> str:
     """What the finding tells, without who is to blame."""
     value = finding.value
     return kind_of(finding.kind).sentence.format(
-        side=finding.side, other=OTHER_SIDE[finding.side], stream=finding.stream,
+        side=finding.side,
+        other=OTHER_SIDE[finding.side],
+        stream=finding.stream,
         window=f"on stream {finding.stream}" if finding.stream else "of the connection",
-        value=f"{value:,}", amount=f"{abs(value):,}", type=frame_type(value),
-        setting=SETTINGS.get(value, f"setting {value}"))
+        value=f"{value:,}",
+        amount=f"{abs(value):,}",
+        type=frame_type(value),
+        setting=SETTINGS.get(value, f"setting {value}"),
+    )
 
 
 def frame_type(value: int) -> str:

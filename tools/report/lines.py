@@ -18,15 +18,18 @@ SIDE = "(client|server)"
 
 CAPTURE = re.compile(
     rf"capture records ({NUMBER}) segments ({NUMBER}) snapped ({NUMBER}) not-ipv4 ({NUMBER}) fragments ({NUMBER}) "
-    rf"not-tcp ({NUMBER}) refused ({NUMBER})")
+    rf"not-tcp ({NUMBER}) refused ({NUMBER})"
+)
 PASSED_OVER = re.compile(rf"record ({NUMBER}) (fragment|cut|refused [a-z0-9-]+)")
 UNOPENED = re.compile(rf"unopened (\S+) (\S+) segments ({NUMBER})")
 CONNECTION = re.compile(
     rf"connection ({NUMBER}) client (\S+) server (\S+) record ({NUMBER}) "
-    rf"(?:(http2) frames ({NUMBER})|(not-http2|no-preface|no-handshake))")
+    rf"(?:(http2) frames ({NUMBER})|(not-http2|no-preface|no-handshake|refused [a-z0-9-]+(?: [a-z0-9-]+)?))"
+)
 FLOW = re.compile(rf"flow {SIDE} bytes ({NUMBER}) gap (none|{NUMBER}) tail ({NUMBER})")
 FINDING = re.compile(
-    rf"frame ({NUMBER}) record ({NUMBER}) time ({NUMBER}) {SIDE} ([a-z-]+) stream ({NUMBER}) value (-?{NUMBER})")
+    rf"frame ({NUMBER}) record ({NUMBER}) time ({NUMBER}) {SIDE} ([a-z-]+) stream ({NUMBER}) value (-?{NUMBER})"
+)
 STALL = re.compile(rf"stall {SIDE} stream ({NUMBER}) from ({NUMBER}) (?:open|to ({NUMBER}) nanos (-?{NUMBER}))")
 AUDIT = re.compile(rf"audit (?:of all frames|stopped at frame ({NUMBER}))")
 
@@ -47,6 +50,7 @@ class Capture(NamedTuple):
 
 class PassedOver(NamedTuple):
     """A record that is a fragment, was refused, or is cut by the end of the capture."""
+
     record: int
     why: str
 
@@ -59,6 +63,7 @@ class Unopened(NamedTuple):
 
 class Opening(NamedTuple):
     """The line that begins a connection."""
+
     number: int
     client: str
     server: str
@@ -106,6 +111,7 @@ class Stall(NamedTuple):
 
 class Audited(NamedTuple):
     """How far the audit of a connection went: to this frame, or over all frames."""
+
     stopped_at: int | None
 
 

@@ -11,6 +11,7 @@ from report.lines import Finding
 @dataclass(slots=True)
 class Note:
     """A finding, the packet that it is about, and for a stall its other end."""
+
     packet: int
     finding: Finding
     other: Note | None = None

@@ -1,7 +1,7 @@
 """The lines of a connection (docs/REPORT_FORMAT.md, section 5), from the report of a part into that of the whole."""
 from typing import BinaryIO
 
-from part_report import PartReport
+from part_report import LONGEST, PartReport
 
 # These findings are nobody's breach; any other makes h2audit's status 1.
 NO_FAULTS = frozenset((
@@ -40,19 +40,21 @@ class Writer:
     def write(self, connection: Connection, number: int) -> None:
         """Writes a connection under this number."""
         report = connection.report
-        lines = [b"connection %d client %b server %b record %d %b\n" % (
-            number, connection.client, connection.server, connection.record, connection.kind)]
-        line = lines[0]
-        while report.line and not report.line.startswith(b"connection "):
-            line = report.advance()
-            if line.startswith(b"frame "):
-                line = self.renumbered(report, line)
-            lines.append(line)
+        read, line = report.file.readline, report.line
+        begin = b"connection %d client %b server %b record %d %b\n" % (
+            number, connection.client, connection.server, connection.record, connection.kind)
+        lines, last, count = [begin], begin, 0
+        while line and not line.startswith(b"connection "):
+            last = self.renumbered(report, line) if line.startswith(b"frame ") else line
+            lines.append(last)
             if len(lines) == LINES:
                 self.output.write(b"".join(lines))
                 lines.clear()
+            line = read(LONGEST)
+            count += 1
+        report.follow(line, count)
         self.output.write(b"".join(lines))
-        if not line.startswith(b"audit " if connection.kind.startswith(b"http2") else b"flow "):
+        if not last.startswith(b"audit " if connection.kind.startswith(b"http2") else b"flow ") or last[-1:] != b"\n":
             raise report.broken()
 
     def renumbered(self, report: PartReport, line: bytes) -> bytes:

@@ -32,6 +32,13 @@ class PartReport:
             raise self.broken()
         return passed
 
+    def follow(self, line: bytes, count: int) -> None:
+        """Goes on with a line that was read after so many others."""
+        self.line = line
+        self.place += count
+        if line and not line.endswith(b"\n"):
+            raise self.broken()
+
     def broken(self) -> Refusal:
         """The line at hand is none that stands there in a report."""
         return Refusal(f"{self.path}: line {self.place} is not one of a whole report")

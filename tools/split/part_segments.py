@@ -3,6 +3,8 @@ import struct
 from pathlib import Path
 from types import TracebackType
 
+from refusal import Refusal
+
 RAW_IP = 101
 FILE_HEADER = 24
 RECORD_HEADER = 16
@@ -20,6 +22,9 @@ class PartSegments:
         """Opens the part, which h2audit has read before."""
         self.file = path.open("rb", buffering=0)
         header = self.file.read(FILE_HEADER)
+        if len(header) < FILE_HEADER:
+            self.file.close()
+            raise Refusal(f"{path} has no file header")
         order = "<" if header[:4] in LITTLE_ENDIAN else ">"
         self.link = struct.unpack(order + "I", header[20:24])[0] & 0xFFFF
         self.lengths = struct.Struct(order + "8xII")
@@ -73,7 +78,7 @@ class PartSegments:
 
 
 def segment_pair(link: int, front: bytes, captured: int, original: int) -> tuple[bytes, bytes] | None:
-    """The addresses and the ports of the segment in a packet, of which the headers are given; none where it is passed over."""
+    """Addresses and ports of the segment in a packet, of which the headers are given; none where it is passed over."""
     start = datagram_start(link, front)
     length = captured - start
     if start < 0 or length < 20 or front[start] >> 4 != 4:

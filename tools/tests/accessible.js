@@ -20,7 +20,8 @@ function ground(one) {
 
 // 1.4.3: the contrast of each text that is shown.
 function lowContrast() {
-  const texts = shownElements().filter(one => [...one.childNodes].some(node => node.nodeType === 3 && node.data.trim()));
+  const hasText = one => [...one.childNodes].some(node => node.nodeType === 3 && node.data.trim());
+  const texts = shownElements().filter(hasText);
   const low = texts.filter(one => {
     const style = getComputedStyle(one), size = parseFloat(style.fontSize);
     const isLarge = size >= 24 || (size >= 18.66 && Number(style.fontWeight) >= 700);
@@ -42,16 +43,18 @@ function faults() {
   if (!document.title) fault("2.4.2 title", document.head);
   const ids = [...document.querySelectorAll("[id]")].map(one => one.id);
   ids.filter((id, at) => ids.indexOf(id) !== at).forEach(id => fault("4.1.1 identifiers", id));
-  all.filter(one => one.matches("input, select, button, a, [role=img], [role=region], [role=search], figure") && !nameOf(one))
-    .forEach(one => fault("4.1.2 name", one));
+  const named = "input, select, button, a, [role=img], [role=region], [role=search], figure";
+  all.filter(one => one.matches(named) && !nameOf(one)).forEach(one => fault("4.1.2 name", one));
   const levels = all.filter(one => /^H[1-6]$/.test(one.tagName)).map(one => Number(one.tagName[1]));
-  levels.forEach((level, at) => level > (levels[at - 1] ?? 0) + 1 && fault("1.3.1 headings", `h${levels[at - 1]}, h${level}`));
+  levels.forEach((level, at) =>
+    level > (levels[at - 1] ?? 0) + 1 && fault("1.3.1 headings", `h${levels[at - 1]}, h${level}`));
   document.querySelectorAll("th:not([scope])").forEach(one => fault("1.3.1 table heads", one));
   document.querySelectorAll("table").forEach(one => one.caption || fault("1.3.1 caption", one));
   all.filter(one => one.matches("input:not([type=radio]), select, button")).forEach(one => {
     const { width, height } = one.getBoundingClientRect();
     if (width < 24 || height < 24) fault("2.5.8 target size", one);
   });
-  document.querySelectorAll("a[href^='#']").forEach(one => document.getElementById(one.hash.slice(1)) || fault("dead link", one));
+  document.querySelectorAll("a[href^='#']").forEach(one =>
+    document.getElementById(one.hash.slice(1)) || fault("dead link", one));
   return found;
 }

@@ -1,15 +1,26 @@
 """A headless Chromium for tests, driven by Selenium, with what it said and what it asked the network for."""
 
+import contextlib
 import json
 import os
+import pathlib
 import time
 
 from selenium import webdriver
 from selenium.webdriver.chrome.options import Options
 from selenium.webdriver.chrome.service import Service
 
-WORDS = ["--headless=new", "--window-size=1200,1000", "--disable-gpu", "--disable-dev-shm-usage", "--hide-scrollbars",
-         "--force-device-scale-factor=1", "--force-color-profile=srgb", "--no-first-run", "--disable-background-networking"]
+WORDS = [
+    "--headless=new",
+    "--window-size=1200,1000",
+    "--disable-gpu",
+    "--disable-dev-shm-usage",
+    "--hide-scrollbars",
+    "--force-device-scale-factor=1",
+    "--force-color-profile=srgb",
+    "--no-first-run",
+    "--disable-background-networking",
+]
 PATIENCE = 30
 
 
@@ -31,7 +42,9 @@ class Browser:
         return self.driver.execute_cdp_cmd(name, words)
 
     def scheme(self, name, media=""):
-        self.command("Emulation.setEmulatedMedia", media=media, features=[{"name": "prefers-color-scheme", "value": name}])
+        self.command(
+            "Emulation.setEmulatedMedia", media=media, features=[{"name": "prefers-color-scheme", "value": name}]
+        )
 
     def scripts(self, are_on):
         self.command("Emulation.setScriptExecutionDisabled", value=not are_on)
@@ -42,6 +55,23 @@ class Browser:
         self.driver.get(f"file://{path}")
         self.until(is_ready)
         return time.monotonic() - start
+
+    def processor_seconds(self):
+        """What its processes that draw pages have taken of the processor, by their numbers (proc(5))."""
+        parents, seconds = {}, {}
+        for folder in pathlib.Path("/proc").glob("[0-9]*"):
+            with contextlib.suppress(OSError):
+                words = (folder / "stat").read_text().rpartition(")")[2].split()
+                parents[int(folder.name)] = int(words[1])
+                if b"--type=renderer" in (folder / "cmdline").read_bytes():
+                    seconds[int(folder.name)] = (int(words[11]) + int(words[12])) / os.sysconf("SC_CLK_TCK")
+        return {number: spent for number, spent in seconds.items() if self.has_made(number, parents)}
+
+    def has_made(self, number, parents):
+        """Is a process below that of the driver?"""
+        while number and number != self.driver.service.process.pid:
+            number = parents.get(number, 0)
+        return number != 0
 
     def run(self, script, *words):
         return self.driver.execute_script(script, *words)
@@ -62,4 +92,6 @@ class Browser:
     def requests(self):
         """What was asked for since the last time, but for the pages themselves."""
         entries = [json.loads(entry["message"])["message"] for entry in self.driver.get_log("performance")]
-        return [entry["params"]["request"]["url"] for entry in entries if entry["method"] == "Network.requestWillBeSent"]
+        return [
+            entry["params"]["request"]["url"] for entry in entries if entry["method"] == "Network.requestWillBeSent"
+        ]

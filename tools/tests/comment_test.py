@@ -1,9 +1,12 @@
 #!/usr/bin/python3
-"""Tests of h2audit-comment: what tshark says of the captures before and after, and by which name bad input is refused."""
+"""Tests of h2audit-comment: what tshark says of captures before and after, and by which name bad input is refused."""
 
+import contextlib
 import gzip
+import io
 import os
 import pathlib
+import random
 import re
 import struct
 import subprocess
@@ -17,31 +20,60 @@ EXAMPLES = TOP / "examples"
 sys.path[:0] = [str(TOP / "tools"), str(TOP / "tools" / "tests")]
 sys.dont_write_bytecode = True
 
+from comment.program import main
 from pcapng_blocks import (
-    block, classic, interface, micros, old_packet, option, packet, records_of, section, simple_packet)
+    block,
+    classic,
+    interface,
+    micros,
+    old_packet,
+    option,
+    packet,
+    records_of,
+    section,
+    simple_packet,
+)
 
 # What a packet is: all that tshark shows of its place, time, interface and bytes.
-FIELDS = ["frame.number", "frame.time_epoch", "frame.interface_id", "frame.interface_name", "frame.encap_type", "frame.len",
-          "frame.cap_len", "frame.md5_hash", "frame.protocols", "tcp.stream", "tcp.seq_raw", "tcp.flags", "tcp.len"]
+FIELDS = [
+    "frame.number",
+    "frame.time_epoch",
+    "frame.interface_id",
+    "frame.interface_name",
+    "frame.encap_type",
+    "frame.len",
+    "frame.cap_len",
+    "frame.md5_hash",
+    "frame.protocols",
+    "tcp.stream",
+    "tcp.seq_raw",
+    "tcp.flags",
+    "tcp.len",
+]
 # Written by hand, from the example's README and its packets.
 SAID_OF_GO = {
     12: "h2audit: client used up its credit on stream 1, and waited 764 µs, up to packet 14 (stream-stall-begin); "
-        "nobody broke a rule: ask the server why it granted nothing,"
-        "h2audit: client sent 5,000 bytes past its credit on stream 1 (stream-overrun); the client broke RFC 9113, 6.9.1",
-    14: "h2audit: client's stall on stream 1 ended, 764 µs after packet 12 (stream-stall-end); nobody broke a rule"}
+    "nobody broke a rule: ask the server why it granted nothing,"
+    "h2audit: client sent 5,000 bytes past its credit on stream 1 (stream-overrun); the client broke RFC 9113, 6.9.1",
+    14: "h2audit: client's stall on stream 1 ended, 764 µs after packet 12 (stream-stall-end); nobody broke a rule",
+}
 FINDING = re.compile(r"^frame \d+ record (\d+) .* (client|server) ([a-z-]+) stream", re.M)
 
 
 def shown(capture, fields=FIELDS, *more):
     words = ["tshark", "-n", "-o", "frame.generate_md5_hash:TRUE", "-r", capture, "-T", "fields", *more]
-    run = subprocess.run(words + [word for field in fields for word in ("-e", field)], capture_output=True, text=True, timeout=60)
+    run = subprocess.run(
+        words + [word for field in fields for word in ("-e", field)], capture_output=True, text=True, timeout=60
+    )
     assert run.returncode == 0, run.stderr
     return [line.split("\t") for line in run.stdout.splitlines()]
 
 
 def comments(capture):
     """The comments of each packet that has some, one string for each packet."""
-    return {int(number): said for number, said in shown(capture, ["frame.number", "frame.comment"], "-Y", "frame.comment")}
+    return {
+        int(number): said for number, said in shown(capture, ["frame.number", "frame.comment"], "-Y", "frame.comment")
+    }
 
 
 def run(*words, **more):
@@ -92,8 +124,11 @@ class Examples(InFolder):
 
     def test_an_overflow_is_the_other_sides(self):
         self.comment(EXAMPLES / "connection_overflow_nginx.pcap", EXAMPLES / "connection_overflow_nginx.report")
-        self.assertIn("server's credit of the connection rose to 2,147,547,182, above 2^31 - 1 (connection-overflow); "
-                      "the client broke RFC 9113, 6.9.1", comments(self.out)[15])
+        self.assertIn(
+            "server's credit of the connection rose to 2,147,547,182, above 2^31 - 1 (connection-overflow); "
+            "the client broke RFC 9113, 6.9.1",
+            comments(self.out)[15],
+        )
 
     def test_filter_of_wireshark(self):
         self.comment(EXAMPLES / "use_after_reset.pcap", EXAMPLES / "use_after_reset.report")
@@ -108,8 +143,10 @@ class Examples(InFolder):
         capture, report = EXAMPLES / "stream_overrun_go.pcap", EXAMPLES / "stream_overrun_go.frames.report"
         self.assertEqual(sorted(comments(self.comment(capture, report))), [12, 14])
         self.comment(capture, report, "--credit")
-        self.assertEqual(sum(text.count("h2audit: ") for text in comments(self.out).values()),
-                         len(FINDING.findall(report.read_text())))
+        self.assertEqual(
+            sum(text.count("h2audit: ") for text in comments(self.out).values()),
+            len(FINDING.findall(report.read_text())),
+        )
 
 
 class Forms(InFolder):
@@ -140,16 +177,21 @@ class Forms(InFolder):
         report = re.sub(r" time (\d+)", lambda time: f" time {int(time[1]) + 123}", self.REPORT.read_text())
         parts = classic([], self.link, is_nano=True) + b"".join(
             struct.pack("<IIII", seconds, fraction * 1000 + 123, len(data), length) + data
-            for seconds, fraction, length, data in self.records)
+            for seconds, fraction, length, data in self.records
+        )
         capture = self.write("nano.pcap", parts)
         self.comment(capture, self.write("report", report.encode()))
         self.assertEqual(shown(self.out, ["frame.time_epoch"]), shown(capture, ["frame.time_epoch"]))
         self.assertTrue(shown(self.out, ["frame.time_epoch"])[0][0].endswith("123"))
 
     def test_two_interfaces_and_resolutions(self):
-        """Microseconds on one interface, nanoseconds with an offset on the other, and a comment that stands there already."""
+        """Microseconds on one interface, and nanoseconds with an offset on the other."""
         for order in "<>":
-            parts = [section(order), interface(order, self.link, name=b"lan"), interface(order, self.link, 9, 100, b"wan")]
+            parts = [
+                section(order),
+                interface(order, self.link, name=b"lan"),
+                interface(order, self.link, 9, 100, b"wan"),
+            ]
             for number, one in enumerate(self.records):
                 time = (micros(one) - 100 * 10**6) * 1000 if number % 2 else micros(one)
                 parts.append(packet(order, number % 2, time, one))
@@ -157,22 +199,36 @@ class Forms(InFolder):
 
     def test_comments_that_stand_there(self):
         there = option("<", 1, b"seen before") + option("<", 2, bytes(4)) + option("<", 0, b"")
-        parts = [section(), interface("<", self.link)] + [packet("<", 0, micros(one), one, there) for one in self.records]
+        parts = [section(), interface("<", self.link)] + [
+            packet("<", 0, micros(one), one, there) for one in self.records
+        ]
         self.comment(self.write("in.pcapng", b"".join(parts)), self.REPORT)
         found = comments(self.out)
         self.assertEqual(found[1], "seen before")
         self.assertEqual(found[12], "seen before," + self.wanted[12])
 
     def test_sections(self):
-        """Two sections, of which the second has its own order of bytes and its length told, and the packet block of old."""
-        first = section() + interface("<", self.link) + b"".join(packet("<", 0, micros(one), one) for one in self.records[:11])
+        """Two sections; the second has its own order of bytes, tells its length, and has packet blocks of old."""
+        first = (
+            section()
+            + interface("<", self.link)
+            + b"".join(packet("<", 0, micros(one), one) for one in self.records[:11])
+        )
         inner = interface(">", self.link) + b"".join(old_packet(">", 0, micros(one), one) for one in self.records[11:])
         self.same(first + section(">", len(inner)) + inner, "in.pcapng")
 
     def test_other_blocks_stay(self):
         """Names, statistics, secrets and blocks that nobody knows are copied byte for byte."""
-        others = block("<", 5, struct.pack("<III", 0, 0, 0)) + block("<", 0x77777, b"abc") + block("<", 10, struct.pack("<II", 0x544C534B, 0))
-        parts = [section(), interface("<", self.link), others] + [packet("<", 0, micros(one), one) for one in self.records] + [others]
+        others = (
+            block("<", 5, struct.pack("<III", 0, 0, 0))
+            + block("<", 0x77777, b"abc")
+            + block("<", 10, struct.pack("<II", 0x544C534B, 0))
+        )
+        parts = (
+            [section(), interface("<", self.link), others]
+            + [packet("<", 0, micros(one), one) for one in self.records]
+            + [others]
+        )
         data = b"".join(parts)
         self.same(data, "in.pcapng")
         self.assertEqual(self.out.read_bytes().count(others), 2)
@@ -183,7 +239,9 @@ class Forms(InFolder):
     def test_numbered_as_wireshark_does(self):
         """Custom blocks and journal entries have a number in Wireshark, so the packets after them move on."""
         custom = block("<", 0xBAD, struct.pack("<I", 32473) + b"abcd")
-        parts = [section(), interface("<", self.link), custom] + [packet("<", 0, micros(one), one) for one in self.records]
+        parts = [section(), interface("<", self.link), custom] + [
+            packet("<", 0, micros(one), one) for one in self.records
+        ]
         report = re.sub(r" record (\d+) time", lambda at: f" record {int(at[1]) + 1} time", self.REPORT.read_text())
         self.comment(self.write("in.pcapng", b"".join(parts)), self.write("report", report.encode()))
         self.assertEqual(sorted(comments(self.out)), [13, 15])
@@ -191,7 +249,9 @@ class Forms(InFolder):
     def test_gzip(self):
         fields = [field for field in FIELDS if not field.startswith("frame.interface")]
         self.same(gzip.compress(classic(self.records, self.link)), "in.pcap.gz", fields)
-        whole = b"".join([section(), interface("<", self.link)] + [packet("<", 0, micros(one), one) for one in self.records])
+        whole = b"".join(
+            [section(), interface("<", self.link)] + [packet("<", 0, micros(one), one) for one in self.records]
+        )
         self.same(gzip.compress(whole), "in.pcapng.gz")
 
     def test_standard_input_and_output(self):
@@ -211,7 +271,9 @@ class Forms(InFolder):
         said = comments(self.out)[12]
         written = said.count("(stream-overrun)")
         self.assertGreater(written, 20000)
-        self.assertTrue(said.endswith(f"h2audit: and {50000 - written:,} findings more, which the report has"), said[-200:])
+        self.assertTrue(
+            said.endswith(f"h2audit: and {50000 - written:,} findings more, which the report has"), said[-200:]
+        )
 
 
 class Maps(InFolder):
@@ -230,18 +292,32 @@ class Maps(InFolder):
         return self.write("map", "\n".join(["h2audit-map 1", *lines, ""]).encode())
 
     def test_map(self):
-        path = self.map("file 1 somewhere/a%20b.pcap", "address 240.0.0.1 2001:db8::1", "record 1 file 1 packet 1",
-                        "record 2 file 1 packet 12", "record 3 file 1 packet 14", "connection whatever", "later words")
+        path = self.map(
+            "file 1 somewhere/a%20b.pcap",
+            "address 240.0.0.1 2001:db8::1",
+            "record 1 file 1 packet 1",
+            "record 2 file 1 packet 12",
+            "record 3 file 1 packet 14",
+            "connection whatever",
+            "later words",
+        )
         self.comment(self.CAPTURE, self.report, "-m", path)
         self.assertEqual(sorted(comments(self.out)), [12, 14])
         self.assertIn("up to packet 14 (", comments(self.out)[12])
 
     def test_several_files(self):
         """The capture is found by its name; what is about another file is told, and a stall may end there."""
-        path = self.map("file 1 old/first.pcap", "file 2 old/stream_overrun_go.pcap", "record 1 file 1 packet 1",
-                        "record 2 file 2 packet 12", "record 3 file 1 packet 3")
+        path = self.map(
+            "file 1 old/first.pcap",
+            "file 2 old/stream_overrun_go.pcap",
+            "record 1 file 1 packet 1",
+            "record 2 file 2 packet 12",
+            "record 3 file 1 packet 3",
+        )
         done = run(self.CAPTURE, self.report, "-o", self.out, "-m", path)
-        self.assertEqual((done.returncode, done.stderr), (0, b"h2audit-comment: 1 findings are about other files of the map\n"))
+        self.assertEqual(
+            (done.returncode, done.stderr), (0, b"h2audit-comment: 1 findings are about other files of the map\n")
+        )
         self.assertEqual(sorted(comments(self.out)), [12])
         self.assertIn("up to packet 3 of first.pcap", comments(self.out)[12])
 
@@ -283,7 +359,9 @@ class BadInput(InFolder):
         self.refuses("capture refused: short-header", self.data(good[:23]))
         self.refuses("capture refused: bad-magic", self.data(b"no capture at all"))
         self.refuses("capture refused: bad-version", self.data(good[:4] + b"\3\0" + good[6:]))
-        self.refuses("capture refused: packet-too-long", self.data(good[:24] + struct.pack("<IIII", 0, 0, 2**32 - 1, 0)))
+        self.refuses(
+            "capture refused: packet-too-long", self.data(good[:24] + struct.pack("<IIII", 0, 0, 2**32 - 1, 0))
+        )
         self.refuses("capture refused: bad-gzip", self.data(b"\x1f\x8b\x08" + b"\xff" * 40))
         head = section() + interface("<", link)
         self.refuses("capture refused: bad-block", self.data(head + struct.pack("<II", 6, 13) + bytes(100)))
@@ -299,31 +377,52 @@ class BadInput(InFolder):
     def test_reports(self):
         good = CAPTURE_REPORT.read_text()
         self.refuses("report refused: not a report of h2audit", report=self.CAPTURE)
-        self.refuses("report refused: packet 12 has another time than the report says: is it of this capture?",
-                     report=self.data(good.replace("079320000", "079321000").encode()))
-        self.refuses("report refused: it names packet 99, and the capture has 22 whole packets",
-                     report=self.data(good.replace("record 14 time", "record 99 time").encode()))
-        self.refuses("report refused: it names a packet 0", report=self.data(good.replace("record 14 time", "record 0 time").encode()))
+        self.refuses(
+            "report refused: packet 12 has another time than the report says: is it of this capture?",
+            report=self.data(good.replace("079320000", "079321000").encode()),
+        )
+        self.refuses(
+            "report refused: it names packet 99, and the capture has 22 whole packets",
+            report=self.data(good.replace("record 14 time", "record 99 time").encode()),
+        )
+        self.refuses(
+            "report refused: it names a packet 0",
+            report=self.data(good.replace("record 14 time", "record 0 time").encode()),
+        )
 
     def test_a_cut_capture(self):
         """What is whole is written, and a line says what is left out."""
         good = self.CAPTURE.read_bytes()
         for data in (good[:-1], gzip.compress(good)[:-20]):
             done = run(self.data(data), CAPTURE_REPORT, "-o", self.out)
-            self.assertEqual((done.returncode, done.stderr),
-                             (0, b"h2audit-comment: the capture ends within packet 22, which is left out\n"))
+            self.assertEqual(
+                (done.returncode, done.stderr),
+                (0, b"h2audit-comment: the capture ends within packet 22, which is left out\n"),
+            )
             self.assertEqual(len(shown(self.out, ["frame.number"])), 21)
 
     def test_files(self):
         missing = "/nowhere/at all"
-        for words, name in (((missing, CAPTURE_REPORT, "-o", self.out), missing), ((self.CAPTURE, missing, "-o", self.out), missing),
-                            ((self.CAPTURE, CAPTURE_REPORT, "-o", missing), missing),
-                            ((self.CAPTURE, CAPTURE_REPORT, "-o", self.out, "-m", missing), missing)):
+        for words, name in (
+            ((missing, CAPTURE_REPORT, "-o", self.out), missing),
+            ((self.CAPTURE, missing, "-o", self.out), missing),
+            ((self.CAPTURE, CAPTURE_REPORT, "-o", missing), missing),
+            ((self.CAPTURE, CAPTURE_REPORT, "-o", self.out, "-m", missing), missing),
+        ):
             done = run(*words)
-            self.assertEqual((done.returncode, done.stderr.decode()), (4, f"h2audit-comment: {name}: No such file or directory\n"))
+            self.assertEqual(
+                (done.returncode, done.stderr.decode()), (4, f"h2audit-comment: {name}: No such file or directory\n")
+            )
 
     def test_words(self):
-        for words in ((), ("a",), ("a", "b"), ("-", "-", "-o", "c"), ("a", "b", "c", "-o", "d"), ("--no", "a", "b", "-o", "c")):
+        for words in (
+            (),
+            ("a",),
+            ("a", "b"),
+            ("-", "-", "-o", "c"),
+            ("a", "b", "c", "-o", "d"),
+            ("--no", "a", "b", "-o", "c"),
+        ):
             done = run(*words)
             self.assertEqual((done.returncode, done.stderr.count(b"\n"), done.stdout), (2, 1, b""), words)
 
@@ -337,10 +436,37 @@ class BadInput(InFolder):
         again = run(capture, self.data(b"no report"), "-o", capture)
         self.assertEqual((again.returncode, sorted(comments(capture))), (3, [12, 14]))
 
+    def test_damaged_files(self):
+        """Whatever bytes are changed, there is a capture or a reason, and never a traceback."""
+        records, link = records_of(self.CAPTURE)
+        blocks = b"".join([section(), interface("<", link)] + [packet("<", 0, micros(one), one) for one in records])
+        chance = random.Random(1)
+        for good in (self.CAPTURE.read_bytes(), blocks, gzip.compress(blocks), CAPTURE_REPORT.read_bytes()):
+            for _ in range(50):
+                data = bytearray(good)
+                for _ in range(chance.randrange(1, 4)):
+                    data[chance.randrange(min(len(data), 2000))] = chance.choice(
+                        (0, 1, 255, 10, 48, chance.randrange(256))
+                    )
+                is_report = good[:7] == b"capture"
+                words = (
+                    [str(self.CAPTURE), str(self.data(data))]
+                    if is_report
+                    else [str(self.data(data)), str(CAPTURE_REPORT)]
+                )
+                with contextlib.redirect_stderr(io.StringIO()) as said:
+                    status = main([*words, "-o", str(self.out)])
+                self.assertIn(status, (0, 3))
+                self.assertLessEqual(said.getvalue().count("\n"), 1)
+
     def test_closed_pipe(self):
         words = [PROGRAM, self.CAPTURE, CAPTURE_REPORT]
-        done = subprocess.run(["bash", "-c", 'set -o pipefail; "$0" "$1" "$2" -o - | true', *words], capture_output=True)
-        self.assertIn((done.returncode, done.stderr), [(0, b""), (4, b"h2audit-comment: input or output: Broken pipe\n")])
+        done = subprocess.run(
+            ["bash", "-c", 'set -o pipefail; "$0" "$1" "$2" -o - | true', *words], capture_output=True
+        )
+        self.assertIn(
+            (done.returncode, done.stderr), [(0, b""), (4, b"h2audit-comment: input or output: Broken pipe\n")]
+        )
 
 
 if __name__ == "__main__":

@@ -1,5 +1,5 @@
 #!/usr/bin/env bash
-# Tests `make install` and `make deb`: package_test.sh PROGRAM
+# Tests `make install` and `make deb`: package_test.sh PROGRAM [SPLIT]
 #
 # The package is judged by lintian, and installed and removed under a folder that knows the machine's own packages: so
 # dpkg judges what it depends on, and nothing of the machine changes.
@@ -9,6 +9,9 @@ cd "$(dirname "$0")/../.."
 program=$(realpath "$1")
 work=$(mktemp -d)
 trap 'rm -r "$work"' EXIT
+# Without SPLIT a copy of PROGRAM stands in for it.
+split=$work/split
+cp "${2-$1}" "$split"
 
 fail() {
     echo "$1"
@@ -28,30 +31,44 @@ on_root() {
     dpkg --root="$work/root" --force-not-root "$@" 2> >(grep -v 'files list file for package' >&2)
 }
 
-# The programs, their completions and the packages of Python that they share.
+# The programs beside h2audit, by what follows their names.
+beside=(-any -comment -fleet -import -merge -page -plot -split)
+
+# The programs and their completions for bash.
 installed() {
-    printf './%s/bin/h2audit%s\n' "$1" '' "$1" -comment "$1" -page "$1" -plot
-    printf './%s/share/bash-completion/completions/h2audit%s\n' "$1" '' "$1" -comment "$1" -page "$1" -plot
+    printf "./$1/bin/h2audit%s\n" '' "${beside[@]}"
+    printf "./$1/share/bash-completion/completions/h2audit%s\n" '' "${beside[@]}"
 }
 
-# By the repository, and not by the Makefile: each module and asset that git knows.
+# By the repository, and not by the Makefile: each module and asset.
 modules() {
-    git ls-files tools/report tools/comment tools/page | sed "s,^tools,./$1/share/h2audit,"
+    (cd tools && find comment fleet import page report split -name __pycache__ -prune -o -type f -printf "./$1/share/h2audit/%p\n")
+}
+
+# The completions for fish, and the man pages, with what ends their names: words FOLDER and ENDING.
+pages() {
+    printf "./$1/share/fish/vendor_completions.d/h2audit%s.fish\n" '' "${beside[@]}"
+    printf "./$1/share/man/man1/h2audit%s$2\n" '' "${beside[@]}"
+}
+
+in_order() {
+    LC_ALL=C sort
 }
 
 test_install() {
-    make --no-print-directory install PROGRAM="$program" DESTDIR="$work/dest" PREFIX=/opt/h2audit > /dev/null
+    make --no-print-directory install PROGRAM="$program" SPLIT="$split" DESTDIR="$work/dest" PREFIX=/opt/h2audit > /dev/null
     same 'installed files' "$({
         installed opt/h2audit
         modules opt/h2audit
-        printf './opt/h2audit/share/%s\n' fish/vendor_completions.d/h2audit{-comment,-page,-plot,}.fish \
-            man/man1/h2audit{-comment,-page,-plot,}.1 zsh/site-functions/_h2audit
-    } | LC_ALL=C sort)" "$(files_below "$work/dest")"
+        pages opt/h2audit .1
+        echo ./opt/h2audit/share/zsh/site-functions/_h2audit
+    } | in_order)" "$(files_below "$work/dest")"
     cmp "$program" "$work/dest/opt/h2audit/bin/h2audit"
+    "$work/dest/opt/h2audit/bin/h2audit-merge" --version
 }
 
 build() {
-    make --no-print-directory deb PROGRAM="$program" PACKAGES="$1"
+    make --no-print-directory deb PROGRAM="$program" SPLIT="$split" PACKAGES="$1"
 }
 
 test_package() {
@@ -64,10 +81,9 @@ test_package() {
     same 'files of the package' "$({
         installed usr
         modules usr
-        printf './usr/share/%s\n' doc/h2audit/{changelog.gz,copyright} \
-            fish/vendor_completions.d/h2audit{-comment,-page,-plot,}.fish \
-            man/man1/h2audit{-comment,-page,-plot,}.1.gz zsh/vendor-completions/_h2audit
-    } | LC_ALL=C sort)" "$(files_below "$work/root")"
+        pages usr .1.gz
+        printf './usr/share/%s\n' doc/h2audit/{changelog.gz,copyright} zsh/vendor-completions/_h2audit
+    } | in_order)" "$(files_below "$work/root")"
     run_installed
     on_root --purge h2audit > /dev/null
     same 'files that are left' '' "$(files_below "$work/root")"
@@ -84,6 +100,10 @@ run_installed() {
     "$work/root/usr/bin/h2audit-plot" examples/negative_window.frames.report > "$work/picture.svg"
     "$work/root/usr/bin/h2audit-comment" examples/negative_window.pcap examples/negative_window.report -o "$work/c.pcapng"
     "$work/root/usr/bin/h2audit-page" examples/negative_window.frames.report -o "$work/page.html"
+    "$work/root/usr/bin/h2audit-import" -o "$work/made.pcap" -k tests/tls/nghttp-nghttpd-13.keys tests/tls/nghttp-nghttpd-13.pcap
+    "$work/root/usr/bin/h2audit-any" examples/negative_window.pcap > /dev/null
+    "$work/root/usr/bin/h2audit-fleet" --version > /dev/null
+    "$work/root/usr/bin/h2audit-split" --help > /dev/null
     mandoc -Tmarkdown "$work/root/usr/share/man/man1/h2audit.1.gz" | grep '# EXIT STATUS' > /dev/null ||
         fail 'the manual of the package cannot be read'
 }

@@ -8,6 +8,7 @@ import html.parser
 import io
 import json
 import pathlib
+import random
 import re
 import subprocess
 import sys
@@ -28,7 +29,9 @@ from page.library import Missing, library
 from page.model import read_audit
 from page.series import series_of, thinned
 
-FINDING = re.compile(r"^frame (\d+) record (\d+) time (\d+) (client|server) ([a-z-]+) stream (\d+) value (-?\d+)$", re.M)
+FINDING = re.compile(
+    r"^frame (\d+) record (\d+) time (\d+) (client|server) ([a-z-]+) stream (\d+) value (-?\d+)$", re.M
+)
 HEAD = "capture records 9 segments 9 snapped 0 not-ipv4 0 fragments 0 not-tcp 0 refused 0\n"
 BOTH_FLOWS = "flow client bytes 9 gap none tail 0\nflow server bytes 9 gap none tail 0\n"
 
@@ -78,17 +81,31 @@ def examples():
 
 class Examples(unittest.TestCase):
     def test_each_finding_is_in_a_row(self):
-        """With its frame, its record, its time from the first finding, and its kind; as the report has them in order."""
+        """With its frame, its record, its side, its kind and its stream, in the order of the report."""
         for report in examples():
             with self.subTest(report.name):
                 text = report.read_text()
                 tags = Tags(page_of(text))
-                found = [(one["data-frame"], one["data-side"], one["data-kind"], one["data-stream"], cells[1].replace(",", ""))
-                         for one, cells in tags.rows if "data-kind" in one]
-                wanted = [(frame, side, kind, stream, record) for frame, record, _, side, kind, stream, _ in FINDING.findall(text)
-                          if not kind.endswith("-credit")]
+                found = [
+                    (
+                        one["data-frame"],
+                        one["data-side"],
+                        one["data-kind"],
+                        one["data-stream"],
+                        cells[1].replace(",", ""),
+                    )
+                    for one, cells in tags.rows
+                    if "data-kind" in one
+                ]
+                wanted = [
+                    (frame, side, kind, stream, record)
+                    for frame, record, _, side, kind, stream, _ in FINDING.findall(text)
+                    if not kind.endswith("-credit")
+                ]
                 self.assertEqual(found, wanted)
-                self.assertTrue(all(f"({one['data-kind']}); " in cells[-1] for one, cells in tags.rows if "data-kind" in one))
+                self.assertTrue(
+                    all(f"({one['data-kind']}); " in cells[-1] for one, cells in tags.rows if "data-kind" in one)
+                )
                 self.judge_windows(text, tags)
 
     def judge_windows(self, text, tags):
@@ -99,16 +116,24 @@ class Examples(unittest.TestCase):
                 credits.setdefault((side, stream), []).append(int(value))
         found = {one["id"]: cells[-3:] for one, cells in tags.rows if one.get("id", "").startswith("w1-")}
         for (side, stream), values in credits.items():
-            self.assertEqual(found[f"w1-{side}-{stream}"], [f"{value:,}" for value in (min(values), max(values), values[-1])])
+            self.assertEqual(
+                found[f"w1-{side}-{stream}"], [f"{value:,}" for value in (min(values), max(values), values[-1])]
+            )
 
     def test_words(self):
         """Written by hand, from the example's README."""
         text = page_of((EXAMPLES / "connection_overflow_nginx.frames.report").read_text())
         rows = ["|".join(cells) for _, cells in Tags(text).rows]
-        self.assertIn("the client|connection-overflow|RFC 9113, 6.9.1|1|1|connection 1, frame 9, packet 15| by 127.0.0.1:42816", rows)
+        self.assertIn(
+            "the client|connection-overflow|RFC 9113, 6.9.1|1|1|connection 1, frame 9, packet 15| by 127.0.0.1:42816",
+            rows,
+        )
         text = page_of((EXAMPLES / "negative_window_tomcat.frames.report").read_text())
         rows = ["|".join(cells) for _, cells in Tags(text).rows]
-        self.assertIn("804.434 ms|server, 127.0.0.1:20840|stream 1|connection 1, frame 10, packet 18|the client, 127.0.0.1:53340", rows)
+        self.assertIn(
+            "804.434 ms|server, 127.0.0.1:20840|stream 1|connection 1, frame 10, packet 18|the client, 127.0.0.1:53340",
+            rows,
+        )
         self.assertIn("No rule was broken.", text)
 
     def test_without_credit(self):
@@ -120,12 +145,22 @@ class Examples(unittest.TestCase):
     def test_nothing_audited(self):
         text = page_of(HEAD + "connection 1 client 1.2.3.4:5 server 1.2.3.4:6 record 1 not-http2\n" + BOTH_FLOWS)
         self.assertIn("Nothing was audited", text)
+        text = page_of(HEAD + "connection 1 client [::1]:5 server [::1]:6 record 1 refused no-key\n")
+        self.assertIn("Verdict: not audited: no-key.", text)
 
     def test_doubts(self):
-        text = page_of(HEAD.replace("snapped 0", "snapped 3") + "record 9 cut\nunopened 1.2.3.4:5 1.2.3.4:6 segments 2\n"
-                       "connection 1 client 1.2.3.4:5 server 1.2.3.4:6 record 1 http2 frames 1\n"
-                       + BOTH_FLOWS.replace("gap none", "gap 7", 1) + "audit of all frames\n")
-        for said in ("(a gap)", "3 segments kept fewer bytes", "The capture ends within record 9", "1 pair of endpoints"):
+        text = page_of(
+            HEAD.replace("snapped 0", "snapped 3") + "record 9 cut\nunopened 1.2.3.4:5 1.2.3.4:6 segments 2\n"
+            "connection 1 client 1.2.3.4:5 server 1.2.3.4:6 record 1 http2 frames 1\n"
+            + BOTH_FLOWS.replace("gap none", "gap 7", 1)
+            + "audit of all frames\n"
+        )
+        for said in (
+            "(a gap)",
+            "3 segments kept fewer bytes",
+            "The capture ends within record 9",
+            "1 pair of endpoints",
+        ):
             self.assertIn(said, text)
 
     def test_title(self):
@@ -138,8 +173,10 @@ class Policy(unittest.TestCase):
     def test_policy(self):
         tags = Tags(page_of(examples()[0].read_text()))
         rules = dict(rule.strip().split(" ", 1) for rule in tags.policy.split(";"))
-        self.assertEqual({key: rules[key] for key in ("default-src", "base-uri", "form-action")},
-                         dict.fromkeys(("default-src", "base-uri", "form-action"), "'none'"))
+        self.assertEqual(
+            {key: rules[key] for key in ("default-src", "base-uri", "form-action")},
+            dict.fromkeys(("default-src", "base-uri", "form-action"), "'none'"),
+        )
         for tag in ("script", "style"):
             run = [text for one, text in tags.texts[tag] if one.get("type") != "text/plain"]
             hashes = [f"'sha256-{base64.b64encode(hashlib.sha256(text.encode()).digest()).decode()}'" for text in run]
@@ -163,7 +200,15 @@ class Policy(unittest.TestCase):
 class Hostile(unittest.TestCase):
     """Text of a report never becomes markup."""
 
-    EVIL = ('<script>alert(1)</script>', '"><img/src=x/onerror=alert(1)>', "</script><b>", "'onload='x", "<!--", "&lt;b&gt;", "\x01\x7f")
+    EVIL = (
+        '<script>alert(1)</script>',
+        '"><img/src=x/onerror=alert(1)>',
+        "</script><b>",
+        "'onload='x",
+        "<!--",
+        "&lt;b&gt;",
+        "\x01\x7f",
+    )
 
     def test_addresses(self):
         plain = Tags(self.page("1.2.3.4:5")).elements
@@ -173,31 +218,63 @@ class Hostile(unittest.TestCase):
             self.assertEqual([sorted(one) for _, one in tags.elements], [sorted(one) for _, one in plain], evil)
 
     def page(self, address):
-        return page_of(HEAD + f"connection 1 client {address} server {address} record 1 http2 frames 2\n" + BOTH_FLOWS +
-                       "frame 1 record 2 time 5 client stream-overrun stream 1 value -5\n"
-                       "frame 1 record 2 time 5 client stream-stall-begin stream 1 value -5\n"
-                       "frame 1 record 2 time 5 client stream-credit stream 1 value -5\n"
-                       "stall client stream 1 from 1 open\naudit of all frames\n")
+        return page_of(
+            HEAD
+            + f"connection 1 client {address} server {address} record 1 http2 frames 2\n"
+            + BOTH_FLOWS
+            + "frame 1 record 2 time 5 client stream-overrun stream 1 value -5\n"
+            "frame 1 record 2 time 5 client stream-stall-begin stream 1 value -5\n"
+            "frame 1 record 2 time 5 client stream-credit stream 1 value -5\n"
+            "stall client stream 1 from 1 open\naudit of all frames\n"
+        )
 
     def test_title(self):
         for evil in self.EVIL:
-            self.assertEqual([tag for tag, _ in Tags(page_of(HEAD, f"--title={evil}")).elements],
-                             [tag for tag, _ in Tags(page_of(HEAD)).elements])
+            self.assertEqual(
+                [tag for tag, _ in Tags(page_of(HEAD, f"--title={evil}")).elements],
+                [tag for tag, _ in Tags(page_of(HEAD)).elements],
+            )
 
     def test_numbers(self):
         """Numbers of any size give a page or a reason, and never a traceback."""
         opening = HEAD + "connection 1 client 1.2.3.4:5 server 1.2.3.4:6 record 1 http2 frames 2\n"
-        for frame, time, stream, value in ((1, 0, 1, 2**62), (2**62, 2**62, 2**31, -2**62), (1, 10**19, 1, 1), (0, 1, 0, 10**19)):
-            for kind in ("stream-credit", "stream-overrun", "wrong-stream", "stream-stall-end", "connection-stall-begin", "new-kind"):
+        for frame, time, stream, value in (
+            (1, 0, 1, 2**62),
+            (2**62, 2**62, 2**31, -(2**62)),
+            (1, 10**19, 1, 1),
+            (0, 1, 0, 10**19),
+        ):
+            for kind in (
+                "stream-credit",
+                "stream-overrun",
+                "wrong-stream",
+                "stream-stall-end",
+                "connection-stall-begin",
+                "new-kind",
+            ):
                 line = f"frame {frame} record {time} time {time} client {kind} stream {stream} value {value}\n"
                 status, said = answer(opening + line)
                 self.assertIn(status, (0, 3), (line, said))
 
+    def test_damaged_reports(self):
+        """Whatever bytes are changed, there is a page or a reason, and never a traceback."""
+        good = (EXAMPLES / "stream_overrun_go.frames.report").read_bytes()
+        chance = random.Random(1)
+        for _ in range(150):
+            data = bytearray(good)
+            for _ in range(chance.randrange(1, 4)):
+                data[chance.randrange(len(data))] = chance.choice(b"0159- \nabz")
+            status, said = answer(data.decode())
+            self.assertIn(status, (0, 3))
+            self.assertLessEqual(said.count("\n"), 1)
+
     def test_frames_that_go_back(self):
         line = "frame {} record 1 time 1 client stream-credit stream 1 value 1\n"
         opening = "connection 1 client 1.2.3.4:5 server 1.2.3.4:6 record 1 http2 frames 2\n"
-        self.assertEqual(answer(HEAD + opening + line.format(2) + line.format(1)),
-                         (3, "h2audit-page: report refused: the frames of connection 1 go back\n"))
+        self.assertEqual(
+            answer(HEAD + opening + line.format(2) + line.format(1)),
+            (3, "h2audit-page: report refused: the frames of connection 1 go back\n"),
+        )
 
 
 def answer(report, *words):
@@ -218,7 +295,9 @@ class Refusals(unittest.TestCase):
         good = (EXAMPLES / "stream_overrun_go.report").read_text()
         self.assertEqual(answer(""), (3, "h2audit-page: report refused: not a report of h2audit\n"))
         self.assertEqual(answer("{}"), (3, "h2audit-page: report refused: not a report of h2audit\n"))
-        self.assertEqual(answer(good.replace("nanos", "nano")), (3, "h2audit-page: report refused: line 8 is no line of a report\n"))
+        self.assertEqual(
+            answer(good.replace("nanos", "nano")), (3, "h2audit-page: report refused: line 8 is no line of a report\n")
+        )
 
     def test_words(self):
         for words in ((), ("a",), ("a", "-o"), ("a", "b", "-o", "c"), ("a", "-o", "c", "--none")):
@@ -229,10 +308,14 @@ class Refusals(unittest.TestCase):
         report = examples()[0]
         for words in (("/nowhere/at all", "-o", "/dev/null"), (report, "-o", "/nowhere/at all")):
             done = subprocess.run([PROGRAM, *words], capture_output=True, text=True)
-            self.assertEqual((done.returncode, done.stderr), (4, "h2audit-page: /nowhere/at all: No such file or directory\n"))
+            self.assertEqual(
+                (done.returncode, done.stderr), (4, "h2audit-page: /nowhere/at all: No such file or directory\n")
+            )
 
     def test_no_library(self):
-        with self.assertRaisesRegex(Missing, r"^/nowhere/dygraph.js is missing \(Debian: apt-get install libjs-dygraphs\)$"):
+        with self.assertRaisesRegex(
+            Missing, r"^/nowhere/dygraph.js is missing \(Debian: apt-get install libjs-dygraphs\)$"
+        ):
             library("/nowhere")
         with mock.patch("page.program.library", lambda: library("/nowhere")):
             status, said = answer(HEAD)
@@ -256,9 +339,14 @@ def large(windows, lines, every):
             state = state * 1103515245 % 2**31
             place = f"frame {frame} record {frame} time {10**18 + frame * 1000 + state % 1000} server"
             if line % every == every - 2:
-                parts.append(f"{place} stream-stall-begin stream {stream} value 0\n{place} stream-credit stream {stream} value 0\n")
+                parts.append(
+                    f"{place} stream-stall-begin stream {stream} value 0\n"
+                    f"{place} stream-credit stream {stream} value 0\n"
+                )
             elif line % every == every - 1:
-                parts.append(f"{place} stream-stall-end stream {stream} value 9\n{place} stream-credit stream {stream} value 9\n")
+                parts.append(
+                    f"{place} stream-stall-end stream {stream} value 9\n{place} stream-credit stream {stream} value 9\n"
+                )
             else:
                 parts.append(f"{place} stream-credit stream {stream} value {state % 10**6 + 1}\n")
     return "".join(parts)
@@ -278,8 +366,10 @@ class Thinning(unittest.TestCase):
             for most in (1000, 60, 16):
                 less = thinned(whole, most, 10**9)
                 self.assertLess(len(less.frames), most + 3 * 2 * 80)
-                self.assertEqual([[less.frames[at] for at in stall] for stall in less.stalls],
-                                 [[whole.frames[at] for at in stall] for stall in whole.stalls])
+                self.assertEqual(
+                    [[less.frames[at] for at in stall] for stall in less.stalls],
+                    [[whole.frames[at] for at in stall] for stall in whole.stalls],
+                )
                 self.judge_extremes(whole, less, most)
 
     def judge_extremes(self, whole, less, most):
@@ -296,8 +386,11 @@ class Thinning(unittest.TestCase):
 
     def test_faults_are_kept(self):
         text = large(1, 9000, 9000).replace("server stream-stall-begin", "server zero-stream-grant")
-        faults = re.sub(r"(?m)^(frame \d*77 record \d+ time \d+) server (stream-credit) (stream 1) value \d+$",
-                        r"\1 server stream-overrun \3 value -1\n\1 server \2 \3 value -1", text)
+        faults = re.sub(
+            r"(?m)^(frame \d*77 record \d+ time \d+) server (stream-credit) (stream 1) value \d+$",
+            r"\1 server stream-overrun \3 value -1\n\1 server \2 \3 value -1",
+            text,
+        )
         window = audit_of(faults).windows[0]
         self.assertEqual(len(window.faults), 91)
         less = thinned(series_of(window), 16, 10**9)
@@ -342,14 +435,31 @@ class Thinning(unittest.TestCase):
 class Contrast(unittest.TestCase):
     """The colours of the page reach the contrasts of WCAG 2.2: 4.5 for text (1.4.3), 3 for what is drawn (1.4.11)."""
 
-    TEXT = [("text", "ground"), ("text", "raised"), ("muted", "ground"), ("muted", "raised"), ("link", "ground"), ("fault", "ground"),
-            ("text", "stall")]
-    DRAWN = [("line", "ground"), ("line", "stall"), ("fault", "ground"), ("fault", "stall"), ("stall-edge", "ground"),
-             ("rule", "ground"), ("rule", "raised")]
+    TEXT = [
+        ("text", "ground"),
+        ("text", "raised"),
+        ("muted", "ground"),
+        ("muted", "raised"),
+        ("link", "ground"),
+        ("fault", "ground"),
+        ("text", "stall"),
+    ]
+    DRAWN = [
+        ("line", "ground"),
+        ("line", "stall"),
+        ("fault", "ground"),
+        ("fault", "stall"),
+        ("stall-edge", "ground"),
+        ("rule", "ground"),
+        ("rule", "raised"),
+    ]
 
     def test_both_schemes(self):
         style = (TOP / "tools" / "page" / "assets" / "page.css").read_text()
-        schemes = [dict(re.findall(r"--([a-z-]+): (#[0-9a-f]{6})", root)) for root in re.findall(r":root \{(.*?)\}", style, re.S)]
+        schemes = [
+            dict(re.findall(r"--([a-z-]+): (#[0-9a-f]{6})", root))
+            for root in re.findall(r":root \{(.*?)\}", style, re.S)
+        ]
         light, dark = schemes[0], schemes[1]
         self.assertEqual(light.keys(), dark.keys())
         for scheme in (light, dark, {**light, **schemes[2]}):
@@ -360,7 +470,7 @@ class Contrast(unittest.TestCase):
 
 def luminance(colour):
     """WCAG 2.2, relative luminance."""
-    parts = [int(colour[at:at + 2], 16) / 255 for at in (1, 3, 5)]
+    parts = [int(colour[at : at + 2], 16) / 255 for at in (1, 3, 5)]
     red, green, blue = (part / 12.92 if part <= 0.04045 else ((part + 0.055) / 1.055) ** 2.4 for part in parts)
     return 0.2126 * red + 0.7152 * green + 0.0722 * blue
 

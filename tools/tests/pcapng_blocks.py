@@ -1,4 +1,4 @@
-"""Captures for tests, written block by block from the file formats: pcapng, and classic pcap of either order of bytes."""
+"""Captures for tests, written from the file formats: pcapng by blocks, and classic pcap of either order of bytes."""
 
 import struct
 
@@ -9,11 +9,11 @@ def records_of(path):
     """The packets of a classic capture as (seconds, fraction, original length, bytes), with its link type."""
     data = path.read_bytes()
     order = {b"\xd4\xc3\xb2\xa1": "<", b"\xa1\xb2\xc3\xd4": ">"}[data[:4]]
-    link, = struct.unpack_from(order + "I", data, 20)
+    (link,) = struct.unpack_from(order + "I", data, 20)
     found, at = [], EXAMPLE_HEAD
     while at < len(data):
         seconds, fraction, captured, length = struct.unpack_from(order + "IIII", data, at)
-        found.append((seconds, fraction, length, data[at + 16:at + 16 + captured]))
+        found.append((seconds, fraction, length, data[at + 16 : at + 16 + captured]))
         at += 16 + captured
     return found, link
 
@@ -22,7 +22,9 @@ def classic(records, link, order="<", is_nano=False):
     magic = 0xA1B23C4D if is_nano else 0xA1B2C3D4
     parts = [struct.pack(order + "IHHiIII", magic, 2, 4, 0, 0, 262144, link)]
     for seconds, fraction, length, data in records:
-        parts.append(struct.pack(order + "IIII", seconds, fraction * (1000 if is_nano else 1), len(data), length) + data)
+        parts.append(
+            struct.pack(order + "IIII", seconds, fraction * (1000 if is_nano else 1), len(data), length) + data
+        )
     return b"".join(parts)
 
 
@@ -49,7 +51,9 @@ def interface(order, link, resolution=None, offset=None, name=b""):
         options += option(order, 9, bytes([resolution]))
     if offset is not None:
         options += option(order, 14, struct.pack(order + "q", offset))
-    return block(order, 1, struct.pack(order + "HHI", link, 0, 262144) + options + (option(order, 0, b"") if options else b""))
+    return block(
+        order, 1, struct.pack(order + "HHI", link, 0, 262144) + options + (option(order, 0, b"") if options else b"")
+    )
 
 
 def packet(order, number, time, record, options=b""):
@@ -61,7 +65,9 @@ def packet(order, number, time, record, options=b""):
 
 def old_packet(order, number, time, record):
     _, _, length, data = record
-    return block(order, 2, struct.pack(order + "HHIIII", number, 0, time >> 32, time & 0xFFFFFFFF, len(data), length) + data)
+    return block(
+        order, 2, struct.pack(order + "HHIIII", number, 0, time >> 32, time & 0xFFFFFFFF, len(data), length) + data
+    )
 
 
 def simple_packet(order, record):

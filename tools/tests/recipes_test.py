@@ -3,9 +3,9 @@
 
     tools/tests/recipes_test.py [PROGRAM]
 
-A command is a block ```sh that a block ```text follows. It is run by bash at the top of the repository, once with each awk
-that is installed. The name h2audit is that of PROGRAM, and those of the programs beside it are of tools/. Without PROGRAM, h2audit is a
-stand-in that prints the stored reports of examples/.
+A command is a block ```sh that a block ```text follows. It is run by bash at the top of the repository, where it has an awk
+once with each that is installed. The name h2audit is that of PROGRAM, and those of the programs beside it are of tools/.
+Without PROGRAM, h2audit is a stand-in that prints the stored reports of examples/, and commands that import are left out.
 """
 
 import os
@@ -19,6 +19,7 @@ import tempfile
 TOP = pathlib.Path(__file__).resolve().parents[2]
 PAIR = re.compile(r"^```sh\n(.*?)^```\n+```text\n(.*?)^```$", re.M | re.S)
 LINK = re.compile(r"\]\(([^)#:]+)(?:#[^)]*)?\)")
+IMPORTS = re.compile("h2audit-(any|import) ")
 AWKS = [awk for awk in ("mawk", "gawk", "original-awk") if shutil.which(awk)]
 
 
@@ -48,7 +49,7 @@ def tools_folder(folder, program, awk):
     bin_of = pathlib.Path(folder, awk)
     bin_of.mkdir()
     (bin_of / "h2audit").symlink_to(program)
-    for name in ("h2audit-plot", "h2audit-comment", "h2audit-page"):
+    for name in ("h2audit-any", "h2audit-comment", "h2audit-fleet", "h2audit-import", "h2audit-page", "h2audit-plot"):
         (bin_of / name).symlink_to(TOP / "tools" / name)
     (bin_of / "awk").symlink_to(shutil.which(awk))
     return bin_of
@@ -59,7 +60,7 @@ def printed(command, bin_of):
     with tempfile.TemporaryDirectory() as folder:
         surroundings = {**os.environ, "PATH": path, "LC_ALL": "C.UTF-8", "TMPDIR": folder}
         run = subprocess.run(
-            ["bash", "-c", command], cwd=TOP, env=surroundings, capture_output=True, text=True, timeout=60)
+            ["bash", "-c", command], cwd=TOP, env=surroundings, capture_output=True, text=True, timeout=150)
     return run.stdout + run.stderr
 
 
@@ -72,6 +73,8 @@ def main(words):
         for awk in AWKS:
             bin_of = tools_folder(folder, program, awk)
             for place, command, wanted in recipes():
+                if awk != AWKS[0] and "awk" not in command or not words and IMPORTS.search(command):
+                    continue
                 number += 1
                 found = printed(command, bin_of)
                 if found != wanted:

@@ -1,5 +1,5 @@
 #!/usr/bin/python3
-"""Tests of what the programs beside h2audit share: the lines of a report, and who is to blame, held against the documents."""
+"""Tests of what the programs beside h2audit share: the lines of a report, and who is to blame, as the documents say."""
 
 import io
 import pathlib
@@ -20,8 +20,11 @@ RANKED = re.compile(r"^\| \d+ \| `([a-z-]+)` \| [^|]* \| [^|]* \| ([^|]*) \|$", 
 
 def rows(document):
     """The rows of all tables of a document, each as its cells."""
-    return [[cell.strip() for cell in line.strip("|").split(" | ")]
-            for line in (DOCS / document).read_text().splitlines() if line.startswith("| ")]
+    return [
+        [cell.strip() for cell in line.strip("|").split(" | ")]
+        for line in (DOCS / document).read_text().splitlines()
+        if line.startswith("| ")
+    ]
 
 
 def sections_in(text):
@@ -45,7 +48,11 @@ class Blame(unittest.TestCase):
         """So says the other table of that document, and the one of the README."""
         for document in ("REPORT_FORMAT.md", "../README.md"):
             for cells in rows(document):
-                for who in set(re.findall(r"the named side|the other side|nobody", cells[-2 if "FORMAT" in document else -1].lower())):
+                for who in set(
+                    re.findall(
+                        r"the named side|the other side|nobody", cells[-2 if "FORMAT" in document else -1].lower()
+                    )
+                ):
                     for kind in re.findall(r"`([a-z-]+)`", cells[0]):
                         if kind in blame.KINDS:
                             self.assertEqual(blame.KINDS[kind].blame, who, (document, kind))
@@ -71,8 +78,11 @@ class Blame(unittest.TestCase):
 
     def test_types(self):
         """Frame types have the sections 6.1 to 6.10 in their order, as the table of section 4 of the rules has them."""
-        types = {int(cells[0].split()[0]): cells[0].split()[1] for cells in rows("AUDIT_RULES.md")
-                 if re.match(r"\d [A-Z_]+$", cells[0])}
+        types = {
+            int(cells[0].split()[0]): cells[0].split()[1]
+            for cells in rows("AUDIT_RULES.md")
+            if re.match(r"\d [A-Z_]+$", cells[0])
+        }
         self.assertEqual(types, dict(enumerate(blame.FRAME_TYPES)))
 
     def said(self, *finding):
@@ -80,24 +90,39 @@ class Blame(unittest.TestCase):
 
     def test_sentences(self):
         """Written by hand, from the tables of the documents."""
-        self.assertEqual(self.said("client", "stream-overrun", 1, -5000),
-                         "client sent 5,000 bytes past its credit on stream 1 (stream-overrun); the client broke RFC 9113, 6.9.1")
-        self.assertEqual(self.said("server", "connection-overflow", 0, 2147547182),
-                         "client granted too much: server's credit of the connection rose to 2,147,547,182, above 2^31 - 1 "
-                         "(connection-overflow); the client broke RFC 9113, 6.9.1")
-        self.assertEqual(self.said("client", "setting-overflow", 3, 2147483648),
-                         "server sent settings that take client's credit on stream 3 to 2,147,483,648, above 2^31 - 1 "
-                         "(setting-overflow); the server broke RFC 9113, 6.9.2")
-        self.assertEqual(self.said("server", "wrong-stream", 3, 6),
-                         "server sent PING on stream 3, where it may not stand (wrong-stream); the server broke RFC 9113, 6.7")
-        self.assertEqual(self.said("client", "unmatched-ack", 0, 0),
-                         "client acknowledged settings that server had not sent (unmatched-ack); the client is at fault, "
-                         "though RFC 9113, 6.5.3, names no error for it")
-        self.assertEqual(self.said("server", "stream-stall-begin", 1, 0),
-                         "server used up its credit on stream 1 (stream-stall-begin); nobody broke a rule: "
-                         "ask the client why it granted nothing")
-        self.assertEqual(self.said("server", "not-opened", 8, 5), "server sent PUSH_PROMISE on stream 8, which was not opened "
-                         "for it (not-opened); the server broke RFC 9113, 6.6")
+        self.assertEqual(
+            self.said("client", "stream-overrun", 1, -5000),
+            "client sent 5,000 bytes past its credit on stream 1 (stream-overrun); the client broke RFC 9113, 6.9.1",
+        )
+        self.assertEqual(
+            self.said("server", "connection-overflow", 0, 2147547182),
+            "client granted too much: server's credit of the connection rose to 2,147,547,182, above 2^31 - 1 "
+            "(connection-overflow); the client broke RFC 9113, 6.9.1",
+        )
+        self.assertEqual(
+            self.said("client", "setting-overflow", 3, 2147483648),
+            "server sent settings that take client's credit on stream 3 to 2,147,483,648, above 2^31 - 1 "
+            "(setting-overflow); the server broke RFC 9113, 6.9.2",
+        )
+        self.assertEqual(
+            self.said("server", "wrong-stream", 3, 6),
+            "server sent PING on stream 3, where it may not stand (wrong-stream); the server broke RFC 9113, 6.7",
+        )
+        self.assertEqual(
+            self.said("client", "unmatched-ack", 0, 0),
+            "client acknowledged settings that server had not sent (unmatched-ack); the client is at fault, "
+            "though RFC 9113, 6.5.3, names no error for it",
+        )
+        self.assertEqual(
+            self.said("server", "stream-stall-begin", 1, 0),
+            "server used up its credit on stream 1 (stream-stall-begin); nobody broke a rule: "
+            "ask the client why it granted nothing",
+        )
+        self.assertEqual(
+            self.said("server", "not-opened", 8, 5),
+            "server sent PUSH_PROMISE on stream 8, which was not opened "
+            "for it (not-opened); the server broke RFC 9113, 6.6",
+        )
 
     def test_every_kind_has_a_sentence(self):
         for kind in [*blame.KINDS, "new-kind"]:
@@ -106,8 +131,15 @@ class Blame(unittest.TestCase):
             self.assertNotRegex(said, r"[{}]|  ")
 
     def test_durations(self):
-        for nanos, said in ((0, "0 ns"), (999, "999 ns"), (764000, "764 µs"), (804434000, "804.434 ms"), (-1500, "-1.5 µs"),
-                            (10**9, "1 s"), (1234000000007, "1,234.000000007 s")):
+        for nanos, said in (
+            (0, "0 ns"),
+            (999, "999 ns"),
+            (764000, "764 µs"),
+            (804434000, "804.434 ms"),
+            (-1500, "-1.5 µs"),
+            (10**9, "1 s"),
+            (1234000000007, "1,234.000000007 s"),
+        ):
             self.assertEqual(blame.duration(nanos), said)
 
 
@@ -126,14 +158,25 @@ class Lines(unittest.TestCase):
                 pairing = Pairing()
             elif isinstance(line, lines.Finding) and line.kind in blame.STALL_BEGIN + blame.STALL_END:
                 begins += [note for note in [pairing.note(line)] if line.kind in blame.STALL_BEGIN]
-        found = [(note.finding.side, note.finding.stream, note.finding.frame, note.other and note.other.finding.frame, note.waited)
-                 for note in begins]
+        found = [
+            (
+                note.finding.side,
+                note.finding.stream,
+                note.finding.frame,
+                note.other and note.other.finding.frame,
+                note.waited,
+            )
+            for note in begins
+        ]
         self.assertEqual(found, [tuple(line) for line in read if isinstance(line, lines.Stall)])
         self.assertFalse([note for note in begins if "stall" not in sentence(note)])
 
-    def test_ipv6(self):
-        line = b"connection 1 client [2001:db8::1]:40000 server [2001:db8::2]:443 record 1 http2 frames 2"
-        self.assertEqual(lines.read_line(line.decode()).client, "[2001:db8::1]:40000")
+    def test_reports_of_imports(self):
+        """Addresses of IPv6, and connections that were not decrypted."""
+        line = "connection 1 client [2001:db8::1]:40000 server [2001:db8::2]:443 record 1 "
+        self.assertEqual(lines.read_line(line + "http2 frames 2").client, "[2001:db8::1]:40000")
+        for reason in ("refused no-key", "refused cipher-suite 0x1302"):
+            self.assertEqual(lines.read_line(line + reason).form, reason)
 
     def refuses(self, text, why):
         with self.assertRaisesRegex(lines.Refused, why):

@@ -1,6 +1,7 @@
 #!/usr/bin/env bash
-# Tests what stands around the program: pictures, comments, pages, man pages, completions, recipes, the Debian package and
-# the example of the library. And what the program answers where memory, threads, reads and writes are refused.
+# Tests what stands around the program: imports, comments, pages, pictures, many captures, man pages, completions, recipes,
+# the Debian package and the example of the library. And what the program answers where memory, threads, reads and writes
+# are refused.
 #
 # It proves nothing, and builds the library's example alone. Where the program is not built, or is older than its
 # sources, the recipes read the stored reports of examples/, and install and package have another program in its place;
@@ -12,7 +13,12 @@ cd "$(dirname "$0")/../.."
 needed=(python3-matplotlib mandoc lintian zsh fish gawk mawk original-awk tshark binutils gcc libc6-dev)
 # Of the page and its tests.
 needed+=(libjs-dygraphs chromium chromium-driver python3-selenium)
+# Of imports and their tests.
+needed+=(python3-cryptography python3-zstandard zstd tcpdump openssl)
+# Of many captures and their tests.
+needed+=(python3-distributed sqlite3 parallel iproute2)
 built=crates/h2audit_cli/out/h2audit_cli
+split=crates/h2audit_split/out/h2audit_split
 work=$(mktemp -d)
 trap 'rm -r "$work"' EXIT
 
@@ -78,19 +84,34 @@ else
     audits=()
     echo "what needs it does not run: build it by 'make build' or 'make test'"
 fi
+make -q "$split" > /dev/null 2>&1 || split=$program
 try 'man pages and completions' tools/tests/words_test.py
 try 'definitions to believe' tools/tests/believed_test.py
 try 'recipes' tools/tests/recipes_test.py "${audits[@]}"
 try 'language of the definitions' tools/tests/definitions_language_test.py
 try 'known reports by definition' tools/tests/definitions_test.py
-[[ ${#audits[@]} -eq 0 ]] || try 'random reports by definition' tools/tests/definitions_test.py "$built"
+try_built 'random reports by definition' tools/tests/definitions_test.py "$built"
 try 'pictures' tools/tests/plot_test.py
 try 'lines of reports, and who is to blame' tools/tests/report_test.py
-try 'comments of packets' tools/tests/comment_test.py
+try 'comments of packets: examples' tools/tests/comment_test.py Examples
+try 'comments of packets: forms of captures' tools/tests/comment_test.py Forms
+try 'comments of packets: maps and bad input' tools/tests/comment_test.py Maps BadInput
 try 'page' tools/tests/page_test.py
-try 'page in a browser' tools/tests/page_browser_test.py
+try 'page in a browser' tools/tests/page_browser_test.py Examples Hands Schemes Hostile
+try 'page of a million lines in a browser' tools/tests/page_browser_test.py Large
 try 'library example' tools/tests/library_example_test.py
-try 'install and package' tools/tests/package_test.sh "$program"
+try 'captures of TLS' tools/tests/import_test.py "${audits[@]}"
+try 'forms of captures' tools/tests/import_forms_test.py
+try 'cipher suites, resumption, PSK, early data' tools/tests/import_tls_test.py "${audits[@]}"
+try 'mutated captures and key logs' tools/tests/import_mutations_test.py
+try 'many captures: tables' tools/tests/fleet_test.py "${audits[@]}" Tables
+try 'many captures: lost workers, memory, time' tools/tests/fleet_test.py Course.test_{killed_worker,worker_killed_each_time,memory_and_time}
+try 'many captures: Ctrl-C and resumption' tools/tests/fleet_test.py Course.test_{interrupted,resumed}
+try 'many captures: names and refusals' tools/tests/fleet_test.py Words Schema
+try 'many captures: a cluster' tools/tests/fleet_cluster_test.py
+try_built 'many captures: imports and parts' tools/tests/fleet_parts_test.py "$built"
+try 'many captures: without daemons' tools/tests/fleet_collect_test.py "${audits[@]}"
+try 'install and package' tools/tests/package_test.sh "$program" "$split"
 try_built 'refused growths, threads, reads and writes' tools/tests/refusals_test.py "$built"
 try_built 'threads that are started' tools/tests/threads_test.py "$built"
 [[ ${#left_out[@]} -eq 0 ]] || fail "did not run, for want of the program: $(printf '%s; ' "${left_out[@]}")"

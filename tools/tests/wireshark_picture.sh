@@ -25,10 +25,17 @@ tools/h2audit-comment examples/stream_overrun_go.pcap examples/stream_overrun_go
 Xvfb $display -screen 0 1180x680x24 -nolisten tcp > /dev/null 2>&1 &
 xvfb=$!
 mkdir -p "$work/home/.config/wireshark"
-printf '%s\n' 'gui.column.format: "No.", "%m", "Time", "%t", "Source", "%s", "Protocol", "%p", "Comment", "%Cus:frame.comment:0:R"' \
-    'gui.update.enabled: FALSE' 'gui.layout_type: 1' 'gui.layout_content_2: DETAILS' 'gui.layout_content_3: NONE' 'privs.warn_if_elevated: FALSE' > "$work/home/.config/wireshark/preferences"
+cat > "$work/home/.config/wireshark/preferences" << 'END'
+gui.column.format: "No.", "%m", "Time", "%t", "Source", "%s", "Protocol", "%p", "Comment", "%Cus:frame.comment:0:R"
+gui.update.enabled: FALSE
+gui.layout_type: 1
+gui.layout_content_2: DETAILS
+gui.layout_content_3: NONE
+privs.warn_if_elevated: FALSE
+END
 HOME=$work/home XDG_CONFIG_HOME=$work/home/.config XDG_RUNTIME_DIR=$work DISPLAY=$display QT_QPA_PLATFORM=xcb \
-    wireshark -n -d tcp.port==21100,http2 -r "$work/commented.pcapng" -Y 'frame.comment contains "h2audit"' -g 12 > "$work/said" 2>&1 &
+    wireshark -n -d tcp.port==21100,http2 -r "$work/commented.pcapng" -Y 'frame.comment contains "h2audit"' -g 12 \
+    > "$work/said" 2>&1 &
 shark=$!
 window=$(until_window commented.pcapng)
 DISPLAY=$display xdotool windowmove "$window" 0 0 windowsize "$window" 1180 680

@@ -1,7 +1,8 @@
 #!/usr/bin/python3
 """Tests of the man pages and of the completions, each by its own program: all of them name the programs' options.
 
-The options of h2audit are those of its help text, which a test of the gate pins; those of the programs beside it are in their --help.
+The options of h2audit and h2audit-split are those of their help texts, which tests of the gate pin; those of the programs in
+Python are in their --help.
 """
 
 import os
@@ -16,8 +17,9 @@ import unittest
 TOP = pathlib.Path(__file__).resolve().parents[2]
 MAN = TOP / "tools" / "man"
 COMPLETIONS = TOP / "tools" / "completions"
-HELP_OF_H2AUDIT = TOP / "tests" / "help.txt"
-OPTION = re.compile(r"(?<![\w-])(--[a-z][a-z-]*)")
+HELP_TEXTS = {"h2audit": TOP / "tests" / "help.txt", "h2audit-split": TOP / "tests" / "split_help.txt"}
+IN_PYTHON = ("any", "comment", "fleet", "import", "merge", "page", "plot")
+OPTION = re.compile(r"(?<![\w-])(--[a-z][a-z0-9-]*)")
 
 
 def output_of(*words, **more):
@@ -26,14 +28,14 @@ def output_of(*words, **more):
 
 def options_of(name):
     """The long options of a program's help."""
-    if name == "h2audit":
-        text = HELP_OF_H2AUDIT.read_text()
+    if name in HELP_TEXTS:
+        text = HELP_TEXTS[name].read_text()
     else:
         text = output_of(TOP / "tools" / name, "--help").split("\noptions:\n")[1]
     return sorted(set(OPTION.findall(text)))
 
 
-PROGRAMS = {name: options_of(name) for name in ("h2audit", "h2audit-comment", "h2audit-page", "h2audit-plot")}
+PROGRAMS = {name: options_of(name) for name in (*HELP_TEXTS, *(f"h2audit-{end}" for end in IN_PYTHON))}
 
 
 class Version(unittest.TestCase):
@@ -54,7 +56,7 @@ class Man(unittest.TestCase):
     def test_options(self):
         for name, options in PROGRAMS.items():
             tags = re.findall(r"^\.It (Fl .*)", (MAN / f"{name}.1").read_text(), re.M)
-            named = sorted("--" + word for tag in tags for word in re.findall(r"Fl \\-([a-z-]+)", tag))
+            named = sorted("--" + word for tag in tags for word in re.findall(r"Fl \\-([a-z][a-z0-9-]*)", tag))
             self.assertEqual(named, options)
 
 
@@ -83,6 +85,14 @@ class Bash(unittest.TestCase):
         self.assertEqual(self.offered("h2audit", "--frames", "READ"), ["README.md"])
         self.assertEqual(self.offered("h2audit-comment", "--map", "READ"), ["README.md"])
         self.assertEqual(self.offered("h2audit-page", "--title", "READ"), [""])
+        self.assertEqual(self.offered("h2audit-import", "--jobs", "6"), ["6", "60", "61", "62", "63", "64"])
+        self.assertEqual(self.offered("h2audit-import", "-k", "READ"), ["README.md"])
+        self.assertEqual(self.offered("h2audit-any", "--groups", "10"), ["1024"])
+        self.assertEqual(self.offered("h2audit-fleet", "--import", "a"), ["auto", "always"])
+        self.assertEqual(self.offered("h2audit-fleet", "--reports", "exam"), ["examples"])
+        self.assertEqual(self.offered("h2audit-split", "--parts", "5"), ["500"])
+        self.assertEqual(self.offered("h2audit-split", "-o", "parts", "READ"), ["README.md"])
+        self.assertEqual(self.offered("h2audit-merge", "exam"), ["examples"])
 
 
 class Fish(unittest.TestCase):
@@ -103,6 +113,10 @@ class Fish(unittest.TestCase):
         self.assertEqual(self.offered("h2audit --block 104"), ["1048576"])
         self.assertEqual(sorted(self.offered("h2audit-plot --format ")), ["png", "svg"])
         self.assertIn("README.md", self.offered("h2audit READ"))
+        self.assertIn("README.md", self.offered("h2audit-any -k READ"))
+        self.assertEqual(self.offered("h2audit-import --jobs 6"), ["6", "60", "61", "62", "63", "64"])
+        self.assertEqual(sorted(self.offered("h2audit-fleet --import a")), ["always", "auto"])
+        self.assertEqual(self.offered("h2audit-split --parts 50"), ["500"])
 
 
 class Zsh(unittest.TestCase):
@@ -157,7 +171,9 @@ class Zsh(unittest.TestCase):
         """Each option is found from its beginning, and the whole list has no other."""
         for name, options in PROGRAMS.items():
             for option in options:
-                self.assertEqual(self.completed(f"{name} {option[:-1]}").rstrip("="), f"{name} {option}")
+                is_clear = sum(other.startswith(option[:-1]) for other in options) == 1
+                beginning = option[:-1] if is_clear else option
+                self.assertEqual(self.completed(f"{name} {beginning}").rstrip("="), f"{name} {option}")
             found = {self.completed(f"{name} --", tabs).rstrip("=") for tabs in range(1, len(options) + 2)}
             self.assertEqual(sorted(word.split()[1] for word in found), options)
 
@@ -167,6 +183,11 @@ class Zsh(unittest.TestCase):
         self.assertEqual(self.completed("h2audit --block=104"), "h2audit --block=1048576")
         self.assertEqual(self.completed("h2audit-plot --format=p"), "h2audit-plot --format=png")
         self.assertEqual(self.completed("h2audit READ"), "h2audit README.md")
+        self.assertEqual(self.completed("h2audit-any --groups=10"), "h2audit-any --groups=1024")
+        self.assertEqual(self.completed("h2audit-import --key-log=READ"), "h2audit-import --key-log=README.md")
+        self.assertEqual(self.completed("h2audit-fleet --import=n"), "h2audit-fleet --import=never")
+        self.assertEqual(self.completed("h2audit-split --parts=50"), "h2audit-split --parts=500")
+        self.assertEqual(self.completed("h2audit-merge exam").rstrip("/"), "h2audit-merge examples")
 
 
 if __name__ == "__main__":

@@ -6,6 +6,7 @@ from typing import NoReturn
 
 from .audit import Audit, audit_by, program_named
 from .command import imported
+from .parts import MOST_PARTS, audit_in_parts
 from .private_files import nameless
 from .programs import NOTHING_READ, number, run, say, words_of
 from .report import Original, brought_back
@@ -13,8 +14,8 @@ from .stages import Output
 from .writer import Writer
 
 PROGRAM = "h2audit-any"
-DESCRIPTION = """Audits the HTTP/2 flow control of captures as people have them: TLS with its key log, pcapng, IPv6, cooked
-packets, several files. Prints h2audit's report, with the packet numbers and addresses of the original."""
+DESCRIPTION = """Audits the HTTP/2 flow control of captures as people have them: TLS with its key log, pcapng, IPv6,
+cooked packets, several files. Prints h2audit's report, with the packet numbers and addresses of the original."""
 
 
 def options_of(asked: Namespace) -> list[str]:
@@ -22,6 +23,12 @@ def options_of(asked: Namespace) -> list[str]:
     numbers = [("--workers", asked.workers), ("--groups", asked.groups), ("--block", asked.block)]
     words = [f"{name}={value}" for name, value in numbers if value is not None]
     return words + ["--frames"] * asked.frames
+
+
+def way_of(asked: Namespace) -> Audit:
+    """How what is imported is audited: as it is, or in parts."""
+    program = program_named(asked.h2audit)
+    return audit_in_parts(program, asked.parts) if asked.parts else audit_by(program)
 
 
 def audited(asked: Namespace, audit: Audit) -> int:
@@ -42,9 +49,19 @@ def main() -> NoReturn:
     parser = words_of(PROGRAM, DESCRIPTION)
     parser.add_argument("--workers", type=number(1, 64), metavar="N", help="h2audit's threads, 1 to 64")
     parser.add_argument("--groups", type=number(1, 1024), metavar="N", help="h2audit's groups of streams, 1 to 1024")
-    parser.add_argument("--block", type=number(1, 1048576), metavar="N", help="frames in a block of h2audit, 1 to 1048576")
-    parser.add_argument("--frames", action="store_true", help="also show the credit of each window after each frame that changes it")
-    parser.add_argument("--h2audit", metavar="PROGRAM", help="the program that audits; without it H2AUDIT of the environment,\n"
+    parser.add_argument(
+        "--block", type=number(1, 1048576), metavar="N", help="frames in a block of h2audit, 1 to 1048576"
+    )
+    parser.add_argument(
+        "--frames", action="store_true", help="also show the credit of each window after each frame that changes it"
+    )
+    parser.add_argument(
+        "--parts",
+        type=number(1, MOST_PARTS),
+        metavar="N",
+        help=f"split what is imported, and audit its parts side by side: 1 to {MOST_PARTS}",
+    )
+    parser.add_argument("--h2audit", metavar="PROGRAM", help="the program that audits; without it H2AUDIT of the\nenvironment, "
                         "the h2audit beside this program, or that of the path")  # fmt: skip
     asked = parser.parse_args()
-    run(PROGRAM, lambda: audited(asked, audit_by(program_named(asked.h2audit))))
+    run(PROGRAM, lambda: audited(asked, way_of(asked)))

@@ -1,4 +1,7 @@
-"""Runs h2audit on a capture that was made. This is the one step of h2audit-any that another way of auditing may replace."""
+"""Runs h2audit on a capture that was made.
+
+This is the one step of h2audit-any that another way of auditing may replace.
+"""
 
 import os
 import shutil

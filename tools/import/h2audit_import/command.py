@@ -40,7 +40,11 @@ def keys_of(program: str, key_logs: list[str], files: list[str]) -> tuple[Keys, 
 
 
 def stage_of(keys: Keys, more_keys: bool, jobs: int, output: Output) -> Stage:
-    return OneProcess(keys, more_keys, output)
+    if jobs == 1:
+        return OneProcess(keys, more_keys, output)
+    from .jobs import ManyProcesses  # what it needs takes time to load
+
+    return ManyProcesses(keys, more_keys, output, jobs)
 
 
 def imported(program: str, asked: Namespace, output: Output) -> Counts:
@@ -87,7 +91,11 @@ def work(asked: Namespace) -> int:
 
 def main() -> NoReturn:
     parser = words_of(PROGRAM, DESCRIPTION)
-    parser.add_argument("-o", "--output", required=True, metavar="OUT.pcap", help="the capture that is made; - is standard output")
-    parser.add_argument("-m", "--map", metavar="MAP", help="which packet made each record, and what became of each connection")
+    parser.add_argument(
+        "-o", "--output", required=True, metavar="OUT.pcap", help="the capture that is made; - is standard output"
+    )
+    parser.add_argument(
+        "-m", "--map", metavar="MAP", help="which packet made each record, and what became of each connection"
+    )
     asked = parser.parse_args()
     run(PROGRAM, lambda: work(asked))

@@ -1,7 +1,7 @@
 """A connection of the capture, by h2audit's rules (docs/AUDIT_RULES.md, 3), and what is written of it.
 
-It is undecided until the first bytes of a side are there: what begins like TLS is read as TLS, all else goes through as it stands.
-Of a TLS connection its openings are written, and a segment for the plaintext of each record.
+It is undecided until the first bytes of a side are there: what begins like TLS is read as TLS, all else goes
+through as it stands. Of a TLS connection its openings are written, and a segment for the plaintext of each record.
 """
 
 import enum
@@ -9,7 +9,7 @@ import struct
 from typing import NamedTuple, Protocol
 
 from .flows import END_OF_OFFSETS, MOST_HELD, Arrival, Flow
-from .internet import ACK, SYN, Segment
+from .internet import ACK, FIN, SYN, Segment
 from .key_log import Keys
 from .outcomes import Clear, Outcome, Read, Refusal, SideRead
 from .tls_connection import Side, TlsConnection
@@ -25,7 +25,11 @@ MODULO = 0xFFFFFFFF
 class Sink(Protocol):
     """What takes the packets of the capture that is made."""
 
-    def emit(self, arrival: Arrival, original: int, datagram: bytes) -> None: ...
+    def emit(self, arrival: Arrival, original: int, datagram: bytes) -> None:
+        ...
+
+    def take_turn(self, opening: int) -> None:
+        """What is emitted next is of the connection that opened at this packet, until the next segment."""
 
 
 class Context:
@@ -41,6 +45,7 @@ class Mode(enum.Enum):
     UNDECIDED = enum.auto()
     CLEAR = enum.auto()
     TLS = enum.auto()
+    ENDED = enum.auto()
 
 
 class Arrived(NamedTuple):
@@ -63,7 +68,20 @@ def without_payload(segment: Segment) -> bytes:
 class Connection:
     """An opening with all segments that belong to it."""
 
-    __slots__ = ("opening", "context", "ends", "initial", "mode", "flows", "held", "cost", "tls", "is_snapped", "sent")
+    __slots__ = (
+        "opening",
+        "context",
+        "ends",
+        "initial",
+        "mode",
+        "flows",
+        "held",
+        "cost",
+        "tls",
+        "is_snapped",
+        "sent",
+        "ends_at",
+    )
 
     def __init__(self, arrival: Arrival, segment: Segment, context: Context) -> None:
         self.opening, self.context = arrival[0], context
@@ -76,6 +94,7 @@ class Connection:
         self.tls: TlsConnection | None = None
         self.is_snapped = False
         self.sent = [0, 0]
+        self.ends_at: list[int | None] = [None, None]  # the offset of each side's FIN
 
     def take(self, arrival: Arrival, side: int, segment: Segment) -> None:
         is_answer = side == SERVER and self.initial[SERVER] is None and segment.flags & (SYN | ACK) == SYN | ACK
@@ -85,11 +104,12 @@ class Connection:
             self.context.sink.emit(arrival, segment.original, segment.datagram)
         elif self.mode is Mode.UNDECIDED:
             self.take_undecided(Arrived(arrival, side, segment))
-        elif is_answer:
-            self.context.sink.emit(arrival, segment.start, without_payload(segment))
-            self.take_held(Arrived(arrival, side, segment))
-        else:
-            self.take_tls(arrival, side, segment)
+        elif self.mode is Mode.TLS:
+            if is_answer:
+                self.context.sink.emit(arrival, segment.start, without_payload(segment))
+                self.take_held(Arrived(arrival, side, segment))
+            else:
+                self.take_tls(arrival, side, segment)
 
     def placed(self, side: int, segment: Segment) -> tuple[int, bytes] | None:
         """Where a segment's payload stands in its side's bytes (RFC 9293, 3.4), and what of it counts."""
@@ -142,6 +162,10 @@ class Connection:
 
     def take_tls(self, arrival: Arrival, side: int, segment: Segment) -> None:
         assert self.tls is not None
+        initial = self.initial[side]
+        if segment.flags & FIN and initial is not None:
+            length = segment.end - segment.start
+            self.ends_at[side] = (segment.sequence + length - initial - 1) & MODULO
         if segment.start == segment.end or self.tls.refused:
             return
         self.is_snapped |= segment.is_snapped
@@ -151,6 +175,12 @@ class Connection:
         placed = self.placed(side, segment)
         if placed:
             self.tls.segment(side, placed[0], placed[1], arrival)
+
+    def is_over(self) -> bool:
+        """Whether all bytes up to both sides' FIN are there, and read: what may still come repeats some of them."""
+        if self.tls is None or self.tls.queue or self.tls.refused:
+            return False
+        return all(end == side.flow.next for end, side in zip(self.ends_at, self.tls.sides))
 
     def hold(self, arrived: Arrived) -> None:
         """Keeps what cannot be placed before the server's SYN ACK; past a limit that is not waited for."""
@@ -189,14 +219,16 @@ class Connection:
             self.decide(False)
         if self.tls is None:
             return Clear(self.opening, self.ends[CLIENT])
-        self.tls.finish(self.is_snapped, self.initial[SERVER] is not None)
-        if self.tls.refused:
-            return Refusal(self.opening, self.ends[CLIENT], self.tls.refused)
-        client, server = (self.side_read(side) for side in self.tls.sides)
-        known = self.tls.handshake
+        tls = self.tls
+        tls.finish(self.is_snapped, self.initial[SERVER] is not None)
+        if tls.refused:
+            return Refusal(self.opening, self.ends[CLIENT], tls.refused)
+        client, server = (self.side_read(side) for side in tls.sides)
+        self.mode, self.tls = Mode.ENDED, None
+        known = tls.handshake
         assert known.suite is not None
         return Read(
-            self.opening, self.ends[CLIENT], known.version or 0, known.suite.name, known.protocol, self.tls.count,
+            self.opening, self.ends[CLIENT], known.version or 0, known.suite.name, known.protocol, tls.count,
             known.early_records, known.rejected_records, client, server,
         )  # fmt: skip
 

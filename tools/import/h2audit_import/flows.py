@@ -1,7 +1,8 @@
 """The bytes of one side of a TCP connection, in order, by h2audit's rules (docs/AUDIT_RULES.md, 3).
 
-The first packet that brings an offset wins. Offsets from 2^31 on do not count. Bytes behind a hole are held until it is filled; a
-heap of what is held by offset, and one of what covers the place that is reached by arrival, give them in n log n steps.
+The first packet that brings an offset wins. Offsets from 2^31 on do not count. Bytes behind a hole are held until
+it is filled; a heap of what is held by offset, and one of what covers the place that is reached by arrival, give
+them in n log n steps.
 """
 
 import heapq

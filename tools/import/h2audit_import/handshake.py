@@ -1,7 +1,7 @@
 """What both sides of a TLS connection agree on, and the keys that follow from it.
 
-A side goes through stages; each protected stage has its keys. They are made when the first record that needs them comes, since
-keys may still be on their way. ``read`` gives none where a record has to wait.
+A side goes through stages; each protected stage has its keys. They are made when the first record that needs them
+comes, since keys may still be on their way. ``read`` gives none where a record has to wait.
 """
 
 import enum
@@ -12,7 +12,7 @@ from .key_log import Keys
 from .key_schedule import TrafficKeys, key_block, next_secret, traffic_keys
 from .protection import DOES_NOT_OPEN, Opener, Tls13, tls12_opener
 from .suites import Suite, suite_of
-from .tls_records import ALERT, APPLICATION_DATA, CHANGE_CIPHER_SPEC, HANDSHAKE, HEARTBEAT
+from .tls_records import ALERT, APPLICATION_DATA, CHANGE_CIPHER_SPEC, HANDSHAKE
 
 CLIENT, SERVER = 0, 1
 
@@ -175,7 +175,11 @@ class Handshake:
     def begin(self, side: int) -> bool:
         """Makes the keys of the side's stage in TLS 1.3 (RFC 8446, 7.1)."""
         half = self.halves[side]
-        labels = {Stage.EARLY: key_log.EARLY, Stage.HANDSHAKE: key_log.HANDSHAKE[side], Stage.TRAFFIC: key_log.TRAFFIC[side]}
+        labels = {
+            Stage.EARLY: key_log.EARLY,
+            Stage.HANDSHAKE: key_log.HANDSHAKE[side],
+            Stage.TRAFFIC: key_log.TRAFFIC[side],
+        }
         secret = self.secret(labels[half.stage])
         if secret is None:
             return False
@@ -226,7 +230,9 @@ class Handshake:
         return b""
 
     def read_unprotected(self, kind: int, body: bytes) -> bytes:
-        """A record of TLS 1.3 in the clear among protected ones: ChangeCipherSpec says nothing, an alert may be a last word."""
+        """A record of TLS 1.3 in the clear among protected ones: ChangeCipherSpec says nothing, an alert may be a
+        last word.
+        """
         if kind == ALERT:
             self.note_alert(body)
         elif kind != CHANGE_CIPHER_SPEC:

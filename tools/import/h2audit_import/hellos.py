@@ -1,4 +1,6 @@
-"""Handshake messages that decide which keys a connection has: hellos and EncryptedExtensions (RFC 8446, 4; RFC 5246, 7.4)."""
+"""Handshake messages that decide which keys a connection has: hellos and EncryptedExtensions (RFC 8446, 4; RFC
+5246, 7.4).
+"""
 
 import struct
 from typing import Iterator, NamedTuple

@@ -1,21 +1,18 @@
 """The pipeline: from files to the capture that is made, and its map."""
 
 from collections import Counter
-from contextlib import closing
 from typing import Callable, Iterator, NamedTuple
 
 from . import pcap, pcapng
 from .errors import Refused
-from .flows import Arrival
-from .internet import COUNTED, Decoder, Segment
+from .internet import COUNTED, Decoder
 from .link_layers import READ
 from .map_file import Map
-from .outcomes import Clear, Outcome, Read
-from .packets import Cut, Packet, Secrets
+from .outcomes import Clear, Read
+from .packets import Packet, Secrets
 from .packets import Read as ReadItem
-from .sources import Source, can_be_read_twice, opened
+from .sources import Source, opened
 from .stages import Stage
-from .writer import Writer
 
 
 def items_of(source: Source) -> Iterator[ReadItem]:
@@ -24,16 +21,8 @@ def items_of(source: Source) -> Iterator[ReadItem]:
     if magic == pcapng.MAGIC:
         return pcapng.read(source)
     if len(magic) == 4 and pcap.order_of(magic):
-        return known_links(pcap.read(source))
+        return pcap.read(source)
     raise Refused("bad-magic" if len(magic) == 4 else "short-header")
-
-
-def known_links(items: Iterator[ReadItem]) -> Iterator[ReadItem]:
-    """A pcap file has one link type, and is refused where that cannot be read."""
-    for item in items:
-        if isinstance(item, Packet) and item.link is not None and item.link not in READ:
-            raise Refused(f"link-type {item.link}")
-        yield item
 
 
 class Counts(NamedTuple):
@@ -60,7 +49,7 @@ class Importer:
                 if isinstance(item, Packet):
                     self.packet(item)
                 elif isinstance(item, Secrets):
-                    self.stage.secrets(self.packets, item.text)
+                    self.stage.secrets(item.text)
                 else:
                     self.map.cut(self.packets + 1)
 
@@ -90,7 +79,7 @@ class Importer:
 
     def finish(self) -> Counts:
         """Ends all connections, and writes what the map says last."""
-        outcomes, unopened = self.stage.finish(self.packets + 1)
+        outcomes, unopened = self.stage.finish()
         counted = {word: self.reasons[word] for word in (*COUNTED, "fragment")}
         refused = sum(self.reasons.values()) - sum(counted.values())
         self.map.counts({

@@ -1,7 +1,7 @@
 """From packets to TCP segments: IPv4 (RFC 791), IPv6 with its extension headers (RFC 8200), TCP (RFC 9293).
 
-The rules for IPv4 are h2audit's, step for step (docs/AUDIT_RULES.md, 2). A segment of IPv6 becomes one of IPv4 here, between
-addresses that stand for its own, so that nothing behind this knows of IPv6.
+The rules for IPv4 are h2audit's, step for step (docs/AUDIT_RULES.md, 2). A segment of IPv6 becomes one of IPv4
+here, between addresses that stand for its own, so that nothing behind this knows of IPv6.
 """
 
 import struct
@@ -98,7 +98,7 @@ class Decoder:
             self.stand_ins.meet_class_e()
         end = min(total, captured) if total else captured
         is_snapped = total > captured or (total == 0 and len(data) < original)
-        return tcp(data[start:] if start else data, header, end, original - start, is_snapped)
+        return tcp(data[start:] if start else data, header, end, max(original - start, 0), is_snapped)
 
     def ipv6(self, data: bytes, start: int, original: int) -> Segment | str:
         if len(data) - start < 40:
@@ -117,7 +117,9 @@ class Decoder:
                 return "short-ipv6"
             if kind == FRAGMENT and (data[at + 2] or data[at + 3] & 0xF9):
                 return "fragment"
-            size = 8 if kind == FRAGMENT else (data[at + 1] + 2) * 4 if kind == AUTHENTICATION else (data[at + 1] + 1) * 8
+            size = (
+                8 if kind == FRAGMENT else (data[at + 1] + 2) * 4 if kind == AUTHENTICATION else (data[at + 1] + 1) * 8
+            )
             kind, at = data[at], at + size
         return self.as_ipv4(data, start, at, end)
 

@@ -1,7 +1,7 @@
 """Secrets of TLS connections, from key logs of NSS's format and from Decryption Secrets Blocks.
 
-A line is a label, the client's random and a secret, in hexadecimal digits (RFC 9850 describes the format). Lines of other labels
-are passed over; a line that is none is counted, and never shown.
+A line is a label, the client's random and a secret, in hexadecimal digits (draft-ietf-tls-keylogfile). Lines of
+other labels are passed over; a line that is none is counted, and never shown.
 """
 
 import binascii

@@ -1,10 +1,11 @@
-"""From secrets to keys: the key schedule of TLS 1.3 (RFC 8446, 7) and the key block of TLS 1.2 (RFC 5246, 5 and 6.3)."""
+"""From secrets to keys: the key schedule of TLS 1.3 (RFC 8446, 7) and the key block of TLS 1.2 (RFC 5246, 5 and
+6.3).
+"""
 
 import struct
 from typing import NamedTuple
 
 from cryptography.hazmat.primitives import hashes, hmac
-from cryptography.hazmat.primitives.kdf.hkdf import HKDFExpand
 
 from .suites import Suite
 
@@ -19,22 +20,30 @@ class TrafficKeys(NamedTuple):
     mac_key: bytes
 
 
-def expand_label(algorithm: hashes.HashAlgorithm, secret: bytes, label: bytes, length: int) -> bytes:
-    """HKDF-Expand-Label with an empty context (RFC 8446, 7.1)."""
-    label = b"tls13 " + label
-    info = struct.pack(">HB", length, len(label)) + label + b"\0"
-    return HKDFExpand(algorithm, length, info).derive(secret)
+def expand_labels(algorithm: hashes.HashAlgorithm, secret: bytes, wanted: list[tuple[bytes, int]]) -> list[bytes]:
+    """HKDF-Expand-Label with an empty context, of labels and lengths (RFC 8446, 7.1).
+
+    No length is above that of the hash, so each is one step of HKDF-Expand (RFC 5869, 2.3), and all begin from one
+    keyed hash.
+    """
+    keyed = hmac.HMAC(secret, algorithm)
+    made = []
+    for label, length in wanted:
+        step = keyed.copy()
+        step.update(struct.pack(">HB", length, 6 + len(label)) + b"tls13 " + label + b"\0\1")
+        made.append(step.finalize()[:length])
+    return made
 
 
 def traffic_keys(suite: Suite, secret: bytes) -> TrafficKeys:
     """Key and IV of a traffic secret (RFC 8446, 7.3)."""
-    key = expand_label(suite.hash, secret, b"key", suite.key_length)
-    return TrafficKeys(key, expand_label(suite.hash, secret, b"iv", NONCE_LENGTH), b"")
+    key, iv = expand_labels(suite.hash, secret, [(b"key", suite.key_length), (b"iv", NONCE_LENGTH)])
+    return TrafficKeys(key, iv, b"")
 
 
 def next_secret(suite: Suite, secret: bytes) -> bytes:
     """The traffic secret after a KeyUpdate (RFC 8446, 7.2)."""
-    return expand_label(suite.hash, secret, b"traffic upd", suite.hash.digest_size)
+    return expand_labels(suite.hash, secret, [(b"traffic upd", suite.hash.digest_size)])[0]
 
 
 def keyed_hash(algorithm: hashes.HashAlgorithm, key: bytes, data: bytes) -> bytes:
@@ -52,8 +61,13 @@ def pseudo_random(algorithm: hashes.HashAlgorithm, secret: bytes, seed: bytes, l
     return made[:length]
 
 
-def key_block(suite: Suite, master: bytes, client_random: bytes, server_random: bytes) -> tuple[TrafficKeys, TrafficKeys]:
-    """The keys of client and server in TLS 1.2, in the order of RFC 5246, 6.3. Its CBC suites have no IV in the block."""
+def key_block(
+    suite: Suite, master: bytes, client_random: bytes, server_random: bytes
+) -> tuple[TrafficKeys, TrafficKeys]:
+    """The keys of client and server in TLS 1.2, in the order of RFC 5246, 6.3.
+
+    Its CBC suites have no IV in the block.
+    """
     iv_length = {"GCM": 4, "CCM": 4, "CCM_8": 4, "POLY1305": NONCE_LENGTH}.get(suite.mode, 0)
     lengths = [suite.mac_length] * 2 + [suite.key_length] * 2 + [iv_length] * 2
     block = pseudo_random(suite.hash, master, b"key expansion" + server_random + client_random, sum(lengths))

@@ -1,4 +1,6 @@
-"""Writes the map of a capture that is made: which packet made each record, and what became of each connection (docs/MAP.md)."""
+"""Writes the map of a capture that is made: which packet made each record, and what became of each connection
+(docs/MAP.md).
+"""
 
 import bisect
 import ipaddress

@@ -4,6 +4,7 @@ import struct
 from typing import Iterator
 
 from .errors import Refused
+from .link_layers import READ
 from .packets import MOST_CAPTURED, Cut, Packet, Read
 from .sources import CHUNK, Source
 
@@ -29,11 +30,15 @@ def read(source: Source) -> Iterator[Read]:
     magic, major, minor, _, _, _, network = struct.unpack(order + "IHHiIII", header)
     if (major, minor) != (2, 4):
         raise Refused("bad-version")
-    return records(source, struct.Struct(order + "IIII").unpack_from, NANOS_OF_A_FRACTION[magic], network & 0xFFFF)
+    link = network & 0xFFFF
+    if link not in READ:
+        raise Refused(f"link-type {link}")
+    return records(source, struct.Struct(order + "IIII"), NANOS_OF_A_FRACTION[magic], link)
 
 
-def records(source: Source, unpack, unit: int, link: int) -> Iterator[Read]:
+def records(source: Source, header: struct.Struct, unit: int, link: int) -> Iterator[Read]:
     held, at = b"", 0
+    unpack = header.unpack_from
     while True:
         if len(held) - at < RECORD_HEADER_LENGTH:
             held, at = held[at:] + source.read(CHUNK), 0

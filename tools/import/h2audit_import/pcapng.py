@@ -1,4 +1,6 @@
-"""Reads pcapng files: several sections and interfaces, and the secrets in them (the format's draft, draft-ietf-opsawg-pcapng)."""
+"""Reads pcapng files: several sections and interfaces, and the secrets in them (the format's draft,
+draft-ietf-opsawg-pcapng).
+"""
 
 import struct
 from typing import Iterator, NamedTuple

@@ -1,13 +1,15 @@
 """Files that hold plaintext: their owner alone may read them, and none is left behind half-written."""
 
 import os
+import signal
 import stat
 import sys
 import tempfile
-from contextlib import contextmanager
-from typing import BinaryIO, Iterator
+from contextlib import contextmanager, suppress
+from typing import IO, Iterator
 
 BUFFER = 1 << 20
+SIGNALS = (signal.SIGINT, signal.SIGTERM, signal.SIGHUP)
 
 
 def is_special(path: str) -> bool:
@@ -19,7 +21,7 @@ def is_special(path: str) -> bool:
 
 
 @contextmanager
-def written(path: str) -> Iterator[BinaryIO]:
+def written(path: str) -> Iterator[IO[bytes]]:
     """A file to write. It takes its name once it is whole; before that, it goes with any error or signal."""
     if path == "-":
         yield sys.stdout.buffer
@@ -30,18 +32,24 @@ def written(path: str) -> Iterator[BinaryIO]:
             yield file
         return
     target = os.path.realpath(path)
-    number, temporary = tempfile.mkstemp(prefix=f".{os.path.basename(target)}.", dir=os.path.dirname(target))
+    before = signal.pthread_sigmask(signal.SIG_BLOCK, SIGNALS)
     try:
-        with open(number, "wb", buffering=BUFFER) as file:
-            yield file
-        os.replace(temporary, target)
-    except BaseException:
-        os.unlink(temporary)
-        raise
+        number, temporary = tempfile.mkstemp(prefix=f".{os.path.basename(target)}.", dir=os.path.dirname(target))
+        try:
+            signal.pthread_sigmask(signal.SIG_SETMASK, before)  # from here on a signal finds the file to remove
+            with open(number, "wb", buffering=BUFFER) as file:
+                yield file
+            os.replace(temporary, target)
+        except BaseException:
+            with suppress(FileNotFoundError):
+                os.unlink(temporary)
+            raise
+    finally:
+        signal.pthread_sigmask(signal.SIG_SETMASK, before)
 
 
 @contextmanager
-def nameless() -> Iterator[tuple[BinaryIO, str]]:
+def nameless() -> Iterator[tuple[IO[bytes], str]]:
     """A temporary file without a name, which goes with the process however that ends, and a path to open it by."""
     with tempfile.TemporaryFile(buffering=BUFFER, prefix="h2audit-") as file:
         yield file, f"/proc/{os.getpid()}/fd/{file.fileno()}"

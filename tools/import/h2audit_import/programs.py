@@ -5,15 +5,15 @@ import os
 import signal
 import sys
 import time
-from typing import Callable, Iterator, NoReturn
 from contextlib import contextmanager
+from typing import Callable, Iterator, NoReturn
 
 from . import VERSION
 from .errors import Interrupted, Refused
+from .private_files import SIGNALS
 
 USAGE, CAPTURE_REFUSED, IO_FAILED, NO_MEMORY, NOTHING_READ = 2, 3, 4, 5, 6
 MOST_JOBS = 64
-SIGNALS = (signal.SIGINT, signal.SIGTERM, signal.SIGHUP)
 SECONDS_BEFORE_PROGRESS, SECONDS_BETWEEN = 2.0, 0.5
 
 
@@ -37,7 +37,9 @@ def number(least: int, most: int) -> Callable[[str], int]:
 
 def words_of(program: str, description: str) -> Words:
     """The options that both programs have."""
-    parser = Words(prog=program, description=description, allow_abbrev=False, formatter_class=argparse.RawTextHelpFormatter)
+    parser = Words(
+        prog=program, description=description, allow_abbrev=False, formatter_class=argparse.RawTextHelpFormatter
+    )
     parser.add_argument("files", nargs="*", default=[], metavar="FILE",
                         help="pcap or pcapng, also in gzip or zstd; standard input without one, or as -")  # fmt: skip
     parser.add_argument("-k", "--key-log", action="append", default=[], metavar="KEYLOG",

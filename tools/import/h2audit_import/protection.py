@@ -1,7 +1,9 @@
-"""Opens protected records. Each verifies its tag or its MAC, and raises InvalidTag or InvalidSignature where that fails.
+"""Opens protected records. Each verifies its tag or its MAC, and raises InvalidTag or InvalidSignature where that
+fails.
 
-TLS 1.3: RFC 8446, 5.2. TLS 1.2: RFC 5246, 6.2.3; RFC 5288 (GCM), 6655 (CCM), 7905 (POLY1305), 7366 (encrypt-then-MAC). A class
-for each way of building nonce and additional data; ``open`` takes the header as it stood and the rest of the record.
+TLS 1.3: RFC 8446, 5.2. TLS 1.2: RFC 5246, 6.2.3; RFC 5288 (GCM), 6655 (CCM), 7905 (POLY1305), 7366
+(encrypt-then-MAC). A class for each way of building nonce and additional data; ``open`` takes the header as it
+stood and the rest of the record.
 """
 
 import struct
@@ -23,7 +25,8 @@ AEAD_TAG_LENGTH = {"GCM": 16, "CCM": 16, "CCM_8": 8, "POLY1305": 16}
 class Opener(Protocol):
     """What opens the records of one side, one after the other."""
 
-    def open(self, header: bytes, body: bytes) -> bytes: ...
+    def open(self, header: bytes, body: bytes) -> bytes:
+        ...
 
 
 def aead_of(suite: Suite, key: bytes) -> AESGCM | AESCCM | ChaCha20Poly1305:
@@ -35,7 +38,9 @@ def aead_of(suite: Suite, key: bytes) -> AESGCM | AESCCM | ChaCha20Poly1305:
 
 
 class SequenceNonce:
-    """The sequence number in the low bytes of the IV: TLS 1.3 (RFC 8446, 5.3), and POLY1305 in TLS 1.2 (RFC 7905, 2)."""
+    """The sequence number in the low bytes of the IV: TLS 1.3 (RFC 8446, 5.3), and POLY1305 in TLS 1.2 (RFC 7905,
+    2).
+    """
 
     def __init__(self, suite: Suite, keys: TrafficKeys) -> None:
         self.decrypt = aead_of(suite, keys.key).decrypt
@@ -48,7 +53,10 @@ class SequenceNonce:
 
 
 class Tls13(SequenceNonce):
-    """A record of TLS 1.3: the header is the additional data (RFC 8446, 5.2). A record that does not open uses up no number."""
+    """A record of TLS 1.3: the header is the additional data (RFC 8446, 5.2).
+
+    A record that does not open uses up no number.
+    """
 
     def open(self, header: bytes, body: bytes) -> bytes:
         plaintext = self.decrypt(self.next_nonce(), body, header)
@@ -128,7 +136,9 @@ class Blocks:
 def block_cipher(name: str, key: bytes) -> algorithms.AES | algorithms.Camellia | algorithms.TripleDES | None:
     if name == "NULL":
         return None
-    return {"AES": algorithms.AES, "CAMELLIA": algorithms.Camellia, "3DES": algorithms.TripleDES}[name](key)
+    if name == "AES":
+        return algorithms.AES(key)
+    return algorithms.Camellia(key) if name == "CAMELLIA" else algorithms.TripleDES(key)
 
 
 def additional_data(sequence: int, header: bytes, length: int) -> bytes:
@@ -141,4 +151,6 @@ def additional_data(sequence: int, header: bytes, length: int) -> bytes:
 def tls12_opener(suite: Suite, keys: TrafficKeys, is_encrypted_first: bool) -> Opener:
     if suite.mac is not None:
         return Blocks(suite, keys, is_encrypted_first)
-    return Poly1305(suite, keys) if suite.mode == "POLY1305" else ExplicitNonce(suite, keys)
+    if suite.mode == "POLY1305":
+        return Poly1305(suite, keys)
+    return ExplicitNonce(suite, keys)

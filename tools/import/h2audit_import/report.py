@@ -1,4 +1,6 @@
-"""Brings a report of h2audit back to the packets and addresses of the original (docs/REPORT_FORMAT.md, "Reports of h2audit-any")."""
+"""Brings a report of h2audit back to the packets and addresses of the original (docs/REPORT_FORMAT.md, "Reports of
+h2audit-any").
+"""
 
 from array import array
 from typing import Iterable, Iterator

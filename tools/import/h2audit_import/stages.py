@@ -15,11 +15,14 @@ from .writer import Writer
 class Stage(Protocol):
     """Takes segments and secrets in the order of the capture."""
 
-    def segment(self, arrival: Arrival, segment: Segment) -> None: ...
+    def segment(self, arrival: Arrival, segment: Segment) -> None:
+        ...
 
-    def secrets(self, packet: int, text: bytes) -> None: ...
+    def secrets(self, text: bytes) -> None:
+        ...
 
-    def finish(self, packet: int) -> tuple[list[Outcome], list[Unopened]]: ...
+    def finish(self) -> tuple[list[Outcome], list[Unopened]]:
+        ...
 
 
 class Output:
@@ -32,6 +35,9 @@ class Output:
         self.writer.write(arrival, original, datagram)
         self.map.record(self.writer.count, arrival[0])
 
+    def take_turn(self, opening: int) -> None:
+        """One process has its connections in order as it is."""
+
 
 class OneProcess:
     """Makes the capture here."""
@@ -43,11 +49,11 @@ class OneProcess:
     def segment(self, arrival: Arrival, segment: Segment) -> None:
         self.table.take(arrival, segment)
 
-    def secrets(self, packet: int, text: bytes) -> None:
+    def secrets(self, text: bytes) -> None:
         if self.table.context.more_keys:
             self.keys.add_text(text)
             self.table.keys_came()
 
-    def finish(self, packet: int) -> tuple[list[Outcome], list[Unopened]]:
+    def finish(self) -> tuple[list[Outcome], list[Unopened]]:
         self.table.finish_all()
         return self.table.outcomes, self.table.unopened

@@ -23,13 +23,18 @@ class Table:
         ):
             lane = self.opened(arrival, segment, lane)
         if lane:
-            lane[0].take(arrival, lane[1], segment)
+            connection, side = lane
+            connection.take(arrival, side, segment)
+            if None not in connection.ends_at and connection.is_over():
+                self.finish(connection)
         else:
             self.stray(arrival, segment)
 
-    def opened(self, arrival: Arrival, segment: Segment, before: tuple[Connection, int] | None) -> tuple[Connection, int]:
+    def opened(
+        self, arrival: Arrival, segment: Segment, before: tuple[Connection, int] | None
+    ) -> tuple[Connection, int]:
         """A new connection. One that its pair had before has all its segments now."""
-        if before and not self.context.more_keys:
+        if before and before[0].opening in self.open and not self.context.more_keys:
             self.finish(before[0])
         connection = Connection(arrival, segment, self.context)
         self.open[connection.opening] = connection
@@ -50,6 +55,7 @@ class Table:
         """Goes on with what waited for keys, in the order of openings."""
         for connection in self.open.values():
             if connection.tls and connection.tls.handshake.waits_for_key:
+                self.context.sink.take_turn(connection.opening)
                 connection.tls.advance()
 
     def finish(self, connection: Connection) -> None:
@@ -58,6 +64,7 @@ class Table:
 
     def finish_all(self) -> None:
         for connection in list(self.open.values()):
+            self.context.sink.take_turn(connection.opening)
             self.finish(connection)
 
     @property

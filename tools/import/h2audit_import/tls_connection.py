@@ -1,7 +1,8 @@
 """Reads the plaintext of a TLS connection, from its records in the order in which they were completed.
 
-Which keys a record needs is known by what both sides said before it (RFC 8446, 2 and 4; RFC 5246, 7.3). A record whose keys
-depend on something that has not come yet waits, and with it all later plaintext, so that this keeps the order of completion.
+Which keys a record needs is known by what both sides said before it (RFC 8446, 2 and 4; RFC 5246, 7.3). A record
+whose keys depend on something that has not come yet waits, and with it all later plaintext, so that this keeps the
+order of completion.
 """
 
 from collections import deque
@@ -12,7 +13,7 @@ from .errors import Stopped
 from .flows import Arrival, Flow
 from .handshake import Handshake, Stage
 from .key_log import Keys
-from .tls_records import ALERT, APPLICATION_DATA, CHANGE_CIPHER_SPEC, HANDSHAKE, Records
+from .tls_records import Records
 
 MOST_WAITING = 64 << 20
 Emit: TypeAlias = Callable[[int, bytes, Arrival], None]

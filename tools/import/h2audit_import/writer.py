@@ -1,7 +1,9 @@
-"""Writes the capture that is made: classic pcap of nanoseconds, link type 101 (raw IP), numbers in the order of most machines."""
+"""Writes the capture that is made: classic pcap of nanoseconds, link type 101 (raw IP), numbers in the order of
+most machines.
+"""
 
 import struct
-from typing import BinaryIO
+from typing import IO
 
 from .errors import Refused
 from .flows import Arrival
@@ -15,7 +17,7 @@ RECORD_HEADER = struct.Struct("<IIII")
 class Writer:
     """Takes packets, and numbers them."""
 
-    def __init__(self, file: BinaryIO) -> None:
+    def __init__(self, file: IO[bytes]) -> None:
         self.file = file
         self.count = 0
         file.write(struct.pack("<IHHiIII", MAGIC_OF_NANOS, 2, 4, 0, 0, SNAPSHOT_LENGTH, RAW))

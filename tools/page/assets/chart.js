@@ -18,6 +18,10 @@ function duration(nanos) {
   return `${grouped(nanos / size)} ${unit}`;
 }
 
+const FAULTS = {
+  strokeWidth: 0, drawPoints: true, pointSize: 6, drawPointCallback: cross, drawHighlightPointCallback: cross,
+};
+
 class Chart {
   // The faults of the whole connection, as frames and times, stand as lines in each of its charts.
   constructor(box, one, series, faultsOfConnection, isByFrame) {
@@ -50,11 +54,15 @@ class Chart {
     const label = this.isByFrame ? "frame" : `${this.unit} since the first finding of the connection`;
     this.graph?.destroy();
     this.graph = new Dygraph(this.box, this.rows(), {
-      labels: [label, "credit", "fault"], colors: [colour.line, colour.fault], stepPlot: true, connectSeparatedPoints: true,
+      labels: [label, "credit", "fault"], colors: [colour.line, colour.fault],
+      stepPlot: true, connectSeparatedPoints: true,
       includeZero: true, xRangePad: 8, yRangePad: 12, strokeWidth: 1.6, pointSize: 2, drawPoints: this.x.length < 1000,
       gridLineColor: colour.grid, axisLineColor: colour.text, xlabel: label, ylabel: "bytes", xLabelHeight: 18,
-      series: { fault: { strokeWidth: 0, drawPoints: true, pointSize: 6, drawPointCallback: cross, drawHighlightPointCallback: cross } },
-      axes: { x: { axisLabelFormatter: grouped, axisLabelWidth: 80 }, y: { axisLabelFormatter: grouped, axisLabelWidth: 92 } },
+      series: { fault: FAULTS },
+      axes: {
+        x: { axisLabelFormatter: grouped, axisLabelWidth: 80 },
+        y: { axisLabelFormatter: grouped, axisLabelWidth: 92 },
+      },
       underlayCallback: (canvas, area, graph) => this.shade(canvas, area, graph, colour),
       highlightCallback: (event, x, points, row) => this.tell(row),
       unhighlightCallback: () => this.tell(this.selected),
@@ -67,7 +75,8 @@ class Chart {
     for (const [begin, end] of this.series.stalls) {
       const first = this.x[begin], last = this.x[end ?? this.x.length - 1];
       if (last < least || first > most) continue;
-      const left = Math.max(graph.toDomXCoord(first), area.x), right = Math.min(graph.toDomXCoord(last), area.x + area.w);
+      const left = Math.max(graph.toDomXCoord(first), area.x);
+      const right = Math.min(graph.toDomXCoord(last), area.x + area.w);
       canvas.fillStyle = colour.stall;
       canvas.fillRect(left, area.y, Math.max(right - left, 1), area.h);
       canvas.fillStyle = colour["stall-edge"];
@@ -90,9 +99,9 @@ class Chart {
       return;
     }
     const { frames, nanos, credits, faults } = this.series;
-    const faultsHere = faults.filter(fault => fault.point === row).map(fault => `; ${fault.kind} by the ${fault.broke}`);
+    const here = faults.filter(fault => fault.point === row);
     output.textContent = `Frame ${grouped(frames[row])}, ${duration(nanos[row])}: credit ${grouped(credits[row])} bytes`
-      + faultsHere.join("");
+      + here.map(fault => `; ${fault.kind} by the ${fault.broke}`).join("");
   }
 
   select(row) {
@@ -113,7 +122,8 @@ class Chart {
 
   zoom(factor) {
     const [least, most] = this.graph.xAxisRange();
-    const middle = this.selected === null ? (least + most) / 2 : this.x[this.selected], half = (most - least) * factor / 2;
+    const middle = this.selected === null ? (least + most) / 2 : this.x[this.selected];
+    const half = (most - least) * factor / 2;
     this.graph.updateOptions({ dateWindow: [middle - half, middle + half] });
   }
 

@@ -1,4 +1,4 @@
-// Unpacks the windows of the page. Numbers are differences to the ones before; a window's are taken out when it is drawn.
+// Unpacks the windows of the page. Numbers are differences to the ones before, and are summed when a window is drawn.
 
 async function unpackedCharts() {
   const packed = document.getElementById("chart-data").textContent;

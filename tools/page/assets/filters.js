@@ -13,11 +13,17 @@ function wordsOf(one) {
   return `${nameOf(one)} ${one.client} ${one.server} ${one.trouble} ${[...one.kinds].join(" ")}`.toLowerCase();
 }
 
+function hasKind(one, kind) {
+  if (kind === "fault") return one.faults > 0;
+  if (kind === "stall") return one.stalls > 0;
+  return !kind || one.kinds.has(kind);
+}
+
 function isWindowAsked(one, want) {
   return (!want.words || wordsOf(one).includes(want.words))
     && (!want.side || one.side === want.side)
     && (!want.stream || String(one.stream) === want.stream)
-    && (!want.kind || (want.kind === "fault" ? one.faults > 0 : want.kind === "stall" ? one.stalls > 0 : one.kinds.has(want.kind)));
+    && hasKind(one, want.kind);
 }
 
 function isRowAsked(row, want) {
@@ -34,7 +40,8 @@ function isRowAsked(row, want) {
 function offerKinds(charts) {
   const kinds = new Set([...document.querySelectorAll("tr[data-kind]")].map(row => row.dataset.kind));
   charts.kinds.forEach(([kind]) => kinds.add(kind));
-  for (const kind of [...kinds].filter(kind => !/-stall-(begin|end)$/.test(kind)).sort()) field("kind").add(new Option(kind, kind));
+  const faults = [...kinds].filter(kind => !/-stall-(begin|end)$/.test(kind)).sort();
+  faults.forEach(kind => field("kind").add(new Option(kind, kind)));
 }
 
 function filterRows(want) {

@@ -4,12 +4,14 @@ const AT_ONCE = 6, MORE = 12, MOST_LINES = 500, MOST_PRINTED = 24;
 const KEYS = {
   "+": chart => chart.zoom(0.5), "=": chart => chart.zoom(0.5), "-": chart => chart.zoom(2),
   ArrowLeft: chart => chart.move(-0.25), ArrowRight: chart => chart.move(0.25), "0": chart => chart.graph.resetZoom(),
-  ArrowUp: chart => chart.stretch(0.25), ArrowDown: chart => chart.stretch(4), PageUp: chart => chart.step(-1), PageDown: chart => chart.step(1),
+  ArrowUp: chart => chart.stretch(0.25), ArrowDown: chart => chart.stretch(4),
+  PageUp: chart => chart.step(-1), PageDown: chart => chart.step(1),
 };
-const BUTTONS = [["Zoom in", "+"], ["Zoom out", "-"], ["Left", "ArrowLeft"], ["Right", "ArrowRight"], ["Taller", "ArrowUp"],
+const BUTTONS = [["Zoom in", "+"], ["Zoom out", "-"], ["Left", "ArrowLeft"], ["Right", "ArrowRight"],
+  ["Taller", "ArrowUp"],
   ["Lower", "ArrowDown"], ["Whole", "0"], ["Point before", "PageUp"], ["Next point", "PageDown"]];
 
-let charts, shown = [], limit = AT_ONCE;
+let charts, shown = [], limit = AT_ONCE, listed = "";
 const drawn = new Map();
 const isByFrame = () => document.querySelector("input[name=axis]:checked").value === "frame";
 const sight = new IntersectionObserver(seen => seen.filter(one => one.isIntersecting).forEach(one => draw(one.target)),
@@ -23,9 +25,11 @@ function figureOf(one) {
   const figure = make("figure", "", { id: `chart-${one.number}`, className: "window", tabIndex: 0 });
   const caption = make("figcaption");
   caption.append(make("h3", nameOf(one)), make("p", `${one.trouble}. Client ${one.client}, server ${one.server}.`));
-  const plot = make("div", "", { className: "plot", role: "img", ariaLabel: `Credit of the ${one.side}: ${one.trouble}` });
+  const ariaLabel = `Credit of the ${one.side}: ${one.trouble}`;
+  const plot = make("div", "", { className: "plot", role: "img", ariaLabel });
   const keys = make("p", "", { className: "keys" });
-  keys.append(...BUTTONS.map(([name, key]) => make("button", name, { type: "button", onclick: () => press(figure, key) })));
+  keys.append(...BUTTONS.map(([name, key]) =>
+    make("button", name, { type: "button", onclick: () => press(figure, key) })));
   figure.append(caption, plot, make("output", "", { ariaLive: "polite" }), keys);
   figure.addEventListener("keydown", event => {
     if (event.target !== figure || !(event.key in KEYS) || event.ctrlKey || event.altKey || event.metaKey) return;
@@ -62,9 +66,11 @@ function faultLines(one) {
 
 function list() {
   const want = asked();
+  listed = JSON.stringify(want);
   shown = charts.windows.filter(one => isWindowAsked(one, want));
   const rows = filterRows(want);
-  field("found").textContent = `${grouped(shown.length)} of ${grouped(charts.windows.length)} windows, ${grouped(rows)} findings`;
+  const windows = `${grouped(shown.length)} of ${grouped(charts.windows.length)} windows`;
+  field("found").textContent = `${windows}, ${grouped(rows)} findings`;
   limit = AT_ONCE;
   place();
 }
@@ -111,9 +117,11 @@ function go(row) {
   return true;
 }
 
+// A field says that it has changed while it is typed in and once more when it is left.
 function choose(control) {
+  const want = JSON.stringify(asked());
   if (control.name === "axis") drawn.forEach(chart => chart.setAxis(isByFrame()));
-  else list();
+  else if (want !== listed) list();
 }
 
 function listen() {
@@ -121,7 +129,7 @@ function listen() {
   field("filters").addEventListener("submit", event => event.preventDefault());
   document.addEventListener("click", event => {
     const row = event.target.closest("tr[data-frame]");
-    if (row && event.target.closest("a") && go(row)) event.preventDefault();
+    if (row && !String(getSelection()) && go(row)) event.preventDefault();
   });
   matchMedia("(prefers-color-scheme: dark)").addEventListener("change", () => drawn.forEach(chart => chart.draw()));
   addEventListener("beforeprint", () => document.querySelectorAll("figure.window").forEach((figure, number) => {
@@ -139,4 +147,6 @@ async function start() {
   document.documentElement.dataset.ready = "true";
 }
 
-start();
+start().catch(why => {
+  field("no-charts").textContent = `The charts cannot be shown in this browser: ${why.message}`;
+});

@@ -1,0 +1,89 @@
+#!/usr/bin/python3
+"""Measures h2audit-page and h2audit-comment: around.py PROGRAM
+
+For captures of 40 and of 160 MB, prints the time and the peak of memory of h2audit-comment, and of editcap with one
+comment beside it, which both write pcapng. Then, for captures of some shapes, whose reports of PROGRAM with --frames
+have about a million lines, the same of h2audit-page, the size of its page, and the least of five times until Chromium
+shows its charts.
+"""
+import os
+import pathlib
+import subprocess
+import sys
+import tempfile
+
+from generate import SHAPES, Capture
+from measure import once
+
+TOP = pathlib.Path(__file__).resolve().parents[1]
+sys.path.insert(0, str(TOP / "tools" / "tests"))
+sys.dont_write_bytecode = True
+
+from browser import Browser
+
+PAGES = (("chatty", 10), ("small", 42), ("streams", 85), ("connections", 230), ("calls", 260))
+CAPTURES = (("bulk", 40), ("bulk", 160), ("small", 40), ("small", 160))
+OPENINGS = 5
+# A report of 400 windows with 48,000 stalls, written by a process of its own: what it takes would count for the next.
+STALLS = "import sys; from page_test import large; sys.stdout.write(large(400, 2400, 20))"
+
+
+def capture_of(folder, shape, megabytes):
+    path = folder / "capture.pcap"
+    with open(path, "wb", buffering=1 << 20) as file:
+        SHAPES[shape](Capture(file), megabytes * 1000000)
+    return path
+
+
+def report_of(program, capture, *more):
+    path = capture.with_suffix(".report")
+    with open(path, "wb") as file:
+        subprocess.run([program, *more, capture], stdout=file, check=False)
+    return path
+
+
+def measure_page(browser, shape, report):
+    page = report.with_suffix(".html")
+    wall, cpu, peak = once([str(TOP / "tools" / "h2audit-page"), "-", "-o", str(page)], report)
+    with open(report, "rb") as file:
+        lines = sum(1 for _ in file)
+    opened = min(browser.load(page) for _ in range(OPENINGS))
+    print(
+        f"{shape:12} {lines:9,} lines {wall:6.1f} s {cpu:6.1f} s of processor {peak:6.0f} MB, page "
+        f"{os.path.getsize(page) / 1e6:.2f} MB, opened in {opened:.2f} s",
+        flush=True,
+    )
+
+
+def measure_comment(shape, capture, report):
+    out = str(capture.with_suffix(".pcapng"))
+    comment = [str(TOP / "tools" / "h2audit-comment"), "-", str(report), "-o", out]
+    for name, words in (("h2audit-comment", comment), ("editcap -a", ["editcap", "-a", "1:one", "-", out])):
+        wall, cpu, peak = once(words, capture)
+        print(
+            f"{shape:12} {os.path.getsize(capture) / 1e6:6.0f} MB, {name:15} "
+            f"{wall:6.2f} s {cpu:6.2f} s of processor {peak:6.0f} MB",
+            flush=True,
+        )
+
+
+def main():
+    if len(sys.argv) != 2:
+        sys.exit(__doc__)
+    program = sys.argv[1]
+    with tempfile.TemporaryDirectory() as name:
+        folder = pathlib.Path(name)
+        for shape, megabytes in CAPTURES:
+            capture = capture_of(folder, shape, megabytes)
+            measure_comment(shape, capture, report_of(program, capture))
+        browser = Browser()
+        for shape, megabytes in PAGES:
+            measure_page(browser, shape, report_of(program, capture_of(folder, shape, megabytes), "--frames"))
+        with open(folder / "stalls.report", "wb") as file:
+            subprocess.run([sys.executable, "-c", STALLS], cwd=TOP / "tools" / "tests", stdout=file, check=True)
+        measure_page(browser, "stalls", folder / "stalls.report")
+        browser.close()
+
+
+if __name__ == "__main__":
+    main()

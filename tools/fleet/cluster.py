@@ -1,0 +1,127 @@
+"""The workers: processes of this machine, or those of a scheduler that is named by its address.
+
+Whoever reaches a scheduler of dask without TLS may run programs as its workers. So a local cluster has certificates of its own,
+made anew and held in memory, serves this machine alone, and a scheduler without TLS is refused unless it is asked for.
+"""
+
+import os
+import signal
+import ssl
+import sys
+import tempfile
+import warnings
+from collections.abc import Iterator
+from contextlib import contextmanager
+from dataclasses import dataclass
+from typing import Any
+
+import cloudpickle  # type: ignore[import]
+import dask
+from distributed import Client, LocalCluster, WorkerPlugin
+from distributed.security import Security
+
+from fleet import programs, sniff, tasks
+
+CONNECT_SECONDS = 30
+HERE = "127.0.0.1"
+
+
+class NoCluster(Exception):
+    """Why there are no workers."""
+
+
+@dataclass(frozen=True)
+class Certificates:
+    """The files of an authority, of a certificate and of its key."""
+
+    authority: str
+    certificate: str
+    key: str
+
+
+class Quiet(WorkerPlugin):
+    """Keeps the keys of the terminal from the workers of this machine, and their own words from it: answers say what failed."""
+
+    name = "quiet"
+
+    def setup(self, worker: Any) -> None:
+        signal.signal(signal.SIGINT, signal.SIG_IGN)
+        nowhere = os.open(os.devnull, os.O_WRONLY)
+        os.dup2(nowhere, 2)
+        os.close(nowhere)
+
+
+def settle() -> None:
+    """What dask is to do and not to do, in this process and in the workers that it starts.
+
+    When a worker is lost dask says so of each task that it had, and tries none again: that is for `course` to judge.
+    """
+    warnings.simplefilter("ignore")
+    os.environ.setdefault("DASK_LOGGING__DISTRIBUTED", "critical")
+    for module in (tasks, programs, sniff, sys.modules[__name__]):
+        cloudpickle.register_pickle_by_value(module)
+    dask.config.set({"distributed.scheduler.allowed-failures": 0, "logging.distributed": "critical"})
+
+
+@contextmanager
+def local(jobs: int, dashboard: str | None) -> Iterator[Client]:
+    """Workers of this machine, one process each. Without a dashboard their web servers answer nothing."""
+    settle()
+    if dashboard is None:
+        dask.config.set({"distributed.scheduler.http.routes": [], "distributed.worker.http.routes": []})
+    with tempfile.TemporaryDirectory(prefix="h2audit-fleet-", ignore_cleanup_errors=True) as folder:
+        try:
+            cluster = LocalCluster(
+                n_workers=jobs, threads_per_worker=1, host=HERE, security=Security.temporary(), silence_logs=50,
+                local_directory=folder, dashboard_address=dashboard or f"{HERE}:0", worker_dashboard_address=f"{HERE}:0")
+        except (OSError, ImportError, RuntimeError) as why:
+            raise NoCluster(f"the workers cannot be started: {why}") from None
+        with cluster, Client(cluster) as client:
+            client.register_worker_plugin(Quiet())
+            yield client
+
+
+@contextmanager
+def remote(address: str, certificates: Certificates | None) -> Iterator[Client]:
+    """The workers of a scheduler; an address without a scheme is one of TLS."""
+    settle()
+    address = address if "://" in address else f"tls://{address}"
+    try:
+        client = Client(address, security=security_of(certificates), timeout=CONNECT_SECONDS, set_as_default=False)
+    except (OSError, TimeoutError, ssl.SSLError, ValueError, RuntimeError) as why:
+        raise NoCluster(f"{address}: {first_line(why)}") from None
+    with client:
+        yield client
+
+
+def security_of(certificates: Certificates | None) -> Security | None:
+    if certificates is None:
+        return None
+    for name in (certificates.authority, certificates.certificate, certificates.key):
+        with open(name, "rb"):
+            pass
+    return Security(
+        require_encryption=True, tls_ca_file=certificates.authority, tls_client_cert=certificates.certificate,
+        tls_client_key=certificates.key)
+
+
+def first_line(why: BaseException) -> str:
+    return (str(why).splitlines() or [type(why).__name__])[0]
+
+
+def threads_of(client: Client) -> int:
+    """How many tasks run at once."""
+    return sum(client.nthreads().values())
+
+
+def version_of(client: Client) -> str:
+    """What h2audit says of itself on all workers, which have to have the same: else reports might differ."""
+    client.wait_for_workers(1, timeout=CONNECT_SECONDS)
+    versions = client.run(tasks.version)
+    for worker, version in sorted(versions.items()):
+        if not version:
+            raise NoCluster(f"worker {worker} has no program {tasks.AUDIT}")
+    if len(set(versions.values())) > 1:
+        each = ", ".join(f"{worker} {version}" for worker, version in sorted(versions.items()))
+        raise NoCluster(f"the workers have different versions: {each}")
+    return str(next(iter(versions.values())))

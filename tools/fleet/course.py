@@ -1,0 +1,300 @@
+"""The course of a run: which task comes next, what is tried again, and when a capture is entered.
+
+Futures say over a queue that they are done. So the one thread that enters captures waits for nothing else, and sees within half a
+second that it is to stop.
+"""
+
+import os
+import queue
+import shutil
+import tempfile
+import time
+from collections import deque
+from collections.abc import Callable, Iterable
+from contextlib import suppress
+from dataclasses import dataclass, field
+from functools import partial
+from typing import Any
+
+from distributed import Client, Future, KilledWorker
+
+from fleet import tasks
+from fleet.cluster import threads_of
+from fleet.tasks import Answer, Order
+from fleet.walk import Found
+
+TICK_SECONDS = 0.5
+RESULT_SECONDS = 10.0
+LOOK_SECONDS = 2.0
+NO_WORKER_SECONDS = 60.0
+# Tasks that wait at the workers, for each that runs; and large captures whose parts take room at once.
+AHEAD = 3
+MOST_LARGE = 2
+# Small captures go together, so many and of so many bytes at most.
+MOST_TOGETHER, BYTES_TOGETHER = 32, 4000000
+FIRST, USUAL, LAST = 10, 0, -10
+WORKER_LOST = "worker-lost"
+
+
+class Lost(Exception):
+    """The scheduler, or all workers, went away."""
+
+
+@dataclass
+class Capture:
+    """A capture on its way: how often it was tried, and its parts where it is large."""
+
+    found: Found
+    parts: int = 0
+    tries: int = 0
+    seconds: float = 0.0
+    folder: str | None = None
+    split: Answer = field(default_factory=dict)
+    waiting: set[int] = field(default_factory=set)
+    part_tries: dict[int, int] = field(default_factory=dict)
+    futures: set[Future] = field(default_factory=set)
+
+
+@dataclass(frozen=True)
+class Limits:
+    """How often each task is tried, above which size a capture is split, and in which shared folder."""
+
+    tries: int
+    split_above: int
+    scratch: str | None
+
+    def parts_of(self, size: int | None) -> int:
+        """How many parts a capture goes into: none, or as many as make each half as large as may be whole."""
+        if size is None or not 0 < self.split_above < size:
+            return 0
+        return min(-(-2 * size // self.split_above), tasks.MOST_PARTS)
+
+
+Enter = Callable[[Capture, Answer], None]
+Follow = Callable[[Any], None]
+
+
+class Course:
+    """Captures on their way over the workers of a client, each entered once."""
+
+    def __init__(self, client: Client, order: Order, limits: Limits, enter: Enter) -> None:
+        self.client, self.order, self.limits, self.enter = client, order, limits, enter
+        self.done: queue.SimpleQueue[Future] = queue.SimpleQueue()
+        self.flying: dict[Future, Follow] = {}
+        self.waiting: deque[Capture] = deque()
+        self.held: deque[Capture] = deque()
+        self.suspects: deque[Capture] = deque()
+        self.on_way = self.large = 0
+        self.scratch: str | None = None
+        self.threads, self.last_seen, self.next_look = 0, time.monotonic(), 0.0
+
+    def run(self, captures: Iterable[Found], tick: Callable[[], bool]) -> bool:
+        """Audits all captures. Ends early, with False, where a tick says so."""
+        self.waiting.extend(Capture(found, self.limits.parts_of(found.size)) for found in captures)
+        if self.limits.scratch is not None:
+            self.scratch = tempfile.mkdtemp(prefix="h2audit-fleet-", dir=self.limits.scratch)
+        try:
+            while tick():
+                self.fill()
+                if not self.on_way:
+                    return True
+                self.take()
+            return False
+        finally:
+            if self.scratch:
+                shutil.rmtree(self.scratch, ignore_errors=True)
+
+    def fill(self) -> None:
+        """Begins as many captures as keep all workers busy; of large ones a few, since their parts take room."""
+        room = AHEAD * max(self.seen_threads(), 1)
+        while len(self.flying) < room and (captures := self.next_captures(room)):
+            self.on_way += len(captures)
+            self.begin_all(captures)
+        if not self.on_way and self.suspects:
+            self.on_way += 1
+            self.begin(self.suspects.popleft())
+
+    def next_captures(self, room: int) -> list[Capture]:
+        """The next capture; where it is small, with others, but never with so many that a worker would have none."""
+        first = self.next_capture()
+        if first is None or first.parts:
+            return [first] if first else []
+        captures, left = [first], BYTES_TOGETHER - (first.found.size or 0)
+        most = min(MOST_TOGETHER, 1 + len(self.waiting) // room)
+        while len(captures) < most and self.waiting and not self.waiting[0].parts and (self.waiting[0].found.size or 0) <= left:
+            captures.append(self.waiting.popleft())
+            left -= captures[-1].found.size or 0
+        return captures
+
+    def next_capture(self) -> Capture | None:
+        if self.held and self.large < MOST_LARGE:
+            return self.held.popleft()
+        while self.waiting:
+            capture = self.waiting.popleft()
+            if not capture.parts or self.large < MOST_LARGE:
+                return capture
+            self.held.append(capture)
+        return None
+
+    def seen_threads(self) -> int:
+        """The threads of all workers, asked for now and then; Lost where there were none for a while."""
+        now = time.monotonic()
+        if now < self.next_look:
+            return self.threads
+        self.threads, self.next_look = 0, now + LOOK_SECONDS
+        with suppress(OSError):
+            self.threads = threads_of(self.client)
+        if self.threads:
+            self.last_seen = now
+        elif now - self.last_seen > NO_WORKER_SECONDS:
+            raise Lost("no worker is left")
+        return self.threads
+
+    def begin_all(self, captures: list[Capture]) -> None:
+        if len(captures) == 1:
+            self.begin(captures[0])
+            return
+        for capture in captures:
+            capture.tries += 1
+        paths = [capture.found.path for capture in captures]
+        future = self.client.submit(tasks.audit_all, paths, self.order, pure=False, priority=USUAL)
+        self.fly(future, partial(self.after_all, captures))
+
+    def begin(self, capture: Capture) -> None:
+        capture.tries += 1
+        path = capture.found.path
+        if not capture.parts:
+            self.submit(capture, self.after_whole, tasks.audit, path, self.order)
+            return
+        self.large += 1
+        if self.scratch is None:
+            self.submit(capture, self.after_whole, tasks.in_parts, path, capture.parts, self.order)
+            return
+        capture.folder = tempfile.mkdtemp(dir=self.scratch)
+        parts = os.path.join(capture.folder, "parts")
+        self.submit(capture, self.after_split, tasks.split, path, parts, capture.parts, self.order)
+
+    def submit(self, capture: Capture, after: Callable[[Capture, Answer], None], work: Callable[..., Answer], *words: Any,
+               tries: int = 1) -> None:
+        priority = LAST if max(capture.tries, tries) > 1 else FIRST if capture.parts else USUAL
+        future = self.client.submit(work, *words, pure=False, priority=priority)
+        capture.futures.add(future)
+        self.fly(future, partial(after, capture))
+
+    def fly(self, future: Future, follow: Follow) -> None:
+        self.flying[future] = follow
+        future.add_done_callback(self.done.put)
+
+    def take(self) -> None:
+        """Goes on with what is done by now, and waits a tick for the first of it."""
+        wait: float = TICK_SECONDS
+        while True:
+            try:
+                future = self.done.get(timeout=wait) if wait else self.done.get_nowait()
+            except queue.Empty:
+                return
+            wait = 0
+            if future in self.flying:
+                self.go_on(future)
+
+    def go_on(self, future: Future) -> None:
+        if future.status == "cancelled":
+            raise Lost("the scheduler went away")
+        try:
+            answer = future.result(timeout=RESULT_SECONDS)
+        except TimeoutError:
+            # The worker that held the result is gone, and another makes it anew.
+            future.add_done_callback(self.done.put)
+            return
+        except KilledWorker:
+            answer = {"outcome": "failed", "reason": WORKER_LOST}
+        except Exception as why:  # whatever a worker raised, also where its Python is another
+            answer = {"outcome": "failed", "reason": f"worker-failed {type(why).__name__}"}
+        self.flying.pop(future)(answer)
+
+    # What follows a task
+
+    def after_all(self, captures: list[Capture], answers: list[Answer] | Answer) -> None:
+        """Where several were lost together, each has lost its worker."""
+        for place, capture in enumerate(captures):
+            self.after_whole(capture, answers if isinstance(answers, dict) else answers[place])
+
+    def after_whole(self, capture: Capture, answer: Answer) -> None:
+        capture.seconds += answer.get("seconds") or 0.0
+        if answer["outcome"] == "failed" and capture.tries < self.limits.tries and is_worth_a_try(answer):
+            self.again(capture, answer)
+            return
+        self.finish(capture, answer)
+
+    def again(self, capture: Capture, answer: Answer) -> None:
+        """Tries a capture once more. Of all tasks of a lost worker one is to blame, so each is tried alone, after all others."""
+        self.release(capture)
+        capture.waiting, capture.part_tries = set(), {}
+        if answer["reason"] == WORKER_LOST:
+            self.suspects.append(capture)
+        else:
+            self.on_way += 1
+            self.begin(capture)
+
+    def after_split(self, capture: Capture, answer: Answer) -> None:
+        if answer["outcome"] == "import":
+            self.submit(capture, self.after_whole, tasks.audit, capture.found.path, self.order, capture.parts)
+        elif answer["outcome"] == "split":
+            capture.seconds += answer["seconds"]
+            capture.split, capture.waiting = answer, set(answer["standing"])
+            for number in answer["standing"]:
+                self.submit_part(capture, number)
+            self.merge_when_ready(capture)
+        else:
+            self.after_whole(capture, answer)
+
+    def submit_part(self, capture: Capture, number: int) -> None:
+        capture.part_tries[number] = tries = capture.part_tries.get(number, 0) + 1
+        follow = partial(self.after_part, number=number)
+        self.submit(capture, follow, tasks.part, capture.split["folder"], number, self.order, tries=tries)
+
+    def after_part(self, capture: Capture, answer: Answer, number: int) -> None:
+        capture.seconds += answer.get("seconds") or 0.0
+        if number not in capture.waiting:
+            return
+        if answer["outcome"] == "audited":
+            capture.waiting.discard(number)
+            self.merge_when_ready(capture)
+        elif capture.part_tries[number] < self.limits.tries and is_worth_a_try(answer):
+            self.submit_part(capture, number)
+        else:
+            capture.waiting.clear()
+            capture.tries = capture.part_tries[number]
+            self.finish(capture, capture.split | tasks.of_part(number, answer))
+
+    def merge_when_ready(self, capture: Capture) -> None:
+        if not capture.waiting:
+            self.submit(capture, self.after_merge, tasks.merge, capture.found.path, capture.split, self.order)
+
+    def after_merge(self, capture: Capture, answer: Answer) -> None:
+        if answer["outcome"] == "import":
+            capture.seconds += answer["seconds"]
+            self.submit(capture, self.after_whole, tasks.audit, capture.found.path, self.order, capture.parts)
+        else:
+            self.after_whole(capture, answer)
+
+    def finish(self, capture: Capture, answer: Answer) -> None:
+        self.release(capture)
+        answer = {"size": capture.found.size, "modified": capture.found.modified} | answer
+        self.enter(capture, answer | {"tries": capture.tries, "seconds": capture.seconds})
+
+    def release(self, capture: Capture) -> None:
+        """Gives up what a try took: its place, the tasks that are left of it, and the room of its parts."""
+        self.on_way -= 1
+        self.large -= bool(capture.parts)
+        left = [future for future in capture.futures if self.flying.pop(future, None)]
+        if left:
+            self.client.cancel(left)
+        if capture.folder:
+            shutil.rmtree(capture.folder, ignore_errors=True)
+        capture.futures, capture.folder, capture.split = set(), None, {}
+
+
+def is_worth_a_try(answer: Answer) -> bool:
+    """Whether another try may end otherwise: not where a file or a program is missing."""
+    return not str(answer["reason"]).startswith(("no-program", "not-"))

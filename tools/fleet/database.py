@@ -1,0 +1,153 @@
+"""The database, and the one that writes it. A capture and all its rows come in one transaction, so either all stand or none does.
+
+While it runs others may read the database: it keeps a write-ahead log, which is folded in at the end.
+"""
+
+import datetime
+import os
+import sqlite3
+import tempfile
+from collections.abc import Iterable, Iterator
+from contextlib import contextmanager
+from pathlib import Path
+from typing import Any
+
+from fleet import names
+from fleet.rows import Row, Rows, rows_of, unpacked
+from report.blame import KINDS
+from report.lines import Refused
+
+SCHEMA = Path(__file__).with_name("schema.sql")
+SCHEMA_VERSION = 1
+APPLICATION = 1748123206
+TABLES = ("passed_over", "unopened", "findings", "stalls", "connections")
+HEADS = ("records", "segments", "snapped", "not_ipv4", "fragments", "not_tcp", "refused")
+COLUMNS = ("path", "size", "modified", "sha256", "outcome", "status", "reason", "program", "version", "options", "tries", "seconds",
+           "worker", "entered", "report_sha256", "report_bytes", *HEADS)
+ROWS_AT_ONCE = 10000
+
+
+class Unusable(Exception):
+    """Why a file cannot be the database."""
+
+
+class Database:
+    """The database of captures, opened to be written."""
+
+    def __init__(self, path: str, is_resumed: bool, reports: str | None = None) -> None:
+        self.reports = reports
+        is_there = os.path.exists(path) and os.path.getsize(path) > 0
+        try:
+            self.base = sqlite3.connect(path, isolation_level=None, timeout=60)
+            self.check() if is_there else self.make()
+            if not is_resumed and self.base.execute("SELECT 1 FROM captures LIMIT 1").fetchone():
+                raise Unusable("it has captures already: --resume goes on with it")
+            self.base.execute("PRAGMA journal_mode = WAL")
+            self.base.execute("PRAGMA synchronous = NORMAL")
+        except sqlite3.Error as error:
+            raise Unusable(str(error)) from None
+        if reports:
+            os.makedirs(reports, mode=0o700, exist_ok=True)
+
+    def check(self) -> None:
+        if self.pragma("application_id") != APPLICATION:
+            raise Unusable("it is no database of h2audit-fleet")
+        if (version := self.pragma("user_version")) != SCHEMA_VERSION:
+            raise Unusable(f"its schema is {version}, and this program writes {SCHEMA_VERSION}")
+
+    def pragma(self, name: str) -> int:
+        return int(self.base.execute(f"PRAGMA {name}").fetchone()[0])
+
+    def make(self) -> None:
+        self.base.executescript("BEGIN;" + SCHEMA.read_text() + "COMMIT;")
+        self.base.executemany("INSERT INTO kinds VALUES (?, ?)", [(word, kind.blame) for word, kind in KINDS.items()])
+
+    def close(self) -> None:
+        """Leaves one file, without a log beside it."""
+        self.base.execute("PRAGMA journal_mode = DELETE")
+        self.base.close()
+
+    def entered(self) -> Iterator[tuple[str, Any]]:
+        """What stands for each capture: its path, and what a change of it would change."""
+        wanted = "path, outcome, size, modified, version, options"
+        for path, *more in self.base.execute(f"SELECT {wanted} FROM captures"):
+            yield path, tuple(more)
+
+    def outcomes(self, paths: Iterable[str]) -> set[tuple[str, int | None]]:
+        """The outcomes of these captures, each with its status."""
+        wanted = "SELECT outcome, status FROM captures WHERE path = ?"
+        return {(outcome, status) for path in paths for outcome, status in self.base.execute(wanted, (path,))}
+
+    def enter(self, path: bytes, answer: dict[str, Any]) -> dict[str, Any]:
+        """Enters a capture with all that its report says; what was there of it goes. Answers with the row."""
+        row = {column: answer.get(column) for column in COLUMNS}
+        row |= {"path": names.word_of(path), "entered": now()}
+        rows = Rows()
+        packed = answer.get("report")
+        try:
+            if packed is not None and self.reports:
+                keep(self.reports, answer["report_sha256"], packed)
+            with self.transaction():
+                self.put_rows(self.put(row), rows_of(unpacked(packed), rows) if packed is not None else ())
+                row |= dict(zip(HEADS, rows.heads))
+                self.put(row)
+        except (Refused, sqlite3.IntegrityError) as why:
+            row |= {"outcome": "failed", "reason": f"bad-report: {why}"} | dict.fromkeys(HEADS)
+            with self.transaction():
+                self.put_rows(self.put(row), ())
+        return row
+
+    @contextmanager
+    def transaction(self) -> Iterator[None]:
+        self.base.execute("BEGIN IMMEDIATE")
+        try:
+            yield
+        except BaseException:
+            self.base.execute("ROLLBACK")
+            raise
+        self.base.execute("COMMIT")
+
+    def put(self, row: dict[str, Any]) -> int:
+        """The number of the capture, whose row this is now, and which has no other rows yet."""
+        marks = ", ".join("?" * len(COLUMNS))
+        changes = ", ".join(f"{column} = excluded.{column}" for column in COLUMNS)
+        found = self.base.execute(
+            f"INSERT INTO captures ({', '.join(COLUMNS)}) VALUES ({marks}) ON CONFLICT (path) DO UPDATE SET {changes} RETURNING id",
+            [row[column] for column in COLUMNS]).fetchone()
+        return int(found[0])
+
+    def put_rows(self, capture: int, rows: Iterable[Row]) -> None:
+        """These rows, and no others, for a capture."""
+        for table in TABLES:
+            self.base.execute(f"DELETE FROM {table} WHERE capture = ?", (capture,))
+        held: dict[str, list[tuple[object, ...]]] = {table: [] for table in TABLES}
+        for table, values in rows:
+            held[table].append((capture, *values))
+            if len(held[table]) == ROWS_AT_ONCE:
+                self.flush(table, held[table])
+        for table, lines in held.items():
+            self.flush(table, lines)
+
+    def flush(self, table: str, lines: list[tuple[object, ...]]) -> None:
+        if lines:
+            marks = ", ".join("?" * len(lines[0]))
+            self.base.executemany(f"INSERT INTO {table} VALUES ({marks})", lines)
+            lines.clear()
+
+
+def keep(folder: str, digest: str, packed: bytes) -> None:
+    """Keeps a report under the name of its digest. It comes there whole, or not at all."""
+    with tempfile.NamedTemporaryFile(dir=folder, delete=False) as file:
+        try:
+            report = unpacked(packed)
+            while piece := report.read(1 << 20):
+                file.write(piece)
+            file.flush()
+            os.replace(file.name, os.path.join(folder, f"{digest}.report"))
+        except BaseException:
+            os.unlink(file.name)
+            raise
+
+
+def now() -> str:
+    return datetime.datetime.now(datetime.UTC).isoformat(timespec="milliseconds").replace("+00:00", "Z")

@@ -1,0 +1,171 @@
+"""What h2audit-fleet does, from its words to its status."""
+
+import hashlib
+import os
+import signal
+import sys
+import tempfile
+from collections.abc import Iterator
+from contextlib import AbstractContextManager, contextmanager
+from types import FrameType
+from typing import Any
+
+from fleet import collect, names, tasks
+from fleet.database import Database, Unusable
+from fleet.progress import Progress
+from fleet.walk import Found, NotThere, Walk, found_in
+from fleet.words import Asked, read_words
+from report.command import IO_FAILED, MISSING, OK, REFUSED, failed, io_reason
+
+NAME = "h2audit-fleet"
+FAULTS = 1
+SIGNALLED = 128
+SIGNALS = (signal.SIGINT, signal.SIGTERM, signal.SIGHUP)
+
+
+class Interruption:
+    """Ctrl-C, SIGTERM and a terminal that goes, as something to ask for. A second one ends the program at once."""
+
+    def __init__(self) -> None:
+        self.signal = 0
+
+    def note(self, number: int, _: FrameType | None) -> None:
+        self.signal = number
+        signal.signal(number, signal.SIG_DFL)
+
+    @contextmanager
+    def watched(self) -> Iterator["Interruption"]:
+        heard = [number for number in SIGNALS if signal.getsignal(number) is not signal.SIG_IGN]
+        before = {number: signal.signal(number, self.note) for number in heard}
+        try:
+            yield self
+        finally:
+            for number, handler in before.items():
+                signal.signal(number, handler)
+
+
+def main(words: list[str]) -> int:
+    asked = read_words(words)
+    try:
+        return collected(asked) if asked.collect is not None else audited(asked)
+    except Unusable as why:
+        return failed(NAME, IO_FAILED, f"{asked.db}: {why}")
+    except NotThere as why:
+        return failed(NAME, IO_FAILED, str(why))
+    except OSError as why:
+        return failed(NAME, IO_FAILED, io_reason(why))
+
+
+# By workers
+
+
+def audited(asked: Asked) -> int:
+    walk = found_in([os.fsencode(path) for path in asked.paths], asked.lists)
+    options = options_of(asked)
+    try:
+        from fleet import cluster, course
+    except ImportError as missing:
+        return failed(NAME, MISSING, f"{missing.name} is not installed: apt install python3-distributed")
+    database = Database(asked.db, asked.resume, asked.reports)
+    try:
+        with workers_of(asked) as client, Interruption().watched() as interruption:
+            version = cluster.version_of(client)
+            captures = missing_in(database, walk, version, options)
+            return run(asked, client, database, walk, captures, {"version": version, "options": options}, interruption)
+    except (cluster.NoCluster, course.Lost) as why:
+        return failed(NAME, MISSING, str(why))
+    finally:
+        database.close()
+
+
+def workers_of(asked: Asked) -> AbstractContextManager[Any]:
+    from fleet import cluster
+
+    if asked.scheduler is None:
+        return cluster.local(asked.jobs, asked.dashboard)
+    certificates = None
+    if asked.tls_ca and asked.tls_cert and asked.tls_key:
+        certificates = cluster.Certificates(asked.tls_ca, asked.tls_cert, asked.tls_key)
+    return cluster.remote(asked.scheduler, certificates)
+
+
+def run(asked: Asked, client: Any, database: Database, walk: Walk, captures: list[Found], more: dict[str, str],
+        interruption: Interruption) -> int:
+    from fleet.course import Capture, Course, Limits
+
+    progress = Progress(len(captures), sum(found.size or 0 for found in captures))
+
+    def enter(capture: Capture, answer: tasks.Answer) -> None:
+        progress.count(database.enter(capture.found.path, answer | more), capture.found.size or 0)
+
+    def tick() -> bool:
+        progress.show()
+        return not interruption.signal
+
+    if asked.dashboard is not None or (asked.scheduler is not None and sys.stderr.isatty()):
+        print(f"{NAME}: dashboard at {client.dashboard_link}", file=sys.stderr)
+    order: tasks.Order = {"keys": [os.path.abspath(key) for key in asked.keys], "imports": asked.imports, "timeout": asked.timeout}
+    scratch = asked.scratch or (tempfile.gettempdir() if asked.scheduler is None else None)
+    course = Course(client, order, Limits(asked.retries + 1, asked.split_above * 1000000, scratch), enter)
+    is_whole = course.run(captures, tick)
+    progress.clear()
+    print(progress.summary(len(walk.captures) - len(captures), walk.others))
+    if not is_whole:
+        return failed(NAME, SIGNALLED + interruption.signal, "ended early: --resume goes on with the database")
+    return status_of(database, walk)
+
+
+def options_of(asked: Asked) -> str:
+    """What a report depends on beside its capture and h2audit: where it changes, a capture is audited anew."""
+    digest = hashlib.sha256()
+    for key in asked.keys:
+        with open(key, "rb") as file:
+            digest.update(hashlib.sha256(file.read()).digest())
+    return f"import {asked.imports}" + f" keys {digest.hexdigest()}" * bool(asked.keys)
+
+
+def missing_in(database: Database, walk: Walk, version: str, options: str) -> list[Found]:
+    """The captures that do not stand in the database, failed there, or have changed since, as their size and time say."""
+    standing = {path: row for path, row in database.entered()}
+
+    def stands(found: Found) -> bool:
+        outcome, *row = standing.get(names.word_of(found.path), ("failed",))
+        return bool(outcome != "failed") and row == [found.size, found.modified, version, options]
+
+    return [found for found in walk.in_order() if not stands(found)]
+
+
+def status_of(database: Database, walk: Walk) -> int:
+    """The verdict on all captures that were named, those that stood already too."""
+    outcomes = database.outcomes([names.word_of(path) for path in walk.captures])
+    if any(outcome != "audited" for outcome, _ in outcomes):
+        return REFUSED
+    return FAULTS if ("audited", 1) in outcomes else OK
+
+
+# Without workers
+
+
+def collected(asked: Asked) -> int:
+    assert asked.collect is not None
+    if not os.path.isdir(asked.collect):
+        raise NotThere(f"{asked.collect}: not a folder")
+    database = Database(asked.db, asked.resume, asked.reports)
+    jobs = collect.jobs_in(asked.collect)
+    progress, unfinished, walk = Progress(len(jobs), 0), 0, Walk()
+    try:
+        with Interruption().watched() as interruption:
+            for job in collect.answers_in(asked.collect, "unknown"):
+                if interruption.signal:
+                    return failed(NAME, SIGNALLED + interruption.signal, "ended early: --collect again")
+                if job is None:
+                    unfinished += 1
+                    continue
+                walk.add(job[0])
+                progress.count(database.enter(*job), 0)
+                progress.show()
+        progress.clear()
+        print(progress.summary(0, 0) + f"; {unfinished} did not come to their end" * bool(unfinished))
+        return REFUSED if unfinished else status_of(database, walk)
+    finally:
+        database.close()

@@ -1,0 +1,161 @@
+"""One run of a program over a capture: it is given the bytes on standard input, and a digest of the same bytes is taken.
+
+So the digest is that of what was audited, also where the capture is still written to, and no name of a file reaches the program.
+
+A worker needs this module, which is sent to it: it imports the standard library alone.
+"""
+
+import fcntl
+import hashlib
+import os
+import shutil
+import signal
+import subprocess
+import tempfile
+import threading
+import time
+import zlib
+from collections.abc import Iterator, Sequence
+from contextlib import contextmanager, suppress
+from dataclasses import dataclass
+from typing import IO
+
+PIECE = 1 << 20
+MOST_SAID = 4096
+
+
+class NoProgram(Exception):
+    """A program that is not on this machine."""
+
+
+@dataclass(frozen=True)
+class Run:
+    """How a run ended: its status, the last line on standard error, its seconds, and whether its time was up."""
+
+    status: int
+    said: str
+    seconds: float
+    is_late: bool
+    size: int = 0
+    digest: str = ""
+
+
+@dataclass(frozen=True)
+class Report:
+    """The text of a report, compressed, with the digest and the number of its bytes."""
+
+    packed: bytes
+    digest: str
+    size: int
+
+
+def is_there(program: str) -> bool:
+    return shutil.which(program) is not None
+
+
+def run(words: Sequence[str], source: int | None, output: IO[bytes], seconds: float, is_fed: bool = True) -> Run:
+    """Runs a program for so many seconds at most. It is fed with an open file on its standard input, or is handed the file itself."""
+    if not is_there(words[0]):
+        raise NoProgram(words[0])
+    begin = time.monotonic()
+    handed = (source,) if source is not None and not is_fed else ()
+    with tempfile.TemporaryFile() as said, child_of(words, source is not None and is_fed, handed, output, said) as child:
+        with time_limit(child, seconds) as is_late:
+            size, digest = feed(source, child.stdin) if source is not None and child.stdin else (0, "")
+            status = child.wait()
+        return Run(status, last_line(said), time.monotonic() - begin, is_late.is_set(), size, digest)
+
+
+@contextmanager
+def child_of(words: Sequence[str], has_input: bool, handed: tuple[int, ...], output: IO[bytes],
+             said: IO[bytes]) -> Iterator[subprocess.Popen[bytes]]:
+    """A child in a session of its own, which keys of the terminal do not reach.
+
+    It does not outlive its worker for long: one that is fed comes to the end of its capture, and any other is tied to the worker.
+    """
+    tied = [] if has_input or not shutil.which("setpriv") else ["setpriv", "--pdeathsig", "KILL", "--"]
+    child = subprocess.Popen(
+        [*tied, *words], stdin=subprocess.PIPE if has_input else subprocess.DEVNULL, stdout=output, stderr=said, bufsize=0,
+        pass_fds=handed, start_new_session=True)
+    try:
+        yield child
+    finally:
+        end_group(child)
+        if child.stdin:
+            child.stdin.close()
+        child.wait()
+
+
+@contextmanager
+def time_limit(child: subprocess.Popen[bytes], seconds: float) -> Iterator[threading.Event]:
+    is_late = threading.Event()
+
+    def end() -> None:
+        is_late.set()
+        end_group(child)
+
+    timer = threading.Timer(seconds, end)
+    timer.daemon = True
+    timer.start()
+    try:
+        yield is_late
+    finally:
+        timer.cancel()
+
+
+def end_group(child: subprocess.Popen[bytes]) -> None:
+    """Ends the child's own session, unless the child was waited for: then its number may be another's."""
+    if child.returncode is None:
+        with suppress(ProcessLookupError, PermissionError):
+            os.killpg(child.pid, signal.SIGKILL)
+
+
+def feed(source: int, pipe: IO[bytes]) -> tuple[int, str]:
+    """Gives a file to a pipe up to its end, also where the reader goes; the number and the digest of its bytes."""
+    with suppress(OSError):
+        fcntl.fcntl(pipe.fileno(), fcntl.F_SETPIPE_SZ, PIECE)
+    digest, size, has_reader = hashlib.sha256(), 0, True
+    while piece := os.read(source, PIECE):
+        digest.update(piece)
+        size += len(piece)
+        has_reader = has_reader and is_written(pipe, piece)
+    pipe.close()
+    return size, digest.hexdigest()
+
+
+def digest_of(source: int) -> tuple[int, str]:
+    """The number and the digest of a file's bytes."""
+    os.lseek(source, 0, os.SEEK_SET)
+    digest, size = hashlib.sha256(), 0
+    while piece := os.read(source, PIECE):
+        digest.update(piece)
+        size += len(piece)
+    return size, digest.hexdigest()
+
+
+def is_written(pipe: IO[bytes], piece: bytes) -> bool:
+    rest = memoryview(piece)
+    try:
+        while rest:
+            rest = rest[pipe.write(rest):]
+    except BrokenPipeError:
+        return False
+    return True
+
+
+def last_line(said: IO[bytes]) -> str:
+    """The last line of a file that is not empty, in printable characters."""
+    said.seek(max(said.seek(0, os.SEEK_END) - MOST_SAID, 0))
+    lines = [line for line in said.read().decode(errors="replace").splitlines() if line.strip()]
+    return "".join(sign if sign.isprintable() else "?" for sign in lines[-1]) if lines else ""
+
+
+def report_of(output: IO[bytes]) -> Report:
+    digest, packer, size, packed = hashlib.sha256(), zlib.compressobj(1), 0, []
+    output.seek(0)
+    while piece := output.read(PIECE):
+        digest.update(piece)
+        size += len(piece)
+        packed.append(packer.compress(piece))
+    packed.append(packer.flush())
+    return Report(b"".join(packed), digest.hexdigest(), size)

@@ -1,0 +1,211 @@
+-- The database of h2audit-fleet. docs/FLEET.md says what each column means.
+PRAGMA application_id = 1748123206;
+PRAGMA user_version = 1;
+
+CREATE TABLE captures (
+    id INTEGER PRIMARY KEY,
+    path TEXT NOT NULL UNIQUE,
+    size INTEGER,
+    modified INTEGER,
+    sha256 TEXT,
+    outcome TEXT NOT NULL CHECK (outcome IN ('audited', 'partial', 'refused', 'failed')),
+    status INTEGER,
+    reason TEXT,
+    program TEXT,
+    version TEXT NOT NULL,
+    options TEXT NOT NULL,
+    tries INTEGER NOT NULL,
+    seconds REAL,
+    worker TEXT,
+    entered TEXT NOT NULL,
+    report_sha256 TEXT,
+    report_bytes INTEGER,
+    records INTEGER,
+    segments INTEGER,
+    snapped INTEGER,
+    not_ipv4 INTEGER,
+    fragments INTEGER,
+    not_tcp INTEGER,
+    refused INTEGER
+);
+
+CREATE TABLE passed_over (
+    capture INTEGER NOT NULL REFERENCES captures (id),
+    record INTEGER NOT NULL,
+    reason TEXT NOT NULL,
+    PRIMARY KEY (capture, record)
+) WITHOUT ROWID;
+
+CREATE TABLE unopened (
+    capture INTEGER NOT NULL REFERENCES captures (id),
+    position INTEGER NOT NULL,
+    sender TEXT NOT NULL,
+    receiver TEXT NOT NULL,
+    segments INTEGER NOT NULL,
+    PRIMARY KEY (capture, position)
+) WITHOUT ROWID;
+
+CREATE TABLE connections (
+    capture INTEGER NOT NULL REFERENCES captures (id),
+    number INTEGER NOT NULL,
+    client TEXT NOT NULL,
+    server TEXT NOT NULL,
+    record INTEGER NOT NULL,
+    holds TEXT NOT NULL,
+    frames INTEGER,
+    client_bytes INTEGER,
+    client_gap INTEGER,
+    client_tail INTEGER,
+    server_bytes INTEGER,
+    server_gap INTEGER,
+    server_tail INTEGER,
+    stopped_at INTEGER,
+    PRIMARY KEY (capture, number)
+) WITHOUT ROWID;
+
+CREATE TABLE findings (
+    capture INTEGER NOT NULL,
+    connection INTEGER NOT NULL,
+    position INTEGER NOT NULL,
+    frame INTEGER NOT NULL,
+    record INTEGER NOT NULL,
+    time INTEGER NOT NULL,
+    side TEXT NOT NULL CHECK (side IN ('client', 'server')),
+    kind TEXT NOT NULL,
+    stream INTEGER NOT NULL,
+    value INTEGER NOT NULL,
+    broke TEXT NOT NULL CHECK (broke IN ('client', 'server', 'nobody')),
+    PRIMARY KEY (capture, connection, position),
+    FOREIGN KEY (capture, connection) REFERENCES connections (capture, number)
+) WITHOUT ROWID;
+
+CREATE TABLE stalls (
+    capture INTEGER NOT NULL,
+    connection INTEGER NOT NULL,
+    position INTEGER NOT NULL,
+    side TEXT NOT NULL CHECK (side IN ('client', 'server')),
+    stream INTEGER NOT NULL,
+    first INTEGER NOT NULL,
+    last INTEGER,
+    nanos INTEGER,
+    ask TEXT NOT NULL CHECK (ask IN ('client', 'server')),
+    PRIMARY KEY (capture, connection, position),
+    FOREIGN KEY (capture, connection) REFERENCES connections (capture, number)
+) WITHOUT ROWID;
+
+CREATE TABLE kinds (
+    kind TEXT PRIMARY KEY,
+    broke TEXT NOT NULL CHECK (broke IN ('the named side', 'the other side', 'nobody'))
+) WITHOUT ROWID;
+
+CREATE INDEX captures_by_outcome ON captures (outcome, reason);
+CREATE INDEX connections_by_client ON connections (client);
+CREATE INDEX connections_by_server ON connections (server);
+CREATE INDEX faults_by_kind_and_side ON findings (kind, broke) WHERE broke <> 'nobody';
+CREATE INDEX stalls_by_nanos ON stalls (nanos);
+
+-- Each fault, with the endpoint of the side that broke the rule.
+CREATE VIEW faults AS
+SELECT captures.path, findings.connection, findings.frame, findings.record, findings.time, findings.kind, findings.stream,
+       findings.value, findings.broke,
+       CASE findings.broke WHEN 'client' THEN connections.client ELSE connections.server END AS endpoint
+FROM findings
+JOIN captures ON captures.id = findings.capture
+JOIN connections ON connections.capture = findings.capture AND connections.number = findings.connection
+WHERE findings.broke <> 'nobody';
+
+-- How many faults of each kind each side has, in how many connections and captures.
+CREATE VIEW faults_by_kind AS
+SELECT kind, broke, COUNT(*) AS faults, COUNT(DISTINCT capture || ' ' || connection) AS connections,
+       COUNT(DISTINCT capture) AS captures
+FROM findings
+WHERE broke <> 'nobody'
+GROUP BY kind, broke;
+
+-- How many faults each endpoint has; of a client its address, since its ports differ.
+CREATE VIEW faults_by_peer AS
+SELECT CASE broke WHEN 'client' THEN rtrim(rtrim(endpoint, '0123456789'), ':') ELSE endpoint END AS peer, broke AS role, kind,
+       COUNT(*) AS faults, COUNT(DISTINCT path) AS captures
+FROM faults
+GROUP BY peer, role, kind;
+
+-- The stalls that ended, the longest first: who waited, and whom to ask.
+CREATE VIEW longest_stalls AS
+SELECT captures.path, stalls.connection, stalls.side AS waited, stalls.stream, stalls.first, stalls.last, stalls.nanos,
+       stalls.nanos / 1e6 AS milliseconds, stalls.ask,
+       CASE stalls.ask WHEN 'client' THEN connections.client ELSE connections.server END AS endpoint
+FROM stalls
+JOIN captures ON captures.id = stalls.capture
+JOIN connections ON connections.capture = stalls.capture AND connections.number = stalls.connection
+WHERE stalls.nanos IS NOT NULL
+ORDER BY stalls.nanos DESC;
+
+-- The stalls that did not end.
+CREATE VIEW open_stalls AS
+SELECT captures.path, stalls.connection, stalls.side AS waited, stalls.stream, stalls.first, stalls.ask,
+       CASE stalls.ask WHEN 'client' THEN connections.client ELSE connections.server END AS endpoint
+FROM stalls
+JOIN captures ON captures.id = stalls.capture
+JOIN connections ON connections.capture = stalls.capture AND connections.number = stalls.connection
+WHERE stalls.last IS NULL;
+
+-- Of each peer that granted nothing, how often and how long others waited for it; of a client its address.
+CREATE VIEW stalls_by_peer AS
+SELECT CASE stalls.ask WHEN 'client' THEN rtrim(rtrim(connections.client, '0123456789'), ':') ELSE connections.server END AS peer,
+       stalls.ask AS role, COUNT(*) AS stalls, SUM(stalls.last IS NULL) AS open, MAX(stalls.nanos) / 1e6 AS longest_milliseconds,
+       TOTAL(stalls.nanos) / 1e6 AS total_milliseconds, COUNT(DISTINCT stalls.capture) AS captures
+FROM stalls
+JOIN connections ON connections.capture = stalls.capture AND connections.number = stalls.connection
+GROUP BY peer, role;
+
+-- How long each window stood still.
+CREATE VIEW still_windows AS
+SELECT captures.path, stalls.connection, stalls.side AS waited, stalls.stream, COUNT(*) AS stalls,
+       SUM(stalls.nanos) / 1e6 AS milliseconds
+FROM stalls
+JOIN captures ON captures.id = stalls.capture
+WHERE stalls.nanos IS NOT NULL
+GROUP BY stalls.capture, stalls.connection, stalls.side, stalls.stream;
+
+-- What was not audited: whole captures, connections, and segments whose connection began before the capture.
+CREATE VIEW not_audited AS
+SELECT path, 'capture' AS what, NULL AS sender, NULL AS receiver, outcome || ': ' || reason AS reason
+FROM captures
+WHERE outcome <> 'audited'
+UNION ALL
+SELECT captures.path, 'connection ' || connections.number, connections.client, connections.server, connections.holds
+FROM connections
+JOIN captures ON captures.id = connections.capture
+WHERE connections.holds <> 'http2'
+UNION ALL
+SELECT captures.path, 'segments ' || unopened.segments, unopened.sender, unopened.receiver, 'unopened'
+FROM unopened
+JOIN captures ON captures.id = unopened.capture;
+
+-- The flows in which the capture lost bytes: their findings are to be read with care.
+CREATE VIEW lost_bytes AS
+SELECT captures.path, connections.number AS connection, 'client' AS side, connections.client_gap AS gap
+FROM connections
+JOIN captures ON captures.id = connections.capture
+WHERE connections.client_gap IS NOT NULL
+UNION ALL
+SELECT captures.path, connections.number, 'server', connections.server_gap
+FROM connections
+JOIN captures ON captures.id = connections.capture
+WHERE connections.server_gap IS NOT NULL;
+
+-- Of each capture what a CI job asks: is there a fault, and was there anything to audit.
+CREATE VIEW verdicts AS
+SELECT captures.path,
+       CASE
+           WHEN captures.outcome IN ('refused', 'failed') THEN captures.outcome
+           WHEN captures.status = 1 THEN 'faults'
+           WHEN http2.connections IS NULL THEN 'no HTTP/2 connection'
+           ELSE 'clean'
+       END AS verdict,
+       COALESCE(http2.connections, 0) AS http2_connections,
+       (SELECT COUNT(*) FROM findings WHERE findings.capture = captures.id AND findings.broke <> 'nobody') AS faults,
+       (SELECT COUNT(*) FROM stalls WHERE stalls.capture = captures.id) AS stalls
+FROM captures
+LEFT JOIN (SELECT capture, COUNT(*) AS connections FROM connections WHERE holds = 'http2' GROUP BY capture) AS http2
+    ON http2.capture = captures.id;

@@ -1,0 +1,148 @@
+"""What tests of h2audit-fleet stand on: captures with what h2audit answers, a folder of programs, and a run of h2audit-fleet.
+
+The answers were written by hand: those of tests/reports and of examples/. With a program more captures are generated, and the
+answers are those of the program alone.
+"""
+
+import hashlib
+import json
+import os
+import pathlib
+import sqlite3
+import subprocess
+import sys
+import tempfile
+from dataclasses import dataclass, field
+
+TOP = pathlib.Path(__file__).resolve().parents[2]
+sys.path[:0] = [str(TOP / "tests"), str(TOP / "bench")]
+
+import captures as scripts  # noqa: E402
+import generate  # noqa: E402
+import reports_test  # noqa: E402
+
+FLEET = TOP / "tools" / "h2audit-fleet"
+# The first word of a test may name h2audit.
+PROGRAM = str(pathlib.Path(sys.argv.pop(1)).resolve()) if len(sys.argv) > 1 and os.access(sys.argv[1], os.X_OK) else None
+STAND_IN = TOP / "tools" / "tests" / "fleet_stand_in"
+
+
+@dataclass(frozen=True)
+class Sample:
+    """A capture with the status, the words on standard error and the report that h2audit answers."""
+
+    name: str
+    capture: bytes
+    status: int
+    error: str
+    report: str
+
+    @property
+    def digest(self) -> str:
+        return hashlib.sha256(self.capture).hexdigest()
+
+
+def answer_of(text: str) -> tuple[int, str, str]:
+    """The parts of an answer that begins with its status, as tests/reports has them."""
+    status, _, said = text.partition("\n")
+    error = "".join(line for line in said.splitlines(True) if line.startswith("h2audit: "))
+    return int(status.removeprefix("status ")), error, said.removeprefix(error)
+
+
+def by_hand() -> list[Sample]:
+    found = []
+    for name, text in reports_test.rows():
+        script, _, wanted = text.partition("-- ")
+        lines = reports_test.lines_of(wanted.removeprefix("findings "), False)
+        found.append(Sample(name.replace("/", "_"), scripts.capture_of(script), *answer_of(lines)))
+    for capture in sorted(reports_test.EXAMPLES.glob("*.pcap")):
+        status = int(capture.stem in reports_test.FAULTY)
+        found.append(Sample(capture.stem, capture.read_bytes(), status, "", capture.with_suffix(".report").read_text()))
+    return found
+
+
+def generated(program: str, number: int) -> list[Sample]:
+    """So many captures of all shapes, the answers by the program alone."""
+    found = []
+    shapes = [*generate.USUAL, *generate.HOSTILE, *generate.QUADRATIC]
+    with tempfile.TemporaryDirectory() as folder:
+        for place in range(number):
+            shape, size = shapes[place % len(shapes)], 20000 + 3000 * place
+            path = pathlib.Path(folder, "capture")
+            with open(path, "wb") as file:
+                generate.SHAPES[shape.__name__](generate.Capture(file), size)
+            ran = subprocess.run([program, "--workers", "1", path], capture_output=True, text=True)
+            found.append(Sample(f"{shape.__name__}_{place}", path.read_bytes(), ran.returncode, ran.stderr, ran.stdout))
+    return found
+
+
+@dataclass
+class Machine:
+    """A folder with captures, a folder of programs, and orders for the one that stands in for h2audit."""
+
+    samples: list[Sample]
+    program: str | None
+    folder: pathlib.Path = field(init=False)
+    acts: dict[str, list] = field(default_factory=dict)
+
+    def __enter__(self) -> "Machine":
+        self.held = tempfile.TemporaryDirectory()
+        self.folder = pathlib.Path(self.held.name)
+        for name in ("bin", "captures", "notes", "temporary"):
+            (self.folder / name).mkdir()
+        (self.bin / "h2audit").symlink_to(STAND_IN)
+        for sample in self.samples:
+            (self.captures / f"{sample.name}.pcap").write_bytes(sample.capture)
+        return self
+
+    def __exit__(self, *_: object) -> None:
+        self.held.cleanup()
+
+    @property
+    def bin(self) -> pathlib.Path:
+        return self.folder / "bin"
+
+    @property
+    def captures(self) -> pathlib.Path:
+        return self.folder / "captures"
+
+    @property
+    def database(self) -> pathlib.Path:
+        return self.folder / "audits.sqlite"
+
+    @property
+    def surroundings(self) -> dict[str, str]:
+        return {**os.environ, "PATH": f"{self.bin}:/usr/bin:/bin", "FLEET_ORDERS": str(self.folder / "orders.json"),
+                "TMPDIR": str(self.folder / "temporary")}
+
+    def write_orders(self) -> None:
+        orders = {"program": self.program, "notes": str(self.folder / "notes"), "acts": self.acts,
+                  "answers": {sample.digest: [sample.status, sample.error, sample.report] for sample in self.samples}}
+        (self.folder / "orders.json").write_text(json.dumps(orders))
+
+    def start(self, *words: object, before: tuple[str, ...] = (), **more: object) -> subprocess.Popen:
+        self.write_orders()
+        return subprocess.Popen(
+            [*before, FLEET, "--db", self.database, *map(os.fspath, words)], env=self.surroundings, cwd=self.folder,
+            stdout=subprocess.PIPE, stderr=subprocess.PIPE, stdin=subprocess.DEVNULL, text=True, **more)
+
+    def run(self, *words: object, before: tuple[str, ...] = ()) -> tuple[int, str, str]:
+        """Status, standard output and standard error of h2audit-fleet."""
+        child = self.start(*words, before=before)
+        said, error = child.communicate(timeout=120)
+        return child.returncode, said, error
+
+    def ask(self, question: str, *values: object) -> list[tuple]:
+        base = sqlite3.connect(self.database)
+        try:
+            return base.execute(question, values).fetchall()
+        finally:
+            base.close()
+
+    def notes(self) -> dict[str, list[int]]:
+        """The workers' processes of the runs so far, by the digest of the capture."""
+        found: dict[str, list[int]] = {}
+        for note in (self.folder / "notes").iterdir():
+            if not note.name.startswith("."):
+                found.setdefault(note.read_text(), []).append(int(note.name.partition(".")[0]))
+        return found

@@ -1,0 +1,114 @@
+#!/usr/bin/python3
+"""Tests of the way without daemons: fleet_collect_test.py [PROGRAM]
+
+The commands are those of docs/FLEET.md, run by bash and GNU parallel. With PROGRAM the captures go through h2audit-any;
+without, a program that stands in for it answers what was written by hand.
+"""
+
+import os
+import re
+import subprocess
+import unittest
+
+from fleet_captures import PROGRAM, STAND_IN, TOP, Machine, by_hand
+from fleet_test import names, rows_by_hand
+
+
+BLOCK = re.compile(r"^```\n(.*?)^```$", re.M | re.S)
+EXAMPLES = ("stream_overrun_go", "use_after_reset", "connection_overflow_nginx", "lost_segment", "stream_stalls_nghttpd")
+
+
+def block(word: str) -> str:
+    """The commands of the document that hold this word."""
+    return next(found[1] for found in BLOCK.finditer((TOP / "docs" / "FLEET.md").read_text()) if word in found[1])
+
+
+class Collected(unittest.TestCase):
+    def setUp(self) -> None:
+        self.machine = Machine([sample for sample in by_hand() if sample.name in EXAMPLES], None)
+        self.machine.__enter__()
+        self.addCleanup(self.machine.__exit__)
+        if PROGRAM:
+            (self.machine.bin / "h2audit").unlink()
+            (self.machine.bin / "h2audit").symlink_to(PROGRAM)
+        (self.machine.bin / "h2audit-any").symlink_to(TOP / "tools" / "h2audit-any" if PROGRAM else STAND_IN)
+        (self.machine.bin / "h2audit-fleet").symlink_to(TOP / "tools" / "h2audit-fleet")
+        first = self.machine.samples[0]
+        (self.machine.captures / f"{first.name}.pcap").rename(self.machine.captures / "a\n'b $(c).pcap")
+        self.jobs = self.machine.folder / "jobs"
+
+    def bash(self, commands: str, **more: str) -> subprocess.CompletedProcess:
+        self.machine.write_orders()
+        surroundings = {**self.machine.surroundings, "HOME": str(self.machine.folder), **more}
+        return subprocess.run(["bash", "-c", commands], cwd=self.machine.folder, env=surroundings, capture_output=True, text=True,
+                              timeout=120)
+
+    def name_of(self, place: int) -> str:
+        name = "a\n'b $(c).pcap" if place == 0 else f"{self.machine.samples[place].name}.pcap"
+        return names.word_of(os.fsencode(self.machine.captures / name))
+
+    def check(self, place: int) -> None:
+        """All rows of a capture are those that its report says."""
+        sample = self.machine.samples[place]
+        row = self.machine.ask("SELECT id, size, sha256, outcome, status FROM captures WHERE path = ?", self.name_of(place))
+        self.assertEqual([one[1:] for one in row], [(len(sample.capture), sample.digest, "audited", sample.status)])
+        for table, rows in rows_by_hand(sample.report).items():
+            found = self.machine.ask(f"SELECT * FROM {table} WHERE capture = ?", row[0][0])
+            self.assertEqual([one[1:] for one in found], rows, f"{sample.name}: {table}")
+
+    def test_parallel(self) -> None:
+        """GNU parallel, and then the same tables; what is changed and audited anew is collected anew."""
+        commands = block("h2audit_job()") + block("export -f").replace("--db audits.sqlite", f"--db {self.machine.database}")
+        ran = self.bash(commands)
+        self.assertEqual((ran.returncode, ran.stdout), (1, "5 captures: 3 with faults, 0 refused, 0 failed\n"), ran.stderr)
+        for place in range(5):
+            self.check(place)
+        again = self.machine.run("--collect", "jobs")
+        self.assertEqual((again[0], again[2].count("\n")), (4, 1))
+        self.assertEqual(self.machine.run("--collect", "jobs", "--resume")[:2], (1, ran.stdout))
+        self.check(0)
+
+    def test_array(self) -> None:
+        """Two tasks of an array of Slurm."""
+        self.jobs.mkdir()
+        listed = "find \"$PWD/captures\" -name '*.pcap' -print0 | sort -z > captures.list\n"
+        for task in ("1", "2"):
+            ran = self.bash(block("h2audit_job()") + listed + block("SBATCH"), SLURM_ARRAY_TASK_ID=task)
+            self.assertEqual((ran.returncode, ran.stdout, ran.stderr), (0, "", ""))
+        self.assertEqual(len(list(self.jobs.glob("*.status"))), 2)
+        self.assertEqual(self.machine.run("--collect", "jobs")[0], 1)
+        self.assertEqual(self.machine.ask("SELECT COUNT(*) FROM captures WHERE outcome = 'audited'"), [(2,)])
+
+    def job(self, name: str, status: str | None, report: bytes = b"", error: str = "") -> None:
+        self.jobs.mkdir(exist_ok=True)
+        (self.jobs / f"{name}.path").write_text(f"/captures/{name}.pcap")
+        (self.jobs / f"{name}.report").write_bytes(report)
+        (self.jobs / f"{name}.error").write_text(error)
+        if status is not None:
+            (self.jobs / f"{name}.status").write_text(status)
+
+    def test_misfortunes(self) -> None:
+        """Time that is up, signals, refusals, what is no report, and what did not come to its end."""
+        report = self.machine.samples[0].report.encode()
+        self.job("late", "124 3600\n")
+        self.job("killed", "137 3\n")
+        self.job("poor", "5 3\n", error="h2audit-any: out of memory\n")
+        self.job("odd", "3 1\n", error="h2audit-any: capture refused: link-type 105\n")
+        self.job("torn", "1 1\n", report[:-20])
+        self.job("huge", "1 1\n", report.replace(b" stream 1 ", b" stream 99999999999999999999 "))
+        self.job("empty", "0 1\n")
+        self.job("unended", None)
+        self.job("unread", "no status\n")
+        status, said, error = self.machine.run("--collect", "jobs")
+        self.assertEqual((status, said, error), (3, "7 captures: 0 with faults, 1 refused, 6 failed; 2 did not come to their end\n", ""))
+        found = dict(self.machine.ask("SELECT replace(replace(path, '/captures/', ''), '.pcap', ''), outcome || ' ' || reason FROM captures"))
+        self.assertRegex(found.pop("torn"), r"^failed bad-report: line \d+ is no line of a report$")
+        self.assertEqual(found, {
+            "late": "failed timeout", "killed": "failed signal 9", "poor": "failed out-of-memory", "odd": "refused link-type 105",
+            "huge": "failed bad-report: a number of the report is too large", "empty": "failed bad-report: not a report of h2audit"})
+        for table in ("connections", "findings", "stalls", "unopened", "passed_over"):
+            self.assertEqual(self.machine.ask(f"SELECT * FROM {table}"), [])
+
+
+if __name__ == "__main__":
+    unittest.main()

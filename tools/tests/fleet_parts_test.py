@@ -1,0 +1,168 @@
+#!/usr/bin/python3
+"""Tests of captures that are imported and of large ones that are split, in h2audit-fleet and h2audit-any: fleet_parts_test.py PROGRAM
+
+What is wanted is the report of PROGRAM for the whole, and what was written by hand. h2audit-split is the one that is built; where none
+is, a program stands in for it.
+"""
+
+import gzip
+import hashlib
+import os
+import pathlib
+import struct
+import subprocess
+import unittest
+
+from fleet_captures import PROGRAM, TOP, Machine, by_hand, generate, scripts
+from fleet_test import tasks
+
+SPLIT = TOP / "crates" / "h2audit_split" / "out" / "h2audit_split"
+STAND_IN = TOP / "tools" / "tests" / "split_stand_in"
+MERGE = TOP / "tools" / "h2audit-merge"
+
+
+def over_ipv6(script: str) -> bytes:
+    """The capture that a script spells, its segments in packets of IPv6 from 2001:db8::1 and 2001:db8::2."""
+    capture, found, at = scripts.capture_of(script), bytearray(scripts.FILE_HEADER), 24
+    while at < len(capture):
+        seconds, moment, length, _ = struct.unpack_from("<IIII", capture, at)
+        packet = capture[at + 16:at + 16 + length]
+        ends = [bytes.fromhex("20010db8") + bytes(11) + address[3:] for address in (packet[26:30], packet[30:34])]
+        whole = bytes(12) + b"\x86\xdd" + struct.pack(">IHBB", 6 << 28, length - 34, 6, 64) + ends[0] + ends[1] + packet[34:]
+        found += struct.pack("<IIII", seconds, moment, len(whole), len(whole)) + whole
+        at += 16 + length
+    return bytes(found)
+
+
+@unittest.skipUnless(PROGRAM, "imports and parts: h2audit is not built")
+class Beside(unittest.TestCase):
+    """A machine with all programs, and a capture of many connections that is large enough to be split."""
+
+    def setUp(self) -> None:
+        self.machine = Machine([], None)
+        self.machine.__enter__()
+        self.addCleanup(self.machine.__exit__)
+        (self.machine.bin / "h2audit").unlink()
+        programs = {"h2audit": PROGRAM, "h2audit-any": TOP / "tools" / "h2audit-any", "h2audit-merge": MERGE,
+                    "h2audit-split": SPLIT if SPLIT.exists() else STAND_IN}
+        for name, program in programs.items():
+            (self.machine.bin / name).symlink_to(program)
+
+    def large(self) -> pathlib.Path:
+        path = self.machine.captures / "large.pcap"
+        with open(path, "wb") as file:
+            capture = generate.Capture(file)
+            generate.connections(capture, 1200000)
+            generate.strays(capture, 1300000)
+            capture.record(b"no segment at all")
+            generate.early(capture, 1500000)
+            file.write(b"cut")
+        return path
+
+    def report_of(self, *words: object) -> subprocess.CompletedProcess:
+        return subprocess.run([PROGRAM, *words], capture_output=True)
+
+    def any(self, *words: object, **more: str) -> subprocess.CompletedProcess:
+        return subprocess.run([TOP / "tools" / "h2audit-any", "--h2audit", PROGRAM, *words], capture_output=True, timeout=120,
+                              env={**self.machine.surroundings, **more})
+
+
+class Imports(Beside):
+    def test_each_form(self) -> None:
+        """pcapng, gzip, and IPv6 that h2audit passes over: each has the rows of the report that was written by hand."""
+        wanted = {sample.name: sample for sample in by_hand()}
+        plain = wanted["stream_overrun_go"]
+        stem = TOP / "examples" / "stream_overrun_go.pcap"
+        subprocess.run(["editcap", "-F", "pcapng", stem, self.machine.captures / "a.pcapng"], check=True)
+        (self.machine.captures / "a.pcap.gz").write_bytes(gzip.compress(plain.capture))
+        (self.machine.captures / "six.pcap").write_bytes(over_ipv6((TOP / "examples" / "use_after_reset.script").read_text()))
+        status, said, error = self.machine.run("--jobs", "2", "--reports", "reports", "captures")
+        self.assertEqual((status, said, error), (1, "3 captures: 3 with faults, 0 refused, 0 failed\n", ""))
+        six = wanted["use_after_reset"].report.replace("10.0.0.1:", "[2001:db8::1]:").replace("10.0.0.2:", "[2001:db8::2]:")
+        rows = self.machine.ask("SELECT path, program, outcome, report_sha256 FROM captures")
+        for path, program, outcome, digest in rows:
+            report = six if path.endswith("six.pcap") else plain.report
+            self.assertEqual((program, outcome), ("h2audit-any", "audited"))
+            self.assertEqual((self.machine.folder / "reports" / f"{digest}.report").read_text(), report, path)
+        peers = self.machine.ask("SELECT DISTINCT endpoint FROM faults WHERE path LIKE '%six.pcap' ORDER BY 1")
+        self.assertEqual(peers, [("[2001:db8::1]:40000",), ("[2001:db8::2]:80",)])
+        self.assertEqual(self.machine.ask("SELECT peer FROM faults_by_peer WHERE peer LIKE '[%' ORDER BY 1"),
+                         [("[2001:db8::1]",), ("[2001:db8::2]:80",)])
+
+    def test_no_import(self) -> None:
+        (self.machine.captures / "a.pcapng").write_bytes(bytes.fromhex("0a0d0d0a") + bytes(40))
+        (self.machine.bin / "h2audit-any").unlink()
+        self.assertEqual(self.machine.run("--jobs", "1", "captures")[0], 3)
+        self.assertEqual(self.machine.ask("SELECT outcome, reason FROM captures"), [("failed", "no-program h2audit-any")])
+        self.assertEqual(self.machine.run("--jobs", "1", "--resume", "--import", "never", "captures")[0], 3)
+        self.assertEqual(self.machine.ask("SELECT outcome, reason FROM captures"), [("refused", "bad-magic")])
+
+
+class Parts(Beside):
+    def test_any(self) -> None:
+        """h2audit-any --parts prints the report of the whole, byte for byte, with credit lines too."""
+        large = self.large()
+        for capture, words in ((large, ()), *((path, ("--frames",)) for path in sorted((TOP / "examples").glob("*.pcap"))[:4])):
+            wanted = self.report_of(*words, capture)
+            found = self.any("--parts", "3", *words, capture)
+            self.assertEqual((found.returncode, found.stderr), (wanted.returncode, b""))
+            self.assertEqual(found.stdout, wanted.stdout, capture)
+        self.assertEqual(list((self.machine.folder / "temporary").iterdir()), [])
+
+    def test_fleet(self) -> None:
+        """A large capture is split, its parts are audited by several workers, and its row is that of the whole."""
+        large = self.large()
+        wanted = self.report_of(large)
+        status, said, error = self.machine.run("--jobs", "2", "--split-above", "1", "captures")
+        self.assertEqual((status, error), (wanted.returncode, ""), said)
+        row = self.machine.ask("SELECT program, outcome, reason, status, sha256, report_sha256, report_bytes FROM captures")
+        digests = [hashlib.sha256(text).hexdigest() for text in (large.read_bytes(), wanted.stdout)]
+        self.assertEqual(row, [("h2audit-merge", "audited", None, wanted.returncode, *digests, len(wanted.stdout))])
+        self.assertEqual(list((self.machine.folder / "temporary").iterdir()), [])
+
+    def test_one_worker(self) -> None:
+        """Where workers share no folder, one of them splits, audits and merges."""
+        large = self.large()
+        path = os.environ["PATH"]
+        self.addCleanup(os.environ.__setitem__, "PATH", path)
+        os.environ["PATH"] = f"{self.machine.bin}:/usr/bin:/bin"
+        answer = tasks.in_parts(os.fsencode(large), 3, {"keys": [], "imports": "auto", "timeout": 60.0})
+        self.assertEqual((answer["outcome"], answer["report_sha256"]),
+                         ("audited", hashlib.sha256(self.report_of(large).stdout).hexdigest()))
+
+    def test_too_large(self) -> None:
+        """A part that would be too large is named, and the other parts stand."""
+        (self.machine.bin / "h2audit-split").unlink()
+        (self.machine.bin / "h2audit-split").symlink_to(STAND_IN)
+        large = self.large()
+        os.environ["FLEET_MOST"] = "450000"
+        self.addCleanup(os.environ.pop, "FLEET_MOST")
+        self.assertEqual(self.machine.run("--jobs", "2", "--split-above", "1", "captures")[0], 3)
+        outcome, reason, status = self.machine.ask("SELECT outcome, reason, status FROM captures")[0]
+        self.assertEqual(outcome, "partial")
+        self.assertRegex(reason, r"^connection-too-large \S+:\d+ \S+:\d+")
+        self.assertGreater(self.machine.ask("SELECT COUNT(*) FROM connections")[0][0], 0)
+        found = self.any("--parts", "3", large, FLEET_MOST="450000")
+        self.assertEqual(found.returncode, 3)
+        self.assertRegex(found.stderr.decode(), r"^h2audit-any: part \d refused: connection-too-large \S+ \S+\n")
+        self.assertTrue(found.stdout.startswith(b"capture records "))
+
+    def test_misfortunes(self) -> None:
+        """A part that runs out of memory, a splitter that fails: the capture is entered as failed, and nothing is left."""
+        self.large()
+        (self.machine.bin / "h2audit").unlink()
+        (self.machine.bin / "h2audit").write_text(
+            f"#!/bin/sh\ncase $* in *part-002*) exit 5 ;; esac\nexec {PROGRAM} \"$@\"\n")
+        (self.machine.bin / "h2audit").chmod(0o755)
+        self.assertEqual(self.machine.run("--jobs", "2", "--retries", "1", "--split-above", "1", "captures")[0], 3)
+        self.assertEqual(self.machine.ask("SELECT outcome, reason, tries FROM captures"), [("failed", "part 2: out-of-memory", 2)])
+        (self.machine.bin / "h2audit-split").unlink()
+        (self.machine.bin / "h2audit-split").write_text("#!/bin/sh\necho 'h2audit-split: write failed' >&2; exit 4\n")
+        (self.machine.bin / "h2audit-split").chmod(0o755)
+        self.assertEqual(self.machine.run("--jobs", "2", "--retries", "0", "--resume", "--split-above", "1", "captures")[0], 3)
+        self.assertEqual(self.machine.ask("SELECT outcome, reason, tries FROM captures"), [("failed", "read-failed", 1)])
+        self.assertEqual(list((self.machine.folder / "temporary").iterdir()), [])
+
+
+if __name__ == "__main__":
+    unittest.main()

@@ -1,0 +1,371 @@
+#!/usr/bin/python3
+"""Tests of h2audit-fleet on the workers of this machine: fleet_test.py [PROGRAM]
+
+What a capture's rows should be is taken from answers that were written by hand, as tests/reports and examples/ have them. With
+PROGRAM more captures are generated, and their answers are those of PROGRAM alone.
+"""
+
+import hashlib
+import http.client
+import os
+import re
+import shutil
+import signal
+import sqlite3
+import subprocess
+import sys
+import time
+import unittest
+import urllib.request
+
+from fleet_captures import PROGRAM, TOP, Machine, Sample, by_hand, generated
+
+sys.path.insert(0, str(TOP / "tools"))
+
+from fleet import names, tasks  # noqa: E402
+
+CAPTURES = 200
+OTHER = {"client": "server", "server": "client"}
+OVERFLOWS = ("connection-overflow", "stream-overflow", "setting-overflow")
+
+
+def sorted_samples() -> list[Sample]:
+    """200 captures, none twice: those that were written by hand, and either generated ones or the former with a cut record."""
+    hand = list({sample.digest: sample for sample in by_hand()}.values())
+    more = generated(PROGRAM, CAPTURES - len(hand)) if PROGRAM else cut_ones(hand)
+    return [*hand, *more][:CAPTURES]
+
+
+def cut_ones(samples: list[Sample]) -> list[Sample]:
+    """Captures with one to three bytes of a record more: the report has one line more, and it says which record was cut."""
+    found = []
+    for sample in samples:
+        first, _, rest = sample.report.partition("\n")
+        if not first or " cut\n" in rest:
+            continue
+        passed = [line for line in rest.splitlines(True) if line.startswith("record ")]
+        others = [line for line in rest.splitlines(True) if not line.startswith("record ")]
+        cut = f"record {int(first.split()[2]) + 1} cut\n"
+        report = "".join([first + "\n", *passed, cut, *others])
+        found += [Sample(f"{sample.name}_cut_{number}", sample.capture + bytes(number), sample.status, "", report) for number in (1, 2, 3)]
+    return found
+
+
+def rows_by_hand(report: str) -> dict[str, list[tuple]]:
+    """The rows that a report should make, by its words and their numbers."""
+    rows: dict[str, list[tuple]] = {name: [] for name in ("connections", "findings", "stalls", "unopened", "passed_over")}
+    for words in map(str.split, report.splitlines()[1:]):
+        match words:
+            case ["record", record, *reason]:
+                rows["passed_over"].append((int(record), " ".join(reason)))
+            case ["unopened", sender, receiver, _, segments]:
+                rows["unopened"].append((len(rows["unopened"]) + 1, sender, receiver, int(segments)))
+            case ["connection", number, _, client, _, server, _, record, holds, *frames]:
+                position = 0
+                rows["connections"].append([int(number), client, server, int(record), holds, int(frames[1]) if frames else None])
+            case ["flow", _, _, size, _, gap, _, tail]:
+                rows["connections"][-1] += [int(size), None if gap == "none" else int(gap), int(tail)]
+            case ["frame", frame, _, record, _, moment, side, kind, _, stream, _, value]:
+                position += 1
+                broke = "nobody" if "-stall-" in kind else OTHER[side] if kind in OVERFLOWS else side
+                rows["findings"].append((rows["connections"][-1][0], position, int(frame), int(record), int(moment), side, kind,
+                                         int(stream), int(value), broke))
+            case ["stall", side, _, stream, _, first, *end]:
+                position += 1
+                last, nanos = (None, None) if end == ["open"] else (int(end[1]), int(end[3]))
+                rows["stalls"].append((rows["connections"][-1][0], position, side, int(stream), int(first), last, nanos, OTHER[side]))
+            case ["audit", *how]:
+                rows["connections"][-1].append(int(how[-1]) if how[0] == "stopped" else None)
+    rows["connections"] = [tuple([*row, None][:13]) for row in rows["connections"]]
+    return rows
+
+
+class Tables(unittest.TestCase):
+    """200 captures over four workers of this machine: each row is what h2audit alone answers."""
+
+    @classmethod
+    def setUpClass(cls) -> None:
+        cls.samples = sorted_samples()
+        cls.machine = Machine(cls.samples, PROGRAM).__enter__()
+        cls.addClassCleanup(cls.machine.__exit__)
+        cls.answer = cls.machine.run("--jobs", "4", "--import", "never", "--reports", "reports", "captures")
+
+    def rows_of(self, sample: Sample, table: str) -> list[tuple]:
+        path = names.word_of(os.fsencode(self.machine.captures / f"{sample.name}.pcap"))
+        rows = self.machine.ask(f"SELECT {table}.* FROM {table} JOIN captures ON id = capture WHERE path = ?", path)
+        return [row[1:] for row in rows]
+
+    def test_all_stand(self) -> None:
+        self.assertEqual(len(self.samples), CAPTURES)
+        refused = sum(sample.status == 3 for sample in self.samples)
+        faults = sum(sample.status == 1 for sample in self.samples)
+        self.assertEqual(self.answer, (3, f"200 captures: {faults} with faults, {refused} refused, 0 failed\n", ""))
+
+    def test_captures(self) -> None:
+        for sample in self.samples:
+            path = names.word_of(os.fsencode(self.machine.captures / f"{sample.name}.pcap"))
+            row = self.machine.ask("SELECT size, sha256, outcome, status, reason, program, version, tries, report_sha256, report_bytes, "
+                                   "records, segments, snapped, not_ipv4, fragments, not_tcp, refused FROM captures WHERE path = ?", path)
+            is_refused = sample.status == 3
+            report = [None, None] if is_refused else [hashlib.sha256(sample.report.encode()).hexdigest(), len(sample.report)]
+            heads = [None] * 7 if is_refused else [int(word) for word in sample.report.splitlines()[0].split()[2::2]]
+            reason = sample.error.strip().rpartition(" ")[2] if is_refused else None
+            self.assertEqual(row, [(len(sample.capture), sample.digest, "refused" if is_refused else "audited", sample.status, reason,
+                                    "h2audit", "h2audit 1.0.0", 1, *report, *heads)], sample.name)
+
+    def test_rows(self) -> None:
+        for sample in self.samples:
+            for table, rows in rows_by_hand("" if sample.status == 3 else sample.report).items():
+                self.assertEqual(self.rows_of(sample, table), rows, f"{sample.name}: {table}")
+
+    def test_reports(self) -> None:
+        kept = {path.name: path.read_bytes() for path in (self.machine.folder / "reports").iterdir()}
+        reports = [sample.report.encode() for sample in self.samples if sample.status != 3]
+        self.assertEqual(kept, {f"{hashlib.sha256(report).hexdigest()}.report": report for report in reports})
+
+    def test_whole(self) -> None:
+        """Each reference leads to a row, and no log or lock is left beside the database."""
+        self.assertEqual(self.machine.ask("PRAGMA foreign_key_check"), [])
+        self.assertEqual(self.machine.ask("PRAGMA integrity_check"), [("ok",)])
+        self.assertEqual([path.name for path in self.machine.folder.glob("audits.sqlite*")], ["audits.sqlite"])
+        self.assertEqual(list((self.machine.folder / "temporary").iterdir()), [])
+
+
+class Course(unittest.TestCase):
+    """What becomes of captures under misfortunes."""
+
+    def machine(self, number: int) -> Machine:
+        samples = list({sample.digest: sample for sample in by_hand() if sample.status < 2}.values())[:number]
+        machine = Machine(samples, None)
+        machine.__enter__()
+        self.addCleanup(machine.__exit__)
+        return machine
+
+    def outcomes(self, machine: Machine) -> dict[str, tuple]:
+        rows = machine.ask("SELECT sha256, path, outcome, reason, tries FROM captures")
+        digests = {f"{sample.name}.pcap": sample.digest for sample in machine.samples}
+        return {digests[os.path.basename(path)]: tuple(more) for _, path, *more in rows}
+
+    def test_killed_worker(self) -> None:
+        """A worker is killed by its own process number while it audits: the capture is audited by another, and none is missing."""
+        machine = self.machine(30)
+        slow = machine.samples[7]
+        machine.acts[slow.digest] = ["sleep", 3]
+        child = machine.start("--jobs", "4", "captures")
+        until(lambda: slow.digest in machine.notes())
+        os.kill(machine.notes()[slow.digest][0], signal.SIGKILL)
+        said, error = child.communicate(timeout=60)
+        self.assertEqual((child.returncode, error), (1, ""), said)
+        outcomes = self.outcomes(machine)
+        self.assertEqual(len(outcomes), 30)
+        self.assertEqual({outcome[:2] for outcome in outcomes.values()}, {("audited", None)})
+        self.assertEqual(outcomes[slow.digest][2], 2)
+        first, second = machine.notes()[slow.digest]
+        self.assertNotEqual(first, second)
+
+    def test_worker_killed_each_time(self) -> None:
+        """A capture whose worker is lost at each try is entered as such, and all others stand."""
+        machine = self.machine(12)
+        deadly = machine.samples[3]
+        machine.acts[deadly.digest] = ["kill", 100]
+        status, said, error = machine.run("--jobs", "2", "--retries", "1", "captures")
+        self.assertEqual((status, error), (3, ""))
+        self.assertIn(", 1 failed", said)
+        outcomes = self.outcomes(machine)
+        self.assertEqual(outcomes.pop(deadly.digest), ("failed", "worker-lost", 2))
+        self.assertEqual({outcome[:2] for outcome in outcomes.values()}, {("audited", None)})
+        self.assertEqual((len(outcomes), len(machine.notes()[deadly.digest])), (11, 2))
+
+    def test_memory_and_time(self) -> None:
+        """Status 5 and time that is up are tried again, and then entered; one that ends well at last is audited."""
+        machine = self.machine(8)
+        poor, late, lucky = machine.samples[:3]
+        machine.acts = {poor.digest: ["status", 5, 100], late.digest: ["sleep", 60], lucky.digest: ["status", 5, 2]}
+        status, _, error = machine.run("--jobs", "4", "--timeout", "2", "captures")
+        self.assertEqual((status, error), (3, ""))
+        outcomes = self.outcomes(machine)
+        self.assertEqual(outcomes.pop(poor.digest), ("failed", "out-of-memory", 3))
+        self.assertEqual(outcomes.pop(late.digest), ("failed", "timeout", 3))
+        self.assertEqual(outcomes.pop(lucky.digest), ("audited", None, 3))
+        self.assertEqual(set(outcomes.values()), {("audited", None, 1)})
+        self.assertEqual([len(machine.notes()[sample.digest]) for sample in (poor, late, lucky)], [3, 3, 3])
+        self.assertEqual(subprocess.run(["pgrep", "-f", str(machine.bin)], capture_output=True).stdout, b"")
+
+    def test_interrupted(self) -> None:
+        """Ctrl-C leaves whole captures, which --resume does not audit again."""
+        machine = self.machine(40)
+        machine.acts = {sample.digest: ["sleep", 0.5] for sample in machine.samples}
+        child = machine.start("--jobs", "2", "captures", start_new_session=True)
+        until(lambda: machine.database.exists() and count(machine) >= 5)
+        addresses = listening(child.pid)
+        self.assertTrue(addresses)
+        self.assertEqual({address.rpartition(":")[0] for address in addresses}, {"127.0.0.1"})
+        self.assertEqual([address for address in addresses if answers_http(address)], [])
+        os.killpg(child.pid, signal.SIGINT)
+        _, error = child.communicate(timeout=30)
+        self.assertEqual((child.returncode, error), (130, "h2audit-fleet: ended early: --resume goes on with the database\n"))
+        before = dict(machine.ask("SELECT path, entered FROM captures"))
+        self.assertTrue(5 <= len(before) < 40)
+        self.assertEqual(machine.ask("PRAGMA integrity_check"), [("ok",)])
+        self.assertEqual(list(machine.folder.glob("audits.sqlite-*")) + list((machine.folder / "temporary").iterdir()), [])
+        machine.acts = {}
+        status, said, error = machine.run("--jobs", "4", "--resume", "captures")
+        self.assertEqual((status, error), (1, ""))
+        self.assertIn(f"{40 - len(before)} captures: ", said)
+        self.assertIn(f"; {len(before)} were there\n", said)
+        after = dict(machine.ask("SELECT path, entered FROM captures"))
+        self.assertEqual((len(after), {path: after[path] for path in before}), (40, before))
+
+    def test_resumed(self) -> None:
+        """What failed, is new or has changed is audited, and nothing else; rows of what a capture was before are gone."""
+        machine = self.machine(12)
+        failed, changed, new, touched = machine.samples[:4]
+        machine.acts[failed.digest] = ["status", 5, 1]
+        other = next(sample for sample in by_hand() if sample.name == "stream_overrun_go")
+        new_name = machine.captures / f"{new.name}.pcap"
+        new_name.rename(machine.folder / "aside")
+        self.assertEqual(machine.run("--retries", "0", "--jobs", "2", "captures")[0], 3)
+        new_name.write_bytes(new.capture)
+        (machine.captures / f"{changed.name}.pcap").write_bytes(other.capture)
+        os.utime(machine.captures / f"{touched.name}.pcap", (1, 1))
+        shutil.rmtree(machine.folder / "notes")
+        (machine.folder / "notes").mkdir()
+        machine.samples.append(other)
+        self.assertEqual(machine.run("--resume", "--jobs", "2", "captures")[0], 1)
+        self.assertEqual(set(machine.notes()), {failed.digest, other.digest, new.digest, touched.digest})
+        rows = machine.ask("SELECT kind, value, broke, faults.record FROM faults WHERE path LIKE ?", f"%/{changed.name}.pcap")
+        self.assertEqual(rows, [("stream-overrun", -5000, "client", 12)])
+        self.assertEqual(machine.ask("PRAGMA foreign_key_check"), [])
+
+
+class Words(unittest.TestCase):
+    """Names, lists and refusals."""
+
+    def setUp(self) -> None:
+        self.machine = Machine([sample for sample in by_hand() if sample.name == "stream_overrun_go"], None)
+        self.machine.__enter__()
+        self.addCleanup(self.machine.__exit__)
+        self.capture = self.machine.samples[0].capture
+
+    def test_hostile_names(self) -> None:
+        """A name may hold any byte but 0, and each stands in one word of the database."""
+        hostile = [b"--help", b"-o a.pcap", b"a\nb.pcap", b"\xff\xfe.pcap", b"%41.pcap", "Köln.pcap".encode(), b" ", b"'; DROP TABLE"]
+        for name in hostile:
+            with open(os.path.join(os.fsencode(self.machine.captures), name), "wb") as file:
+                file.write(self.capture)
+        status, said, error = self.machine.run("--jobs", "2", "captures")
+        self.assertEqual((status, said, error), (1, "9 captures: 9 with faults, 0 refused, 0 failed\n", ""))
+        paths = [path for path, in self.machine.ask("SELECT path FROM captures WHERE outcome = 'audited'")]
+        self.assertEqual({os.path.basename(names.path_of(path)) for path in paths}, {b"stream_overrun_go.pcap", *hostile})
+        self.assertTrue(any(path.endswith("/a%0Ab.pcap") for path in paths))
+        self.assertTrue(all(path.isascii() and path.isprintable() and " " not in path for path in paths))
+
+    def test_named_and_listed(self) -> None:
+        """Lists of either kind, and a name that looks like an option; each capture stands once."""
+        odd = os.path.join(os.fsencode(self.machine.folder), b"-a\n.pcap")
+        with open(odd, "wb") as file:
+            file.write(self.capture)
+        listed = self.machine.folder / "listed"
+        listed.write_bytes(odd + b"\0" + os.fsencode(self.machine.captures) + b"\0")
+        (self.machine.folder / "lines").write_bytes(os.fsencode(self.machine.captures) + b"\n/not/there.pcap\n")
+        status, said, _ = self.machine.run("--jobs", "1", "--list", "listed", "--list", "lines", "captures")
+        self.assertEqual((status, said), (3, "3 captures: 2 with faults, 0 refused, 1 failed\n"))
+        failed = self.machine.ask("SELECT path, reason, tries FROM captures WHERE outcome = 'failed'")
+        self.assertEqual(failed, [("/not/there.pcap", "not-there", 1)])
+
+    def test_what_a_folder_holds(self) -> None:
+        """Captures are known by name or by first bytes; pipes and other files are passed over, links to folders not followed."""
+        (self.machine.captures / "unnamed").write_bytes(self.capture)
+        (self.machine.captures / "ring.pcap12").write_bytes(b"")
+        (self.machine.captures / "README").write_text("of no interest")
+        os.mkfifo(self.machine.captures / "pipe.pcap")
+        (self.machine.captures / "again").symlink_to(self.machine.captures)
+        self.machine.samples.append(next(sample for sample in by_hand() if sample.error.endswith("short-header\n")))
+        (self.machine.captures / "ring.pcap12").write_bytes(self.machine.samples[1].capture)
+        status, said, _ = self.machine.run("--jobs", "1", "captures")
+        self.assertEqual((status, said), (3, "3 captures: 2 with faults, 1 refused, 0 failed; 2 other files passed over\n"))
+
+    def test_refused(self) -> None:
+        """Each refusal is one line on standard error with its status, and leaves a database as it was."""
+        (self.machine.folder / "other.sqlite").write_bytes(b"SQLite format 3\0" + bytes(5000))
+        keyless = ("--scheduler", "tls://127.0.0.1:1", "captures")
+        for wanted, status, words in (
+            ("a PATH, --list or --collect is needed", 2, ()),
+            ("'0' is no number from 1 to 1024", 2, ("--jobs", "0", "captures")),
+            ("--unencrypted allows it", 2, ("--scheduler", "tcp://127.0.0.1:1", "captures")),
+            ("needs --tls-ca, --tls-cert and --tls-key", 2, keyless),
+            ("no scheduler is reached by http://", 2, ("--scheduler", "http://127.0.0.1:1", "captures")),
+            ("No such file or directory", 4, ("not-there",)),
+            ("No such file or directory", 4, ("--list", "not-there")),
+            ("No such file or directory", 4, ("-k", "not-there", "captures")),
+            ("not a folder", 4, ("--collect", "not-there")),
+            ("127.0.0.1:1: ", 5, ("--scheduler", "tcp://127.0.0.1:1", "--unencrypted", "captures")),
+        ):
+            found = self.machine.run(*words)
+            self.assertEqual((found[0], found[1], found[2].count("\n")), (status, "", 1), words)
+            self.assertIn(wanted, found[2])
+        self.machine.database.unlink(missing_ok=True)
+        self.machine.database.write_bytes(b"of no interest")
+        self.assertEqual(self.machine.run("captures"), (4, "", f"h2audit-fleet: {self.machine.database}: file is not "
+                                                        "a database\n"))
+        self.assertEqual(self.machine.run("--resume", "captures"), (4, "", f"h2audit-fleet: {self.machine.database}: "
+                                                                  "file is not a database\n"))
+        self.assertEqual(self.machine.database.read_bytes(), b"of no interest")
+
+    def test_no_program(self) -> None:
+        (self.machine.bin / "h2audit").unlink()
+        status, said, error = self.machine.run("--jobs", "1", "captures")
+        self.assertEqual((status, said), (5, ""))
+        self.assertRegex(error, r"^h2audit-fleet: worker tls://\S+ has no program h2audit\n$")
+
+
+class Schema(unittest.TestCase):
+    def test_documented(self) -> None:
+        """The document names each table, column and view, and the versions of the schema."""
+        base = sqlite3.connect(":memory:")
+        base.executescript((TOP / "tools" / "fleet" / "schema.sql").read_text())
+        text = (TOP / "docs" / "FLEET.md").read_text()
+        named = set(re.findall(r"`([a-z0-9_]+)`", text)) | {"capture"}
+        named |= {f"{side}_{word}" for side in ("client", "server") for word in ("bytes", "gap", "tail")}
+        for kind, name in base.execute("SELECT type, name FROM sqlite_master WHERE type IN ('table', 'view')"):
+            columns = {row[1] for row in base.execute(f"PRAGMA table_info({name})")} if kind == "table" else set()
+            self.assertEqual(({name} | columns) - named, set(), name)
+        self.assertIn(f"schema, {base.execute('PRAGMA user_version').fetchone()[0]};", text)
+        self.assertIn(f"is {base.execute('PRAGMA application_id').fetchone()[0]}.", text)
+
+
+def until(is_done) -> None:
+    """Waits at most 60 seconds."""
+    for _ in range(600):
+        if is_done():
+            return
+        time.sleep(0.1)
+    raise AssertionError("it does not come to pass")
+
+
+def listening(session: int) -> list[str]:
+    """The addresses at which processes of a session wait for others."""
+    found = []
+    for line in subprocess.run(["ss", "-Hltnp"], capture_output=True, text=True, check=True).stdout.splitlines():
+        process = re.search(r"pid=(\d+)", line)
+        if process and os.path.exists(f"/proc/{process[1]}") and os.getsid(int(process[1])) == session:
+            found.append(line.split()[3])
+    return found
+
+
+def answers_http(address: str) -> bool:
+    """Whether a web server shows anything there to whoever asks."""
+    try:
+        with urllib.request.urlopen(f"http://{address}/health", timeout=5) as answer:
+            return answer.status == 200
+    except (OSError, http.client.HTTPException):
+        return False
+
+
+def count(machine: Machine) -> int:
+    tables = machine.ask("SELECT COUNT(*) FROM sqlite_master WHERE name = 'captures'")
+    return machine.ask("SELECT COUNT(*) FROM captures")[0][0] if tables[0][0] else 0
+
+
+if __name__ == "__main__":
+    unittest.main()

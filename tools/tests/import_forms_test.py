@@ -1,0 +1,385 @@
+#!/usr/bin/python3
+"""Tests of h2audit-import on the forms that a capture may have: files, link types, IPv6, order of packets, holes, refusals.
+
+The same packets in another form give the same plaintext; what is wanted is taken from the form that other tests hold against
+tshark. Nothing of an expected value is made by h2audit-import, but for that.
+"""
+
+import gzip
+import os
+import pathlib
+import random
+import signal
+import stat
+import struct
+import subprocess
+import sys
+import tempfile
+import time
+import unittest
+
+import import_tools as tools
+
+sys.path.insert(0, str(tools.TOP / "tools" / "import"))
+
+from h2audit_import.flows import Flow  # noqa: E402
+
+NAME = "nghttp-nghttpd-13"
+PCAP = tools.capture_named(NAME).read_bytes()
+KEYS = tools.key_log_of(NAME)
+WANTED = (tools.CAPTURES / f"{NAME}.records").read_text().splitlines()
+PACKETS, ETHERNET = tools.read_pcap(PCAP)
+RAW = 101
+
+
+def given(data, *words):
+    """What is made of these bytes on standard input."""
+    return tools.imported(*words, input=data)
+
+
+def datagrams():
+    return [tools.Packet(one.nanos, one.data[14:], one.original - 14) for one in PACKETS]
+
+
+def with_front(front, link):
+    packets = [tools.Packet(one.nanos, front + one.data, one.original + len(front)) for one in datagrams()]
+    return tools.pcap_of(packets, link)
+
+
+def in_ipv6(extensions=b"", first=6):
+    """The packets between 2001:db8::1 and ::2, with these extension headers, of which the first has this number."""
+    made = []
+    for one in datagrams():
+        header = (one.data[0] & 15) * 4
+        tcp = one.data[header : int.from_bytes(one.data[2:4], "big")]
+        is_client = tcp[:2] == datagrams()[0].data[20:22]
+        ends = [bytes.fromhex("20010db8") + bytes(11) + bytes([last]) for last in ((1, 2) if is_client else (2, 1))]
+        length = len(extensions) + len(tcp)
+        made.append(struct.pack(">IHBB", 6 << 28, length, first, 64) + ends[0] + ends[1] + extensions + tcp)
+    return [tools.Packet(one.nanos, data, len(data)) for one, data in zip(PACKETS, made)]
+
+
+def block(kind, body, order="<"):
+    body += bytes(-len(body) % 4)
+    return struct.pack(order + "II", kind, 12 + len(body)) + body + struct.pack(order + "I", 12 + len(body))
+
+
+def option(code, value):
+    return struct.pack("<HH", code, len(value)) + value + bytes(-len(value) % 4)
+
+
+def section():
+    return block(0x0A0D0D0A, struct.pack("<IHHq", 0x1A2B3C4D, 1, 0, -1))
+
+
+def interface(link, *options):
+    return block(1, struct.pack("<HHI", link, 0, 0) + b"".join(options) + bytes(4) * bool(options))
+
+
+def enhanced(number, ticks, one, order="<"):
+    return block(
+        6,
+        struct.pack(order + "IIIII", number, ticks >> 32, ticks & 0xFFFFFFFF, len(one.data), one.original) + one.data,
+        order,
+    )
+
+
+def secrets():
+    text = (tools.CAPTURES / f"{NAME}.keys").read_bytes()
+    return block(0xA, struct.pack("<II", 0x544C534B, len(text)) + text)
+
+
+class Files(unittest.TestCase):
+    def test_byte_orders_and_units(self):
+        for order in "<>":
+            for unit in (1, 1000):
+                made = given(tools.pcap_of(PACKETS, ETHERNET, order, unit), *KEYS)
+                self.assertEqual(tools.rows_of(made), WANTED)
+                self.assertEqual(made.packets[0].nanos, PACKETS[0].nanos // unit * unit)
+
+    def test_compressed(self):
+        zstd = subprocess.run([*"zstd -q -c".split()], input=PCAP, capture_output=True, check=True).stdout
+        for data in (gzip.compress(PCAP), gzip.compress(PCAP[:5000]) + gzip.compress(PCAP[5000:]), zstd):
+            self.assertEqual(tools.rows_of(given(data, *KEYS)), WANTED)
+
+    def test_rotated(self):
+        """Files in the order given are one capture; packets are those of each file."""
+        with tempfile.TemporaryDirectory() as folder:
+            paths = [pathlib.Path(folder, name) for name in ("a b%.pcap", "b.pcapng", "c.pcap.gz")]
+            paths[0].write_bytes(tools.pcap_of(PACKETS[:6], ETHERNET))
+            paths[1].write_bytes(section() + interface(ETHERNET, option(9, b"\x09")) +
+                                 b"".join(enhanced(0, one.nanos, one) for one in PACKETS[6:15]))  # fmt: skip
+            paths[2].write_bytes(gzip.compress(tools.pcap_of(PACKETS[15:], ETHERNET)))
+            made = tools.imported(*KEYS, *paths)
+        starts = {1: 0, 2: 6, 3: 15}
+        packets = {
+            number: (starts[file] + packet,) * 2 for number, (file, packet) in tools.packet_of_each_record(made).items()
+        }
+        self.assertEqual([row.split()[1:] for row in tools.rows_of(made)], [row.split()[1:] for row in WANTED])
+        self.assertEqual(
+            [packets[number][0] for number, _, _ in tools.payloads(made)], [int(row.split()[0]) for row in WANTED]
+        )
+        self.assertTrue(tools.lines_of(made, "file")[0].endswith("/a%20b%25.pcap"))
+
+    def test_sections_and_clocks(self):
+        """Two sections, of either byte order; clocks of 2^-10 s and of 10^-9 s with an offset."""
+        first = section() + interface(105) + interface(ETHERNET, option(9, b"\x8a"), option(14, struct.pack("<q", 100)))
+        data = first + b"".join(enhanced(1, 5 * 1024 + 512, one) for one in PACKETS[:10])
+        data += block(0x0A0D0D0A, struct.pack(">IHHq", 0x1A2B3C4D, 1, 0, -1), ">") + block(
+            1, struct.pack(">HHI", 1, 0, 0), ">"
+        )
+        data += b"".join(enhanced(0, one.nanos // 1000, one, ">") for one in PACKETS[10:])
+        made = given(data, *KEYS)
+        self.assertEqual(tools.rows_of(made), WANTED)
+        self.assertEqual(made.packets[0].nanos, 105_500_000_000)
+
+    def test_secrets_after_packets(self):
+        """Keys that come last, on standard input too, where a capture cannot be read twice; processes change nothing."""
+        packets = b"".join(enhanced(0, one.nanos // 1000, one) for one in PACKETS)
+        for data in (
+            section() + interface(ETHERNET) + packets + secrets(),
+            section() + interface(ETHERNET) + secrets() + packets,
+        ):
+            for words in ([], ["-j", "2"]):
+                self.assertEqual(tools.rows_of(given(data, *words)), WANTED)
+
+    def test_cut(self):
+        made = given(PCAP[:-1], *KEYS)
+        self.assertEqual(tools.lines_of(made, "passed"), [f"passed file 1 packet {len(PACKETS)} cut"])
+        self.assertEqual(tools.rows_of(made), WANTED)
+
+    def test_refused(self):
+        """What cannot be read is refused by name, with status 3, and no file is left."""
+        header = PCAP[:20]
+        simple = section() + interface(1) + block(3, struct.pack("<I", 4) + b"abcd")
+        e, v6 = tools.pcap_of(PACKETS[:1], ETHERNET), in_ipv6()
+        clash = tools.Packet(0, datagrams()[0].data[:12] + bytes([240, 0, 0, 9]) + datagrams()[0].data[16:], 100)
+        cases = {
+            b"": "short-header", b"abc": "short-header", b"abcdefgh": "bad-magic", PCAP[:23]: "short-header",
+            header + struct.pack("<I", 105) + e[24:]: "link-type 105", PCAP[:4] + b"\x03" + PCAP[5:]: "bad-version",
+            simple: "simple-packet-block", section()[:-1] + b"\x01": "bad-block", gzip.compress(PCAP)[:2] + b"x" * 9: "bad-gzip",
+            section() + interface(1) + enhanced(1, 0, PACKETS[0]): "no-interface", b"\x28\xb5\x2f\xfd" + b"x" * 9: "bad-zstd",
+            tools.pcap_of([*v6[:1], clash], RAW): "address-clash",
+        }  # fmt: skip
+        for data, name in cases.items():
+            made = given(data, *KEYS)
+            self.assertEqual((made.status, made.said), (3, f"h2audit-import: capture refused: {name}: -\n"))
+            self.assertEqual((made.bytes, made.map), (b"", []))
+
+
+class Links(unittest.TestCase):
+    def test_links(self):
+        """Each link type, with the front that it puts before a datagram."""
+        ethernet, v4 = bytes(12), b"\x08\x00"
+        fronts = [
+            (1, ethernet + b"\x81\x00\x00\x05" + v4), (1, ethernet + b"\x88\xa8\x00\x01\x81\x00\x00\x02" + v4), (12, b""),
+            (14, b""), (101, b""), (228, b""), (113, bytes(14) + v4), (276, v4 + bytes(18)), (0, b"\x02\x00\x00\x00"),
+            (0, b"\x00\x00\x00\x02"), (108, b"\x00\x00\x00\x02"),
+        ]  # fmt: skip
+        for link, front in fronts:
+            with self.subTest(link=link, front=front):
+                self.assertEqual(tools.rows_of(given(with_front(front, link), *KEYS)), WANTED)
+
+    def test_ipv6(self):
+        padding = b"\x01\x04" + bytes(4)
+        forms = [(b"", 6), (b"\x06\x00" + padding, 0), (b"\x3c\x00" + padding + b"\x06\x00" + padding, 0),
+                 (b"\x06\x00" + bytes(6), 44), (b"\x06\x04" + bytes(22), 51)]  # fmt: skip
+        for extensions, first in forms:
+            for link, front in ((1, bytes(12) + b"\x86\xdd"), (229, b""), (101, b""), (0, b"\x1e\x00\x00\x00")):
+                packets = [
+                    one._replace(data=front + one.data, original=one.original + len(front))
+                    for one in in_ipv6(extensions, first)
+                ]
+                made = given(tools.pcap_of(packets, link), *KEYS)
+                self.assertEqual(tools.rows_of(made), WANTED)
+                self.assertEqual(
+                    tools.lines_of(made, "address"), ["address 240.0.0.1 2001:db8::1", "address 240.0.0.2 2001:db8::2"]
+                )
+        self.assertIn("client [2001:db8::1]:38292 server [2001:db8::2]:21001", tools.lines_of(made, "connection")[0])
+
+    def test_passed_over(self):
+        """What is no segment is counted, and named where it might have been one."""
+        one = datagrams()[5]
+        fragment = one.data[:6] + b"\x20\x00" + one.data[8:]
+        packets = [
+            fragment,
+            one.data[:19],
+            one.data[:9] + b"\x11" + one.data[10:],
+            b"\x75" + one.data[1:],
+            in_ipv6(b"\x06\x00\x00\x09" + bytes(4), 44)[5].data,
+        ]
+        made = given(tools.pcap_of([*datagrams(), *(tools.Packet(0, data, len(data)) for data in packets)], RAW), *KEYS)
+        self.assertEqual(
+            tools.lines_of(made, "capture"),
+            ["capture records 28 segments 23 snapped 0 not-ipv4 0 fragments 2 not-tcp 1 refused 2"],
+        )
+        self.assertEqual(tools.lines_of(made, "passed"), [
+            "passed file 1 packet 24 fragment", "passed file 1 packet 25 refused short-ipv4",
+            "passed file 1 packet 27 refused bad-version", "passed file 1 packet 28 fragment",
+        ])  # fmt: skip
+
+
+def pieces_of(packet, dice):
+    """A segment cut in two, or as it stands."""
+    data = packet.data
+    start = 20 + (data[32] >> 4) * 4
+    if len(data) - start < 2 or dice.random() < 0.5:
+        return [packet]
+    at = dice.randrange(start + 1, len(data))
+    sequence = int.from_bytes(data[24:28], "big") + at - start
+    front = data[:2] + struct.pack(">H", at) + data[4:at]
+    back = (
+        data[:2]
+        + struct.pack(">H", start + len(data) - at)
+        + data[4:24]
+        + struct.pack(">I", sequence & 0xFFFFFFFF)
+        + data[28:start]
+        + data[at:]
+    )
+    return [packet._replace(data=part, original=len(part)) for part in (front, back)]
+
+
+def disturbed(packets, dice, window):
+    """Packets doubled, cut in two, and in random order within a window; the openings stay first."""
+    pieces = [piece for one in packets[2:] for piece in pieces_of(one, dice) * dice.choice((1, 1, 2))]
+    order = sorted(range(len(pieces)), key=lambda at: at + dice.uniform(0, window))
+    return [*packets[:2], *(pieces[at] for at in order)]
+
+
+class Order(unittest.TestCase):
+    def test_disturbed(self):
+        """The same plaintext of both sides, whatever the order of their packets."""
+        seed = random.randrange(1 << 32)
+        dice = random.Random(seed)
+        for name in (NAME, "curl-apache-upload", "key-updates"):
+            base = tools.imported(*tools.key_log_of(name), tools.capture_named(name))
+            packets = list(in_raw(name))
+            for window in (0, 3, 20):
+                made = given(tools.pcap_of(disturbed(packets, dice, window), RAW), *tools.key_log_of(name))
+                self.assertEqual(tools.flows(made), tools.flows(base), (name, window, "seed", seed))
+
+    def test_lost_packets(self):
+        """Packets 30 and 31 are missing: the server's plaintext ends there, and h2audit sees a later byte."""
+        name = "curl-nginx-12-any-cooked"
+        packets = list(in_raw(name))
+        made = given(tools.pcap_of(packets[:29] + packets[31:], RAW), *tools.key_log_of(name))
+        self.assertEqual(tools.lines_of(made, "flow"), [
+            "flow client bytes 117 gap none tail 0 end whole", "flow server bytes 164192 gap 164192 tail 4903 end lost",
+        ])  # fmt: skip
+        last = made.packets[-1].data
+        first = next(one.data for one in made.packets[2:] if one.data[20:22] == last[20:22])
+        self.assertEqual(int.from_bytes(last[24:28], "big") - int.from_bytes(first[24:28], "big"), 164193)
+
+    def test_cut_record(self):
+        """A capture that ends within a record says how many bytes of it there are."""
+        name, count = "loss-and-reordering", 22
+        packets = list(in_raw(name))[:count]
+        sent = {}
+        for one in packets:
+            payload = one.data[20 + (one.data[32] >> 4) * 4 :]
+            if payload and one.data[20:22] != packets[0].data[20:22]:
+                sent.setdefault(int.from_bytes(one.data[24:28], "big"), payload)
+        stream = b"".join(sent[at] for at in sorted(sent))
+        self.assertEqual(max(sent) + len(sent[max(sent)]) - min(sent), len(stream), "the server's bytes have no hole")
+        while len(stream) >= 5 and len(stream) >= 5 + int.from_bytes(stream[3:5], "big"):
+            stream = stream[5 + int.from_bytes(stream[3:5], "big") :]
+        made = given(tools.pcap_of(packets, RAW), *tools.key_log_of(name))
+        self.assertTrue(stream)
+        self.assertTrue(tools.lines_of(made, "flow")[1].endswith(f" gap none tail {len(stream)} end cut"), made.map)
+
+    def test_begins_late(self):
+        made = given(tools.pcap_of(list(in_raw("key-updates"))[12:], RAW), *tools.key_log_of("key-updates"))
+        self.assertEqual((made.status, tools.lines_of(made, "connection")), (6, []))
+        self.assertEqual(
+            tools.lines_of(made, "unopened"), ["unopened 127.0.0.1:21014 127.0.0.1:33106 file 1 packet 1 segments 99"]
+        )
+
+
+def in_raw(name):
+    """The packets of a capture of IPv4 as raw IP; those of a pcapng file by way of h2audit-import without keys are not had."""
+    data = tools.capture_named(name).read_bytes()
+    if data[:4] != b"\x0a\x0d\x0d\x0a":
+        packets, _ = tools.read_pcap(data)
+        front = 14
+    else:
+        packets, front = list(enhanced_in(data)), 16 if "cooked" in name else 14
+    for one in packets:
+        total = int.from_bytes(one.data[front + 2 : front + 4], "big")
+        yield tools.Packet(one.nanos, one.data[front : front + total], total)
+
+
+def enhanced_in(data):
+    at = 0
+    while at < len(data):
+        kind, length = struct.unpack_from("<II", data, at)
+        if kind == 6:
+            high, low, captured, original = struct.unpack_from("<IIII", data, at + 12)
+            yield tools.Packet(high << 32 | low, data[at + 28 : at + 28 + captured], original)
+        at += length
+
+
+class Flows(unittest.TestCase):
+    """The reassembly of one side, beside a model that keeps of each offset the first byte that came for it."""
+
+    def test_model(self):
+        seed = random.randrange(1 << 32)
+        dice = random.Random(seed)
+        for _ in range(3000):
+            flow, first, given_out = Flow(), {}, b""
+            for packet in range(dice.randrange(1, 12)):
+                offset, data = dice.randrange(20), dice.randbytes(dice.randrange(1, 9))
+                for at, byte in enumerate(data, offset):
+                    first.setdefault(at, byte)
+                given_out += flow.add(offset, data, (packet, 0))
+                run = next(at for at in range(100) if at not in first)
+                self.assertEqual(given_out, bytes(first[at] for at in range(run)), seed)
+                self.assertEqual((flow.next, flow.behind_hole is not None), (run, max(first) > run), seed)
+
+    def test_end_of_offsets(self):
+        flow = Flow()
+        flow.next = (1 << 31) - 2
+        self.assertEqual((flow.add((1 << 31) - 2, b"abcd", (1, 0)), flow.next), (b"ab", 1 << 31))
+
+    def test_limit(self):
+        """What is held behind a hole is let go at 64 MiB, and the hole stays one."""
+        flow = Flow()
+        for at in range(1100):
+            flow.add(1 + (at << 16), bytes(1 << 16), (at, 0))
+        self.assertEqual((flow.held, flow.behind_hole, flow.add(0, b"a", (2000, 0))), ([], (0, 0), b""))
+
+
+class Secrets(unittest.TestCase):
+    def test_modes(self):
+        """Capture and map are for their owner alone, also where a file of that name was not."""
+        with tempfile.TemporaryDirectory() as folder:
+            out, made_map = pathlib.Path(folder, "out"), pathlib.Path(folder, "map")
+            out.touch(0o644)
+            subprocess.run([tools.IMPORT, *KEYS, "-o", out, "-m", made_map, tools.capture_named(NAME)], check=True)
+            self.assertEqual([stat.S_IMODE(path.stat().st_mode) for path in (out, made_map)], [0o600, 0o600])
+            self.assertEqual(sorted(os.listdir(folder)), ["map", "out"])
+
+    def test_signals(self):
+        """A signal leaves no file behind."""
+        for one in (signal.SIGTERM, signal.SIGINT, signal.SIGHUP):
+            for words in ([], ["-j", "2"]):
+                with tempfile.TemporaryDirectory() as folder:
+                    child = subprocess.Popen(
+                        [tools.IMPORT, *words, "-o", f"{folder}/out", "-m", f"{folder}/map"],
+                        stdin=subprocess.PIPE,
+                        stderr=subprocess.PIPE,
+                    )
+                    child.stdin.write(PCAP[:20000])
+                    child.stdin.flush()
+                    deadline = time.monotonic() + 30
+                    while len(os.listdir(folder)) < 2 and time.monotonic() < deadline:
+                        time.sleep(0.02)
+                    self.assertEqual(len(os.listdir(folder)), 2)
+                    child.send_signal(one)
+                    self.assertEqual((child.wait(30), child.stderr.read()), (-one, b""))
+                    child.stdin.close()
+                    child.stderr.close()
+                    self.assertEqual(os.listdir(folder), [])
+
+
+if __name__ == "__main__":
+    unittest.main()

@@ -1,0 +1,301 @@
+#!/usr/bin/python3
+"""Tests of h2audit-import on connections that OpenSSL makes: each cipher suite, resumption, PSK, early data, and what may go wrong.
+
+What was said is known, and each record's plaintext has to be it. The connections of ``openssl s_server`` and ``s_client`` are
+captured by tcpdump on the loopback interface, which needs root; else these tests are skipped.
+
+    tools/tests/import_tls_test.py [PROGRAM]
+
+With PROGRAM, which is h2audit, the captures of examples/ are said over TLS, and have to give the frames that they have in the clear.
+"""
+
+import contextlib
+import os
+import pathlib
+import re
+import shutil
+import socket
+import ssl
+import subprocess
+import sys
+import time
+import unittest
+
+import import_tools as tools
+import tls_talk
+
+PROGRAM = os.path.abspath(sys.argv.pop()) if len(sys.argv) > 1 and not sys.argv[-1].startswith("-") else None
+EXAMPLE = tools.EXAMPLES / "stream_overrun_go.pcap"
+# What python3-cryptography has no cipher for, and what needs another kind of key exchange than a certificate.
+NOT_READ = ("ARIA",)
+WITHOUT_CERTIFICATE = ("PSK", "SRP", "ADH", "AECDH", "DSS", "GOST", "IDEA", "SEED", "RC4", "MD5", "DES-CBC3")
+can_capture = os.geteuid() == 0 and shutil.which("tcpdump") and shutil.which("openssl")
+
+
+class Folder(unittest.TestCase):
+    @classmethod
+    def setUpClass(cls):
+        cls.kept = tls_talk.temporary()
+        cls.folder = cls.kept.name
+        cls.certificates = [tls_talk.certificate(cls.folder, kind) for kind in ("rsa", "ec")]
+
+    @classmethod
+    def tearDownClass(cls):
+        cls.kept.cleanup()
+
+    def path(self, name):
+        return pathlib.Path(self.folder, name)
+
+
+def tls12_suites():
+    """The TLS 1.2 suites of this OpenSSL that go with a certificate."""
+    context = ssl.SSLContext(ssl.PROTOCOL_TLS_SERVER)
+    context.set_ciphers("ALL:eNULL:@SECLEVEL=0")
+    names = [one["name"] for one in context.get_ciphers() if one["protocol"] != "TLSv1.3"]
+    return [name for name in names if not any(word in name for word in WITHOUT_CERTIFICATE)]
+
+
+class Suites(Folder):
+    def talk(self, version, ciphers, said, name="one"):
+        """A connection in which this is said, and what is made of its capture."""
+        capture, keys = tls_talk.Capture(), self.path(f"{name}.keys")
+        keys.write_bytes(b"")
+        pair = tls_talk.contexts(self.certificates, keys, version, ciphers)
+        talk = tls_talk.Talk(capture, pair).shake_hands()
+        for side, data in said:
+            talk.say(side, data)
+        talk.end()
+        capture.write(self.path(f"{name}.pcap"))
+        return tools.imported("-k", keys, self.path(f"{name}.pcap")), talk
+
+    def test_tls12(self):
+        """Each suite by name; what is not read is refused by the number that OpenSSL gives it."""
+        said, suites = list(tls_talk.payloads_of(EXAMPLE)), tls12_suites()
+        self.assertGreater(len(suites), 30)
+        for name in suites:
+            with self.subTest(name):
+                made, talk = self.talk(ssl.TLSVersion.TLSv1_2, name, said)
+                line = tools.lines_of(made, "connection")[0]
+                if any(word in name for word in NOT_READ):
+                    self.assertRegex(line, "refused cipher-suite 0xc0[0-9a-f]{2}$")
+                    continue
+                self.assertIn(" tls 1.2 TLS_", line)
+                self.assertEqual(joined(tools.payloads(made)), joined((0, *one) for one in talk.said), name)
+
+    def test_tls13(self):
+        """Each suite, by OpenSSL's configuration, since the ssl module cannot choose among them."""
+        for suite in (
+            "AES_128_GCM_SHA256",
+            "AES_256_GCM_SHA384",
+            "CHACHA20_POLY1305_SHA256",
+            "AES_128_CCM_SHA256",
+            "AES_128_CCM_8_SHA256",
+        ):
+            with self.subTest(suite):
+                configuration = self.path("openssl.cnf")
+                configuration.write_text(
+                    f"openssl_conf = a\n[a]\nssl_conf = b\n[b]\nsystem_default = c\n[c]\nCiphersuites = TLS_{suite}\n"
+                )
+                run = subprocess.run([sys.executable, __file__, "--talk", self.folder], capture_output=True, text=True,
+                                     env={**os.environ, "OPENSSL_CONF": str(configuration)})  # fmt: skip
+                self.assertEqual((run.returncode, run.stderr), (0, ""))
+                made = tools.imported("-k", self.path("13.keys"), self.path("13.pcap"))
+                self.assertIn(f" tls 1.3 TLS_{suite} ", tools.lines_of(made, "connection")[0])
+                self.assertEqual(
+                    joined(tools.payloads(made)), joined((0, *one) for one in tls_talk.payloads_of(EXAMPLE))
+                )
+
+    def test_resumed(self):
+        """Resumption in TLS 1.2 by a ticket: the second connection has no certificate, and a line of its own in the key log."""
+        capture, keys = tls_talk.Capture(), self.path("resumed.keys")
+        keys.write_bytes(b"")
+        pair = tls_talk.contexts(self.certificates, keys, ssl.TLSVersion.TLSv1_2, "ECDHE-RSA-AES128-SHA")
+        first = tls_talk.Talk(capture, pair).shake_hands()
+        first.say(0, b"first")
+        second = tls_talk.Talk(capture, pair, port=40001, session=first.ends[0].session).shake_hands()
+        second.say(1, b"second")
+        self.assertTrue(second.ends[0].session_reused)
+        capture.write(self.path("resumed.pcap"))
+        made = tools.imported("-k", keys, self.path("resumed.pcap"))
+        self.assertEqual([data for _, _, data in tools.payloads(made)], [b"first", b"second"])
+
+    def test_old_versions(self):
+        made, _ = self.talk(ssl.TLSVersion.TLSv1_1, None, [])
+        self.assertTrue(tools.lines_of(made, "connection")[0].endswith("refused tls-version 0x0302"))
+
+    def test_broken_record(self):
+        """A byte that differs in the last record but one ends its side before it, and h2audit sees a later byte."""
+        for version in (ssl.TLSVersion.TLSv1_2, ssl.TLSVersion.TLSv1_3):
+            said = [(1, b"a" * 100), (1, b"b" * 100), (1, b"c" * 100)]
+            _, _ = self.talk(version, None, said)
+            data = bytearray(self.path("one.pcap").read_bytes())
+            packets, _ = tools.read_pcap(bytes(data))
+            large = [
+                at
+                for at, one in enumerate(packets)
+                if 40 + 100 < len(one.data) < 40 + 140 and one.data[20:22] == b"\x01\xbb"
+            ]
+            wanted = packets[large[-2]].data
+            at = data.rindex(wanted) + len(wanted) - 1
+            data[at] ^= 1
+            made = tools.imported("-k", self.path("one.keys"), input=bytes(data))
+            self.assertEqual(tools.lines_of(made, "flow")[1], "flow server bytes 100 gap 100 tail 0 end bad-record")
+
+
+def joined(rows):
+    """The bytes of each side one after the other, in turns: a write may be cut into records."""
+    turns = []
+    for _, side, data in rows:
+        if turns and turns[-1][0] == side:
+            turns[-1][1] += data
+        else:
+            turns.append([side, bytearray(data)])
+    return turns
+
+
+class Frames(Folder):
+    @unittest.skipUnless(PROGRAM, "h2audit is not built")
+    def test_examples(self):
+        """What examples/ say in the clear has the same findings when it is said over TLS, but for packets and times."""
+        for path in sorted(tools.EXAMPLES.glob("*.pcap")):
+            wanted = path.with_suffix(".report").read_text()
+            if (
+                "gap none" not in wanted
+                or wanted.count("connection ") != wanted.count("connection-") + 1
+                or "unopened" in wanted
+            ):
+                continue
+            capture, keys = tls_talk.Capture(), self.path("e.keys")
+            keys.write_bytes(b"")
+            pair = tls_talk.contexts(self.certificates, keys, ssl.TLSVersion.TLSv1_3)
+            talk = tls_talk.Talk(capture, pair).shake_hands()
+            for side, data in tls_talk.payloads_of(path):
+                talk.say(side, data)
+            capture.write(self.path("e.pcap"))
+            found, _, _ = tools.report_of(PROGRAM, "-k", keys, self.path("e.pcap"))
+            self.assertEqual(findings(found), findings(wanted), path.name)
+
+
+def findings(report):
+    """A report without what another capture changes: records, times, endpoints."""
+    lines = report.splitlines()[1:]
+    lines = [re.sub(r"record \d+ time \d+", "", line) for line in lines]
+    return [re.sub(r"(client|server) [\d.:]+ |record \d+|nanos -?\d+", "", line) for line in lines]
+
+
+class Servers(Folder):
+    """openssl s_server and s_client over the loopback interface, captured by tcpdump."""
+
+    def run_openssl(self, name, server_words, client_words, said=b"hello\n"):
+        port = free_port()
+        keys = self.path(f"{name}.keys")
+        certificate = self.certificates[0]
+        with self.captured(name, port):
+            server = subprocess.Popen(["openssl", "s_server", "-accept", f"127.0.0.1:{port}", "-cert", certificate, "-key", certificate,
+                                       "-quiet", *server_words], stdin=subprocess.PIPE, stdout=subprocess.DEVNULL,
+                                      stderr=subprocess.DEVNULL)  # fmt: skip
+            try:
+                wait_for(port)
+                for words in client_words:
+                    self.client(port, keys, words, said)
+            finally:
+                server.kill()
+                server.wait()
+                server.stdin.close()
+        return tools.imported("-k", keys, self.path(f"{name}.pcap"))
+
+    def client(self, port, keys, words, said):
+        client = subprocess.Popen(["openssl", "s_client", "-connect", f"127.0.0.1:{port}", "-keylogfile", keys, "-alpn", "h2", *words],
+                                  stdin=subprocess.PIPE, stdout=subprocess.DEVNULL, stderr=subprocess.DEVNULL)  # fmt: skip
+        time.sleep(0.7)
+        client.stdin.write(said)
+        client.stdin.flush()
+        time.sleep(0.5)
+        client.stdin.close()
+        client.wait(20)
+
+    @contextlib.contextmanager
+    def captured(self, name, port):
+        tcpdump = subprocess.Popen(["tcpdump", "-i", "lo", "-U", "--immediate-mode", "-w", self.path(f"{name}.pcap"), f"tcp port {port}"],
+                                   stderr=subprocess.PIPE)  # fmt: skip
+        tcpdump.stderr.readline()
+        try:
+            yield
+            time.sleep(0.5)
+        finally:
+            tcpdump.terminate()
+            tcpdump.wait()
+            tcpdump.stderr.close()
+
+    def said(self, made):
+        return [data for _, _, data in tools.payloads(made)]
+
+    @unittest.skipUnless(can_capture, "needs root, tcpdump and openssl")
+    def test_encrypt_then_mac(self):
+        """A CBC suite of TLS 1.2, with encrypt-then-MAC and without, and resumption by session."""
+        session = self.path("session")
+        words = ["-tls1_2", "-cipher", "ECDHE-RSA-AES128-SHA256"]
+        made = self.run_openssl("etm", ["-no_ticket"], [[*words, "-sess_out", session], [*words, "-sess_in", session]])
+        self.assertEqual(self.said(made), [b"hello\n"] * 2)
+        made = self.run_openssl("mte", [], [[*words, "-no_etm"]])
+        self.assertEqual(self.said(made), [b"hello\n"])
+
+    @unittest.skipUnless(can_capture, "needs root, tcpdump and openssl")
+    def test_psk(self):
+        """A PSK of both ends, in TLS 1.2 and in TLS 1.3, without a certificate in the second."""
+        psk = ["-psk", "1a2b3c4d"]
+        made = self.run_openssl("psk", [*psk, "-cipher", "PSK-AES128-GCM-SHA256"], [[*psk, "-tls1_2", "-cipher", "PSK-AES128-GCM-SHA256"],
+                                                                                   [*psk, "-tls1_3"]])  # fmt: skip
+        self.assertEqual(self.said(made), [b"hello\n"] * 2)
+        self.assertIn("TLS_PSK_WITH_AES_128_GCM_SHA256", tools.lines_of(made, "connection")[0])
+
+    @unittest.skipUnless(can_capture, "needs root, tcpdump and openssl")
+    def test_early_data(self):
+        """Early data that the server accepts is read; what it rejects is counted, and not given out."""
+        session, early = self.path("session13"), self.path("early")
+        early.write_bytes(b"early\n")
+        clients = [["-tls1_3", "-sess_out", session], ["-tls1_3", "-sess_in", session, "-early_data", early]]
+        made = self.run_openssl("early", ["-early_data"], clients)
+        self.assertEqual(self.said(made), [b"hello\n", b"early\n", b"hello\n"])
+        self.assertEqual(tools.lines_of(made, "early-data"), ["early-data accepted 1 rejected 0"])
+        for name, words in (
+            ("late", ["-early_data", "-max_early_data", "0"]),
+            ("retry", ["-early_data", "-groups", "P-384"]),
+        ):
+            with self.subTest(name):
+                made = self.run_openssl(name, words, [["-tls1_3", "-sess_in", session, "-early_data", early]])
+                self.assertEqual(self.said(made), [b"hello\n"])
+
+
+def free_port():
+    with socket.socket() as one:
+        one.bind(("127.0.0.1", 0))
+        return one.getsockname()[1]
+
+
+def wait_for(port):
+    """Waits until the server listens, without a connection to it, which the capture would have."""
+    wanted = f":{port:04X} "
+    for _ in range(100):
+        if any(wanted in line and " 0A " in line for line in pathlib.Path("/proc/net/tcp").read_text().splitlines()):
+            return
+        time.sleep(0.1)
+    raise AssertionError("the server does not listen")
+
+
+def talk_of_13(folder):
+    keys = pathlib.Path(folder, "13.keys")
+    keys.write_bytes(b"")
+    client, server = tls_talk.contexts([pathlib.Path(folder, "ec.pem")], keys, ssl.TLSVersion.TLSv1_3)
+    capture = tls_talk.Capture()
+    talk = tls_talk.Talk(capture, (client, server)).shake_hands()
+    for side, data in tls_talk.payloads_of(EXAMPLE):
+        talk.say(side, data)
+    capture.write(pathlib.Path(folder, "13.pcap"))
+
+
+if __name__ == "__main__":
+    if sys.argv[1:2] == ["--talk"]:
+        talk_of_13(PROGRAM)
+    else:
+        unittest.main()

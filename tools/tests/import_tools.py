@@ -1,0 +1,121 @@
+"""What the tests of h2audit-import and h2audit-any share: running them, and reading what they made."""
+
+import collections
+import hashlib
+import pathlib
+import struct
+import subprocess
+import tempfile
+
+TOP = pathlib.Path(__file__).resolve().parents[2]
+CAPTURES = TOP / "tests" / "tls"
+EXAMPLES = TOP / "examples"
+IMPORT, ANY = TOP / "tools" / "h2audit-import", TOP / "tools" / "h2audit-any"
+CLIENT, SERVER = 0, 1
+
+Made = collections.namedtuple("Made", "status said packets map bytes")
+Packet = collections.namedtuple("Packet", "nanos data original")
+
+
+def capture_named(name):
+    return next(path for path in sorted(CAPTURES.glob(f"{name}.pcap*")))
+
+
+def key_log_of(name):
+    path = CAPTURES / f"{name}.keys"
+    return ["-k", path] if path.exists() else []
+
+
+def names():
+    return sorted({path.name.split(".")[0] for path in CAPTURES.glob("*.pcap*")})
+
+
+def read_pcap(data):
+    """Packets of a classic capture, and its link type."""
+    order = "<" if data[0] in (0xD4, 0x4D) else ">"
+    unit = 1 if data[:4] in (b"\x4d\x3c\xb2\xa1", b"\xa1\xb2\x3c\x4d") else 1000
+    link = struct.unpack_from(order + "I", data, 20)[0]
+    packets, at = [], 24
+    while at < len(data):
+        seconds, fraction, captured, original = struct.unpack_from(order + "IIII", data, at)
+        packets.append(Packet(seconds * 10**9 + fraction * unit, data[at + 16 : at + 16 + captured], original))
+        at += 16 + captured
+    return packets, link
+
+
+def pcap_of(packets, link, order="<", unit=1):
+    magic = 0xA1B23C4D if unit == 1 else 0xA1B2C3D4
+    parts = [struct.pack(order + "IHHiIII", magic, 2, 4, 0, 0, 1 << 18, link)]
+    for one in packets:
+        seconds, fraction = divmod(one.nanos, 10**9)
+        parts.append(struct.pack(order + "IIII", seconds, fraction // unit, len(one.data), one.original) + one.data)
+    return b"".join(parts)
+
+
+def imported(*words, **more):
+    """Runs h2audit-import, and reads the capture and the map that it made."""
+    with tempfile.TemporaryDirectory(prefix="h2audit-test-") as folder:
+        out, made_map = pathlib.Path(folder, "out.pcap"), pathlib.Path(folder, "map")
+        run = subprocess.run([IMPORT, "-o", out, "-m", made_map, *words], capture_output=True, **more)
+        data = out.read_bytes() if out.exists() else b""
+        lines = made_map.read_text().splitlines() if made_map.exists() else []
+    return Made(run.returncode, run.stderr.decode(), read_pcap(data)[0] if data else [], lines, data)
+
+
+def packet_of_each_record(made):
+    """The original packet of each record, which are numbered without holes; files follow one another from 0 on."""
+    rows = [line.split() for line in made.map if line.startswith("record ")]
+    assert [int(row[1]) for row in rows] == list(range(1, len(rows) + 1))
+    return {int(row[1]): (int(row[3]), int(row[5])) for row in rows}
+
+
+def payloads(made, of="tls"):
+    """Of each segment with payload in connections of a kind: record, side, bytes."""
+    clients = set()
+    addresses = dict(reversed(line.split()[1:]) for line in made.map if line.startswith("address "))
+    for line in made.map:
+        words = line.split()
+        if words[0] == "connection" and words[9] == of:
+            clients.add((stood_in(words[2], addresses), stood_in(words[4], addresses)))
+    for number, packet in enumerate(made.packets, 1):
+        data = packet.data
+        header = (data[0] & 15) * 4
+        ends = [f"{'.'.join(map(str, data[at : at + 4]))}:{struct.unpack_from('>H', data, header + port)[0]}"
+                for at, port in ((12, 0), (16, 2))]  # fmt: skip
+        payload = data[header + (data[header + 12] >> 4) * 4 :]
+        if payload and tuple(ends) in clients:
+            yield number, CLIENT, payload
+        elif payload and tuple(reversed(ends)) in clients:
+            yield number, SERVER, payload
+
+
+def stood_in(endpoint, addresses):
+    host, port = endpoint.rsplit(":", 1)
+    return f"{addresses.get(host.strip('[]'), host)}:{port}"
+
+
+def rows_of(made):
+    """As the files of records have it: packet, side, SHA-1 and length of each record's plaintext."""
+    packets = packet_of_each_record(made)
+    return [
+        f"{packets[number][1]} {side} {hashlib.sha1(data).hexdigest()} {len(data)}"
+        for number, side, data in payloads(made)
+    ]
+
+
+def flows(made, of="tls"):
+    """The bytes of both sides, of a capture with one connection."""
+    found = [b"", b""]
+    for _, side, data in payloads(made, of):
+        found[side] += data
+    return found
+
+
+def lines_of(made, word):
+    return [line for line in made.map if line.startswith(word + " ")]
+
+
+def report_of(program, *words, **more):
+    """The report of h2audit-any, its status, and what it said."""
+    run = subprocess.run([ANY, "--h2audit", program, *words], capture_output=True, text=True, **more)
+    return run.stdout, run.returncode, run.stderr
