@@ -14,7 +14,7 @@ BESIDE = $(PYTHON_PROGRAMS) h2audit-split
 FIRST = examples/negative_window_tomcat.pcap examples/stream_overrun_go.pcap
 SOURCES := crates.txt $(shell find crates -name out -prune -o -name '*.rt' -print -o -name '*.antt' -print)
 
-.PHONY: run build install deb test test-tools bench believed pictures
+.PHONY: run build install deb check test test-tools bench believed pictures
 
 # Shows two reports at once, from a build without proof: of a connection with stalls and a window below zero, and of one with an
 # overrun, whose status of 1 is the program's answer.
@@ -77,6 +77,20 @@ deb: $(PROGRAM) $(SPLIT)
 		$(MAKE) --no-print-directory install DESTDIR="$$stage" PREFIX=/usr \
 		ZSHDIR=/usr/share/zsh/vendor-completions > /dev/null && \
 		tools/package/build_deb.sh "$$stage" "$(abspath $(PACKAGES))"
+
+# What tells within two minutes whether a change holds together, and proves nothing: layout, the front end on every crate, the
+# tests of calls, and the documents. With CRATE=NAME it proves that crate.
+check:
+ifdef CRATE
+	rt check $(CRATE)
+else
+	@rattle fmt --check $(filter-out crates.txt,$(SOURCES))
+	@cd crates/crate_tests && rt try | diff stdout -
+	@cd crates/h2audit_split && rt try -- $$(cat args) | diff stdout -
+	tools/tests/believed_test.py
+	tools/tests/words_test.py
+	tools/tests/recipes_test.py
+endif
 
 # The gate: proves every crate from nothing, tries the must-fail edits, runs the tests and the programs; and asks the
 # programs, as both compilers built them, for whole reports and for parts.
