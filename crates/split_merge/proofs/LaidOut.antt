@@ -6,11 +6,8 @@ use Rattle.std.proofs.lemmas.List.Edits.{between_more, between_none}
 use Rattle.std.proofs.lemmas.Slice.{between_is}
 use borrow.Author.Tests.{eqb-true, eq-eqb}
 use Rattle.split_merge.specs.declared.splits.StreamRow.{StreamRow}
-use Rattle.table_hash.specs.declared.TableHash.{TableHash}
-use Rattle.indexmap.specs.IndexSet.{IndexSet}
-use Rattle.std.specs.Prelude.{MatchOption}
-use Rattle.split_merge.specs.code.Visits.{streams_in, row_positions, noted, noted_positions, total_of, counted, laid_out, grown, NotAmong, AreDistinct, IsIndex, HasRoomFor, HasPlaceFor, IsFilled, IsPut}
-use Rattle.split_merge.proofs.NamedStreams.{row-in, length-streams_in}
+use Rattle.split_merge.specs.code.Visits.{streams_in, row_positions, noted, noted_positions, total_of, counted, laid_out, grown, NotAmong, AreDistinct, IsIndex, HasRoomFor, IsFilled}
+use Rattle.split_merge.proofs.NamedStreams.{length-streams_in}
 use Rattle.split_merge.proofs.Visited.{noted_positions-append, noted_positions-one, where_so, append-none, three, get-from_slice_get, within-from_slice_get, not_among-at, row-within, positions-here, positions-there, noted-one}
 
 -- ---- the ranges
@@ -236,82 +233,3 @@ filled-streams empty rows notes positions filled =
     get_or-map (λ (row : StreamRow). row.stream) rows k e d (omega (arith, l, n))
     ∙ ap (λ (row : StreamRow). row.stream) (filled.ranges k e m)
     ∙ sym (get_or-map (λ (row : StreamRow). row.stream) empty k e d m))
-
--- ---- a visit
-
-module _ (empty : List StreamRow) (all came later : List (ℕ × ℕ)) (total : ℕ) (room : HasRoomFor empty all total)
-    (table : IndexSet ℕ TableHash) (index : IsIndex (streams_in empty) table)
-    (absent : (q : ℕ) → NotAmong q (streams_in empty) → noted_positions q all ≡ [])
-    (stream position : ℕ) (parts : (came ++ noted stream position) ++ later ≡ all)
-    (rows : List StreamRow) (positions : List ℕ) (long : length positions ≡ total)
-    (filled : IsFilled empty came rows positions) where
-  same-streams : streams_in rows ≡ streams_in empty
-  same-streams = filled-streams empty rows came positions filled
-
-  one-part : stream ≢ 0 → (came ++ (stream, position) ∷ []) ++ later ≡ all
-  one-part above = ap (λ l. (came ++ l) ++ later) (sym (noted-one stream position above)) ∙ parts
-
-  is-above : (r : ℕ) → slice_get (streams_in empty) r ≡ Some stream → stream ≢ 0
-  is-above r at e =
-      not_among-at 0 (streams_in empty) r index.above (within-from_slice_get (streams_in empty) r stream at)
-      (get-from_slice_get (streams_in empty) r stream at ∙ e)
-
-  pub place-for : HasPlaceFor stream rows (length positions)
-  place-for r d at =
-      let there : slice_get (streams_in empty) r ≡ Some stream = ap (λ l. slice_get l r) (sym same-streams) ∙ at in
-      let above = is-above r there in
-      place-within empty all came later total room r stream position index.distinct there above (one-part above)
-      rows positions long filled d
-
-  -- a stream that is noted has a row
-  not-absent : stream ≢ 0 → NotAmong stream (streams_in empty) → ⊥
-  not-absent above out =
-      let front = noted_positions-append stream (came ++ (stream, position) ∷ []) later in
-      let own = noted_positions-append stream came ((stream, position) ∷ []) in
-      let here = noted_positions-one stream stream position ∙ ap (λ b. where_so b position) (eq-eqb stream stream refl) in
-      let none = sym front ∙ ap (noted_positions stream) (one-part above) ∙ absent stream out in
-      let n = ap length none in
-      let a = length-append (noted_positions stream (came ++ (stream, position) ∷ [])) (noted_positions stream later) in
-      let b = ap length own ∙ length-append (noted_positions stream came) (noted_positions stream ((stream, position) ∷ [])) in
-      let c = ap length here in
-      omega (arith, n, a, b, c)
-
-  module _ (rows' : List StreamRow) (positions' : List ℕ) (put : IsPut stream position rows positions rows' positions') where
-    abbrev Done : Type 0
-    Done = (length positions' ≡ total) × IsFilled empty (came ++ noted stream position) rows' positions'
-
-    stays : NotAmong stream (streams_in empty) → noted stream position ≡ [] → Done
-    stays out none =
-        let same = put.missed (subst (NotAmong stream) (sym same-streams) out) in (
-          ap length same.1 ∙ long,
-          subst (λ l. IsFilled empty l rows' positions') (sym (ap (λ l. came ++ l) none ∙ append-none came))
-              (subst (λ r. IsFilled empty came r positions') (sym same.0)
-              (subst (λ p. IsFilled empty came rows p) (sym same.1) filled)),
-        )
-
-    grows : (r : ℕ) → slice_get (streams_in empty) r ≡ Some stream → Done
-    grows r at =
-        let d : StreamRow = record { stream = 0; from = 0; to = 0 } in
-        let above = is-above r at in
-        let same = put.found r d (ap (λ l. slice_get l r) same-streams ∙ at) in
-        let one = placed-more empty all came later total room r stream position index.distinct at above (one-part above)
-        rows positions long filled d in (
-          ap length same.1 ∙ length-set positions (get_or rows r d).to position ∙ long,
-          subst (λ l. IsFilled empty (came ++ l) rows' positions') (sym (noted-one stream position above))
-              (subst (λ r. IsFilled empty (came ++ (stream, position) ∷ []) r positions') (sym same.0)
-              (subst (λ p. IsFilled empty (came ++ (stream, position) ∷ []) (set rows r (counted (get_or rows r d))) p) (sym same.1) one)),
-        )
-
-    pub filled-visit : Done
-    filled-visit = by_stream _ refl where
-      by_row : stream ≢ 0 → (o : Option ℕ) →
-          MatchOption o (NotAmong stream (streams_in empty)) (λ row. slice_get (streams_in empty) row ≡ Some stream) → Done
-      by_row above None out = absurd (not-absent above out)
-      by_row above (Some r) at = grows r at
-
-      by_stream : (b : Bool) → (stream == 0) ≡ b → Done
-      by_stream true e =
-          stays (subst (λ s. NotAmong s (streams_in empty)) (sym (eqb-true stream 0 e)) index.above) (rw e refl)
-      by_stream false e =
-          let row = row-in (streams_in empty) stream in
-          by_row (λ z. true≢false (sym (eq-eqb stream 0 z) ∙ e)) row.0 row.1

@@ -9,7 +9,7 @@ pub mod NamedStreams
 pub mod Visited
 pub mod Positions
 pub mod LaidOut
-pub mod Placed
+pub mod Noted
 pub mod SplitIs
 pub mod GroupRanges
 pub mod ShownMerge

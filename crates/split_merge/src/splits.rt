@@ -1,11 +1,9 @@
-ghost use Rattle.std.specs.Prelude.{◌≡◌, ℕ, ◌+◌, ◌^◌, ◌<◌, ◌≤◌, [], IfOk, length, set};
-ghost use Rattle.std.specs.List.{All};
+ghost use Rattle.std.specs.Prelude.{◌≡◌, ◌^◌, ◌<◌, IfOk, length, set};
 ghost use Rattle.split_merge.specs.Split.{IsRange, IsSplit, part_of};
-ghost use Rattle.split_merge.specs.code.Visits.{HasPlaceFor, HasRoomFor, IsFilled, IsIndex, IsPut, NotAmong, counted, laid_out, noted_positions, notes_from, streams_in, total_of};
+ghost use Rattle.split_merge.specs.code.Visits.{AreDistinct, AreOfRows, HasRoomFor, IsFilled, NotAmong, counted, laid_out, notes_of, streams_in, total_of};
 
-use crate::visits::{Visits, known_row};
+use crate::visits::{Visit, Visits};
 use audit_terms::Frame;
-use indexmap::IndexSet;
 use std::alloc::{AllocError, Global};
 use table_hash::TableHash;
 
@@ -44,7 +42,7 @@ pub fn split(alloc: Global, hash: TableHash, frames: &[Frame]) -> Result<SplitFr
     let table = Visits::of(alloc, hash, frames)?;
     let mut rows = table.rows;
     let total = lay_out(&mut rows);
-    let positions = place(alloc, &mut rows, &table.index, frames, total)?;
+    let positions = place(alloc, &mut rows, table.visits.as_slice(), total)?;
     Ok(SplitFrames { rows, positions })
 }
 
@@ -65,59 +63,30 @@ fn lay_out(rows: &mut [StreamRow]) -> u32
 }
 
 /// The positions of the frames that the streams of the rows meet, each at the end of its row's range, which grows by
-/// it. The frames are gone over a second time, so that no list of their visits is kept.
+/// it.
 fn place(
     alloc: Global,
     rows: &mut [StreamRow],
-    index: &IndexSet<u32, TableHash>,
-    frames: &[Frame],
+    visits: &[Visit],
     total: u32,
 ) -> Result<Vec<u32>, AllocError>
-    requires short { length frames.now < 2 ^ 28 }
-    requires index { IsIndex (streams_in rows.old) index.now }
-    requires absent { (stream : ℕ) → NotAmong stream (streams_in rows.old)
-        → noted_positions stream (notes_from 0 frames.now) ≡ [] }
-    requires room { HasRoomFor rows.old (notes_from 0 frames.now) total }
+    requires distinct { AreDistinct (streams_in rows.old) }
+    requires above { NotAmong 0 (streams_in rows.old) }
+    requires known { AreOfRows (streams_in rows.old) visits.now }
+    requires room { HasRoomFor rows.old (notes_of (streams_in rows.old) visits.now) total }
     ensures long { IfOk result (λ positions. length positions.items ≡ total) }
-    ensures filled { IfOk result (λ positions. IsFilled rows.old (notes_from 0 frames.now) rows.new positions.items) }
+    ensures filled { IfOk result (λ positions.
+        IsFilled rows.old (notes_of (streams_in rows.old) visits.now) rows.new positions.items) }
 {
     let mut positions = vec![in alloc; 0; total as usize]?;
-    let mut last = 0;
-    let mut position = 0;
-    for frame in frames {
-        last = put_visit(&mut positions, rows, index, last, frame.stream, position);
-        last = put_visit(
+    for visit in visits {
+        put(
             &mut positions,
-            rows,
-            index,
-            last,
-            frame.promised_by(),
-            position,
+            &mut rows[visit.row as usize],
+            visit.position,
         );
-        position += 1;
     }
     Ok(positions)
-}
-
-/// Puts a position at the end of the range of a stream's row, if it has one, and answers the row; else the one before.
-fn put_visit(
-    positions: &mut Vec<u32>,
-    rows: &mut [StreamRow],
-    index: &IndexSet<u32, TableHash>,
-    last: usize,
-    stream: u32,
-    position: u32,
-) -> usize
-    requires index { IsIndex (streams_in rows.old) index.now }
-    requires place { HasPlaceFor stream rows.old (length positions.old.items) }
-    requires short { length positions.old.items < 2 ^ 32 }
-    ensures { IsPut stream position rows.old positions.old.items rows.new positions.new.items }
-{
-    let Some(row) = known_row(rows, index, last, stream) else {
-        return last;
-    };
-    put(positions, &mut rows[row], position);
-    row
 }
 
 /// Puts a position at the end of a row's range.

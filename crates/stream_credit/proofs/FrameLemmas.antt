@@ -1,8 +1,9 @@
 -- A walk meets a frame and the changes before it, and all frames and changes of a part.
-use Rattle.std.proofs.Common.{◌≡◌, ℕ, ◌+◌, ◌^◌, ◌<◌, Bool, true, false, List, [], ◌∷◌, ◌++◌, map, drop, length, slice_index_or, Option, Some, Result, Ok, Err, IfOk, refl, sym, ap, ◌∙◌, subst, arith}
+use Rattle.std.proofs.Common.{◌≡◌, ℕ, ◌+◌, ◌^◌, ◌<◌, Bool, true, false, List, [], ◌∷◌, ◌++◌, map, drop, take, length, slice_get, slice_index_or, Option, Some, Result, Ok, Err, IfOk, refl, sym, ap, ◌∙◌, subst, arith}
 use Rattle.std.specs.Bool.{OnTrue, OnFalse}
-use Rattle.std.specs.Option.{ForSome}
-use Rattle.std.proofs.lemmas.List.{append-nil, drop_more}
+use Rattle.std.specs.Option.{ForSome, option_to_list}
+use Rattle.std.proofs.lemmas.Grind.{flat_map-append}
+use Rattle.std.proofs.lemmas.List.{append-nil, drop_more, take_more}
 use Rattle.std.proofs.lemmas.Option.{slice_get-get_or}
 use Rattle.audit_terms.specs.declared.sides.Sides.{Sides}
 use Rattle.audit_terms.specs.declared.frames.Frame.{Frame}
@@ -138,6 +139,23 @@ pub frames-next : (frames : List Frame) (positions : List ℕ) (i d : ℕ) (e : 
 frames-next frames positions i d e within inside =
     rw (drop_more positions i d within, slice_get-get_or frames (slice_index_or positions i d) e inside) refl
 
+pub frames-more : (frames : List Frame) (positions : List ℕ) (i d : ℕ) (e : Frame) → i < length positions
+    → slice_index_or positions i d < length frames
+    → frames_at frames (take (i + 1) positions)
+    ≡ frames_at frames (take i positions) ++ slice_index_or frames (slice_index_or positions i d) e ∷ []
+frames-more frames positions i d e within inside =
+    ap (frames_at frames) (take_more positions i d within)
+    ∙ flat_map-append (λ position. option_to_list (slice_get frames position)) (take i positions) (slice_index_or positions i d ∷ [])
+    ∙ ap (λ (one : Option Frame). frames_at frames (take i positions) ++ (option_to_list one ++ []))
+    (slice_get-get_or frames (slice_index_or positions i d) e inside)
+
+pub frames-parts : (frames : List Frame) (some later all : List ℕ) (near : List Frame) → all ≡ some ++ later
+    → near ≡ frames_at frames some → frames_at frames all ≡ near ++ frames_at frames later
+frames-parts frames some later all near e n =
+    ap (frames_at frames) e
+    ∙ flat_map-append (λ position. option_to_list (slice_get frames position)) some later
+    ∙ ap (λ l. l ++ frames_at frames later) (sym n)
+
 module _ {L : Type 0} (answers : L → List Finding → Option ℕ → L → Type 0) (run : WholeRun L) (now : L) (walk : Walk) (left : Left)
     (frames : List Frame) (none : frames ≡ []) (h : IsSound answers run now walk left frames) where
   pub last-changes : IsAtChanges answers run now walk (h.low + 2 ^ 28) left.changes.now []
@@ -155,3 +173,10 @@ abbrev pub MeetsFrames : {L : Type 0} → (L → List Finding → Option ℕ →
     → (now : L) → Walk → Left → List Frame → Type 0
 MeetsFrames {L} answers before old old_left frames now walk left rest =
     (run : WholeRun L) → IsSound answers run before old old_left frames → IsSound answers run now walk left rest
+
+-- the same of a walk that has more frames to come
+abbrev pub MeetsSome : {L : Type 0} → (L → List Finding → Option ℕ → L → Type 0) → (before : L) → Walk → Left → List Frame
+    → (now : L) → Walk → Left → List Frame → Type 0
+MeetsSome {L} answers before old old_left frames now walk left some =
+    (run : WholeRun L) (rest : List Frame) → IsSound answers run before old old_left (frames ++ rest)
+    → IsSound answers run now walk left (some ++ rest)

@@ -1,5 +1,6 @@
-ghost use Rattle.std.specs.Prelude.{◌≡◌, ◌-◌, ◌^◌, ◌≤◌, All, IfOk};
+ghost use Rattle.std.specs.Prelude.{◌≡◌, ℕ, ◌-◌, ◌^◌, ◌<◌, ◌≤◌, ◌++◌, All, List, IfOk, OnOk, length};
 ghost use Rattle.std.specs.Bool.{OnTrue, OnFalse};
+ghost use Rattle.audit_terms.specs.declared.frames.Frame.{Frame as FrameTerm};
 ghost use Rattle.audit_terms.specs.declared.findings.Finding.{Finding};
 ghost use Rattle.audit_terms.specs.Place.{place_number};
 ghost use Rattle.audit_terms.specs.Finding.{shown};
@@ -7,7 +8,7 @@ ghost use Rattle.audit_terms.specs.runs.Look.{IsRun};
 ghost use Rattle.audit_terms.specs.runs.Streams.{stream_run, stream_at_end};
 ghost use Rattle.settings_pair.specs.Changes.{AreOrderly, AreAcknowledged};
 ghost use Rattle.stream_credit.specs.Looks.{step_numbers, opened_up_to};
-ghost use Rattle.stream_credit.specs.Part.{IsPart, part_frames};
+ghost use Rattle.stream_credit.specs.Part.{IsPart, frames_at, part_frames};
 ghost use Rattle.stream_credit.specs.code.Walk.{WholeRun, IsSound, HasEnded, HasStopped};
 
 use crate::changes::Changes;
@@ -15,11 +16,52 @@ use crate::ends::run_of;
 use crate::left::Left;
 use crate::parts::{StreamPart, StreamRun};
 use crate::walks::Walk;
-use audit_terms::Look;
+use audit_terms::{Frame, Look};
 use std::alloc::{AllocError, Global};
+
+/// How many frames of a stream are gathered at once.
+const NEAR: usize = 32;
+
+/// Makes of `near` the frames at some positions. They lie far from one another, and loads of which none waits for what
+/// another one brings are under way at once.
+fn gather(near: &mut Vec<Frame>, frames: &[Frame], positions: &[u32]) -> Result<(), AllocError>
+    requires { All (λ (position : ℕ). position < length frames.now) positions.now }
+    ensures { OnOk result (near.new.items ≡ frames_at frames.now positions.now) }
+{
+    near.clear();
+    for position in positions {
+        near.extend_from_slice(&[frames[*position as usize]])?;
+    }
+    Ok(())
+}
+
+/// Meets frames, and the changes before them, and answers whether it met them all.
+fn meet_frames<L: Look>(
+    walk: &mut Walk,
+    look: &mut L,
+    left: &mut Left<'_>,
+    frames: &[Frame],
+) -> Result<bool, AllocError>
+    requires { (run : WholeRun L) × (rest : List FrameTerm)
+        × IsSound L.answers run look.old walk.old left.old (frames.now ++ rest) }
+    ensures goes_on { IfOk result (λ goes_on. OnTrue goes_on ((run : WholeRun L) (rest : List FrameTerm)
+        → IsSound L.answers run look.old walk.old left.old (frames.now ++ rest)
+        → IsSound L.answers run look.new walk.new left.new rest)) }
+    ensures stops { IfOk result (λ goes_on. OnFalse goes_on ((run : WholeRun L) (rest : List FrameTerm)
+        → IsSound L.answers run look.old walk.old left.old (frames.now ++ rest)
+        → HasStopped L.answers run look.new walk.new)) }
+{
+    for frame in frames {
+        if !walk.meet_frame(look, left, frame)? {
+            return Ok(false);
+        }
+    }
+    Ok(true)
+}
 
 /// Meets all frames of a part, and all changes of its connection, and answers whether it met them all.
 fn meet_all<L: Look>(
+    alloc: Global,
     walk: &mut Walk,
     look: &mut L,
     part: &StreamPart<'_>,
@@ -34,10 +76,15 @@ fn meet_all<L: Look>(
         → IsSound L.answers run look.old walk.old left.entry (part_frames part.now)
         → HasStopped L.answers run look.new walk.new)) }
 {
-    for position in part.positions {
-        if !walk.meet_frame(look, &mut left, &part.frames[*position as usize])? {
+    let mut rest = part.positions;
+    let mut near = Vec::with_capacity(alloc, rest.len().min(NEAR))?;
+    while !rest.is_empty() {
+        let (some, later) = rest.split_at(rest.len().min(NEAR));
+        gather(&mut near, part.frames, some)?;
+        if !meet_frames(walk, look, &mut left, near.as_slice())? {
             return Ok(false);
         }
+        rest = later;
     }
     walk.meet_changes(look, left)
 }
@@ -70,6 +117,6 @@ pub fn stream_run<L: Look>(
         All (λ (found : Finding). place_number found.place ≤ 2 ^ 28 - 2) run.findings.items) }
 {
     let mut walk = Walk::idle(alloc, part.stream, credits_shown, look);
-    let is_whole = meet_all(&mut walk, look, part, changes.left())?;
+    let is_whole = meet_all(alloc, &mut walk, look, part, changes.left())?;
     Ok(run_of(walk, is_whole))
 }

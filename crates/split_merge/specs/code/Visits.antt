@@ -1,11 +1,12 @@
 -- What the table of streams says that a split fills as it walks over the frames.
-use Rattle.std.specs.Prelude.{◌≡◌, ◌≢◌, ℕ, ◌+◌, ◌<◌, ◌≤◌, ◌==◌, ◌||◌, if◌then◌else◌, Bool, false, List, [], ◌∷◌, ◌++◌, map, filter, length, get_or, set, slice_get, MatchOption, Some}
-use Rattle.std.specs.List.{between, list_any}
+use Rattle.std.specs.Prelude.{◌≡◌, ◌≢◌, ℕ, ◌+◌, ◌<◌, ◌≤◌, ◌==◌, ◌||◌, if◌then◌else◌, Bool, false, List, [], ◌∷◌, ◌++◌, map, filter, length, get_or, slice_get}
+use Rattle.std.specs.List.{All, between, list_any}
 use Rattle.table_hash.specs.declared.TableHash.{TableHash}
 use Rattle.indexmap.specs.IndexSet.{IndexSet}
 use Rattle.audit_terms.specs.declared.frames.Frame.{Frame}
 use Rattle.audit_terms.specs.Frame.{promised_by}
 use Rattle.split_merge.specs.declared.splits.StreamRow.{StreamRow}
+use Rattle.split_merge.specs.declared.visits.Visit.{Visit}
 use Rattle.split_merge.specs.declared.visits.Visits.{Visits}
 
 -- the streams of the rows
@@ -69,6 +70,14 @@ with_row stream rows =
 abbrev pub counted : StreamRow → StreamRow
 counted row = record { stream = row.stream; from = row.from; to = row.to + 1 }
 
+-- what visits note of the streams of rows
+abbrev pub notes_of : (streams : List ℕ) → List Visit → List (ℕ × ℕ)
+notes_of streams visits = map (λ (visit : Visit). (get_or streams visit.row 0, visit.position)) visits
+
+-- each visit's row is that of one of the streams
+abbrev pub AreOfRows : (streams : List ℕ) → List Visit → Type 0
+AreOfRows streams visits = All (λ (visit : Visit). visit.row < length streams) visits
+
 -- rows say what was noted: each counts the visits of its stream from 0
 pub record IsListed (notes : List (ℕ × ℕ)) (rows : List StreamRow) : Type 0 where
   pub counts : (r : ℕ) (d : StreamRow) → r < length rows → (get_or rows r d).to ≡ length (row_positions r rows notes)
@@ -79,6 +88,8 @@ pub record IsListed (notes : List (ℕ × ℕ)) (rows : List StreamRow) : Type 0
 pub record IsTableOf (notes : List (ℕ × ℕ)) (table : Visits) : Type 0 where
   pub index : IsIndex (streams_in table.rows.items) table.index
   pub listed : IsListed notes table.rows.items
+  pub known : AreOfRows (streams_in table.rows.items) table.visits.items
+  pub noted : notes_of (streams_in table.rows.items) table.visits.items ≡ notes
 
 -- the table holds at most so many rows and visits
 pub record HasAtMost (many : ℕ) (table : Visits) : Type 0 where
@@ -111,15 +122,3 @@ pub record IsFilled (empty : List StreamRow) (notes : List (ℕ × ℕ)) (rows :
   pub filled : (r : ℕ) (d : StreamRow) → r < length empty →
       between (get_or empty r d).from ((get_or empty r d).from + length (row_positions r empty notes)) positions
       ≡ row_positions r empty notes
-
--- the next position of the stream, if it has a row, stands in the list
-abbrev pub HasPlaceFor : (stream : ℕ) → List StreamRow → (total : ℕ) → Type 0
-HasPlaceFor stream rows total =
-    (r : ℕ) (d : StreamRow) → slice_get (streams_in rows) r ≡ Some stream → (get_or rows r d).to < total
-
--- the position was put at the end of the range of the stream's row, if it has one
-pub record IsPut (stream position : ℕ) (rows : List StreamRow) (positions : List ℕ)
-    (rows' : List StreamRow) (positions' : List ℕ) : Type 0 where
-  pub found : (r : ℕ) (d : StreamRow) → slice_get (streams_in rows) r ≡ Some stream →
-      (rows' ≡ set rows r (counted (get_or rows r d))) × (positions' ≡ set positions (get_or rows r d).to position)
-  pub missed : NotAmong stream (streams_in rows) → (rows' ≡ rows) × (positions' ≡ positions)

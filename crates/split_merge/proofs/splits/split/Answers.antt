@@ -1,42 +1,55 @@
 use Rattle.std.proofs.Common.{◌≡◌, length, sym, ap, ◌∙◌, subst, arith}
 use Rattle.std.specs.Vec.{with_items}
 use Rattle.std.proofs.lemmas.List.{with_items_is}
-use Rattle.split_merge.specs.code.Visits.{streams_in, notes_from, laid_out, total_of, NotAmong, IsIndex, IsFilled}
+use Rattle.split_merge.specs.code.Visits.{streams_in, notes_from, notes_of, laid_out, total_of, NotAmong, AreDistinct, AreOfRows, HasRoomFor, IsFilled}
 use Rattle.split_merge.proofs.LaidOut.{laid-length, laid-streams, room-laid}
 use Rattle.split_merge.proofs.SplitIs.{split-is}
 use Rattle.split_merge.proofs.splits.split.Goals as goal
 
+pub place-requires-clause-distinct : goal.place-requires-clause-distinct
+place-requires-clause-distinct c =
+    let rows = c.in_ok-table.table.rows in
+    let laid = c.lay_out-total.ensures.rows ∙ ap (laid_out 0) c.deref_mut.ensures.value in
+    let long : length c.lay_out-total.new.rows ≡ c.in_ok-table.table.rows.len =
+    omega (arith, ap length laid ∙ laid-length 0 rows.items, rows.ok.0) in
+    let is = c.deref_mut-2.ensures.value ∙ with_items_is rows c.lay_out-total.new.rows long ∙ laid in
+    let named = ap streams_in is ∙ laid-streams 0 rows.items in
+    subst AreDistinct (sym named) c.in_ok-table.ensures.table.index.distinct
+
+pub place-requires-clause-above : goal.place-requires-clause-above
+place-requires-clause-above c =
+    let rows = c.in_ok-table.table.rows in
+    let laid = c.lay_out-total.ensures.rows ∙ ap (laid_out 0) c.deref_mut.ensures.value in
+    let long : length c.lay_out-total.new.rows ≡ c.in_ok-table.table.rows.len =
+    omega (arith, ap length laid ∙ laid-length 0 rows.items, rows.ok.0) in
+    let is = c.deref_mut-2.ensures.value ∙ with_items_is rows c.lay_out-total.new.rows long ∙ laid in
+    let named = ap streams_in is ∙ laid-streams 0 rows.items in
+    subst (NotAmong 0) (sym named) c.in_ok-table.ensures.table.index.above
+
+pub place-requires-clause-known : goal.place-requires-clause-known
+place-requires-clause-known c =
+    let rows = c.in_ok-table.table.rows in
+    let laid = c.lay_out-total.ensures.rows ∙ ap (laid_out 0) c.deref_mut.ensures.value in
+    let long : length c.lay_out-total.new.rows ≡ c.in_ok-table.table.rows.len =
+    omega (arith, ap length laid ∙ laid-length 0 rows.items, rows.ok.0) in
+    let is = c.deref_mut-2.ensures.value ∙ with_items_is rows c.lay_out-total.new.rows long ∙ laid in
+    let named = ap streams_in is ∙ laid-streams 0 rows.items in
+    subst (λ s. AreOfRows s c.as_slice.result.now) (sym named)
+    (subst (AreOfRows (streams_in rows.items)) (sym c.as_slice.ensures.value) c.in_ok-table.ensures.table.known)
+
 pub place-requires-clause-room : goal.place-requires-clause-room
 place-requires-clause-room c =
-    let table = c.in_ok-table.table in
     let rows = c.in_ok-table.table.rows in
     let laid = c.lay_out-total.ensures.rows ∙ ap (laid_out 0) c.deref_mut.ensures.value in
     let long : length c.lay_out-total.new.rows ≡ c.in_ok-table.table.rows.len =
     omega (arith, ap length laid ∙ laid-length 0 rows.items, rows.ok.0) in
     let is = c.deref_mut-2.ensures.value ∙ with_items_is rows c.lay_out-total.new.rows long ∙ laid in
+    let named = ap streams_in is ∙ laid-streams 0 rows.items in
+    let told = ap (λ s. notes_of s c.as_slice.result.now) named
+    ∙ ap (notes_of (streams_in rows.items)) c.as_slice.ensures.value ∙ c.in_ok-table.ensures.table.noted in
     let total = c.lay_out-total.ensures.total ∙ ap total_of c.deref_mut.ensures.value in
-    rw (is, total) (room-laid rows.items (notes_from 0 c.args.frames.now) c.in_ok-table.ensures.table.listed.counts)
-
-pub place-requires-clause-index : goal.place-requires-clause-index
-place-requires-clause-index c =
-    let table = c.in_ok-table.table in
-    let rows = c.in_ok-table.table.rows in
-    let laid = c.lay_out-total.ensures.rows ∙ ap (laid_out 0) c.deref_mut.ensures.value in
-    let long : length c.lay_out-total.new.rows ≡ c.in_ok-table.table.rows.len =
-    omega (arith, ap length laid ∙ laid-length 0 rows.items, rows.ok.0) in
-    let is = c.deref_mut-2.ensures.value ∙ with_items_is rows c.lay_out-total.new.rows long ∙ laid in
-    let named = ap streams_in is ∙ laid-streams 0 rows.items in
-    subst (λ s. IsIndex s table.index) (sym named) c.in_ok-table.ensures.table.index
-
-pub place-requires-clause-absent : goal.place-requires-clause-absent
-place-requires-clause-absent c = λ q out.
-    let rows = c.in_ok-table.table.rows in
-    let laid = c.lay_out-total.ensures.rows ∙ ap (laid_out 0) c.deref_mut.ensures.value in
-    let long : length c.lay_out-total.new.rows ≡ c.in_ok-table.table.rows.len =
-    omega (arith, ap length laid ∙ laid-length 0 rows.items, rows.ok.0) in
-    let is = c.deref_mut-2.ensures.value ∙ with_items_is rows c.lay_out-total.new.rows long ∙ laid in
-    let named = ap streams_in is ∙ laid-streams 0 rows.items in
-    c.in_ok-table.ensures.table.listed.absent q (subst (NotAmong q) named out)
+    subst (λ n. HasRoomFor c.deref_mut-2.result.now n c.lay_out-total.result) (sym told)
+    (rw (is, total) (room-laid rows.items (notes_from 0 c.args.frames.now) c.in_ok-table.ensures.table.listed.counts))
 
 pub returns : goal.returns
 returns c =
@@ -46,11 +59,16 @@ returns c =
     let long : length c.lay_out-total.new.rows ≡ c.in_ok-table.table.rows.len =
     omega (arith, ap length laid ∙ laid-length 0 rows.items, rows.ok.0) in
     let is = c.deref_mut-2.ensures.value ∙ with_items_is rows c.lay_out-total.new.rows long ∙ laid in
+    let named = ap streams_in is ∙ laid-streams 0 rows.items in
+    let told = ap (λ s. notes_of s c.as_slice.result.now) named
+    ∙ ap (notes_of (streams_in rows.items)) c.as_slice.ensures.value ∙ c.in_ok-table.ensures.table.noted in
     let total = c.lay_out-total.ensures.total ∙ ap total_of c.deref_mut.ensures.value in
     let noted = notes_from 0 c.args.frames.now in
     let filled : IsFilled (laid_out 0 c.in_ok-table.table.rows.items) (notes_from 0 c.args.frames.now) c.place.new.rows
     c.in_ok-positions.positions.items =
-    subst (λ l. IsFilled l noted c.place.new.rows c.in_ok-positions.positions.items) is c.in_ok-positions.ensures.filled in
+    subst (λ l. IsFilled l noted c.place.new.rows c.in_ok-positions.positions.items) is
+    (subst (λ n. IsFilled c.deref_mut-2.result.now n c.place.new.rows c.in_ok-positions.positions.items) told
+    c.in_ok-positions.ensures.filled) in
     let kept : length c.place.new.rows ≡ c.in_ok-table.table.rows.len =
     omega (arith, filled.long ∙ laid-length 0 rows.items, rows.ok.0) in
     split-is c.args.frames.now table record {

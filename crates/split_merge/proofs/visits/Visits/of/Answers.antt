@@ -1,9 +1,9 @@
-use Rattle.std.proofs.Common.{◌+◌, ◌*◌, ◌∷◌, [], ◌++◌, length, take, drop, sym, ap, ◌∙◌, subst, arith}
+use Rattle.std.proofs.Common.{◌+◌, ◌*◌, ◌∷◌, [], ◌++◌, length, take, drop, refl, sym, ap, ◌∙◌, subst, arith}
 use Rattle.std.proofs.lemmas.List.{append-nil, at_drop_all, take_all, take_more, drop_more, length-take-le}
 use Rattle.audit_terms.specs.declared.frames.Frame.{Frame}
 use Rattle.audit_terms.specs.Frame.{promised_by}
 use Rattle.audit_terms.specs.Pass.{first_of, streams_of}
-use Rattle.split_merge.specs.code.Visits.{streams_in, with_stream, noted, notes_from, total_of, IsTableOf}
+use Rattle.split_merge.specs.code.Visits.{streams_in, with_stream, noted, notes_from, notes_of, total_of, AreOfRows, IsTableOf}
 use Rattle.split_merge.proofs.NamedStreams.{without, named-more, named-first, index-empty}
 use Rattle.split_merge.proofs.Visited.{listed-none}
 use Rattle.split_merge.proofs.Positions.{notes-push}
@@ -12,10 +12,14 @@ use Rattle.split_merge.proofs.visits.Visits.of.Goals as goal
 pub loop-frame-init : goal.loop-frame-init
 loop-frame-init c =
     let none = c.new.ensures.items in
+    let unseen = c.in_ok-visits.ensures.items in
     record {
+      position = refl;
       table = record {
         index = rw none (index-empty c.with_hasher.result c.with_hasher.ensures.empty);
         listed = listed-none c.new.result.items none;
+        known = subst (AreOfRows (streams_in c.new.result.items)) (sym unseen) (λ k d l. absurd (omega arith));
+        noted = ap (notes_of (streams_in c.new.result.items)) unseen;
       };
       named = rw none (named-first (streams_of c.args.frames.now));
       room = record {
@@ -26,7 +30,7 @@ loop-frame-init c =
 
 pub note-requires-in-loop-frame-clause-index : goal.note-requires-in-loop-frame-clause-index
 note-requires-in-loop-frame-clause-index c =
-    (c.in_ok-note.ensures.table _ c.loop-frame.frame-index c.loop-frame.invariant.table).index
+    (c.in_ok-note.ensures.table _ c.loop-frame.invariant.table).index
 
 pub note-requires-in-loop-frame-clause-room : goal.note-requires-in-loop-frame-clause-room
 note-requires-in-loop-frame-clause-room c =
@@ -39,6 +43,7 @@ pub loop-frame-preserved : goal.loop-frame-preserved
 loop-frame-preserved c =
     let frames = c.args.frames.now in
     let i = c.loop-frame.frame-index in
+    let at = c.loop-frame.position in
     let within = c.loop-frame-test.true in
     let seen = streams_in c.loop-frame.table.rows.items in
     let frame : Frame = c.frame-item.result in
@@ -53,11 +58,12 @@ loop-frame-preserved c =
     let long = length-take-le i frames (omega (arith, within)) in
     let notes = take_more frames i frame within ∙ ap (λ (one : Frame). front ++ one ∷ []) (sym c.frame-item.is) in
     record {
+      position = omega (arith, c.loop-frame.invariant.position);
       table = subst (λ l. IsTableOf l c.note-in-loop-frame.new.self)
-          (ap (λ p. (notes_from 0 front ++ noted frame.stream i) ++ noted p i) c.promised_by.ensures
-          ∙ sym (notes-push 0 i front frame (omega (arith, long)))
+          (ap (λ p. (notes_from 0 front ++ noted frame.stream at) ++ noted p at) c.promised_by.ensures
+          ∙ sym (notes-push 0 at front frame (omega (arith, long, c.loop-frame.invariant.position)))
           ∙ ap (notes_from 0) (sym notes))
-          (c.in_ok-note-2.ensures.table _ i (c.in_ok-note.ensures.table _ i c.loop-frame.invariant.table));
+          (c.in_ok-note-2.ensures.table _ (c.in_ok-note.ensures.table _ c.loop-frame.invariant.table));
       named = ap (λ l. l ++ without l (streams_of rest)) both
           ∙ named-more (promised_by frame) own (streams_of rest)
           ∙ named-more frame.stream seen (first_of (promised_by frame) (streams_of rest))

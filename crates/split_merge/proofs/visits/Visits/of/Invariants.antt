@@ -6,6 +6,7 @@ use Rattle.split_merge.proofs.visits.Visits.of.Given as goal
 
 abbrev pub invariant-loop-frame : goal.invariant-loop-frame
 invariant-loop-frame l = record {
+  position : l.position ≡ l.frame-index;
   table : IsTableOf (notes_from 0 (take l.frame-index l.frames)) l.table;
   named : streams_in l.table.rows.items ++ without (streams_in l.table.rows.items) (streams_of (drop l.frame-index l.frames))
       ≡ streams_of l.frames;

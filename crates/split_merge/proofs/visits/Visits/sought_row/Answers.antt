@@ -1,0 +1,22 @@
+use Rattle.std.proofs.Common.{◌≡◌, ◌==◌, Bool, true, false, not, slice_get, refl, sym, ap, ◌∙◌, subst}
+use Rattle.std.specs.List.{list_any}
+use Rattle.split_merge.specs.code.Visits.{streams_in, IsIndex}
+use Rattle.split_merge.proofs.NamedStreams.{found_among, absent-from_set, index-more, streams_in-push}
+use Rattle.split_merge.proofs.Visited.{with_row-seen}
+use Rattle.split_merge.proofs.visits.Visits.sought_row.Goals as goal
+
+not_back : (b : Bool) → not b ≡ true → b ≡ false
+not_back true e = sym e
+not_back false e = refl
+
+pub returns-clause-index : goal.returns-clause-index
+returns-clause-index c =
+    let rows = c.args.self.now.rows.items in
+    let set = c.args.self.now.index in
+    let none : list_any (λ other. c.args.stream == other) set.keys ≡ false =
+    not_back _ (sym c.in_ok-row.ensures.added ∙ c.if-not-added.false) in
+    let new = absent-from_set (streams_in rows) set c.requires.index c.args.stream none in
+    subst (λ l. IsIndex l c.insert_full.new.self)
+    (sym (ap streams_in c.in_ok-push.ensures.items ∙ streams_in-push rows _))
+    (index-more (streams_in rows) set c.insert_full.new.self c.args.stream c.requires.above c.requires.index new
+    c.in_ok-row.ensures.keys)
