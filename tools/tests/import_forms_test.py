@@ -345,7 +345,7 @@ class Flows(unittest.TestCase):
         flow = Flow()
         for at in range(1100):
             flow.add(1 + (at << 16), bytes(1 << 16), (at, 0))
-        self.assertEqual((flow.held, flow.behind_hole, flow.add(0, b"a", (2000, 0))), ([], (0, 0), b""))
+        self.assertEqual((flow.held, flow.behind_hole, flow.add(0, b"a", (2000, 0))), (None, (0, 0), b""))
 
 
 class Secrets(unittest.TestCase):

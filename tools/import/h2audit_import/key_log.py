@@ -22,6 +22,7 @@ class Keys:
 
     def __init__(self) -> None:
         self.secrets: dict[bytes, dict[str, bytes]] = {}
+        self.has_master = False
         self.bad_lines = 0
 
     def find(self, random: bytes, label: str) -> bytes | None:
@@ -49,6 +50,7 @@ class Keys:
         if len(random) != RANDOM_LENGTH or len(secret) not in SECRET_LENGTHS:
             raise ValueError
         self.secrets.setdefault(random, {})[label] = secret
+        self.has_master |= label == MASTER
 
 
 def lines_of(file: BinaryIO) -> Iterable[bytes]:

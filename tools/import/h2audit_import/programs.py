@@ -1,6 +1,7 @@
 """What h2audit-import and h2audit-any share: words, statuses, messages, signals and progress."""
 
 import argparse
+import gc
 import os
 import signal
 import sys
@@ -96,7 +97,11 @@ def say(program: str, message: str) -> None:
 
 
 def run(program: str, work: Callable[[], int]) -> NoReturn:
-    """Does the work, and ends with its status, or with that of what went wrong and one line that says it."""
+    """Does the work, and ends with its status, or with that of what went wrong and one line that says it.
+
+    A connection that has ended is in no cycle, so the search for cycles would find nothing, at a tenth of the time.
+    """
+    gc.disable()
     status = IO_FAILED
     try:
         with signals_raise():

@@ -8,6 +8,7 @@ from .internet import Segment
 from .key_log import Keys
 from .map_file import Map
 from .outcomes import Outcome, Unopened
+from .sessions import lines_for
 from .table import Table
 from .writer import Writer
 
@@ -55,5 +56,8 @@ class OneProcess:
             self.table.keys_came()
 
     def finish(self) -> tuple[list[Outcome], list[Unopened]]:
+        if lines := lines_for([self.table.sessions()], self.keys):
+            self.keys.add_text(lines)
+            self.table.keys_came()
         self.table.finish_all()
         return self.table.outcomes, self.table.unopened
