@@ -23,6 +23,8 @@ import import_tools as tools
 sys.path.insert(0, str(tools.TOP / "tools" / "import"))
 
 from h2audit_import.flows import Flow  # noqa: E402
+from h2audit_import.key_log import Keys  # noqa: E402
+from h2audit_import.sessions import Sessions, lines_for  # noqa: E402
 
 NAME = "nghttp-nghttpd-13"
 PCAP = tools.capture_named(NAME).read_bytes()
@@ -346,6 +348,20 @@ class Flows(unittest.TestCase):
         for at in range(1100):
             flow.add(1 + (at << 16), bytes(1 << 16), (at, 0))
         self.assertEqual((flow.held, flow.behind_hole, flow.add(0, b"a", (2000, 0))), (None, (0, 0), b""))
+
+
+class Resumed(unittest.TestCase):
+    def test_tickets_in_a_row(self):
+        """A resumed connection gets a ticket of its own, which the next one shows; what one process met, another may need."""
+        keys, workers = Keys(), [Sessions(), Sessions()]
+        keys.add_line(b"CLIENT_RANDOM " + b"aa" * 32 + b" " + b"12" * 48)
+        workers[0].begin(b"first ticket", 1, b"\xaa" * 32)
+        workers[1].resume([b"first ticket", b""], 5, b"\xbb" * 32)
+        workers[1].begin(b"second ticket", 5, b"\xbb" * 32)
+        workers[0].resume([b"unknown", b"second ticket"], 9, b"\xcc" * 32)
+        workers[0].resume([b"unknown"], 11, b"\xdd" * 32)
+        wanted = b"".join(b"CLIENT_RANDOM %s %s\n" % (random * 32, b"12" * 48) for random in (b"bb", b"cc"))
+        self.assertEqual(lines_for(workers, keys), wanted)
 
 
 class Secrets(unittest.TestCase):

@@ -119,6 +119,42 @@ class Suites(Folder):
         made = tools.imported("-k", keys, self.path("resumed.pcap"))
         self.assertEqual([data for _, _, data in tools.payloads(made)], [b"first", b"second"])
 
+    def test_session_of_another(self):
+        """A key log with the session's first handshake alone: by identifier and by ticket, one after the other, and on
+        standard input; processes change nothing. Nothing is read where that line is missing too.
+        """
+        for name, option in (("identifier", ssl.OP_NO_TICKET), ("ticket", 0)):
+            said, first_line = self.resume(name, option)
+            path = self.path(f"{name}.pcap")
+            for jobs in ("1", "4"):
+                made = tools.imported("-j", jobs, "-k", first_line, path)
+                self.assertEqual([data for _, _, data in tools.payloads(made)], said, name)
+                again = tools.imported("-j", jobs, "-k", first_line, input=path.read_bytes())
+                self.assertEqual(again.packets, made.packets)
+            first_line.write_text("CLIENT_RANDOM " + "11" * 32 + " " + "22" * 48 + "\n")
+            made = tools.imported("-k", first_line, path)
+            self.assertEqual([line.split()[-1] for line in tools.lines_of(made, "connection")], ["no-key"] * 4)
+
+    def resume(self, name, option):
+        """Four connections of one session; what was said, and a key log with the line of the first."""
+        capture, keys = tls_talk.Capture(), self.path(f"{name}.keys")
+        keys.write_bytes(b"")
+        pair = tls_talk.contexts(self.certificates, keys, ssl.TLSVersion.TLSv1_2, "ECDHE-RSA-AES128-GCM-SHA256")
+        pair[1].options |= option
+        said = [b"first", b"second", b"third", b"fourth"]
+        talks = []  # of all, since a server forgets the session of an end that goes
+        for at, data in enumerate(said):
+            session = talks[-1].ends[0].session if talks else None
+            talks.append(tls_talk.Talk(capture, pair, port=40000 + at, session=session).shake_hands())
+            talks[-1].say(at % 2, data)
+            self.assertEqual(talks[-1].ends[0].session_reused, at > 0)
+        capture.write(self.path(f"{name}.pcap"))
+        lines = [line for line in keys.read_text().splitlines(keepends=True) if not line.startswith("#")]
+        self.assertEqual([line.split()[0] for line in lines], ["CLIENT_RANDOM"] * 4)
+        self.assertEqual(len({line.split()[2] for line in lines}), 1)
+        keys.write_text(lines[0])
+        return said, keys
+
     def test_old_versions(self):
         made, _ = self.talk(ssl.TLSVersion.TLSv1_1, None, [])
         self.assertTrue(tools.lines_of(made, "connection")[0].endswith("refused tls-version 0x0302"))
