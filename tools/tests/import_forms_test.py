@@ -9,6 +9,7 @@ import gzip
 import os
 import pathlib
 import random
+import shutil
 import signal
 import stat
 import struct
@@ -41,11 +42,6 @@ def given(data, *words):
 
 def datagrams():
     return [tools.Packet(one.nanos, one.data[14:], one.original - 14) for one in PACKETS]
-
-
-def with_front(front, link):
-    packets = [tools.Packet(one.nanos, front + one.data, one.original + len(front)) for one in datagrams()]
-    return tools.pcap_of(packets, link)
 
 
 def in_ipv6(extensions=b"", first=6):
@@ -169,35 +165,68 @@ class Files(unittest.TestCase):
             self.assertEqual((made.bytes, made.map), (b"", []))
 
 
+V4, V6, MACS = b"\x08\x00", b"\x86\xdd", bytes(12)
+# Link types, each with the front that it puts before a datagram of IPv4.
+FRONTS = [
+    (1, MACS + b"\x81\x00\x00\x05" + V4), (1, MACS + b"\x88\xa8\x00\x01\x81\x00\x00\x02" + V4),
+    (1, MACS + b"\x91\x00\x00\x07\x81\x00\x00\x02" + V4), (12, b""), (14, b""), (101, b""), (228, b""), (113, bytes(14) + V4),
+    (113, bytes(14) + b"\x81\x00\x00\x02" + V4), (276, V4 + bytes(18)), (0, b"\x02\x00\x00\x00"), (0, b"\x00\x00\x00\x02"),
+    (108, b"\x00\x00\x00\x02"),
+]  # fmt: skip
+FRONTS_OF_IPV6 = [(1, MACS + V6), (101, b""), (0, b"\x1e\x00\x00\x00"), (113, bytes(14) + V6), (276, V6 + bytes(18)), (229, b"")]
+PADDING = b"\x01\x04" + bytes(4)
+# Extension headers, with the number of the first: none, hop-by-hop, two of options, a whole fragment, authentication, routing, and
+# three of them.
+EXTENSIONS = [
+    (b"", 6), (b"\x06\x00" + PADDING, 0), (b"\x3c\x00" + PADDING + b"\x06\x00" + PADDING, 0), (b"\x06\x00" + bytes(6), 44),
+    (b"\x06\x04" + bytes(22), 51), (b"\x06\x02\x00\x00" + bytes(20), 43),
+    (b"\x2b\x00" + PADDING + b"\x2c\x00" + bytes(6) + b"\x06\x00" + bytes(6), 60),
+]  # fmt: skip
+
+
+def fronted(packets, front):
+    return [tools.Packet(one.nanos, front + one.data, one.original + len(front)) for one in packets]
+
+
+def of_ipv6():
+    """Captures of IPv6: each link type, and each row of extension headers, as link type and packets."""
+    for link, front in FRONTS_OF_IPV6:
+        yield link, fronted(in_ipv6(), front)
+    for extensions, first in EXTENSIONS[1:]:
+        yield 229, in_ipv6(extensions, first)
+
+
 class Links(unittest.TestCase):
     def test_links(self):
-        """Each link type, with the front that it puts before a datagram."""
-        ethernet, v4 = bytes(12), b"\x08\x00"
-        fronts = [
-            (1, ethernet + b"\x81\x00\x00\x05" + v4), (1, ethernet + b"\x88\xa8\x00\x01\x81\x00\x00\x02" + v4), (12, b""),
-            (14, b""), (101, b""), (228, b""), (113, bytes(14) + v4), (276, v4 + bytes(18)), (0, b"\x02\x00\x00\x00"),
-            (0, b"\x00\x00\x00\x02"), (108, b"\x00\x00\x00\x02"),
-        ]  # fmt: skip
-        for link, front in fronts:
+        for link, front in FRONTS:
             with self.subTest(link=link, front=front):
-                self.assertEqual(tools.rows_of(given(with_front(front, link), *KEYS)), WANTED)
+                made = given(tools.pcap_of(fronted(datagrams(), front), link), *KEYS)
+                self.assertEqual(tools.rows_of(made), WANTED)
 
     def test_ipv6(self):
-        padding = b"\x01\x04" + bytes(4)
-        forms = [(b"", 6), (b"\x06\x00" + padding, 0), (b"\x3c\x00" + padding + b"\x06\x00" + padding, 0),
-                 (b"\x06\x00" + bytes(6), 44), (b"\x06\x04" + bytes(22), 51)]  # fmt: skip
-        for extensions, first in forms:
-            for link, front in ((1, bytes(12) + b"\x86\xdd"), (229, b""), (101, b""), (0, b"\x1e\x00\x00\x00")):
-                packets = [
-                    one._replace(data=front + one.data, original=one.original + len(front))
-                    for one in in_ipv6(extensions, first)
-                ]
-                made = given(tools.pcap_of(packets, link), *KEYS)
-                self.assertEqual(tools.rows_of(made), WANTED)
-                self.assertEqual(
-                    tools.lines_of(made, "address"), ["address 240.0.0.1 2001:db8::1", "address 240.0.0.2 2001:db8::2"]
-                )
-        self.assertIn("client [2001:db8::1]:38292 server [2001:db8::2]:21001", tools.lines_of(made, "connection")[0])
+        for link, packets in of_ipv6():
+            made = given(tools.pcap_of(packets, link), *KEYS)
+            self.assertEqual(tools.rows_of(made), WANTED)
+            self.assertEqual(
+                tools.lines_of(made, "address"), ["address 240.0.0.1 2001:db8::1", "address 240.0.0.2 2001:db8::2"]
+            )
+            line = tools.lines_of(made, "connection")[0]
+            self.assertIn("client [2001:db8::1]:38292 server [2001:db8::2]:21001", line)
+
+    @unittest.skipUnless(shutil.which("tshark"), "tshark is not installed")
+    def test_tshark(self):
+        """tshark sees the same segments in each of these forms."""
+        forms = [(ETHERNET, PACKETS), *((link, fronted(datagrams(), front)) for link, front in FRONTS), *of_ipv6()]
+        data = section() + b"".join(interface(link) for link, _ in forms)
+        data += b"".join(enhanced(at, 0, one) for at, (_, packets) in enumerate(forms) for one in packets)
+        with tempfile.NamedTemporaryFile(suffix=".pcapng") as file:
+            file.write(data)
+            file.flush()
+            words = "-T fields -e tcp.seq_raw -e tcp.len -e tcp.flags -e tcp.srcport".split()
+            run = subprocess.run(["tshark", "-n", "-r", file.name, *words], capture_output=True, text=True, check=True)
+        lines = run.stdout.splitlines()
+        self.assertEqual(lines, lines[: len(PACKETS)] * len(forms))
+        self.assertNotIn("\t\t", lines[0])
 
     def test_passed_over(self):
         """What is no segment is counted, and named where it might have been one."""

@@ -15,6 +15,7 @@ FIN, SYN, RST, ACK = 1, 2, 4, 16
 TCP, HOP_BY_HOP, ROUTING, FRAGMENT, AUTHENTICATION, DESTINATION, MOBILITY = 6, 0, 43, 44, 51, 60, 135
 PASSED_OVER = (HOP_BY_HOP, ROUTING, DESTINATION, MOBILITY, 139, 140)
 FIRST_STAND_IN = 240 << 24
+MOST_STAND_INS = (1 << 28) - 2
 # Version and header's length, total length, fragment, protocol, addresses.
 IPV4_HEADER = struct.Struct(">BxHxxHxBxx8s").unpack_from
 TCP_HEADER = struct.Struct(">4sIxxxxBB").unpack_from  # ports, sequence number, data offset, flags
@@ -57,7 +58,7 @@ class StandIns:
         self.check()
 
     def check(self) -> None:
-        if self.known and self.has_class_e:
+        if self.known and self.has_class_e or len(self.known) > MOST_STAND_INS:
             raise Refused("address-clash")
 
 

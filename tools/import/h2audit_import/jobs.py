@@ -6,12 +6,15 @@ worker answers each round with what is to be written, in the order of the packet
 merges the answers of a round by these packets, and writes.
 """
 
+import errno
 import marshal
 import multiprocessing
+import os
 import pickle
 import signal
 import threading
 from multiprocessing.connection import Connection as Pipe
+from multiprocessing.context import ForkProcess
 from operator import itemgetter
 from queue import SimpleQueue
 from typing import Any, TypeAlias
@@ -22,6 +25,7 @@ from .internet import Segment
 from .key_log import Keys
 from .outcomes import Outcome, Unopened
 from .private_files import SIGNALS
+from .programs import NO_MEMORY
 from .sessions import lines_for
 from .stages import Output
 from .table import Table
@@ -30,6 +34,7 @@ ROUND_BYTES, ROUND_SEGMENTS = 1 << 20, 1024
 ROUNDS_AHEAD = 12
 FINISH, SESSIONS = b"", b"sessions"
 LAST_STEP = 1 << 62
+SECONDS_TO_END = 10
 Row: TypeAlias = tuple[int, int, Arrival, int, bytes]
 
 
@@ -91,6 +96,8 @@ def work(pipe: Pipe, others: list[Pipe], keys: Keys, more_keys: bool) -> None:
         Worker(pipe, keys, more_keys).serve()
     except (EOFError, BrokenPipeError):
         pass
+    except MemoryError:
+        os._exit(NO_MEMORY)
 
 
 class Lane:
@@ -98,8 +105,8 @@ class Lane:
     answers in. So a worker that is busy holds up none of the others.
     """
 
-    def __init__(self, pipe: Pipe) -> None:
-        self.pipe = pipe
+    def __init__(self, pipe: Pipe, process: ForkProcess) -> None:
+        self.pipe, self.process = pipe, process
         self.rows: list[tuple[int, Any, Any]] = []
         self.load = 0
         self.messages: SimpleQueue[bytes] = SimpleQueue()
@@ -128,7 +135,10 @@ class Lane:
     def answer(self) -> bytes:
         answer = self.answers.get()
         if answer is None:
-            raise ChildProcessError(10, "a process that decrypts has ended", None)
+            self.process.join(SECONDS_TO_END)
+            if self.process.exitcode == NO_MEMORY:
+                raise MemoryError
+            raise ChildProcessError(errno.ECHILD, "has ended", "a process that decrypts")
         return answer
 
 
@@ -139,7 +149,7 @@ class ManyProcesses:
         self.output, self.keys, self.more_keys = output, keys, more_keys
         forking = multiprocessing.get_context("fork")
         pipes: list[Pipe] = []
-        self.processes = []
+        self.processes: list[ForkProcess] = []
         for _ in range(jobs):
             mine, theirs = forking.Pipe()
             pipes.append(mine)
@@ -147,7 +157,7 @@ class ManyProcesses:
             process.start()
             self.processes.append(process)
             theirs.close()
-        self.lanes = [Lane(pipe) for pipe in pipes]
+        self.lanes = [Lane(pipe, process) for pipe, process in zip(pipes, self.processes)]
         self.owners: dict[bytes, Lane] = {}
         self.step = self.bytes = self.segments = self.rounds = 0
 
@@ -218,6 +228,10 @@ class ManyProcesses:
             self.collect_all()
         answers = self.ask(FINISH)
         self.write([rows for rows, _, _ in answers])
-        for process in self.processes:
-            process.join()
         return [one for _, found, _ in answers for one in found], [one for _, _, found in answers for one in found]
+
+    def close(self) -> None:
+        """Ends the workers, which pass over every other signal."""
+        for process in self.processes:
+            process.kill()
+            process.join()

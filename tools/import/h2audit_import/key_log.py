@@ -5,6 +5,7 @@ other labels are passed over; a line that is none is counted, and never shown.
 """
 
 import binascii
+import io
 from typing import BinaryIO, Iterable
 
 MASTER = "CLIENT_RANDOM"
@@ -30,7 +31,7 @@ class Keys:
         return known.get(label) if known else None
 
     def add_text(self, text: bytes) -> None:
-        for line in text.splitlines():
+        for line in lines_of(io.BytesIO(text)):
             self.add_line(line)
 
     def add_line(self, line: bytes) -> None:

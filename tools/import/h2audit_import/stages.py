@@ -25,6 +25,9 @@ class Stage(Protocol):
     def finish(self) -> tuple[list[Outcome], list[Unopened]]:
         ...
 
+    def close(self) -> None:
+        """Ends it, well or not."""
+
 
 class Output:
     """The capture that is made, with the records of its map."""
@@ -61,3 +64,6 @@ class OneProcess:
             self.table.keys_came()
         self.table.finish_all()
         return self.table.outcomes, self.table.unopened
+
+    def close(self) -> None:
+        """There is nothing to end here."""
