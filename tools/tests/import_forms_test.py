@@ -5,10 +5,13 @@ The same packets in another form give the same plaintext; what is wanted is take
 tshark. Nothing of an expected value is made by h2audit-import, but for that.
 """
 
+import contextlib
 import gzip
 import os
 import pathlib
+import pty
 import random
+import select
 import shutil
 import signal
 import stat
@@ -424,6 +427,155 @@ class Secrets(unittest.TestCase):
                     child.stdin.close()
                     child.stderr.close()
                     self.assertEqual(os.listdir(folder), [])
+
+
+def ended(words, **more):
+    """Status and standard error of a command line of the shell, where $IMPORT is the program."""
+    run = subprocess.run(["sh", "-c", words], capture_output=True, text=True, timeout=120,
+                         env={**os.environ, "IMPORT": str(tools.IMPORT), "ANY": str(tools.ANY), **more})  # fmt: skip
+    return run.returncode, run.stderr.replace(more.get("D", "/nowhere"), "D")
+
+
+class Hostile(unittest.TestCase):
+    """What is no capture, no key log, or cannot be read or written: a line that says so, and a status."""
+
+    def setUp(self):
+        self.folder = tempfile.TemporaryDirectory()
+        self.addCleanup(self.folder.cleanup)
+        self.made = {"D": self.folder.name, "P": str(tools.capture_named(NAME)), "K": str(KEYS[1])}
+
+    def file(self, name, data):
+        pathlib.Path(self.folder.name, name).write_bytes(data)
+
+    def check(self, rows):
+        for words, status, said in rows:
+            with self.subTest(words):
+                self.assertEqual(ended(words, **self.made), (status, said and f"{said}\n"))
+        self.assertEqual([name for name in os.listdir(self.folder.name) if name.startswith(".")], [])
+
+    def test_files(self):
+        os.mkfifo(f"{self.folder.name}/pipe")
+        self.file("zeros", bytes(5000))
+        name = "h2audit-import:"
+        self.check([
+            ("$IMPORT -o $D/o $D", 4, f"{name} D: Is a directory"),
+            ("$IMPORT -k $D -o $D/o $P", 4, f"{name} D: Is a directory"),
+            ("$IMPORT -k $K -o $D $P", 4, f"{name} D: Is a directory"),
+            ("$IMPORT -o $D/o $D/none", 4, f"{name} D/none: No such file or directory"),
+            ("$IMPORT -k $D/none -o $D/o $P", 4, f"{name} D/none: No such file or directory"),
+            ("$IMPORT -k $K -o $D/none/o $P", 4, f"{name} D/none/o: No such file or directory"),
+            ("$IMPORT -k $K -o /dev/full $P", 4, f"{name} /dev/full: No space left on device"),
+            ("$IMPORT -k $K -o $D/o -m /dev/full $P", 4, f"{name} /dev/full: No space left on device"),
+            ("$IMPORT -k $K -o - $P >/dev/full", 4, f"{name} standard output: No space left on device"),
+            ("$IMPORT -k $K -o $D/o -m $D/o $P", 2, f"{name} OUT.pcap and MAP are the same file"),
+            ("$IMPORT -o $D/o $D/zeros", 3, f"{name} capture refused: bad-magic: D/zeros"),
+            ("$IMPORT -j 3 -k $K -o $D/o $P $D/zeros", 3, f"{name} capture refused: bad-magic: D/zeros"),
+            ("cat $P > $D/pipe & $IMPORT -k $K -o $D/o $D/pipe", 0, ""),
+            ("cat $K > $D/pipe & $IMPORT -k $D/pipe -o $D/o $P", 0, ""),
+        ])  # fmt: skip
+
+    def test_closed(self):
+        """Where a standard file is closed, no other file takes its place."""
+        self.check([
+            ("$IMPORT -k $K -o $D/o <&-", 4, "h2audit-import: standard input: Bad file descriptor"),
+            ("$IMPORT -k $K -o - $P >&-", 4, "h2audit-import: standard output: Bad file descriptor"),
+            ("$IMPORT -k $K -o $D/o $P >&- 2>&- <&-", 0, ""), ("$IMPORT -o $D/o $D/none 2>&-", 4, ""),
+        ])  # fmt: skip
+
+    def test_programs(self):
+        """A program that is no h2audit, or is ended."""
+        self.file("killed", b"#!/bin/sh\nkill -9 $$\n")
+        os.chmod(f"{self.folder.name}/killed", 0o755)
+        self.check([
+            ("$ANY --h2audit /bin/cat -k $K $P", 4, "h2audit-any: h2audit: what it said is no report"),
+            ("$ANY --h2audit /bin/false -k $K $P", 4, "h2audit-any: h2audit: what it said is no report"),
+            ("$ANY --h2audit $D/killed -k $K $P", 4, "h2audit-any: D/killed: ended by signal 9"),
+            ("$ANY --h2audit $D/none -k $K $P", 4, "h2audit-any: D/none: No such file or directory"),
+        ])  # fmt: skip
+
+    def test_blocks(self):
+        """Lengths of pcapng and pcap that nothing stands behind."""
+        front, head = section() + interface(ETHERNET), PCAP[:24]
+        rows = {
+            front + struct.pack("<II", 6, 0xFFFFFFFC) + b"x" * 100: "too-long-block",
+            front + struct.pack("<II", 6, 0) + b"x" * 100: "bad-block",
+            front + block(6, struct.pack("<IIIII", 0, 0, 0, 0xFFFFFFFF, 9) + bytes(40)): "bad-block",
+            front + block(0xA, struct.pack("<II", 0x544C534B, 0xFFFFFFFF) + b"CLIENT_RANDOM"): "bad-block",
+            front + block(1, b""): "bad-block", section() + interface(ETHERNET) * 65537: "too-many-interfaces",
+            front + struct.pack("<II", 6, 17 << 20) + b"x" * 100: "cut", head + struct.pack("<IIII", 1, 0, 1 << 31, 9) + b"x" * 50: "cut",
+            head + struct.pack("<IIII", 1, 0, 0, 1500): "refused short-ethernet",
+            head + struct.pack("<IIII", 1, 0, 17 << 20, 9) + bytes(17 << 20): "refused no-packet",
+        }  # fmt: skip
+        for data, wanted in rows.items():
+            made = given(data)
+            found = [line.split(" ", 5)[5] for line in tools.lines_of(made, "passed")]
+            named = f"h2audit-import: capture refused: {wanted}: -\n"
+            self.assertTrue(made.status == 3 and made.said == named or made.status == 6 and found == [wanted], (wanted, made.said, found))
+
+    def test_bombs(self):
+        """What is small and becomes large takes no more memory than any capture: a packet of 600 MB, and a million of none."""
+        for name, packet, size in (("one", struct.pack("<IIII", 1, 0, 600 << 20, 9), 600), ("many", b"", 16)):
+            with gzip.open(f"{self.folder.name}/{name}", "wb", 1) as file:
+                file.write(PCAP[:24] + packet)
+                for _ in range(size):
+                    file.write(bytes(1 << 20))
+        said = "h2audit-any: h2audit: what it said is no report"
+        self.check((f"ulimit -v 400000; $ANY --h2audit /bin/false $D/{name}", 4, said) for name in ("one", "many"))
+        self.check([("ulimit -v 400000; head -c 500000000 /dev/zero | $IMPORT -k $K -o $D/o $P -", 3,
+                     "h2audit-import: capture refused: bad-magic: -")])  # fmt: skip
+
+    def test_key_logs(self):
+        """A key log that is damaged is counted; not a digit of it is in what is said and in the map."""
+        secret, random_part = b"5ec7e7" * 16, b"ab" * 32
+        lines = [b"CLIENT_RANDOM " + random_part + b" " + secret + b"zz", b"CLIENT_RANDOM " + secret, secret * 100,
+                 b"CLIENT_RANDOM " + random_part[:-2] + b" " + secret, bytes(99), b"CLIENT_RANDOM " + random_part + b" " + secret[:-2],
+                 b"\xff\xfeC\0L\0I\0", b"CLIENT_TRAFFIC_SECRET_0 " + random_part + b" " + secret + b" more"]  # fmt: skip
+        good = [b"", b"# a comment", b"ANOTHER_LABEL " + random_part + b" 12", b"CLIENT_RANDOM " + random_part + b" " + secret]
+        self.file("keys", b"\n".join(lines + good))
+        made = tools.imported("-k", f"{self.folder.name}/keys", tools.capture_named(NAME))
+        self.assertEqual((made.status, made.said.splitlines()), (6, [
+            f"h2audit-import: {len(lines)} lines of the key logs are none, and were passed over",
+            "h2audit-import: no connection could be read",
+        ]))  # fmt: skip
+        self.assertFalse([line for line in made.map if "5ec7" in line or "abab" in line])
+
+
+class Terminal(unittest.TestCase):
+    def test_progress(self):
+        """On a terminal work that is long says how far it is, and takes that back."""
+        leader, follower = pty.openpty()
+        words = [tools.IMPORT, *KEYS, "-o", os.devnull]
+        with subprocess.Popen(words, stdin=subprocess.PIPE, stderr=follower) as child:
+            os.close(follower)
+            child.stdin.write(PCAP)
+            self.feed(child, lambda: select.select([leader], [], [], 0)[0])
+            child.stdin.close()
+            said = b""
+            with contextlib.suppress(OSError):
+                while part := os.read(leader, 1000):
+                    said += part
+            self.assertEqual(child.wait(60), 0)
+        os.close(leader)
+        self.assertRegex(said, rb"^(\rh2audit-import: [\d,]+ packets)+\r +\r$")
+
+    def feed(self, child, is_enough):
+        """Thousands of packets every half a second."""
+        packets = (struct.pack("<IIII", 1, 0, 1, 1) + b"x") * 5000
+        for _ in range(120):
+            child.stdin.write(packets)
+            child.stdin.flush()
+            time.sleep(0.5)
+            if is_enough():
+                return
+
+    def test_none(self):
+        """Elsewhere nothing is said."""
+        with subprocess.Popen([tools.IMPORT, *KEYS, "-o", os.devnull], stdin=subprocess.PIPE, stderr=subprocess.PIPE) as child:
+            child.stdin.write(PCAP)
+            end = time.monotonic() + 6
+            self.feed(child, lambda: time.monotonic() > end)
+            child.stdin.close()
+            self.assertEqual((child.stderr.read(), child.wait(60)), (b"", 0))
 
 
 if __name__ == "__main__":
