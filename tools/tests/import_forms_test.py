@@ -273,9 +273,34 @@ def pieces_of(packet, dice):
     return [packet._replace(data=part, original=len(part)) for part in (front, back)]
 
 
+def joined(packets, dice):
+    """Some segments with the one that follows them in their place, as one segment; the later packet goes."""
+    made = []
+    for one in packets:
+        before = made[-1].data if made else b""
+        if before and dice.random() < 0.5 and follows(before, one.data) and len(before) + len(one.data) < 60000:
+            data = before + payload_of(one.data)
+            data = data[:2] + struct.pack(">H", len(data)) + data[4:]
+            made[-1] = made[-1]._replace(data=data, original=len(data))
+        else:
+            made.append(one)
+    return made
+
+
+def payload_of(data):
+    return data[20 + (data[32] >> 4) * 4 :]
+
+
+def follows(before, data):
+    """Whether a segment begins where another of its side ends, and both have payload alone."""
+    end = int.from_bytes(before[24:28], "big") + len(payload_of(before))
+    is_next = before[12:24] == data[12:24] and end & 0xFFFFFFFF == int.from_bytes(data[24:28], "big")
+    return is_next and not (before[33] | data[33]) & 7 and payload_of(before) and payload_of(data)
+
+
 def disturbed(packets, dice, window):
-    """Packets doubled, cut in two, and in random order within a window; the openings stay first."""
-    pieces = [piece for one in packets[2:] for piece in pieces_of(one, dice) * dice.choice((1, 1, 2))]
+    """Packets joined, cut in two, doubled, and in random order within a window; the openings stay first."""
+    pieces = [piece for one in joined(packets[2:], dice) for piece in pieces_of(one, dice) * dice.choice((1, 1, 2))]
     order = sorted(range(len(pieces)), key=lambda at: at + dice.uniform(0, window))
     return [*packets[:2], *(pieces[at] for at in order)]
 

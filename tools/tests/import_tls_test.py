@@ -155,6 +155,41 @@ class Suites(Folder):
         keys.write_text(lines[0])
         return said, keys
 
+    def test_refused(self):
+        """A handshake that is not whole, by what is missing of it."""
+        capture, keys = tls_talk.Capture(), self.path("refused.keys")
+        keys.write_bytes(b"")
+        pair = tls_talk.contexts(self.certificates, keys, ssl.TLSVersion.TLSv1_2, "ECDHE-RSA-AES128-GCM-SHA256")
+        tls_talk.Talk(capture, pair, segment=400).shake_hands()
+        capture.write(self.path("refused.pcap"))
+        packets, _ = tools.read_pcap(self.path("refused.pcap").read_bytes())
+        first, flight = packets[2].data, packets[3].data
+        record = 5 + int.from_bytes(flight[43:45], "big")
+        begun = flight[40 + record :]  # of the record behind the ServerHello
+        self.assertTrue(begun and len(flight) == 440 and packets[4].data[20:22] == flight[20:22])
+        cases = {
+            "no-handshake": packets[:1] + packets[2:], "handshake-unfinished": packets[:3], "gap 0": packets[:3] + packets[4:],
+            f"tail {len(begun)}": packets[:4], "not-tls": [*packets[:2], packets[2]._replace(data=first[:46] + b"\xff" + first[47:]),
+                                                           *packets[3:]],
+        }  # fmt: skip
+        for reason, kept in cases.items():
+            made = tools.imported("-k", keys, input=tools.pcap_of(kept, 101))
+            self.assertEqual((made.status, tools.lines_of(made, "connection")[0].split(" packet 1 ")[1]), (6, f"refused {reason}"))
+
+    def test_alert(self):
+        """A client that does not trust the certificate says alert 48 (RFC 8446, 6.2), in TLS 1.2 in the clear."""
+        capture, keys = tls_talk.Capture(), self.path("alert.keys")
+        keys.write_bytes(b"")
+        pair = tls_talk.contexts(self.certificates, keys, ssl.TLSVersion.TLSv1_2, "ECDHE-RSA-AES128-GCM-SHA256")
+        pair[0].verify_mode = ssl.CERT_REQUIRED
+        talk = tls_talk.Talk(capture, pair)
+        with self.assertRaises(ssl.SSLCertVerificationError):
+            talk.shake_hands()
+        talk.move(0)
+        capture.write(self.path("alert.pcap"))
+        made = tools.imported("-k", keys, self.path("alert.pcap"))
+        self.assertTrue(tools.lines_of(made, "connection")[0].endswith(" refused alert 48"), made.map)
+
     def test_old_versions(self):
         made, _ = self.talk(ssl.TLSVersion.TLSv1_1, None, [])
         self.assertTrue(tools.lines_of(made, "connection")[0].endswith("refused tls-version 0x0302"))
@@ -241,12 +276,14 @@ class Servers(Folder):
         return tools.imported("-k", keys, self.path(f"{name}.pcap"))
 
     def client(self, port, keys, words, said):
+        """Says one thing after the other; each goes out by itself."""
         client = subprocess.Popen(["openssl", "s_client", "-connect", f"127.0.0.1:{port}", "-keylogfile", keys, "-alpn", "h2", *words],
                                   stdin=subprocess.PIPE, stdout=subprocess.DEVNULL, stderr=subprocess.DEVNULL)  # fmt: skip
         time.sleep(0.7)
-        client.stdin.write(said)
-        client.stdin.flush()
-        time.sleep(0.5)
+        for one in said if isinstance(said, tuple) else (said,):
+            client.stdin.write(one)
+            client.stdin.flush()
+            time.sleep(0.5)
         client.stdin.close()
         client.wait(20)
 
@@ -275,6 +312,25 @@ class Servers(Folder):
         self.assertEqual(self.said(made), [b"hello\n"] * 2)
         made = self.run_openssl("mte", [], [[*words, "-no_etm"]])
         self.assertEqual(self.said(made), [b"hello\n"])
+
+    @unittest.skipUnless(can_capture, "needs root, tcpdump and openssl")
+    def test_record_padding(self):
+        """Records of TLS 1.3 filled up to 512 bytes with zeros (RFC 8446, 5.4)."""
+        made = self.run_openssl("padding", [], [["-tls1_3", "-record_padding", "512"]])
+        self.assertEqual(self.said(made), [b"hello\n"])
+        packets, _ = tools.read_pcap(self.path("padding.pcap").read_bytes())
+        bodies = [one.data[at + 3 : at + 5] for one in packets if (at := one.data.find(b"\x17\x03\x03")) >= 0]
+        self.assertIn((512 + 16).to_bytes(2, "big"), bodies)
+
+    @unittest.skipUnless(can_capture, "needs root, tcpdump and openssl")
+    def test_renegotiation(self):
+        """In TLS 1.2 a line that begins with R makes s_client take new keys; what is said before that is read."""
+        words = ["-tls1_2", "-cipher", "ECDHE-RSA-AES128-GCM-SHA256"]
+        made = self.run_openssl("again", ["-client_renegotiation"], [words], (b"hello\n", b"R\n", b"later\n"))
+        self.assertEqual(self.said(made), [b"hello\n", b"\0", b"\0"])  # and a byte past each hole
+        self.assertEqual(tools.lines_of(made, "flow"), [
+            "flow client bytes 6 gap 6 tail 0 end renegotiation", "flow server bytes 0 gap 0 tail 0 end renegotiation",
+        ])  # fmt: skip
 
     @unittest.skipUnless(can_capture, "needs root, tcpdump and openssl")
     def test_psk(self):
