@@ -5,10 +5,14 @@ The same packets in another form give the same plaintext; what is wanted is take
 tshark. Nothing of an expected value is made by h2audit-import, but for that.
 """
 
+import contextlib
 import gzip
 import os
 import pathlib
+import pty
 import random
+import select
+import shutil
 import signal
 import stat
 import struct
@@ -23,6 +27,8 @@ import import_tools as tools
 sys.path.insert(0, str(tools.TOP / "tools" / "import"))
 
 from h2audit_import.flows import Flow  # noqa: E402
+from h2audit_import.key_log import Keys  # noqa: E402
+from h2audit_import.sessions import Sessions, lines_for  # noqa: E402
 
 NAME = "nghttp-nghttpd-13"
 PCAP = tools.capture_named(NAME).read_bytes()
@@ -39,11 +45,6 @@ def given(data, *words):
 
 def datagrams():
     return [tools.Packet(one.nanos, one.data[14:], one.original - 14) for one in PACKETS]
-
-
-def with_front(front, link):
-    packets = [tools.Packet(one.nanos, front + one.data, one.original + len(front)) for one in datagrams()]
-    return tools.pcap_of(packets, link)
 
 
 def in_ipv6(extensions=b"", first=6):
@@ -167,35 +168,68 @@ class Files(unittest.TestCase):
             self.assertEqual((made.bytes, made.map), (b"", []))
 
 
+V4, V6, MACS = b"\x08\x00", b"\x86\xdd", bytes(12)
+# Link types, each with the front that it puts before a datagram of IPv4.
+FRONTS = [
+    (1, MACS + b"\x81\x00\x00\x05" + V4), (1, MACS + b"\x88\xa8\x00\x01\x81\x00\x00\x02" + V4),
+    (1, MACS + b"\x91\x00\x00\x07\x81\x00\x00\x02" + V4), (12, b""), (14, b""), (101, b""), (228, b""), (113, bytes(14) + V4),
+    (113, bytes(14) + b"\x81\x00\x00\x02" + V4), (276, V4 + bytes(18)), (0, b"\x02\x00\x00\x00"), (0, b"\x00\x00\x00\x02"),
+    (108, b"\x00\x00\x00\x02"),
+]  # fmt: skip
+FRONTS_OF_IPV6 = [(1, MACS + V6), (101, b""), (0, b"\x1e\x00\x00\x00"), (113, bytes(14) + V6), (276, V6 + bytes(18)), (229, b"")]
+PADDING = b"\x01\x04" + bytes(4)
+# Extension headers, with the number of the first: none, hop-by-hop, two of options, a whole fragment, authentication, routing, and
+# three of them.
+EXTENSIONS = [
+    (b"", 6), (b"\x06\x00" + PADDING, 0), (b"\x3c\x00" + PADDING + b"\x06\x00" + PADDING, 0), (b"\x06\x00" + bytes(6), 44),
+    (b"\x06\x04" + bytes(22), 51), (b"\x06\x02\x00\x00" + bytes(20), 43),
+    (b"\x2b\x00" + PADDING + b"\x2c\x00" + bytes(6) + b"\x06\x00" + bytes(6), 60),
+]  # fmt: skip
+
+
+def fronted(packets, front):
+    return [tools.Packet(one.nanos, front + one.data, one.original + len(front)) for one in packets]
+
+
+def of_ipv6():
+    """Captures of IPv6: each link type, and each row of extension headers, as link type and packets."""
+    for link, front in FRONTS_OF_IPV6:
+        yield link, fronted(in_ipv6(), front)
+    for extensions, first in EXTENSIONS[1:]:
+        yield 229, in_ipv6(extensions, first)
+
+
 class Links(unittest.TestCase):
     def test_links(self):
-        """Each link type, with the front that it puts before a datagram."""
-        ethernet, v4 = bytes(12), b"\x08\x00"
-        fronts = [
-            (1, ethernet + b"\x81\x00\x00\x05" + v4), (1, ethernet + b"\x88\xa8\x00\x01\x81\x00\x00\x02" + v4), (12, b""),
-            (14, b""), (101, b""), (228, b""), (113, bytes(14) + v4), (276, v4 + bytes(18)), (0, b"\x02\x00\x00\x00"),
-            (0, b"\x00\x00\x00\x02"), (108, b"\x00\x00\x00\x02"),
-        ]  # fmt: skip
-        for link, front in fronts:
+        for link, front in FRONTS:
             with self.subTest(link=link, front=front):
-                self.assertEqual(tools.rows_of(given(with_front(front, link), *KEYS)), WANTED)
+                made = given(tools.pcap_of(fronted(datagrams(), front), link), *KEYS)
+                self.assertEqual(tools.rows_of(made), WANTED)
 
     def test_ipv6(self):
-        padding = b"\x01\x04" + bytes(4)
-        forms = [(b"", 6), (b"\x06\x00" + padding, 0), (b"\x3c\x00" + padding + b"\x06\x00" + padding, 0),
-                 (b"\x06\x00" + bytes(6), 44), (b"\x06\x04" + bytes(22), 51)]  # fmt: skip
-        for extensions, first in forms:
-            for link, front in ((1, bytes(12) + b"\x86\xdd"), (229, b""), (101, b""), (0, b"\x1e\x00\x00\x00")):
-                packets = [
-                    one._replace(data=front + one.data, original=one.original + len(front))
-                    for one in in_ipv6(extensions, first)
-                ]
-                made = given(tools.pcap_of(packets, link), *KEYS)
-                self.assertEqual(tools.rows_of(made), WANTED)
-                self.assertEqual(
-                    tools.lines_of(made, "address"), ["address 240.0.0.1 2001:db8::1", "address 240.0.0.2 2001:db8::2"]
-                )
-        self.assertIn("client [2001:db8::1]:38292 server [2001:db8::2]:21001", tools.lines_of(made, "connection")[0])
+        for link, packets in of_ipv6():
+            made = given(tools.pcap_of(packets, link), *KEYS)
+            self.assertEqual(tools.rows_of(made), WANTED)
+            self.assertEqual(
+                tools.lines_of(made, "address"), ["address 240.0.0.1 2001:db8::1", "address 240.0.0.2 2001:db8::2"]
+            )
+            line = tools.lines_of(made, "connection")[0]
+            self.assertIn("client [2001:db8::1]:38292 server [2001:db8::2]:21001", line)
+
+    @unittest.skipUnless(shutil.which("tshark"), "tshark is not installed")
+    def test_tshark(self):
+        """tshark sees the same segments in each of these forms."""
+        forms = [(ETHERNET, PACKETS), *((link, fronted(datagrams(), front)) for link, front in FRONTS), *of_ipv6()]
+        data = section() + b"".join(interface(link) for link, _ in forms)
+        data += b"".join(enhanced(at, 0, one) for at, (_, packets) in enumerate(forms) for one in packets)
+        with tempfile.NamedTemporaryFile(suffix=".pcapng") as file:
+            file.write(data)
+            file.flush()
+            words = "-T fields -e tcp.seq_raw -e tcp.len -e tcp.flags -e tcp.srcport".split()
+            run = subprocess.run(["tshark", "-n", "-r", file.name, *words], capture_output=True, text=True, check=True)
+        lines = run.stdout.splitlines()
+        self.assertEqual(lines, lines[: len(PACKETS)] * len(forms))
+        self.assertNotIn("\t\t", lines[0])
 
     def test_passed_over(self):
         """What is no segment is counted, and named where it might have been one."""
@@ -239,9 +273,34 @@ def pieces_of(packet, dice):
     return [packet._replace(data=part, original=len(part)) for part in (front, back)]
 
 
+def joined(packets, dice):
+    """Some segments with the one that follows them in their place, as one segment; the later packet goes."""
+    made = []
+    for one in packets:
+        before = made[-1].data if made else b""
+        if before and dice.random() < 0.5 and follows(before, one.data) and len(before) + len(one.data) < 60000:
+            data = before + payload_of(one.data)
+            data = data[:2] + struct.pack(">H", len(data)) + data[4:]
+            made[-1] = made[-1]._replace(data=data, original=len(data))
+        else:
+            made.append(one)
+    return made
+
+
+def payload_of(data):
+    return data[20 + (data[32] >> 4) * 4 :]
+
+
+def follows(before, data):
+    """Whether a segment begins where another of its side ends, and both have payload alone."""
+    end = int.from_bytes(before[24:28], "big") + len(payload_of(before))
+    is_next = before[12:24] == data[12:24] and end & 0xFFFFFFFF == int.from_bytes(data[24:28], "big")
+    return is_next and not (before[33] | data[33]) & 7 and payload_of(before) and payload_of(data)
+
+
 def disturbed(packets, dice, window):
-    """Packets doubled, cut in two, and in random order within a window; the openings stay first."""
-    pieces = [piece for one in packets[2:] for piece in pieces_of(one, dice) * dice.choice((1, 1, 2))]
+    """Packets joined, cut in two, doubled, and in random order within a window; the openings stay first."""
+    pieces = [piece for one in joined(packets[2:], dice) for piece in pieces_of(one, dice) * dice.choice((1, 1, 2))]
     order = sorted(range(len(pieces)), key=lambda at: at + dice.uniform(0, window))
     return [*packets[:2], *(pieces[at] for at in order)]
 
@@ -345,7 +404,21 @@ class Flows(unittest.TestCase):
         flow = Flow()
         for at in range(1100):
             flow.add(1 + (at << 16), bytes(1 << 16), (at, 0))
-        self.assertEqual((flow.held, flow.behind_hole, flow.add(0, b"a", (2000, 0))), ([], (0, 0), b""))
+        self.assertEqual((flow.held, flow.behind_hole, flow.add(0, b"a", (2000, 0))), (None, (0, 0), b""))
+
+
+class Resumed(unittest.TestCase):
+    def test_tickets_in_a_row(self):
+        """A resumed connection gets a ticket of its own, which the next one shows; what one process met, another may need."""
+        keys, workers = Keys(), [Sessions(), Sessions()]
+        keys.add_line(b"CLIENT_RANDOM " + b"aa" * 32 + b" " + b"12" * 48)
+        workers[0].begin(b"first ticket", 1, b"\xaa" * 32)
+        workers[1].resume([b"first ticket", b""], 5, b"\xbb" * 32)
+        workers[1].begin(b"second ticket", 5, b"\xbb" * 32)
+        workers[0].resume([b"unknown", b"second ticket"], 9, b"\xcc" * 32)
+        workers[0].resume([b"unknown"], 11, b"\xdd" * 32)
+        wanted = b"".join(b"CLIENT_RANDOM %s %s\n" % (random * 32, b"12" * 48) for random in (b"bb", b"cc"))
+        self.assertEqual(lines_for(workers, keys), wanted)
 
 
 class Secrets(unittest.TestCase):
@@ -379,6 +452,155 @@ class Secrets(unittest.TestCase):
                     child.stdin.close()
                     child.stderr.close()
                     self.assertEqual(os.listdir(folder), [])
+
+
+def ended(words, **more):
+    """Status and standard error of a command line of the shell, where $IMPORT is the program."""
+    run = subprocess.run(["sh", "-c", words], capture_output=True, text=True, timeout=120,
+                         env={**os.environ, "IMPORT": str(tools.IMPORT), "ANY": str(tools.ANY), **more})  # fmt: skip
+    return run.returncode, run.stderr.replace(more.get("D", "/nowhere"), "D")
+
+
+class Hostile(unittest.TestCase):
+    """What is no capture, no key log, or cannot be read or written: a line that says so, and a status."""
+
+    def setUp(self):
+        self.folder = tempfile.TemporaryDirectory()
+        self.addCleanup(self.folder.cleanup)
+        self.made = {"D": self.folder.name, "P": str(tools.capture_named(NAME)), "K": str(KEYS[1])}
+
+    def file(self, name, data):
+        pathlib.Path(self.folder.name, name).write_bytes(data)
+
+    def check(self, rows):
+        for words, status, said in rows:
+            with self.subTest(words):
+                self.assertEqual(ended(words, **self.made), (status, said and f"{said}\n"))
+        self.assertEqual([name for name in os.listdir(self.folder.name) if name.startswith(".")], [])
+
+    def test_files(self):
+        os.mkfifo(f"{self.folder.name}/pipe")
+        self.file("zeros", bytes(5000))
+        name = "h2audit-import:"
+        self.check([
+            ("$IMPORT -o $D/o $D", 4, f"{name} D: Is a directory"),
+            ("$IMPORT -k $D -o $D/o $P", 4, f"{name} D: Is a directory"),
+            ("$IMPORT -k $K -o $D $P", 4, f"{name} D: Is a directory"),
+            ("$IMPORT -o $D/o $D/none", 4, f"{name} D/none: No such file or directory"),
+            ("$IMPORT -k $D/none -o $D/o $P", 4, f"{name} D/none: No such file or directory"),
+            ("$IMPORT -k $K -o $D/none/o $P", 4, f"{name} D/none/o: No such file or directory"),
+            ("$IMPORT -k $K -o /dev/full $P", 4, f"{name} /dev/full: No space left on device"),
+            ("$IMPORT -k $K -o $D/o -m /dev/full $P", 4, f"{name} /dev/full: No space left on device"),
+            ("$IMPORT -k $K -o - $P >/dev/full", 4, f"{name} standard output: No space left on device"),
+            ("$IMPORT -k $K -o $D/o -m $D/o $P", 2, f"{name} OUT.pcap and MAP are the same file"),
+            ("$IMPORT -o $D/o $D/zeros", 3, f"{name} capture refused: bad-magic: D/zeros"),
+            ("$IMPORT -j 3 -k $K -o $D/o $P $D/zeros", 3, f"{name} capture refused: bad-magic: D/zeros"),
+            ("cat $P > $D/pipe & $IMPORT -k $K -o $D/o $D/pipe", 0, ""),
+            ("cat $K > $D/pipe & $IMPORT -k $D/pipe -o $D/o $P", 0, ""),
+        ])  # fmt: skip
+
+    def test_closed(self):
+        """Where a standard file is closed, no other file takes its place."""
+        self.check([
+            ("$IMPORT -k $K -o $D/o <&-", 4, "h2audit-import: standard input: Bad file descriptor"),
+            ("$IMPORT -k $K -o - $P >&-", 4, "h2audit-import: standard output: Bad file descriptor"),
+            ("$IMPORT -k $K -o $D/o $P >&- 2>&- <&-", 0, ""), ("$IMPORT -o $D/o $D/none 2>&-", 4, ""),
+        ])  # fmt: skip
+
+    def test_programs(self):
+        """A program that is no h2audit, or is ended."""
+        self.file("killed", b"#!/bin/sh\nkill -9 $$\n")
+        os.chmod(f"{self.folder.name}/killed", 0o755)
+        self.check([
+            ("$ANY --h2audit /bin/cat -k $K $P", 4, "h2audit-any: h2audit: what it said is no report"),
+            ("$ANY --h2audit /bin/false -k $K $P", 4, "h2audit-any: h2audit: what it said is no report"),
+            ("$ANY --h2audit $D/killed -k $K $P", 4, "h2audit-any: D/killed: ended by signal 9"),
+            ("$ANY --h2audit $D/none -k $K $P", 4, "h2audit-any: D/none: No such file or directory"),
+        ])  # fmt: skip
+
+    def test_blocks(self):
+        """Lengths of pcapng and pcap that nothing stands behind."""
+        front, head = section() + interface(ETHERNET), PCAP[:24]
+        rows = {
+            front + struct.pack("<II", 6, 0xFFFFFFFC) + b"x" * 100: "too-long-block",
+            front + struct.pack("<II", 6, 0) + b"x" * 100: "bad-block",
+            front + block(6, struct.pack("<IIIII", 0, 0, 0, 0xFFFFFFFF, 9) + bytes(40)): "bad-block",
+            front + block(0xA, struct.pack("<II", 0x544C534B, 0xFFFFFFFF) + b"CLIENT_RANDOM"): "bad-block",
+            front + block(1, b""): "bad-block", section() + interface(ETHERNET) * 65537: "too-many-interfaces",
+            front + struct.pack("<II", 6, 17 << 20) + b"x" * 100: "cut", head + struct.pack("<IIII", 1, 0, 1 << 31, 9) + b"x" * 50: "cut",
+            head + struct.pack("<IIII", 1, 0, 0, 1500): "refused short-ethernet",
+            head + struct.pack("<IIII", 1, 0, 17 << 20, 9) + bytes(17 << 20): "refused no-packet",
+        }  # fmt: skip
+        for data, wanted in rows.items():
+            made = given(data)
+            found = [line.split(" ", 5)[5] for line in tools.lines_of(made, "passed")]
+            named = f"h2audit-import: capture refused: {wanted}: -\n"
+            self.assertTrue(made.status == 3 and made.said == named or made.status == 6 and found == [wanted], (wanted, made.said, found))
+
+    def test_bombs(self):
+        """What is small and becomes large takes no more memory than any capture: a packet of 600 MB, and a million of none."""
+        for name, packet, size in (("one", struct.pack("<IIII", 1, 0, 600 << 20, 9), 600), ("many", b"", 16)):
+            with gzip.open(f"{self.folder.name}/{name}", "wb", 1) as file:
+                file.write(PCAP[:24] + packet)
+                for _ in range(size):
+                    file.write(bytes(1 << 20))
+        said = "h2audit-any: h2audit: what it said is no report"
+        self.check((f"ulimit -v 400000; $ANY --h2audit /bin/false $D/{name}", 4, said) for name in ("one", "many"))
+        self.check([("ulimit -v 400000; head -c 500000000 /dev/zero | $IMPORT -k $K -o $D/o $P -", 3,
+                     "h2audit-import: capture refused: bad-magic: -")])  # fmt: skip
+
+    def test_key_logs(self):
+        """A key log that is damaged is counted; not a digit of it is in what is said and in the map."""
+        secret, random_part = b"5ec7e7" * 16, b"ab" * 32
+        lines = [b"CLIENT_RANDOM " + random_part + b" " + secret + b"zz", b"CLIENT_RANDOM " + secret, secret * 100,
+                 b"CLIENT_RANDOM " + random_part[:-2] + b" " + secret, bytes(99), b"CLIENT_RANDOM " + random_part + b" " + secret[:-2],
+                 b"\xff\xfeC\0L\0I\0", b"CLIENT_TRAFFIC_SECRET_0 " + random_part + b" " + secret + b" more"]  # fmt: skip
+        good = [b"", b"# a comment", b"ANOTHER_LABEL " + random_part + b" 12", b"CLIENT_RANDOM " + random_part + b" " + secret]
+        self.file("keys", b"\n".join(lines + good))
+        made = tools.imported("-k", f"{self.folder.name}/keys", tools.capture_named(NAME))
+        self.assertEqual((made.status, made.said.splitlines()), (6, [
+            f"h2audit-import: {len(lines)} lines of the key logs are none, and were passed over",
+            "h2audit-import: no connection could be read",
+        ]))  # fmt: skip
+        self.assertFalse([line for line in made.map if "5ec7" in line or "abab" in line])
+
+
+class Terminal(unittest.TestCase):
+    def test_progress(self):
+        """On a terminal work that is long says how far it is, and takes that back."""
+        leader, follower = pty.openpty()
+        words = [tools.IMPORT, *KEYS, "-o", os.devnull]
+        with subprocess.Popen(words, stdin=subprocess.PIPE, stderr=follower) as child:
+            os.close(follower)
+            child.stdin.write(PCAP)
+            self.feed(child, lambda: select.select([leader], [], [], 0)[0])
+            child.stdin.close()
+            said = b""
+            with contextlib.suppress(OSError):
+                while part := os.read(leader, 1000):
+                    said += part
+            self.assertEqual(child.wait(60), 0)
+        os.close(leader)
+        self.assertRegex(said, rb"^(\rh2audit-import: [\d,]+ packets)+\r +\r$")
+
+    def feed(self, child, is_enough):
+        """Thousands of packets every half a second."""
+        packets = (struct.pack("<IIII", 1, 0, 1, 1) + b"x") * 5000
+        for _ in range(120):
+            child.stdin.write(packets)
+            child.stdin.flush()
+            time.sleep(0.5)
+            if is_enough():
+                return
+
+    def test_none(self):
+        """Elsewhere nothing is said."""
+        with subprocess.Popen([tools.IMPORT, *KEYS, "-o", os.devnull], stdin=subprocess.PIPE, stderr=subprocess.PIPE) as child:
+            child.stdin.write(PCAP)
+            end = time.monotonic() + 6
+            self.feed(child, lambda: time.monotonic() > end)
+            child.stdin.close()
+            self.assertEqual((child.stderr.read(), child.wait(60)), (b"", 0))
 
 
 if __name__ == "__main__":

@@ -1,14 +1,18 @@
 #!/usr/bin/python3
 """Mutated captures and key logs: no exception, no hang, every fault named, and no plaintext but the original's.
 
-    tools/tests/import_mutations_test.py [COUNT [SEED]]
+    tools/tests/import_mutations_test.py [COUNT [SEED [PROCESSES]]]
 
-A few hundred by default; 20,000 take some half an hour. The seed is printed, and with a count and that seed the run is the same.
-Mutations go through the program's own entry in this process, so that thousands are tried in minutes.
+A few hundred by default, by one process. The seed is printed: a count and that seed make the same mutations again, by however
+many processes, and number N of them alone with COUNT as N:N+1. Mutations go through the program's own entry in these processes,
+so that thousands are tried in minutes. The last line says how many ended how.
 """
 
+import collections
 import contextlib
+import gc
 import io
+import multiprocessing
 import os
 import pathlib
 import random
@@ -22,10 +26,33 @@ sys.path.insert(0, str(tools.TOP / "tools" / "import"))
 
 from h2audit_import import command, programs  # noqa: E402
 
-SECONDS_FOR_ONE = 20
+PROCESSOR_SECONDS, SECONDS = 20, 300  # for one mutation
 NAMES = ("nghttp-nghttpd-13", "small-window-v6", "curl-apache-upload", "mixed", "secrets-inside", "snapped-96", "zstd")
 STATUSES = (0, programs.CAPTURE_REFUSED, programs.NOTHING_READ)
+PART = 50
+KNOWN = set()  # each 16 bytes of the originals' plaintext
 INTERESTING = (b"\x00", b"\xff", b"\x7f\xff", b"\x80\x00", b"\x16\x03\x03", b"\xff\xff\xff\xff", b"\x00\x00\x00\x00")
+
+
+class Hangs(BaseException):
+    """It takes too long. No handler of errors takes it for one of its own."""
+
+
+def hangs(*_):
+    raise Hangs
+
+
+@contextlib.contextmanager
+def time_limits():
+    for one in (signal.SIGPROF, signal.SIGALRM):
+        signal.signal(one, hangs)
+    signal.setitimer(signal.ITIMER_PROF, PROCESSOR_SECONDS)
+    signal.alarm(SECONDS)
+    try:
+        yield
+    finally:
+        signal.setitimer(signal.ITIMER_PROF, 0)
+        signal.alarm(0)
 
 
 def changed(data, dice):
@@ -105,42 +132,74 @@ def has_pair_of_both_kinds(lines):
     return bool(kinds["tls"] & kinds["clear"])
 
 
-def one(folder, dice, known, number):
-    name = dice.choice(NAMES)
-    capture, keys = folder / f"capture{tools.capture_named(name).suffix}", folder / "keys"
+def mutated(name, dice):
+    """Bytes of a capture and of its key log, of which at least one is changed."""
     data = tools.capture_named(name).read_bytes()
-    key_log = tools.CAPTURES / f"{name}.keys"
-    text = key_log.read_bytes() if key_log.exists() else b""
-    what = dice.randrange(4)
-    capture.write_bytes(data if what == 0 else changed(data, dice))
-    keys.write_bytes(changed(text, dice) if what == 0 and text else text)
+    path = tools.CAPTURES / f"{name}.keys"
+    text = path.read_bytes() if path.exists() else b""
+    if text and dice.randrange(4) == 0:
+        return data, changed(text, dice)
+    return changed(data, dice), text
+
+
+def one(folder, seed, known, number):
+    """Tries a mutation, and answers how it ended."""
+    dice = random.Random(f"{seed} {number}")
+    name = dice.choice(NAMES)
+    data, text = mutated(name, dice)
+    capture, keys = folder / f"capture{tools.capture_named(name).suffix}", folder / "keys"
+    capture.write_bytes(data)
+    keys.write_bytes(text)
     out, map_path = folder / "out", folder / "map"
     for path in (out, map_path):
         path.unlink(missing_ok=True)
-    signal.alarm(SECONDS_FOR_ONE)
-    status, said = run(["-k", keys, "-o", out, "-m", map_path, capture])
-    signal.alarm(0)
-    assert status in STATUSES, (number, name, status, said)
-    assert (status == 0) <= all("of the key logs" in line for line in said.splitlines()), (number, name, said)
-    assert status == 0 or said.startswith("h2audit-import: "), (number, name, said)
-    assert out.exists() == (status != programs.CAPTURE_REFUSED), (number, name, status)
-    assert not any(secret in said for secret in text.decode().split() if len(secret) > 40), (number, name)
+    with time_limits():
+        status, said = run(["-k", keys, "-o", out, "-m", map_path, capture])
+    assert status in STATUSES, (status, said)
+    assert (status == 0) <= all("of the key logs" in line for line in said.splitlines()), said
+    assert status == 0 or said.startswith("h2audit-import: "), said
+    assert out.exists() == (status != programs.CAPTURE_REFUSED), status
+    written = said.encode() + (map_path.read_bytes() if map_path.exists() else b"")
+    assert not any(secret in written for secret in text.split() if len(secret) > 40)
     if out.exists():
         check(out, map_path, known, (number, name))
+    return "capture refused" if status == programs.CAPTURE_REFUSED else "nothing read" if status else "read"
+
+
+def tried(words):
+    """How each mutation of a range ended, or what was wrong with it."""
+    seed, numbers = words
+    ended = []
+    with tempfile.TemporaryDirectory(prefix="h2audit-test-") as name:
+        for number in numbers:
+            try:
+                ended.append((number, one(pathlib.Path(name), seed, KNOWN, number)))
+            except (Exception, Hangs) as why:
+                ended.append((number, f"FAILED {type(why).__name__} {why}"))
+    gc.collect()  # which the program turns off
+    return ended
 
 
 def main():
-    count = int(sys.argv[1]) if len(sys.argv) > 1 else 400
+    first, _, last = (sys.argv[1] if len(sys.argv) > 1 else "400").rpartition(":")
+    first, last = int(first or 0), int(last)
     seed = int(sys.argv[2]) if len(sys.argv) > 2 else int.from_bytes(os.urandom(4), "big")
-    print(f"{count} mutations, seed {seed}", flush=True)
+    processes = int(sys.argv[3]) if len(sys.argv) > 3 else 1
+    print(f"mutations {first} to {last - 1}, seed {seed}", flush=True)
     with tempfile.TemporaryDirectory(prefix="h2audit-test-") as name:
-        folder = pathlib.Path(name)
-        known = known_plaintext(folder)
-        dice = random.Random(seed)
-        for number in range(count):
-            one(folder, dice, known, number)
-    print(f"{count} passed, 0 failed")
+        KNOWN.update(known_plaintext(pathlib.Path(name)))
+    parts = [(seed, range(at, min(at + PART, last))) for at in range(first, last, PART)]
+    ways = collections.Counter()
+    with multiprocessing.get_context("fork").Pool(processes) as pool:
+        for number, way in (row for part in pool.imap_unordered(tried, parts) for row in part):
+            ways[way.split()[0] if way.startswith("FAILED") else way] += 1
+            if way.startswith("FAILED"):
+                print(f"mutation {number}: {way}", flush=True)
+    failed = ways.pop("FAILED", 0)
+    told = ", ".join(f"{count} {way}" for way, count in sorted(ways.items()))
+    print(f"{last - first} mutations, {failed} failed: {told}")
+    return 1 if failed else 0
 
 
 if __name__ == "__main__":
-    main()
+    sys.exit(main())

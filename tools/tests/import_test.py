@@ -17,6 +17,7 @@ import subprocess
 import sys
 import unittest
 
+import derived_report
 import import_tools as tools
 
 PROGRAM = os.path.abspath(sys.argv.pop()) if len(sys.argv) > 1 and not sys.argv[-1].startswith("-") else None
@@ -179,6 +180,14 @@ class Reports(unittest.TestCase):
             for stream, side, wanted in ledgers(json.loads(path.read_text())):
                 found = stalls_of(report_of(name)[0], stream, side)
                 self.assertEqual(found, wanted, (name, side))
+
+    @unittest.skipUnless(shutil.which("tshark"), "tshark is not installed")
+    def test_derived(self):
+        """Each line of a stored report, derived from tshark's frames and times, files of records, and the RFC."""
+        for name in FRAMES:
+            stored = (tools.CAPTURES / f"{name}.report").read_text()
+            told = name if (tools.CAPTURES / f"{name}.records").exists() else "small-window-v6"
+            self.assertEqual("\n".join(derived_report.derived(told)) + "\n", stored, name)
 
     @needs_program
     def test_examples(self):

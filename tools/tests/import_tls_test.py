@@ -119,6 +119,77 @@ class Suites(Folder):
         made = tools.imported("-k", keys, self.path("resumed.pcap"))
         self.assertEqual([data for _, _, data in tools.payloads(made)], [b"first", b"second"])
 
+    def test_session_of_another(self):
+        """A key log with the session's first handshake alone: by identifier and by ticket, one after the other, and on
+        standard input; processes change nothing. Nothing is read where that line is missing too.
+        """
+        for name, option in (("identifier", ssl.OP_NO_TICKET), ("ticket", 0)):
+            said, first_line = self.resume(name, option)
+            path = self.path(f"{name}.pcap")
+            for jobs in ("1", "4"):
+                made = tools.imported("-j", jobs, "-k", first_line, path)
+                self.assertEqual([data for _, _, data in tools.payloads(made)], said, name)
+                again = tools.imported("-j", jobs, "-k", first_line, input=path.read_bytes())
+                self.assertEqual(again.packets, made.packets)
+            first_line.write_text("CLIENT_RANDOM " + "11" * 32 + " " + "22" * 48 + "\n")
+            made = tools.imported("-k", first_line, path)
+            self.assertEqual([line.split()[-1] for line in tools.lines_of(made, "connection")], ["no-key"] * 4)
+
+    def resume(self, name, option):
+        """Four connections of one session; what was said, and a key log with the line of the first."""
+        capture, keys = tls_talk.Capture(), self.path(f"{name}.keys")
+        keys.write_bytes(b"")
+        pair = tls_talk.contexts(self.certificates, keys, ssl.TLSVersion.TLSv1_2, "ECDHE-RSA-AES128-GCM-SHA256")
+        pair[1].options |= option
+        said = [b"first", b"second", b"third", b"fourth"]
+        talks = []  # of all, since a server forgets the session of an end that goes
+        for at, data in enumerate(said):
+            session = talks[-1].ends[0].session if talks else None
+            talks.append(tls_talk.Talk(capture, pair, port=40000 + at, session=session).shake_hands())
+            talks[-1].say(at % 2, data)
+            self.assertEqual(talks[-1].ends[0].session_reused, at > 0)
+        capture.write(self.path(f"{name}.pcap"))
+        lines = [line for line in keys.read_text().splitlines(keepends=True) if not line.startswith("#")]
+        self.assertEqual([line.split()[0] for line in lines], ["CLIENT_RANDOM"] * 4)
+        self.assertEqual(len({line.split()[2] for line in lines}), 1)
+        keys.write_text(lines[0])
+        return said, keys
+
+    def test_refused(self):
+        """A handshake that is not whole, by what is missing of it."""
+        capture, keys = tls_talk.Capture(), self.path("refused.keys")
+        keys.write_bytes(b"")
+        pair = tls_talk.contexts(self.certificates, keys, ssl.TLSVersion.TLSv1_2, "ECDHE-RSA-AES128-GCM-SHA256")
+        tls_talk.Talk(capture, pair, segment=400).shake_hands()
+        capture.write(self.path("refused.pcap"))
+        packets, _ = tools.read_pcap(self.path("refused.pcap").read_bytes())
+        first, flight = packets[2].data, packets[3].data
+        record = 5 + int.from_bytes(flight[43:45], "big")
+        begun = flight[40 + record :]  # of the record behind the ServerHello
+        self.assertTrue(begun and len(flight) == 440 and packets[4].data[20:22] == flight[20:22])
+        cases = {
+            "no-handshake": packets[:1] + packets[2:], "handshake-unfinished": packets[:3], "gap 0": packets[:3] + packets[4:],
+            f"tail {len(begun)}": packets[:4], "not-tls": [*packets[:2], packets[2]._replace(data=first[:46] + b"\xff" + first[47:]),
+                                                           *packets[3:]],
+        }  # fmt: skip
+        for reason, kept in cases.items():
+            made = tools.imported("-k", keys, input=tools.pcap_of(kept, 101))
+            self.assertEqual((made.status, tools.lines_of(made, "connection")[0].split(" packet 1 ")[1]), (6, f"refused {reason}"))
+
+    def test_alert(self):
+        """A client that does not trust the certificate says alert 48 (RFC 8446, 6.2), in TLS 1.2 in the clear."""
+        capture, keys = tls_talk.Capture(), self.path("alert.keys")
+        keys.write_bytes(b"")
+        pair = tls_talk.contexts(self.certificates, keys, ssl.TLSVersion.TLSv1_2, "ECDHE-RSA-AES128-GCM-SHA256")
+        pair[0].verify_mode = ssl.CERT_REQUIRED
+        talk = tls_talk.Talk(capture, pair)
+        with self.assertRaises(ssl.SSLCertVerificationError):
+            talk.shake_hands()
+        talk.move(0)
+        capture.write(self.path("alert.pcap"))
+        made = tools.imported("-k", keys, self.path("alert.pcap"))
+        self.assertTrue(tools.lines_of(made, "connection")[0].endswith(" refused alert 48"), made.map)
+
     def test_old_versions(self):
         made, _ = self.talk(ssl.TLSVersion.TLSv1_1, None, [])
         self.assertTrue(tools.lines_of(made, "connection")[0].endswith("refused tls-version 0x0302"))
@@ -205,12 +276,14 @@ class Servers(Folder):
         return tools.imported("-k", keys, self.path(f"{name}.pcap"))
 
     def client(self, port, keys, words, said):
+        """Says one thing after the other; each goes out by itself."""
         client = subprocess.Popen(["openssl", "s_client", "-connect", f"127.0.0.1:{port}", "-keylogfile", keys, "-alpn", "h2", *words],
                                   stdin=subprocess.PIPE, stdout=subprocess.DEVNULL, stderr=subprocess.DEVNULL)  # fmt: skip
         time.sleep(0.7)
-        client.stdin.write(said)
-        client.stdin.flush()
-        time.sleep(0.5)
+        for one in said if isinstance(said, tuple) else (said,):
+            client.stdin.write(one)
+            client.stdin.flush()
+            time.sleep(0.5)
         client.stdin.close()
         client.wait(20)
 
@@ -239,6 +312,25 @@ class Servers(Folder):
         self.assertEqual(self.said(made), [b"hello\n"] * 2)
         made = self.run_openssl("mte", [], [[*words, "-no_etm"]])
         self.assertEqual(self.said(made), [b"hello\n"])
+
+    @unittest.skipUnless(can_capture, "needs root, tcpdump and openssl")
+    def test_record_padding(self):
+        """Records of TLS 1.3 filled up to 512 bytes with zeros (RFC 8446, 5.4)."""
+        made = self.run_openssl("padding", [], [["-tls1_3", "-record_padding", "512"]])
+        self.assertEqual(self.said(made), [b"hello\n"])
+        packets, _ = tools.read_pcap(self.path("padding.pcap").read_bytes())
+        bodies = [one.data[at + 3 : at + 5] for one in packets if (at := one.data.find(b"\x17\x03\x03")) >= 0]
+        self.assertIn((512 + 16).to_bytes(2, "big"), bodies)
+
+    @unittest.skipUnless(can_capture, "needs root, tcpdump and openssl")
+    def test_renegotiation(self):
+        """In TLS 1.2 a line that begins with R makes s_client take new keys; what is said before that is read."""
+        words = ["-tls1_2", "-cipher", "ECDHE-RSA-AES128-GCM-SHA256"]
+        made = self.run_openssl("again", ["-client_renegotiation"], [words], (b"hello\n", b"R\n", b"later\n"))
+        self.assertEqual(self.said(made), [b"hello\n", b"\0", b"\0"])  # and a byte past each hole
+        self.assertEqual(tools.lines_of(made, "flow"), [
+            "flow client bytes 6 gap 6 tail 0 end renegotiation", "flow server bytes 0 gap 0 tail 0 end renegotiation",
+        ])  # fmt: skip
 
     @unittest.skipUnless(can_capture, "needs root, tcpdump and openssl")
     def test_psk(self):

@@ -3,12 +3,12 @@ originals.
 
 The way of a packet, a module for each step:
 
-    sources ─ pcap, pcapng ─ link_layers ─ internet ─ connections ─ flows ─ tls_records ─ tls_connection ─ writer, map_file
-    files     records        datagrams     segments   clear or TLS  bytes   records       plaintext        what is made
+    sources ─ pcap, pcapng ─ link_layers ─ internet ─ table, connections ─ flows ─ tls_records ─ tls_connection ─ writer
+    files     packets        datagrams     segments   clear or TLS         bytes   records       plaintext        OUT
 
-``key_log`` has the secrets, ``hellos`` reads the messages that choose keys, ``suites``, ``key_schedule`` and
-``protection`` open records. ``importing`` is the pipeline, ``jobs`` divides it among processes. ``any`` and
-``report`` stand behind h2audit-any.
+``key_log`` has the secrets, ``sessions`` those of resumed connections; ``hellos`` reads the messages that choose keys,
+``handshake`` follows them; ``suites``, ``key_schedule`` and ``protection`` open records; ``map_file`` writes the map.
+``importing`` is the pipeline, ``jobs`` divides it among processes. ``any`` and ``report`` stand behind h2audit-any.
 """
 
 VERSION = "1.0.0"

@@ -1,12 +1,13 @@
 """h2audit-any: imports captures, audits what is made, and prints the report of the original."""
 
+import errno
 import sys
 from argparse import Namespace
 from typing import NoReturn
 
-from .audit import Audit, audit_by, program_named
+from .audit import Audit, Report, audit_by, program_named
 from .command import imported
-from .parts import MOST_PARTS, audit_in_parts
+from .parts import MOST_PARTS, REPORTED, audit_in_parts
 from .private_files import nameless
 from .programs import NOTHING_READ, number, run, say, words_of
 from .report import Original, brought_back
@@ -14,6 +15,7 @@ from .stages import Output
 from .writer import Writer
 
 PROGRAM = "h2audit-any"
+NO_REPORT = OSError(errno.EPROTO, "what it said is no report", "h2audit")
 DESCRIPTION = """Audits the HTTP/2 flow control of captures as people have them: TLS with its key log, pcapng, IPv6,
 cooked packets, several files. Prints h2audit's report, with the packet numbers and addresses of the original."""
 
@@ -31,14 +33,29 @@ def way_of(asked: Namespace) -> Audit:
     return audit_in_parts(program, asked.parts) if asked.parts else audit_by(program)
 
 
+def write(report: Report, original: Original) -> bool:
+    """Writes the report of the original, and says whether there is one. What no h2audit would say, another program
+    has said.
+    """
+    is_there = False
+    try:
+        for line in brought_back(report.lines, original):
+            is_there = True
+            sys.stdout.write(line)
+    except (ValueError, IndexError):
+        raise NO_REPORT from None
+    return is_there
+
+
 def audited(asked: Namespace, audit: Audit) -> int:
     original = Original()
     with nameless() as (file, path):
         counts = imported(PROGRAM, asked, Output(Writer(file), original))
         file.flush()
         with audit(path, options_of(asked)) as report:
-            for line in brought_back(report.lines, original):
-                sys.stdout.write(line)
+            is_there = write(report, original)
+        if report.status in REPORTED and not is_there:
+            raise NO_REPORT
     if report.status == 0 and counts.read == 0:
         say(PROGRAM, "no connection could be read")
         return NOTHING_READ

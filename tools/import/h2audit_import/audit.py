@@ -3,6 +3,7 @@
 This is the one step of h2audit-any that another way of auditing may replace.
 """
 
+import errno
 import os
 import shutil
 import subprocess
@@ -51,6 +52,8 @@ def audit_by(program: str) -> Audit:
         try:
             yield report
             report.status = child.wait()
+            if report.status < 0:
+                raise OSError(errno.ECHILD, f"ended by signal {-report.status}", program)
         finally:
             child.kill()
             child.stdout.close()

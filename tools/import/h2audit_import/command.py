@@ -10,7 +10,7 @@ from .errors import Refused
 from .importing import Counts, Importer, scan_for_secrets
 from .key_log import Keys, read_key_log
 from .map_file import Map
-from .private_files import written
+from .private_files import is_special, written
 from .programs import NOTHING_READ, Progress, run, say, words_of
 from .sources import STANDARD_INPUT, can_be_read_twice
 from .stages import OneProcess, Output, Stage
@@ -52,12 +52,14 @@ def imported(program: str, asked: Namespace, output: Output) -> Counts:
     files = asked.files or [STANDARD_INPUT]
     keys, more_keys = keys_of(program, asked.key_log, files)
     progress = Progress(program)
-    importer = Importer(stage_of(keys, more_keys, asked.jobs, output), output.map, progress)
+    stage = stage_of(keys, more_keys, asked.jobs, output)
+    importer = Importer(stage, output.map, progress)
     try:
         for path in files:
             import_file(importer, path)
         return importer.finish()
     finally:
+        stage.close()
         progress.end()
 
 
@@ -80,6 +82,11 @@ def map_to(path: str | None) -> Iterator[TextIO | None]:
         text.detach()
 
 
+def is_same_file(one: str, other: str) -> bool:
+    """Whether what is written to either would replace the other."""
+    return os.path.realpath(one) == os.path.realpath(other) and not is_special(one)
+
+
 def work(asked: Namespace) -> int:
     with written(asked.output) as file, map_to(asked.map) as map_file:
         counts = imported(PROGRAM, asked, Output(Writer(file), Map(map_file)))
@@ -98,4 +105,6 @@ def main() -> NoReturn:
         "-m", "--map", metavar="MAP", help="which packet made each record, and what became of each connection"
     )
     asked = parser.parse_args()
+    if asked.map and is_same_file(asked.output, asked.map):
+        parser.error("OUT.pcap and MAP are the same file")
     run(PROGRAM, lambda: work(asked))

@@ -9,9 +9,11 @@ import struct
 from typing import NamedTuple, Protocol
 
 from .flows import END_OF_OFFSETS, MOST_HELD, Arrival, Flow
+from .handshake import Handshake
 from .internet import ACK, FIN, SYN, Segment
 from .key_log import Keys
 from .outcomes import Clear, Outcome, Read, Refusal, SideRead
+from .sessions import Sessions
 from .tls_connection import Side, TlsConnection
 from .tls_records import ALERT, HANDSHAKE, looks_like_tls
 
@@ -37,6 +39,7 @@ class Context:
 
     def __init__(self, keys: Keys, more_keys: bool, sink: Sink) -> None:
         self.keys, self.more_keys, self.sink = keys, more_keys, sink
+        self.sessions = Sessions()
 
 
 class Mode(enum.Enum):
@@ -69,47 +72,35 @@ class Connection:
     """An opening with all segments that belong to it."""
 
     __slots__ = (
-        "opening",
-        "context",
-        "ends",
-        "initial",
-        "mode",
-        "flows",
-        "held",
-        "cost",
-        "tls",
-        "is_snapped",
-        "sent",
+        "opening", "context", "ends", "initial", "mode", "flows", "held", "cost", "tls", "is_snapped", "sent",
         "ends_at",
-    )
+    )  # fmt: skip
 
     def __init__(self, arrival: Arrival, segment: Segment, context: Context) -> None:
         self.opening, self.context = arrival[0], context
         self.ends = (segment.ends, swapped(segment.ends))
         self.initial: list[int | None] = [segment.sequence, None]
         self.mode = Mode.UNDECIDED
-        self.flows = (Flow(), Flow())
-        self.held: list[Arrived] = []  # while undecided all segments, in TLS those of a server without its SYN ACK
+        self.flows: tuple[Flow, Flow] | None = None  # while undecided
+        # While undecided all segments behind the openings, in TLS those of a server without its SYN ACK.
+        self.held: list[Arrived] | None = None
         self.cost = 0
         self.tls: TlsConnection | None = None
         self.is_snapped = False
         self.sent = [0, 0]
-        self.ends_at: list[int | None] = [None, None]  # the offset of each side's FIN
+        self.ends_at: list[int | None] | None = None  # the offset of each side's FIN
 
     def take(self, arrival: Arrival, side: int, segment: Segment) -> None:
-        is_answer = side == SERVER and self.initial[SERVER] is None and segment.flags & (SYN | ACK) == SYN | ACK
+        is_answer = side == SERVER and segment.flags & SYN and segment.flags & ACK and self.initial[SERVER] is None
         if is_answer:
             self.initial[SERVER] = segment.sequence
-        if self.mode is Mode.CLEAR:
-            self.context.sink.emit(arrival, segment.original, segment.datagram)
-        elif self.mode is Mode.UNDECIDED:
+        if self.mode is Mode.UNDECIDED:
             self.take_undecided(Arrived(arrival, side, segment))
-        elif self.mode is Mode.TLS:
-            if is_answer:
-                self.context.sink.emit(arrival, segment.start, without_payload(segment))
-                self.take_held(Arrived(arrival, side, segment))
-            else:
-                self.take_tls(arrival, side, segment)
+        elif is_answer:
+            self.context.sink.emit(arrival, segment.start, without_payload(segment))
+            self.take_held(Arrived(arrival, side, segment))
+        else:
+            self.take_tls(arrival, side, segment)
 
     def placed(self, side: int, segment: Segment) -> tuple[int, bytes] | None:
         """Where a segment's payload stands in its side's bytes (RFC 9293, 3.4), and what of it counts."""
@@ -128,9 +119,12 @@ class Connection:
     def take_undecided(self, arrived: Arrived) -> None:
         segment, side = arrived.segment, arrived.side
         self.is_snapped |= segment.is_snapped
-        if not self.held and segment.flags & SYN and segment.end == segment.start:
-            self.context.sink.emit(arrived.arrival, segment.original, segment.datagram)
-            return
+        if self.held is None:
+            if segment.flags & SYN and segment.end == segment.start:
+                self.context.sink.emit(arrived.arrival, segment.original, segment.datagram)
+                return
+            self.held, self.flows = [], (Flow(), Flow())
+        assert self.flows is not None
         self.held.append(arrived)
         self.cost += len(segment.datagram)
         answers = side == SERVER and segment.flags & SYN
@@ -144,54 +138,75 @@ class Connection:
             self.decide(False)
 
     def decide(self, is_tls: bool) -> None:
-        held, self.held, self.cost = self.held, [], 0
-        self.flows = (Flow(), Flow())
+        held, self.held, self.flows, self.cost = self.held or [], None, None, 0
+        context = self.context
         if not is_tls:
             self.mode = Mode.CLEAR
             for one in held:
-                self.context.sink.emit(one.arrival, one.segment.original, one.segment.datagram)
+                context.sink.emit(one.arrival, one.segment.original, one.segment.datagram)
             return
         self.mode = Mode.TLS
-        self.tls = TlsConnection(self.context.keys, self.context.more_keys, self.emit_plaintext)
+        handshake = Handshake(context.keys, context.more_keys, context.sessions, self.opening)
+        self.tls = TlsConnection(handshake, self.emit_plaintext)
         for one in held:
             if one.segment.flags & SYN:
-                self.context.sink.emit(one.arrival, one.segment.start, without_payload(one.segment))
+                context.sink.emit(one.arrival, one.segment.start, without_payload(one.segment))
             self.take_tls(*one)
 
     # TLS
 
     def take_tls(self, arrival: Arrival, side: int, segment: Segment) -> None:
-        assert self.tls is not None
-        initial = self.initial[side]
+        tls, initial = self.tls, self.initial[side]
+        assert tls is not None
         if segment.flags & FIN and initial is not None:
-            length = segment.end - segment.start
-            self.ends_at[side] = (segment.sequence + length - initial - 1) & MODULO
-        if segment.start == segment.end or self.tls.refused:
+            if self.ends_at is None:
+                self.ends_at = [None, None]
+            self.ends_at[side] = (segment.sequence + segment.end - segment.start - initial - 1) & MODULO
+        if segment.start == segment.end or tls.refused:
             return
-        self.is_snapped |= segment.is_snapped
-        if self.initial[side] is None:
+        if segment.is_snapped:
+            self.is_snapped = True
+        if initial is None:
             self.hold(Arrived(arrival, side, segment))
             return
         placed = self.placed(side, segment)
         if placed:
-            self.tls.segment(side, placed[0], placed[1], arrival)
+            tls.segment(side, placed[0], placed[1], arrival)
 
     def is_over(self) -> bool:
-        """Whether all bytes up to both sides' FIN are there, and read: what may still come repeats some of them."""
-        if self.tls is None or self.tls.queue or self.tls.refused:
+        """Whether nothing more is to be told of it: it is refused, or all bytes up to both sides' FIN are there, and
+        read. What may still come repeats some of them.
+        """
+        tls = self.tls
+        if tls is None or self.initial[SERVER] is None:
             return False
-        return all(end == side.flow.next for end, side in zip(self.ends_at, self.tls.sides))
+        if tls.refused:
+            return True
+        if self.ends_at is None or tls.queue:
+            return False
+        return all(end == side.flow.next for end, side in zip(self.ends_at, tls.sides))
+
+    def is_quiet(self) -> bool:
+        """Whether its end would write nothing, and no more is known to be missing."""
+        tls = self.tls
+        if tls is None or tls.queue or self.initial[SERVER] is None:
+            return False
+        return not any(side.end or side.flow.behind_hole for side in tls.sides)
+
+    def waits_for_key(self) -> bool:
+        return self.tls is not None and self.tls.handshake.waits_for_key
 
     def hold(self, arrived: Arrived) -> None:
         """Keeps what cannot be placed before the server's SYN ACK; past a limit that is not waited for."""
         self.cost += len(arrived.segment.datagram)
         if self.cost <= MOST_HELD:
+            self.held = self.held or []
             self.held.append(arrived)
         else:
-            self.held = []
+            self.held = None
 
     def take_held(self, answer: Arrived) -> None:
-        held, self.held = [*self.held, answer], []
+        held, self.held = [*(self.held or ()), answer], None
         for one in held:
             self.take_tls(*one)
 
@@ -221,10 +236,10 @@ class Connection:
             return Clear(self.opening, self.ends[CLIENT])
         tls = self.tls
         tls.finish(self.is_snapped, self.initial[SERVER] is not None)
+        self.mode, self.tls = Mode.ENDED, None
         if tls.refused:
             return Refusal(self.opening, self.ends[CLIENT], tls.refused)
         client, server = (self.side_read(side) for side in tls.sides)
-        self.mode, self.tls = Mode.ENDED, None
         known = tls.handshake
         assert known.suite is not None
         return Read(

@@ -2,7 +2,7 @@
 
 The first packet that brings an offset wins. Offsets from 2^31 on do not count. Bytes behind a hole are held until
 it is filled; a heap of what is held by offset, and one of what covers the place that is reached by arrival, give
-them in n log n steps.
+them in n log n steps. A flow without a hole holds nothing, and its next segment passes as it stands.
 """
 
 import heapq
@@ -22,14 +22,18 @@ class Flow:
 
     def __init__(self) -> None:
         self.next = 0
-        self.held: list[tuple[int, Arrival, int, bytes]] = []  # offset, arrival, end, bytes
-        self.lengths: dict[int, int] = {}  # of the longest piece that is held, by its offset
+        self.held: list[tuple[int, Arrival, int, bytes]] | None = None  # offset, arrival, end, bytes
+        self.lengths: dict[int, int] | None = None  # of the longest piece that is held, by its offset
         self.cost = 0
         self.lost: Arrival | None = None  # what came behind a hole that is not waited for any longer
 
     def add(self, offset: int, data: bytes, arrival: Arrival) -> bytes:
         """The bytes that are in order now."""
-        end = min(offset + len(data), END_OF_OFFSETS)
+        end = offset + len(data)
+        if offset == self.next and end <= END_OF_OFFSETS and not self.held and not self.lost:
+            self.next = end
+            return data
+        end = min(end, END_OF_OFFSETS)
         if end <= self.next or self.lost:
             return b""
         if offset > self.next:
@@ -42,6 +46,8 @@ class Flow:
         return fresh
 
     def hold(self, offset: int, data: bytes, arrival: Arrival) -> None:
+        if self.held is None or self.lengths is None:
+            self.held, self.lengths = [], {}
         if self.lengths.get(offset, 0) >= len(data):
             return
         self.lengths[offset] = len(data)
@@ -52,11 +58,12 @@ class Flow:
 
     def give_up(self) -> None:
         self.lost = self.behind_hole
-        self.held, self.lengths, self.cost = [], {}, 0
+        self.held, self.lengths, self.cost = None, None, 0
 
     def joined(self, filling: tuple[Arrival, int, int, bytes]) -> bytes:
         """What a segment that fills a hole gives with the pieces behind it: of each byte the first arrival's."""
         at = self.next
+        assert self.held is not None
         active = [filling]
         made = []
         while active or (self.held and self.held[0][0] <= at):
@@ -72,14 +79,16 @@ class Flow:
             made.append(piece[at - start : until - start])
             at = until
         self.next = at
+        if not self.held:
+            self.held = self.lengths = None
         return b"".join(made)
 
     def forget(self, start: int, piece: bytes) -> None:
         self.cost -= len(piece) + COST_OF_A_PIECE
-        if self.lengths.get(start) == len(piece):
+        if self.lengths and self.lengths.get(start) == len(piece):
             del self.lengths[start]
 
     @property
     def behind_hole(self) -> Arrival | None:
         """The first packet that brought bytes behind a hole which is still there."""
-        return self.lost or min((arrival for _, arrival, _, _ in self.held), default=None)
+        return self.lost or min((arrival for _, arrival, _, _ in self.held or ()), default=None)

@@ -11,6 +11,7 @@ from .errors import Stopped
 from .key_log import Keys
 from .key_schedule import TrafficKeys, key_block, next_secret, traffic_keys
 from .protection import DOES_NOT_OPEN, Opener, Tls13, tls12_opener
+from .sessions import Sessions
 from .suites import Suite, suite_of
 from .tls_records import ALERT, APPLICATION_DATA, CHANGE_CIPHER_SPEC, HANDSHAKE
 
@@ -26,8 +27,17 @@ class Stage(enum.Enum):
     TRAFFIC = enum.auto()
 
 
+# Of each side: which secret makes the keys of a stage.
+LABELS = tuple(
+    {Stage.EARLY: key_log.EARLY, Stage.HANDSHAKE: key_log.HANDSHAKE[side], Stage.TRAFFIC: key_log.TRAFFIC[side]}
+    for side in (CLIENT, SERVER)
+)
+
+
 class HalfHandshake:
     """What is known of one side."""
+
+    __slots__ = ("stage", "messages", "opener", "secret", "opened", "skips")
 
     def __init__(self) -> None:
         self.stage = Stage.FIRST
@@ -41,12 +51,21 @@ class HalfHandshake:
 class Handshake:
     """Takes the records of each side in order."""
 
-    def __init__(self, keys: Keys, more_keys: bool) -> None:
+    __slots__ = (
+        "keys", "sessions", "opening", "more_keys", "waits_for_key", "halves", "client_hello", "server_random",
+        "is_encrypted_first", "is_full", "suite", "version", "protocol", "block", "hello_count", "has_retried",
+        "accepts_early_data", "early_records", "rejected_records", "opened", "alert",
+    )  # fmt: skip
+
+    def __init__(self, keys: Keys, more_keys: bool, sessions: Sessions, opening: int) -> None:
         self.keys, self.more_keys = keys, more_keys
+        self.sessions, self.opening = sessions, opening
         self.waits_for_key = False
         self.halves = (HalfHandshake(), HalfHandshake())
         self.client_hello: hellos.ClientHello | None = None
-        self.server_hello: hellos.ServerHello | None = None
+        self.server_random: bytes | None = None
+        self.is_encrypted_first = False
+        self.is_full = False  # in TLS 1.2: the server does not go on with a session
         self.suite: Suite | None = None
         self.version: int | None = None
         self.protocol: bytes | None = None
@@ -82,11 +101,16 @@ class Handshake:
 
     def read_clear(self, side: int, content: bytes) -> bytes:
         for kind, body in self.halves[side].messages.add(content):
-            if kind == hellos.CLIENT_HELLO and side == CLIENT:
-                self.hello_count += 1
-                self.client_hello = hellos.client_hello(body)
-            elif kind == hellos.SERVER_HELLO and side == SERVER:
+            if side == CLIENT:
+                if kind == hellos.CLIENT_HELLO:
+                    self.hello_count += 1
+                    self.client_hello = hellos.client_hello(body)
+            elif kind == hellos.SERVER_HELLO:
                 self.meet_server_hello(hellos.server_hello(body))
+            elif kind == hellos.NEW_SESSION_TICKET and self.version == hellos.TLS_1_2:
+                self.begin_session(hellos.new_ticket(body))
+            elif kind == hellos.SERVER_HELLO_DONE:
+                self.is_full = True
         return b""
 
     def meet_server_hello(self, hello: hellos.ServerHello) -> None:
@@ -96,7 +120,7 @@ class Handshake:
         if hello.is_retry:
             self.has_retried = True
             return
-        if self.server_hello:
+        if self.server_random:
             raise Stopped("not-tls")
         self.suite = suite_of(hello.suite)
         if self.suite is None or (hello.version == hellos.TLS_1_3) != (hello.suite >> 8 == 0x13):
@@ -105,9 +129,17 @@ class Handshake:
             raise Stopped("tls-compression")
         if hellos.TRUNCATED_HMAC in hello.extensions and self.suite.mac:
             raise Stopped("truncated-hmac")
-        self.server_hello = hello
+        self.server_random = hello.random
         if hello.version == hellos.TLS_1_2:
             self.protocol = hellos.protocol_of(hello.extensions)
+            self.is_encrypted_first = hellos.ENCRYPT_THEN_MAC in hello.extensions
+            if self.client_hello and hello.session != self.client_hello.session:
+                self.begin_session(hello.session)
+
+    def begin_session(self, name: bytes) -> None:
+        """Keeps the name that a server gives its session, where its secret may be known."""
+        if self.client_hello and (self.keys.has_master or self.more_keys):
+            self.sessions.begin(name, self.opening, self.client_hello.random)
 
     def note_alert(self, content: bytes) -> None:
         """Keeps the description of a fatal alert (RFC 8446, 6)."""
@@ -120,26 +152,39 @@ class Handshake:
         """A secret of this connection; none where it may still come."""
         assert self.client_hello is not None
         found = self.keys.find(self.client_hello.random, label)
-        self.waits_for_key = found is None and self.more_keys
-        if found is None and not self.more_keys:
+        self.waits_for_key = found is None and (self.more_keys or label == key_log.MASTER and self.may_be_resumed())
+        if found is None and not self.waits_for_key:
             raise Stopped("no-key")
         return found
+
+    def may_be_resumed(self) -> bool:
+        """Whether an earlier connection may have had the master secret of this one: its server has said
+        ChangeCipherSpec before ServerHelloDone (RFC 5246, 7.3).
+        """
+        hello = self.client_hello
+        is_it = not self.is_full and self.sessions.is_open and self.keys.has_master
+        return bool(is_it and hello and (hello.session or hello.ticket))
+
+    def resume(self) -> None:
+        """Asks for the secret of the session that this connection goes on with."""
+        hello = self.client_hello
+        if hello and self.waits_for_key and self.version == hellos.TLS_1_2 and not self.is_full:
+            self.sessions.resume((hello.ticket, hello.session), self.opening, hello.random)
 
     def change_cipher(self, side: int) -> bytes | None:
         """In TLS 1.2 the next record is protected (RFC 5246, 7.1); in TLS 1.3 this says nothing (RFC 8446, D.4)."""
         if self.version == hellos.TLS_1_3:
             return b""
-        if self.server_hello is None or self.client_hello is None:
+        if self.server_random is None or self.client_hello is None:
             return None
         assert self.suite is not None
         if self.block is None:
             master = self.secret(key_log.MASTER)
             if master is None:
                 return None
-            self.block = key_block(self.suite, master, self.client_hello.random, self.server_hello.random)
+            self.block = key_block(self.suite, master, self.client_hello.random, self.server_random)
         half = self.halves[side]
-        is_encrypted_first = hellos.ENCRYPT_THEN_MAC in self.server_hello.extensions
-        half.opener = tls12_opener(self.suite, self.block[side], is_encrypted_first)
+        half.opener = tls12_opener(self.suite, self.block[side], self.is_encrypted_first)
         half.messages, half.stage = hellos.Messages(), Stage.TRAFFIC
         return b""
 
@@ -148,7 +193,7 @@ class Handshake:
         if side == CLIENT and self.has_retried and self.hello_count < 2:
             self.rejected_records += 1
             return b""
-        if self.server_hello is None or self.client_hello is None:
+        if self.server_random is None or self.client_hello is None:
             return None
         if self.version != hellos.TLS_1_3:
             raise Stopped("not-tls")
@@ -175,12 +220,7 @@ class Handshake:
     def begin(self, side: int) -> bool:
         """Makes the keys of the side's stage in TLS 1.3 (RFC 8446, 7.1)."""
         half = self.halves[side]
-        labels = {
-            Stage.EARLY: key_log.EARLY,
-            Stage.HANDSHAKE: key_log.HANDSHAKE[side],
-            Stage.TRAFFIC: key_log.TRAFFIC[side],
-        }
-        secret = self.secret(labels[half.stage])
+        secret = self.secret(LABELS[side][half.stage])
         if secret is None:
             return False
         self.use(half, secret)
@@ -218,7 +258,8 @@ class Handshake:
             content = content.rstrip(b"\0")
         kind, content = content[-1:], content[:-1]
         if kind == b"\x17" and half.stage is not Stage.HANDSHAKE:
-            self.early_records += half.stage is Stage.EARLY
+            if half.stage is Stage.EARLY:
+                self.early_records += 1
             return content
         if kind == b"\x16":
             for message, inner in half.messages.add(content):

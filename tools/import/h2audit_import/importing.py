@@ -55,7 +55,10 @@ class Importer:
 
     def packet(self, packet: Packet) -> None:
         self.packets += 1
-        segment = self.decoder.segment(packet) if packet.link in READ else "link-type"
+        if not self.packets & 0xFFF:
+            self.progress(self.packets)
+        is_read = packet.link is None or packet.link in READ
+        segment = self.decoder.segment(packet) if is_read else "link-type"
         if isinstance(segment, str):
             self.pass_over(segment)
             return
@@ -64,8 +67,6 @@ class Importer:
         if self.decoder.stand_ins.new:
             self.name_addresses()
         self.stage.segment((self.packets, packet.nanos), segment)
-        if not self.packets & 0xFFF:
-            self.progress(self.packets)
 
     def name_addresses(self) -> None:
         for stand_in, original in self.decoder.stand_ins.new:

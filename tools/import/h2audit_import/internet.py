@@ -11,10 +11,14 @@ from .errors import Refused
 from .link_layers import IPV4_TYPE, IPV6_TYPE, payload_of
 from .packets import Packet
 
-SYN, ACK, FIN = 2, 16, 1
+FIN, SYN, RST, ACK = 1, 2, 4, 16
 TCP, HOP_BY_HOP, ROUTING, FRAGMENT, AUTHENTICATION, DESTINATION, MOBILITY = 6, 0, 43, 44, 51, 60, 135
 PASSED_OVER = (HOP_BY_HOP, ROUTING, DESTINATION, MOBILITY, 139, 140)
 FIRST_STAND_IN = 240 << 24
+MOST_STAND_INS = (1 << 28) - 2
+# Version and header's length, total length, fragment, protocol, addresses.
+IPV4_HEADER = struct.Struct(">BxHxxHxBxx8s").unpack_from
+TCP_HEADER = struct.Struct(">4sIxxxxBB").unpack_from  # ports, sequence number, data offset, flags
 # Packets that are counted, and not named one by one.
 COUNTED = ("not-ip", "not-tcp")
 
@@ -54,7 +58,7 @@ class StandIns:
         self.check()
 
     def check(self) -> None:
-        if self.known and self.has_class_e:
+        if self.known and self.has_class_e or len(self.known) > MOST_STAND_INS:
             raise Refused("address-clash")
 
 
@@ -80,25 +84,26 @@ class Decoder:
         captured = len(data) - start
         if captured < 20:
             return "short-ipv4"
-        if data[start] >> 4 != 4:
+        first, total, fragment, protocol, addresses = IPV4_HEADER(data, start)
+        if first >> 4 != 4:
             return "bad-version"
-        header = (data[start] & 15) * 4
+        header = (first & 15) * 4
         if header < 20 or header > captured:
             return "bad-header-length"
-        total = data[start + 2] << 8 | data[start + 3]
         if 0 < total < header:
             return "bad-total-length"
         if total > captured and len(data) >= original:
             return "past-end"
-        if data[start + 6] & 0x3F or data[start + 7]:
+        if fragment & 0x3FFF:
             return "fragment"
-        if data[start + 9] != TCP:
+        if protocol != TCP:
             return "not-tcp"
-        if data[start + 12] >= 240 or data[start + 16] >= 240:
+        if addresses[0] >= 240 or addresses[4] >= 240:
             self.stand_ins.meet_class_e()
-        end = min(total, captured) if total else captured
+        end = total if 0 < total < captured else captured
         is_snapped = total > captured or (total == 0 and len(data) < original)
-        return tcp(data[start:] if start else data, header, end, max(original - start, 0), is_snapped)
+        original = original - start if original > start else 0
+        return tcp(data[start:] if start else data, addresses, header, end, original, is_snapped)
 
     def ipv6(self, data: bytes, start: int, original: int) -> Segment | str:
         if len(data) - start < 40:
@@ -135,15 +140,14 @@ class Decoder:
         total = 20 + end - at
         header = struct.pack(">BBHHHBBH", 0x45, 0, total if total <= 0xFFFF else 0, 0, 0x4000, 64, TCP, 0)
         datagram = header + source + target + data[at:end]
-        return tcp(datagram, 20, len(datagram), total, len(datagram) < total)
+        return tcp(datagram, source + target, 20, len(datagram), total, len(datagram) < total)
 
 
-def tcp(datagram: bytes, at: int, end: int, original: int, is_snapped: bool) -> Segment | str:
+def tcp(datagram: bytes, addresses: bytes, at: int, end: int, original: int, is_snapped: bool) -> Segment | str:
     if end - at < 20:
         return "short-tcp"
-    header = (datagram[at + 12] >> 4) * 4
+    ports, sequence, offset, flags = TCP_HEADER(datagram, at)
+    header = (offset >> 4) * 4
     if header < 20 or header > end - at:
         return "bad-data-offset"
-    sequence = int.from_bytes(datagram[at + 4 : at + 8], "big")
-    ends = datagram[12:20] + datagram[at : at + 4]
-    return Segment(ends, sequence, datagram[at + 13], datagram, at + header, end, original, is_snapped)
+    return Segment(addresses + ports, sequence, flags, datagram, at + header, end, original, is_snapped)

@@ -6,12 +6,15 @@ worker answers each round with what is to be written, in the order of the packet
 merges the answers of a round by these packets, and writes.
 """
 
+import errno
 import marshal
 import multiprocessing
+import os
 import pickle
 import signal
 import threading
 from multiprocessing.connection import Connection as Pipe
+from multiprocessing.context import ForkProcess
 from operator import itemgetter
 from queue import SimpleQueue
 from typing import Any, TypeAlias
@@ -22,13 +25,16 @@ from .internet import Segment
 from .key_log import Keys
 from .outcomes import Outcome, Unopened
 from .private_files import SIGNALS
+from .programs import NO_MEMORY
+from .sessions import lines_for
 from .stages import Output
 from .table import Table
 
-ROUND_BYTES, ROUND_SEGMENTS = 4 << 20, 8192
-ROUNDS_AHEAD = 3
-FINISH = b""
+ROUND_BYTES, ROUND_SEGMENTS = 1 << 20, 1024
+ROUNDS_AHEAD = 12
+FINISH, SESSIONS = b"", b"sessions"
 LAST_STEP = 1 << 62
+SECONDS_TO_END = 10
 Row: TypeAlias = tuple[int, int, Arrival, int, bytes]
 
 
@@ -58,6 +64,9 @@ class Worker:
 
     def serve(self) -> None:
         while message := self.pipe.recv_bytes():
+            if message == SESSIONS:
+                self.pipe.send_bytes(pickle.dumps(self.table.sessions()))
+                continue
             self.round(marshal.loads(message))
             self.pipe.send_bytes(marshal.dumps(self.gathered.rows))
             self.gathered.rows = []
@@ -87,19 +96,30 @@ def work(pipe: Pipe, others: list[Pipe], keys: Keys, more_keys: bool) -> None:
         Worker(pipe, keys, more_keys).serve()
     except (EOFError, BrokenPipeError):
         pass
+    except MemoryError:
+        os._exit(NO_MEMORY)
 
 
 class Lane:
-    """A worker as the parent sees it: its pipe, what is to be sent, and the answers that a thread of its own takes
-    in.
+    """A worker as the parent sees it: its pipe, what is to be sent, and threads of its own that send, and take
+    answers in. So a worker that is busy holds up none of the others.
     """
 
-    def __init__(self, pipe: Pipe) -> None:
-        self.pipe = pipe
+    def __init__(self, pipe: Pipe, process: ForkProcess) -> None:
+        self.pipe, self.process = pipe, process
         self.rows: list[tuple[int, Any, Any]] = []
         self.load = 0
+        self.messages: SimpleQueue[bytes] = SimpleQueue()
         self.answers: SimpleQueue[bytes | None] = SimpleQueue()
-        threading.Thread(target=self.listen, daemon=True).start()
+        for work_of_it in (self.talk, self.listen):
+            threading.Thread(target=work_of_it, daemon=True).start()
+
+    def talk(self) -> None:
+        try:
+            while True:
+                self.pipe.send_bytes(self.messages.get())
+        except OSError:
+            self.answers.put(None)
 
     def listen(self) -> None:
         try:
@@ -108,10 +128,17 @@ class Lane:
         except (EOFError, OSError):
             self.answers.put(None)
 
+    def send(self) -> None:
+        self.messages.put(marshal.dumps(self.rows))
+        self.rows = []
+
     def answer(self) -> bytes:
         answer = self.answers.get()
         if answer is None:
-            raise ChildProcessError(10, "a process that decrypts has ended", None)
+            self.process.join(SECONDS_TO_END)
+            if self.process.exitcode == NO_MEMORY:
+                raise MemoryError
+            raise ChildProcessError(errno.ECHILD, "has ended", "a process that decrypts")
         return answer
 
 
@@ -119,10 +146,10 @@ class ManyProcesses:
     """A stage of several workers."""
 
     def __init__(self, keys: Keys, more_keys: bool, output: Output, jobs: int) -> None:
-        self.output, self.more_keys = output, more_keys
+        self.output, self.keys, self.more_keys = output, keys, more_keys
         forking = multiprocessing.get_context("fork")
         pipes: list[Pipe] = []
-        self.processes = []
+        self.processes: list[ForkProcess] = []
         for _ in range(jobs):
             mine, theirs = forking.Pipe()
             pipes.append(mine)
@@ -130,7 +157,7 @@ class ManyProcesses:
             process.start()
             self.processes.append(process)
             theirs.close()
-        self.lanes = [Lane(pipe) for pipe in pipes]
+        self.lanes = [Lane(pipe, process) for pipe, process in zip(pipes, self.processes)]
         self.owners: dict[bytes, Lane] = {}
         self.step = self.bytes = self.segments = self.rounds = 0
 
@@ -156,15 +183,18 @@ class ManyProcesses:
         return lane
 
     def secrets(self, text: bytes) -> None:
-        self.step += 1
         if self.more_keys:
-            for lane in self.lanes:
-                lane.rows.append((self.step, None, text))
+            self.tell_secrets(text)
+
+    def tell_secrets(self, text: bytes) -> None:
+        self.keys.add_text(text)
+        self.step += 1
+        for lane in self.lanes:
+            lane.rows.append((self.step, None, text))
 
     def send(self) -> None:
         for lane in self.lanes:
-            lane.pipe.send_bytes(marshal.dumps(lane.rows))
-            lane.rows = []
+            lane.send()
         self.bytes = self.segments = 0
         self.rounds += 1
         if self.rounds > ROUNDS_AHEAD:
@@ -174,6 +204,17 @@ class ManyProcesses:
         self.rounds -= 1
         self.write([marshal.loads(lane.answer()) for lane in self.lanes])
 
+    def collect_all(self) -> None:
+        self.send()
+        while self.rounds:
+            self.collect()
+
+    def ask(self, message: bytes) -> list[Any]:
+        """What each worker answers, when it has done all rounds."""
+        for lane in self.lanes:
+            lane.messages.put(message)
+        return [pickle.loads(lane.answer()) for lane in self.lanes]
+
     def write(self, answers: list[list[Row]]) -> None:
         rows = [row for answer in answers for row in answer]
         rows.sort(key=itemgetter(0, 1))
@@ -181,13 +222,16 @@ class ManyProcesses:
             self.output.emit(arrival, original, datagram)
 
     def finish(self) -> tuple[list[Outcome], list[Unopened]]:
-        self.send()
-        while self.rounds:
-            self.collect()
-        for lane in self.lanes:
-            lane.pipe.send_bytes(FINISH)
-        answers = [pickle.loads(lane.answer()) for lane in self.lanes]
+        self.collect_all()
+        if lines := lines_for(self.ask(SESSIONS), self.keys):
+            self.tell_secrets(lines)
+            self.collect_all()
+        answers = self.ask(FINISH)
         self.write([rows for rows, _, _ in answers])
-        for process in self.processes:
-            process.join()
         return [one for _, found, _ in answers for one in found], [one for _, _, found in answers for one in found]
+
+    def close(self) -> None:
+        """Ends the workers, which pass over every other signal."""
+        for process in self.processes:
+            process.kill()
+            process.join()

@@ -5,6 +5,7 @@ other labels are passed over; a line that is none is counted, and never shown.
 """
 
 import binascii
+import io
 from typing import BinaryIO, Iterable
 
 MASTER = "CLIENT_RANDOM"
@@ -22,6 +23,7 @@ class Keys:
 
     def __init__(self) -> None:
         self.secrets: dict[bytes, dict[str, bytes]] = {}
+        self.has_master = False
         self.bad_lines = 0
 
     def find(self, random: bytes, label: str) -> bytes | None:
@@ -29,7 +31,7 @@ class Keys:
         return known.get(label) if known else None
 
     def add_text(self, text: bytes) -> None:
-        for line in text.splitlines():
+        for line in lines_of(io.BytesIO(text)):
             self.add_line(line)
 
     def add_line(self, line: bytes) -> None:
@@ -49,6 +51,7 @@ class Keys:
         if len(random) != RANDOM_LENGTH or len(secret) not in SECRET_LENGTHS:
             raise ValueError
         self.secrets.setdefault(random, {})[label] = secret
+        self.has_master |= label == MASTER
 
 
 def lines_of(file: BinaryIO) -> Iterable[bytes]:

@@ -2,6 +2,7 @@
 6.3).
 """
 
+import functools
 import struct
 from typing import NamedTuple
 
@@ -20,6 +21,12 @@ class TrafficKeys(NamedTuple):
     mac_key: bytes
 
 
+@functools.cache
+def label_of(label: bytes, length: int) -> bytes:
+    """HkdfLabel with an empty context, and the number of the one step (RFC 8446, 7.1; RFC 5869, 2.3)."""
+    return struct.pack(">HB", length, 6 + len(label)) + b"tls13 " + label + b"\0\1"
+
+
 def expand_labels(algorithm: hashes.HashAlgorithm, secret: bytes, wanted: list[tuple[bytes, int]]) -> list[bytes]:
     """HKDF-Expand-Label with an empty context, of labels and lengths (RFC 8446, 7.1).
 
@@ -30,7 +37,7 @@ def expand_labels(algorithm: hashes.HashAlgorithm, secret: bytes, wanted: list[t
     made = []
     for label, length in wanted:
         step = keyed.copy()
-        step.update(struct.pack(">HB", length, 6 + len(label)) + b"tls13 " + label + b"\0\1")
+        step.update(label_of(label, length))
         made.append(step.finalize()[:length])
     return made
 

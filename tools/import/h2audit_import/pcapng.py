@@ -17,6 +17,7 @@ BYTE_ORDER_MAGIC = 0x1A2B3C4D
 TLS_KEY_LOG = 0x544C534B
 MAGIC = struct.pack("<I", SECTION_HEADER)
 LONGEST_BLOCK = MOST_CAPTURED + (1 << 20)
+MOST_INTERFACES = 1 << 16
 
 
 class Interface(NamedTuple):
@@ -138,6 +139,8 @@ def read(source: Source) -> Iterator[Read]:
         elif kind == SECTION_HEADER:
             section = Section(blocks.order)
         elif kind == INTERFACE:
+            if len(section.interfaces) >= MOST_INTERFACES:
+                raise Refused("too-many-interfaces")
             section.interfaces.append(interface_of(blocks.order, body))
         elif kind == SECRETS:
             if secrets := section.secrets(body):

@@ -21,16 +21,38 @@ def is_special(path: str) -> bool:
 
 
 @contextmanager
+def named(path: str) -> Iterator[None]:
+    """Gives an error that says no file this one. Those of reading say theirs."""
+    try:
+        yield
+    except OSError as why:
+        is_ours = why.filename is None or str(why.filename).startswith(temporary_beside(path))
+        raise (OSError(why.errno, why.strerror, path) if is_ours else why) from None
+
+
+def temporary_beside(path: str) -> str:
+    folder, name = os.path.split(os.path.realpath(path))
+    return os.path.join(folder, f".{name}.")
+
+
+@contextmanager
 def written(path: str) -> Iterator[IO[bytes]]:
     """A file to write. It takes its name once it is whole; before that, it goes with any error or signal."""
-    if path == "-":
-        yield sys.stdout.buffer
-        sys.stdout.buffer.flush()
-        return
-    if is_special(path):
-        with open(path, "wb", buffering=BUFFER) as file:
-            yield file
-        return
+    with named("standard output" if path == "-" else path):
+        if path == "-":
+            yield sys.stdout.buffer
+            sys.stdout.buffer.flush()
+        elif is_special(path):
+            with open(path, "wb", buffering=BUFFER) as file:
+                yield file
+        else:
+            with replaced(path) as file:
+                yield file
+
+
+@contextmanager
+def replaced(path: str) -> Iterator[IO[bytes]]:
+    """A file beside the one of this name, in whose place it comes at the end."""
     target = os.path.realpath(path)
     before = signal.pthread_sigmask(signal.SIG_BLOCK, SIGNALS)
     try:

@@ -7,11 +7,11 @@ stood and the rest of the record.
 """
 
 import struct
-from typing import Protocol
+from typing import Callable, Protocol
 
 from cryptography.exceptions import InvalidSignature, InvalidTag
 from cryptography.hazmat.primitives import constant_time
-from cryptography.hazmat.primitives.ciphers import Cipher, algorithms, modes
+from cryptography.hazmat.primitives.ciphers import BlockCipherAlgorithm, Cipher, algorithms, modes
 from cryptography.hazmat.primitives.ciphers.aead import AESCCM, AESGCM, ChaCha20Poly1305
 
 from .key_schedule import TrafficKeys, keyed_hash
@@ -42,14 +42,13 @@ class SequenceNonce:
     2).
     """
 
+    __slots__ = ("decrypt", "iv", "sequence", "tag_length")
+
     def __init__(self, suite: Suite, keys: TrafficKeys) -> None:
         self.decrypt = aead_of(suite, keys.key).decrypt
         self.iv = int.from_bytes(keys.iv, "big")
         self.sequence = 0
         self.tag_length = AEAD_TAG_LENGTH[suite.mode]
-
-    def next_nonce(self) -> bytes:
-        return (self.iv ^ self.sequence).to_bytes(12, "big")
 
 
 class Tls13(SequenceNonce):
@@ -58,8 +57,10 @@ class Tls13(SequenceNonce):
     A record that does not open uses up no number.
     """
 
+    __slots__ = ()
+
     def open(self, header: bytes, body: bytes) -> bytes:
-        plaintext = self.decrypt(self.next_nonce(), body, header)
+        plaintext = self.decrypt((self.iv ^ self.sequence).to_bytes(12, "big"), body, header)
         self.sequence += 1
         return plaintext
 
@@ -67,15 +68,19 @@ class Tls13(SequenceNonce):
 class Poly1305(SequenceNonce):
     """POLY1305 in TLS 1.2."""
 
+    __slots__ = ()
+
     def open(self, header: bytes, body: bytes) -> bytes:
         known = additional_data(self.sequence, header, len(body) - self.tag_length)
-        plaintext = self.decrypt(self.next_nonce(), body, known)
+        plaintext = self.decrypt((self.iv ^ self.sequence).to_bytes(12, "big"), body, known)
         self.sequence += 1
         return plaintext
 
 
 class ExplicitNonce:
     """GCM and CCM in TLS 1.2: the record begins with the later part of the nonce (RFC 5288, 3; RFC 6655, 3)."""
+
+    __slots__ = ("decrypt", "salt", "sequence", "overhead")
 
     def __init__(self, suite: Suite, keys: TrafficKeys) -> None:
         self.decrypt = aead_of(suite, keys.key).decrypt
@@ -93,6 +98,8 @@ class ExplicitNonce:
 
 class Blocks:
     """CBC suites, and those without a cipher: a MAC over the content, or over what is encrypted (RFC 7366)."""
+
+    __slots__ = ("mac", "mac_key", "mac_length", "is_encrypted_first", "algorithm", "sequence")
 
     def __init__(self, suite: Suite, keys: TrafficKeys, is_encrypted_first: bool) -> None:
         assert suite.mac is not None
@@ -133,12 +140,21 @@ class Blocks:
         return padded[:-padding]
 
 
-def block_cipher(name: str, key: bytes) -> algorithms.AES | algorithms.Camellia | algorithms.TripleDES | None:
+def block_cipher(name: str, key: bytes) -> BlockCipherAlgorithm | None:
     if name == "NULL":
         return None
     if name == "AES":
         return algorithms.AES(key)
-    return algorithms.Camellia(key) if name == "CAMELLIA" else algorithms.TripleDES(key)
+    return old_cipher("Camellia" if name == "CAMELLIA" else "TripleDES")(key)
+
+
+def old_cipher(name: str) -> Callable[[bytes], BlockCipherAlgorithm]:
+    """A cipher that newer versions of the library have elsewhere, and say so on standard error."""
+    try:
+        from cryptography.hazmat.decrepit.ciphers import algorithms as decrepit
+    except ImportError:
+        return getattr(algorithms, name)
+    return getattr(decrepit, name, None) or getattr(algorithms, name)
 
 
 def additional_data(sequence: int, header: bytes, length: int) -> bytes:

@@ -3,19 +3,24 @@ h2audit-any").
 """
 
 from array import array
+from tempfile import SpooledTemporaryFile
 from typing import Iterable, Iterator
 
 from .map_file import Map
 from .outcomes import Outcome, Read, Refusal, SideRead, Unopened
 
+MOST_SAID = 1 << 20
+
 
 class Original(Map):
-    """A map that is kept in memory: 8 bytes for each record, and what is said of packets and connections."""
+    """A map that is kept in memory: 8 bytes for each record, and what is said of connections. What is said of packets
+    goes into a temporary file where it is long.
+    """
 
     def __init__(self) -> None:
         super().__init__(None)
         self.packets = array("Q", [0])  # of each record, numbered through all files
-        self.passed_over: list[str] = []
+        self.passed_over = SpooledTemporaryFile(MOST_SAID, "w+", encoding="ascii")
         self.capture = ""
         self.outcomes: dict[int, Outcome] = {}
 
@@ -24,10 +29,10 @@ class Original(Map):
 
     def passed(self, packet: int, reason: str) -> None:
         said = "fragment" if reason == "fragment" else f"refused {reason}"
-        self.passed_over.append(f"record {packet} {said}\n")
+        self.passed_over.write(f"record {packet} {said}\n")
 
     def cut(self, packet: int) -> None:
-        self.passed_over.append(f"record {packet} cut\n")
+        self.passed_over.write(f"record {packet} cut\n")
 
     def counts(self, counts: dict[str, int]) -> None:
         self.capture = " ".join(["capture", *(f"{word} {count}" for word, count in counts.items())]) + "\n"
@@ -45,8 +50,12 @@ class Original(Map):
 def brought_back(lines: Iterable[str], original: Original) -> Iterator[str]:
     """The lines of a report, each about the original."""
     outcome: Outcome | None = None
+    is_begun = False
     for line in lines:
         word = line[: line.find(" ")]
+        if not is_begun and word != "capture":
+            raise ValueError
+        is_begun = True
         if word == "frame":
             head, number, record, packet, rest = line.split(" ", 4)
             yield f"{head} {number} {record} {original.packet(packet)} {rest}"
@@ -62,6 +71,7 @@ def brought_back(lines: Iterable[str], original: Original) -> Iterator[str]:
             yield f"unopened {endpoint(source, original)} {endpoint(target, original)} {rest}"
         elif word == "capture":
             yield original.capture
+            original.passed_over.seek(0)
             yield from original.passed_over
         else:
             yield line

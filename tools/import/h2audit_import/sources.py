@@ -20,8 +20,8 @@ GZIP_MAGIC, ZSTD_MAGIC = b"\x1f\x8b", b"\x28\xb5\x2f\xfd"
 class Source:
     """The bytes of a capture, of which the first can be looked at before they are read."""
 
-    def __init__(self, raw: BinaryIO) -> None:
-        self.raw = raw
+    def __init__(self, raw: BinaryIO, name: str) -> None:
+        self.raw, self.name = raw, name
         self.seen = b""
 
     def read(self, size: int) -> bytes:
@@ -43,6 +43,8 @@ class Source:
             raise Refused("bad-gzip") from None
         except zstandard.ZstdError:
             raise Refused("bad-zstd") from None
+        except OSError as why:
+            raise OSError(why.errno, why.strerror, self.name) from None
 
     def peek(self, size: int) -> bytes:
         self.seen = self.read(size)
@@ -56,15 +58,15 @@ class Source:
         return size - left
 
 
-def unpacked(file: BinaryIO) -> Source:
+def unpacked(file: BinaryIO, name: str) -> Source:
     """The bytes of a file, whatever it is compressed by."""
-    source = Source(file)
+    source = Source(file, name)
     magic = source.peek(4)
     if magic[:2] == GZIP_MAGIC:
-        return Source(cast(BinaryIO, gzip.GzipFile(fileobj=cast(BinaryIO, Readable(source)))))
+        return Source(cast(BinaryIO, gzip.GzipFile(fileobj=cast(BinaryIO, Readable(source)))), name)
     if magic == ZSTD_MAGIC:
         reader = zstandard.ZstdDecompressor().stream_reader(cast(BinaryIO, Readable(source)), read_across_frames=True)
-        return Source(cast(BinaryIO, reader))
+        return Source(cast(BinaryIO, reader), name)
     return source
 
 
@@ -83,8 +85,9 @@ class Readable(io.RawIOBase):
 
 @contextmanager
 def opened(path: str) -> Iterator[Source]:
-    with open(0 if path == STANDARD_INPUT else path, "rb", closefd=path != STANDARD_INPUT) as file:
-        yield unpacked(file)
+    is_standard = path == STANDARD_INPUT
+    with open(0 if is_standard else path, "rb", closefd=not is_standard) as file:
+        yield unpacked(file, "standard input" if is_standard else path)
 
 
 def can_be_read_twice(path: str) -> bool:

@@ -8,6 +8,7 @@ from .internet import Segment
 from .key_log import Keys
 from .map_file import Map
 from .outcomes import Outcome, Unopened
+from .sessions import lines_for
 from .table import Table
 from .writer import Writer
 
@@ -23,6 +24,9 @@ class Stage(Protocol):
 
     def finish(self) -> tuple[list[Outcome], list[Unopened]]:
         ...
+
+    def close(self) -> None:
+        """Ends it, well or not."""
 
 
 class Output:
@@ -55,5 +59,11 @@ class OneProcess:
             self.table.keys_came()
 
     def finish(self) -> tuple[list[Outcome], list[Unopened]]:
+        if lines := lines_for([self.table.sessions()], self.keys):
+            self.keys.add_text(lines)
+            self.table.keys_came()
         self.table.finish_all()
         return self.table.outcomes, self.table.unopened
+
+    def close(self) -> None:
+        """There is nothing to end here."""

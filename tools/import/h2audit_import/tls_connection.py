@@ -12,7 +12,6 @@ from . import hellos
 from .errors import Stopped
 from .flows import Arrival, Flow
 from .handshake import Handshake, Stage
-from .key_log import Keys
 from .tls_records import Records
 
 MOST_WAITING = 64 << 20
@@ -32,10 +31,12 @@ class Waiting:
 class Side:
     """One side of a TLS connection: its bytes, its records, and how far its plaintext goes."""
 
+    __slots__ = ("index", "flow", "records", "unread", "end", "end_arrival")
+
     def __init__(self, index: int) -> None:
         self.index = index
         self.flow, self.records = Flow(), Records()
-        self.unread: deque[Waiting] = deque()
+        self.unread: deque[Waiting] | None = None
         self.end: str | None = None  # why reading ended before the bytes did
         self.end_arrival: Arrival | None = None
 
@@ -43,11 +44,13 @@ class Side:
 class TlsConnection:
     """Takes the segments of both sides, and emits plaintext."""
 
-    def __init__(self, keys: Keys, more_keys: bool, emit: Emit) -> None:
-        self.handshake = Handshake(keys, more_keys)
+    __slots__ = ("handshake", "emit", "sides", "queue", "waiting_bytes", "refused", "count")
+
+    def __init__(self, handshake: Handshake, emit: Emit) -> None:
+        self.handshake = handshake
         self.emit = emit
         self.sides = (Side(0), Side(1))
-        self.queue: deque[Waiting] = deque()
+        self.queue: deque[Waiting] | None = None  # what waits, of both sides; none where nothing does
         self.waiting_bytes = 0
         self.refused: str | None = None
         self.count = 0  # records of application data that held some
@@ -70,15 +73,23 @@ class TlsConnection:
         if not self.queue:
             content = self.read(side, arrival, header, body)
             if content is not None:
-                self.deliver(side.index, content, arrival)
+                if content and not self.refused:
+                    self.count += 1
+                    self.emit(side.index, content, arrival)
                 return
-        waiting = Waiting(side.index, arrival, header, body)
-        self.queue.append(waiting)
-        side.unread.append(waiting)
-        self.waiting_bytes += len(body)
+        self.wait(side, Waiting(side.index, arrival, header, body))
         self.advance()
         if self.waiting_bytes > MOST_WAITING and not self.handshake.waits_for_key:
             self.stop(side, "handshake-unfinished", arrival)
+
+    def wait(self, side: Side, waiting: Waiting) -> None:
+        if self.queue is None:
+            self.queue = deque()
+        if side.unread is None:
+            side.unread = deque()
+        self.queue.append(waiting)
+        side.unread.append(waiting)
+        self.waiting_bytes += len(waiting.body)
 
     def read(self, side: Side, arrival: Arrival, header: bytes, body: bytes) -> bytes | None:
         """The content of a record; none where it has to wait, and nothing where its side ends."""
@@ -101,9 +112,16 @@ class TlsConnection:
         while self.queue and self.queue[0].content is not None:
             first = self.queue.popleft()
             self.waiting_bytes -= len(first.body)
-            self.deliver(first.side, first.content or b"", first.arrival)
+            if first.content and not self.refused:
+                self.count += 1
+                self.emit(first.side, first.content, first.arrival)
+        if not self.queue:
+            self.queue = None
+            for side in self.sides:
+                side.unread = None
 
     def read_first(self, side: Side) -> bool:
+        assert side.unread
         first = side.unread[0]
         content = self.read(side, first.arrival, first.header, first.body)
         if content is None:
@@ -113,11 +131,6 @@ class TlsConnection:
             side.unread.popleft()
         return True
 
-    def deliver(self, index: int, content: bytes, arrival: Arrival) -> None:
-        if content and not self.refused:
-            self.count += 1
-            self.emit(index, content, arrival)
-
     def stop(self, side: Side, why: str, arrival: Arrival) -> None:
         """Ends a side; where no record of the connection was ever opened, all of it."""
         if side.end is None:
@@ -125,15 +138,14 @@ class TlsConnection:
         if not self.handshake.opened:
             self.refuse(why)
             return
-        for waiting in side.unread:
+        for waiting in side.unread or ():
             waiting.content = b""
-        side.unread.clear()
+        side.unread = None
 
     def refuse(self, why: str) -> None:
-        self.refused = why
-        self.queue.clear()
+        self.refused, self.queue = why, None
         for side in self.sides:
-            side.unread.clear()
+            side.unread = None
             side.flow, side.records = Flow(), Records()
 
     def finish(self, is_snapped: bool, has_answer: bool) -> None:
@@ -145,9 +157,9 @@ class TlsConnection:
         for side in self.sides:
             if side.unread and not self.refused and self.handshake.opened:
                 self.stop(side, "handshake-unfinished", side.unread[0].arrival)
+        self.advance()
         if not self.refused and not self.count:
             self.refused = self.why_nothing(is_snapped, has_answer)
-        self.advance()
 
     def why_nothing(self, is_snapped: bool, has_answer: bool) -> str | None:
         """Why there is no plaintext; none where the handshake was whole, and nothing was said."""

@@ -1,9 +1,11 @@
 """Cuts the bytes of one side into TLS records (RFC 8446, 5.1; RFC 5246, 6.2)."""
 
+import struct
+
 CHANGE_CIPHER_SPEC, ALERT, HANDSHAKE, APPLICATION_DATA, HEARTBEAT = 20, 21, 22, 23, 24
-KINDS = range(CHANGE_CIPHER_SPEC, HEARTBEAT + 1)
 HEADER_LENGTH = 5
 LONGEST_BODY = (1 << 14) + 2048
+HEADER = struct.Struct(">BBxH").unpack_from
 
 
 def looks_like_tls(data: bytes, kinds: tuple[int, ...]) -> bool:
@@ -17,25 +19,30 @@ class Records:
     __slots__ = ("held", "needed", "is_broken")
 
     def __init__(self) -> None:
-        self.held = bytearray()
-        self.needed = HEADER_LENGTH
+        self.held: bytes | bytearray = b""
+        self.needed = HEADER_LENGTH  # so many bytes before there is more to see
         self.is_broken = False  # what stands next is no record
 
     def add(self, data: bytes) -> list[tuple[bytes, bytes]]:
-        held = self.held
-        held += data
-        found: list[tuple[bytes, bytes]] = []
-        at, size = 0, len(held)
-        while size - at >= self.needed and not self.is_broken:
-            header = bytes(held[at : at + HEADER_LENGTH])
-            length = header[3] << 8 | header[4]
-            if header[0] not in KINDS or header[1] != 3 or length > LONGEST_BODY:
+        if self.held:
+            self.held += data
+            if len(self.held) < self.needed or self.is_broken:
+                return []
+            data, self.held = bytes(self.held), b""
+        found = []
+        at, size = 0, len(data)
+        self.needed = HEADER_LENGTH
+        while size - at >= HEADER_LENGTH:
+            kind, major, length = HEADER(data, at)
+            if major != 3 or not CHANGE_CIPHER_SPEC <= kind <= HEARTBEAT or length > LONGEST_BODY:
                 self.is_broken = True
                 break
-            self.needed = HEADER_LENGTH + length
-            if size - at >= self.needed:
-                found.append((header, bytes(held[at + HEADER_LENGTH : at + self.needed])))
-                at += self.needed
-                self.needed = HEADER_LENGTH
-        del held[:at]
+            begin = at + HEADER_LENGTH
+            if size - begin < length:
+                self.needed = HEADER_LENGTH + length
+                break
+            found.append((data[at:begin], data[begin : begin + length]))
+            at = begin + length
+        if at < size:
+            self.held = bytearray(data[at:])
         return found
