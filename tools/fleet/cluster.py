@@ -4,15 +4,19 @@ Whoever reaches a scheduler of dask without TLS may run programs as its workers.
 made anew and held in memory, serves this machine alone, and a scheduler without TLS is refused unless it is asked for.
 """
 
+import logging
+import multiprocessing
 import os
 import signal
 import ssl
 import sys
 import tempfile
+import time
 import warnings
-from collections.abc import Iterator
-from contextlib import contextmanager
+from collections.abc import Callable, Iterator
+from contextlib import contextmanager, suppress
 from dataclasses import dataclass
+from multiprocessing import resource_tracker
 from typing import Any
 
 import cloudpickle  # type: ignore[import]
@@ -23,7 +27,11 @@ from distributed.security import Security
 from fleet import programs, sniff, tasks
 
 CONNECT_SECONDS = 30
+WORKER_SECONDS = 120
+CLOSE_SECONDS = 10
+LOOK_SECONDS = 0.1
 HERE = "127.0.0.1"
+OF_TERMINAL = (signal.SIGINT, signal.SIGHUP)
 
 
 class NoCluster(Exception):
@@ -40,12 +48,11 @@ class Certificates:
 
 
 class Quiet(WorkerPlugin):
-    """Keeps the keys of the terminal from the workers of this machine, and their own words from it: answers say what failed."""
+    """Keeps the words of the workers of this machine from its terminal: answers say what failed."""
 
     name = "quiet"
 
     def setup(self, worker: Any) -> None:
-        signal.signal(signal.SIGINT, signal.SIG_IGN)
         nowhere = os.open(os.devnull, os.O_WRONLY)
         os.dup2(nowhere, 2)
         os.close(nowhere)
@@ -57,6 +64,7 @@ def settle() -> None:
     When a worker is lost dask says so of each task that it had, and tries none again: that is for `course` to judge.
     """
     warnings.simplefilter("ignore")
+    logging.disable(logging.CRITICAL)
     os.environ.setdefault("DASK_LOGGING__DISTRIBUTED", "critical")
     for module in (tasks, programs, sniff, sys.modules[__name__]):
         cloudpickle.register_pickle_by_value(module)
@@ -64,21 +72,56 @@ def settle() -> None:
 
 
 @contextmanager
+def deaf() -> Iterator[None]:
+    """Threads that begin here, and the processes that they start, do not hear the keys of the terminal, nor that it goes."""
+    # To start this one later would let its thread hear again.
+    resource_tracker.ensure_running()
+    before = signal.pthread_sigmask(signal.SIG_BLOCK, OF_TERMINAL)
+    try:
+        yield
+    finally:
+        signal.pthread_sigmask(signal.SIG_SETMASK, before)
+
+
+@contextmanager
 def local(jobs: int, dashboard: str | None) -> Iterator[Client]:
-    """Workers of this machine, one process each. Without a dashboard their web servers answer nothing."""
+    """Workers of this machine, one process each, which may still be on their way. Without a dashboard their web servers answer nothing."""
     settle()
     if dashboard is None:
         dask.config.set({"distributed.scheduler.http.routes": [], "distributed.worker.http.routes": []})
     with tempfile.TemporaryDirectory(prefix="h2audit-fleet-", ignore_cleanup_errors=True) as folder:
+        cluster = local_cluster(dashboard, folder)
         try:
-            cluster = LocalCluster(
-                n_workers=jobs, threads_per_worker=1, host=HERE, security=Security.temporary(), silence_logs=50,
+            with Client(cluster) as client:
+                client.register_worker_plugin(Quiet())
+                cluster.scale(jobs)
+                yield client
+        finally:
+            close(cluster)
+
+
+def close(cluster: LocalCluster) -> None:
+    """Ends the workers. Where one was ended while it began dask waits for it, and it never comes."""
+    try:
+        cluster.close(timeout=CLOSE_SECONDS)
+    except TimeoutError:
+        # Without its loop it brings no worker back.
+        cluster.shutdown_on_close = False
+        cluster.loop.add_callback(cluster.loop.stop)
+        time.sleep(LOOK_SECONDS)
+        for child in multiprocessing.active_children():
+            child.kill()
+            child.join()
+
+
+def local_cluster(dashboard: str | None, folder: str) -> LocalCluster:
+    try:
+        with deaf():
+            return LocalCluster(
+                n_workers=0, threads_per_worker=1, host=HERE, security=Security.temporary(), silence_logs=50,
                 local_directory=folder, dashboard_address=dashboard or f"{HERE}:0", worker_dashboard_address=f"{HERE}:0")
-        except (OSError, ImportError, RuntimeError) as why:
-            raise NoCluster(f"the workers cannot be started: {why}") from None
-        with cluster, Client(cluster) as client:
-            client.register_worker_plugin(Quiet())
-            yield client
+    except (OSError, ImportError, RuntimeError) as why:
+        raise NoCluster(f"the workers cannot be started: {first_line(why)}") from None
 
 
 @contextmanager
@@ -114,10 +157,25 @@ def threads_of(client: Client) -> int:
     return sum(client.nthreads().values())
 
 
+def has_worker(client: Client, is_ended: Callable[[], bool]) -> bool:
+    """Waits for the first worker; False where the program is to end before."""
+    latest = time.monotonic() + WORKER_SECONDS
+    while not is_ended():
+        with suppress(OSError):
+            if threads_of(client):
+                return True
+        if time.monotonic() > latest:
+            raise NoCluster(f"no worker came within {WORKER_SECONDS} seconds")
+        time.sleep(LOOK_SECONDS)
+    return False
+
+
 def version_of(client: Client) -> str:
     """What h2audit says of itself on all workers, which have to have the same: else reports might differ."""
-    client.wait_for_workers(1, timeout=CONNECT_SECONDS)
-    versions = client.run(tasks.version)
+    try:
+        versions = client.run(tasks.version)
+    except (OSError, TimeoutError) as why:
+        raise NoCluster(f"the workers do not answer: {first_line(why)}") from None
     for worker, version in sorted(versions.items()):
         if not version:
             raise NoCluster(f"worker {worker} has no program {tasks.AUDIT}")

@@ -170,7 +170,11 @@ class Course:
         if self.scratch is None:
             self.submit(capture, self.after_whole, tasks.in_parts, path, capture.parts, self.order)
             return
-        capture.folder = tempfile.mkdtemp(dir=self.scratch)
+        try:
+            capture.folder = tempfile.mkdtemp(dir=self.scratch)
+        except OSError as why:
+            self.after_whole(capture, {"outcome": "failed", "status": None, "reason": tasks.named(why)})
+            return
         parts = os.path.join(capture.folder, "parts")
         self.submit(capture, self.after_split, tasks.split, path, parts, capture.parts, self.order)
 

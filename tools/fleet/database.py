@@ -4,11 +4,13 @@ While it runs others may read the database: it keeps a write-ahead log, which is
 """
 
 import datetime
+import fcntl
 import os
 import sqlite3
+import stat
 import tempfile
 from collections.abc import Iterable, Iterator
-from contextlib import contextmanager
+from contextlib import contextmanager, suppress
 from pathlib import Path
 from typing import Any
 
@@ -36,7 +38,9 @@ class Database:
 
     def __init__(self, path: str, is_resumed: bool, reports: str | None = None) -> None:
         self.reports = reports
-        is_there = os.path.exists(path) and os.path.getsize(path) > 0
+        path = os.path.abspath(path)
+        self.held = held(path)
+        is_there = os.fstat(self.held).st_size > 0
         try:
             self.base = sqlite3.connect(path, isolation_level=None, timeout=60)
             self.check() if is_there else self.make()
@@ -44,7 +48,8 @@ class Database:
                 raise Unusable("it has captures already: --resume goes on with it")
             self.base.execute("PRAGMA journal_mode = WAL")
             self.base.execute("PRAGMA synchronous = NORMAL")
-        except sqlite3.Error as error:
+        except (sqlite3.Error, Unusable) as error:
+            os.close(self.held)
             raise Unusable(str(error)) from None
         if reports:
             os.makedirs(reports, mode=0o700, exist_ok=True)
@@ -63,9 +68,11 @@ class Database:
         self.base.executemany("INSERT INTO kinds VALUES (?, ?)", [(word, kind.blame) for word, kind in KINDS.items()])
 
     def close(self) -> None:
-        """Leaves one file, without a log beside it."""
-        self.base.execute("PRAGMA journal_mode = DELETE")
+        """Leaves one file, without a log beside it; the log goes later where others read, or where there is no room."""
+        with suppress(sqlite3.Error):
+            self.base.execute("PRAGMA journal_mode = DELETE")
         self.base.close()
+        os.close(self.held)
 
     def entered(self) -> Iterator[tuple[str, Any]]:
         """What stands for each capture: its path, and what a change of it would change."""
@@ -102,10 +109,12 @@ class Database:
         self.base.execute("BEGIN IMMEDIATE")
         try:
             yield
+            self.base.execute("COMMIT")
         except BaseException:
-            self.base.execute("ROLLBACK")
+            # A full disk rolls back by itself.
+            if self.base.in_transaction:
+                self.base.execute("ROLLBACK")
             raise
-        self.base.execute("COMMIT")
 
     def put(self, row: dict[str, Any]) -> int:
         """The number of the capture, whose row this is now, and which has no other rows yet."""
@@ -135,18 +144,55 @@ class Database:
             lines.clear()
 
 
+def held(path: str) -> int:
+    """The open file of a database, which no other h2audit-fleet writes until it is closed.
+
+    This lock is not one of SQLite's, which would shut out those that read. It has to be closed after the database: to close any
+    open file of it gives up SQLite's locks.
+    """
+    file = os.open(path, os.O_RDWR | os.O_CREAT | os.O_NONBLOCK, 0o666)
+    try:
+        if not stat.S_ISREG(os.fstat(file).st_mode):
+            raise Unusable("it is no file")
+        if is_held(file):
+            raise Unusable("another h2audit-fleet writes it")
+    except Unusable:
+        os.close(file)
+        raise
+    return file
+
+
+def is_held(file: int) -> bool:
+    """Whether another process has the lock, which is taken here else. Where a file system has no such locks nobody has one."""
+    try:
+        fcntl.flock(file, fcntl.LOCK_EX | fcntl.LOCK_NB)
+    except BlockingIOError:
+        return True
+    except OSError:
+        pass
+    return False
+
+
 def keep(folder: str, digest: str, packed: bytes) -> None:
     """Keeps a report under the name of its digest. It comes there whole, or not at all."""
-    with tempfile.NamedTemporaryFile(dir=folder, delete=False) as file:
+    with tempfile.NamedTemporaryFile(dir=folder, delete=False, buffering=0) as file:
         try:
             report = unpacked(packed)
             while piece := report.read(1 << 20):
-                file.write(piece)
-            file.flush()
+                write_all(file.fileno(), piece, folder)
             os.replace(file.name, os.path.join(folder, f"{digest}.report"))
         except BaseException:
             os.unlink(file.name)
             raise
+
+
+def write_all(file: int, piece: bytes, folder: str) -> None:
+    rest = memoryview(piece)
+    try:
+        while rest:
+            rest = rest[os.write(file, rest):]
+    except OSError as why:
+        raise OSError(why.errno, why.strerror, folder) from None
 
 
 def now() -> str:

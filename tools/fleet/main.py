@@ -3,6 +3,7 @@
 import hashlib
 import os
 import signal
+import sqlite3
 import sys
 import tempfile
 from collections.abc import Iterator
@@ -20,18 +21,26 @@ from report.command import IO_FAILED, MISSING, OK, REFUSED, failed, io_reason
 NAME = "h2audit-fleet"
 FAULTS = 1
 SIGNALLED = 128
+GOES_ON = "--resume goes on with the database"
 SIGNALS = (signal.SIGINT, signal.SIGTERM, signal.SIGHUP)
 
 
+class Ended(Exception):
+    """A signal ends the program, before there was anything to end in order."""
+
+
 class Interruption:
-    """Ctrl-C, SIGTERM and a terminal that goes, as something to ask for. A second one ends the program at once."""
+    """Ctrl-C, SIGTERM and a terminal that goes: from some time on something to ask for. A second one ends the program at once."""
 
     def __init__(self) -> None:
         self.signal = 0
+        self.is_asked_for = False
 
     def note(self, number: int, _: FrameType | None) -> None:
         self.signal = number
         signal.signal(number, signal.SIG_DFL)
+        if not self.is_asked_for:
+            raise Ended
 
     @contextmanager
     def watched(self) -> Iterator["Interruption"]:
@@ -43,23 +52,30 @@ class Interruption:
             for number, handler in before.items():
                 signal.signal(number, handler)
 
+    def ended(self, what_helps: str) -> int:
+        """The status of a program that was ended, which is said."""
+        return failed(NAME, SIGNALLED + self.signal, f"ended early: {what_helps}")
+
 
 def main(words: list[str]) -> int:
     asked = read_words(words)
-    try:
-        return collected(asked) if asked.collect is not None else audited(asked)
-    except Unusable as why:
-        return failed(NAME, IO_FAILED, f"{asked.db}: {why}")
-    except NotThere as why:
-        return failed(NAME, IO_FAILED, str(why))
-    except OSError as why:
-        return failed(NAME, IO_FAILED, io_reason(why))
+    with Interruption().watched() as interruption:
+        try:
+            return collected(asked, interruption) if asked.collect is not None else audited(asked, interruption)
+        except Ended:
+            return interruption.ended("nothing was begun")
+        except (Unusable, sqlite3.Error) as why:
+            return failed(NAME, IO_FAILED, f"{asked.db}: {why}")
+        except NotThere as why:
+            return failed(NAME, IO_FAILED, str(why))
+        except OSError as why:
+            return failed(NAME, IO_FAILED, io_reason(why))
 
 
 # By workers
 
 
-def audited(asked: Asked) -> int:
+def audited(asked: Asked, interruption: Interruption) -> int:
     walk = found_in([os.fsencode(path) for path in asked.paths], asked.lists)
     options = options_of(asked)
     try:
@@ -68,12 +84,15 @@ def audited(asked: Asked) -> int:
         return failed(NAME, MISSING, f"{missing.name} is not installed: apt install python3-distributed")
     database = Database(asked.db, asked.resume, asked.reports)
     try:
-        with workers_of(asked) as client, Interruption().watched() as interruption:
+        interruption.is_asked_for = True
+        with workers_of(asked) as client:
+            if not cluster.has_worker(client, lambda: bool(interruption.signal)):
+                return interruption.ended(GOES_ON)
             version = cluster.version_of(client)
             captures = missing_in(database, walk, version, options)
             return run(asked, client, database, walk, captures, {"version": version, "options": options}, interruption)
     except (cluster.NoCluster, course.Lost) as why:
-        return failed(NAME, MISSING, str(why))
+        return interruption.ended(GOES_ON) if interruption.signal else failed(NAME, MISSING, str(why))
     finally:
         database.close()
 
@@ -111,7 +130,7 @@ def run(asked: Asked, client: Any, database: Database, walk: Walk, captures: lis
     progress.clear()
     print(progress.summary(len(walk.captures) - len(captures), walk.others))
     if not is_whole:
-        return failed(NAME, SIGNALLED + interruption.signal, "ended early: --resume goes on with the database")
+        return interruption.ended(GOES_ON)
     return status_of(database, walk)
 
 
@@ -146,7 +165,7 @@ def status_of(database: Database, walk: Walk) -> int:
 # Without workers
 
 
-def collected(asked: Asked) -> int:
+def collected(asked: Asked, interruption: Interruption) -> int:
     assert asked.collect is not None
     if not os.path.isdir(asked.collect):
         raise NotThere(f"{asked.collect}: not a folder")
@@ -154,16 +173,16 @@ def collected(asked: Asked) -> int:
     jobs = collect.jobs_in(asked.collect)
     progress, unfinished, walk = Progress(len(jobs), 0), 0, Walk()
     try:
-        with Interruption().watched() as interruption:
-            for job in collect.answers_in(asked.collect, "unknown"):
-                if interruption.signal:
-                    return failed(NAME, SIGNALLED + interruption.signal, "ended early: --collect again")
-                if job is None:
-                    unfinished += 1
-                    continue
-                walk.add(job[0])
-                progress.count(database.enter(*job), 0)
-                progress.show()
+        interruption.is_asked_for = True
+        for job in collect.answers_in(asked.collect, "unknown"):
+            if interruption.signal:
+                return interruption.ended("--collect --resume goes on")
+            if job is None:
+                unfinished += 1
+                continue
+            walk.add(job[0])
+            progress.count(database.enter(*job), 0)
+            progress.show()
         progress.clear()
         print(progress.summary(0, 0) + f"; {unfinished} did not come to their end" * bool(unfinished))
         return REFUSED if unfinished else status_of(database, walk)

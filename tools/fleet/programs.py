@@ -61,7 +61,7 @@ def run(words: Sequence[str], source: int | None, output: IO[bytes], seconds: fl
     handed = (source,) if source is not None and not is_fed else ()
     with tempfile.TemporaryFile() as said, child_of(words, source is not None and is_fed, handed, output, said) as child:
         with time_limit(child, seconds) as is_late:
-            size, digest = feed(source, child.stdin) if source is not None and child.stdin else (0, "")
+            size, digest = feed(source, child.stdin, is_late) if source is not None and child.stdin else (0, "")
             status = child.wait()
         return Run(status, last_line(said), time.monotonic() - begin, is_late.is_set(), size, digest)
 
@@ -110,17 +110,20 @@ def end_group(child: subprocess.Popen[bytes]) -> None:
             os.killpg(child.pid, signal.SIGKILL)
 
 
-def feed(source: int, pipe: IO[bytes]) -> tuple[int, str]:
-    """Gives a file to a pipe up to its end, also where the reader goes; the number and the digest of its bytes."""
+def feed(source: int, pipe: IO[bytes], is_late: threading.Event) -> tuple[int, str]:
+    """Gives a file to a pipe up to its end, also where the reader goes; the number and the digest of its bytes.
+
+    When time is up it stops, and there is no digest: a file that is written to may have no end.
+    """
     with suppress(OSError):
         fcntl.fcntl(pipe.fileno(), fcntl.F_SETPIPE_SZ, PIECE)
     digest, size, has_reader = hashlib.sha256(), 0, True
-    while piece := os.read(source, PIECE):
+    while not is_late.is_set() and (piece := os.read(source, PIECE)):
         digest.update(piece)
         size += len(piece)
         has_reader = has_reader and is_written(pipe, piece)
     pipe.close()
-    return size, digest.hexdigest()
+    return (0, "") if is_late.is_set() else (size, digest.hexdigest())
 
 
 def digest_of(source: int) -> tuple[int, str]:

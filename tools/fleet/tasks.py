@@ -62,8 +62,7 @@ def on_capture(path: bytes, work: Callable[[int, Answer], Answer]) -> Answer:
     try:
         file = opened(path)
         try:
-            found = os.fstat(file)
-            answer |= {"size": found.st_size, "modified": found.st_mtime_ns}
+            answer |= dict(zip(("size", "modified"), state_of(file)))
             answer |= work(file, answer)
         finally:
             os.close(file)
@@ -119,37 +118,58 @@ def hides_ipv6(file: int, order: Order, answer: Answer) -> bool:
 
 
 def by_import(file: int, order: Order, parts: int) -> Answer:
-    """The answer of the program that imports. It may read the capture twice, for keys in it, so it has the open file by a name."""
-    name = f"/dev/fd/{file}"
+    """The answer of the program that imports. It may read the capture twice, for keys in it, so it has the open file by a name.
+
+    Where the capture is written to meanwhile nobody can say what was audited.
+    """
+    name, before = f"/dev/fd/{file}", state_of(file)
     words = [word for key in order["keys"] for word in ("-k", key)] + (["--parts", str(parts)] if parts else [])
     answer = by_program([IMPORT, *words, "--workers", "1", name], file, order, is_fed=False)
+    if state_of(file) != before:
+        return {"outcome": "failed", "status": None, "program": IMPORT, "reason": "changed"}
     return answer | {"reason": answer["reason"].removesuffix(f": {name}") if answer["reason"] else None}
+
+
+def state_of(file: int) -> tuple[int, int]:
+    """Size, and the time of the last change."""
+    found = os.fstat(file)
+    return found.st_size, found.st_mtime_ns
 
 
 def by_program(words: list[str], file: int, order: Order, is_fed: bool = True) -> Answer:
     """A program's answer to an open capture, from its beginning."""
-    size, digest = (0, "") if is_fed else programs.digest_of(file)
+    digested = None if is_fed else programs.digest_of(file)
     os.lseek(file, 0, os.SEEK_SET)
     with tempfile.TemporaryFile() as output:
         run = programs.run(words, file, output, order["timeout"], is_fed)
-        answer = verdict(run) | {"program": words[0], "sha256": run.digest or digest, "size": run.size or size}
+        answer = verdict(run) | {"program": words[0]} | bytes_of(*(digested or (run.size, run.digest)))
         if answer["outcome"] == "refused" and output.seek(0, os.SEEK_END):
             answer["outcome"] = "partial"
         return answer | (kept(output) if answer["outcome"] in ("audited", "partial") else {})
 
 
+def bytes_of(size: int, digest: str) -> Answer:
+    """What a program was given, where it was given all of a capture."""
+    return {"size": size, "sha256": digest} if digest else {}
+
+
 def verdict(run: programs.Run) -> Answer:
     """What a run's end says of its capture. Statuses are those of h2audit."""
-    if run.status in (NO_FAULT, FAULTS, NOTHING_READ):
-        return {"outcome": "audited", "status": run.status, "reason": None}
     if run.is_late:
         return {"outcome": "failed", "status": None, "reason": "timeout"}
+    if run.status in (NO_FAULT, FAULTS, NOTHING_READ):
+        return {"outcome": "audited", "status": run.status, "reason": None}
     if run.status < 0:
         return {"outcome": "failed", "status": None, "reason": f"signal {-run.status}"}
     if run.status == REFUSED:
         return {"outcome": "refused", "status": run.status, "reason": run.said.partition(" refused: ")[2] or run.said}
-    reason = {IO_FAILED: "read-failed", NO_MEMORY: "out-of-memory"}.get(run.status, f"status {run.status}: {run.said}")
+    reason = {IO_FAILED: io_failed(run.said), NO_MEMORY: "out-of-memory"}.get(run.status, f"status {run.status}: {run.said}")
     return {"outcome": "failed", "status": run.status, "reason": reason}
+
+
+def io_failed(said: str) -> str:
+    """What failed, by the last words of a program."""
+    return "write-failed" if said.endswith(": write failed") or os.strerror(errno.ENOSPC) in said else "read-failed"
 
 
 def kept(output: Any) -> Answer:
@@ -179,9 +199,9 @@ def split_file(file: int, folder: str, parts: int, order: Order) -> Answer:
         return {"outcome": "import"}
     with tempfile.TemporaryFile() as output:
         run = programs.run([SPLIT, "--parts", str(parts), "-o", folder], file, output, order["timeout"])
-    answer = verdict(run) | {"program": SPLIT, "sha256": run.digest, "size": run.size}
+    answer = verdict(run) | {"program": SPLIT} | bytes_of(run.size, run.digest)
     refused = refused_parts(folder)
-    if refused is None:
+    if refused is None or answer["outcome"] == "failed":
         return answer | ({"outcome": "failed", "reason": "no-parts"} if answer["outcome"] == "audited" else {})
     standing = [part for part in range(1, parts + 1) if part not in refused]
     return answer | {"outcome": "split", "folder": folder, "standing": standing, "reason": "; ".join(refused.values()) or None}

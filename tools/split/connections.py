@@ -1,14 +1,14 @@
 """The lines of a connection (docs/REPORT_FORMAT.md, section 5), from the report of a part into that of the whole."""
+import re
 from typing import BinaryIO
 
-from part_report import LONGEST, PartReport
+from part_report import PartReport
 
+# The record of a finding.
+RECORD = re.compile(rb" record ([0-9]{1,20}) time ")
 # These findings are nobody's breach; any other makes h2audit's status 1.
-NO_FAULTS = frozenset((
-    b"connection-stall-begin", b"connection-stall-end", b"stream-stall-begin", b"stream-stall-end",
-    b"connection-credit", b"stream-credit"))
-# So many lines are written at once.
-LINES = 1_024
+NO_FAULTS = (b"connection-stall-begin", b"connection-stall-end", b"stream-stall-begin", b"stream-stall-end",
+             b"connection-credit", b"stream-credit")
 
 
 class Connection:
@@ -17,16 +17,13 @@ class Connection:
     def __init__(self, report: PartReport) -> None:
         """Reads the line that it begins with."""
         self.report = report
-        words = report.line.split()
         try:
-            if words[0] != b"connection" or words[6] != b"record":
+            word, _, _, self.client, _, self.server, place, record, self.kind = report.line.split(b" ", 8)
+            if word != b"connection" or place != b"record":
                 raise ValueError
-            self.client, self.server = words[3], words[5]
-            self.record = report.numbers.whole(int(words[7]))
-            self.kind = b" ".join(words[8:])
-        except (ValueError, IndexError):
+            self.record = report.numbers.whole(int(record))
+        except ValueError:
             raise report.broken() from None
-        report.advance()
 
 
 class Writer:
@@ -40,30 +37,23 @@ class Writer:
     def write(self, connection: Connection, number: int) -> None:
         """Writes a connection under this number."""
         report = connection.report
-        read, line = report.file.readline, report.line
-        begin = b"connection %d client %b server %b record %d %b\n" % (
+        last = b"connection %d client %b server %b record %d %b" % (
             number, connection.client, connection.server, connection.record, connection.kind)
-        lines, last, count = [begin], begin, 0
-        while line and not line.startswith(b"connection "):
-            last = self.renumbered(report, line) if line.startswith(b"frame ") else line
-            lines.append(last)
-            if len(lines) == LINES:
-                self.output.write(b"".join(lines))
-                lines.clear()
-            line = read(LONGEST)
-            count += 1
-        report.follow(line, count)
-        self.output.write(b"".join(lines))
-        if not last.startswith(b"audit " if connection.kind.startswith(b"http2") else b"flow ") or last[-1:] != b"\n":
+        self.output.write(last)
+        for piece in report.body():
+            last = self.renumbered(report, piece) if b"frame " in piece else piece
+            self.output.write(last)
+        end = b"audit " if connection.kind.startswith(b"http2") else b"flow "
+        if not last.startswith(end, last.rfind(b"\n", 0, -1) + 1):
             raise report.broken()
 
-    def renumbered(self, report: PartReport, line: bytes) -> bytes:
-        """A finding, with its record's number in the whole."""
-        try:
-            _, frame, _, record, rest = line.split(b" ", 4)
-            number = report.numbers.whole(int(record))
-            if not self.has_faults:
-                self.has_faults = rest.split(b" ", 4)[3] not in NO_FAULTS
-        except (ValueError, IndexError):
-            raise report.broken() from None
-        return b"frame %b record %d %b" % (frame, number, rest)
+    def renumbered(self, report: PartReport, piece: bytes) -> bytes:
+        """Lines of a connection, the records of whose findings have their numbers in the whole."""
+        findings = piece.startswith(b"frame ") + piece.count(b"\nframe ")
+        texts = RECORD.split(piece)
+        if len(texts) != 1 + 2 * findings:
+            raise report.broken()
+        texts[1::2] = [b" record %d time " % number for number in report.numbers.wholes(map(int, texts[1::2]))]
+        if not self.has_faults:
+            self.has_faults = sum(piece.count(b" %b stream " % kind) for kind in NO_FAULTS) < findings
+        return b"".join(texts)

@@ -5,9 +5,12 @@ from pathlib import Path
 from record_numbers import RecordNumbers
 from refusal import Refusal
 
+CONNECTION = b"connection "
 HEAD = (b"records", b"segments", b"snapped", b"not-ipv4", b"fragments", b"not-tcp", b"refused")
 # The longest line of a report has some 140 bytes.
 LONGEST = 256
+# So many bytes are read at a time.
+PIECE = 65_536
 
 
 class PartReport:
@@ -18,26 +21,49 @@ class PartReport:
         self.path = path
         self.capture = capture
         self.numbers = numbers
-        self.file = path.open("rb", buffering=131_072)
+        self.file = path.open("rb", buffering=0)
         self.place = 0
         self.line = b""
+        # What was read, and how much of it is behind.
+        self.data = b""
+        self.at = 0
         self.advance()
 
     def advance(self) -> bytes:
         """Goes to the next line, which is empty at the end, and answers the one before."""
         passed = self.line
-        self.line = self.file.readline(LONGEST)
         self.place += 1
-        if self.line and not self.line.endswith(b"\n"):
+        end = self.data.find(b"\n", self.at) + 1
+        while not end and self.read_on():
+            end = self.data.find(b"\n", self.at) + 1
+        if not end and self.at < len(self.data):
             raise self.broken()
+        self.line = self.data[self.at:end] if end else b""
+        self.at = end or self.at
         return passed
 
-    def follow(self, line: bytes, count: int) -> None:
-        """Goes on with a line that was read after so many others."""
-        self.line = line
-        self.place += count
-        if line and not line.endswith(b"\n"):
+    def read_on(self) -> bool:
+        """Reads more behind what is at hand, of which no line ends; False at the end."""
+        if len(self.data) - self.at > LONGEST:
             raise self.broken()
+        piece = self.file.read(PIECE)
+        self.data = self.data[self.at:] + piece
+        self.at = 0
+        return bool(piece)
+
+    def body(self) -> Iterator[bytes]:
+        """Whole lines behind the one at hand, in pieces, up to that of the next connection, which is at hand then."""
+        while not self.data.startswith(CONNECTION, self.at):
+            found = self.data.find(b"\n" + CONNECTION, self.at)
+            end = (found if found >= 0 else self.data.rfind(b"\n", self.at)) + 1
+            if end:
+                piece = self.data[self.at:end]
+                self.at = end
+                yield piece
+                self.place += piece.count(b"\n")
+            elif not self.read_on():
+                break
+        self.advance()
 
     def broken(self) -> Refusal:
         """The line at hand is none that stands there in a report."""

@@ -2,6 +2,7 @@
 import os
 import sys
 from array import array
+from collections.abc import Iterable
 from pathlib import Path
 
 from refusal import Refusal
@@ -33,6 +34,18 @@ class RecordNumbers:
             self.read(record - 1)
             place = record - 1 - self.first
         return self.block[place]
+
+    def wholes(self, records: Iterable[int]) -> list[int]:
+        """The numbers in the whole of several records of the part."""
+        found, first, block = [], self.first, self.block
+        for record in records:
+            place = record - 1 - first
+            if 0 <= place < len(block):
+                found.append(block[place])
+            else:
+                found.append(self.whole(record))
+                first, block = self.first, self.block
+        return found
 
     def read(self, index: int) -> None:
         """Reads the block with this index."""

@@ -12,6 +12,8 @@ import sqlite3
 import subprocess
 import sys
 import tempfile
+import time
+from collections.abc import Callable
 from dataclasses import dataclass, field
 
 TOP = pathlib.Path(__file__).resolve().parents[2]
@@ -25,6 +27,8 @@ FLEET = TOP / "tools" / "h2audit-fleet"
 # The first word of a test may name h2audit.
 PROGRAM = str(pathlib.Path(sys.argv.pop(1)).resolve()) if len(sys.argv) > 1 and os.access(sys.argv[1], os.X_OK) else None
 STAND_IN = TOP / "tools" / "tests" / "fleet_stand_in"
+# Seconds for what takes a few on a machine that is not busy.
+PATIENCE = 200
 
 
 @dataclass(frozen=True)
@@ -40,6 +44,15 @@ class Sample:
     @property
     def digest(self) -> str:
         return hashlib.sha256(self.capture).hexdigest()
+
+
+def until(is_done: Callable[[], bool], what: Callable[[], str] = str) -> None:
+    """Waits for a condition with patience; where it does not come true `what` says more."""
+    latest = time.monotonic() + PATIENCE
+    while not is_done():
+        if time.monotonic() > latest:
+            raise AssertionError(f"it does not come to pass within {PATIENCE} seconds. {what()}")
+        time.sleep(0.1)
 
 
 def answer_of(text: str) -> tuple[int, str, str]:
@@ -129,7 +142,7 @@ class Machine:
     def run(self, *words: object, before: tuple[str, ...] = ()) -> tuple[int, str, str]:
         """Status, standard output and standard error of h2audit-fleet."""
         child = self.start(*words, before=before)
-        said, error = child.communicate(timeout=120)
+        said, error = child.communicate(timeout=PATIENCE)
         return child.returncode, said, error
 
     def ask(self, question: str, *values: object) -> list[tuple]:
@@ -139,6 +152,10 @@ class Machine:
         finally:
             base.close()
 
+    def workers(self) -> int:
+        """How many workers have begun a capture."""
+        return len({worker for workers in self.notes().values() for worker in workers})
+
     def notes(self) -> dict[str, list[int]]:
         """The workers' processes of the runs so far, by the digest of the capture."""
         found: dict[str, list[int]] = {}
@@ -146,3 +163,8 @@ class Machine:
             if not note.name.startswith("."):
                 found.setdefault(note.read_text(), []).append(int(note.name.partition(".")[0]))
         return found
+
+
+def count(machine: Machine) -> int:
+    tables = machine.ask("SELECT COUNT(*) FROM sqlite_master WHERE name = 'captures'")
+    return machine.ask("SELECT COUNT(*) FROM captures")[0][0] if tables[0][0] else 0

@@ -6,6 +6,7 @@ root; without it that test is skipped by name.
 """
 
 import itertools
+import json
 import os
 import pathlib
 import signal
@@ -13,25 +14,24 @@ import subprocess
 import sys
 import unittest
 
-from fleet_captures import Machine, by_hand
-from fleet_test import until
+from fleet_captures import PATIENCE, Machine, by_hand, count, until
 
-PORT = 18786
+# What is started ends with this program, however that ends.
+TIED = ("setpriv", "--pdeathsig", "KILL", "--")
 A, B = "192.0.2.1", "192.0.2.2"
 
 
 class Cluster:
-    """A scheduler of dask and its workers, each a process of its own."""
+    """A scheduler of dask and its workers, each a process of its own. The scheduler is at a port that is free."""
 
-    def __init__(self, machine: Machine, address: str, tls: bool = True) -> None:
-        self.machine, self.tls = machine, tls
-        self.address = f"{'tls' if tls else 'tcp'}://{address}"
+    def __init__(self, machine: Machine) -> None:
+        self.machine = machine
+        self.address = ""
         self.children: list[subprocess.Popen] = []
         self.numbers = itertools.count()
-        if tls:
-            self.certify("authority")
-            self.certify("scheduler", "authority")
-            self.certify("client", "authority")
+        self.certify("authority")
+        self.certify("scheduler", "authority")
+        self.certify("client", "authority")
 
     @property
     def folder(self) -> pathlib.Path:
@@ -47,29 +47,45 @@ class Cluster:
 
     def words_of_tls(self, name: str) -> list[str]:
         files = {"--tls-ca-file": "authority.pem", "--tls-cert": f"{name}.pem", "--tls-key": f"{name}.key"}
-        return [word for option, file in files.items() for word in (option, str(self.folder / file))] if self.tls else []
+        return [word for option, file in files.items() for word in (option, str(self.folder / file))]
 
     def start(self, program: str, *words: str, before: tuple[str, ...] = ()) -> subprocess.Popen:
         log = self.folder / f"{program}.{next(self.numbers)}"
-        surroundings = {**self.machine.surroundings, "DASK_DISTRIBUTED__COMM__TIMEOUTS__TCP": "12s",
-                        "DASK_DISTRIBUTED__SCHEDULER__WORKER_TTL": "10s"}
+        surroundings = {**self.machine.surroundings, "DASK_DISTRIBUTED__COMM__TIMEOUTS__TCP": "15s",
+                        "DASK_DISTRIBUTED__SCHEDULER__WORKER_TTL": "15s"}
         with open(log, "wb") as said:
-            child = subprocess.Popen([*before, program, *self.words_of_tls("scheduler"), *words], stdin=subprocess.DEVNULL,
+            child = subprocess.Popen([*TIED, *before, program, *self.words_of_tls("scheduler"), *words], stdin=subprocess.DEVNULL,
                                      stdout=said, stderr=said, env=surroundings, cwd=self.folder, start_new_session=True)
         self.children.append(child)
         return child
 
     def scheduler(self, host: str, before: tuple[str, ...] = ()) -> None:
-        self.start("dask-scheduler", "--host", host, "--port", str(PORT), "--no-dashboard", "--protocol",
-                   "tls" if self.tls else "tcp", before=before)
+        child = self.start("dask-scheduler", "--host", host, "--port", "0", "--scheduler-file", "scheduler.json", "--no-dashboard",
+                           "--protocol", "tls", before=before)
+        until(lambda: self.is_found() or child.poll() is not None, self.said)
+        assert self.address, self.said()
+
+    def is_found(self) -> bool:
+        """Whether the scheduler has said where it is."""
+        try:
+            self.address = json.loads((self.folder / "scheduler.json").read_text())["address"]
+        except (FileNotFoundError, ValueError):
+            pass
+        return bool(self.address)
 
     def worker(self, *words: str, before: tuple[str, ...] = ()) -> subprocess.Popen:
-        return self.start("dask-worker", f"{self.address}:{PORT}", "--nthreads", "1", "--no-dashboard", "--local-directory",
+        return self.start("dask-worker", self.address, "--nthreads", "1", "--no-dashboard", "--local-directory",
                           str(self.folder / "temporary"), *words, before=before)
 
     def wait_for(self, workers: int) -> None:
         """Until so many workers say that they have found their scheduler."""
-        until(lambda: sum("Registered to" in log.read_text() for log in self.folder.glob("dask-worker.*")) == workers)
+        until(lambda: self.said("dask-worker").count("Registered to") == workers
+              or any(child.poll() is not None for child in self.children), self.said)
+        assert self.said("dask-worker").count("Registered to") == workers, self.said()
+
+    def said(self, program: str = "dask-*") -> str:
+        """What the scheduler and the workers said."""
+        return "".join(f"\n{log.name}:\n{log.read_text()}" for log in sorted(self.folder.glob(f"{program}.[0-9]*")))
 
     def stop(self) -> None:
         for child in reversed(self.children):
@@ -91,30 +107,46 @@ class Tls(unittest.TestCase):
 
     def setUp(self) -> None:
         self.machine = machine_of(self, 20)
-        self.cluster = Cluster(self.machine, "127.0.0.1")
+        self.cluster = Cluster(self.machine)
         self.addCleanup(self.cluster.stop)
         self.cluster.scheduler("127.0.0.1")
         for _ in range(2):
             self.cluster.worker()
         self.cluster.wait_for(2)
 
-    def run_fleet(self, *words: str, name: str = "client", authority: str = "authority") -> tuple[int, str, str]:
-        return self.machine.run("--scheduler", f"127.0.0.1:{PORT}", "--tls-ca", f"{authority}.pem", "--tls-cert", f"{name}.pem",
-                                "--tls-key", f"{name}.key", *words, "captures")
+    def words(self, name: str = "client", authority: str = "authority") -> tuple[str, ...]:
+        return ("--scheduler", self.cluster.address.removeprefix("tls://"), "--tls-ca", f"{authority}.pem", "--tls-cert",
+                f"{name}.pem", "--tls-key", f"{name}.key", "captures")
 
     def test_by_address(self) -> None:
-        """All captures are audited over TLS; who has no certificate of the authority, or asks without TLS, is not let in."""
+        """All captures are audited over TLS, by both workers; who has no certificate of the authority is not let in."""
+        self.machine.acts = {sample.digest: ["meet", 2] for sample in self.machine.samples}
         faults = sum(sample.status == 1 for sample in self.machine.samples)
-        self.assertEqual(self.run_fleet(), (1, f"20 captures: {faults} with faults, 0 refused, 0 failed\n", ""))
+        self.assertEqual(self.machine.run(*self.words()), (1, f"20 captures: {faults} with faults, 0 refused, 0 failed\n", ""))
         rows = self.machine.ask("SELECT sha256, status, report_sha256 IS NOT NULL FROM captures")
         self.assertEqual(sorted(rows), sorted((sample.digest, sample.status, 1) for sample in self.machine.samples))
         self.assertEqual(len({worker for worker, in self.machine.ask("SELECT DISTINCT worker FROM captures")}), 2)
         self.cluster.certify("stranger")
         for name, authority in (("stranger", "authority"), ("client", "stranger")):
-            status, said, error = self.run_fleet("--resume", name=name, authority=authority)
+            status, said, error = self.machine.run("--resume", *self.words(name, authority))
             self.assertEqual((status, said, error.count("\n")), (5, "", 1), error)
-        plain = self.machine.run("--scheduler", f"tcp://127.0.0.1:{PORT}", "--unencrypted", "--resume", "captures")
-        self.assertEqual((plain[0], plain[1], plain[2].count("\n")), (5, "", 1), plain[2])
+
+    def test_without_tls(self) -> None:
+        """Who asks without TLS is not let in."""
+        address = self.cluster.address.replace("tls://", "tcp://")
+        status, said, error = self.machine.run("--scheduler", address, "--unencrypted", "captures")
+        self.assertEqual((status, said, error.count("\n")), (5, "", 1), error)
+
+    def test_scheduler_goes(self) -> None:
+        """The scheduler ends in mid-run: what was entered stands, and one line says so."""
+        self.machine.acts = {sample.digest: ["sleep", 0.5] for sample in self.machine.samples}
+        child = self.machine.start(*self.words())
+        until(lambda: self.machine.database.exists() and count(self.machine) >= 3)
+        self.cluster.children[0].kill()
+        said, error = child.communicate(timeout=PATIENCE)
+        self.assertEqual((child.returncode, said, error), (5, "", "h2audit-fleet: the scheduler went away\n"))
+        self.assertTrue(3 <= len(self.machine.ask("SELECT path FROM captures WHERE outcome = 'audited'")) < 20)
+        self.assertEqual(self.machine.ask("PRAGMA integrity_check"), [("ok",)])
 
 
 @unittest.skipUnless(os.geteuid() == 0, "two machines: network namespaces need root")
@@ -150,18 +182,18 @@ class TwoMachines(unittest.TestCase):
     def test_cable_is_cut(self) -> None:
         """Both machines take part; when one goes away in mid-run all captures stand nevertheless."""
         here, there = ((("ip", "netns", "exec", name)) for name in self.names)
-        cluster = Cluster(self.machine, A)
+        cluster = Cluster(self.machine)
         self.addCleanup(cluster.stop)
         cluster.scheduler(A, before=here)
         cluster.worker("--host", A, "--name", "here", before=here)
         cluster.worker("--host", B, "--name", "there", before=there)
         cluster.wait_for(2)
         self.machine.acts = {sample.digest: ["sleep", 0.4] for sample in self.machine.samples}
-        child = self.machine.start("--scheduler", f"{A}:{PORT}", "--tls-ca", "authority.pem", "--tls-cert", "client.pem",
+        child = self.machine.start("--scheduler", cluster.address, "--tls-ca", "authority.pem", "--tls-cert", "client.pem",
                                    "--tls-key", "client.key", "captures", before=here)
-        until(lambda: len({worker for workers in self.machine.notes().values() for worker in workers}) == 2)
+        until(lambda: self.machine.workers() == 2 or child.poll() is not None, cluster.said)
         self.ip("-n", self.names[1], "link", "set", "cable", "down")
-        said, error = child.communicate(timeout=120)
+        said, error = child.communicate(timeout=PATIENCE)
         self.assertEqual((child.returncode, error), (1, ""), said)
         rows = self.machine.ask("SELECT outcome, COUNT(*) FROM captures GROUP BY outcome")
         self.assertEqual(rows, [("audited", 30)])

@@ -5,6 +5,7 @@ What a capture's rows should be is taken from answers that were written by hand,
 PROGRAM more captures are generated, and their answers are those of PROGRAM alone.
 """
 
+import contextlib
 import hashlib
 import http.client
 import os
@@ -14,15 +15,15 @@ import signal
 import sqlite3
 import subprocess
 import sys
-import time
+import threading
 import unittest
 import urllib.request
 
-from fleet_captures import PROGRAM, TOP, Machine, Sample, by_hand, generated
+from fleet_captures import PATIENCE, PROGRAM, TOP, Machine, Sample, by_hand, count, generated, until
 
 sys.path.insert(0, str(TOP / "tools"))
 
-from fleet import names, tasks  # noqa: E402
+from fleet import database, names, programs, tasks  # noqa: E402
 
 CAPTURES = 200
 OTHER = {"client": "server", "server": "client"}
@@ -150,11 +151,11 @@ class Course(unittest.TestCase):
         """A worker is killed by its own process number while it audits: the capture is audited by another, and none is missing."""
         machine = self.machine(30)
         slow = machine.samples[7]
-        machine.acts[slow.digest] = ["sleep", 3]
+        machine.acts[slow.digest] = ["wait", 1]
         child = machine.start("--jobs", "4", "captures")
         until(lambda: slow.digest in machine.notes())
         os.kill(machine.notes()[slow.digest][0], signal.SIGKILL)
-        said, error = child.communicate(timeout=60)
+        said, error = child.communicate(timeout=PATIENCE)
         self.assertEqual((child.returncode, error), (1, ""), said)
         outcomes = self.outcomes(machine)
         self.assertEqual(len(outcomes), 30)
@@ -181,7 +182,7 @@ class Course(unittest.TestCase):
         machine = self.machine(8)
         poor, late, lucky = machine.samples[:3]
         machine.acts = {poor.digest: ["status", 5, 100], late.digest: ["sleep", 60], lucky.digest: ["status", 5, 2]}
-        status, _, error = machine.run("--jobs", "4", "--timeout", "2", "captures")
+        status, _, error = machine.run("--jobs", "4", "--timeout", "10", "captures")
         self.assertEqual((status, error), (3, ""))
         outcomes = self.outcomes(machine)
         self.assertEqual(outcomes.pop(poor.digest), ("failed", "out-of-memory", 3))
@@ -202,7 +203,7 @@ class Course(unittest.TestCase):
         self.assertEqual({address.rpartition(":")[0] for address in addresses}, {"127.0.0.1"})
         self.assertEqual([address for address in addresses if answers_http(address)], [])
         os.killpg(child.pid, signal.SIGINT)
-        _, error = child.communicate(timeout=30)
+        _, error = child.communicate(timeout=PATIENCE)
         self.assertEqual((child.returncode, error), (130, "h2audit-fleet: ended early: --resume goes on with the database\n"))
         before = dict(machine.ask("SELECT path, entered FROM captures"))
         self.assertTrue(5 <= len(before) < 40)
@@ -215,6 +216,19 @@ class Course(unittest.TestCase):
         self.assertIn(f"; {len(before)} were there\n", said)
         after = dict(machine.ask("SELECT path, entered FROM captures"))
         self.assertEqual((len(after), {path: after[path] for path in before}), (40, before))
+
+    def test_ended_at_start(self) -> None:
+        """Ctrl-C, or the end of all processes of the run, while the workers begin: one line, and nothing is left."""
+        machine = self.machine(12)
+        for number in (signal.SIGINT, signal.SIGTERM):
+            child = machine.start("--jobs", "2", "--resume", "captures", start_new_session=True)
+            until(lambda: machine.database.exists() and any((machine.folder / "temporary").iterdir()))
+            os.killpg(child.pid, number)
+            said, error = child.communicate(timeout=PATIENCE)
+            self.assertEqual((child.returncode, said, error),
+                             (128 + number, "", "h2audit-fleet: ended early: --resume goes on with the database\n"))
+            self.assertEqual(list((machine.folder / "temporary").iterdir()), [])
+        self.assertEqual(machine.run("--jobs", "2", "--resume", "captures")[0], 1)
 
     def test_resumed(self) -> None:
         """What failed, is new or has changed is audited, and nothing else; rows of what a capture was before are gone."""
@@ -319,6 +333,79 @@ class Words(unittest.TestCase):
         self.assertRegex(error, r"^h2audit-fleet: worker tls://\S+ has no program h2audit\n$")
 
 
+class Writer(unittest.TestCase):
+    """The database, and the one that writes it."""
+
+    setUp = Words.setUp
+
+    def test_read_and_written_by_others(self) -> None:
+        """While others read the database it is written all the same; another h2audit-fleet may not write it."""
+        leave = self.machine.folder / "leave"
+        self.machine.acts = {self.machine.samples[0].digest: ["file", str(leave)]}
+        child = self.machine.start("--jobs", "1", "captures")
+        until(lambda: self.machine.workers() == 1)
+        reader = sqlite3.connect(self.machine.database)
+        self.addCleanup(reader.close)
+        self.assertEqual(reader.execute("SELECT COUNT(*) FROM captures").fetchone(), (0,))
+        second = self.machine.run("--jobs", "1", "--resume", "captures")
+        self.assertEqual(second, (4, "", f"h2audit-fleet: {self.machine.database}: another h2audit-fleet writes it\n"))
+        leave.touch()
+        said, error = child.communicate(timeout=PATIENCE)
+        self.assertEqual((child.returncode, error), (1, ""), said)
+        self.assertEqual(reader.execute("SELECT COUNT(*) FROM captures").fetchone(), (1,))
+
+    def test_no_room(self) -> None:
+        """Where no more can be written one line says so, and what stands is whole; so it is with reports that are kept."""
+        for number in range(60):
+            (self.machine.captures / f"{number}.pcap").write_bytes(self.capture)
+        little = ("prlimit", "--fsize=90000")
+        status, said, error = self.machine.run("--jobs", "1", "captures", before=little)
+        self.assertEqual((status, said), (4, ""))
+        self.assertRegex(error, rf"^h2audit-fleet: {self.machine.database}: (disk I/O error|database or disk is full)\n$")
+        self.assertEqual(self.machine.ask("PRAGMA integrity_check"), [("ok",)])
+        self.assertEqual(self.machine.ask("SELECT COUNT(*) FROM captures WHERE id NOT IN (SELECT capture FROM connections)"), [(0,)])
+        with open("/dev/full", "wb", buffering=0) as full:
+            self.assertRaisesRegex(OSError, "No space left on device: 'reports'", database.write_all, full.fileno(), b"a", "reports")
+
+    def test_no_database(self) -> None:
+        """A folder, a pipe, a database of another version or of something else is refused, and stays as it was."""
+        os.mkfifo(self.machine.folder / "pipe")
+        for name, why in (("pipe", "it is no file"), ("captures", "Is a directory"), ("none/a", "No such file or directory")):
+            with self.assertRaisesRegex((database.Unusable, OSError), why):
+                database.Database(str(self.machine.folder / name), True)
+        for change, why in (("PRAGMA user_version = 2", "its schema is 2, and this program writes 1"),
+                            ("PRAGMA application_id = 7", "it is no database of h2audit-fleet")):
+            self.machine.database.unlink(missing_ok=True)
+            with contextlib.closing(sqlite3.connect(self.machine.database)) as base:
+                base.executescript((TOP / "tools" / "fleet" / "schema.sql").read_text() + change)
+            before = self.machine.database.read_bytes()
+            with self.assertRaisesRegex(database.Unusable, why):
+                database.Database(str(self.machine.database), True)
+            self.assertEqual(self.machine.database.read_bytes(), before)
+
+    def test_changed_while_read(self) -> None:
+        """A capture that is written to while it is imported is tried again, and is then entered as such."""
+        (self.machine.captures / "a.pcapng").write_bytes(bytes.fromhex("0a0d0d0a") + bytes(40))
+        program = self.machine.bin / "h2audit-any"
+        program.write_text(f"#!/bin/sh\necho more >> {self.machine.captures / 'a.pcapng'}\necho a report\n")
+        program.chmod(0o755)
+        self.assertEqual(self.machine.run("--jobs", "1", "captures")[0], 3)
+        rows = self.machine.ask("SELECT outcome, reason, tries, report_sha256 FROM captures WHERE path LIKE '%.pcapng'")
+        self.assertEqual(rows, [("failed", "changed", 3, None)])
+
+    def test_no_end(self) -> None:
+        """A capture that grows for ever is given up when time is up."""
+        file = os.open(self.machine.captures / "stream_overrun_go.pcap", os.O_RDWR)
+        late = threading.Event()
+        late.set()
+        reader, writer = os.pipe()
+        with os.fdopen(reader, "rb"), os.fdopen(writer, "wb", buffering=0) as pipe:
+            self.assertEqual(programs.feed(file, pipe, late), (0, ""))
+        os.close(file)
+        answer = tasks.verdict(programs.Run(0, "", 1.0, True))
+        self.assertEqual((answer["outcome"], answer["reason"]), ("failed", "timeout"))
+
+
 class Schema(unittest.TestCase):
     def test_documented(self) -> None:
         """The document names each table, column and view, and the versions of the schema."""
@@ -332,15 +419,6 @@ class Schema(unittest.TestCase):
             self.assertEqual(({name} | columns) - named, set(), name)
         self.assertIn(f"schema, {base.execute('PRAGMA user_version').fetchone()[0]};", text)
         self.assertIn(f"is {base.execute('PRAGMA application_id').fetchone()[0]}.", text)
-
-
-def until(is_done) -> None:
-    """Waits at most 60 seconds."""
-    for _ in range(600):
-        if is_done():
-            return
-        time.sleep(0.1)
-    raise AssertionError("it does not come to pass")
 
 
 def listening(session: int) -> list[str]:
@@ -360,11 +438,6 @@ def answers_http(address: str) -> bool:
             return answer.status == 200
     except (OSError, http.client.HTTPException):
         return False
-
-
-def count(machine: Machine) -> int:
-    tables = machine.ask("SELECT COUNT(*) FROM sqlite_master WHERE name = 'captures'")
-    return machine.ask("SELECT COUNT(*) FROM captures")[0][0] if tables[0][0] else 0
 
 
 if __name__ == "__main__":

@@ -106,9 +106,11 @@ try 'cipher suites, resumption, PSK, early data' tools/tests/import_tls_test.py 
 try 'mutated captures and key logs' tools/tests/import_mutations_test.py
 try 'many captures: tables' tools/tests/fleet_test.py "${audits[@]}" Tables
 try 'many captures: lost workers, memory, time' tools/tests/fleet_test.py Course.test_{killed_worker,worker_killed_each_time,memory_and_time}
-try 'many captures: Ctrl-C and resumption' tools/tests/fleet_test.py Course.test_{interrupted,resumed}
+try 'many captures: Ctrl-C and resumption' tools/tests/fleet_test.py Course.test_{interrupted,ended_at_start,resumed}
 try 'many captures: names and refusals' tools/tests/fleet_test.py Words Schema
-try 'many captures: a cluster' tools/tests/fleet_cluster_test.py
+try 'many captures: the database and its writer' tools/tests/fleet_test.py Writer
+try 'many captures: a cluster' tools/tests/fleet_cluster_test.py Tls
+try 'many captures: two machines' tools/tests/fleet_cluster_test.py TwoMachines
 try_built 'many captures: imports and parts' tools/tests/fleet_parts_test.py "$built"
 try 'many captures: without daemons' tools/tests/fleet_collect_test.py "${audits[@]}"
 try 'install and package' tools/tests/package_test.sh "$program" "$split"
