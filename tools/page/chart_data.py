@@ -1,8 +1,8 @@
 """Packs the points of all charts for the page: columns of numbers, as differences, deflated, in base64.
 
-The whole stays below a size that leaves room for the rest of a page of 5 MB. What would be larger is thinned: first the
-points, but never the first, last, least and greatest of a window, nor those of marks; then stalls and faults share marks;
-and at last, where there are too many windows even so, those without trouble have no chart, and then those with the least.
+The whole stays below a size that leaves room for the rest of a page of 5 MB. What would be larger is thinned: first
+the points, but never the first, last, least and greatest of a window, nor those of marks; then stalls and faults share
+marks; and at last windows have no chart, those without trouble first.
 """
 
 from __future__ import annotations
@@ -141,7 +141,7 @@ def steps(numbers: Iterable[int]) -> Iterator[int]:
 
 
 def columns(parts: Iterable[Iterable[int]]) -> Iterator[int]:
-    """The steps of each window's numbers, one after the other; the first is that from the first of the window before."""
+    """The steps of each window's numbers, one after the other; its first is that from the first of the one before."""
     first = 0
     for part in parts:
         inner = steps(part)

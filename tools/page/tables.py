@@ -63,21 +63,14 @@ def chosen(audit: Audit, times: float) -> Choice:
 
 def left_out_words(audit: Audit, sections: int, listed: int, notes: int, windows: int) -> list[str]:
     """What the tables have of each thing of which they have not all, and by which rule."""
-    all_notes = sum(len(one.notes) for one in audit.connections)
-    return [
-        f"{shown:,} of {number:,} {what}"
-        for shown, number, what in (
-            (sections, len(audit.connections), "connections in full: those that the summary names, then those with "
-             "the most faults, the most stalls, the most windows"),
-            (listed, len(audit.connections), "connections in the list: those with the most faults, the most stalls, "
-             "the least number"),
-            (notes, all_notes, "findings, of the connections in full: those that the summary names, then faults as "
-             "they come, then the longest stalls"),
-            (windows, len(audit.windows), "windows, of the connections in full: those with the most faults, then "
-             "those that stood still longest"),
-        )
-        if number > shown
+    all_notes, all_connections = sum(len(one.notes) for one in audit.connections), len(audit.connections)
+    rules = [
+        (sections, all_connections, "connections in full: what the summary names, then by faults, stalls, windows"),
+        (listed, all_connections, "connections in the list: those with the most faults, then the most stalls"),
+        (notes, all_notes, "findings, of the connections in full: what the summary names, faults, the longest stalls"),
+        (windows, len(audit.windows), "windows, of the connections in full: by faults, then by the time of all stalls"),
     ]
+    return [f"{shown:,} of {number:,} {rule}" for shown, number, rule in rules if number > shown]
 
 
 def ranked_connections(audit: Audit, first: set[int]) -> list[Connection]:
@@ -340,6 +333,6 @@ def thinning(charts: Packed) -> Markup:
 def marked_words(charts: Packed) -> str:
     """How many of the stalls and faults the charts mark."""
     every = "every fault and every stall"
-    some = f"{charts.marked:,} of {charts.marks_in_report:,} faults and stalls, and the others are of windows without one"
+    some = f"{charts.marked:,} of {charts.marks_in_report:,} faults and stalls, and the others have no chart"
     shared = f", of which {charts.merged:,} share a mark that says how many it stands for" if charts.merged else ""
     return f"The charts mark {every if charts.marked == charts.marks_in_report else some}{shared}. "

@@ -356,8 +356,8 @@ def crowded(connections, lines, every):
     """A report of so many connections of two windows with so many credit lines each; each so many have a stall."""
     parts, record, state = [HEAD], 0, 1
     for number in range(1, connections + 1):
-        parts.append(f"connection {number} client 10.0.0.1:{number % 60000 + 1} server 10.0.0.2:443 record {record + 1} ")
-        parts.append(f"http2 frames {lines}\n" + BOTH_FLOWS)
+        parts.append(f"connection {number} client 10.0.0.1:{number % 60000 + 1} server 10.0.0.2:443 ")
+        parts.append(f"record {record + 1} http2 frames {lines}\n" + BOTH_FLOWS)
         for frame in range(1, lines + 1):
             record += 1
             state = state * 1103515245 % 2**31

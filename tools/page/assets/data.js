@@ -20,7 +20,7 @@ const sumOfSteps = numbers => summed(numbers, 0, numbers.length);
 // Each window, with where its numbers begin in the columns of all.
 function windowsOf(said) {
   let point = 0, stall = 0, fault = 0, frame = 0, time = 0;
-  const connections = sumOfSteps(said.connections), places = sumOfSteps(said.places), streams = sumOfSteps(said.streams);
+  const [connections, places, streams] = [said.connections, said.places, said.streams].map(sumOfSteps);
   const found = [];
   said.points.forEach((points, number) => {
     const place = places[number], stalls = said.stalled[number], faults = said.faulty[number];
