@@ -4,11 +4,13 @@
     h2audit-comment capture.pcap report -o commented.pcapng
 
 The new capture is a pcapng file. Its packets, their times, their interfaces and their order are those of the capture,
-which may be pcap or pcapng, also packed by gzip. Each finding of the report, and so each stall's begin and end, is a
-comment that says who broke the rule. In Wireshark, the filter  frame.comment contains "h2audit"  shows these packets.
+which may be pcap or pcapng, also packed by gzip or zstd. Each finding of the report, and so each stall's begin and
+end, is a comment that says who broke the rule. In Wireshark, the filter  frame.comment contains "h2audit"  shows
+these packets.
 
 Exit status: 0 if the capture was written, 2 for an invalid command line, 3 if capture, report or map is refused, 4 if
-reading or writing failed. What went wrong is one line on standard error.
+reading or writing failed, 5 if the capture is packed by zstd and python3-zstandard is not installed. What went wrong is
+one line on standard error.
 """
 
 from __future__ import annotations
@@ -16,7 +18,7 @@ from __future__ import annotations
 import argparse
 from typing import BinaryIO
 
-from report.command import IO_FAILED, OK, REFUSED, Words, failed, io_reason, opened
+from report.command import IO_FAILED, MISSING, OK, REFUSED, Words, failed, io_reason, opened
 from report.lines import Refused as ReportRefused
 from report.notes import Note
 from report.output import written
@@ -26,14 +28,14 @@ from comment.import_map import place_notes, read_map
 from comment.notes import Comments, notes_of
 from comment.pcapng import MAGIC, copy_pcapng
 from comment.refusals import Refused, capture_refused
-from comment.unpack import unpacked
+from comment.unpack import Missing, unpacked
 
 NAME = "h2audit-comment"
 
 
 def arguments(words: list[str]) -> argparse.Namespace:
     parser = Words(prog=NAME, description=__doc__, formatter_class=argparse.RawDescriptionHelpFormatter)
-    parser.add_argument("capture", metavar="CAPTURE", help="pcap or pcapng, also packed by gzip; - is standard input")
+    parser.add_argument("capture", metavar="CAPTURE", help="pcap or pcapng, also in gzip or zstd; - is standard input")
     parser.add_argument("report", metavar="REPORT", help="what h2audit says of it; - is standard input")
     parser.add_argument("-o", "--output", required=True, metavar="FILE", help="the new capture; - is standard output")
     parser.add_argument(
@@ -92,6 +94,8 @@ def main(words: list[str]) -> int:
         return failed(NAME, REFUSED, f"report refused: {why}")
     except Refused as why:
         return failed(NAME, REFUSED, str(why))
+    except Missing as why:
+        return failed(NAME, MISSING, str(why))
     except OSError as why:
         return failed(NAME, IO_FAILED, io_reason(why))
     return OK

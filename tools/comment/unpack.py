@@ -1,4 +1,4 @@
-"""Reads a capture that may be packed by gzip (RFC 1952), from a file or a pipe."""
+"""Reads a capture that may be packed by gzip (RFC 1952) or zstd (RFC 8878), from a file or a pipe."""
 
 from __future__ import annotations
 
@@ -8,10 +8,14 @@ from typing import BinaryIO
 
 from comment.refusals import capture_refused
 
-GZIP = b"\x1f\x8b"
+GZIP, ZSTD = b"\x1f\x8b", b"\x28\xb5\x2f\xfd"
 # Of zlib: the window is as large as may be, and a header of gzip stands before the data.
 GZIP_WINDOW = 16 + zlib.MAX_WBITS
 BUFFER = 2**18
+
+
+class Missing(Exception):
+    """A library is not installed."""
 
 
 class Rejoined(io.RawIOBase):
@@ -62,8 +66,31 @@ class Unzipped(io.RawIOBase):
         return part
 
 
+class Expanded(io.RawIOBase):
+    """What a zstd file holds, all of its frames; one that ends too early has what it has."""
+
+    def __init__(self, file: BinaryIO) -> None:
+        try:
+            import zstandard
+        except ModuleNotFoundError:
+            raise Missing("zstandard is not installed (Debian: apt-get install python3-zstandard)") from None
+        self.error = zstandard.ZstdError
+        self.reader = zstandard.ZstdDecompressor().stream_reader(file, read_across_frames=True)
+
+    def readable(self) -> bool:
+        return True
+
+    def readinto(self, room: memoryview) -> int:  # type: ignore[override]
+        try:
+            return int(self.reader.readinto(room))
+        except self.error:
+            raise capture_refused("bad-zstd") from None
+
+
 def unpacked(capture: BinaryIO) -> BinaryIO:
-    """The capture without gzip around it."""
+    """The capture without what packs it."""
     begin = capture.read(4)
     whole = io.BufferedReader(Rejoined(begin, capture), BUFFER)
-    return io.BufferedReader(Unzipped(whole), BUFFER) if begin.startswith(GZIP) else whole  # type: ignore[arg-type]
+    if begin.startswith(GZIP):
+        return io.BufferedReader(Unzipped(whole), BUFFER)  # type: ignore[arg-type]
+    return io.BufferedReader(Expanded(whole), BUFFER) if begin == ZSTD else whole  # type: ignore[arg-type]

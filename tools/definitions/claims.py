@@ -131,6 +131,10 @@ class Claims:
                 return found
         return True
 
+    def either(self, a: Claim, b: Claim, values: Values) -> bool | None:
+        """Whether one of two claims holds."""
+        return greatest(self.aside(claim, values) for claim in (a, b))
+
     def under(self, condition: bool | None, claim: Claim, values: Values) -> Value:
         """Whether a claim holds under a condition."""
         if condition is False:

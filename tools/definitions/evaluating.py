@@ -1,31 +1,105 @@
-"""Evaluates definitions. A definition becomes a function of Python's, a claim what finds whether it is shown."""
+"""Evaluates definitions. A definition becomes a function of Python's, a claim what finds whether it is shown.
+
+A term becomes what gives its value from the values at hand: those of a clause's arguments, and of what `let`, `λ` and
+patterns name. Each name has a place among these, which is known before anything is evaluated.
+"""
 
 import pathlib
 from operator import itemgetter
-from typing import Any, Callable, Sequence
+from typing import Any, Callable, NoReturn, Sequence
 
-from .claims import Claim, Claims, Factor, Values, greatest
-from .names import Names, Scope
+from .claims import Claim, Claims, Factor, Values
 from .ranges import Remembering
 from .reading import Function as Clauses
-from .reading import Module, Record, Term
+from .reading import Module, Record, Term, Unreadable, read
 from .values import Data, Function, Made, Stuck, Value, apply, filled, known
-from .words import LOOPS
+from .words import LOOPS, word
 
 Test = Callable[[Value, Values], bool]  # puts the parts of a value that a pattern names among the values at hand
+CONSTANTS: dict[str, Value] = {"true": True, "false": False, "zero": 0, "[]": ()}
 
 
-class Definitions(Names, Claims):
+class Scope:
+    """The names of a clause, each with its place among the values at hand."""
+
+    def __init__(self, module: Module, owner: str, names: dict[str, int], size: int):
+        self.module, self.owner, self.names, self.size = module, owner, dict(names), size
+
+    def place(self, name: str) -> int:
+        self.names[name], self.size = self.size, self.size + 1
+        return self.size - 1
+
+    def inner(self) -> "Scope":
+        return Scope(self.module, self.owner, self.names, self.size)
+
+    def fail(self, term: Term, why: str) -> NoReturn:
+        raise Unreadable(f"{self.module.name}:{term.line}: {why}")
+
+
+class Definitions(Claims):
     """The definitions in a folder of crates."""
 
     def __init__(self, folder: pathlib.Path):
-        Names.__init__(self, folder)
-        Claims.__init__(self)
+        super().__init__()
+        self.folder = folder
+        self.modules: dict[str, Module] = {}
+        self.meanings: dict[tuple[str, str], Value | None] = {}
         self.used: set[str] = set()  # the modules of what was evaluated
         self.kept: dict[tuple, tuple] = {}  # what functions that recur gave
 
-    def defined(self, module: Module, definition: Clauses | Record) -> Value:
-        return self.record(module, definition) if isinstance(definition, Record) else self.function(module, definition)
+    # ---- names
+
+    def module(self, path: tuple[str, ...]) -> tuple[Module, tuple[str, ...]]:
+        """The longest front of a path that is a module, and the names behind it."""
+        for end in range(len(path), 3, -1):
+            name = f"{path[1]}/specs/{'/'.join(path[3:end])}.antt"
+            if name not in self.modules and (self.folder / name).is_file():
+                self.modules[name] = read(self.folder / name, name)
+            if name in self.modules:
+                return self.modules[name], path[end:]
+        raise Unreadable(f"{'.'.join(path)}: there is no such module")
+
+    def imported(self, path: tuple[str, ...], name: str) -> Value | None:
+        """The meaning of a name of a module: a type or a constructor of the code, a word, or a definition."""
+        if "TheVariants" in path:
+            return Made(name)
+        if path[0] != "Rattle" or not (self.folder / path[1] / "specs").is_dir():
+            return Data(name) if "declared" in path else word(name)
+        if path[3] == "declared":
+            return Data(name)
+        module, behind = self.module((*path, name))
+        return self.meaning(module, behind[0]) if behind else None
+
+    def meaning(self, module: Module, name: str) -> Value | None:
+        """The meaning of a name in a module, None where it has none."""
+        key = module.name, name
+        if key not in self.meanings:
+            path, inner = module.uses.get(name, ((), None))
+            definition = module.definitions.get(name)
+            if isinstance(definition, Record):
+                self.meanings[key] = self.record(module, definition)
+            elif definition is not None:
+                self.meanings[key] = self.function(module, definition)
+            else:
+                self.meanings[key] = self.imported(path, inner) if inner else None
+        return self.meanings[key]
+
+    def named(self, label: str) -> Value:
+        """The meaning of CRATE.MODULE.NAME."""
+        crate, *path, name = label.split(".")
+        found = self.imported(("Rattle", crate, "specs", *path), name)
+        if found is None:
+            raise Unreadable(f"{label}: there is no such definition")
+        return found
+
+    def constructor(self, module: Module, term: Term) -> str | None:
+        """The own name of the constructor that a pattern names, None for a variable."""
+        name, behind = (term.parts[0].parts[0], term.parts[1]) if term.kind == "field" else (term.parts[0], None)
+        path, inner = module.uses.get(name, ((), None))
+        found = inner or behind
+        if found in ("◌∷◌", "suc", None) or found in CONSTANTS:
+            return "◌∷◌" if name == "◌∷◌" else found
+        return found if isinstance(self.imported(path, found), Made) else None
 
     # ---- definitions
 
@@ -36,81 +110,38 @@ class Definitions(Names, Claims):
         clauses, size = [], 0
         for patterns, body in definition.clauses:
             scope = Scope(module, definition.name, {}, arity)
-            tests = self.tests(patterns, scope)
-            clauses.append((tests, self.term(body, scope)))
+            tests = [(place, self.pattern(pattern, scope, place)) for place, pattern in enumerate(patterns)]
+            clauses.append(([(place, test) for place, test in tests if test], self.term(body, scope)))
             size = max(size, scope.size)
-        used, more = self.used, [None] * (size - arity)
 
         def run(*arguments):
-            used.add(module.name)
-            values = [*arguments, *more]
+            self.used.add(module.name)
+            values = [*arguments, *[None] * (size - arity)]
             for tests, body in clauses:
-                for place, test in tests:
-                    if not test(arguments[place], values):
-                        break
-                else:
+                if all(test(arguments[place], values) for place, test in tests):
                     return body(values)
             raise Stuck(f"{module.name}: no clause of {definition.name} for {arguments}")
 
-        loops = any(mentions(body, {definition.name, *LOOPS}) for _, body in definition.clauses)
-        function.run = run
-        if loops:
-            function.run = Remembering(run, self.kept, number_in(definition))
+        recurs = any(mentions(body, {definition.name, *LOOPS}) for _, body in definition.clauses)
+        function.run = Remembering(run, self.kept, number_in(definition)) if recurs else run
         return function if arity else run()
 
-    def tests(self, patterns: Sequence[Term], scope: Scope) -> list[tuple[int, Test]]:
-        """A test for each argument that a pattern does not just name."""
-        found = []
-        for place, pattern in enumerate(patterns):
-            if pattern.kind == "name" and not self.constructor(scope.module, pattern):
-                scope.names[pattern.parts[0]] = place
-            else:
-                found.append((place, self.pattern(pattern, scope)))
-        return found
-
-    def pattern(self, pattern: Term, scope: Scope) -> Test:
+    def pattern(self, pattern: Term, scope: Scope, place: int | None = None) -> Test | None:
+        """Whether a value has a form; None for any value, which has its place among the values at hand already."""
         head, parts = pattern.parts if pattern.kind == "call" else (pattern, ())
         name = self.constructor(scope.module, head)
         if name is None:
             if pattern.kind != "name":
                 scope.fail(pattern, "no pattern of the language")
-            return self.variable(None if pattern.parts[0] == "_" else scope.place(pattern.parts[0]))
-        tests = [self.pattern(part, scope) for part in parts]
-        match name:
-            case "true" | "false":
-                return lambda value, values: known(value) is (name == "true")
-            case "zero":
-                return lambda value, values: known(value) == 0
-            case "suc":
-                return lambda value, values: known(value) > 0 and tests[0](known(value) - 1, values)
-            case "[]":
-                return lambda value, values: known(value) == ()
-            case "◌∷◌":
-                return self.cons(*tests)
-        return self.made(name, tests)
-
-    def cons(self, first: Test, rest: Test) -> Test:
-        def test(value, values):
-            value = known(value)
-            return value != () and first(value[0], values) and rest(value[1:], values)
-
-        return test
-
-    def made(self, name: str, tests: list[Test]) -> Test:
-        def test(value, values):
-            if type(value) is not Made:
-                value = known(value)
-            if value.name != name:
-                return False
-            return all([test(part, values) for test, part in zip(tests, value.parts, strict=True)])
-
-        return test if tests else lambda value, values: (value if type(value) is Made else known(value)).name == name
-
-    def variable(self, place: int | None) -> Test:
-        def test(value, values):
             if place is not None:
-                values[place] = filled(value)
-            return True
+                scope.names[pattern.parts[0]] = place
+                return None
+            return put(scope.place(pattern.parts[0]))
+        tests = [self.pattern(part, scope) for part in parts]
+
+        def test(value, values):
+            found = parts_of(name, known(value))
+            return found is not None and all([test(part, values) for test, part in zip(tests, found, strict=True)])
 
         return test
 
@@ -136,8 +167,7 @@ class Definitions(Names, Claims):
 
     def term_name(self, term: Term, scope: Scope, name: str) -> Claim:
         if name in scope.names:
-            place = scope.names[name]
-            return itemgetter(place)
+            return itemgetter(scope.names[name])
         found = self.meaning(scope.module, name)
         return (lambda values: found) if found is not None else scope.fail(term, f"{name} has no meaning here")
 
@@ -151,22 +181,18 @@ class Definitions(Names, Claims):
 
     def term_record(self, term: Term, scope: Scope, base: Term | None, fields: dict[str, Term]) -> Claim:
         parts = [(label, self.term(part, scope)) for label, part in fields.items()]
-        if base is None:
-            return lambda values: {label: part(values) for label, part in parts}
-        of = self.term(base, scope)
+        of = self.term(base, scope) if base else lambda values: {}
         return lambda values: {**known(of(values)), **{label: part(values) for label, part in parts}}
 
     def term_field(self, term: Term, scope: Scope, of: Term, label: str) -> Claim:
-        path, inner = scope.imported(of)
-        if path and inner is None:  # a module, and not a value
+        path, inner = scope.module.uses.get(of.parts[0], ((), "")) if of.kind == "name" else ((), "")
+        if inner is None and of.parts[0] not in scope.names:  # a module, and not a value
             found = self.imported(path, label)
             return (lambda values: found) if found is not None else scope.fail(term, f"{label} has no meaning here")
         whole = self.term(of, scope)
 
         def field(values):
-            value = whole(values)
-            if type(value) is not dict:
-                value = known(value)
+            value = known(whole(values))
             if type(value) is not dict or label not in value:
                 raise Stuck(f"{scope.module.name}:{term.line}: no field {label} in {value}")
             return filled(value[label])
@@ -202,11 +228,11 @@ class Definitions(Names, Claims):
         if special:
             return special(self, *parts)
         function = self.term(head, scope)
-        found = function([]) if head.kind == "name" and head.parts[0] not in scope.names else None
-        if not isinstance(found, Data) and any(map(is_claim, arguments)):
+        known_now = function([]) if head.kind == "name" and head.parts[0] not in scope.names else None
+        if not isinstance(known_now, Data) and any(map(is_claim, arguments)):
             scope.fail(term, "a claim as an argument")
-        if isinstance(found, Function) and len(parts) == found.arity:
-            return called(found, parts)
+        if isinstance(known_now, Function) and known_now.arity == len(parts):
+            return lambda values: known_now.run(*[part(values) for part in parts])  # as `apply` does
         return lambda values: apply(function(values), *[part(values) for part in parts])
 
     # ---- claims
@@ -218,11 +244,7 @@ class Definitions(Names, Claims):
         return lambda values: {True: False, False: True, None: None}[self.aside(claim, values)]
 
     def one_of(self, a: Claim, b: Claim) -> Claim:
-        def claim(values):
-            first = self.aside(a, values)
-            return first is True or greatest([first, self.aside(b, values)])
-
-        return claim
+        return lambda values: self.either(a, b, values)
 
     def factors(self, factors: Sequence[tuple[str | None, Term]], scope: Scope) -> list[Factor]:
         found = []
@@ -264,6 +286,25 @@ def undefined(*arguments: Value) -> Value:
     raise Stuck("a definition that needs itself")
 
 
+def parts_of(name: str, value: Value) -> Sequence[Value] | None:
+    """The parts of which a constructor of this name made a value; None if it did not make it."""
+    if name in CONSTANTS:
+        return () if value == CONSTANTS[name] else None
+    if name == "suc":
+        return (value - 1,) if value > 0 else None
+    if name == "◌∷◌":
+        return (value[0], value[1:]) if value else None
+    return value.parts if value.name == name else None
+
+
+def put(place: int) -> Test:
+    def test(value: Value, values: Values) -> bool:
+        values[place] = filled(value)
+        return True
+
+    return test
+
+
 def number_in(definition: Clauses) -> int | None:
     """The place of an argument that is a number, over which the definition recurs."""
     for patterns, _ in definition.clauses:
@@ -276,7 +317,7 @@ def number_in(definition: Clauses) -> int | None:
 def is_claim(term: Term) -> bool:
     """Whether a term is a claim by its form. As an argument it would be evaluated though it is not made."""
     if term.kind == "call" and term.parts[0].kind == "name":
-        return term.parts[0].parts[0] in ("◌≡◌", "◌≢◌", "◌⊎◌", "¬◌")
+        return term.parts[0].parts[0] in ("◌≡◌", "◌⊎◌", "¬◌")
     return term.kind in ("product", "function type")
 
 
@@ -287,23 +328,10 @@ def mentions(term: Any, names: set[str]) -> bool:
     return any(mentions(part, names) for part in parts)
 
 
-def called(function: Function, parts: list[Claim]) -> Claim:
-    """A function at all of its arguments; what most calls have is written out, which is quicker."""
-    match parts:
-        case [a]:
-            return lambda values: function.run(a(values))
-        case [a, b]:
-            return lambda values: function.run(a(values), b(values))
-        case [a, b, c]:
-            return lambda values: function.run(a(values), b(values), c(values))
-    return lambda values: function.run(*[part(values) for part in parts])
-
-
 SPECIAL: dict[tuple[str, int], Callable[..., Claim]] = {
     ("◌&&◌", 2): lambda self, a, b: lambda values: a(values) and b(values),
     ("◌||◌", 2): lambda self, a, b: lambda values: a(values) or b(values),
     ("◌≡◌", 2): Definitions.equation,
-    ("◌≢◌", 2): lambda self, a, b: self.denial(self.equation(a, b)),
     ("◌⊎◌", 2): Definitions.one_of,
     ("¬◌", 1): Definitions.denial,
 }

@@ -1,20 +1,18 @@
 """Reads modules of definitions: from the text of a file to terms.
 
-The language is antt. This reads the part of it that the definitions use: functions by cases, records, data, lists,
-numbers, `let`, `λ`, infix words, and the types `(x : A) → B` and `(x : A) × B`. Signatures are passed over, and so is
-what stands in braces: a definition that was proved is well typed. What is written otherwise is an error that names file
-and line.
+The language is antt. This reads the part of it that the definitions of a report use: functions by cases, records,
+lists, numbers, `let`, `λ`, infix words, and the types `(x : A) → B` and `(x : A) × B`. Signatures are passed over: a
+definition that was proved is well typed. What is written otherwise is an error that names file and line.
 """
 
 import pathlib
 import re
 from typing import NamedTuple, NoReturn
 
-from .tokens import Token, Unreadable, items_of, tokens_of
-
-NUMBER = re.compile(r"(0[xbo])?[0-9a-fA-F_]+")
+TOKEN = re.compile(r'(?P<space>\s+|--[^\n]*)|"(?:[^"\\\n]|\\[n"\\])*"|[(){};,@.«»]|[^\s(){}.;,@"«»]+')
+NUMBER = re.compile(r"(0x)?[0-9a-fA-F_]+")
 USE = re.compile(r"(?:pub )?use ([^\s{]+?)\.?(?:\{([^}]*)\}| as (\S+))?")
-ESCAPES = {"n": "\n", "r": "\r", "t": "\t", '"': '"', "\\": "\\"}
+ESCAPES = {"n": "\n", '"': '"', "\\": "\\"}
 MARKS = ("pub", "abbrev", "unfoldable")
 RESERVED = set(
     "data record deriving module where use mod package open as unfolding ruleset mutual infix infixl infixr elim"
@@ -25,7 +23,7 @@ RESERVED = set(
 STRENGTHS = [
     (1, "right", "⊎"),
     (2, "right", "×"),
-    (4, "", "≡ ≢"),
+    (4, "", "≡"),
     (6, "left", "+ℤ -ℤ"),
     (30, "left", "||"),
     (35, "left", "&&"),
@@ -38,6 +36,43 @@ STRENGTHS = [
 ]
 INFIX = {word: (strength, side) for strength, side, words in STRENGTHS for word in words.split()}
 IF = 5  # `if a then b else c` binds as tightly
+
+
+class Unreadable(Exception):
+    """Text outside of the part that is read, or a name without a meaning."""
+
+
+class Token(NamedTuple):
+    text: str
+    line: int
+    column: int
+    joined: bool  # is there no space before it?
+
+
+def tokens_of(text: str, name: str) -> list[Token]:
+    tokens, line, begin, end, joined = [], 1, 0, 0, False
+    for found in TOKEN.finditer(text):
+        if found.start() != end:
+            break
+        end = found.end()
+        if not found["space"]:
+            tokens.append(Token(found[0], line, found.start() - begin, joined))
+        joined = not found["space"]
+        if "\n" in found[0]:
+            line, begin = line + found[0].count("\n"), found.start() + found[0].rindex("\n") + 1
+    if end != len(text):
+        raise Unreadable(f"{name}:{line}: no word of the language: {text[end:end + 20].split()[0]}")
+    return tokens
+
+
+def items_of(tokens: list[Token]) -> list[list[Token]]:
+    """The items of a block: each begins a line, in the column of the first."""
+    items: list[list[Token]] = []
+    for before, token in zip([None, *tokens], tokens):
+        if before is None or token.line > before.line and token.column <= tokens[0].column and token.text != "}":
+            items.append([])
+        items[-1].append(token)
+    return items
 
 
 class Term(NamedTuple):
@@ -60,7 +95,6 @@ class Record(NamedTuple):
 class Module(NamedTuple):
     name: str  # CRATE/specs/PATH.antt
     definitions: dict[str, Function | Record]
-    constructors: set[str]
     uses: dict[str, tuple[tuple[str, ...], str | None]]  # of a name its module and name there; None for a module itself
 
 
@@ -104,21 +138,19 @@ class Reader:
     # ---- terms
 
     def binds(self) -> bool:
-        """Whether a group `(x y : A)` or `{x : A}` stands here."""
+        """Whether a group `(x y : A)` stands here."""
         ahead = 1
         while self.is_name(self.peek(ahead)):
             ahead += 1
-        return self.peek() in ("(", "{") and ahead > 1 and self.peek(ahead) == ":"
+        return self.peek() == "(" and ahead > 1 and self.peek(ahead) == ":"
 
     def groups(self) -> list[tuple[str, Term]]:
-        """The names of such groups and their types, without those in braces."""
+        """The names of such groups, each with its type."""
         found = []
         while self.binds():
-            closed = ")" if self.peek() == "(" else "}"
-            self.at += 1
-            names, kind = self.words(":"), self.term()
-            self.take(closed)
-            found += [(name, kind) for name in names if closed == ")"]
+            self.take("(")
+            names, kind = self.words(":"), self.upto(")")
+            found += [(name, kind) for name in names]
         return found
 
     def term(self) -> Term:
@@ -167,26 +199,16 @@ class Reader:
             return self.made("lambda", names, self.term())
         if start == "let":
             name = self.word()
-            if self.peek() == ":":
-                self.at += 1
-                self.upto("=")
-            else:
-                self.take("=")
+            self.take("=")
             value = self.upto("in")
             return self.made("let", name, value, self.term())
         return self.made("call", self.made("name", "¬◌"), [self.operand()]) if start == "¬" else self.call()
 
     def call(self) -> Term:
         head, arguments = self.atom(), []
-        while True:
-            if self.peek() == "{" and self.peek(1) in ("0", "ℓ") and self.peek(2) == "}":
-                self.at += 3  # a level
-            elif self.peek() in ("λ", "let"):
-                arguments.append(self.operand())
-            elif self.peek() in ("(", "record", "Type") or self.is_name(self.peek()) or self.peek()[:1] == '"':
-                arguments.append(self.atom())
-            else:
-                return self.made("call", head, arguments) if arguments else head
+        while self.peek() in ("(", "record") or self.is_name(self.peek()) or self.peek()[:1] == '"':
+            arguments.append(self.atom())
+        return self.made("call", head, arguments) if arguments else head
 
     def atom(self) -> Term:
         text, self.at = self.peek(), self.at + 1
@@ -200,9 +222,6 @@ class Reader:
         elif text == "record":
             base = None if self.peek() == "{" else self.atom()
             made = self.made("record", base, self.fields())
-        elif text == "Type":
-            self.at += 1
-            made = self.made("name", "Type")
         elif text[:1] == '"':
             made = self.made("text", re.sub(r"\\(.)", lambda it: ESCAPES[it[1]], text[1:-1]))
         elif text[:1].isdecimal() and NUMBER.fullmatch(text):
@@ -233,31 +252,16 @@ class Reader:
     def item(self, module: Module) -> None:
         while self.peek() in MARKS:
             self.at += 1
-        start = self.peek()
-        if start == "record":
+        if self.peek() == "record":
             self.record(module)
-        elif start == "data":
-            for item in self.block():
-                module.constructors.update(token.text for token in item[: [token.text for token in item].index(":")])
-        elif start == "module":
-            if any(token.text == "(" for token in self.tokens[: self.texts().index("where")]):
-                self.fail("a section with parameters")
-            for item in self.block():
-                read_item(item, self.name, module)
-        elif self.peek(1) not in (":", "{") and start != "unfolding":  # a signature has no effect on a value
+        elif self.peek(1) != ":":  # a signature has no effect on a value
             self.clause(module)
-
-    def texts(self) -> list[str]:
-        return [token.text for token in self.tokens]
-
-    def block(self) -> list[list[Token]]:
-        """The items after `where`."""
-        return items_of(self.tokens[self.texts().index("where") + 1 :])
 
     def record(self, module: Module) -> None:
         self.take("record")
         name, parameters, fields = self.word(), self.groups(), []
-        for item in self.block():
+        where = [token.text for token in self.tokens].index("where")
+        for item in items_of(self.tokens[where + 1 :]):
             reader = Reader([token for token in item if token.text != "pub"], self.name)
             names, kind = reader.words(":"), reader.term()
             reader.end()
@@ -296,7 +300,7 @@ def read_item(tokens: list[Token], name: str, module: Module) -> None:
 
 def read(file: pathlib.Path, name: str) -> Module:
     """The module of a file."""
-    module = Module(name, {}, set(), {})
+    module = Module(name, {}, {})
     for item in items_of(tokens_of(file.read_text(encoding="utf-8"), name)):
         read_item(item, name, module)
     return module

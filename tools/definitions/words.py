@@ -12,8 +12,8 @@ from .ranges import Range, element
 from .values import Data, Function, Made, Stuck, Value, apply, joined, known
 
 NONE, LESS, EQUAL, GREATER = (Made(name) for name in ("None", "Less", "Equal", "Greater"))
-TYPES = "ℕ ℤ Bool List Option Result Ordering Bor Type".split()
-CONSTRUCTORS = "Some None Ok Err Less Equal Greater".split()
+TYPES = "ℕ ℤ Bool List Option".split()
+CONSTRUCTORS = "Some None Ok Err".split()
 
 
 def some(value: Value) -> Made:
@@ -97,7 +97,6 @@ WORDS: dict[str, Callable[..., Value]] = {
     # orders
     "nat_cmp": compared,
     "int_cmp": compared,
-    "ordering_then": after_equal,  # the first, unless it is Equal
     "then_cmp": lambda r, s, x, y: after_equal(apply(r, x, y), apply(s, x, y)),  # by r, then by s
     "on": lambda f, r, x, y: apply(r, apply(f, x), apply(f, y)),  # r of what f makes of both
     "is_gt": lambda a: a == GREATER,
@@ -114,7 +113,6 @@ WORDS: dict[str, Callable[..., Value]] = {
     "find": lambda p, xs: next((some(x) for x in xs if apply(p, x)), NONE),  # the first that passes
     "list_any": lambda p, xs: any(apply(p, x) for x in xs),
     "count_by": lambda p, xs: len([x for x in xs if apply(p, x)]),
-    "sum_by": lambda f, xs: sum(apply(f, x) for x in xs),
     "fold": folded,  # f over the items, from a
     "enumerate_from": lambda n, xs: tuple([{"0": at, "1": x} for at, x in enumerate(xs, n)]),  # with numbers from n on
     "take": lambda n, xs: xs[:n],
@@ -136,20 +134,14 @@ WORDS: dict[str, Callable[..., Value]] = {
     "decimal": digits,
     "signed_decimal": lambda n: digits(n) if n >= 0 else tuple(b"-") + digits(-n),
     # claims
-    "⊥": lambda: False,
-    "⊤": lambda: True,
-    "Unit": lambda: True,
     "IsTrue": lambda a: a,
     "IsFalse": lambda a: not a,
     "IsSome": lambda o: o != NONE,
     "IsSomeAnd": lambda o, claim: option(o, False, lambda x: apply(claim, x)),  # there is a value, and it holds of that
-    "IfSome": lambda o, claim: option(o, True, lambda x: apply(claim, x)),  # it holds of a value, if there is one
-    "ForSome": lambda o, claim: option(o, True, lambda x: apply(claim, x)),
-    "All": lambda claim, xs: least(apply(claim, x) for x in xs),  # it holds of each element
     "AllZip": lambda claim, xs, ys: len(xs) == len(ys) and least(map(partial(apply, claim), xs, ys)),  # at each place
 }
 LAZY = ("◌∷◌", "◌++◌")  # these take what is not known yet
-LOOPS = {"map", "flat_map", "filter_map", "filter", "find", "list_any", "count_by", "sum_by", "fold"}
+LOOPS = {"map", "flat_map", "filter_map", "filter", "find", "list_any", "count_by", "fold"}
 
 
 def strict(run: Callable[..., Value], arity: int) -> Callable[..., Value]:

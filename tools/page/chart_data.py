@@ -1,7 +1,8 @@
-"""Packs the points of all charts for the page: numbers as differences, one list for each column, deflated, in base64.
+"""Packs the points of all charts for the page: columns of numbers, as differences, deflated, in base64.
 
-The whole stays below a size that leaves room for the rest of a page of 5 MB. What would be larger is thinned: first the
-points, then shades and marks are joined, and at last windows without trouble have no chart.
+The whole stays below a size that leaves room for the rest of a page of 5 MB. What would be larger is thinned: first
+the points, but never the first, last, least and greatest of a window, nor those of marks; then stalls and faults share
+marks; and at last windows have no chart, those without trouble first.
 """
 
 from __future__ import annotations
@@ -13,20 +14,22 @@ from collections.abc import Iterable, Iterator
 from dataclasses import dataclass
 from math import gcd
 
-from report.blame import KINDS, OTHER, duration
+from report.blame import KINDS, OTHER
 
 from page.model import Audit, Window
 from page.series import Series, series_of, thinned
 
-MOST_BYTES = 2_000_000
-# Points of a window at most, from what a screen can show to what is little more than its extremes.
-POINTS = (4000, 1000, 250, 60, 16)
-# Shades and marks of a window at most, where thinned points are still too many; no more than the last always fit.
-MARKS = (2000, 200, 20)
+MOST_BYTES = 2_900_000
+# Points of a window at most, from what a screen can show to its four extremes.
+POINTS = (4000, 1000, 250, 60, 16, 6, 2)
+# Shades and crosses of a window at most, where its extremes and marks are still too many.
+MARKS = (2000, 200, 20, 1)
 UNBOUNDED = 2**62
-MOST_WINDOWS = 100_000
+LEVELS = [*((points, UNBOUNDED) for points in POINTS), *((POINTS[-1], marks) for marks in MARKS)]
+# So many windows say how large all of them would be; what is larger by half is not packed to see it.
+SAMPLE, DOUBT = 1000, 1.5
 # What is left of too large a size is aimed at a little less.
-MARGIN = 0.9
+MARGIN = 0.95
 
 
 @dataclass
@@ -34,108 +37,99 @@ class Packed:
     """What stands in the page, and what a reader has to know of it."""
 
     text: str
-    windows: list[Window]
     points: int
     points_in_report: int
-    joined: int
-    left_out: int
+    # Of stalls and faults, how many are marked, and how many of these share a mark.
+    marked: int
+    merged: int
+    marks_in_report: int
+    windows: int
+    left_out: list[Window]
 
 
 def packed(audit: Audit) -> Packed:
     windows = [window for window in audit.windows if window.frames]
     whole = [series_of(window) for window in windows]
-    shown, series, compressed = fitting(audit, windows, whole)
+    series, compressed = fitting(audit, windows, whole)
     return Packed(
         base64.b64encode(compressed).decode(),
-        shown,
         sum(len(one.frames) for one in series),
         sum(one.whole for one in whole),
+        sum(one.marked for one in series),
         sum(one.merged for one in series),
-        len(windows) - len(shown),
+        sum(len(window.stalls) + len(window.faults) for window in audit.windows),
+        len(windows),
+        windows[len(series) :],
     )
 
 
-Shown = tuple[list[Window], list[Series], bytes]
+Fitting = tuple[list[Series], bytes]
 
 
-def fitting(audit: Audit, windows: list[Window], whole: list[Series]) -> Shown:
-    """The first that is small enough: all points, fewer points, fewer windows without trouble, fewer marks."""
-    troubled = sum(1 for window in windows if window.stalls or window.faults)
-    number = min(len(windows), max(troubled, MOST_WINDOWS))
-    for points, marks, least in [
-        *((points, UNBOUNDED, len(windows)) for points in POINTS),
-        (POINTS[-1], UNBOUNDED, troubled),
-        *((POINTS[-1], marks, 1) for marks in MARKS),
-    ]:
-        found = cut(audit, windows[:number], whole, points, marks)
-        while len(found[2]) > MOST_BYTES and number > least:
-            number = max(least, int(number * MARGIN * MOST_BYTES / len(found[2])))
-            found = cut(audit, windows[:number], whole, points, marks)
-        if len(found[2]) <= MOST_BYTES:
-            break
+def fitting(audit: Audit, windows: list[Window], whole: list[Series]) -> Fitting:
+    """The first that is small enough: all points, fewer points, fewer marks, and at last fewer windows."""
+    size = 0
+    for level in LEVELS:
+        size = estimated(audit, windows, whole, level)
+        if size <= MOST_BYTES * DOUBT:
+            found = cut(audit, windows, whole, level)
+            size = len(found[1])
+            if size <= MOST_BYTES:
+                return found
+    number = len(windows)
+    while size > MOST_BYTES:
+        number = min(number - 1, int(number * MARGIN * MOST_BYTES / size))
+        found = cut(audit, windows[:number], whole, LEVELS[-1])
+        size = len(found[1])
     return found
 
 
-def cut(audit: Audit, windows: list[Window], whole: list[Series], points: int, marks: int) -> Shown:
-    series = [thinned(one, points, marks) for one in whole[: len(windows)]]
-    return windows, series, zlib.compress(json_of(audit, windows, series))
+def estimated(audit: Audit, windows: list[Window], whole: list[Series], level: tuple[int, int]) -> int:
+    """About the size of all windows, by some of them; 0 where they are so few that they can be packed to see it."""
+    every = len(windows) // SAMPLE
+    return every * len(cut(audit, windows[::every], whole[::every], level)[1]) if every > 4 else 0
+
+
+def cut(audit: Audit, windows: list[Window], whole: list[Series], level: tuple[int, int]) -> Fitting:
+    series = [thinned(one, *level) for one in whole[: len(windows)]]
+    return series, zlib.compress(json_of(audit, windows, series), 9)
 
 
 def json_of(audit: Audit, windows: list[Window], series: list[Series]) -> bytes:
     places = {id(one): place for place, one in enumerate(audit.connections)}
     used = sorted({places[id(window.connection)] for window in windows})
     new = {place: number for number, place in enumerate(used)}
-    kinds = sorted({kind for one in series for _, kind, _ in one.faults})
-    times = [
-        step
-        for window, one in zip(windows, series)
-        for step in steps(onward(time - window.connection.start for time in one.times))
-    ]
-    unit = gcd(*times) or 1
+    kinds = sorted({fault[1] for one in series for fault in one.faults})
+    times = [list(onward(time - window.connection.start for time in one.times)) for window, one in zip(windows, series)]
+    waits = [max(window.waits, default=0) for window in windows]
+    unit = gcd(*waits, *(time for column in times for time in column)) or 1
+    openings = [audit.connections[place].opening for place in used]
     said = {
-        "connections": [connection_of(audit, place) for place in used],
+        "connections": list(steps(one.number for one in openings)),
+        "clients": [one.client for one in openings],
+        "servers": [one.server for one in openings],
         "kinds": [[kind, int(kind in KINDS and KINDS[kind].blame == OTHER)] for kind in kinds],
-        "windows": [window_of(window, new[places[id(window.connection)]], one) for window, one in zip(windows, series)],
-        "frames": [step for one in series for step in steps(one.frames)],
+        # Of each window its connection, side and stream, how many points, stalls and faults follow, its longest stall.
+        "places": list(steps(new[places[id(window.connection)]] for window in windows)),
+        "sides": [int(window.side == "server") for window in windows],
+        "streams": list(steps(window.stream for window in windows)),
+        "points": [len(one.frames) for one in series],
+        "stalled": [len(one.stalls) for one in series],
+        "faulty": [len(one.faults) for one in series],
+        "waits": [wait // unit for wait in waits],
         "unit": unit,
-        "times": [time // unit for time in times],
+        "frames": list(columns(one.frames for one in series)),
+        "times": [time // unit for time in columns(times)],
         "credits": [step for one in series for step in steps(one.credits)],
-        "stalls": [step for one in series for step in stall_steps(one)],
+        "stalls": [number for one in series for number in stall_steps(one)],
         "faults": [
-            number for one in series for at, kind, value in one.faults for number in (at, kinds.index(kind), value)
+            number
+            for one in series
+            for at, kind, *more in one.faults
+            for number in (at, kinds.index(kind), *more)
         ],
     }
     return json.dumps(said, separators=(",", ":")).encode()
-
-
-def connection_of(audit: Audit, place: int) -> list[object]:
-    one = audit.connections[place]
-    return [one.opening.number, one.opening.client, one.opening.server]
-
-
-def window_of(window: Window, connection: int, series: Series) -> list[object]:
-    """Its connection, side and stream; how many points, stalls and faults follow; and its trouble in words."""
-    return [
-        connection,
-        int(window.side == "server"),
-        window.stream,
-        len(series.frames),
-        len(series.stalls),
-        len(series.faults),
-        trouble_of(window),
-        len(window.stalls),
-    ]
-
-
-def trouble_of(window: Window) -> str:
-    """In words, what went wrong with a window."""
-    waits = window.waits
-    said = [f"{len(window.faults):,} fault" + "s" * (len(window.faults) != 1)] if window.faults else []
-    if waits:
-        said.append(f"{len(waits):,} stall" + "s" * (len(waits) != 1) + f", the longest {duration(max(waits))}")
-    if window.stalls and window.stalls[-1].other is None:
-        said.append("the last one has no end")
-    return "; ".join(said) or "no trouble"
 
 
 def steps(numbers: Iterable[int]) -> Iterator[int]:
@@ -144,6 +138,17 @@ def steps(numbers: Iterable[int]) -> Iterator[int]:
     for number in numbers:
         yield number - last
         last = number
+
+
+def columns(parts: Iterable[Iterable[int]]) -> Iterator[int]:
+    """The steps of each window's numbers, one after the other; its first is that from the first of the one before."""
+    first = 0
+    for part in parts:
+        inner = steps(part)
+        begin = next(inner)
+        yield begin - first
+        yield from inner
+        first = begin
 
 
 def onward(times: Iterable[int]) -> Iterator[int]:
@@ -155,9 +160,11 @@ def onward(times: Iterable[int]) -> Iterator[int]:
 
 
 def stall_steps(series: Series) -> Iterator[int]:
-    """For each stall how far it begins after the one before, and how many points it takes; 0 for one without an end."""
+    """For each shade how far it begins after the one before, how many points it takes, 0 for one without an end, and
+    how many stalls it stands for."""
     last = 0
-    for begin, end in series.stalls:
+    for begin, end, number in series.stalls:
         yield begin - last
         yield 0 if end is None else end - begin
+        yield number
         last = begin

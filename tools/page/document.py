@@ -10,8 +10,11 @@ from page.chart_data import Packed, packed
 from page.library import Library
 from page.markup import Markup, element, markup
 from page.model import Audit
-from page.tables import chosen, connections, left_out, section, summary
+from page.tables import Choice, chosen, connections, left_out, others, section, summary, thinning
 
+MOST_BYTES = 4_950_000
+# How many times their least size the tables may have, the first that fits.
+ROWS = (4, 2, 1, 0.5, 0.1, 0.02)
 SCRIPTS = ("data.js", "chart.js", "filters.js", "main.js")
 
 
@@ -32,7 +35,16 @@ def policy(scripts: list[str], styles: list[str]) -> str:
 
 
 def page(audit: Audit, title: str, library: Library) -> str:
+    """The page with as much of the report in its tables as a size allows; at least it has very little."""
     charts = packed(audit) if audit.has_credit else None
+    for times in ROWS:
+        text = page_with(audit, title, library, charts, times)
+        if len(text.encode()) <= MOST_BYTES:
+            break
+    return text
+
+
+def page_with(audit: Audit, title: str, library: Library, charts: Packed | None, times: float) -> str:
     own = "(() => {\n\"use strict\";\n" + "\n".join(map(asset, SCRIPTS)) + "\n})();\n"
     scripts = [library.script, own] if charts else []
     styles = [library.style, asset("page.css")]
@@ -40,7 +52,7 @@ def page(audit: Audit, title: str, library: Library) -> str:
         [
             "<!DOCTYPE html>\n<html lang=\"en\">\n",
             head(title, policy(scripts, styles), styles),
-            body(audit, title, charts),
+            body(audit, title, charts, chosen(audit, times)),
             licence(library) if charts else "",
             *[element("script", Markup(script)) for script in scripts],
             "</body>\n</html>\n",
@@ -62,10 +74,16 @@ def head(title: str, rules: str, styles: list[str]) -> Markup:
     )
 
 
-def body(audit: Audit, title: str, charts: Packed | None) -> Markup:
-    choice = chosen(audit)
+def body(audit: Audit, title: str, charts: Packed | None, choice: Choice) -> Markup:
     shown = [section(one, choice) for one in audit.connections if id(one) in choice.sections]
-    main = [summary(audit), left_out(choice, audit.lines), chart_section(audit, charts), connections(audit), *shown]
+    main = [
+        summary(audit, choice),
+        left_out(choice, audit.lines, charts),
+        chart_section(audit, charts),
+        connections(audit, choice),
+        *shown,
+        others(audit, choice),
+    ]
     about = element("p", "Made by h2audit-page from a report of h2audit. The rules are those of RFC 9113, HTTP/2.")
     return Markup(
         "<body>\n"
@@ -94,21 +112,6 @@ def chart_section(audit: Audit, charts: Packed | None) -> Markup:
 
 def asset_markup(name: str) -> Markup:
     return Markup(asset(name))
-
-
-def thinning(charts: Packed) -> Markup:
-    """Whether the charts have every credit line, and what is left out where they have not."""
-    said = []
-    if charts.points < charts.points_in_report:
-        said.append(
-            f"The charts are thinned: of {charts.points_in_report:,} credit lines they have {charts.points:,} points, "
-            "among them both ends of every stall, every fault, and the least and the greatest credit of each stretch. "
-        )
-    if charts.joined:
-        said.append(f"{charts.joined:,} stalls and faults stand so near others that they share a shade or a mark. ")
-    if charts.left_out:
-        said.append(f"{charts.left_out:,} windows have no chart, those without trouble first. ")
-    return element("p", "".join(said), id="thinned", class_="note") if said else Markup("")
 
 
 def licence(library: Library) -> Markup:

@@ -5,6 +5,7 @@ from __future__ import annotations
 from array import array
 from bisect import bisect_left
 from dataclasses import dataclass, field
+from functools import cached_property
 from typing import BinaryIO
 
 from report.blame import CREDIT_KINDS, STALL_BEGIN
@@ -116,9 +117,9 @@ class Audit:
     unopened_segments: int = 0
     connections: list[Connection] = field(default_factory=list)
 
-    @property
+    @cached_property
     def windows(self) -> list[Window]:
-        """All windows, those with trouble first."""
+        """All windows of the report that was read, those with trouble first."""
         windows = [window for one in self.connections for window in one.windows.values()]
         return sorted(windows, key=lambda window: window.trouble)
 

@@ -11,16 +11,27 @@ from page.model import Window
 
 @dataclass(slots=True)
 class Series:
-    """Points by frame, time and credit; the stalls as pairs of points (an open one has no second), faults by points."""
+    """Points by frame, time and credit, and what is marked at them."""
 
     frames: array[int]
     times: array[int]
     credits: array[int]
-    stalls: list[tuple[int, int | None]]
-    faults: list[tuple[int, str, int]]
-    # How many points the report has, and how many stalls stand in others' shade.
+    # The two points of each shade, of which an open stall has no second, and how many stalls it stands for.
+    stalls: list[tuple[int, int | None, int]]
+    # The point of each cross, the kind and value of its first fault, and how many faults of the kind it stands for.
+    faults: list[tuple[int, str, int, int]]
+    # How many points the report has.
     whole: int
-    merged: int = 0
+
+    @property
+    def marked(self) -> int:
+        """How many stalls and faults the shades and crosses stand for."""
+        return sum(mark[-1] for mark in (*self.stalls, *self.faults))
+
+    @property
+    def merged(self) -> int:
+        """How many of them share a shade or a cross with others."""
+        return sum(mark[-1] for mark in (*self.stalls, *self.faults) if mark[-1] > 1)
 
 
 def series_of(window: Window) -> Series:
@@ -61,15 +72,18 @@ def stands_to_the_end(window: Window) -> bool:
     return window.stream == 0 or (bool(window.stalls) and window.stalls[-1].other is None)
 
 
-def marks(window: Window, frames: array[int]) -> tuple[list[tuple[int, int | None]], list[tuple[int, str, int]]]:
+Marks = tuple[list[tuple[int, int | None, int]], list[tuple[int, str, int, int]]]
+
+
+def marks(window: Window, frames: array[int]) -> Marks:
     def place(frame: int) -> int:
         return bisect_left(frames, frame)
 
     stalls = [
-        (place(stall.finding.frame), place(stall.other.finding.frame) if stall.other else None)
+        (place(stall.finding.frame), place(stall.other.finding.frame) if stall.other else None, 1)
         for stall in window.stalls
     ]
-    faults = [(place(note.finding.frame), note.finding.kind, note.finding.value) for note in window.faults]
+    faults = [(place(note.finding.frame), note.finding.kind, note.finding.value, 1) for note in window.faults]
     return stalls, faults
 
 
@@ -77,21 +91,19 @@ def thinned(whole: Series, most: int, most_marks: int) -> Series:
     """At most some `most` points, besides those of marks: of each stretch of points the least and the greatest."""
     if len(whole.frames) <= most and len(whole.stalls) + len(whole.faults) <= most_marks:
         return whole
-    stalls = joined(whole, most_marks)
+    stalls, faults = joined(whole, most_marks), one_in_each(whole, most_marks)
     kept = extremes(whole.credits, most)
-    kept.update(at for stall in stalls for at in stall if at is not None)
-    faults = one_in_each(whole, most_marks)
-    kept.update(at for at, _, _ in faults)
+    kept.update(at for stall in stalls for at in stall[:2] if at is not None)
+    kept.update(fault[0] for fault in faults)
     order = sorted(kept)
     new = {at: place for place, at in enumerate(order)}
     return Series(
         array("q", (whole.frames[at] for at in order)),
         array("q", (whole.times[at] for at in order)),
         array("q", (whole.credits[at] for at in order)),
-        [(new[begin], None if end is None else new[end]) for begin, end in stalls],
-        [(new[at], kind, value) for at, kind, value in faults],
+        [(new[begin], None if end is None else new[end], number) for begin, end, number in stalls],
+        [(new[at], kind, value, number) for at, kind, value, number in faults],
         whole.whole,
-        len(whole.stalls) - len(stalls) + len(whole.faults) - len(faults),
     )
 
 
@@ -105,7 +117,7 @@ def extremes(credits: array[int], most: int) -> set[int]:
     return kept
 
 
-def joined(whole: Series, most: int) -> list[tuple[int, int | None]]:
+def joined(whole: Series, most: int) -> list[tuple[int, int | None, int]]:
     """The stalls; where there are more than `most`, those that are nearest together share one shade."""
     if len(whole.stalls) <= most:
         return whole.stalls
@@ -115,24 +127,25 @@ def joined(whole: Series, most: int) -> list[tuple[int, int | None]]:
     )
     widest = gaps[len(whole.stalls) - most - 1]
     shades = [whole.stalls[0]]
-    for begin, end in whole.stalls[1:]:
-        first, last = shades[-1]
+    for begin, end, number in whole.stalls[1:]:
+        first, last, before = shades[-1]
         if whole.frames[begin] - whole.frames[last or first] <= widest:
-            shades[-1] = first, end
+            shades[-1] = first, end, before + number
         else:
-            shades.append((begin, end))
+            shades.append((begin, end, number))
     return shades
 
 
-def one_in_each(whole: Series, most: int) -> list[tuple[int, str, int]]:
-    """The faults; where there are more than `most`, the first of each stretch, and of each kind."""
+def one_in_each(whole: Series, most: int) -> list[tuple[int, str, int, int]]:
+    """The faults; where there are more than `most`, the first of each stretch and of each kind, for all of these."""
     if len(whole.faults) <= most:
         return whole.faults
     length = -(-len(whole.faults) // most)
-    return [
-        fault
-        for begin in range(0, len(whole.faults), length)
-        for fault in {
-            kind: (at, kind, value) for at, kind, value in reversed(whole.faults[begin : begin + length])
-        }.values()
-    ]
+    kept: list[tuple[int, str, int, int]] = []
+    for begin in range(0, len(whole.faults), length):
+        first: dict[str, tuple[int, str, int, int]] = {}
+        for at, kind, value, number in whole.faults[begin : begin + length]:
+            at, _, value, before = first.get(kind, (at, kind, value, 0))
+            first[kind] = at, kind, value, before + number
+        kept += first.values()
+    return kept

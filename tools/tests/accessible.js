@@ -54,7 +54,10 @@ function faults() {
     const { width, height } = one.getBoundingClientRect();
     if (width < 24 || height < 24) fault("2.5.8 target size", one);
   });
-  document.querySelectorAll("a[href^='#']").forEach(one =>
-    document.getElementById(one.hash.slice(1)) || fault("dead link", one));
-  return found;
+  return found.concat(deadLinks());
+}
+
+function deadLinks() {
+  const links = [...document.querySelectorAll("a[href^='#']")];
+  return links.filter(one => !document.getElementById(one.hash.slice(1))).map(one => `dead link: ${one.hash}`);
 }

@@ -1,14 +1,19 @@
 #!/usr/bin/python3
 """Tests of tools/believed.py: what it reaches and refuses in small definitions, and that documents agree with it."""
 
+import ast
 import importlib.util
 import pathlib
+import re
 import subprocess
 import sys
 import tempfile
 import unittest
 
 TOP = pathlib.Path(__file__).resolve().parents[2]
+sys.path.insert(0, str(TOP / "tests"))
+import reports_test  # noqa: E402
+
 FOUND = importlib.util.spec_from_file_location("believed", TOP / "tools" / "believed.py")
 believed = importlib.util.module_from_spec(FOUND)
 sys.modules["believed"] = believed
@@ -156,6 +161,54 @@ class Documents(unittest.TestCase):
         """README.md and docs/PROOFS.md say what is reached today."""
         run = subprocess.run([sys.executable, TOP / "tools" / "believed.py", "--check"], capture_output=True, text=True)
         self.assertEqual((run.returncode, run.stderr), (0, ""))
+
+
+class Definitions(unittest.TestCase):
+    """What docs/PROOFS.md says of the definitions that are run."""
+
+    PROOFS = (TOP / "docs" / "PROOFS.md").read_text(encoding="utf-8")
+    NEVER_RUN = ("byte_accounts", "command_line", "capture_split", "parted_list")
+
+    def test_modules_within_reach(self) -> None:
+        """The reports of a capture with a stall, and of one with a packet that is refused, use all that it says."""
+        rows = believed.read(TOP / "crates", believed.CALLS | believed.VIEWS).by_crate()
+        names = {believed.name_of(module) for _, modules in rows for module, _, _ in modules}
+        never = {name for name in names if name.partition("/")[0] in self.NEVER_RUN}
+        never |= {"h2audit/specs/Account.antt", "h2audit/specs/Program.antt"}
+        (row,) = [row for name, row in reports_test.rows() if name == "short_ethernet"]
+        script = row.partition("-- ")[0].encode()
+        used = self.used("examples/negative_window.pcap") | self.used("--script", given=script)
+        self.assertEqual(used, names - never)
+        self.assertIn(f"{len(used)} of the {len(names)} are within its reach", self.PROOFS)
+
+    def used(self, *words: str, given: bytes = b"") -> set[str]:
+        program = [TOP / "tools" / "by-definition", "--modules", *words]
+        run = subprocess.run(program, input=given, capture_output=True, cwd=TOP, timeout=120)
+        self.assertEqual((run.returncode, run.stderr), (0, b""))
+        return set(run.stdout.decode().split())
+
+    def test_lines(self) -> None:
+        """The lines of each module of the interpreter, their sums, and those of the search."""
+        rows = re.findall(r"^\| [^|]* \| ((?:`\w+` \d+,? ?)+) \| (\d+) \|$", self.PROOFS, re.M)
+        said = [re.findall(r"`(\w+)` (\d+)", modules) for modules, _ in rows]
+        folder = TOP / "tools" / "definitions"
+        for modules, (_, number) in zip(said, rows, strict=True):
+            self.assertEqual(sum(int(lines) for _, lines in modules), int(number))
+            for name, lines in modules:
+                self.assertEqual(lines_of(folder / f"{name}.py"), int(lines), name)
+        named = {name for modules in said for name, _ in modules}
+        self.assertEqual({file.stem for file in folder.glob("*.py")}, named | {"search", "__init__"})
+        self.assertIn(f"none of the {lines_of(folder / 'search.py')} lines of `search`", self.PROOFS)
+
+
+def lines_of(file: pathlib.Path) -> int:
+    """The lines of a module but blank ones, comments and docstrings."""
+    text, said = file.read_text(encoding="utf-8"), set()
+    for node in ast.walk(ast.parse(text)):
+        if isinstance(node, ast.Expr) and isinstance(node.value, ast.Constant) and isinstance(node.value.value, str):
+            said.update(range(node.lineno, (node.end_lineno or 0) + 1))
+    lines = enumerate(text.splitlines(), 1)
+    return sum(number not in said and bool(re.match(r"\s*[^\s#]", line)) for number, line in lines)
 
 
 if __name__ == "__main__":

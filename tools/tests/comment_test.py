@@ -1,5 +1,9 @@
 #!/usr/bin/python3
-"""Tests of h2audit-comment: what tshark says of captures before and after, and by which name bad input is refused."""
+"""Tests of h2audit-comment: what tshark says of captures before and after, and by which name bad input is refused.
+
+    tools/tests/comment_test.py [CLASS..]             runs the tests
+    tools/tests/comment_test.py PROGRAM [CLASS..]     with h2audit, which audits what an import made of TLS
+"""
 
 import contextlib
 import gzip
@@ -13,12 +17,18 @@ import subprocess
 import sys
 import tempfile
 import unittest
+from unittest import mock
 
 TOP = pathlib.Path(__file__).resolve().parents[2]
 PROGRAM = TOP / "tools" / "h2audit-comment"
+IMPORT = TOP / "tools" / "h2audit-import"
+TLS = TOP / "tests" / "tls"
+AUDIT = pathlib.Path(sys.argv.pop(1)).resolve() if len(sys.argv) > 1 and "/" in sys.argv[1] else None
 EXAMPLES = TOP / "examples"
 sys.path[:0] = [str(TOP / "tools"), str(TOP / "tools" / "tests")]
 sys.dont_write_bytecode = True
+
+import zstandard
 
 from comment.program import main
 from pcapng_blocks import (
@@ -110,13 +120,8 @@ class Examples(InFolder):
                 fields = [field for field in FIELDS if not field.startswith("frame.interface")]
                 found = shown(self.out, [*fields, "frame.comment"])
                 self.assertEqual([row[:-1] for row in found], shown(capture, fields))
-                self.judge(report.read_text(), {int(row[0]): row[-1] for row in found if row[-1]})
-
-    def judge(self, report, said):
-        wanted = {}
-        for record, _, kind in FINDING.findall(report):
-            wanted.setdefault(int(record), []).append(kind)
-        self.assertEqual({record: re.findall(r"\(([a-z-]+)\);", text) for record, text in said.items()}, wanted)
+                said = {int(row[0]): row[-1] for row in found if row[-1]}
+                self.assertEqual(kinds_said(said), kinds_in(report.read_text()))
 
     def test_by_hand(self):
         self.comment(EXAMPLES / "stream_overrun_go.pcap", EXAMPLES / "stream_overrun_go.report")
@@ -254,6 +259,13 @@ class Forms(InFolder):
         )
         self.same(gzip.compress(whole), "in.pcapng.gz")
 
+    def test_zstd(self):
+        fields = [field for field in FIELDS if not field.startswith("frame.interface")]
+        self.same(zstandard.compress(classic(self.records, self.link)), "in.pcap.zst", fields)
+        data = (EXAMPLES / f"{self.NAME}.pcap").read_bytes()
+        frames = zstandard.compress(data[:1000]) + zstandard.compress(data[1000:])
+        self.same(frames, "in.pcap.zst", fields)
+
     def test_standard_input_and_output(self):
         data = (EXAMPLES / f"{self.NAME}.pcap").read_bytes()
         done = run("-", self.REPORT, "-o", "-", input=data)
@@ -336,6 +348,66 @@ class Maps(InFolder):
         self.refuses(f"{self.CAPTURE} is not one of its files by name: a, b", self.map("file 1 a", "file 2 b"))
 
 
+class Imports(InFolder):
+    """Findings in TLS: import, audit of what it made, and comments of the encrypted packets of the original by the map.
+
+    Without the program the report of the made capture is the stored one, with the records that the map has.
+    """
+
+    NAMES = {
+        "curl-apache-upload": 2,
+        "secrets-inside": 16,
+        "stream-overrun-go": 6,
+        "loss-and-reordering": 20,
+        "key-updates": 24,
+        "zstd": 16,
+    }
+
+    def test_each(self):
+        for name, number in self.NAMES.items():
+            with self.subTest(name):
+                (capture,) = [path for path in TLS.glob(f"{name}.*") if ".pcap" in path.name]
+                report = (TLS / f"{name}.report").read_text()
+                self.comment(capture, self.report_of_made(capture, name, report), "-m", self.folder / "map")
+                fields = [field for field in FIELDS if not field.startswith("frame.interface")]
+                found = shown(self.out, [*fields, "frame.comment"])
+                self.assertEqual([row[:-1] for row in found], shown(capture, fields))
+                said = {int(row[0]): row[-1] for row in found if row[-1]}
+                self.assertEqual(kinds_said(said), kinds_in(report))
+                self.assertEqual(sum(map(len, kinds_said(said).values())), number)
+
+    def report_of_made(self, capture, name, report):
+        keys, made = TLS / f"{name}.keys", self.folder / "made.pcap"
+        words = [*(["-k", keys] if keys.exists() else []), "-m", self.folder / "map", "-o", made, capture]
+        done = subprocess.run([IMPORT, *words], capture_output=True, text=True, timeout=120)
+        self.assertEqual((done.returncode, done.stderr), (0, ""))
+        if AUDIT:
+            done = subprocess.run([AUDIT, made], capture_output=True, timeout=120)
+            self.assertIn(done.returncode, (0, 1))
+            return self.write("report", done.stdout)
+        records = {}
+        for record, packet_number in re.findall(r"(?m)^record (\d+) file 1 packet (\d+)$", self.map_text()):
+            records.setdefault(packet_number, record)
+        moved = re.sub(r"(?<= record )(\d+)(?= time)", lambda at: records[at[1]], report)
+        return self.write("report", moved.encode())
+
+    def map_text(self):
+        return (self.folder / "map").read_text()
+
+
+def kinds_in(report):
+    """Of each packet the kinds of its findings, by a report."""
+    wanted = {}
+    for record, _, kind in FINDING.findall(report):
+        wanted.setdefault(int(record), []).append(kind)
+    return wanted
+
+
+def kinds_said(said):
+    """Of each packet the kinds of its findings, by its comments."""
+    return {record: re.findall(r"\(([a-z-]+)\);", text) for record, text in said.items()}
+
+
 CAPTURE_REPORT = EXAMPLES / "stream_overrun_go.report"
 
 
@@ -363,6 +435,8 @@ class BadInput(InFolder):
             "capture refused: packet-too-long", self.data(good[:24] + struct.pack("<IIII", 0, 0, 2**32 - 1, 0))
         )
         self.refuses("capture refused: bad-gzip", self.data(b"\x1f\x8b\x08" + b"\xff" * 40))
+        self.refuses("capture refused: bad-zstd", self.data(b"\x28\xb5\x2f\xfd" + b"\xff" * 40))
+        self.refuses("capture refused: short-header", self.data(zstandard.compress(good)[:20]))
         head = section() + interface("<", link)
         self.refuses("capture refused: bad-block", self.data(head + struct.pack("<II", 6, 13) + bytes(100)))
         self.refuses("capture refused: bad-block", self.data(head + struct.pack("<II", 6, 2**32 - 4) + bytes(100)))
@@ -373,6 +447,13 @@ class BadInput(InFolder):
         self.refuses("capture refused: simple-packet-block", self.data(simple))
         bad = b"".join(packet("<", 0, micros(one), one, b"\1\0\xff\0") for one in records)
         self.refuses("capture refused: bad-options", self.data(head + bad))
+
+    def test_no_zstandard(self):
+        capture = self.data(zstandard.compress(self.CAPTURE.read_bytes()))
+        with mock.patch.dict(sys.modules, {"zstandard": None}), contextlib.redirect_stderr(io.StringIO()) as said:
+            status = main([str(capture), str(CAPTURE_REPORT), "-o", str(self.out)])
+        why = "h2audit-comment: zstandard is not installed (Debian: apt-get install python3-zstandard)\n"
+        self.assertEqual((status, said.getvalue(), self.out.exists()), (5, why, False))
 
     def test_reports(self):
         good = CAPTURE_REPORT.read_text()
@@ -393,7 +474,8 @@ class BadInput(InFolder):
     def test_a_cut_capture(self):
         """What is whole is written, and a line says what is left out."""
         good = self.CAPTURE.read_bytes()
-        for data in (good[:-1], gzip.compress(good)[:-20]):
+        packed = zstandard.ZstdCompressor(level=0).compress(good[:-1])
+        for data in (good[:-1], gzip.compress(good)[:-20], packed):
             done = run(self.data(data), CAPTURE_REPORT, "-o", self.out)
             self.assertEqual(
                 (done.returncode, done.stderr),
@@ -441,7 +523,8 @@ class BadInput(InFolder):
         records, link = records_of(self.CAPTURE)
         blocks = b"".join([section(), interface("<", link)] + [packet("<", 0, micros(one), one) for one in records])
         chance = random.Random(1)
-        for good in (self.CAPTURE.read_bytes(), blocks, gzip.compress(blocks), CAPTURE_REPORT.read_bytes()):
+        plain, packed = self.CAPTURE.read_bytes(), [gzip.compress(blocks), zstandard.compress(blocks)]
+        for good in (plain, blocks, *packed, CAPTURE_REPORT.read_bytes()):
             for _ in range(50):
                 data = bytearray(good)
                 for _ in range(chance.randrange(1, 4)):

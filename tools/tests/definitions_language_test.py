@@ -9,14 +9,14 @@ import tempfile
 sys.path.insert(0, str(pathlib.Path(__file__).resolve().parents[1]))
 
 from definitions.evaluating import Definitions  # noqa: E402
+from definitions.reading import Unreadable  # noqa: E402
 from definitions.running import deeply  # noqa: E402
-from definitions.tokens import Unreadable  # noqa: E402
 from definitions.values import NotYet, Stuck  # noqa: E402
 
 PRELUDE = """use Rattle.std.specs.Prelude.{ℕ, zero, suc, ◌+◌, ◌-◌, ◌*◌, ◌/◌, ◌%◌, ◌^◌, ◌<◌, ◌≤◌, ◌==◌, nat_lt, ℤ, pos, ◌+ℤ◌}
-use Rattle.std.specs.Prelude.{◌-ℤ◌, ◌≡◌, ◌≢◌, ◌⊎◌, Bool, true, false, not, ◌&&◌, ◌||◌, if◌then◌else◌, IsTrue, List, []}
+use Rattle.std.specs.Prelude.{◌-ℤ◌, ◌≡◌, ◌⊎◌, Bool, true, false, not, ◌&&◌, ◌||◌, if◌then◌else◌, IsTrue, List, []}
 use Rattle.std.specs.Prelude.{◌∷◌, ◌++◌, length, take, drop, map, find, slice_get, slice_index, Option, Some, None, codes}
-use Rattle.std.specs.Prelude.{IsSomeAnd, IfSome}
+use Rattle.std.specs.Prelude.{IsSomeAnd}
 use Rattle.std.specs.Fmt.{decimal, signed_decimal}
 """
 
@@ -45,13 +45,9 @@ kind n [] = 2
 kind (suc zero) (x ∷ _) = 3 + x
 kind _ _ = 4
 
-data Colour : Type 0 where
-  Red : Colour
-  Grey : (shade : ℕ) → Colour
-
-shade : Colour → ℕ
-shade Red = 0
-shade (Grey n) = n
+shade : Option ℕ → ℕ
+shade None = 0
+shade (Some n) = n
 
 record Point : Type 0 where
   pub x : ℕ
@@ -90,14 +86,13 @@ CLAIMS = [
     ("pos 1 -ℤ pos 3 +ℤ pos 1 ≡ pos 0 -ℤ pos 1", True),
     ("IsTrue (1 + 1 == 2 && not (nat_lt 2 2))", True),
     ("1 ≡ 2", False),
-    ("1 ≢ 2", True),
     ("0x1f ≡ 31", True),
     ('decimal 120 ++ signed_decimal (pos 1 -ℤ pos 9) ≡ codes "120-8"', True),
     # functions, records, data
     ("kind 0 [] ∷ kind 5 [] ∷ kind 1 (4 ∷ []) ∷ kind 2 (4 ∷ []) ∷ [] ≡ 1 ∷ 2 ∷ 7 ∷ 4 ∷ []", True),
-    ("map shade (Red ∷ Grey 5 ∷ []) ≡ 0 ∷ 5 ∷ []", True),
-    ("map Grey (1 ∷ []) ≡ Grey 1 ∷ []", True),
-    ("Red ≡ Grey 0", False),
+    ("map shade (None ∷ Some 5 ∷ []) ≡ 0 ∷ 5 ∷ []", True),
+    ("map Some (1 ∷ []) ≡ Some 1 ∷ []", True),
+    ("None ≡ Some 0", False),
     ("(record origin { y = 3 }).y ≡ 3", True),
     ("record origin { y = 0 } ≡ origin", True),
     ("origin ≡ record { x = 1; y = 0 }", False),
@@ -175,7 +170,7 @@ CLAIMS = [
     ("(1 ≡ 1) × (1 ≡ 2) × (1 ≡ 1)", False),
     ("((b : Bool) → IsTrue b) → 1 ≡ 2", None),
     ("1 ≡ 1 ⊎ ((b : Bool) → IsTrue b)", True),
-    ("IfSome (Some 3) (λ n. n < 3)", False),
+    ("IsSomeAnd (Some 3) (λ n. n < 3)", False),
 ]
 
 # Texts that cannot be read, with the line of what is wrong and a part of what is said.
@@ -188,7 +183,9 @@ UNREADABLE = [
     ("a : ℕ\na =\n  if 1 then 2", 3, "else is missing"),
     ("a : Type 0\na = 1 ≡ 2 ≡ 3", 2, "without parentheses"),
     ("a : ℕ\na = pos.unknown", 2, ""),
-    ("a : ℕ\na = 1\nmodule _ (n : ℕ) where\n  b : ℕ\n  b = n", 3, "a section with parameters"),
+    ("a : ℕ\na = 1\nmodule _ where\n  b : ℕ\n  b = n", 3, "a name is missing before module"),
+    ("data Colour : Type 0 where\n  Red : Colour", 1, "a name is missing before data"),
+    ("a : Type 0\na = 1 ≢ 2", 2, "≢ has no meaning"),
     ("use Rattle.std.specs.Prelude.{merge}\na : ℕ\na = merge", 3, "no meaning"),
     ("a : ℕ\na = f.g 1\n  where f = 1", 3, "where is not expected"),
     ("a : List ℕ → ℕ\na (1 ∷ x) = 2", 2, "no pattern"),

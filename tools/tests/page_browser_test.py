@@ -6,6 +6,7 @@
 """
 
 import base64
+import io
 import json
 import pathlib
 import re
@@ -14,6 +15,7 @@ import sys
 import tempfile
 import unittest
 import zlib
+from unittest import mock
 
 from selenium.webdriver.common.action_chains import ActionChains
 from selenium.webdriver.common.by import By
@@ -29,7 +31,10 @@ sys.path[:0] = [str(TOP / "tools"), str(TOP / "tools" / "tests")]
 sys.dont_write_bytecode = True
 
 from browser import Browser
-from page_test import FINDING, large
+from page import chart_data, document
+from page.library import library
+from page.model import read_audit
+from page_test import FINDING, crowded, large
 from report.lines import Finding
 from report.blame import what_happened
 
@@ -384,15 +389,12 @@ class Hostile(InBrowser):
 
 
 class Large(InBrowser):
-    """A million lines: the page opens within three seconds of the processor, and hundreds of streams can be searched."""
+    """A million lines: the page opens within two seconds of the processor, and hundreds of streams can be searched."""
 
     def test_a_million_lines(self):
         report = large(400, 2400, 20)
-        self.assertGreater(report.count("\n"), 10**6)
-        path = self.made(report)
-        self.assertLess(path.stat().st_size, 5 * 10**6)
+        path = self.opened(report)
         self.judge_marks(path.read_text())
-        self.assertLess(min(self.work_of(path) for _ in range(3)), 3)
         self.drawn()
         self.assertEqual(self.find("#found").text.split(",")[0], "400 of 400 windows")
         self.find("#stream").send_keys("777")
@@ -406,6 +408,14 @@ class Large(InBrowser):
         self.find("#more").click()
         self.assertEqual(len(self.browser.driver.find_elements(By.TAG_NAME, "figure")), 18)
 
+    def opened(self, report):
+        """The page of a report of a million lines, which is small enough and opens soon enough."""
+        self.assertGreater(report.count("\n"), 10**6)
+        path = self.made(report)
+        self.assertLess(path.stat().st_size, 5 * 10**6)
+        self.assertLess(min(self.work_of(path) for _ in range(3)), 2)
+        return path
+
     def work_of(self, path):
         """The processor seconds in which the browser draws a page: the wall's say little on a busy machine."""
         before = self.browser.processor_seconds()
@@ -417,9 +427,61 @@ class Large(InBrowser):
     def judge_marks(self, text):
         """Every stall is in the charts: those of 400 windows, one for each 20 lines."""
         self.assertIn("The charts are thinned: of 960,000 credit lines", text)
-        data = re.search(r'<script type="text/plain" id="chart-data">([^<]*)<', text)[1]
-        said = json.loads(zlib.decompress(base64.b64decode(data)))
-        self.assertEqual([sum(one[at] for one in said["windows"]) for at in (4, 7)], [48000, 48000])
+        self.assertIn("The charts mark every fault and every stall.", text)
+        said = data_of(text)
+        self.assertEqual((len(said["points"]), sum(said["stalled"]), sum(said["stalls"][2::3])), (400, 48000, 48000))
+
+
+class Crowded(Large):
+    """A million lines of 60,000 connections: each window has a chart, and what the tables leave out is said."""
+
+    def test_a_million_lines(self):
+        path = self.opened(crowded(60000, 7, 50))
+        text = path.read_text()
+        self.assertIn("The charts mark every fault and every stall.", text)
+        self.assertEqual(len(data_of(text)["points"]), 120000)
+        self.assertIn(" of 60,000 connections in full", text)
+        self.assertTrue(self.find("#found").text.startswith("120,000 of 120,000 windows, "))
+        self.drawn()
+        self.assertIn("1 stall, the longest ", self.find(f"{FIRST} figcaption").text)
+        self.find("#search").send_keys("connection 59999, server, stream 1")
+        self.drawn("figure.window")
+        self.assertIn("no trouble", self.find("figure.window figcaption").text)
+        self.assertEqual(
+            self.browser.run((TOP / "tools" / "tests" / "accessible.js").read_text() + "return deadLinks();"), []
+        )
+
+
+class Merged(InBrowser):
+    """Marks that stand for several say so, and nothing else does."""
+
+    def test_marks_that_are_shared(self):
+        report = large(1, 4000, 4).replace(" stream-stall-begin ", " zero-stream-grant ", 300)
+        with mock.patch.object(chart_data, "MOST_BYTES", 2000):
+            text = document.page(read_audit(io.BytesIO(report.encode())), "A page", library())
+        said = data_of(text)
+        faults, stalls = sum(said["faults"][3::4]), sum(said["stalls"][2::3])
+        self.assertEqual((faults, stalls), (300, 700))
+        path = self.folder / "merged.html"
+        path.write_text(text)
+        self.browser.load(path)
+        self.drawn()
+        self.assertIn("300 faults; 700 stalls, the longest 1", self.find(f"{FIRST} figcaption").text)
+        self.assertIn("share a mark that says how many it stands for", self.find("#thinned").text)
+        heard = set()
+        for _ in range(len(said["frames"])):
+            self.find(FIRST).send_keys(Keys.PAGE_DOWN)
+            heard.add(self.said())
+        shared = [times for times in said["stalls"][2::3] if times > 1]
+        for times in shared:
+            self.assertTrue(any(f"; {times} stalls share this shade" in one for one in heard), times)
+        more = {int(one) for said in heard for one in re.findall(r"and (\d+) more of this kind", said)}
+        self.assertEqual(more, {times - 1 for times in said["faults"][3::4] if times > 1})
+
+
+def data_of(text):
+    data = re.search(r'<script type="text/plain" id="chart-data">([^<]*)<', text)[1]
+    return json.loads(zlib.decompress(base64.b64decode(data)))
 
 
 def write_pictures():

@@ -24,7 +24,7 @@ sys.path.insert(0, str(TOP / "tools"))
 sys.dont_write_bytecode = True
 
 import page.program
-from page import chart_data
+from page import chart_data, document, tables
 from page.library import Missing, library
 from page.model import read_audit
 from page.series import series_of, thinned
@@ -352,6 +352,28 @@ def large(windows, lines, every):
     return "".join(parts)
 
 
+def crowded(connections, lines, every):
+    """A report of so many connections of two windows with so many credit lines each; each so many have a stall."""
+    parts, record, state = [HEAD], 0, 1
+    for number in range(1, connections + 1):
+        parts.append(f"connection {number} client 10.0.0.1:{number % 60000 + 1} server 10.0.0.2:443 ")
+        parts.append(f"record {record + 1} http2 frames {lines}\n" + BOTH_FLOWS)
+        for frame in range(1, lines + 1):
+            record += 1
+            state = state * 1103515245 % 2**31
+            place = f"frame {frame} record {record} time {10**18 + record * 1000 + state % 1000} server"
+            if number % every == 0 and frame in (2, 4):
+                parts.append(f"{place} stream-stall-{'begin' if frame == 2 else 'end'} stream 1 value {frame}\n")
+            parts.append(f"{place} stream-credit stream 1 value {state % 10**5 + 1}\n")
+            parts.append(f"{place} connection-credit stream 0 value {state % 10**6 + 1}\n")
+        parts.append("audit of all frames\n")
+    return "".join(parts)
+
+
+def unpacked(charts):
+    return json.loads(zlib.decompress(base64.b64decode(charts.text)))
+
+
 def audit_of(text):
     return read_audit(io.BytesIO(text.encode()))
 
@@ -367,8 +389,8 @@ class Thinning(unittest.TestCase):
                 less = thinned(whole, most, 10**9)
                 self.assertLess(len(less.frames), most + 3 * 2 * 80)
                 self.assertEqual(
-                    [[less.frames[at] for at in stall] for stall in less.stalls],
-                    [[whole.frames[at] for at in stall] for stall in whole.stalls],
+                    [(less.frames[begin], less.frames[end], number) for begin, end, number in less.stalls],
+                    [(whole.frames[begin], whole.frames[end], 1) for begin, end, _ in whole.stalls],
                 )
                 self.judge_extremes(whole, less, most)
 
@@ -394,7 +416,13 @@ class Thinning(unittest.TestCase):
         window = audit_of(faults).windows[0]
         self.assertEqual(len(window.faults), 91)
         less = thinned(series_of(window), 16, 10**9)
-        self.assertEqual([less.frames[at] for at, _, _ in less.faults], [note.finding.frame for note in window.faults])
+        self.assertEqual([less.frames[one[0]] for one in less.faults], [note.finding.frame for note in window.faults])
+        least = thinned(series_of(window), 2, 10)
+        self.assertLessEqual(len(least.faults), 2 * 10)
+        self.assertEqual((least.marked, sum(one[3] for one in least.faults)), (91, 91))
+        kinds = [note.finding.kind for note in window.faults]
+        for kind in set(kinds):
+            self.assertEqual(sum(one[3] for one in least.faults if one[1] == kind), kinds.count(kind))
 
     def test_points_at_ends_without_credit_lines(self):
         """A reset ends a stall with no credit line; the chart has a point there all the same."""
@@ -402,26 +430,67 @@ class Thinning(unittest.TestCase):
         window = audit_of(text).windows[0]
         series = series_of(window)
         self.assertEqual(list(zip(series.frames, series.credits)), [(5, 10000), (6, 0), (7, -5000), (8, -5000)])
-        self.assertEqual((series.stalls, series.faults), ([(1, 3)], [(2, "stream-overrun", -5000)]))
+        self.assertEqual((series.stalls, series.faults), ([(1, 3, 1)], [(2, "stream-overrun", -5000, 1)]))
 
     def test_too_many_marks_share_a_shade(self):
         whole = series_of(audit_of(large(1, 4000, 4)).windows[0])
         self.assertEqual(len(whole.stalls), 1000)
         less = thinned(whole, 60, 100)
         self.assertLessEqual(len(less.stalls), 100)
-        self.assertEqual(less.merged, 1000 - len(less.stalls))
-        shades = [(less.frames[begin], less.frames[end]) for begin, end in less.stalls]
-        for begin, end in whole.stalls:
-            self.assertTrue(any(first <= whole.frames[begin] and whole.frames[end] <= last for first, last in shades))
+        self.assertEqual(less.merged, 1000 - sum(one[2] == 1 for one in less.stalls))
+        shades = [(less.frames[begin], less.frames[end], number) for begin, end, number in less.stalls]
+        begun = [(whole.frames[begin], whole.frames[end]) for begin, end, _ in whole.stalls]
+        for first, last, number in shades:
+            self.assertEqual(sum(first <= begin and end <= last for begin, end in begun), number)
+        self.assertEqual(sum(number for _, _, number in shades), 1000)
+
+    def test_extremes_of_many_windows(self):
+        """Where there is room for nothing else, each window has its first, last, least and greatest credit."""
+        for window in audit_of(crowded(30, 40, 3)).windows:
+            series = series_of(window)
+            values = series.credits
+            less = thinned(series, 2, 1)
+            self.assertLessEqual(len(less.frames), 4 + 3 * len(window.stalls))
+            self.assertEqual((less.frames[0], less.frames[-1]), (series.frames[0], series.frames[-1]))
+            self.assertLessEqual({values[0], min(values), max(values), values[-1]}, set(less.credits))
+
+    def test_every_window_has_a_chart(self):
+        """Of many windows each is thinned to its extremes before one of them has no chart."""
+        audit = audit_of(crowded(1000, 20, 7))
+        with mock.patch.object(chart_data, "MOST_BYTES", 60_000):
+            charts = chart_data.packed(audit)
+        said = unpacked(charts)
+        self.assertEqual((len(said["points"]), charts.windows, charts.left_out), (2000, 2000, []))
+        self.assertLess(max(said["points"]), 7)
+        stalls = sum(len(window.stalls) for window in audit.windows)
+        self.assertEqual((charts.marked, charts.marks_in_report, sum(said["stalls"][2::3])), (stalls, stalls, stalls))
+
+    def test_windows_that_are_left_out_are_told(self):
+        """How many they are, by which rule, and what they have together."""
+        report = crowded(300, 20, 7)
+        with mock.patch.object(chart_data, "MOST_BYTES", 4000):
+            charts = chart_data.packed(audit_of(report))
+        left_out = charts.left_out
+        self.assertEqual(len(unpacked(charts)["points"]) + len(left_out), 600)
+        self.assertTrue(all(not window.stalls for window in left_out))
+        credits = [value for window in left_out for value in window.credits]
+        said = tables.thinning(charts)
+        self.assertIn(f"{len(left_out)} of 600 windows have no chart", said)
+        self.assertIn(f"credits from {min(credits):,} to {max(credits):,}", said)
+        self.assertIn("The charts mark every fault and every stall.", said)
+        with mock.patch.object(chart_data, "MOST_BYTES", 1000):
+            charts = chart_data.packed(audit_of(report))
+        self.assertLess(charts.marked, charts.marks_in_report)
+        self.assertIn(f"The charts mark {charts.marked} of {charts.marks_in_report} faults", tables.thinning(charts))
 
     def test_a_small_page_is_whole(self):
         for report in examples():
             charts = chart_data.packed(audit_of(report.read_text()))
-            said = json.loads(zlib.decompress(base64.b64decode(charts.text)))
+            said = unpacked(charts)
             lines = len(re.findall("-credit stream", report.read_text()))
             self.assertGreaterEqual(charts.points, lines)
-            self.assertEqual((charts.joined, charts.left_out), (0, 0))
-            self.assertEqual(sum(one[3] for one in said["windows"]), len(said["frames"]))
+            self.assertEqual((charts.merged, charts.left_out, tables.thinning(charts)), (0, [], ""))
+            self.assertEqual(sum(said["points"]), len(said["frames"]))
 
     def test_every_size_fits(self):
         """Where the bound is small, the charts of one report go through all that is given up, and stay below it."""
@@ -430,6 +499,53 @@ class Thinning(unittest.TestCase):
             with mock.patch.object(chart_data, "MOST_BYTES", bound):
                 charts = chart_data.packed(audit)
             self.assertLessEqual(len(charts.text) * 3 // 4, bound)
+
+
+class LargeTables(unittest.TestCase):
+    """What a large report has and the tables have not is said, and what is said is so."""
+
+    def test_rows_are_as_many_as_is_said(self):
+        report = crowded(700, 20, 2)
+        audit = audit_of(report)
+        charts = chart_data.packed(audit)
+        for times in (2, 1, 0.1):
+            text = document.page_with(audit, "A page", library(), charts, times)
+            tags = Tags(text)
+            findings = sum("data-kind" in one for one, _ in tags.rows)
+            windows = sum(bool(re.match(r"w\d+-", one.get("id", ""))) for one, _ in tags.rows)
+            sections = sum(one.get("class") == "connection" for _, one in tags.elements)
+            for number, whole, what in (
+                (findings, 700, "findings, of the connections in full"),
+                (windows, 1400, "windows, of the connections in full"),
+                (sections, 700, "connections in full"),
+            ):
+                self.assertIn(f"<li>{number:,} of {whole:,} {what}", text)
+            self.judge_links(tags)
+
+    def judge_links(self, tags):
+        names = {one["id"] for _, one in tags.elements if "id" in one}
+        self.assertLessEqual({one["href"][1:] for tag, one in tags.elements if tag == "a"}, names)
+
+    def test_the_last_rows_have_the_extremes(self):
+        """Of the windows that have no row, of the connections that are not in full, and of those not in the list."""
+        audit = audit_of(crowded(700, 20, 2))
+        choice = tables.chosen(audit, 0.1)
+        rest = [one for one in audit.connections if id(one) not in choice.sections]
+        credits = [value for one in rest for window in one.windows.values() for value in window.credits]
+        said = tables.others(audit, choice)
+        self.assertIn(f"<td>{min(credits):,}</td><td>{max(credits):,}</td>", said)
+        self.assertIn(f"<td>{2 * len(rest):,} windows</td>", said)
+        self.assertIn("<td>650 connections more</td>", tables.connections(audit, choice))
+
+    def test_faults_of_the_summary_have_a_row(self):
+        """The first of each rule that was broken is in the tables, though thousands of others come before it."""
+        line = "frame {0} record {0} time {0} client {1} stream 1 value 0\n"
+        report = crowded(1, 4, 9) + "connection 2 client 1.2.3.4:5 server 1.2.3.4:6 record 1 http2 frames 9\n"
+        report += "".join(line.format(at, "zero-stream-grant") for at in range(1, 4001))
+        tags = Tags(page_of(report + line.format(4001, "after-end") + "audit of all frames\n"))
+        self.judge_links(tags)
+        kinds = [one["data-kind"] for one, _ in tags.rows if "data-kind" in one]
+        self.assertEqual((kinds.count("after-end"), kinds.count("zero-stream-grant")), (1, 4000))
 
 
 class Contrast(unittest.TestCase):

@@ -18,6 +18,8 @@ function duration(nanos) {
   return `${grouped(nanos / size)} ${unit}`;
 }
 
+const moreOf = times => times > 1 ? `, and ${grouped(times - 1)} more of this kind before the next cross` : "";
+
 const FAULTS = {
   strokeWidth: 0, drawPoints: true, pointSize: 6, drawPointCallback: cross, drawHighlightPointCallback: cross,
 };
@@ -72,7 +74,7 @@ class Chart {
   // Stalls as shades, and the faults of the connection as dashed lines, below the credit.
   shade(canvas, area, graph, colour) {
     const [least, most] = graph.xAxisRange();
-    for (const [begin, end] of this.series.stalls) {
+    for (const { begin, end } of this.series.stalls) {
       const first = this.x[begin], last = this.x[end ?? this.x.length - 1];
       if (last < least || first > most) continue;
       const left = Math.max(graph.toDomXCoord(first), area.x);
@@ -98,10 +100,12 @@ class Chart {
       output.textContent = "";
       return;
     }
-    const { frames, nanos, credits, faults } = this.series;
+    const { frames, nanos, credits, faults, stalls } = this.series;
     const here = faults.filter(fault => fault.point === row);
+    const shared = stalls.filter(({ begin, end, times }) => times > 1 && begin <= row && row <= (end ?? row));
     output.textContent = `Frame ${grouped(frames[row])}, ${duration(nanos[row])}: credit ${grouped(credits[row])} bytes`
-      + here.map(fault => `; ${fault.kind} by the ${fault.broke}`).join("");
+      + here.map(({ kind, broke, times }) => `; ${kind} by the ${broke}${moreOf(times)}`).join("")
+      + shared.map(({ times }) => `; ${grouped(times)} stalls share this shade`).join("");
   }
 
   select(row) {

@@ -1,62 +1,88 @@
 // Unpacks the windows of the page. Numbers are differences to the ones before, and are summed when a window is drawn.
 
 async function unpackedCharts() {
-  const packed = document.getElementById("chart-data").textContent;
-  const bytes = Uint8Array.from(atob(packed), letter => letter.charCodeAt(0));
+  const letters = atob(document.getElementById("chart-data").textContent);
+  const bytes = new Uint8Array(letters.length);
+  for (let at = 0; at < letters.length; at += 1) bytes[at] = letters.charCodeAt(at);
   const stream = new Blob([bytes]).stream().pipeThrough(new DecompressionStream("deflate"));
   const said = await new Response(stream).json();
   return { ...said, windows: windowsOf(said) };
 }
 
-const NO_KINDS = new Set();
+const OF_STALL = 3, OF_FAULT = 4;
 
 function nameOf({ connection, side, stream }) {
   return `Connection ${connection}, ${side}, ${stream ? `stream ${stream}` : "connection window"}`;
 }
 
+const sumOfSteps = numbers => summed(numbers, 0, numbers.length);
+
+// Each window, with where its numbers begin in the columns of all.
 function windowsOf(said) {
-  let point = 0, stall = 0, fault = 0;
-  return said.windows.map(([place, side, stream, points, stalls, faults, trouble, stallsInReport], number) => {
-    const [connection, client, server] = said.connections[place];
-    const one = {
-      number, connection, client, server, side: side ? "server" : "client", stream, trouble, stallsInReport,
-      points, stalls, faults, firstPoint: point, firstStall: 2 * stall, firstFault: 3 * fault,
-    };
+  let point = 0, stall = 0, fault = 0, frame = 0, time = 0;
+  const [connections, places, streams] = [said.connections, said.places, said.streams].map(sumOfSteps);
+  const found = [];
+  said.points.forEach((points, number) => {
+    const place = places[number], stalls = said.stalled[number], faults = said.faulty[number];
+    frame += said.frames[point];
+    time += said.times[point];
+    found.push({
+      number, connection: connections[place], client: said.clients[place], server: said.servers[place],
+      side: said.sides[number] ? "server" : "client", stream: streams[number], points, stalls, faults,
+      firstPoint: point, firstFrame: frame, firstTime: time, firstStall: stall, firstFault: fault,
+      longest: said.waits[number] * said.unit,
+    });
     point += points;
-    stall += stalls;
-    fault += faults;
-    one.kinds = faults ? new Set(faultsOf(said, one).map(found => found.kind)) : NO_KINDS;
-    return one;
+    stall += OF_STALL * stalls;
+    fault += OF_FAULT * faults;
   });
+  return found;
 }
 
-function summed(column, begin, size) {
-  let last = 0;
-  return column.slice(begin, begin + size).map(step => last += step);
+function summed(column, begin, size, first = column[begin]) {
+  let last = first;
+  return column.slice(begin, begin + size).map((step, at) => at ? last += step : last);
 }
 
 function faultsOf(said, one) {
   const found = [];
-  for (let at = one.firstFault; at < one.firstFault + 3 * one.faults; at += 3) {
+  for (let at = one.firstFault; at < one.firstFault + OF_FAULT * one.faults; at += OF_FAULT) {
     const [kind, isOfOther] = said.kinds[said.faults[at + 1]];
     const other = one.side === "client" ? "server" : "client";
-    found.push({ point: said.faults[at], kind, broke: isOfOther ? other : one.side, value: said.faults[at + 2] });
+    found.push({ point: said.faults[at], kind, broke: isOfOther ? other : one.side, times: said.faults[at + 3] });
   }
   return found;
 }
 
-// The points of a window, its stalls as pairs of points, and its faults.
-function seriesOf(said, one) {
-  const stalls = [];
+// Stalls as pairs of points, and how many each pair stands for.
+function stallsOf(said, one) {
+  const found = [];
   let begin = 0;
-  for (let at = one.firstStall; at < one.firstStall + 2 * one.stalls; at += 2) {
+  for (let at = one.firstStall; at < one.firstStall + OF_STALL * one.stalls; at += OF_STALL) {
     begin += said.stalls[at];
-    stalls.push([begin, said.stalls[at + 1] ? begin + said.stalls[at + 1] : null]);
+    found.push({ begin, end: said.stalls[at + 1] ? begin + said.stalls[at + 1] : null, times: said.stalls[at + 2] });
   }
+  return found;
+}
+
+// The points of a window, its stalls and its faults.
+function seriesOf(said, one) {
   return {
-    frames: summed(said.frames, one.firstPoint, one.points),
-    nanos: summed(said.times, one.firstPoint, one.points).map(time => time * said.unit),
+    frames: summed(said.frames, one.firstPoint, one.points, one.firstFrame),
+    nanos: summed(said.times, one.firstPoint, one.points, one.firstTime).map(time => time * said.unit),
     credits: summed(said.credits, one.firstPoint, one.points),
-    stalls, faults: faultsOf(said, one),
+    stalls: stallsOf(said, one), faults: faultsOf(said, one),
   };
+}
+
+const counted = (number, word) => `${grouped(number)} ${word}${number === 1 ? "" : "s"}`;
+const inAll = marks => marks.reduce((sum, { times }) => sum + times, 0);
+
+// In words, what went wrong with a window.
+function troubleOf(one) {
+  const stalls = stallsOf(charts, one), faults = inAll(faultsOf(charts, one)), words = [];
+  if (faults) words.push(counted(faults, "fault"));
+  if (stalls.length) words.push(`${counted(inAll(stalls), "stall")}, the longest ${duration(one.longest)}`);
+  if (stalls.at(-1)?.end === null) words.push("the last one has no end");
+  return words.join("; ") || "no trouble";
 }

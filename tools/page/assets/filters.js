@@ -9,14 +9,16 @@ function asked() {
   };
 }
 
+const kindsOf = one => faultsOf(charts, one).map(fault => fault.kind);
+
 function wordsOf(one) {
-  return `${nameOf(one)} ${one.client} ${one.server} ${one.trouble} ${[...one.kinds].join(" ")}`.toLowerCase();
+  return `${nameOf(one)} ${one.client} ${one.server} ${troubleOf(one)} ${kindsOf(one).join(" ")}`.toLowerCase();
 }
 
 function hasKind(one, kind) {
   if (kind === "fault") return one.faults > 0;
   if (kind === "stall") return one.stalls > 0;
-  return !kind || one.kinds.has(kind);
+  return !kind || kindsOf(one).includes(kind);
 }
 
 function isWindowAsked(one, want) {
@@ -29,8 +31,8 @@ function isWindowAsked(one, want) {
 function isRowAsked(row, want) {
   const { side, kind, stream, connection } = row.dataset;
   const isStall = /-stall-(begin|end)$/.test(kind);
-  const text = `connection ${connection}, ${side}, stream ${stream} ${row.textContent}`.toLowerCase();
-  return text.includes(want.words)
+  const text = () => `connection ${connection}, ${side}, stream ${stream} ${row.textContent}`.toLowerCase();
+  return (!want.words || text().includes(want.words))
     && (!want.side || side === want.side)
     && (!want.stream || stream === want.stream)
     && (!want.kind || (want.kind === "fault" ? !isStall : want.kind === "stall" ? isStall : kind === want.kind));

@@ -24,8 +24,9 @@ function make(name, content = "", more = {}) {
 function figureOf(one) {
   const figure = make("figure", "", { id: `chart-${one.number}`, className: "window", tabIndex: 0 });
   const caption = make("figcaption");
-  caption.append(make("h3", nameOf(one)), make("p", `${one.trouble}. Client ${one.client}, server ${one.server}.`));
-  const ariaLabel = `Credit of the ${one.side}: ${one.trouble}`;
+  const trouble = troubleOf(one);
+  caption.append(make("h3", nameOf(one)), make("p", `${trouble}. Client ${one.client}, server ${one.server}.`));
+  const ariaLabel = `Credit of the ${one.side}: ${trouble}`;
   const plot = make("div", "", { className: "plot", role: "img", ariaLabel });
   const keys = make("p", "", { className: "keys" });
   keys.append(...BUTTONS.map(([name, key]) =>
@@ -53,13 +54,14 @@ function draw(figure) {
   return drawn.get(figure.id);
 }
 
-// The places of the faults of a window's connection: its own, and the first of the others.
+// The places of the faults of a window's connection: its own first, and then the others up to a bound.
 function faultLines(one) {
   const places = [];
-  for (const other of charts.windows.filter(other => other.connection === one.connection && other.faults)) {
+  const others = charts.windows.filter(other => other.connection === one.connection && other.faults && other !== one);
+  for (const other of [one, ...others]) {
     const { frames, nanos, faults } = seriesOf(charts, other);
     faults.forEach(({ point }) => places.push({ frame: frames[point], nanos: nanos[point] }));
-    if (places.length > MOST_LINES) break;
+    if (places.length >= MOST_LINES) break;
   }
   return places.slice(0, MOST_LINES);
 }
