@@ -1,17 +1,19 @@
 #!/usr/bin/env python3
-"""Lists the definitions that the contracts of the programs' calls rest on, in reading order.
+"""Lists the definitions that the contracts of the programs' calls rest on, in reading order: those of h2audit's
+calls, and then what those of the splitter rest on beside them.
 
     python3 tools/believed.py            prints each module that is reached, and in it each definition with its lines
     python3 tools/believed.py --write    puts list and sums into README.md and docs/PROOFS.md
     python3 tools/believed.py --check    fails where these two say something else
     python3 tools/believed.py --used     marks the modules that standard input names, one in a line (by-definition --modules)
 
-It begins at the names in the contracts of the calls that the programs make (CALLS) and in the views of the types that
-these contracts show (VIEWS), and follows each name to its definition, by the imports of the file in which it stands. So
-exactly the definitions that are reached are listed, whatever else their files hold. A crate comes after those that it
-cites, a module after those that it imports. Lines are counted without imports, blank lines and comments. No definition
-may rest on specs/code/, the bookkeeping of code: that is an error. The structs and enums of which the definitions speak
-are named at the end, by the files that declare them, and so are the toolchain's modules; neither is counted.
+It begins at the names in the contracts of the calls that the programs make (CALLS, SPLITTER_CALLS) and in the views of
+the types that these contracts show (VIEWS), and follows each name to its definition, by the imports of the file in
+which it stands. So exactly the definitions that are reached are listed, whatever else their files hold. A crate comes
+after those that it cites, a module after those that it imports. Lines are counted without imports, blank lines and
+comments. No definition may rest on specs/code/, the bookkeeping of code: that is an error. The structs and enums of
+which the definitions speak are named at the end, by the files that declare them, and so are the toolchain's modules;
+neither is counted.
 """
 
 import pathlib
@@ -25,6 +27,8 @@ CALLS = {
     "h2audit/src/program.rt": ["program_words", "run_program"],
     "h2audit/src/status.rt": ["ending"],
     "command_line/src/words.rt": ["parse"],
+}
+SPLITTER_CALLS = {
     "capture_split/src/splitting.rt": ["split_capture"],
     "capture_split/src/laws.rt": ["one_part", "segments_name", "either_order"],
 }
@@ -40,6 +44,10 @@ NAME = re.compile(r"^\s*(?:(?:abbrev|unfoldable|pub|record|data)\s+)*(?P<name>[^
 TOKEN = re.compile(r"[^\s(){}\[\];,]+")
 LIST = re.compile(r"(<!-- believed -->\n).*?(<!-- end of believed -->)", re.S)
 SUMS = re.compile(r"[\d,]+ lines in [\d,]+ modules")
+MORE = re.compile(r"[\d,]+ lines more in [\d,]+ modules")
+
+# The modules of a crate, each with its definitions that are listed and how many lines these are.
+Rows = list[tuple[str, list[tuple["Module", list["Definition"], int]]]]
 
 
 class Astray(Exception):
@@ -170,6 +178,7 @@ class Reading:
         self.crates = crates
         self.read: dict[pathlib.Path, Module] = {}
         self.reached: dict[pathlib.Path, set[str]] = {}
+        self.listed: dict[pathlib.Path, set[str]] = {}
         self.types: set[str] = set()
         self.library: set[str] = set()
 
@@ -229,8 +238,12 @@ class Reading:
         said = clause(text[begins.start() : ends.start() if ends else None])
         self.names(module, " ".join(said), set(), f"{file}: {name}")
 
-    def by_crate(self) -> list[tuple[str, list[tuple[Module, list[Definition], int]]]]:
-        """Each crate with its modules, their definitions that are reached and how many lines these are."""
+    def go_on(self) -> None:
+        """Begins a further list: by_crate then leaves out what was reached so far."""
+        self.listed = {file: set(names) for file, names in self.reached.items()}
+
+    def by_crate(self) -> Rows:
+        """Each crate with its modules, their definitions that this list reaches and how many lines these are."""
         order: list[pathlib.Path] = []
         done: set[pathlib.Path] = set()
 
@@ -247,13 +260,17 @@ class Reading:
 
         for file in self.reached:
             visit(file)
+        order = [file for file in order if self.row(file)[1]]
         crates = list(dict.fromkeys(self.read[file].crate for file in order))
         return [(crate, [self.row(file) for file in order if self.read[file].crate == crate]) for crate in crates]
 
     def row(self, file: pathlib.Path) -> tuple[Module, list[Definition], int]:
         module = self.read[file]
-        mine = [one for name, one in module.definitions.items() if name == one.name and name in self.reached[file]]
+        listed = self.listed.get(file, set())
+        reached = [one for name, one in module.definitions.items() if name == one.name and name in self.reached[file]]
+        mine = [one for one in reached if one.name not in listed]
         around = {line for one in mine for line in one.around}
+        around -= {line for one in reached if one.name in listed for line in one.around}
         return module, mine, len(around) + sum(len(one.lines) for one in mine)
 
 
@@ -281,12 +298,23 @@ def declared(crates: pathlib.Path, crate: str, path: str) -> str:
     return f"{crate}/src/lib.rt"
 
 
-def table(rows: list[tuple[str, list[tuple[Module, list[Definition], int]]]]) -> str:
+def table(rows: Rows, more: Rows) -> str:
+    """The crates of the report, and under a line for the splitter those that it adds."""
     lines = ["| crate | modules of its `specs/` | lines |", "|---|---|---|"]
-    for crate, modules in rows:
-        names = ", ".join(shown(module.file) for module, _, _ in modules)
-        lines.append(f"| `{crate}` | {names} | {sum(count for _, _, count in modules)} |")
+    lines += [row_of(*row) for row in rows]
+    lines += ["| | **the splitter adds** | |"] + [row_of(*row) for row in more]
     return "\n".join(lines) + "\n"
+
+
+def row_of(crate: str, modules: list[tuple[Module, list[Definition], int]]) -> str:
+    names = ", ".join(shown(module.file) for module, _, _ in modules)
+    return f"| `{crate}` | {names} | {sum(count for _, _, count in modules)} |"
+
+
+def sums_of(rows: Rows) -> tuple[int, int]:
+    """How many lines, and how many modules."""
+    counts = [count for _, modules in rows for _, _, count in modules]
+    return sum(counts), len(counts)
 
 
 def shown(file: pathlib.Path) -> str:
@@ -294,12 +322,16 @@ def shown(file: pathlib.Path) -> str:
     return file.as_posix().rpartition("/specs/")[2].removesuffix(".antt")
 
 
-def written(text: str, rows: str, sums: str) -> str:
-    return SUMS.sub(sums, LIST.sub(lambda it: it[1] + rows + it[2], text))
+def written(text: str, rows: str, sums: str, more: str) -> str:
+    return MORE.sub(more, SUMS.sub(sums, LIST.sub(lambda it: it[1] + rows + it[2], text)))
 
 
-def read(crates: pathlib.Path, calls: dict[str, list[str]]) -> Reading:
-    reading = Reading(crates)
+def read(crates: pathlib.Path, calls: dict[str, list[str]], reading: Reading | None = None) -> Reading:
+    """What these calls reach: all of it, or what an earlier reading does not hold."""
+    if reading is None:
+        reading = Reading(crates)
+    else:
+        reading.go_on()
     for file, names in calls.items():
         for name in names:
             reading.root(file, name)
@@ -319,32 +351,45 @@ def print_modules(modules: list[tuple[Module, list[Definition], int]], used: set
             print(f"{len(one.lines):9} {one.name}, line {one.at}")
 
 
+def write(rows: str, sums: str, more: str) -> int:
+    for file in (TOP / "README.md", TOP / "docs" / "PROOFS.md"):
+        file.write_text(written(file.read_text(encoding="utf-8"), rows, sums, more), encoding="utf-8")
+    return 0
+
+
+def check(rows: str, sums: str, more: str) -> int:
+    for file in (TOP / "README.md", TOP / "docs" / "PROOFS.md"):
+        text = file.read_text(encoding="utf-8")
+        if text != written(text, rows, sums, more):
+            print(f"believed.py: {file.relative_to(TOP)} does not say {sums}, and {more}: run --write", file=sys.stderr)
+            return 1
+    return 0
+
+
 def main() -> int:
     try:
         reading = read(TOP / "crates", CALLS | VIEWS)
+        rows = reading.by_crate()
+        added = read(TOP / "crates", SPLITTER_CALLS, reading).by_crate()
     except Astray as reason:
         print(f"believed.py: {reason}", file=sys.stderr)
         return 1
-    rows = reading.by_crate()
-    counts = [count for _, modules in rows for _, _, count in modules]
-    sums = f"{sum(counts):,} lines in {len(counts)} modules"
+    lines, modules = sums_of(rows)
+    lines_added, modules_added = sums_of(added)
+    sums = f"{lines:,} lines in {modules} modules"
+    more = f"{lines_added:,} lines more in {modules_added} modules"
     if sys.argv[1:] in (["--write"], ["--check"]):
-        for file in (TOP / "README.md", TOP / "docs" / "PROOFS.md"):
-            before = file.read_text(encoding="utf-8")
-            after = written(before, table(rows), sums)
-            if sys.argv[1] == "--write":
-                file.write_text(after, encoding="utf-8")
-            elif before != after:
-                print(f"believed.py: {file.relative_to(TOP)} does not say {sums}: run --write", file=sys.stderr)
-                return 1
-        return 0
+        return (write if sys.argv[1] == "--write" else check)(table(rows, added), sums, more)
     used = set(sys.stdin.read().split()) if sys.argv[1:] == ["--used"] else set()
-    for _, modules in rows:
-        print_modules(modules, used)
+    for _, found in rows:
+        print_modules(found, used)
     if used:
-        marked = sum(name_of(module) in used for _, modules in rows for module, _, _ in modules)
+        marked = sum(name_of(module) in used for _, found in rows for module, _, _ in found)
         print(f"* {marked} modules, which tools/by-definition used in a run")
-    print(f"{sums}, without imports, blank lines and comments")
+    print("the splitter adds:")
+    for _, found in added:
+        print_modules(found, set())
+    print(f"{sums}, and for the splitter {more}, without imports, blank lines and comments")
     print("types:", *sorted(reading.types))
     print("of the toolchain:", *sorted(reading.library))
     return 0

@@ -131,6 +131,17 @@ class Reach(unittest.TestCase):
             ],
         )
 
+    def test_further_list(self) -> None:
+        """A further list has what the first one does not hold, of the same modules too."""
+        self.write("app/src/more.rt", CODE.replace("IsAllowed", "IsOther"))
+        reading = believed.read(self.crates, {"app/src/lib.rt": ["call"]})
+        added = believed.read(self.crates, {"app/src/more.rt": ["idle", "call"]}, reading).by_crate()
+        self.assertEqual(
+            [([one.name for one in mine], count) for _, rows in added for _, mine, count in rows],
+            [(["thrice"], 2), (["unasked"], 2), (["IsOther"], 2)],
+        )
+        self.assertEqual(believed.sums_of(added), (6, 3))
+
     def test_types(self) -> None:
         self.assertEqual(believed.read(self.crates, {"app/src/lib.rt": ["call"]}).types, {"app/src/shapes.rt"})
 
@@ -157,6 +168,11 @@ class Reach(unittest.TestCase):
 
 
 class Documents(unittest.TestCase):
+    def test_few(self) -> None:
+        """A reader has to believe no more than 1,350 lines of the report."""
+        rows = believed.read(TOP / "crates", believed.CALLS | believed.VIEWS).by_crate()
+        self.assertLessEqual(believed.sums_of(rows)[0], 1350)
+
     def test_written(self) -> None:
         """README.md and docs/PROOFS.md say what is reached today."""
         run = subprocess.run([sys.executable, TOP / "tools" / "believed.py", "--check"], capture_output=True, text=True)

@@ -15,7 +15,9 @@
 //!   settings and the numbers that they hold.
 //! - [`Place`], [`Kind`] and [`Finding`] say where a finding stands, what it says and whether it stops the audit;
 //!   [`put_in_order`], [`cut_at_stop`], [`keep_up_to`] and [`keep_shown`] order findings, end them and drop credits.
-//! - [`Look`] and [`Watch`]: a run asks where its connection stops before its first step and before each 256th more.
+//! - [`Look`] and [`Watch`]: a run asks where its connection stops before its first step, and again before the next
+//!   one after each 256 steps. The steps of a stream's run are its frames and the changes that find a live window of it;
+//!   those of a block's run are its frames. A look is handed what is shown of the steps before it.
 //! - [`laws`]: places stand in the order of frame number, rank and stream, and none is all ones.
 //!
 //! Each contract gives exactly what its definition says. The order of findings goes on from the place to side, kind and

@@ -1,6 +1,7 @@
 -- When a run looks for the stop of its connection, and what it leaves out past the answer. A run meets steps in order
--- of frame numbers; it looks before the first, and then before each 256th more, for as long as its steps do not lie
--- past the last answer.
+-- of frame numbers: of a stream its frames and the changes that find a live window of it, of a block its frames. It
+-- looks before its first step, and again before the next one after each 256 steps, for as long as its steps do not lie
+-- past the last answer. A look is handed what is shown of the steps before it.
 use Rattle.std.specs.Prelude.{◌≡◌, ℕ, ◌+◌, ◌*◌, Bool, true, false, nat_lt, nat_le, if◌then◌else◌, List, [], ◌∷◌, length, filter, slice_get, Option, Some, None}
 use Rattle.std.specs.List.{list_any}
 use Rattle.audit_terms.specs.declared.findings.Finding.{Finding}
