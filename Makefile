@@ -110,9 +110,10 @@ pictures:
 	tools/tests/page_browser_test.py --write
 	tools/tests/wireshark_picture.sh docs/pictures/wireshark_comments.png
 
-# Measures time and memory on generated captures, beside cat.
+# Measures time and memory on generated captures, beside cat. BENCH has more words for bench/measure.py, as
+# make bench BENCH='--peer PROGRAM --shapes bulk,chatty 40'.
 bench: $(PROGRAM)
-	python3 bench/measure.py $(PROGRAM)
+	python3 bench/measure.py $(PROGRAM) $(BENCH)
 
 # Lists the definitions that a reader has to believe, with their lines, and marks those that the report of a capture used.
 believed:

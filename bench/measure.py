@@ -1,81 +1,187 @@
 #!/usr/bin/env python3
-"""Measures a program: measure.py PROGRAM [--beside OTHER] [--shapes NAME,..] [--runs N] [MEGABYTES ..]
+"""Measures a program: measure.py PROGRAM [--peer PEER] [--beside OTHER] [--generator GENERATOR] [--shapes NAME,..]
+[--runs N] [MEGABYTES ..]
 
-Without MEGABYTES these are 10, 40 and 160; 12.5, 25, 50 and 100 of the shapes that a peer might make on purpose; and 0.125, 0.25,
-0.5 and 1 of those that are quadratic.
+For each shape of capture and each size, of N runs each in turn (3 without --runs, 7 with a peer): the least
+processor time with one worker, the least wall time with one and with four, and the greatest peak of memory. `cat`
+runs beside it; so does an older program where OTHER is named, with one worker and with four; and PEER, which is
+another program with the same report, with one. All have the capture on standard input and their output thrown away.
+Prints one line each, with ratios and the growth from the size before, since absolute times say more of the machine
+than of the program. Before a peer is measured, its report has to be the program's, byte for byte.
 
-For each shape of capture and each size, of N runs each in turn (3 without --runs): the least processor time with one worker, the
-least wall time with one and with four, and the greatest peak of memory. `cat` runs beside it, and so does an older program where one
-is named; all have the capture on standard input and their output thrown away. Prints one line each, with ratios and the growth from the size
-before, since absolute times say more of the machine than of the program.
+Captures are those of generate.py, or what `GENERATOR SHAPE MEGABYTES 1` writes to its standard output. Without
+MEGABYTES these are 10, 40 and 160; 12.5, 25, 50 and 100 of the shapes that a peer might make on purpose; 0.125,
+0.25, 0.5 and 1 of those that are quadratic; and 40 with a generator, whose shapes are bulk, stalls, many, grpc,
+streams and chatty where none are named.
 """
 import argparse
+import hashlib
 import os
+import shutil
 import subprocess
 import sys
 import tempfile
 import time
+from typing import NamedTuple, NoReturn
 
 from generate import HOSTILE, QUADRATIC, SHAPES, USUAL
 
 HERE = os.path.dirname(os.path.abspath(__file__))
 SIZES = [(USUAL, (10, 40, 160)), (HOSTILE, (12.5, 25, 50, 100)), (QUADRATIC, (0.125, 0.25, 0.5, 1))]
+GENERATED = "bulk,stalls,many,grpc,streams,chatty"
 
 
-def once(words, path):
-    """Wall and processor seconds and peak resident megabytes of a run with the file on standard input."""
+class Run(NamedTuple):
+    """Wall and processor seconds, and peak resident megabytes."""
+
+    wall: float
+    processor: float
+    peak: float
+
+
+class Programs(NamedTuple):
+    """What is measured; all but the first may be missing."""
+
+    program: str
+    peer: str | None
+    beside: str | None
+    generator: str | None
+
+
+def refuse(why: str) -> NoReturn:
+    print("measure.py: " + why, file=sys.stderr)
+    sys.exit(2)
+
+
+def once(words: list[str], path: str | os.PathLike[str]) -> Run:
+    """A run with the file on standard input."""
     with open(path, "rb") as source, open(os.devnull, "wb") as nowhere:
         start = time.monotonic()
         child = subprocess.Popen(words, stdin=source, stdout=nowhere, stderr=nowhere)
         _, status, usage = os.wait4(child.pid, 0)
         child.returncode = os.waitstatus_to_exitcode(status)
-        return time.monotonic() - start, usage.ru_utime + usage.ru_stime, usage.ru_maxrss * 1024 / 1000000
+        return Run(time.monotonic() - start, usage.ru_utime + usage.ru_stime, usage.ru_maxrss * 1024 / 1000000)
 
 
-def best(commands, path, runs):
+def best(commands: list[list[str]], path: str, runs: int) -> list[Run]:
     """Of each command the least times and the greatest peak, the commands in turn."""
     found = [[once(words, path) for words in commands] for _ in range(runs)]
-    return [(min(r[0] for r in each), min(r[1] for r in each), max(r[2] for r in each)) for each in zip(*found)]
+    return [
+        Run(min(run.wall for run in each), min(run.processor for run in each), max(run.peak for run in each))
+        for each in zip(*found)
+    ]
 
 
-def line_of(shape, path, program, beside, runs, before):
+def digest(program: str, path: str) -> bytes:
+    """Of the report, which is not kept."""
+    words = [program, "--workers", "1"]
+    with open(path, "rb") as source, subprocess.Popen(words, stdin=source, stdout=subprocess.PIPE) as child:
+        assert child.stdout
+        return hashlib.file_digest(child.stdout, "sha256").digest()
+
+
+def commands_of(programs: Programs) -> list[list[str]]:
+    """What runs in turn, in the order of the columns."""
+    alone, shared = ["--workers", "1"], ["--workers", "4"]
+    commands = [[programs.program, *alone], [programs.program, *shared], ["cat"]]
+    if programs.peer:
+        commands.append([programs.peer, *alone])
+    if programs.beside:
+        commands += [[programs.beside, *alone], [programs.beside, *shared]]
+    return commands
+
+
+def line_of(shape: str, path: str, programs: Programs, runs: int, before: Run | None) -> Run:
+    """Prints a line, and answers the time and the peak that the next one is compared to."""
     size = os.path.getsize(path) / 1000000
-    commands = [[program, "--workers", "1"], [program, "--workers", "4"], ["cat"]]
-    if beside:
-        commands.append([beside, "--workers", "4"])
-    one, four, cat, *other = best(commands, path, runs)
-    peak = max(one[2], four[2])
-    grown = (one[1] / before[0], peak / before[1]) if before else (0, 0)
+    one, four, cat, *others = best(commands_of(programs), path, runs)
+    peak = max(one.peak, four.peak)
+    grown = (one.processor / before.processor, peak / before.peak) if before else (0, 0)
     text = "%-11s %5.3g  %8.3f %5.0f %6.1f  %8.2f  %8.1f %6.2f %6.1f" % (
-        shape, size, one[1], one[1] / cat[1], grown[0], four[0] / one[0], peak, peak / size, grown[1])
-    if other:
-        text += "  %6.2f %6.2f" % (one[1] / other[0][1], peak / other[0][2])
+        shape, size, one.processor, one.processor / cat.processor, grown[0], four.wall / one.wall,
+        peak, peak / size, grown[1])
+    if programs.peer:
+        peer = others.pop(0)
+        text += "  %6.2f %6.2f" % (one.processor / peer.processor, peak / peer.peak)
+    if programs.beside:
+        alone, shared = others
+        text += "  %6.2f %6.2f %6.2f" % (
+            one.processor / alone.processor, four.wall / shared.wall, peak / max(alone.peak, shared.peak))
     print(text, flush=True)
-    return one[1], peak
+    return one._replace(peak=peak)
 
 
-def sizes_of(shape):
+def heading(programs: Programs) -> str:
+    """Two lines above the table."""
+    above = "                 processor, one worker  wall, four    memory                "
+    below = "shape          MB   seconds x cat growth    to one   peak MB x file growth"
+    if programs.peer:
+        above, below = above + "  to the peer  ", below + "    time memory"
+    if programs.beside:
+        above, below = above + "  beside the other", below + "    time   wall memory"
+    return above.rstrip() + "\n" + below
+
+
+def generate(shape: str, size: float, path: str, generator: str | None) -> None:
+    """Writes a capture."""
+    if not generator:
+        subprocess.run([sys.executable, os.path.join(HERE, "generate.py"), shape, str(size), path], check=True)
+        return
+    with open(path, "wb") as file:
+        if subprocess.run([generator, shape, "%g" % size, "1"], stdout=file).returncode:
+            refuse("%s makes no capture of shape %s with %g MB" % (generator, shape, size))
+
+
+def sizes_of(shape: str, generator: str | None) -> tuple[float, ...]:
+    """The sizes that are measured where none is named."""
+    if generator:
+        return (40,)
     return next(sizes for shapes, sizes in SIZES if SHAPES[shape] in shapes)
 
 
-def main():
+def found(name: str | None) -> str | None:
+    """The program of this name, by a path that holds everywhere."""
+    if name is None:
+        return None
+    path = shutil.which(name)
+    if path is None:
+        refuse("there is no program %s" % name)
+    return os.path.abspath(path)
+
+
+def asked_for() -> argparse.Namespace:
     words = argparse.ArgumentParser(description=__doc__, formatter_class=argparse.RawDescriptionHelpFormatter)
     words.add_argument("program")
+    words.add_argument("--peer")
     words.add_argument("--beside")
-    words.add_argument("--shapes", default=",".join(SHAPES))
-    words.add_argument("--runs", type=int, default=3)
+    words.add_argument("--generator")
+    words.add_argument("--shapes")
+    words.add_argument("--runs", type=int)
     words.add_argument("megabytes", nargs="*", type=float)
     asked = words.parse_intermixed_args()
-    program, beside = os.path.abspath(asked.program), asked.beside and os.path.abspath(asked.beside)
-    print("                 processor, one worker  wall, four    memory                   beside the other")
-    print("shape          MB   seconds x cat growth   to one    peak MB x file growth    time memory")
-    for shape in asked.shapes.split(","):
+    asked.runs = asked.runs or (7 if asked.peer else 3)
+    asked.shapes = (asked.shapes or (GENERATED if asked.generator else ",".join(SHAPES))).split(",")
+    unknown = [] if asked.generator else [shape for shape in asked.shapes if shape not in SHAPES]
+    if unknown:
+        refuse("there is no shape %s" % unknown[0])
+    return asked
+
+
+def main() -> None:
+    asked = asked_for()
+    program = found(asked.program)
+    assert program
+    programs = Programs(program, found(asked.peer), found(asked.beside), found(asked.generator))
+    print(heading(programs))
+    for shape in asked.shapes:
         before = None
-        for size in asked.megabytes or sizes_of(shape):
+        for size in asked.megabytes or sizes_of(shape, programs.generator):
             with tempfile.TemporaryDirectory() as folder:
                 path = os.path.join(folder, "capture.pcap")
-                subprocess.run([sys.executable, os.path.join(HERE, "generate.py"), shape, str(size), path], check=True)
-                before = line_of(shape, path, program, beside, asked.runs, before)
+                generate(shape, size, path, programs.generator)
+                if programs.peer and digest(program, path) != digest(programs.peer, path):
+                    refuse("of shape %s, %s has another report than %s" % (shape, asked.peer, asked.program))
+                before = line_of(shape, path, programs, asked.runs, before)
 
 
 if __name__ == "__main__":

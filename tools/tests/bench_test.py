@@ -1,0 +1,65 @@
+#!/usr/bin/python3
+"""Tests bench/measure.py with programs that stand in for those that it measures: tools/tests/bench_test.py"""
+
+import os
+import pathlib
+import subprocess
+import sys
+import tempfile
+import unittest
+
+MEASURE = pathlib.Path(__file__).resolve().parents[2] / "bench" / "measure.py"
+COUNTS = "#!/bin/sh\nwc -c\n"
+OTHER = "#!/bin/sh\ncksum\n"
+GENERATES = '#!/bin/sh\n[ "$1" = flat ] && head -c "${2}000" /dev/zero\n'
+
+
+class Measure(unittest.TestCase):
+    def setUp(self) -> None:
+        folder = tempfile.TemporaryDirectory()
+        self.addCleanup(folder.cleanup)
+        self.folder = pathlib.Path(folder.name)
+        for name, text in (("counts", COUNTS), ("same", COUNTS), ("other", OTHER), ("generates", GENERATES)):
+            (self.folder / name).write_text(text)
+            os.chmod(self.folder / name, 0o755)
+
+    def run_with(self, *words: str) -> subprocess.CompletedProcess[str]:
+        names = [str(self.folder / word) if (self.folder / word).is_file() else word for word in words]
+        return subprocess.run([sys.executable, str(MEASURE), *names], capture_output=True, text=True)
+
+    def refused(self, why: str, *words: str) -> None:
+        run = self.run_with(*words)
+        self.assertEqual((2, "measure.py: " + why.format(self.folder) + "\n"), (run.returncode, run.stderr))
+
+    def test_lines(self) -> None:
+        run = self.run_with("counts", "--runs", "1", "--shapes", "bulk", "0.1", "0.2")
+        self.assertEqual((0, ""), (run.returncode, run.stderr))
+        lines = [line.split() for line in run.stdout.splitlines()[2:]]
+        self.assertEqual(["bulk", "bulk"], [line[0] for line in lines])
+        self.assertEqual([9, 9], [len(line) for line in lines])
+
+    def test_peer_and_older_program(self) -> None:
+        run = self.run_with("counts", "--peer", "same", "--beside", "other", "--runs", "1", "--shapes", "flat",
+                            "--generator", "generates", "10", "20")
+        self.assertEqual((0, ""), (run.returncode, run.stderr))
+        lines = [line.split() for line in run.stdout.splitlines()[2:]]
+        self.assertEqual([("flat", "0.01"), ("flat", "0.02")], [tuple(line[:2]) for line in lines])
+        self.assertEqual([14, 14], [len(line) for line in lines])
+
+    def test_missing(self) -> None:
+        for option in ("--peer", "--beside", "--generator"):
+            self.refused("there is no program /no/such", "counts", option, "/no/such")
+        self.refused("there is no program /no/such", "/no/such")
+        self.refused("there is no shape flat", "counts", "--shapes", "flat")
+
+    def test_another_report(self) -> None:
+        self.refused("of shape bulk, {0}/other has another report than {0}/counts", "counts", "--peer", "other",
+                     "--runs", "1", "--shapes", "bulk", "0.1")
+
+    def test_no_capture(self) -> None:
+        self.refused("{0}/generates makes no capture of shape round with 1 MB", "counts", "--generator", "generates",
+                     "--shapes", "round", "1")
+
+
+if __name__ == "__main__":
+    unittest.main()
