@@ -183,7 +183,7 @@ class Definitions(unittest.TestCase):
     """What docs/PROOFS.md says of the definitions that are run."""
 
     PROOFS = (TOP / "docs" / "PROOFS.md").read_text(encoding="utf-8")
-    NEVER_RUN = ("byte_accounts", "command_line", "capture_split", "parted_list")
+    NEVER_RUN = ("byte_accounts", "command_line", "parted_list")
 
     def test_modules_within_reach(self) -> None:
         """The reports of a capture with a stall, and of one with a packet that is refused, use all that it says."""
