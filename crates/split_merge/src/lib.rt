@@ -2,7 +2,8 @@
 //!
 //! - [`split`] gives each stream its frames, as positions in the list of all frames: one row for each stream, in order
 //!   of first frames, promises of it included. [`groups`] deals the rows out in consecutive ranges. Parts are ranges of
-//!   one list of positions, so no frame is copied, and a stream of three frames costs no list of its own.
+//!   one list of positions, so no frame is copied, and a stream of three frames costs no list of its own. Each visit's
+//!   row is sought once, as the visits are counted, and kept until its position is put in place.
 //! - [`merge`] puts what was found part by part into one list, up to the least connection error (5.4.1). It asks for
 //!   neither sorted nor distinct findings, since their order is total.
 //! - [`stall_pairs`] and [`frame_at`] say which stalls findings tell of, and which frame each of them is about. The

@@ -14,6 +14,8 @@
 //!   after each 256 steps. Each is handed what is shown of the steps before. A run that meets all its steps says that it
 //!   is whole, and keeps all. One that ends early keeps what lies up to its last answer; it cuts once, since a later
 //!   answer may be lower than what was found before it.
+//! - A stream's frames lie far from one another. They are gathered some at a time before they are met, since a look at
+//!   each would wait for the memory before the next one begins.
 //! - Where credits are not shown, frames and changes that only move windows, without a stall or an overflow, are
 //!   counted without a list of findings.
 //! - No sum wraps, for any increments and settings that a frame can hold: 2^28 steps of less than 2^32 fit a signed
