@@ -27,7 +27,10 @@ sys.path.insert(0, str(tools.TOP / "tools" / "import"))
 from h2audit_import import command, programs  # noqa: E402
 
 PROCESSOR_SECONDS, SECONDS = 20, 300  # for one mutation
-NAMES = ("nghttp-nghttpd-13", "small-window-v6", "curl-apache-upload", "mixed", "secrets-inside", "snapped-96", "zstd")
+NAMES = (
+    "nghttp-nghttpd-13", "small-window-v6", "curl-nginx-12-any-cooked", "curl-apache-upload", "mixed", "secrets-inside", "snapped-96",
+    "zstd",
+)  # fmt: skip
 STATUSES = (0, programs.CAPTURE_REFUSED, programs.NOTHING_READ)
 PART = 50
 KNOWN = set()  # each 16 bytes of the originals' plaintext

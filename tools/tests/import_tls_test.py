@@ -120,23 +120,26 @@ class Suites(Folder):
         self.assertEqual([data for _, _, data in tools.payloads(made)], [b"first", b"second"])
 
     def test_session_of_another(self):
-        """A key log with the session's first handshake alone: by identifier and by ticket, one after the other, and on
-        standard input; processes change nothing. Nothing is read where that line is missing too.
+        """A key log with the session's first handshake alone, by identifier and by ticket, gives what the whole one gives, and
+        the same plaintext on standard input; processes change nothing. Nothing is read where that line is missing too.
         """
         for name, option in (("identifier", ssl.OP_NO_TICKET), ("ticket", 0)):
-            said, first_line = self.resume(name, option)
-            path = self.path(f"{name}.pcap")
+            said, lines = self.resume(name, option)
+            keys, path = self.path(f"{name}.keys"), self.path(f"{name}.pcap")
+            whole = tools.imported("-k", keys, path)
+            self.assertEqual([data for _, _, data in tools.payloads(whole)], said, name)
+            keys.write_text(lines[0])
             for jobs in ("1", "4"):
-                made = tools.imported("-j", jobs, "-k", first_line, path)
-                self.assertEqual([data for _, _, data in tools.payloads(made)], said, name)
-                again = tools.imported("-j", jobs, "-k", first_line, input=path.read_bytes())
-                self.assertEqual(again.packets, made.packets)
-            first_line.write_text("CLIENT_RANDOM " + "11" * 32 + " " + "22" * 48 + "\n")
-            made = tools.imported("-k", first_line, path)
+                self.assertEqual(tools.imported("-j", jobs, "-k", keys, path), whole)
+            streamed = [tools.imported("-j", jobs, "-k", keys, input=path.read_bytes()) for jobs in ("1", "4")]
+            self.assertEqual(streamed[0], streamed[1])
+            self.assertEqual([data for _, _, data in tools.payloads(streamed[0])], said, name)
+            keys.write_text("CLIENT_RANDOM " + "11" * 32 + " " + "22" * 48 + "\n")
+            made = tools.imported("-k", keys, path)
             self.assertEqual([line.split()[-1] for line in tools.lines_of(made, "connection")], ["no-key"] * 4)
 
     def resume(self, name, option):
-        """Four connections of one session; what was said, and a key log with the line of the first."""
+        """Four connections of one session; what was said, and the lines of their key log."""
         capture, keys = tls_talk.Capture(), self.path(f"{name}.keys")
         keys.write_bytes(b"")
         pair = tls_talk.contexts(self.certificates, keys, ssl.TLSVersion.TLSv1_2, "ECDHE-RSA-AES128-GCM-SHA256")
@@ -152,8 +155,7 @@ class Suites(Folder):
         lines = [line for line in keys.read_text().splitlines(keepends=True) if not line.startswith("#")]
         self.assertEqual([line.split()[0] for line in lines], ["CLIENT_RANDOM"] * 4)
         self.assertEqual(len({line.split()[2] for line in lines}), 1)
-        keys.write_text(lines[0])
-        return said, keys
+        return said, lines
 
     def test_refused(self):
         """A handshake that is not whole, by what is missing of it."""

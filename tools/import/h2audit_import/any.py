@@ -50,7 +50,7 @@ def write(report: Report, original: Original) -> bool:
 def audited(asked: Namespace, audit: Audit) -> int:
     original = Original()
     with nameless() as (file, path):
-        counts = imported(PROGRAM, asked, Output(Writer(file), original))
+        counts = imported(PROGRAM, asked, Output(Writer(file), original), can_repeat=True)
         file.flush()
         with audit(path, options_of(asked)) as report:
             is_there = write(report, original)

@@ -47,17 +47,29 @@ def stage_of(keys: Keys, more_keys: bool, jobs: int, output: Output) -> Stage:
     return ManyProcesses(keys, more_keys, output, jobs)
 
 
-def imported(program: str, asked: Namespace, output: Output) -> Counts:
-    """Reads all files into the output."""
+def imported(program: str, asked: Namespace, output: Output, can_repeat: bool) -> Counts:
+    """Reads all files into the output; once more where the sessions in them show secrets for more connections."""
     files = asked.files or [STANDARD_INPUT]
     keys, more_keys = keys_of(program, asked.key_log, files)
+    keys.waits_for_sessions = more_keys or not can_repeat
+    counts, missed = read_through(program, asked, files, keys, more_keys, output)
+    if missed:
+        output.begin_anew()
+        keys.add_text(missed)
+        counts, _ = read_through(program, asked, files, keys, more_keys, output)
+    return counts
+
+
+def read_through(
+    program: str, asked: Namespace, files: list[str], keys: Keys, more_keys: bool, output: Output
+) -> tuple[Counts, bytes]:
     progress = Progress(program)
     stage = stage_of(keys, more_keys, asked.jobs, output)
     importer = Importer(stage, output.map, progress)
     try:
         for path in files:
             import_file(importer, path)
-        return importer.finish()
+        return importer.finish(), stage.missed
     finally:
         stage.close()
         progress.end()
@@ -88,8 +100,9 @@ def is_same_file(one: str, other: str) -> bool:
 
 
 def work(asked: Namespace) -> int:
+    can_repeat = not any(path and (path == "-" or is_special(path)) for path in (asked.output, asked.map))
     with written(asked.output) as file, map_to(asked.map) as map_file:
-        counts = imported(PROGRAM, asked, Output(Writer(file), Map(map_file)))
+        counts = imported(PROGRAM, asked, Output(Writer(file), Map(map_file)), can_repeat)
     if counts.read == 0:
         say(PROGRAM, "no connection could be read")
         return NOTHING_READ

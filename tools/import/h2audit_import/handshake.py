@@ -152,24 +152,26 @@ class Handshake:
         """A secret of this connection; none where it may still come."""
         assert self.client_hello is not None
         found = self.keys.find(self.client_hello.random, label)
-        self.waits_for_key = found is None and (self.more_keys or label == key_log.MASTER and self.may_be_resumed())
+        is_resumed = found is None and label == key_log.MASTER and self.is_resumed()
+        self.waits_for_key = found is None and (self.more_keys or is_resumed and self.keys.waits_for_sessions)
+        if is_resumed and not self.waits_for_key:
+            self.resume()
         if found is None and not self.waits_for_key:
             raise Stopped("no-key")
         return found
 
-    def may_be_resumed(self) -> bool:
+    def is_resumed(self) -> bool:
         """Whether an earlier connection may have had the master secret of this one: its server has said
         ChangeCipherSpec before ServerHelloDone (RFC 5246, 7.3).
         """
         hello = self.client_hello
-        is_it = not self.is_full and self.sessions.is_open and self.keys.has_master
-        return bool(is_it and hello and (hello.session or hello.ticket))
+        return bool(not self.is_full and self.keys.has_master and hello and (hello.session or hello.ticket))
 
     def resume(self) -> None:
         """Asks for the secret of the session that this connection goes on with."""
+        assert self.client_hello
         hello = self.client_hello
-        if hello and self.waits_for_key and self.version == hellos.TLS_1_2 and not self.is_full:
-            self.sessions.resume((hello.ticket, hello.session), self.opening, hello.random)
+        self.sessions.resume((hello.ticket, hello.session), self.opening, hello.random)
 
     def change_cipher(self, side: int) -> bytes | None:
         """In TLS 1.2 the next record is protected (RFC 5246, 7.1); in TLS 1.3 this says nothing (RFC 8446, D.4)."""

@@ -147,6 +147,7 @@ class ManyProcesses:
 
     def __init__(self, keys: Keys, more_keys: bool, output: Output, jobs: int) -> None:
         self.output, self.keys, self.more_keys = output, keys, more_keys
+        self.missed = b""
         forking = multiprocessing.get_context("fork")
         pipes: list[Pipe] = []
         self.processes: list[ForkProcess] = []
@@ -223,9 +224,12 @@ class ManyProcesses:
 
     def finish(self) -> tuple[list[Outcome], list[Unopened]]:
         self.collect_all()
-        if lines := lines_for(self.ask(SESSIONS), self.keys):
+        lines = lines_for(self.ask(SESSIONS), self.keys)
+        if lines and self.keys.waits_for_sessions:
             self.tell_secrets(lines)
             self.collect_all()
+        elif lines:
+            self.missed = lines
         answers = self.ask(FINISH)
         self.write([rows for rows, _, _ in answers])
         return [one for _, found, _ in answers for one in found], [one for _, _, found in answers for one in found]

@@ -24,6 +24,7 @@ class Keys:
     def __init__(self) -> None:
         self.secrets: dict[bytes, dict[str, bytes]] = {}
         self.has_master = False
+        self.waits_for_sessions = True  # whether a resumed connection waits for the end of the capture
         self.bad_lines = 0
 
     def find(self, random: bytes, label: str) -> bytes | None:

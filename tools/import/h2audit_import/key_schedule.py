@@ -31,12 +31,12 @@ def expand_labels(algorithm: hashes.HashAlgorithm, secret: bytes, wanted: list[t
     """HKDF-Expand-Label with an empty context, of labels and lengths (RFC 8446, 7.1).
 
     No length is above that of the hash, so each is one step of HKDF-Expand (RFC 5869, 2.3), and all begin from one
-    keyed hash.
+    keyed hash, which the last one uses up.
     """
     keyed = hmac.HMAC(secret, algorithm)
+    steps = [keyed.copy() for _ in wanted[1:]] + [keyed]
     made = []
-    for label, length in wanted:
-        step = keyed.copy()
+    for step, (label, length) in zip(steps, wanted):
         step.update(label_of(label, length))
         made.append(step.finalize()[:length])
     return made

@@ -39,9 +39,19 @@ class Map:
 
     def __init__(self, file: TextIO | None) -> None:
         self.file = file
+        self.begin()
+
+    def begin(self) -> None:
         self.files = Files()
         self.originals: dict[bytes, str] = {}  # what a stand-in address stands for
         self.line(FIRST_LINE)
+
+    def begin_anew(self) -> None:
+        """Takes back what was written, to a file that is no other's yet."""
+        if self.file:
+            self.file.seek(0)
+            self.file.truncate()
+        self.begin()
 
     def line(self, text: str) -> None:
         if self.file:

@@ -19,6 +19,9 @@ class Original(Map):
 
     def __init__(self) -> None:
         super().__init__(None)
+
+    def begin(self) -> None:
+        super().begin()
         self.packets = array("Q", [0])  # of each record, numbered through all files
         self.passed_over = SpooledTemporaryFile(MOST_SAID, "w+", encoding="ascii")
         self.capture = ""

@@ -3,7 +3,8 @@
 
 Both connections have one master secret, and a key log may have a line for the first alone. Which connection began a
 session another process may know, and its secret may still come. So what was met is put together once, at the end of
-the capture; until then such a connection waits.
+the capture. What can be read twice is then read anew with the secrets that were found; else such a connection waits
+until then.
 """
 
 from typing import Iterable
@@ -17,7 +18,6 @@ class Sessions:
     def __init__(self) -> None:
         self.began: dict[int, tuple[int, bytes]] = {}  # from a name to the opening and the client's random
         self.resumed: list[tuple[int, bytes, list[int]]] = []  # opening, client's random, and names
-        self.is_open = True
 
     def begin(self, name: bytes, opening: int, random: bytes) -> None:
         """A server gave its session a name, which is an identifier or a ticket."""
@@ -27,11 +27,6 @@ class Sessions:
     def resume(self, names: Iterable[bytes], opening: int, random: bytes) -> None:
         """A connection goes on with a session of one of these names."""
         self.resumed.append((opening, random, [hash(name) for name in names if name]))
-
-    def close(self) -> None:
-        """No connection waits from here on."""
-        self.is_open = False
-        self.began, self.resumed = {}, []
 
 
 def lines_for(all_sessions: list[Sessions], keys: Keys) -> bytes:

@@ -16,6 +16,8 @@ from .writer import Writer
 class Stage(Protocol):
     """Takes segments and secrets in the order of the capture."""
 
+    missed: bytes  # at the end, lines of a key log with which more could be read, from the beginning
+
     def segment(self, arrival: Arrival, segment: Segment) -> None:
         ...
 
@@ -39,6 +41,10 @@ class Output:
         self.writer.write(arrival, original, datagram)
         self.map.record(self.writer.count, arrival[0])
 
+    def begin_anew(self) -> None:
+        self.writer.begin_anew()
+        self.map.begin_anew()
+
     def take_turn(self, opening: int) -> None:
         """One process has its connections in order as it is."""
 
@@ -47,7 +53,7 @@ class OneProcess:
     """Makes the capture here."""
 
     def __init__(self, keys: Keys, more_keys: bool, output: Output) -> None:
-        self.keys = keys
+        self.keys, self.missed = keys, b""
         self.table = Table(Context(keys, more_keys, output))
 
     def segment(self, arrival: Arrival, segment: Segment) -> None:
@@ -59,9 +65,12 @@ class OneProcess:
             self.table.keys_came()
 
     def finish(self) -> tuple[list[Outcome], list[Unopened]]:
-        if lines := lines_for([self.table.sessions()], self.keys):
+        lines = lines_for([self.table.sessions()], self.keys)
+        if lines and self.keys.waits_for_sessions:
             self.keys.add_text(lines)
             self.table.keys_came()
+        elif lines:
+            self.missed = lines
         self.table.finish_all()
         return self.table.outcomes, self.table.unopened
 

@@ -88,7 +88,7 @@ class Table:
     def sessions(self) -> Sessions:
         """What there is of sessions, with the connections that wait for the secret of one."""
         for connection in self.open.values():
-            if connection.tls:
+            if connection.tls and connection.waits_for_key() and connection.tls.handshake.is_resumed():
                 connection.tls.handshake.resume()
         return self.context.sessions
 
@@ -102,7 +102,7 @@ class Table:
             self.lanes[client] = passes, NO_OPENING if sequence is None else sequence
 
     def finish_all(self) -> None:
-        self.context.sessions.close()
+        self.context.keys.waits_for_sessions = False
         for connection in list(self.open.values()):
             self.context.sink.take_turn(connection.opening)
             self.finish(connection)

@@ -19,8 +19,17 @@ class Writer:
 
     def __init__(self, file: IO[bytes]) -> None:
         self.file = file
+        self.begin()
+
+    def begin(self) -> None:
         self.count = 0
-        file.write(struct.pack("<IHHiIII", MAGIC_OF_NANOS, 2, 4, 0, 0, SNAPSHOT_LENGTH, RAW))
+        self.file.write(struct.pack("<IHHiIII", MAGIC_OF_NANOS, 2, 4, 0, 0, SNAPSHOT_LENGTH, RAW))
+
+    def begin_anew(self) -> None:
+        """Takes back what was written, to a file that is no other's yet."""
+        self.file.seek(0)
+        self.file.truncate()
+        self.begin()
 
     def write(self, arrival: Arrival, original: int, datagram: bytes) -> None:
         seconds, fraction = divmod(arrival[1], 10**9)
