@@ -16,7 +16,7 @@ import time
 from generate import SHAPES
 
 HERE = pathlib.Path(__file__).resolve().parent
-MERGE = HERE.parent / "tools" / "split" / "h2audit-merge"
+MERGE = HERE.parent / "tools" / "h2audit-merge"
 
 
 def timed(step, size, words, output):

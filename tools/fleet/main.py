@@ -101,7 +101,7 @@ def workers_of(asked: Asked) -> AbstractContextManager[Any]:
     from fleet import cluster
 
     if asked.scheduler is None:
-        return cluster.local(asked.jobs, asked.dashboard)
+        return cluster.local(asked.jobs or len(os.sched_getaffinity(0)), asked.dashboard)
     certificates = None
     if asked.tls_ca and asked.tls_cert and asked.tls_key:
         certificates = cluster.Certificates(asked.tls_ca, asked.tls_cert, asked.tls_key)

@@ -1,7 +1,6 @@
 """The command line of h2audit-fleet."""
 
 import argparse
-import os
 from dataclasses import dataclass
 
 from fleet import VERSION
@@ -29,7 +28,7 @@ class Asked:
 
     db: str
     scheduler: str | None
-    jobs: int
+    jobs: int | None
     tls_ca: str | None
     tls_cert: str | None
     tls_key: str | None
@@ -79,7 +78,7 @@ def add_audit(words: Words) -> None:
 
 
 def add_workers(words: Words) -> None:
-    words.add_argument("-j", "--jobs", metavar="N", type=number(1, 1024), default=len(os.sched_getaffinity(0)),
+    words.add_argument("-j", "--jobs", metavar="N", type=number(1, 1024),
                        help="workers on this machine (default: one for each processor)")
     words.add_argument("--dashboard", metavar="ADDRESS", help="serve dask's dashboard of the workers on this machine")
     words.add_argument("--scheduler", metavar="ADDRESS", help="use the workers of this scheduler, as tls://HOST:8786")
@@ -106,6 +105,8 @@ def problem_of(asked: Asked) -> str | None:
         return "a PATH, --list or --collect is needed"
     if asked.scheduler is None:
         return "--tls-ca, --tls-cert, --tls-key and --unencrypted are for a --scheduler" if any(has_tls) or asked.unencrypted else None
+    if asked.jobs is not None:
+        return "--jobs is for workers on this machine; a scheduler has its own"
     if asked.dashboard is not None:
         return "--dashboard is for workers on this machine; a scheduler has its own"
     return problem_of_scheduler(asked, has_tls)

@@ -1,6 +1,6 @@
 """Merges the reports of parts, section by section, in the order of docs/REPORT_FORMAT.md.
 
-Nothing is kept but the line at hand of each report: records, pairs and connections of a part stand in the order of the
+Nothing is kept but a piece of each report: records, pairs and connections of a part stand in the order of the
 whole already, so that each section is a merge of sorted lists.
 """
 import heapq

@@ -10,7 +10,7 @@ import re
 import subprocess
 import unittest
 
-from fleet_captures import PROGRAM, STAND_IN, TOP, Machine, by_hand
+from fleet_captures import PATIENCE, PROGRAM, STAND_IN, TOP, Machine, by_hand
 from fleet_test import names, rows_by_hand
 
 
@@ -41,7 +41,7 @@ class Collected(unittest.TestCase):
         self.machine.write_orders()
         surroundings = {**self.machine.surroundings, "HOME": str(self.machine.folder), **more}
         return subprocess.run(["bash", "-c", commands], cwd=self.machine.folder, env=surroundings, capture_output=True, text=True,
-                              timeout=120)
+                              timeout=PATIENCE)
 
     def name_of(self, place: int) -> str:
         name = "a\n'b $(c).pcap" if place == 0 else f"{self.machine.samples[place].name}.pcap"

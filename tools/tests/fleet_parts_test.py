@@ -13,7 +13,7 @@ import struct
 import subprocess
 import unittest
 
-from fleet_captures import PROGRAM, TOP, Machine, by_hand, generate, scripts
+from fleet_captures import PATIENCE, PROGRAM, TOP, Machine, by_hand, generate, scripts
 from fleet_test import tasks
 
 SPLIT = TOP / "crates" / "h2audit_split" / "out" / "h2audit_split"
@@ -63,7 +63,7 @@ class Beside(unittest.TestCase):
         return subprocess.run([PROGRAM, *words], capture_output=True)
 
     def any(self, *words: object, **more: str) -> subprocess.CompletedProcess:
-        return subprocess.run([TOP / "tools" / "h2audit-any", "--h2audit", PROGRAM, *words], capture_output=True, timeout=120,
+        return subprocess.run([TOP / "tools" / "h2audit-any", "--h2audit", PROGRAM, *words], capture_output=True, timeout=PATIENCE,
                               env={**self.machine.surroundings, **more})
 
 
@@ -160,7 +160,7 @@ class Parts(Beside):
         (self.machine.bin / "h2audit-split").write_text("#!/bin/sh\necho 'h2audit-split: write failed' >&2; exit 4\n")
         (self.machine.bin / "h2audit-split").chmod(0o755)
         self.assertEqual(self.machine.run("--jobs", "2", "--retries", "0", "--resume", "--split-above", "1", "captures")[0], 3)
-        self.assertEqual(self.machine.ask("SELECT outcome, reason, tries FROM captures"), [("failed", "read-failed", 1)])
+        self.assertEqual(self.machine.ask("SELECT outcome, reason, tries FROM captures"), [("failed", "write-failed", 1)])
         self.assertEqual(list((self.machine.folder / "temporary").iterdir()), [])
 
 

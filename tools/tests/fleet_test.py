@@ -308,6 +308,7 @@ class Words(unittest.TestCase):
             ("'0' is no number from 1 to 1024", 2, ("--jobs", "0", "captures")),
             ("--unencrypted allows it", 2, ("--scheduler", "tcp://127.0.0.1:1", "captures")),
             ("needs --tls-ca, --tls-cert and --tls-key", 2, keyless),
+            ("--jobs is for workers on this machine", 2, ("--jobs", "2", *keyless)),
             ("no scheduler is reached by http://", 2, ("--scheduler", "http://127.0.0.1:1", "captures")),
             ("No such file or directory", 4, ("not-there",)),
             ("No such file or directory", 4, ("--list", "not-there")),

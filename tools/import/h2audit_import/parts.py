@@ -104,4 +104,5 @@ def raise_status(program: str, status: int, said: str) -> None:
         raise Refused(said.strip().rpartition(" refused: ")[2] or f"by {program}")
     if status == NO_MEMORY:
         raise MemoryError
-    raise OSError(IO_FAILED, f"ended with status {status}", program)
+    what = said.strip().removeprefix(f"{program}: ") or f"ended with status {status}"
+    raise OSError(IO_FAILED, what, program)
