@@ -24,8 +24,10 @@ from browser import Browser
 PAGES = (("chatty", 10), ("small", 42), ("streams", 85), ("connections", 230), ("calls", 260))
 CAPTURES = (("bulk", 40), ("bulk", 160), ("small", 40), ("small", 160))
 OPENINGS = 5
-# A report of 400 windows with 48,000 stalls, written by a process of its own: what it takes would count for the next.
-STALLS = "import sys; from page_test import large; sys.stdout.write(large(400, 2400, 20))"
+# Reports of 400 windows with 48,000 stalls, of 60,000 connections with 120,000 windows, and of 240,000 windows, each with
+# a stall. A process of its own writes them: what it takes would count for the next.
+WRITTEN = {"stalls": "large(400, 2400, 20)", "60,000": "crowded(60000, 7, 50)", "240,000": "large(240000, 2, 2)"}
+WRITE = "import sys; from page_test import crowded, large; sys.stdout.write({})"
 
 
 def capture_of(folder, shape, megabytes):
@@ -79,9 +81,11 @@ def main():
         browser = Browser()
         for shape, megabytes in PAGES:
             measure_page(browser, shape, report_of(program, capture_of(folder, shape, megabytes), "--frames"))
-        with open(folder / "stalls.report", "wb") as file:
-            subprocess.run([sys.executable, "-c", STALLS], cwd=TOP / "tools" / "tests", stdout=file, check=True)
-        measure_page(browser, "stalls", folder / "stalls.report")
+        for shape, report in WRITTEN.items():
+            with open(folder / "made.report", "wb") as file:
+                words = [sys.executable, "-c", WRITE.format(report)]
+                subprocess.run(words, cwd=TOP / "tools" / "tests", stdout=file, check=True)
+            measure_page(browser, shape, folder / "made.report")
         browser.close()
 
 

@@ -49,15 +49,15 @@ class Definitions(Claims):
 
     # ---- names
 
-    def module(self, path: tuple[str, ...]) -> tuple[Module, tuple[str, ...]]:
-        """The longest front of a path that is a module, and the names behind it."""
+    def module(self, path: tuple[str, ...]) -> tuple[Module, tuple[str, ...]] | None:
+        """The longest front of a path that is a module, and the names behind it; None where there is none."""
         for end in range(len(path), 3, -1):
             name = f"{path[1]}/specs/{'/'.join(path[3:end])}.antt"
             if name not in self.modules and (self.folder / name).is_file():
                 self.modules[name] = read(self.folder / name, name)
             if name in self.modules:
                 return self.modules[name], path[end:]
-        raise Unreadable(f"{'.'.join(path)}: there is no such module")
+        return None
 
     def imported(self, path: tuple[str, ...], name: str) -> Value | None:
         """The meaning of a name of a module: a type or a constructor of the code, a word, or a definition."""
@@ -65,10 +65,10 @@ class Definitions(Claims):
             return Made(name)
         if path[0] != "Rattle" or not (self.folder / path[1] / "specs").is_dir():
             return Data(name) if "declared" in path else word(name)
-        if path[3] == "declared":
+        if path[3:4] == ("declared",):
             return Data(name)
-        module, behind = self.module((*path, name))
-        return self.meaning(module, behind[0]) if behind else None
+        found = self.module((*path, name))
+        return self.meaning(found[0], found[1][0]) if found and found[1] else None
 
     def meaning(self, module: Module, name: str) -> Value | None:
         """The meaning of a name in a module, None where it has none."""
@@ -99,7 +99,10 @@ class Definitions(Claims):
         found = inner or behind
         if found in ("◌∷◌", "suc", None) or found in CONSTANTS:
             return "◌∷◌" if name == "◌∷◌" else found
-        return found if isinstance(self.imported(path, found), Made) else None
+        meaning = self.imported(path, found)
+        if meaning is None:
+            raise Unreadable(f"{module.name}:{term.line}: {found} has no meaning here")
+        return found if isinstance(meaning, Made) else None
 
     # ---- definitions
 
@@ -118,7 +121,10 @@ class Definitions(Claims):
             self.used.add(module.name)
             values = [*arguments, *[None] * (size - arity)]
             for tests, body in clauses:
-                if all(test(arguments[place], values) for place, test in tests):
+                for place, test in tests:
+                    if not test(arguments[place], values):
+                        break
+                else:
                     return body(values)
             raise Stuck(f"{module.name}: no clause of {definition.name} for {arguments}")
 
@@ -140,7 +146,7 @@ class Definitions(Claims):
         tests = [self.pattern(part, scope) for part in parts]
 
         def test(value, values):
-            found = parts_of(name, known(value))
+            found = parts_of(name, value if type(value) is Made else known(value))
             return found is not None and all([test(part, values) for test, part in zip(tests, found, strict=True)])
 
         return test
@@ -232,7 +238,7 @@ class Definitions(Claims):
         if not isinstance(known_now, Data) and any(map(is_claim, arguments)):
             scope.fail(term, "a claim as an argument")
         if isinstance(known_now, Function) and known_now.arity == len(parts):
-            return lambda values: known_now.run(*[part(values) for part in parts])  # as `apply` does
+            return called(known_now, parts)
         return lambda values: apply(function(values), *[part(values) for part in parts])
 
     # ---- claims
@@ -280,6 +286,17 @@ class Definitions(Claims):
             return self.every(found, of) if name else rest(values)
 
         return claim
+
+
+def called(function: Function, parts: list[Claim]) -> Claim:
+    """A function at all of its arguments, as `apply` has it; of one or two it is written out, which is quicker."""
+    if len(parts) == 1:
+        (a,) = parts
+        return lambda values: function.run(a(values))
+    if len(parts) == 2:
+        a, b = parts
+        return lambda values: function.run(a(values), b(values))
+    return lambda values: function.run(*[part(values) for part in parts])
 
 
 def undefined(*arguments: Value) -> Value:

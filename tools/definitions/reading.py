@@ -260,9 +260,12 @@ class Reader:
     def record(self, module: Module) -> None:
         self.take("record")
         name, parameters, fields = self.word(), self.groups(), []
-        where = [token.text for token in self.tokens].index("where")
-        for item in items_of(self.tokens[where + 1 :]):
-            reader = Reader([token for token in item if token.text != "pub"], self.name)
+        while self.peek() != "where":
+            self.peek() or self.fail("where is missing")
+            self.at += 1
+        for item in items_of(self.tokens[self.at + 1 :]):
+            reader = Reader(item, self.name)
+            reader.at += reader.peek() == "pub"
             names, kind = reader.words(":"), reader.term()
             reader.end()
             fields += [(field, kind) for field in names]
@@ -270,8 +273,10 @@ class Reader:
 
     def clause(self, module: Module) -> None:
         head = self.call()
-        name, patterns = (head, ()) if head.kind == "name" else head.parts
+        name, patterns = head.parts if head.kind == "call" else (head, ())
         self.take("=")
+        if name.kind != "name":
+            self.fail("no name of a function")
         function = module.definitions.setdefault(name.parts[0], Function(name.parts[0], []))
         if isinstance(function, Record):
             self.fail(f"{name.parts[0]} is a record")

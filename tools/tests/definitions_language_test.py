@@ -3,13 +3,17 @@
 whether they are shown (True), refuted (False) or neither (None), of text that cannot be read the file and the line."""
 
 import pathlib
+import re
 import sys
 import tempfile
+from random import Random
 
-sys.path.insert(0, str(pathlib.Path(__file__).resolve().parents[1]))
+TOP = pathlib.Path(__file__).resolve().parents[2]
+DAMAGED = 300
+sys.path.insert(0, str(TOP / "tools"))
 
 from definitions.evaluating import Definitions  # noqa: E402
-from definitions.reading import Unreadable  # noqa: E402
+from definitions.reading import Unreadable, read  # noqa: E402
 from definitions.running import deeply  # noqa: E402
 from definitions.values import NotYet, Stuck  # noqa: E402
 
@@ -189,6 +193,15 @@ UNREADABLE = [
     ("use Rattle.std.specs.Prelude.{merge}\na : ℕ\na = merge", 3, "no meaning"),
     ("a : ℕ\na = f.g 1\n  where f = 1", 3, "where is not expected"),
     ("a : List ℕ → ℕ\na (1 ∷ x) = 2", 2, "no pattern"),
+    ("use Rattle.small.specs.Gone.{b}\na : ℕ\na = b", 3, "b has no meaning"),
+    ("use Rattle.small.specs.{b}\na : ℕ\na = b", 3, "b has no meaning"),
+    ("use Rattle.small.specs.Gone as gone\na : ℕ\na = gone.b", 3, "b has no meaning"),
+    ("use Rattle.small.specs.Gone.{B}\na : ℕ → ℕ\na B = 1", 3, "B has no meaning"),
+    ("5 = 3", 1, "no name of a function"),
+    ("1 x = 3", 1, "no name of a function"),
+    ("record A : Type 0", 1, "where is missing"),
+    ("record A : Type 0 where\n  pub", 2, "a name is missing"),
+    ("use Rattle.small\n  specs.{b\na : ℕ\na = 1", 1, "no import"),
 ]
 
 
@@ -218,14 +231,33 @@ def said(text: str) -> str:
             return str(error)
 
 
+def damaged(chance: Random) -> str:
+    """What is wrong with the answer to a module of which a word is left out, doubled, or taken from another place."""
+    file = chance.choice(sorted((TOP / "crates").glob("*/specs/**/*.antt")))
+    words = re.split(r"(\s+)", file.read_text(encoding="utf-8"))
+    at = chance.randrange(len(words))
+    words[at : at + 1] = chance.choice([[], [words[at]] * 2, [chance.choice(words)]])
+    with tempfile.TemporaryDirectory() as folder:
+        path = pathlib.Path(folder, "Text.antt")
+        path.write_text("".join(words), encoding="utf-8")
+        try:
+            read(path, "Text.antt")
+        except Unreadable as error:
+            return "" if re.match(r"Text\.antt:\d+: ", str(error)) else f"{file}: {error}"
+        except Exception as error:
+            return f"{file}: {type(error).__name__}: {error}"
+    return ""
+
+
 def main() -> int:
     wrong = [f"{text}: {shown(text)}, and not {wanted}" for text, wanted in CLAIMS if shown(text) is not wanted]
     for text, line, part in UNREADABLE:
         if not said(text).startswith(f"small/specs/Text.antt:{line}: ") or part not in said(text):
             wrong.append(f"{text!r}: {said(text)}")
+    wrong += filter(None, (damaged(Random(number)) for number in range(DAMAGED)))
     print(
         *wrong,
-        f"{len(CLAIMS)} claims, {len(UNREADABLE)} texts that cannot be read: {len(wrong)} wrong",
+        f"{DAMAGED} damaged modules, {len(CLAIMS)} claims, {len(UNREADABLE)} texts that cannot be read: {len(wrong)} wrong",
         sep="\n" if wrong else "",
     )
     return 1 if wrong else 0

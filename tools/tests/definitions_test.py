@@ -1,8 +1,8 @@
 #!/usr/bin/python3
 """Computes reports from the definitions (tools/by-definition), and compares them with known ones and with the program's.
 
-    tools/tests/definitions_test.py                     known reports
-    tools/tests/definitions_test.py [--seed N] PROGRAM  the program's
+    tools/tests/definitions_test.py                            known reports
+    tools/tests/definitions_test.py [--seed N] PROGRAM [KIND]  the program's, of captures or connections, or of both
 
 The known ones are those of examples/ up to 4,000 bytes and of each row of tests/reports. Then ten definitions are changed,
 one in each layer, and the search for witnesses is misled: each time a report has to be another one, or not shown. The
@@ -122,8 +122,12 @@ def rows() -> Iterator[Job]:
         )
 
 
-def randoms(seed: int) -> Iterator[Job]:
-    for kind, make, count in (("capture", random_captures.capture, 300), ("connection", random_captures.script, 1000)):
+RANDOM = {"captures": (random_captures.capture, 300), "connections": (random_captures.script, 1000)}
+
+
+def randoms(seed: int, kinds: list[str]) -> Iterator[Job]:
+    for kind in kinds:
+        make, count = RANDOM[kind]
         for number in range(count):
             yield Job(f"{kind} {number}", make(Random(f"{seed} {kind} {number}")), True, None)
 
@@ -205,22 +209,23 @@ def as_known() -> bool:
     return not wrong and not any(faults)
 
 
-def as_program(program: str, seed: int) -> bool:
-    """Whether reports of random captures are the program's."""
+def as_program(program: str, seed: int, kind: str | None) -> bool:
+    """Whether reports of random captures are the program's; in those of connections each kind of finding occurs."""
     print(f"seed {seed}")
-    wrong, text = compared(list(randoms(seed)), program)
+    wrong, text = compared(list(randoms(seed, [kind] if kind else list(RANDOM))), program)
     kinds = set(re.findall(r"^frame .* (?:client|server) (\S+) stream", text, re.M))
     print(f"{len(kinds)} of {KINDS} kinds of findings occur")
-    return not wrong and len(kinds) == KINDS
+    return not wrong and (len(kinds) == KINDS or kind == "captures")
 
 
 def main() -> int:
     parser = argparse.ArgumentParser(description=__doc__, formatter_class=argparse.RawDescriptionHelpFormatter)
     parser.add_argument("--seed", type=int, default=1)
     parser.add_argument("program", nargs="?")
+    parser.add_argument("kind", nargs="?", choices=RANDOM)
     options = parser.parse_args()
     if options.program:
-        return not as_program(str(pathlib.Path(options.program).resolve()), options.seed)
+        return not as_program(str(pathlib.Path(options.program).resolve()), options.seed, options.kind)
     return not as_known()
 
 

@@ -91,7 +91,8 @@ try 'measuring' tools/tests/bench_test.py
 try 'recipes' tools/tests/recipes_test.py "${audits[@]}"
 try 'language of the definitions' tools/tests/definitions_language_test.py
 try 'known reports by definition' tools/tests/definitions_test.py
-try_built 'random reports by definition' tools/tests/definitions_test.py "$built"
+try_built 'random captures by definition' tools/tests/definitions_test.py "$built" captures
+try_built 'random connections by definition' tools/tests/definitions_test.py "$built" connections
 try 'pictures' tools/tests/plot_test.py
 try 'lines of reports, and who is to blame' tools/tests/report_test.py
 try 'comments of packets: examples' tools/tests/comment_test.py Examples

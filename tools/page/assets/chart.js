@@ -11,7 +11,8 @@ function colours() {
   return Object.fromEntries(names.map(name => [name, style.getPropertyValue(`--${name}`).trim()]));
 }
 
-const grouped = number => number.toLocaleString("en", { maximumFractionDigits: 9 });
+const DIGITS = new Intl.NumberFormat("en", { maximumFractionDigits: 9 });
+const grouped = number => DIGITS.format(number);
 
 function duration(nanos) {
   const [unit, size] = UNITS.find(([, size]) => Math.abs(nanos) >= size) ?? UNITS[3];

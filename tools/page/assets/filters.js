@@ -11,8 +11,10 @@ function asked() {
 
 const kindsOf = one => faultsOf(charts, one).map(fault => fault.kind);
 
+// What a search looks through; it is kept, since a page may have a hundred thousand windows.
 function wordsOf(one) {
-  return `${nameOf(one)} ${one.client} ${one.server} ${troubleOf(one)} ${kindsOf(one).join(" ")}`.toLowerCase();
+  one.words ??= [nameOf(one), one.client, one.server, troubleOf(one), ...kindsOf(one)].join(" ").toLowerCase();
+  return one.words;
 }
 
 function hasKind(one, kind) {
