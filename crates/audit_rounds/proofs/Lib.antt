@@ -19,6 +19,7 @@ pub mod Clears
 pub mod Settles
 pub mod StreamJobs
 pub mod StreamPlan
+pub mod Few
 pub mod StreamReady
 pub mod Openers
 pub mod Ordered

@@ -1,6 +1,6 @@
 //! The blocks that are gone through, each with the connection before it.
 
-ghost use Rattle.std.specs.Prelude.{◌≡◌, ℕ, ◌<◌, ◌++◌, [], All, List, IfOk, OnOk, length, map};
+ghost use Rattle.std.specs.Prelude.{◌≡◌, ℕ, ◌+◌, ◌<◌, ◌≤◌, ◌++◌, [], All, List, IfOk, OnOk, length, map};
 ghost use Rattle.std.specs.Bool.{OnFalse};
 ghost use Rattle.audit_terms.specs.declared.findings.Finding.{Finding as FindingTerm};
 ghost use Rattle.audit_terms.specs.declared.items.Item.{Item as ItemTerm};
@@ -46,11 +46,12 @@ fn add_ready<'a>(
     requires short { AreShort blocks.now }
     requires sums { AreSums blocks.now sums.now }
     requires fits { BlockFits connection_start (items_of (map items_in (blocks_in blocks.now))) }
-    ensures { OnOk result ((connection connections : ℕ) (finds : ℕ → List FindingTerm)
+    ensures plan { OnOk result ((connection connections : ℕ) (finds : ℕ → List FindingTerm)
         → connection < connections → All (λ (one : BlockTerm). one.connection ≡ connection) blocks.now
         → IsPlan credits_shown connections finds plan.old.items
         → IsPlan credits_shown connections (λ n. finds n ++ where_of connection n (whole_shown credits_shown
         (items_of (map items_in (blocks_in blocks.now))))) plan.new.items) }
+    ensures few { OnOk result (length plan.new.items ≤ length plan.old.items + length blocks.now) }
 {
     let befores = carries_of(alloc, ConnState::start(), sums)?;
     for at in 0..blocks.len() {
@@ -77,8 +78,9 @@ pub(crate) fn plan_of<'a>(
     requires short { AreShort cut.now.blocks.items }
     requires fits { All (BlockFits connection_start) (wholes cut.now.connections.now) }
     requires sums { AreSums cut.now.blocks.items sums.now }
-    ensures { IfOk result (λ plan. IsPlan credits_shown (length cut.now.connections.now)
+    ensures plan { IfOk result (λ plan. IsPlan credits_shown (length cut.now.connections.now)
         (shown_at credits_shown 0 (wholes cut.now.connections.now)) plan.items) }
+    ensures few { IfOk result (λ plan. length plan.items ≤ length cut.now.blocks.items) }
 {
     let mut plan = Vec::new(alloc);
     let mut start = 0;

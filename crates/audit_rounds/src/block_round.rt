@@ -17,27 +17,10 @@ use std::alloc::{AllocError, Global};
 /// Blocks to be gone through, each a job.
 #[derive(Drop)]
 pub(crate) struct BlockRound<'a> {
-    plan: &'a [ReadyBlock<'a>],
-    credits_shown: bool,
+    pub(crate) plan: &'a [ReadyBlock<'a>],
+    pub(crate) credits_shown: bool,
     ghost few: { length plan.now < 2 ^ 32 },
     ghost ready: { AreReady plan.now } by { ready-props plan.now },
-}
-
-impl<'a> BlockRound<'a> {
-    /// `Err` where there are more blocks than jobs can be numbered.
-    pub(crate) fn of(plan: &'a [ReadyBlock<'a>], credits_shown: bool) -> Result<Self, AllocError>
-        requires { AreReady plan.now }
-        ensures plan { IfOk result (λ round. round.plan.now ≡ plan.now) }
-        ensures credits_shown { IfOk result (λ round. round.credits_shown ≡ credits_shown) }
-    {
-        if plan.len() > u32::MAX as usize {
-            return Err(AllocError);
-        }
-        Ok(BlockRound {
-            plan,
-            credits_shown,
-        })
-    }
 }
 
 impl Round for BlockRound<'_> {

@@ -1,7 +1,7 @@
 //! The connections' own findings, by blocks of frames: the blocks of all connections are summed in one round, and gone
 //! through in another, each from the state that the sums of the blocks before it lead to.
 
-ghost use Rattle.std.specs.Prelude.{◌≡◌, ℕ, ◌++◌, ◌<◌, All, IfOk, map, length, slice_index_or};
+ghost use Rattle.std.specs.Prelude.{◌≡◌, ℕ, ◌++◌, ◌^◌, ◌<◌, All, IfOk, map, length, slice_index_or};
 ghost use Rattle.audit_terms.specs.Connection.{connection_start};
 ghost use Rattle.audit_terms.specs.runs.Blocks.{block_run};
 ghost use Rattle.audit_terms.specs.Finding.{in_order, upto_stop, shown};
@@ -14,6 +14,7 @@ ghost use Rattle.conn_scan.specs.Block.{BlockFits};
 ghost use Rattle.job_crew.specs.declared.parts.Part.{Part as PartTerm};
 ghost use Rattle.audit_rounds.specs.declared.blocks.ConnectionBlock.{ConnectionBlock as BlockTerm};
 ghost use Rattle.audit_rounds.specs.code.Blocks.{AreShort, AreSums, wholes};
+ghost use Rattle.audit_rounds.specs.code.Few.{RestsAreFew};
 ghost use Rattle.audit_rounds.specs.code.Plans.{AreReady, AreParts, IsPlan, block_job, shown_at};
 ghost use Rattle.audit_rounds.specs.code.Remaining.{IsRemaining};
 
@@ -57,10 +58,11 @@ fn sums_of<R: Threads + Sync, G: Gate>(
 ) -> Result<Vec<ConnSum>, AllocError>
     requires places { All IsStop stops.now }
     requires short { AreShort blocks.now }
+    requires few { length blocks.now < 2 ^ 32 }
     requires within { All (λ (one : BlockTerm). one.connection < length stops.now) blocks.now }
     ensures { IfOk result (λ sums. AreSums blocks.now sums.items) }
 {
-    let round = SumRound::of(blocks)?;
+    let round = SumRound { blocks };
     let workers = division.workers.max(1);
     let settled = settle(rt, alloc, workers, gate, SUM_ROUND, stops, &round)?;
     summaries(alloc, settled.parts)
@@ -78,11 +80,15 @@ fn parts_of<R: Threads + Sync, G: Gate>(
 ) -> Result<Vec<Part<()>>, AllocError>
     requires places { All IsStop stops.now }
     requires ready { AreReady plan.now }
+    requires few { length plan.now < 2 ^ 32 }
     requires within { All (λ (job : Job). job.connection < length stops.now)
         (map (block_job credits_shown) plan.now) }
     ensures { IfOk result (λ parts. AreParts (map (block_job credits_shown) plan.now) stops.now parts.items) }
 {
-    let round = BlockRound::of(plan, credits_shown)?;
+    let round = BlockRound {
+        plan,
+        credits_shown,
+    };
     let workers = division.workers.max(1);
     let settled = settle(rt, alloc, workers, gate, BLOCK_ROUND, stops, &round)?;
     Ok(settled.parts)
@@ -102,8 +108,10 @@ fn planned<'a, R: Threads + Sync, G: Gate>(
     requires number { length stops.now ≡ length connections.now }
     requires whole { All IsBlock connections.now }
     requires fits { All (BlockFits connection_start) (wholes connections.now) }
-    ensures { IfOk result (λ plan. IsPlan credits_shown (length connections.now)
+    requires few { RestsAreFew connections.now }
+    ensures plan { IfOk result (λ plan. IsPlan credits_shown (length connections.now)
         (shown_at credits_shown 0 (wholes connections.now)) plan.items) }
+    ensures few { IfOk result (λ plan. length plan.items < 2 ^ 32) }
 {
     let cut = cut_into_blocks(alloc, division.block.max(1) as usize, connections)?;
     let sums = sums_of(rt, alloc, division, gate, stops, cut.blocks.as_slice())?;
@@ -123,6 +131,7 @@ pub(crate) fn rounds_over_blocks<R: Threads + Sync, G: Gate>(
 ) -> Result<Vec<Vec<Finding>>, AllocError>
     requires stops { length stops.now ≡ length connections.now }
     requires number { length connections.now ≡ length found.items }
+    requires few { RestsAreFew connections.now }
     requires each { (n : ℕ) (whole stop list : _) → n < length connections.now
         → IsRemaining (slice_index_or connections.now n whole) (slice_index_or stops.now n stop)
         (slice_index_or found.items n list).items }

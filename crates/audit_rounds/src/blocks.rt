@@ -1,8 +1,9 @@
 //! The blocks that the frames of connections are cut into.
 
-ghost use Rattle.std.specs.Prelude.{◌≡◌, ◌<◌, All, IfOk, OnOk};
+ghost use Rattle.std.specs.Prelude.{◌≡◌, ◌^◌, ◌<◌, All, IfOk, OnOk, length};
 ghost use Rattle.conn_scan.specs.Items.{IsBlock};
 ghost use Rattle.audit_rounds.specs.code.Blocks.{AddsBlocks, AreCut, AreShort, wholes};
+ghost use Rattle.audit_rounds.specs.code.Few.{RestsAreFew};
 
 use conn_scan::{Block, changes_from, numbers_from};
 use std::alloc::{AllocError, Global};
@@ -59,9 +60,11 @@ pub(crate) fn cut_into_blocks<'c, 'a>(
 ) -> Result<Cut<'c, 'a>, AllocError>
     requires size { 0 < size }
     requires whole { All IsBlock connections.now }
+    requires few { RestsAreFew connections.now }
     ensures of { IfOk result (λ cut. cut.connections.now ≡ connections.now) }
     ensures cut { IfOk result (λ cut. AreCut 0 (wholes connections.now) cut.counts.items cut.blocks.items) }
     ensures short { IfOk result (λ cut. AreShort cut.blocks.items) }
+    ensures few { IfOk result (λ cut. length cut.blocks.items < 2 ^ 32) }
 {
     let mut blocks = Vec::new(alloc);
     let mut counts = Vec::with_capacity(alloc, connections.len())?;

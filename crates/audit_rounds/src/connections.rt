@@ -10,6 +10,7 @@ ghost use Rattle.audit_rounds.specs.Settling.{frames_within};
 ghost use Rattle.audit_rounds.specs.code.MadeReady.{AreMadeReady};
 ghost use Rattle.audit_rounds.specs.code.Prepared.{IsPrepared, found_before};
 ghost use Rattle.audit_rounds.specs.code.Connections.{IsRest, AreRests};
+ghost use Rattle.audit_rounds.specs.code.Few.{AreFew, PreparedAreFew};
 
 use crate::block_rounds::rounds_over_blocks;
 use crate::divisions::Division;
@@ -74,6 +75,7 @@ pub(crate) fn findings_of_batch<R: Threads + Sync, G: Gate>(
     requires workers { 0 < division.now.workers }
     requires groups { 0 < division.now.groups }
     requires frames { All (λ frames. IsOrderly frames.now) connections.now }
+    requires few { AreFew connections.now }
     ensures { IfOk result (λ found. map (λ one. one.items) found.items
         ≡ map (λ frames. shown credits_shown (pass frames.now)) connections.now) }
 {
@@ -96,6 +98,7 @@ fn findings_of_prepared<R: Threads + Sync, G: Gate>(
     requires workers { 0 < division.now.workers }
     requires groups { 0 < division.now.groups }
     requires prepared { All IsPrepared connections.now }
+    requires few { PreparedAreFew connections.now }
     requires found { map (λ one. one.items) found.items ≡ map found_before connections.now }
     ensures { IfOk result (λ found. map (λ one. one.items) found.items
         ≡ map (λ one. shown credits_shown (pass one.frames.now)) connections.now) }

@@ -1,7 +1,8 @@
-ghost use Rattle.std.specs.Prelude.{◌≡◌, ◌<◌, ◌≤◌, All, IfOk, length, map};
+ghost use Rattle.std.specs.Prelude.{◌≡◌, ◌<◌, ◌≤◌, All, IfOk, length, map, take};
 ghost use Rattle.audit_terms.specs.runs.Orderly.{IsOrderly};
 ghost use Rattle.audit_terms.specs.Finding.{shown};
 ghost use Rattle.audit_terms.specs.Pass.{pass};
+ghost use Rattle.audit_rounds.specs.code.Few.{AreFew};
 
 use crate::halves::findings_by_halves;
 use audit_terms::{Finding, Frame};
@@ -45,20 +46,20 @@ impl Division {
 
 /// How many connections make the next batch.
 fn batch_length(connections: &[&[Frame]]) -> usize
-    requires { 0 < length connections.now }
+    requires some { 0 < length connections.now }
+    requires frames { All (λ frames. IsOrderly frames.now) connections.now }
     ensures some { 0 < result }
     ensures within { result ≤ length connections.now }
+    ensures few { AreFew (take result connections.now) }
 {
-    let mut count = 0;
-    let mut together = 0;
-    for frames in connections {
-        together += frames.len();
-        if together > BATCH || count == BATCH {
-            break;
-        }
+    let most = connections.len().min(BATCH);
+    let mut count = 1;
+    let mut together = connections[0].len();
+    while count < most && together + connections[count].len() <= BATCH {
+        together += connections[count].len();
         count += 1;
     }
-    count.max(1)
+    count
 }
 
 /// What is shown of each connection, from its frames: what one pass over them says up to the first connection error

@@ -8,6 +8,7 @@ ghost use Rattle.audit_terms.specs.runs.Orderly.{IsOrderly};
 ghost use Rattle.audit_terms.specs.Finding.{shown};
 ghost use Rattle.audit_terms.specs.Pass.{pass};
 ghost use Rattle.audit_rounds.specs.code.EarlyStops.{chosen_of, front_of, has_stopped, later_of};
+ghost use Rattle.audit_rounds.specs.code.Few.{AreFew};
 
 use crate::connections::findings_of_batch;
 use crate::divisions::Division;
@@ -116,6 +117,7 @@ fn findings_of_fronts<R: Threads + Sync, G: Gate>(
     requires workers { 0 < division.now.workers }
     requires groups { 0 < division.now.groups }
     requires frames { All (λ frames. IsOrderly frames.now) connections.now }
+    requires few { AreFew connections.now }
     ensures { IfOk result (λ found. map (λ one. one.items) found.items
         ≡ map (λ frames. shown credits_shown (pass (front_of frames.now))) connections.now) }
 {
@@ -136,6 +138,7 @@ fn findings_of_laters<R: Threads + Sync, G: Gate>(
     requires workers { 0 < division.now.workers }
     requires groups { 0 < division.now.groups }
     requires frames { All (λ frames. IsOrderly frames.now) connections.now }
+    requires few { AreFew connections.now }
     requires early { length early.now ≡ length connections.now }
     ensures { IfOk result (λ found. map (λ one. one.items) found.items
         ≡ map (λ one. shown credits_shown (pass (later_of one.0.now one.1.items))) (zip connections.now early.now)) }
@@ -156,6 +159,7 @@ pub(crate) fn findings_by_fronts<R: Threads + Sync, G: Gate>(
     requires workers { 0 < division.now.workers }
     requires groups { 0 < division.now.groups }
     requires frames { All (λ frames. IsOrderly frames.now) connections.now }
+    requires few { AreFew connections.now }
     ensures { IfOk result (λ found. map (λ one. one.items) found.items
         ≡ map (λ frames. shown credits_shown (pass frames.now)) connections.now) }
 {

@@ -1,11 +1,12 @@
 //! Many short connections go through the rounds in halves, side by side: no part of the work is then left to one thread,
 //! and threads start once.
 
-ghost use Rattle.std.specs.Prelude.{◌≡◌, ◌<◌, ◌≤◌, All, IfOk, map};
+ghost use Rattle.std.specs.Prelude.{◌≡◌, ◌<◌, ◌≤◌, ◌++◌, All, IfOk, length, map};
 ghost use Rattle.std.specs.Thread.{IsSync};
 ghost use Rattle.audit_terms.specs.runs.Orderly.{IsOrderly};
 ghost use Rattle.audit_terms.specs.Finding.{shown};
 ghost use Rattle.audit_terms.specs.Pass.{pass};
+ghost use Rattle.audit_rounds.specs.code.Few.{AreFew};
 
 use crate::connections::middle;
 use crate::divisions::Division;
@@ -54,6 +55,18 @@ fn halved(division: &Division) -> (Division, Division)
     (one, other)
 }
 
+/// The connections in two halves, with about as many frames each.
+fn in_halves<'a, 'b>(connections: &'b [&'a [Frame]]) -> (&'b [&'a [Frame]], &'b [&'a [Frame]])
+    requires number { 2 ≤ length connections.now }
+    requires frames { All (λ frames. IsOrderly frames.now) connections.now }
+    requires few { AreFew connections.now }
+    ensures whole { result.0.now ++ result.1.now ≡ connections.now }
+    ensures one { All (λ frames. IsOrderly frames.now) result.0.now × AreFew result.0.now }
+    ensures other { All (λ frames. IsOrderly frames.now) result.1.now × AreFew result.1.now }
+{
+    connections.split_at(middle(connections))
+}
+
 /// What is shown of each connection of a batch.
 pub(crate) fn findings_by_halves<R: Threads + Sync, G: Gate>(
     rt: &R,
@@ -66,6 +79,7 @@ pub(crate) fn findings_by_halves<R: Threads + Sync, G: Gate>(
     requires workers { 0 < division.now.workers }
     requires groups { 0 < division.now.groups }
     requires frames { All (λ frames. IsOrderly frames.now) connections.now }
+    requires few { AreFew connections.now }
     ensures { IfOk result (λ found. map (λ one. one.items) found.items
         ≡ map (λ frames. shown credits_shown (pass frames.now)) connections.now) }
 {
@@ -73,19 +87,19 @@ pub(crate) fn findings_by_halves<R: Threads + Sync, G: Gate>(
     if workers == 1 || connections.len() < MANY || !are_short(workers, connections) {
         return findings_by_fronts(rt, alloc, division, gate, credits_shown, connections);
     }
-    let (front, back) = connections.split_at(middle(connections));
+    let (front, back) = in_halves(connections);
     let (few, others) = halved(division);
     let (one, other) = join(
         rt,
         || -> Result<Vec<Vec<Finding>>, AllocError>
             requires { IsSync R.row × IsSync G.row × (0 < few.workers) × (0 < few.groups)
-                × All (λ frames. IsOrderly frames.now) front.now }
+                × All (λ frames. IsOrderly frames.now) front.now × AreFew front.now }
             ensures { IfOk result (λ found. map (λ one. one.items) found.items
                 ≡ map (λ frames. shown credits_shown (pass frames.now)) front.entry.now) }
         { findings_by_halves(rt, alloc, &few, gate, credits_shown, front) },
         || -> Result<Vec<Vec<Finding>>, AllocError>
             requires { IsSync R.row × IsSync G.row × (0 < others.workers) × (0 < others.groups)
-                × All (λ frames. IsOrderly frames.now) back.now }
+                × All (λ frames. IsOrderly frames.now) back.now × AreFew back.now }
             ensures { IfOk result (λ found. map (λ one. one.items) found.items
                 ≡ map (λ frames. shown credits_shown (pass frames.now)) back.entry.now) }
         { findings_by_halves(rt, alloc, &others, gate, credits_shown, back) },

@@ -14,7 +14,8 @@
 //! All that was found of a connection, with the faults of single frames and the acknowledgements that answer nothing,
 //! is put in order and cut at the first error, and so makes the pass. A batch is consecutive connections that have not
 //! too many frames together: it bounds what the rounds need beside the frames, and lets threads start once for many
-//! small connections. Jobs have numbers of 32 bits; a plan with more would be answered as want of memory.
+//! small connections. It has 2^28 frames at most, whatever the connections, so each round has fewer than 2^32 jobs, and
+//! want of memory is answered only where a growth was refused.
 //! Of a long connection a front goes through the rounds first: what an early error ends is then neither split nor gone
 //! through. Many short connections go in halves of as many frames, side by side, each with half of the workers.
 //!

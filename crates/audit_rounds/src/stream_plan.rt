@@ -2,6 +2,7 @@
 
 ghost use Rattle.std.specs.Prelude.{◌≡◌, ◌++◌, ◌^◌, ◌<◌, ◌≤◌, All, IfOk, OnOk, length, map};
 ghost use Rattle.split_merge.specs.Groups.{groups};
+ghost use Rattle.audit_rounds.specs.code.Few.{RowsAreFew};
 ghost use Rattle.audit_rounds.specs.code.StreamJobs.{IsReady, job_at, plan_from};
 
 use split_merge::groups;
@@ -34,8 +35,7 @@ fn add_jobs(
     Ok(())
 }
 
-/// So many groups of the streams of each connection at most, one connection after the other. Jobs have numbers of 32
-/// bits: a plan that is longer is more than memory is there for.
+/// So many groups of the streams of each connection at most, one connection after the other.
 pub(crate) fn stream_plan(
     alloc: Global,
     count: usize,
@@ -43,6 +43,7 @@ pub(crate) fn stream_plan(
 ) -> Result<Vec<StreamJob>, AllocError>
     requires some { 1 ≤ count }
     requires ready { All IsReady connections.now }
+    requires few { RowsAreFew connections.now }
     ensures plan { IfOk result (λ plan. plan.items ≡ plan_from count 0 connections.now) }
     ensures numbered { IfOk result (λ plan. length plan.items < 2 ^ 32) }
 {
@@ -50,9 +51,6 @@ pub(crate) fn stream_plan(
     for (connection, streams) in connections.iter().enumerate() {
         let ranges = groups(alloc, streams.split.rows.len(), count)?;
         add_jobs(&mut plan, connection, ranges.as_slice())?;
-    }
-    if plan.len() > u32::MAX as usize {
-        return Err(AllocError);
     }
     Ok(plan)
 }

@@ -4,6 +4,7 @@ ghost use Rattle.std.specs.Prelude.{◌≡◌, ◌<◌, All, IfOk, length, map};
 ghost use Rattle.stop_desk.specs.Stop.{IsStop};
 ghost use Rattle.audit_rounds.specs.code.Prepared.{IsPrepared, found_before};
 ghost use Rattle.audit_rounds.specs.code.StreamJobs.{IsReady};
+ghost use Rattle.audit_rounds.specs.code.Few.{PreparedAreFew, RowsAreFew};
 ghost use Rattle.audit_rounds.specs.code.AfterStreams.{AreAfterStreams, HaveSettled, HaveSettledOver};
 
 use crate::beginnings::{changes_each, opening_stops, streams_each};
@@ -48,6 +49,7 @@ fn settled_streams<R: Threads + Sync, G: Gate>(
     requires places { All IsStop stops.now }
     requires number { length stops.now ≡ length connections.now }
     requires ready { All IsReady connections.now }
+    requires few { RowsAreFew connections.now }
     ensures { IfOk result (λ settled. HaveSettled credits_shown division.now.groups connections.now stops.now settled) }
 {
     let plan = stream_plan(alloc, division.groups as usize, connections)?;
@@ -80,6 +82,7 @@ fn settled_over<R: Threads + Sync, G: Gate>(
     requires workers { 0 < division.now.workers }
     requires groups { 0 < division.now.groups }
     requires prepared { All IsPrepared connections.now }
+    requires few { PreparedAreFew connections.now }
     requires found { map (λ one. one.items) found.now ≡ map found_before connections.now }
     ensures { IfOk result (λ settled. HaveSettledOver credits_shown division.now.groups connections.now found.now
         settled) }
@@ -105,6 +108,7 @@ pub(crate) fn round_over_streams<R: Threads + Sync, G: Gate>(
     requires workers { 0 < division.now.workers }
     requires groups { 0 < division.now.groups }
     requires prepared { All IsPrepared connections.now }
+    requires few { PreparedAreFew connections.now }
     requires found { map (λ one. one.items) found.items ≡ map found_before connections.now }
     ensures { IfOk result (λ after. AreAfterStreams credits_shown connections.now after.found.items after.stops.items
         after.opened.items) }

@@ -19,22 +19,9 @@ use std::alloc::{AllocError, Global};
 /// Blocks to be summed, each a job.
 #[derive(Drop)]
 pub(crate) struct SumRound<'a> {
-    blocks: &'a [ConnectionBlock<'a>],
+    pub(crate) blocks: &'a [ConnectionBlock<'a>],
     ghost few: { length blocks.now < 2 ^ 32 },
     ghost short: { AreShort blocks.now } by { short-props blocks.now },
-}
-
-impl<'a> SumRound<'a> {
-    /// `Err` where there are more blocks than jobs can be numbered.
-    pub(crate) fn of(blocks: &'a [ConnectionBlock<'a>]) -> Result<Self, AllocError>
-        requires { AreShort blocks.now }
-        ensures { IfOk result (λ round. round.blocks.now ≡ blocks.now) }
-    {
-        if blocks.len() > u32::MAX as usize {
-            return Err(AllocError);
-        }
-        Ok(SumRound { blocks })
-    }
 }
 
 impl Round for SumRound<'_> {

@@ -67,3 +67,4 @@ pub record AddsBlocks (connection : ℕ) (whole : Block) (old new : List Connect
   pub added : new ≡ old ++ blocks_of_connection connection cut
   pub items : items_of (map items_in cut) ≡ items_in whole
   pub short : AreShort old → AreShort new
+  pub few : length new ≤ length old + length whole.frames.now

@@ -1,4 +1,4 @@
-use Rattle.std.proofs.Common.{◌≡◌, ℕ, ◌<◌, List, All, map}
+use Rattle.std.proofs.Common.{◌≡◌, ℕ, ◌+◌, ◌<◌, ◌≤◌, List, All, map, length}
 use Rattle.audit_terms.specs.declared.findings.Finding.{Finding}
 use Rattle.audit_terms.specs.Connection.{connection_start}
 use Rattle.conn_scan.specs.Items.{items_in}
@@ -9,11 +9,14 @@ use Rattle.audit_rounds.proofs.Cuts.{said_from}
 use Rattle.audit_rounds.proofs.Plans.{finds_upto}
 use Rattle.audit_rounds.proofs.block_plans.add_ready.Given as goal
 
--- the jobs so far find what was found before, and what the blocks so far show
+-- the jobs so far find what was found before, and what the blocks so far show; there are no more than these
 abbrev pub invariant-loop-at : goal.invariant-loop-at
-invariant-loop-at l = (connection connections : ℕ) (finds : ℕ → List Finding) → connection < connections
-    → All (λ (one : ConnectionBlock). one.connection ≡ connection) l.blocks
-    → IsPlan l.credits_shown connections finds l.fn.plan.items
-    → IsPlan l.credits_shown connections
-    (finds_upto finds connection l.at (said_from l.credits_shown connection_start (map items_in (blocks_in l.blocks))))
-    l.plan.items
+invariant-loop-at l = record {
+  plan : (connection connections : ℕ) (finds : ℕ → List Finding) → connection < connections
+      → All (λ (one : ConnectionBlock). one.connection ≡ connection) l.blocks
+      → IsPlan l.credits_shown connections finds l.fn.plan.items
+      → IsPlan l.credits_shown connections
+      (finds_upto finds connection l.at (said_from l.credits_shown connection_start (map items_in (blocks_in l.blocks))))
+      l.plan.items;
+  few : length l.plan.items ≤ length l.fn.plan.items + l.at;
+}

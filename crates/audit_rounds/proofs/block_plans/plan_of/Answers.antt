@@ -1,5 +1,5 @@
 use Rattle.std.proofs.Common.{◌≡◌, ℕ, ◌+◌, ◌-◌, ◌<◌, ◌≤◌, [], ◌++◌, length, get_or, take, drop, All, sym, ap, ◌∙◌, subst, arith}
-use Rattle.std.proofs.lemmas.List.{length-drop, length-map, drop-drop}
+use Rattle.std.proofs.lemmas.List.{length-drop, length-map, drop-drop, length-take-le}
 use Rattle.audit_terms.specs.Connection.{connection_start}
 use Rattle.conn_scan.specs.Block.{BlockFits}
 use Rattle.audit_rounds.specs.declared.blocks.ConnectionBlock.{ConnectionBlock}
@@ -99,10 +99,16 @@ loop-count-preserved c =
     let own = subst (All (λ (one : ConnectionBlock). one.connection ≡ at)) (sym mine) next.own in
     record {
       start = omega arith;
+      few =
+          let before = i.few in
+          let more = c.in_ok-add_ready.ensures.few in
+          let long = ap length mine in
+          let own = length-take-le count (drop start cut.blocks.items) (omega arith) in
+          omega (arith, before, more, long, own);
       left = subst (AreCut (at + 1) (drop (at + 1) all) (drop (at + 1) cut.counts.items))
           (drop-drop count start cut.blocks.items) next.rest;
       plan = plan-next shows (length cut.connections.now) at all _ here
           (plan-as shows (length cut.connections.now) _ _ _
-          (c.in_ok-add_ready.ensures at (length cut.connections.now) (shown_at shows 0 (take at all)) inside own i.plan)
+          (c.in_ok-add_ready.ensures.plan at (length cut.connections.now) (shown_at shows 0 (take at all)) inside own i.plan)
           (λ n. ap (λ items. shown_at shows 0 (take at all) n ++ where_of at n (whole_shown shows items)) joined));
     }

@@ -11,4 +11,5 @@ invariant-loop-count l = record {
       (drop l.count-index l.cut.counts.items) (drop l.start l.cut.blocks.items);
   plan : IsPlan l.credits_shown (length l.cut.connections.now)
       (shown_at l.credits_shown 0 (take l.count-index (wholes l.cut.connections.now))) l.plan.items;
+  few : length l.plan.items ≤ l.start;
 }

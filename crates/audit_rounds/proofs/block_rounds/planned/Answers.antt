@@ -1,4 +1,4 @@
-use Rattle.std.proofs.Common.{◌≡◌, ◌<◌, List, length, All, sym, ◌∙◌, subst}
+use Rattle.std.proofs.Common.{◌≡◌, ◌<◌, List, length, All, sym, ◌∙◌, subst, arith}
 use Rattle.std.proofs.lemmas.List.{length-map}
 use Rattle.conn_scan.specs.Block.{BlockFits}
 use Rattle.conn_scan.specs.declared.block_items.Block.{Block}
@@ -25,9 +25,14 @@ plan_of-requires-clause-fits g c =
     subst (λ (of : List Block). All (BlockFits connection_start) (wholes of)) (sym c.in_ok-cut.ensures.of)
     c.requires.fits
 
-pub returns : goal.returns
-returns g c =
+pub returns-clause-few : goal.returns-clause-few
+returns-clause-few g c =
+    let few = c.in_ok-cut.ensures.few in
+    if_ok-then c.plan_of.result _ _ c.plan_of.ensures.few (λ plan less. omega (arith, less, few))
+
+pub returns-clause-plan : goal.returns-clause-plan
+returns-clause-plan g c =
     let shows = c.args.credits_shown in
-    if_ok-then c.plan_of.result _ _ c.plan_of.ensures (λ plan is.
+    if_ok-then c.plan_of.result _ _ c.plan_of.ensures.plan (λ plan is.
     subst (λ (of : List Block). IsPlan shows (length of) (shown_at shows 0 (wholes of)) plan.items)
     c.in_ok-cut.ensures.of is)

@@ -1,4 +1,4 @@
-use Rattle.std.proofs.Common.{◌<◌, length, map, get_or, All, None, sym, subst, arith}
+use Rattle.std.proofs.Common.{◌<◌, length, map, get_or, All, None, sym, ap, subst, arith}
 use Rattle.split_merge.specs.Board.{Job}
 use Rattle.audit_rounds.specs.code.Plans.{AreParts, block_job}
 use Rattle.audit_rounds.proofs.Jobs.{all-map}
@@ -26,6 +26,11 @@ parts_of-requires-clause-places g c κs inside =
     each-place c.args.connections.now c.args.stops.now c.args.found.items c.requires.stops c.requires.number
     c.requires.each
 
+pub parts_of-requires-clause-few : goal.parts_of-requires-clause-few
+parts_of-requires-clause-few g c κs inside =
+    let same = ap length c.as_slice-plan.ensures.value in
+    let few = c.in_ok-plan.ensures.few in omega (arith, same, few)
+
 pub parts_of-requires-clause-within : goal.parts_of-requires-clause-within
 parts_of-requires-clause-within g c κs inside =
     let stops = c.args.stops.now in
@@ -34,7 +39,7 @@ parts_of-requires-clause-within g c κs inside =
     subst (λ plan. All (λ (job : Job). job.connection < length stops) (map (block_job c.args.credits_shown) plan))
     (sym c.as_slice-plan.ensures.value)
     (all-map (λ (job : Job). job.connection < length stops) (block_job c.args.credits_shown) plan
-    (λ n d l. let one = c.in_ok-plan.ensures.within n d l in omega (arith, number, one)))
+    (λ n d l. let one = c.in_ok-plan.ensures.plan.within n d l in omega (arith, number, one)))
 
 pub gathered-requires : goal.gathered-requires
 gathered-requires g c =
@@ -46,7 +51,7 @@ gathered-requires g c =
     (subst (λ plan. All (λ (job : Job). job.connection < bound) (map (block_job c.args.credits_shown) plan))
     (sym c.as_slice-plan.ensures.value)
     (all-map (λ (job : Job). job.connection < bound) (block_job c.args.credits_shown) plan
-    (λ n d l. let one = c.in_ok-plan.ensures.within n d l in omega (arith, number, one))))
+    (λ n d l. let one = c.in_ok-plan.ensures.plan.within n d l in omega (arith, number, one))))
 
 pub returns-clause-findings : goal.returns-clause-findings
 returns-clause-findings g c =
@@ -60,5 +65,5 @@ returns-clause-findings g c =
     let number = c.requires.number in
     if_ok-then c.gathered.result _ _ c.gathered.ensures.each (λ last each n whole list list' l.
     merged shows connections (length connections) plan stops parts (get_or c.args.found.items n list').items
-    (get_or last.items n list).items n whole c.in_ok-plan.ensures laid
+    (get_or last.items n list).items n whole c.in_ok-plan.ensures.plan laid
     (c.requires.each n whole None list' l).least l (each n list list' (omega (arith, number, l))))

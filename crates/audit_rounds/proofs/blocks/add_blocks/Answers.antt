@@ -1,5 +1,5 @@
-use Rattle.std.proofs.Common.{[], ◌∷◌, ◌++◌, append_assoc, append-nil, refl, sym, ap, ◌∙◌, subst}
-use Rattle.std.proofs.lemmas.List.{map-append}
+use Rattle.std.proofs.Common.{[], ◌∷◌, ◌++◌, append_assoc, append-nil, length, refl, sym, ap, ◌∙◌, subst, arith}
+use Rattle.std.proofs.lemmas.List.{map-append, length_push}
 use Rattle.std.proofs.lemmas.List.Elements.{All-push}
 use Rattle.conn_scan.specs.declared.block_items.Block.{Block}
 use Rattle.audit_rounds.specs.declared.blocks.ConnectionBlock.{ConnectionBlock}
@@ -11,6 +11,7 @@ pub loop-first-init : goal.loop-first-init
 loop-first-init c = record {
   is_block = c.requires.whole;
   short = λ h. h;
+  few = omega arith;
   added = ([], sym (append-nil c.args.blocks.now.items), refl);
 }
 
@@ -30,6 +31,12 @@ loop-first-preserved c =
     let one : ConnectionBlock = record { connection = connection; block = front } in
     record {
       is_block = cut.1;
+      few =
+          let before = i.few in
+          let longer = ap length c.in_ok-push.ensures.items ∙ length_push c.loop-first.blocks.items one in
+          let left = c.split_at.ensures.back_len in
+          let there = ap length c.in-Some.ensures.cases.0 in
+          omega (arith, before, longer, left, there);
       short = λ h. subst AreShort (sym c.in_ok-push.ensures.items)
           (All-push (λ (one : ConnectionBlock). IsShort one.block) _ one (i.short h) cut.0);
       added = (

@@ -1,4 +1,4 @@
-use Rattle.std.proofs.Common.{◌≡◌, ◌++◌, List, length, map}
+use Rattle.std.proofs.Common.{◌≡◌, ◌+◌, ◌≤◌, ◌++◌, List, length, map}
 use Rattle.block_scan.specs.List.{items_of}
 use Rattle.conn_scan.specs.declared.block_items.Block.{Block}
 use Rattle.conn_scan.specs.Items.{items_in, IsBlock}
@@ -10,6 +10,7 @@ abbrev pub invariant-loop-first : goal.invariant-loop-first
 invariant-loop-first l = record {
   is_block : IsBlock l.rest;
   short : AreShort l.fn.blocks.items → AreShort l.blocks.items;
+  few : length l.blocks.items + length l.rest.frames.now ≤ length l.fn.blocks.items + length l.whole.frames.now;
   added : (cut : List Block) × (l.blocks.items ≡ l.fn.blocks.items ++ blocks_of_connection l.connection cut)
       × (items_of (map items_in cut) ++ items_in l.rest ≡ items_in l.whole);
 }

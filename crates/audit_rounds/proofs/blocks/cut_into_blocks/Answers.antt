@@ -1,5 +1,6 @@
-use Rattle.std.proofs.Common.{◌≡◌, ◌+◌, ◌-◌, length, take, sym, ap, ◌∙◌, subst}
+use Rattle.std.proofs.Common.{◌≡◌, ◌+◌, ◌-◌, length, take, sym, ap, ◌∙◌, subst, arith}
 use Rattle.std.proofs.lemmas.List.{length_push}
+use Rattle.std.proofs.lemmas.List.Sums.{sum_by_more, sum_by-take-le}
 use Rattle.conn_scan.specs.declared.block_items.Block.{Block}
 use Rattle.audit_rounds.specs.code.Blocks.{AddsBlocks, AreCut, wholes}
 use Rattle.audit_rounds.proofs.Layouts.{cut-next}
@@ -25,4 +26,19 @@ loop-connection-preserved c =
           (subst (λ (one : Block). AddsBlocks c.len.result one old new) c.connection-item.is adds)
           (λ k. after k - before k));
       short = adds.short i.short;
+      few =
+          let before = i.few in
+          let own = adds.few in
+          let is = ap (λ (one : Block). length one.frames.now) c.connection-item.is in
+          let more = sum_by_more (λ (one : Block). length one.frames.now) all at c.connection-item.result
+          c.loop-connection-test.true in
+          omega (arith, before, own, is, more);
     }
+
+pub returns-clause-few : goal.returns-clause-few
+returns-clause-few c =
+    let i = c.loop-connection.invariant in
+    let so_far = i.few in
+    let part = sum_by-take-le (λ (one : Block). length one.frames.now) c.args.connections.now
+    c.loop-connection.connection-index in
+    let few = c.requires.few in omega (arith, so_far, part, few)

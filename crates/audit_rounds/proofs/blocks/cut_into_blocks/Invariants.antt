@@ -1,4 +1,6 @@
-use Rattle.std.proofs.Common.{◌≡◌, length, take}
+use Rattle.std.proofs.Common.{◌≡◌, ◌≤◌, length, take}
+use Rattle.std.specs.List.{sum_by}
+use Rattle.conn_scan.specs.declared.block_items.Block.{Block}
 use Rattle.audit_rounds.specs.code.Blocks.{AreCut, AreShort, wholes}
 use Rattle.audit_rounds.proofs.blocks.cut_into_blocks.Given as goal
 
@@ -8,4 +10,5 @@ invariant-loop-connection l = record {
   number : length l.counts.items ≡ l.connection-index;
   cut : AreCut 0 (take l.connection-index (wholes l.connections)) l.counts.items l.blocks.items;
   short : AreShort l.blocks.items;
+  few : length l.blocks.items ≤ sum_by (λ (whole : Block). length whole.frames.now) (take l.connection-index l.connections);
 }

@@ -1,6 +1,8 @@
 use Rattle.std.proofs.Common.{All, map, sym, ap, ◌∙◌, subst}
 use Rattle.audit_rounds.specs.declared.prepared.Prepared.{Prepared}
 use Rattle.audit_rounds.specs.code.Prepared.{IsPrepared, found_before}
+use Rattle.audit_rounds.specs.code.Few.{PreparedAreFew}
+use Rattle.audit_rounds.proofs.Few.{few-ready}
 use Rattle.audit_rounds.proofs.Fronts.{passes-same}
 use Rattle.audit_rounds.proofs.Whole.{if_ok-then}
 use Rattle.audit_rounds.proofs.connections.findings_of_batch.Goals as goal
@@ -12,6 +14,11 @@ findings_of_prepared-requires-clause-prepared g c κs within =
 pub findings_of_prepared-requires-clause-found : goal.findings_of_prepared-requires-clause-found
 findings_of_prepared-requires-clause-found g c κs within =
     c.in_ok-made.ensures.before ∙ ap (map found_before) (sym c.as_slice-prepared.ensures.value)
+
+pub findings_of_prepared-requires-clause-few : goal.findings_of_prepared-requires-clause-few
+findings_of_prepared-requires-clause-few g c κs within =
+    subst PreparedAreFew (sym c.as_slice-prepared.ensures.value)
+    (few-ready c.args.connections.now c.in_ok-made.made.prepared.items c.in_ok-made.ensures.frames c.requires.few)
 
 pub returns : goal.returns
 returns g c =

@@ -1,4 +1,5 @@
 use Rattle.std.proofs.Common.{◌∙◌}
+use Rattle.audit_rounds.proofs.Few.{few-rests}
 use Rattle.audit_rounds.proofs.Fronts.{each-remains, all-settle}
 use Rattle.audit_rounds.proofs.Whole.{if_ok-then}
 use Rattle.audit_rounds.proofs.connections.findings_of_prepared.Goals as goal
@@ -11,6 +12,14 @@ rounds_over_blocks-requires-clause-each g c κs within =
     rw rests (each-remains c.args.credits_shown c.args.connections.now c.in_ok-after.after.found.items
     c.as_slice-stops.result.now c.as_slice.result.now c.in_ok-rests.rests.items c.requires.prepared
     (rw (stops, opened) c.in_ok-after.ensures) c.in_ok-rests.ensures)
+
+pub rounds_over_blocks-requires-clause-few : goal.rounds_over_blocks-requires-clause-few
+rounds_over_blocks-requires-clause-few g c κs within =
+    let stops = c.as_slice-stops.ensures.value in
+    let opened = c.as_slice.ensures.value in
+    let rests = c.as_slice-rests.ensures.value in
+    rw rests (few-rests c.args.connections.now c.as_slice-stops.result.now c.as_slice.result.now
+    c.in_ok-rests.rests.items (rw opened c.in_ok-after.ensures.opens) c.in_ok-rests.ensures c.requires.few)
 
 pub returns : goal.returns
 returns g c =

@@ -1,10 +1,16 @@
-use Rattle.std.proofs.Common.{◌≤◌, ◌^◌, length}
+use Rattle.std.proofs.Common.{◌≡◌, ◌≤◌, ◌-◌, ◌^◌, length, take}
+use Rattle.std.specs.List.{sum_by}
+use Rattle.audit_rounds.proofs.Few.{lent}
 use Rattle.audit_rounds.proofs.divisions.batch_length.Given as goal
 
--- the connections so far are no more than there are, and have few frames
-abbrev pub invariant-loop-frames : goal.invariant-loop-frames
-invariant-loop-frames l = record {
-  count : l.count ≤ l.frames-index;
-  within : l.frames-index ≤ length l.connections;
-  short : l.together ≤ 2 ^ 22;
+-- the connections so far have few frames: those of the first one, or no more than a batch has
+abbrev pub invariant-loop-count : goal.invariant-loop-count
+invariant-loop-count l = record {
+  some : 1 ≤ l.count;
+  within : l.count ≤ length l.connections;
+  is : l.together ≡ sum_by lent (take l.count l.connections);
+  few : l.together ≤ 2 ^ 28;
 }
+
+abbrev pub decreases-loop-count : goal.decreases-loop-count
+decreases-loop-count l = length l.connections - l.count

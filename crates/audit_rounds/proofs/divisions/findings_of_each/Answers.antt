@@ -6,6 +6,7 @@ use Rattle.audit_terms.specs.runs.Orderly.{IsOrderly}
 use Rattle.audit_terms.specs.declared.frames.Frame.{Frame}
 use Rattle.audit_terms.specs.Finding.{shown}
 use Rattle.audit_terms.specs.Pass.{pass}
+use Rattle.audit_rounds.specs.code.Few.{AreFew}
 use Rattle.audit_rounds.proofs.Batches.{batch-more}
 use Rattle.audit_rounds.proofs.divisions.findings_of_each.Goals as goal
 
@@ -31,6 +32,12 @@ loop-done-init g c = record {
   shown = ap (map (λ (list : Vec Finding Global). list.items)) c.in_ok-all.ensures.items;
 }
 
+pub batch_length-requires-clause-frames : goal.batch_length-requires-clause-frames
+batch_length-requires-clause-frames g c =
+    let orderly = λ (frames : Bor (List Frame)). IsOrderly frames.now in
+    let all = c.args.connections.now in
+    subst (All orderly) (sym c.split_at.ensures.back) (All-drop orderly c.loop-done.done all c.requires)
+
 pub findings_by_halves-requires : goal.findings_by_halves-requires
 findings_by_halves-requires g c =
     let orderly = λ (frames : Bor (List Frame)). IsOrderly frames.now in
@@ -44,9 +51,12 @@ findings_by_halves-requires g c =
           filled.workers,
           (
             filled.groups,
-            subst (All orderly) (sym c.split_at-in-loop-done.ensures.front)
-                (All-take orderly c.batch_length.result rest
-                (subst (All orderly) (sym c.split_at.ensures.back) (All-drop orderly c.loop-done.done all c.requires))),
+            (
+              subst (All orderly) (sym c.split_at-in-loop-done.ensures.front)
+                  (All-take orderly c.batch_length.result rest
+                  (subst (All orderly) (sym c.split_at.ensures.back) (All-drop orderly c.loop-done.done all c.requires))),
+              subst AreFew (sym c.split_at-in-loop-done.ensures.front) c.batch_length.ensures.few,
+            ),
           ),
         ),
       ),

@@ -3,6 +3,7 @@ use Rattle.audit_terms.specs.declared.frames.Frame.{Frame}
 use Rattle.audit_terms.specs.Finding.{shown}
 use Rattle.audit_terms.specs.Pass.{pass}
 use Rattle.audit_rounds.proofs.ByFronts.{orderly-laters, shown-laters}
+use Rattle.audit_rounds.proofs.Few.{few-laters}
 use Rattle.audit_rounds.proofs.Whole.{if_ok-then}
 use Rattle.audit_rounds.proofs.early_stops.findings_of_laters.Goals as goal
 
@@ -11,6 +12,11 @@ findings_of_batch-requires-clause-frames g c κs within =
     orderly-laters c.args.connections.now c.as_slice.result.now c.args.early.now
     (ap (map (λ (later : Bor (List Frame)). later.now)) c.as_slice.ensures.value ∙ c.in_ok-laters.ensures)
     c.requires.frames
+
+pub findings_of_batch-requires-clause-few : goal.findings_of_batch-requires-clause-few
+findings_of_batch-requires-clause-few g c κs within =
+    few-laters c.args.connections.now c.as_slice.result.now c.args.early.now
+    (ap (map (λ (later : Bor (List Frame)). later.now)) c.as_slice.ensures.value ∙ c.in_ok-laters.ensures) c.requires.few
 
 pub returns : goal.returns
 returns g c =

@@ -9,8 +9,8 @@ use Rattle.audit_rounds.proofs.halves.+findings_by_halves+fn-findings_by_halves-
 
 pub returns : goal.returns
 returns g t c =
-    let front = c.split_at.result.0.now in
-    let back = c.split_at.result.1.now in
+    let front = c.in_halves.result.0.now in
+    let back = c.in_halves.result.1.now in
     let items = λ (one : Vec Finding Global). one.items in
     let shows = λ (frames : Bor (List Frame)). shown c.args.credits_shown (pass frames.now) in
     let one = c.in_ok-found in
@@ -18,5 +18,5 @@ returns g t c =
     let first = IfOk-at_ok (λ found. map items found.items ≡ map shows front) one.was c.join-one.ensures.first in
     let second = IfOk-at_ok (λ found. map items found.items ≡ map shows back) other.was c.join-one.ensures.second in
     rw c.in_ok-append.ensures.items
-    (halves-whole items shows c.args.connections.now front back c.middle.result one.found.items other.more.items
-    c.split_at.ensures.front c.split_at.ensures.back first second)
+    (halves-whole items shows c.args.connections.now front back one.found.items other.more.items c.in_halves.ensures.whole
+    first second)

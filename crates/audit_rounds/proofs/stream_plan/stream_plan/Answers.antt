@@ -1,6 +1,7 @@
-use Rattle.std.proofs.Common.{rules, length, ap, ◌∙◌}
+use Rattle.std.proofs.Common.{rules, length, ap, ◌∙◌, arith}
 use Rattle.split_merge.specs.Groups.{groups}
 use Rattle.stream_groups.specs.declared.streams.Streams.{Streams}
+use Rattle.audit_rounds.proofs.Few.{jobs-few}
 use Rattle.audit_rounds.proofs.StreamPlan.{plan-more, plan-done}
 use Rattle.audit_rounds.proofs.stream_plan.stream_plan.Goals as goal
 
@@ -12,6 +13,13 @@ loop-connection-preserved c =
     ∙ ap (λ (one : Streams). groups (length one.split.now.rows.items) c.args.count)
     c.index-connections-connection.is)
     c.in_ok-add_jobs.ensures c.loop-connection.invariant
+
+pub returns-clause-numbered : goal.returns-clause-numbered
+returns-clause-numbered c =
+    let is = ap length (plan-done c.args.count c.loop-connection.connection c.args.connections.now
+    c.loop-connection.plan.items _ c.loop-connection-test.false c.loop-connection.invariant) in
+    let jobs = jobs-few c.args.count 0 c.args.connections.now in
+    let few = c.requires.few in omega (arith, is, jobs, few)
 
 pub returns-clause-plan : goal.returns-clause-plan
 returns-clause-plan c =

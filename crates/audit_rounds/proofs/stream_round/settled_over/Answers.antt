@@ -6,6 +6,8 @@ use Rattle.stream_groups.specs.declared.streams.Streams.{Streams}
 use Rattle.audit_rounds.specs.code.AfterStreams.{HaveSettled}
 use Rattle.audit_rounds.specs.code.StreamJobs.{IsReady}
 use Rattle.audit_rounds.specs.code.StreamRound.{IsStreamsOf, IsFirstStop}
+use Rattle.audit_rounds.specs.code.Few.{RowsAreFew}
+use Rattle.audit_rounds.proofs.Few.{few-rows}
 use Rattle.audit_rounds.proofs.StreamRounds.{ready-each, stops-are-places}
 use Rattle.audit_rounds.proofs.StreamsLeft.{as-many}
 use Rattle.audit_rounds.proofs.Whole.{if_ok-then}
@@ -30,6 +32,12 @@ pub settled_streams-requires-clause-ready : goal.settled_streams-requires-clause
 settled_streams-requires-clause-ready g c κs within =
     subst (All IsReady) (sym c.as_slice-streams.ensures.value)
     (ready-each c.args.connections.now c.in_ok-streams.streams.items c.requires.prepared c.in_ok-streams.ensures)
+
+pub settled_streams-requires-clause-few : goal.settled_streams-requires-clause-few
+settled_streams-requires-clause-few g c κs within =
+    subst RowsAreFew (sym c.as_slice-streams.ensures.value)
+    (few-rows c.args.connections.now c.in_ok-streams.streams.items c.requires.prepared c.in_ok-streams.ensures
+    c.requires.few)
 
 pub returns : goal.returns
 returns g c =
