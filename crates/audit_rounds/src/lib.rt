@@ -11,8 +11,8 @@
 //! 3. In the third, blocks that are not clear are gone through, each from the state before it; where credits are shown,
 //!    all blocks are.
 //!
-//! All that was found of a connection, with the faults of single frames and the acknowledgements that answer nothing,
-//! is put in order and cut at the first error, and so makes the pass. A batch is consecutive connections that have not
+//! What its blocks show is merged with all that was found of a connection before, the faults of single frames and the
+//! acknowledgements that answer nothing among it. That is cut at the first error, and so makes the pass. A batch is consecutive connections that have not
 //! too many frames together: it bounds what the rounds need beside the frames, and lets threads start once for many
 //! small connections. Jobs have numbers of 32 bits; a plan with more would be answered as want of memory.
 //! Of a long connection a front goes through the rounds first: what an early error ends is then neither split nor gone
@@ -31,9 +31,9 @@
 //!   the items of the pass.
 //!
 //! Wrong bodies that the prover refuses: changes of settings, not handed on to the blocks; a look that answers nothing in
-//! place of the worker's, in the round over streams and in that over blocks. Those of single rounds stand in the crates
-//! below. Tested by whole reports, in many mixes of workers, groups and block lengths: that the call succeeds where there
-//! is memory.
+//! place of the worker's, in the round over streams and in that over blocks; what the blocks show, lost where nothing was
+//! found before. Those of single rounds stand in the crates below. Tested by whole reports, in many mixes of workers,
+//! groups and block lengths: that the call succeeds where there is memory. Trusted: the port of `itertools`.
 #![tactic(auto)]
 
 mod beginnings;
@@ -47,6 +47,7 @@ mod early_stops;
 mod gathering;
 mod halves;
 pub mod laws;
+mod merging;
 mod opened;
 mod prepared;
 mod stream_jobs;
