@@ -1,12 +1,12 @@
 -- Two runs in order, merged, are all their elements in order.
 use Rattle.std.proofs.Common.{◌≡◌, ℕ, ◌+◌, ◌<◌, Bool, true, false, not, List, [], ◌∷◌, ◌++◌, map, length, get_or, refl, append-nil, sym, ap, ◌∙◌, arith, true≢false, Vec, Global}
 use Rattle.std.proofs.lemmas.List.{length-map, length-append, get_or-map, nil_from_length}
-use Rattle.itertools.specs.List.{merge_by, merge_at}
+use Rattle.itertools.specs.List.{merge_by}
 use Rattle.audit_terms.specs.Order.{put_by, ordered_by}
 use Rattle.audit_terms.specs.declared.findings.Finding.{Finding}
 use Rattle.audit_terms.specs.Finding.{comes_after, in_order}
 use Rattle.audit_terms.proofs.OrderedLists.{IsAfter, NoneBefore, IsInOrder, ordered-in_order, ordered-append_comm, in_order-ordered}
-use Rattle.audit_terms.proofs.FindingOrder.{comes_after_is, in_order-in_order, in_order-append_left, in_order-append_right, in_order-append_both}
+use Rattle.audit_terms.proofs.FindingOrder.{comes_after_is, in_order-append_left, in_order-append_right, in_order-append_both}
 
 module _ {X : Type 0} (after : X → X → Bool) (o : IsAfter after) where
   -- does x go first of the two?
@@ -21,7 +21,8 @@ module _ {X : Type 0} (after : X → X → Bool) (o : IsAfter after) where
   none-below x y [] p h = tt
   none-below x y (z ∷ zs) p h = (below-case x y z _ refl p h.0, none-below x y zs p h.1)
 
-  none-merge_at : (z x : X) (xs : List X) → ((ys : List X) → NoneBefore after o z ys → NoneBefore after o z (merge_by is_first xs ys))
+  none-merge_at : (z x : X) (xs : List X)
+      → ((ys : List X) → NoneBefore after o z ys → NoneBefore after o z (merge_by is_first xs ys))
       → NoneBefore after o z (x ∷ xs) → (ys : List X) → NoneBefore after o z ys
       → NoneBefore after o z (merge_by is_first (x ∷ xs) ys)
   none-merge_at z x xs ih h [] k = h
@@ -36,7 +37,8 @@ module _ {X : Type 0} (after : X → X → Bool) (o : IsAfter after) where
   none-merge z [] h ys k = k
   none-merge z (x ∷ xs) h ys k = none-merge_at z x xs (none-merge z xs h.1) h ys k
 
-  in_order-merge_at : (x : X) (xs : List X) → ((ys : List X) → IsInOrder after o ys → IsInOrder after o (merge_by is_first xs ys))
+  in_order-merge_at : (x : X) (xs : List X)
+      → ((ys : List X) → IsInOrder after o ys → IsInOrder after o (merge_by is_first xs ys))
       → IsInOrder after o (x ∷ xs) → (ys : List X) → IsInOrder after o ys
       → IsInOrder after o (merge_by is_first (x ∷ xs) ys)
   in_order-merge_at x xs ih h [] k = h

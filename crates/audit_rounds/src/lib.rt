@@ -12,9 +12,10 @@
 //!    all blocks are.
 //!
 //! What its blocks show is merged with all that was found of a connection before, the faults of single frames and the
-//! acknowledgements that answer nothing among it. That is cut at the first error, and so makes the pass. A batch is consecutive connections that have not
-//! too many frames together: it bounds what the rounds need beside the frames, and lets threads start once for many
-//! small connections. Jobs have numbers of 32 bits; a plan with more would be answered as want of memory.
+//! acknowledgements that answer nothing among it. That is cut at the first error, and so makes the pass. A batch is
+//! consecutive connections that have not too many frames together: it bounds what the rounds need beside the frames,
+//! and lets threads start once for many small connections. Jobs have numbers of 32 bits; a plan with more would be
+//! answered as want of memory.
 //! Of a long connection a front goes through the rounds first: what an early error ends is then neither split nor gone
 //! through. Many short connections go in halves of as many frames, side by side, each with half of the workers.
 //!
@@ -30,10 +31,11 @@
 //! - [`laws::openings_are_found`] and [`laws::items_are_found`]: the numbers that streams tell, and the changes, make
 //!   the items of the pass.
 //!
-//! Wrong bodies that the prover refuses: changes of settings, not handed on to the blocks; a look that answers nothing in
-//! place of the worker's, in the round over streams and in that over blocks; what the blocks show, lost where nothing was
-//! found before. Those of single rounds stand in the crates below. Tested by whole reports, in many mixes of workers,
-//! groups and block lengths: that the call succeeds where there is memory. Trusted: the port of `itertools`.
+//! Wrong bodies that the prover refuses: changes of settings, not handed on to the blocks; a look that answers nothing
+//! in place of the worker's, in the round over streams and in that over blocks; what the blocks show, lost where
+//! nothing was found before. Those of single rounds stand in the crates below. Tested by whole reports, in many mixes
+//! of workers, groups and block lengths: that the call succeeds where there is memory. Trusted: the port of
+//! `itertools`.
 #![tactic(auto)]
 
 mod beginnings;

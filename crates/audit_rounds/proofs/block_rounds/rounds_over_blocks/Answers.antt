@@ -3,7 +3,6 @@ use Rattle.audit_terms.specs.Finding.{in_order, upto_stop}
 use Rattle.audit_terms.proofs.FindingOrder.{in_order-in_order}
 use Rattle.split_merge.specs.Board.{Job, findings_of_parts}
 use Rattle.job_crew.specs.Laid.{part_of}
-use Rattle.job_crew.specs.declared.parts.Part.{Part}
 use Rattle.audit_rounds.specs.code.Plans.{AreParts, block_job}
 use Rattle.audit_rounds.proofs.Jobs.{all-map}
 use Rattle.audit_rounds.proofs.Settles.{merged, parts-within, each-block, each-fits, each-place}

@@ -1,4 +1,4 @@
-use Rattle.std.proofs.Common.{◌≡◌, length, sym, ◌∙◌, ⊎_elim}
+use Rattle.std.proofs.Common.{sym, ◌∙◌, ⊎_elim}
 use Rattle.std.specs.Vec.Iter.{into_iter_items}
 use Rattle.std.specs.Iterator.Adapters.{zip_first, zip_second}
 use Rattle.audit_rounds.proofs.Merges.{first-over, second-over}
