@@ -27,3 +27,4 @@ pub mod StreamRounds
 pub mod StreamsLeft
 pub mod EarlyStop
 pub mod ByFronts
+pub mod Merges

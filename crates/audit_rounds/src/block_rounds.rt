@@ -22,7 +22,8 @@ use crate::block_plans::{ReadyBlock, plan_of};
 use crate::block_round::BlockRound;
 use crate::blocks::{ConnectionBlock, cut_into_blocks};
 use crate::divisions::Division;
-use crate::gathering::gathered;
+use crate::gathering::{gathered, none_of_each};
+use crate::merging::merged_each;
 use crate::sum_round::SumRound;
 use audit_terms::{Finding, Place};
 use conn_scan::{Block, ConnSum};
@@ -145,5 +146,7 @@ pub(crate) fn rounds_over_blocks<R: Threads + Sync, G: Gate>(
     let plan = planned(rt, alloc, division, gate, credits_shown, stops, connections)?;
     let plan = plan.as_slice();
     let parts = parts_of(rt, alloc, division, gate, credits_shown, stops, plan)?;
-    gathered(found, parts)
+    let none = none_of_each(alloc, connections.len())?;
+    let own = gathered(none, parts)?;
+    merged_each(alloc, found, own)
 }

@@ -1,12 +1,27 @@
 //! What rounds found, connection by connection.
 
-ghost use Rattle.std.specs.Prelude.{◌≡◌, ℕ, ◌++◌, ◌<◌, All, IfOk, map, length, slice_index_or};
+ghost use Rattle.std.specs.Prelude.{◌≡◌, ℕ, [], ◌++◌, ◌<◌, All, IfOk, map, length, slice_index_or};
 ghost use Rattle.split_merge.specs.Board.{findings_of_parts};
 ghost use Rattle.job_crew.specs.Laid.{part_of};
 
 use audit_terms::Finding;
 use job_crew::Part;
-use std::alloc::AllocError;
+use std::alloc::{AllocError, Global};
+
+/// So many empty lists.
+pub(crate) fn none_of_each<T: Drop>(
+    alloc: Global,
+    connections: usize,
+) -> Result<Vec<Vec<T>>, AllocError>
+    ensures number { IfOk result (λ all. length all.items ≡ connections) }
+    ensures each { IfOk result (λ all. All (λ list. list.items ≡ []) all.items) }
+{
+    let mut all = Vec::with_capacity(alloc, connections)?;
+    for _ in 0..connections {
+        all.push(Vec::new(alloc))?;
+    }
+    Ok(all)
+}
 
 /// What was found of each connection, and after it what the parts of a round keep of it.
 pub(crate) fn gathered<M: Drop>(

@@ -11,11 +11,11 @@
 //! 3. In the third, blocks that are not clear are gone through, each from the state before it; where credits are shown,
 //!    all blocks are.
 //!
-//! All that was found of a connection, with the faults of single frames and the acknowledgements that answer nothing,
-//! is put in order and cut at the first error, and so makes the pass. A batch is consecutive connections that have not
-//! too many frames together: it bounds what the rounds need beside the frames, and lets threads start once for many
-//! small connections. It has 2^28 frames at most, whatever the connections, so each round has fewer than 2^32 jobs, and
-//! want of memory is answered only where a growth was refused.
+//! What its blocks show is merged with all that was found of a connection before, the faults of single frames and the
+//! acknowledgements that answer nothing among it. That is cut at the first error, and so makes the pass. A batch is
+//! consecutive connections that have not too many frames together: it bounds what the rounds need beside the frames,
+//! and lets threads start once for many small connections. It has 2^28 frames at most, whatever the connections, so
+//! each round has fewer than 2^32 jobs, and want of memory is answered only where a growth was refused.
 //! Of a long connection a front goes through the rounds first: what an early error ends is then neither split nor gone
 //! through. Many short connections go in halves of as many frames, side by side, each with half of the workers.
 //!
@@ -31,10 +31,11 @@
 //! - [`laws::openings_are_found`] and [`laws::items_are_found`]: the numbers that streams tell, and the changes, make
 //!   the items of the pass.
 //!
-//! Wrong bodies that the prover refuses: changes of settings, not handed on to the blocks; a look that answers nothing in
-//! place of the worker's, in the round over streams and in that over blocks. Those of single rounds stand in the crates
-//! below. Tested by whole reports, in many mixes of workers, groups and block lengths: that the call succeeds where there
-//! is memory.
+//! Wrong bodies that the prover refuses: changes of settings, not handed on to the blocks; a look that answers nothing
+//! in place of the worker's, in the round over streams and in that over blocks; what the blocks show, lost where
+//! nothing was found before. Those of single rounds stand in the crates below. Tested by whole reports, in many mixes
+//! of workers, groups and block lengths: that the call succeeds where there is memory. Trusted: the port of
+//! `itertools`.
 #![tactic(auto)]
 
 mod beginnings;
@@ -48,6 +49,7 @@ mod early_stops;
 mod gathering;
 mod halves;
 pub mod laws;
+mod merging;
 mod opened;
 mod prepared;
 mod stream_jobs;

@@ -5,20 +5,9 @@ ghost use Rattle.std.specs.Prelude.{◌≡◌, ℕ, ◌<◌, [], All, IfOk, Vec 
 ghost use Rattle.job_crew.specs.declared.parts.Part.{Part as PartTerm};
 ghost use Rattle.audit_rounds.specs.code.Opened.{numbers_told, IsInOrder};
 
+use crate::gathering::none_of_each;
 use job_crew::Part;
 use std::alloc::{AllocError, Global};
-
-/// So many empty lists.
-fn none_of_each(alloc: Global, connections: usize) -> Result<Vec<Vec<u32>>, AllocError>
-    ensures number { IfOk result (λ all. length all.items ≡ connections) }
-    ensures each { IfOk result (λ all. All (λ list. list.items ≡ []) all.items) }
-{
-    let mut all = Vec::with_capacity(alloc, connections)?;
-    for _ in 0..connections {
-        all.push(Vec::new(alloc))?;
-    }
-    Ok(all)
-}
 
 /// The numbers that the parts tell of each connection, one part after the other.
 fn told_of_each(

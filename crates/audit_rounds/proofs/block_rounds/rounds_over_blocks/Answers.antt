@@ -1,5 +1,8 @@
-use Rattle.std.proofs.Common.{◌<◌, length, map, get_or, All, None, sym, ap, subst, arith}
-use Rattle.split_merge.specs.Board.{Job}
+use Rattle.std.proofs.Common.{◌≡◌, ◌<◌, ◌++◌, length, map, get_or, All, None, refl, sym, ap, ◌∙◌, subst, arith}
+use Rattle.audit_terms.specs.Finding.{in_order, upto_stop}
+use Rattle.audit_terms.proofs.FindingOrder.{in_order-in_order}
+use Rattle.split_merge.specs.Board.{Job, findings_of_parts}
+use Rattle.job_crew.specs.Laid.{part_of}
 use Rattle.audit_rounds.specs.code.Plans.{AreParts, block_job}
 use Rattle.audit_rounds.proofs.Jobs.{all-map}
 use Rattle.audit_rounds.proofs.Settles.{merged, parts-within, each-block, each-fits, each-place}
@@ -45,13 +48,24 @@ pub gathered-requires : goal.gathered-requires
 gathered-requires g c =
     let bound = length c.args.found.items in
     let plan = c.in_ok-plan.plan.items in
+    let parts = c.in_ok-parts.parts.items in
     let number = c.requires.number in
-    parts-within (map (block_job c.args.credits_shown) c.as_slice-plan.result.now) c.args.stops.now
-    c.in_ok-parts.parts.items bound c.in_ok-parts.ensures
+    let none = c.in_ok-none.ensures.number in
+    let size : bound ≡ length c.in_ok-none.none.items = omega (arith, number, none) in
+    subst (λ n. All (λ part. part.connection < n) parts) size
+    (parts-within (map (block_job c.args.credits_shown) c.as_slice-plan.result.now) c.args.stops.now parts bound
+    c.in_ok-parts.ensures
     (subst (λ plan. All (λ (job : Job). job.connection < bound) (map (block_job c.args.credits_shown) plan))
     (sym c.as_slice-plan.ensures.value)
     (all-map (λ (job : Job). job.connection < bound) (block_job c.args.credits_shown) plan
-    (λ n d l. let one = c.in_ok-plan.ensures.plan.within n d l in omega (arith, number, one))))
+    (λ n d l. let one = c.in_ok-plan.ensures.plan.within n d l in omega (arith, number, one)))))
+
+pub merged_each-requires : goal.merged_each-requires
+merged_each-requires g c =
+    let number = c.requires.number in
+    let none = c.in_ok-none.ensures.number in
+    let own = c.in_ok-own.ensures.number in
+    omega (arith, number, none, own)
 
 pub returns-clause-findings : goal.returns-clause-findings
 returns-clause-findings g c =
@@ -63,7 +77,16 @@ returns-clause-findings g c =
     let laid = subst (λ plan. AreParts (map (block_job shows) plan) stops parts) c.as_slice-plan.ensures.value
     c.in_ok-parts.ensures in
     let number = c.requires.number in
-    if_ok-then c.gathered.result _ _ c.gathered.ensures.each (λ last each n whole list list' l.
-    merged shows connections (length connections) plan stops parts (get_or c.args.found.items n list').items
-    (get_or last.items n list).items n whole c.in_ok-plan.ensures.plan laid
-    (c.requires.each n whole None list' l).least l (each n list list' (omega (arith, number, l))))
+    let none = c.in_ok-none.ensures.number in
+    if_ok-then c.merged_each.result _ _ c.merged_each.ensures.each (λ last each n whole list list' l.
+    let found = (get_or c.args.found.items n list').items in
+    let shown = findings_of_parts n (map part_of parts) in
+    let inside : n < length c.args.found.items = omega (arith, number, l) in
+    let empty : n < length c.in_ok-none.none.items = omega (arith, none, l) in
+    let own : (get_or c.in_ok-own.own.items n list').items ≡ shown =
+    c.in_ok-own.ensures.each n list' list' empty ∙ ap (λ l. l ++ shown) (c.in_ok-none.ensures.each n list' empty) in
+    let is : (get_or last.items n list).items ≡ in_order (found ++ shown) =
+    each n list list' list' inside ∙ ap (λ l. in_order (found ++ l)) own in
+    ap (λ l. upto_stop (in_order l)) is ∙ ap upto_stop (in_order-in_order (found ++ shown))
+    ∙ merged shows connections (length connections) plan stops parts found (found ++ shown) n whole
+    c.in_ok-plan.ensures.plan laid (c.requires.each n whole None list' l).least l refl)

@@ -1,12 +1,12 @@
-use Rattle.std.proofs.Common.{◌≡◌, ◌+◌, ℕ, [], All, length, sym, ap, ◌∙◌, subst, arith, Vec, Global}
+use Rattle.std.proofs.Common.{◌≡◌, ◌+◌, [], All, length, sym, ap, ◌∙◌, subst, arith, Vec, Global}
 use Rattle.std.proofs.lemmas.List.{length_push}
 use Rattle.std.proofs.lemmas.List.Elements.{All-push}
-use Rattle.audit_rounds.proofs.opened.none_of_each.Goals as goal
+use Rattle.audit_rounds.proofs.gathering.none_of_each.Goals as goal
 
 pub loop-preserved : goal.loop-preserved
-loop-preserved c =
+loop-preserved g c =
     let all = c.loop.all.items in
-    let none = λ (list : Vec ℕ Global). list.items ≡ [] in
+    let none = λ (list : Vec g.row.T.Denot Global). list.items ≡ [] in
     record {
       number = ap length c.in_ok-push.ensures.items ∙ length_push all c.new.result
           ∙ ap (λ n. n + 1) c.loop.invariant.number;
@@ -15,11 +15,11 @@ loop-preserved c =
     }
 
 pub returns-clause-number : goal.returns-clause-number
-returns-clause-number c =
+returns-clause-number g c =
     let number = c.loop.invariant.number in
     let least = c.loop-test.false in
     let most = c.loop.auto.counter-end in
     omega (arith, number, least, most)
 
 pub returns-clause-each : goal.returns-clause-each
-returns-clause-each c = c.loop.invariant.each
+returns-clause-each g c = c.loop.invariant.each

@@ -1,0 +1,173 @@
+-- Two runs in order, merged, are all their elements in order.
+use Rattle.std.proofs.Common.{◌≡◌, ℕ, ◌+◌, ◌<◌, Bool, true, false, not, List, [], ◌∷◌, ◌++◌, map, length, get_or, refl, append-nil, sym, ap, ◌∙◌, arith, true≢false, Vec, Global}
+use Rattle.std.proofs.lemmas.List.{length-map, length-append, get_or-map, nil_from_length}
+use Rattle.itertools.specs.List.{merge_by}
+use Rattle.audit_terms.specs.Order.{put_by, ordered_by}
+use Rattle.audit_terms.specs.declared.findings.Finding.{Finding}
+use Rattle.audit_terms.specs.Finding.{comes_after, in_order}
+use Rattle.audit_terms.proofs.OrderedLists.{IsAfter, NoneBefore, IsInOrder, ordered-in_order, ordered-append_comm, in_order-ordered}
+use Rattle.audit_terms.proofs.FindingOrder.{comes_after_is, in_order-append_left, in_order-append_right, in_order-append_both}
+
+module _ {X : Type 0} (after : X → X → Bool) (o : IsAfter after) where
+  -- does x go first of the two?
+  abbrev is_first : X → X → Bool
+  is_first x y = not (after x y)
+
+  below-case : (x y z : X) (b : Bool) → after x z ≡ b → after x y ≡ false → after y z ≡ false → after x z ≡ false
+  below-case x y z false e p q = e
+  below-case x y z true e p q = let t = o.above x y z e q in absurd (true≢false (sym t ∙ p))
+
+  none-below : (x y : X) (zs : List X) → after x y ≡ false → NoneBefore after o y zs → NoneBefore after o x zs
+  none-below x y [] p h = tt
+  none-below x y (z ∷ zs) p h = (below-case x y z _ refl p h.0, none-below x y zs p h.1)
+
+  none-merge_at : (z x : X) (xs : List X)
+      → ((ys : List X) → NoneBefore after o z ys → NoneBefore after o z (merge_by is_first xs ys))
+      → NoneBefore after o z (x ∷ xs) → (ys : List X) → NoneBefore after o z ys
+      → NoneBefore after o z (merge_by is_first (x ∷ xs) ys)
+  none-merge_at z x xs ih h [] k = h
+  none-merge_at z x xs ih h (y ∷ ys) k = step _ refl (none-merge_at z x xs ih h ys k.1) where
+    step : (b : Bool) → after x y ≡ b → NoneBefore after o z (merge_by is_first (x ∷ xs) ys)
+        → NoneBefore after o z (merge_by is_first (x ∷ xs) (y ∷ ys))
+    step true e rest = rw e (k.0, rest)
+    step false e rest = rw e (h.0, ih (y ∷ ys) k)
+
+  none-merge : (z : X) (xs : List X) → NoneBefore after o z xs → (ys : List X) → NoneBefore after o z ys
+      → NoneBefore after o z (merge_by is_first xs ys)
+  none-merge z [] h ys k = k
+  none-merge z (x ∷ xs) h ys k = none-merge_at z x xs (none-merge z xs h.1) h ys k
+
+  in_order-merge_at : (x : X) (xs : List X)
+      → ((ys : List X) → IsInOrder after o ys → IsInOrder after o (merge_by is_first xs ys))
+      → IsInOrder after o (x ∷ xs) → (ys : List X) → IsInOrder after o ys
+      → IsInOrder after o (merge_by is_first (x ∷ xs) ys)
+  in_order-merge_at x xs ih h [] k = h
+  in_order-merge_at x xs ih h (y ∷ ys) k = step _ refl (in_order-merge_at x xs ih h ys k.1) where
+    step : (b : Bool) → after x y ≡ b → IsInOrder after o (merge_by is_first (x ∷ xs) ys)
+        → IsInOrder after o (merge_by is_first (x ∷ xs) (y ∷ ys))
+    step true e rest =
+        let level = o.one_way x y e in
+        let mine : NoneBefore after o y (x ∷ xs) = (level, none-below y x xs level h.0) in
+        rw e (none-merge y (x ∷ xs) mine ys k.0, rest)
+    step false e rest =
+        let theirs : NoneBefore after o x (y ∷ ys) = (e, none-below x y ys e k.0) in
+        rw e (none-merge x xs h.0 (y ∷ ys) theirs, ih (y ∷ ys) k)
+
+  -- what is merged stands in order
+  in_order-merge : (xs : List X) → IsInOrder after o xs → (ys : List X) → IsInOrder after o ys
+      → IsInOrder after o (merge_by is_first xs ys)
+  in_order-merge [] h ys k = k
+  in_order-merge (x ∷ xs) h ys k = in_order-merge_at x xs (in_order-merge xs h.1) h ys k
+
+  ordered-merge_at : (x : X) (xs : List X)
+      → ((ys : List X) → ordered_by after (merge_by is_first xs ys) ≡ ordered_by after (xs ++ ys))
+      → (ys : List X) → ordered_by after (merge_by is_first (x ∷ xs) ys) ≡ ordered_by after ((x ∷ xs) ++ ys)
+  ordered-merge_at x xs ih [] = ap (ordered_by after) (sym (append-nil (x ∷ xs)))
+  ordered-merge_at x xs ih (y ∷ ys) = step _ refl (ordered-merge_at x xs ih ys) where
+    step : (b : Bool) → after x y ≡ b
+        → ordered_by after (merge_by is_first (x ∷ xs) ys) ≡ ordered_by after ((x ∷ xs) ++ ys)
+        → ordered_by after (merge_by is_first (x ∷ xs) (y ∷ ys)) ≡ ordered_by after ((x ∷ xs) ++ (y ∷ ys))
+    step true e rest =
+        rw e (ap (put_by after y) (rest ∙ ordered-append_comm after o (x ∷ xs) ys)
+        ∙ ordered-append_comm after o (y ∷ ys) (x ∷ xs))
+    step false e rest = rw e (ap (put_by after x) (ih (y ∷ ys)))
+
+  -- and holds the elements of both
+  ordered-merge : (xs ys : List X) → ordered_by after (merge_by is_first xs ys) ≡ ordered_by after (xs ++ ys)
+  ordered-merge [] ys = refl
+  ordered-merge (x ∷ xs) ys = ordered-merge_at x xs (ordered-merge xs) ys
+
+  pub merge-ordered : (xs ys : List X) → IsInOrder after o xs → IsInOrder after o ys
+      → merge_by is_first xs ys ≡ ordered_by after (xs ++ ys)
+  merge-ordered xs ys h k =
+      sym (ordered-in_order after o (merge_by is_first xs ys) (in_order-merge xs h ys k)) ∙ ordered-merge xs ys
+
+-- of two lists of findings that are put in order
+pub merge-in_order : (xs ys : List Finding)
+    → merge_by (λ x y. not (comes_after x y)) (in_order xs) (in_order ys) ≡ in_order (xs ++ ys)
+merge-in_order xs ys =
+    merge-ordered comes_after comes_after_is (in_order xs) (in_order ys)
+    (in_order-ordered comes_after comes_after_is xs) (in_order-ordered comes_after comes_after_is ys)
+    ∙ in_order-append_both xs ys
+
+-- where one of them is empty the other is all
+pub first-alone : (xs ys : List Finding) → in_order ys ≡ [] → in_order xs ≡ in_order (xs ++ ys)
+first-alone xs ys e =
+    ap in_order (sym (append-nil xs)) ∙ ap (λ l. in_order (xs ++ l)) (sym e) ∙ in_order-append_right xs ys
+
+pub second-alone : (xs ys : List Finding) → in_order xs ≡ [] → in_order ys ≡ in_order (xs ++ ys)
+second-alone xs ys e = ap (λ l. in_order (l ++ ys)) (sym e) ∙ in_order-append_left xs ys
+
+-- what stands at a place of lists that were gone through side by side
+each-pair : (found more all : List (Vec Finding Global)) (pairs : List (Vec Finding Global × Vec Finding Global))
+    → map (λ (pair : Vec Finding Global × Vec Finding Global). pair.0) pairs ≡ found
+    → map (λ (pair : Vec Finding Global × Vec Finding Global). pair.1) pairs ≡ more
+    → map (λ (one : Vec Finding Global). one.items) all
+    ≡ map (λ (pair : Vec Finding Global × Vec Finding Global). in_order (pair.0.items ++ pair.1.items)) pairs
+    → (n : ℕ) (list list' list'' : Vec Finding Global) → n < length found
+    → (get_or all n list).items ≡ in_order ((get_or found n list').items ++ (get_or more n list'').items)
+each-pair found more all pairs firsts seconds is n list list' list'' l =
+    let first = λ (pair : Vec Finding Global × Vec Finding Global). pair.0 in
+    let second = λ (pair : Vec Finding Global × Vec Finding Global). pair.1 in
+    let items = λ (one : Vec Finding Global). one.items in
+    let both = λ (pair : Vec Finding Global × Vec Finding Global). in_order (pair.0.items ++ pair.1.items) in
+    let count : length pairs ≡ length found = sym (length-map pairs first) ∙ ap length firsts in
+    let made : length all ≡ length pairs = sym (length-map all items) ∙ ap length is ∙ length-map pairs both in
+    let pair : Vec Finding Global × Vec Finding Global = (list', list'') in
+    let mine : get_or found n list' ≡ (get_or pairs n pair).0 =
+    ap (λ l. get_or l n list') (sym firsts) ∙ get_or-map first pairs n pair list' (omega arith) in
+    let theirs : get_or more n list'' ≡ (get_or pairs n pair).1 =
+    ap (λ l. get_or l n list'') (sym seconds) ∙ get_or-map second pairs n pair list'' (omega arith) in
+    sym (get_or-map items all n list [] (omega arith)) ∙ ap (λ l. get_or l n []) is
+    ∙ get_or-map both pairs n pair [] (omega arith)
+    ∙ sym (ap (λ v. in_order (v.items ++ (get_or more n list'').items)) mine
+    ∙ ap (λ v. in_order ((get_or pairs n pair).0.items ++ v.items)) theirs)
+
+all-taken : {X : Type 0} (taken left all : List X) → length left ≡ 0 → taken ++ left ≡ all → taken ≡ all
+all-taken taken left all e whole =
+    sym (append-nil taken) ∙ ap (λ l. taken ++ l) (sym (nil_from_length left e)) ∙ whole
+
+-- the same, where lists of one length were gone through until the first of them was over
+pub first-over : (found more all one other : List (Vec Finding Global))
+    (pairs : List (Vec Finding Global × Vec Finding Global)) → length more ≡ length found
+    → map (λ (pair : Vec Finding Global × Vec Finding Global). pair.0) pairs ++ one ≡ found
+    → map (λ (pair : Vec Finding Global × Vec Finding Global). pair.1) pairs ++ other ≡ more
+    → map (λ (one : Vec Finding Global). one.items) all
+    ≡ map (λ (pair : Vec Finding Global × Vec Finding Global). in_order (pair.0.items ++ pair.1.items)) pairs
+    → length one ≡ 0
+    → (n : ℕ) (list list' list'' : Vec Finding Global) → n < length found
+    → (get_or all n list).items ≡ in_order ((get_or found n list').items ++ (get_or more n list'').items)
+first-over found more all one other pairs number firsts seconds is over n list list' list'' l =
+    let first = λ (pair : Vec Finding Global × Vec Finding Global). pair.0 in
+    let second = λ (pair : Vec Finding Global × Vec Finding Global). pair.1 in
+    let ones = length-map pairs first in
+    let others = length-map pairs second in
+    let before : length found ≡ length (map first pairs) + length one =
+    ap length (sym firsts) ∙ length-append (map first pairs) one in
+    let after : length more ≡ length (map second pairs) + length other =
+    ap length (sym seconds) ∙ length-append (map second pairs) other in
+    let rest : length other ≡ 0 = omega (arith, over, ones, others, before, after, number) in
+    each-pair found more all pairs (all-taken (map first pairs) one found over firsts)
+    (all-taken (map second pairs) other more rest seconds) is n list list' list'' l
+
+-- or the second
+pub second-over : (found more all one other : List (Vec Finding Global))
+    (pairs : List (Vec Finding Global × Vec Finding Global)) → length more ≡ length found
+    → map (λ (pair : Vec Finding Global × Vec Finding Global). pair.0) pairs ++ one ≡ found
+    → map (λ (pair : Vec Finding Global × Vec Finding Global). pair.1) pairs ++ other ≡ more
+    → map (λ (one : Vec Finding Global). one.items) all
+    ≡ map (λ (pair : Vec Finding Global × Vec Finding Global). in_order (pair.0.items ++ pair.1.items)) pairs
+    → length other ≡ 0
+    → (n : ℕ) (list list' list'' : Vec Finding Global) → n < length found
+    → (get_or all n list).items ≡ in_order ((get_or found n list').items ++ (get_or more n list'').items)
+second-over found more all one other pairs number firsts seconds is over n list list' list'' l =
+    let first = λ (pair : Vec Finding Global × Vec Finding Global). pair.0 in
+    let second = λ (pair : Vec Finding Global × Vec Finding Global). pair.1 in
+    let ones = length-map pairs first in
+    let others = length-map pairs second in
+    let before : length found ≡ length (map first pairs) + length one =
+    ap length (sym firsts) ∙ length-append (map first pairs) one in
+    let after : length more ≡ length (map second pairs) + length other =
+    ap length (sym seconds) ∙ length-append (map second pairs) other in
+    let rest : length one ≡ 0 = omega (arith, over, ones, others, before, after, number) in
+    first-over found more all one other pairs number firsts seconds is rest n list list' list'' l

@@ -1,0 +1,69 @@
+//! What two runs of findings show of each connection, merged.
+
+ghost use Rattle.std.specs.Prelude.{◌≡◌, ℕ, ◌++◌, ◌<◌, IfOk, length, not, slice_index_or};
+ghost use Rattle.itertools.specs.List.{merge_by};
+ghost use Rattle.audit_terms.specs.Finding.{comes_after, in_order};
+
+use audit_terms::{Finding, put_in_order};
+use itertools::Itertools;
+use std::alloc::{AllocError, Global};
+
+/// Does the first finding stand after the second?
+fn comes_after(x: &Finding, y: &Finding) -> bool
+    ensures { result ≡ comes_after x.now y.now }
+{
+    x.compare(y).is_gt()
+}
+
+/// The findings of two runs that are in order: always the one next that stands first of both.
+fn merged_runs(
+    alloc: Global,
+    found: Vec<Finding>,
+    more: Vec<Finding>,
+) -> Result<Vec<Finding>, AllocError>
+    ensures { IfOk result (λ all. all.items ≡ merge_by (λ x y. not (comes_after x y)) found.items more.items) }
+{
+    found
+        .into_iter()
+        .merge_by(more, |x, y| !comes_after(x, y))
+        .collect(alloc)
+}
+
+/// The findings of two lists in order. A list that is in order already is only looked through.
+fn merged(
+    alloc: Global,
+    mut found: Vec<Finding>,
+    mut more: Vec<Finding>,
+) -> Result<Vec<Finding>, AllocError>
+    ensures { IfOk result (λ all. all.items ≡ in_order (found.items ++ more.items)) }
+{
+    put_in_order(&mut found)?;
+    put_in_order(&mut more)?;
+    if more.is_empty() {
+        return Ok(found);
+    }
+    if found.is_empty() {
+        return Ok(more);
+    }
+    merged_runs(alloc, found, more)
+}
+
+/// Of each connection the findings of its two lists in order.
+pub(crate) fn merged_each(
+    alloc: Global,
+    found: Vec<Vec<Finding>>,
+    more: Vec<Vec<Finding>>,
+) -> Result<Vec<Vec<Finding>>, AllocError>
+    requires { length more.items ≡ length found.items }
+    ensures number { IfOk result (λ all. length all.items ≡ length found.items) }
+    ensures each { IfOk result (λ all. (n : ℕ) (list list' list'' : _) → n < length found.items
+        → (slice_index_or all.items n list).items
+        ≡ in_order ((slice_index_or found.items n list').items ++ (slice_index_or more.items n list'').items)) }
+{
+    let mut all = Vec::with_capacity(alloc, found.len())?;
+    for pair in found.into_iter().zip(more) {
+        let (one, other) = pair;
+        all.push(merged(alloc, one, other)?)?;
+    }
+    Ok(all)
+}
