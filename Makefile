@@ -82,7 +82,7 @@ deb: $(PROGRAM) $(SPLIT)
 # tests of calls, and the documents. With CRATE=NAME it proves that crate.
 check:
 ifdef CRATE
-	rt check $(CRATE)
+	cd crates/$(CRATE) && rt check
 else
 	@rattle fmt --check $(filter-out crates.txt,$(SOURCES))
 	@cd crates/crate_tests && rt try | diff stdout -
