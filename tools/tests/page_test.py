@@ -432,6 +432,13 @@ class Thinning(unittest.TestCase):
         self.assertEqual(list(zip(series.frames, series.credits)), [(5, 10000), (6, 0), (7, -5000), (8, -5000)])
         self.assertEqual((series.stalls, series.faults), ([(1, 3, 1)], [(2, "stream-overrun", -5000, 1)]))
 
+    def test_faults_whose_window_has_no_chart(self):
+        """They stand in the charts of their connection: here one on a stream that was never opened."""
+        charts = chart_data.packed(audit_of((EXAMPLES / "use_after_reset.frames.report").read_text()))
+        said = unpacked(charts)
+        self.assertEqual((said["elsewhere"][0::3], said["elsewhere"][1::3]), ([0], [8]))
+        self.assertEqual((charts.marked, charts.marks_in_report), (2, 2))
+
     def test_too_many_marks_share_a_shade(self):
         whole = series_of(audit_of(large(1, 4000, 4)).windows[0])
         self.assertEqual(len(whole.stalls), 1000)
