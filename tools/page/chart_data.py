@@ -29,7 +29,7 @@ MARKS = (2000, 200, 20, 1)
 UNBOUNDED = 2**62
 LEVELS = [*((points, UNBOUNDED) for points in POINTS), *((POINTS[-1], marks) for marks in MARKS)]
 # So many windows say how large all of them would be; what is larger by half is not packed to see it.
-SAMPLE, DOUBT = 1000, 1.5
+SAMPLE, DOUBT = 200, 1.5
 # A chart shows so many faults of its connection.
 LINES = 500
 # What is left of too large a size is aimed at a little less.
@@ -79,28 +79,37 @@ def fitting(audit: Audit, windows: list[Window], whole: list[Series]) -> Fitting
     """The first that is small enough: all points, fewer points, fewer marks, and at last fewer windows."""
     size = 0
     for level in LEVELS:
-        size = estimated(audit, windows, whole, level)
+        series = [thinned(one, *level) for one in whole]
+        size = estimated(audit, windows, series)
         if size <= MOST_BYTES * DOUBT:
-            found = cut(audit, windows, whole, level)
+            found = cut(audit, windows, series)
             size = len(found.packed)
             if size <= MOST_BYTES:
                 return found
     number = len(windows)
     while size > MOST_BYTES:
         number = min(number - 1, int(number * MARGIN * MOST_BYTES / size))
-        found = cut(audit, windows[:number], whole, LEVELS[-1])
+        found = cut(audit, windows[:number], series[:number])
         size = len(found.packed)
     return found
 
 
-def estimated(audit: Audit, windows: list[Window], whole: list[Series], level: tuple[int, int]) -> int:
-    """About the size of all windows, by some of them; 0 where they are so few that they can be packed to see it."""
+def estimated(audit: Audit, windows: list[Window], series: list[Series]) -> int:
+    """About the packed size, by that of some windows; 0 where they are so few that they can be packed to see it."""
     every = len(windows) // SAMPLE
-    return every * len(cut(audit, windows[::every], whole[::every], level).packed) if every > 4 else 0
+    if every < 2:
+        return 0
+    sample = series[::every]
+    size = len(cut(audit, windows[::every], sample).packed)
+    return size * sum(map(numbers, series)) // sum(map(numbers, sample))
 
 
-def cut(audit: Audit, windows: list[Window], whole: list[Series], level: tuple[int, int]) -> Fitting:
-    series = [thinned(one, *level) for one in whole[: len(windows)]]
+def numbers(series: Series) -> int:
+    """How many numbers a window takes: some of its own, and those of its points, stalls and faults."""
+    return 7 + 3 * len(series.frames) + 3 * len(series.stalls) + 4 * len(series.faults)
+
+
+def cut(audit: Audit, windows: list[Window], series: list[Series]) -> Fitting:
     elsewhere = faults_without_chart(windows)
     return Fitting(series, len(elsewhere), zlib.compress(json_of(audit, windows, series, elsewhere), 9))
 
