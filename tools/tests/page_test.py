@@ -472,6 +472,13 @@ class Thinning(unittest.TestCase):
         stalls = sum(len(window.stalls) for window in audit.windows)
         self.assertEqual((charts.marked, charts.marks_in_report, sum(said["stalls"][2::3])), (stalls, stalls, stalls))
 
+    def test_one_window_takes_no_room_from_others(self):
+        """Where one window has more stalls than all others have credit lines, it is thinned and they have charts."""
+        report = large(1, 8000, 4) + crowded(1500, 6, 10**9).partition("\n")[2].replace("connection 1 c", "connection 0 c")
+        with mock.patch.object(chart_data, "MOST_BYTES", 60_000):
+            charts = chart_data.packed(audit_of(report))
+        self.assertEqual((charts.windows, charts.left_out, charts.marked), (3001, [], 2000))
+
     def test_windows_that_are_left_out_are_told(self):
         """How many they are, by which rule, and what they have together."""
         report = crowded(300, 20, 7)
