@@ -13,10 +13,12 @@ import zlib
 from collections.abc import Iterable, Iterator
 from dataclasses import dataclass
 from math import gcd
+from typing import NamedTuple
 
 from report.blame import KINDS, OTHER
+from report.lines import Finding
 
-from page.model import Audit, Window
+from page.model import Audit, Connection, Window
 from page.series import Series, series_of, thinned
 
 MOST_BYTES = 2_900_000
@@ -27,7 +29,9 @@ MARKS = (2000, 200, 20, 1)
 UNBOUNDED = 2**62
 LEVELS = [*((points, UNBOUNDED) for points in POINTS), *((POINTS[-1], marks) for marks in MARKS)]
 # So many windows say how large all of them would be; what is larger by half is not packed to see it.
-SAMPLE, DOUBT = 1000, 1.5
+SAMPLE, DOUBT = 200, 1.5
+# A chart shows so many faults of its connection.
+LINES = 500
 # What is left of too large a size is aimed at a little less.
 MARGIN = 0.95
 
@@ -50,12 +54,12 @@ class Packed:
 def packed(audit: Audit) -> Packed:
     windows = [window for window in audit.windows if window.frames]
     whole = [series_of(window) for window in windows]
-    series, compressed = fitting(audit, windows, whole)
+    series, elsewhere, compressed = fitting(audit, windows, whole)
     return Packed(
         base64.b64encode(compressed).decode(),
         sum(len(one.frames) for one in series),
         sum(one.whole for one in whole),
-        sum(one.marked for one in series),
+        sum(one.marked for one in series) + elsewhere,
         sum(one.merged for one in series),
         sum(len(window.stalls) + len(window.faults) for window in audit.windows),
         len(windows),
@@ -63,46 +67,75 @@ def packed(audit: Audit) -> Packed:
     )
 
 
-Fitting = tuple[list[Series], bytes]
+class Fitting(NamedTuple):
+    """What each window has, how many faults stand in the charts of other windows, and all of it as it is packed."""
+
+    series: list[Series]
+    elsewhere: int
+    packed: bytes
 
 
 def fitting(audit: Audit, windows: list[Window], whole: list[Series]) -> Fitting:
     """The first that is small enough: all points, fewer points, fewer marks, and at last fewer windows."""
     size = 0
     for level in LEVELS:
-        size = estimated(audit, windows, whole, level)
+        series = [thinned(one, *level) for one in whole]
+        size = estimated(audit, windows, series)
         if size <= MOST_BYTES * DOUBT:
-            found = cut(audit, windows, whole, level)
-            size = len(found[1])
+            found = cut(audit, windows, series)
+            size = len(found.packed)
             if size <= MOST_BYTES:
                 return found
     number = len(windows)
     while size > MOST_BYTES:
         number = min(number - 1, int(number * MARGIN * MOST_BYTES / size))
-        found = cut(audit, windows[:number], whole, LEVELS[-1])
-        size = len(found[1])
+        found = cut(audit, windows[:number], series[:number])
+        size = len(found.packed)
     return found
 
 
-def estimated(audit: Audit, windows: list[Window], whole: list[Series], level: tuple[int, int]) -> int:
-    """About the size of all windows, by some of them; 0 where they are so few that they can be packed to see it."""
+def estimated(audit: Audit, windows: list[Window], series: list[Series]) -> int:
+    """About the packed size, by that of some windows; 0 where they are so few that they can be packed to see it."""
     every = len(windows) // SAMPLE
-    return every * len(cut(audit, windows[::every], whole[::every], level)[1]) if every > 4 else 0
+    if every < 2:
+        return 0
+    sample = series[::every]
+    size = len(cut(audit, windows[::every], sample).packed)
+    return size * sum(map(numbers, series)) // sum(map(numbers, sample))
 
 
-def cut(audit: Audit, windows: list[Window], whole: list[Series], level: tuple[int, int]) -> Fitting:
-    series = [thinned(one, *level) for one in whole[: len(windows)]]
-    return series, zlib.compress(json_of(audit, windows, series), 9)
+def numbers(series: Series) -> int:
+    """How many numbers a window takes: some of its own, and those of its points, stalls and faults."""
+    return 7 + 3 * len(series.frames) + 3 * len(series.stalls) + 4 * len(series.faults)
 
 
-def json_of(audit: Audit, windows: list[Window], series: list[Series]) -> bytes:
+def cut(audit: Audit, windows: list[Window], series: list[Series]) -> Fitting:
+    elsewhere = faults_without_chart(windows)
+    return Fitting(series, len(elsewhere), zlib.compress(json_of(audit, windows, series, elsewhere), 9))
+
+
+def faults_without_chart(windows: list[Window]) -> list[tuple[Connection, Finding]]:
+    """The faults of windows that have no chart, of connections that have one; of each the first that it can show."""
+    shown = set(map(id, windows))
+    connections = {id(window.connection): window.connection for window in windows}.values()
+    found: list[tuple[Connection, Finding]] = []
+    for one in connections:
+        others = [window for window in one.windows.values() if id(window) not in shown]
+        found += [(one, note.finding) for window in others for note in window.faults][:LINES]
+    return found
+
+
+def json_of(
+    audit: Audit, windows: list[Window], series: list[Series], elsewhere: list[tuple[Connection, Finding]]
+) -> bytes:
     places = {id(one): place for place, one in enumerate(audit.connections)}
     used = sorted({places[id(window.connection)] for window in windows})
     new = {place: number for number, place in enumerate(used)}
     kinds = sorted({fault[1] for one in series for fault in one.faults})
     times = [list(onward(time - window.connection.start for time in one.times)) for window, one in zip(windows, series)]
     waits = [max(window.waits, default=0) for window in windows]
-    unit = gcd(*waits, *(time for column in times for time in column)) or 1
+    others = [(new[places[id(one)]], finding.frame, one.since_start(finding)) for one, finding in elsewhere]
+    unit = gcd(*waits, *(other[2] for other in others), *(time for column in times for time in column)) or 1
     openings = [audit.connections[place].opening for place in used]
     said = {
         "connections": list(steps(one.number for one in openings)),
@@ -121,6 +154,8 @@ def json_of(audit: Audit, windows: list[Window], series: list[Series]) -> bytes:
         "frames": list(columns(one.frames for one in series)),
         "times": [time // unit for time in columns(times)],
         "credits": [step for one in series for step in steps(one.credits)],
+        # Faults whose own window has no chart: connection, frame and time.
+        "elsewhere": [number for place, frame, time in others for number in (place, frame, time // unit)],
         "stalls": [number for one in series for number in stall_steps(one)],
         "faults": [
             number

@@ -314,7 +314,7 @@ def thinning(charts: Packed) -> Markup:
     if charts.points < charts.points_in_report:
         said.append(
             f"The charts are thinned: of {charts.points_in_report:,} credit lines they have {charts.points:,} points, "
-            "among them of each window the first, the last, the least and the greatest credit, and both ends of each "
+            "among them of each chart the first, the last, the least and the greatest credit, and both ends of each "
             "shade. "
         )
     if charts.left_out:

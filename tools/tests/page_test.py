@@ -432,6 +432,13 @@ class Thinning(unittest.TestCase):
         self.assertEqual(list(zip(series.frames, series.credits)), [(5, 10000), (6, 0), (7, -5000), (8, -5000)])
         self.assertEqual((series.stalls, series.faults), ([(1, 3, 1)], [(2, "stream-overrun", -5000, 1)]))
 
+    def test_faults_whose_window_has_no_chart(self):
+        """They stand in the charts of their connection: here one on a stream that was never opened."""
+        charts = chart_data.packed(audit_of((EXAMPLES / "use_after_reset.frames.report").read_text()))
+        said = unpacked(charts)
+        self.assertEqual((said["elsewhere"][0::3], said["elsewhere"][1::3]), ([0], [8]))
+        self.assertEqual((charts.marked, charts.marks_in_report), (2, 2))
+
     def test_too_many_marks_share_a_shade(self):
         whole = series_of(audit_of(large(1, 4000, 4)).windows[0])
         self.assertEqual(len(whole.stalls), 1000)
@@ -464,6 +471,13 @@ class Thinning(unittest.TestCase):
         self.assertLess(max(said["points"]), 7)
         stalls = sum(len(window.stalls) for window in audit.windows)
         self.assertEqual((charts.marked, charts.marks_in_report, sum(said["stalls"][2::3])), (stalls, stalls, stalls))
+
+    def test_one_window_takes_no_room_from_others(self):
+        """Where one window has more stalls than all others have credit lines, it is thinned and they have charts."""
+        report = large(1, 8000, 4) + crowded(1500, 6, 10**9).partition("\n")[2].replace("connection 1 c", "connection 0 c")
+        with mock.patch.object(chart_data, "MOST_BYTES", 60_000):
+            charts = chart_data.packed(audit_of(report))
+        self.assertEqual((charts.windows, charts.left_out, charts.marked), (3001, [], 2000))
 
     def test_windows_that_are_left_out_are_told(self):
         """How many they are, by which rule, and what they have together."""

@@ -27,7 +27,7 @@ function windowsOf(said) {
     frame += said.frames[point];
     time += said.times[point];
     found.push({
-      number, connection: connections[place], client: said.clients[place], server: said.servers[place],
+      number, place, connection: connections[place], client: said.clients[place], server: said.servers[place],
       side: said.sides[number] ? "server" : "client", stream: streams[number], points, stalls, faults,
       firstPoint: point, firstFrame: frame, firstTime: time, firstStall: stall, firstFault: fault,
       longest: said.waits[number] * said.unit,

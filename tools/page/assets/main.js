@@ -63,6 +63,10 @@ function faultLines(one) {
     faults.forEach(({ point }) => places.push({ frame: frames[point], nanos: nanos[point] }));
     if (places.length >= MOST_LINES) break;
   }
+  const { elsewhere, unit } = charts;
+  for (let at = 0; at < elsewhere.length; at += 3) {
+    if (elsewhere[at] === one.place) places.push({ frame: elsewhere[at + 1], nanos: elsewhere[at + 2] * unit });
+  }
   return places.slice(0, MOST_LINES);
 }
 
