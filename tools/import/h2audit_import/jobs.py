@@ -22,9 +22,9 @@ from typing import Any, TypeAlias
 from .connections import Context, swapped
 from .flows import Arrival
 from .internet import Segment
+from .interrupts import SIGNALS
 from .key_log import Keys
 from .outcomes import Outcome, Unopened
-from .private_files import SIGNALS
 from .programs import NO_MEMORY
 from .sessions import lines_for
 from .stages import Output

@@ -8,8 +8,9 @@ import tempfile
 from contextlib import contextmanager, suppress
 from typing import IO, Iterator
 
+from .interrupts import SIGNALS
+
 BUFFER = 1 << 20
-SIGNALS = (signal.SIGINT, signal.SIGTERM, signal.SIGHUP)
 
 
 def is_special(path: str) -> bool:

@@ -6,12 +6,11 @@ import os
 import signal
 import sys
 import time
-from contextlib import contextmanager
-from typing import Callable, Iterator, NoReturn
+from typing import Callable, NoReturn
 
 from . import VERSION
 from .errors import Interrupted, Refused
-from .private_files import SIGNALS
+from .interrupts import signals_raise
 
 USAGE, CAPTURE_REFUSED, IO_FAILED, NO_MEMORY, NOTHING_READ = 2, 3, 4, 5, 6
 MOST_JOBS = 64
@@ -75,21 +74,6 @@ class Progress:
         if self.width:
             sys.stderr.write("\r" + " " * self.width + "\r")
             sys.stderr.flush()
-
-
-def interrupt(number: int, _frame: object) -> NoReturn:
-    raise Interrupted(number)
-
-
-@contextmanager
-def signals_raise() -> Iterator[None]:
-    """Signals become exceptions, so that what is half-written goes."""
-    before = {one: signal.signal(one, interrupt) for one in SIGNALS if signal.getsignal(one) is not signal.SIG_IGN}
-    try:
-        yield
-    finally:
-        for one, handler in before.items():
-            signal.signal(one, handler)
 
 
 def say(program: str, message: str) -> None:

@@ -11,6 +11,7 @@ from typing import BinaryIO, Iterator, cast
 import zstandard
 
 from .errors import Refused
+from .interrupts import Waiting
 
 STANDARD_INPUT = "-"
 CHUNK = 1 << 20
@@ -85,8 +86,12 @@ class Readable(io.RawIOBase):
 
 @contextmanager
 def opened(path: str) -> Iterator[Source]:
+    if can_be_read_twice(path):
+        with open(path, "rb") as file:
+            yield unpacked(file, path)
+        return
     is_standard = path == STANDARD_INPUT
-    with open(0 if is_standard else path, "rb", closefd=not is_standard) as file:
+    with io.BufferedReader(Waiting(0 if is_standard else path, closefd=not is_standard), CHUNK) as file:
         yield unpacked(file, "standard input" if is_standard else path)
 
 

@@ -1,0 +1,53 @@
+"""Signals that end the program become an exception, so that what is half-written goes.
+
+Python looks for signals between its steps. One that comes just before a read that waits would be seen after it, which
+may be never; so what may wait for bytes waits for signals too, by the pipe that Python writes a byte to.
+"""
+
+import io
+import os
+import select
+import signal
+from contextlib import contextmanager
+from typing import Any, Iterator, NoReturn
+
+from .errors import Interrupted
+
+SIGNALS = (signal.SIGINT, signal.SIGTERM, signal.SIGHUP)
+wakes: list[int] = []  # the end to read of that pipe, while signals raise
+
+
+def interrupt(number: int, _frame: object) -> NoReturn:
+    raise Interrupted(number)
+
+
+@contextmanager
+def signals_raise() -> Iterator[None]:
+    reading, writing = os.pipe()
+    os.set_blocking(reading, False)
+    os.set_blocking(writing, False)
+    before = {one: signal.signal(one, interrupt) for one in SIGNALS if signal.getsignal(one) is not signal.SIG_IGN}
+    descriptor = signal.set_wakeup_fd(writing, warn_on_full_buffer=False)
+    wakes.append(reading)
+    try:
+        yield
+    finally:
+        wakes.remove(reading)
+        signal.set_wakeup_fd(descriptor)
+        for one, handler in before.items():
+            signal.signal(one, handler)
+        os.close(reading)
+        os.close(writing)
+
+
+class Waiting(io.FileIO):
+    """A file whose reads may wait, as standard input or a pipe: a signal ends them."""
+
+    def readinto(self, buffer: Any) -> int | None:
+        poll = select.poll()
+        for one in (self.fileno(), *wakes):
+            poll.register(one, select.POLLIN)
+        while all(number in wakes for number, _ in poll.poll()):
+            for one in wakes:
+                os.read(one, 512)
+        return super().readinto(buffer)
