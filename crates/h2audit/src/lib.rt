@@ -30,7 +30,7 @@
 //! its flows and cuts them; another thread may make room for the frames meanwhile. `audit_rounds` has the rounds after it.
 //!
 //! Wrong bodies that the prover refuses: an empty report, a verdict by errors alone, words always refused, options not
-//! heeded, "read failed" whatever FILE or standard input gave, standard input read though FILE is named. Tested, in
+//! heeded, "read failed" whatever FILE gave, standard input read though FILE is named. Tested, in
 //! `crate_tests`: the texts of faults; in `tests/` at the root: what the program answers to words, whole reports, long
 //! captures.
 #![tactic(auto)]
