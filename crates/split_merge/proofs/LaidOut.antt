@@ -1,14 +1,14 @@
 -- The ranges of rows, one after the other, and what they hold as positions come in.
-use Rattle.std.proofs.Common.{◌≡◌, ◌≢◌, ℕ, zero, suc, ◌+◌, ◌-◌, ◌<◌, ◌≤◌, ◌==◌, ◌⊎◌, inl, inr, Bool, true, false, List, [], ◌∷◌, ◌++◌, length, get_or, slice_get, set, take, drop, Option, Some, None, refl, sym, ap, ◌∙◌, subst, arith, true≢false}
+use Rattle.std.proofs.Common.{◌≡◌, ◌≢◌, ℕ, zero, suc, ◌+◌, ◌-◌, ◌<◌, ◌≤◌, ◌==◌, ◌⊎◌, inl, inr, Bool, true, false, List, [], ◌∷◌, ◌++◌, length, get_or, slice_get, set, take, drop, Some, refl, sym, ap, ◌∙◌, subst, arith, true≢false}
 use Rattle.std.specs.List.{between}
 use Rattle.std.proofs.lemmas.List.{length-append, length-set, get_or-set_same, get_or-set_other, drop-set-lt, take-set-le, take-set, get_or_default, get_or-map, same_lists}
 use Rattle.std.proofs.lemmas.List.Edits.{between_more, between_none}
 use Rattle.std.proofs.lemmas.Slice.{between_is}
 use borrow.Author.Tests.{eqb-true, eq-eqb}
 use Rattle.split_merge.specs.declared.splits.StreamRow.{StreamRow}
-use Rattle.split_merge.specs.code.Visits.{streams_in, row_positions, noted, noted_positions, total_of, counted, laid_out, grown, NotAmong, AreDistinct, IsIndex, HasRoomFor, IsFilled}
+use Rattle.split_merge.specs.code.Visits.{streams_in, row_positions, noted, noted_positions, total_of, counted, laid_out, grown, AreDistinct, HasRoomFor, IsFilled}
 use Rattle.split_merge.proofs.NamedStreams.{length-streams_in}
-use Rattle.split_merge.proofs.Visited.{noted_positions-append, noted_positions-one, where_so, append-none, three, get-from_slice_get, within-from_slice_get, not_among-at, row-within, positions-here, positions-there, noted-one}
+use Rattle.split_merge.proofs.Visited.{noted_positions-append, three, row-within, positions-here, positions-there}
 
 -- ---- the ranges
 

@@ -1,5 +1,5 @@
 -- The streams that frames name, gathered one by one.
-use Rattle.std.proofs.Common.{◌≡◌, ◌≢◌, ℕ, zero, suc, Bool, true, false, not, ◌==◌, ◌||◌, ◌&&◌, cond, List, [], ◌∷◌, ◌++◌, length, slice_get, filter, refl, sym, ap, ◌∙◌, subst, Option, Some, None, MatchOption, is_some, append_assoc, true≢false}
+use Rattle.std.proofs.Common.{◌≡◌, ◌≢◌, ℕ, zero, suc, Bool, true, false, not, ◌==◌, ◌||◌, ◌&&◌, cond, List, [], ◌∷◌, ◌++◌, length, slice_get, filter, refl, sym, ap, ◌∙◌, subst, Some, append_assoc, true≢false}
 use Rattle.std.specs.List.{find, list_any}
 use Rattle.table_hash.specs.declared.TableHash.{TableHash}
 use Rattle.indexmap.specs.IndexSet.{IndexSet, insert_key, IsEmpty}
@@ -190,22 +190,6 @@ distinct-append : (s : ℕ) (xs : List ℕ) → NotAmong s xs → AreDistinct xs
 distinct-append s [] n h = (tt, tt)
 distinct-append s (x ∷ xs) n h = (not_among-append x s xs h.0 (λ e. n.0 (sym e)), distinct-append s xs n.1 h.1)
 
--- the row of a stream, if it has one
-pub row-in : (streams : List ℕ) (stream : ℕ) →
-    (o : Option ℕ) × MatchOption o (NotAmong stream streams) (λ row. slice_get streams row ≡ Some stream)
-row-in [] stream = (None, tt)
-row-in (x ∷ xs) stream = here _ refl (row-in xs stream) where
-  later : stream ≢ x → (o : Option ℕ) × MatchOption o (NotAmong stream xs) (λ row. slice_get xs row ≡ Some stream) →
-      (o : Option ℕ) × MatchOption o (NotAmong stream (x ∷ xs)) (λ row. slice_get (x ∷ xs) row ≡ Some stream)
-  later apart (None, out) = (None, (apart, out))
-  later apart (Some row, at) = (Some (suc row), at)
-
-  here : (b : Bool) → (stream == x) ≡ b →
-      (o : Option ℕ) × MatchOption o (NotAmong stream xs) (λ row. slice_get xs row ≡ Some stream) →
-      (o : Option ℕ) × MatchOption o (NotAmong stream (x ∷ xs)) (λ row. slice_get (x ∷ xs) row ≡ Some stream)
-  here true e rest = (Some zero, ap Some (sym (eqb-true stream x e)))
-  here false e rest = later (not_here stream x _ refl e) rest
-
 -- one more stream
 pub index-more : (seen : List ℕ) (before after : IndexSet ℕ TableHash) (stream : ℕ) → stream ≢ 0 → IsIndex seen before →
     NotAmong stream seen → after.keys ≡ insert_key (λ a b. a == b) before.keys stream → IsIndex (seen ++ stream ∷ []) after
@@ -216,17 +200,6 @@ index-more seen before after stream above index new keys = record {
       let none : is_among stream before.keys ≡ false = ap (is_among stream) index.keys ∙ none_among stream seen new in
       let put : insert_key (λ a b. a == b) before.keys stream ≡ before.keys ++ stream ∷ [] = rw none refl in
       keys ∙ put ∙ ap (λ l. l ++ stream ∷ []) index.keys;
-}
-
--- a stream that is there already
-pub index-same : (seen : List ℕ) (before after : IndexSet ℕ TableHash) (stream : ℕ) → IsIndex seen before →
-    is_among stream before.keys ≡ true → after.keys ≡ insert_key (λ a b. a == b) before.keys stream → IsIndex seen after
-index-same seen before after stream index here keys = record {
-  distinct = index.distinct;
-  above = index.above;
-  keys =
-      let put : insert_key (λ a b. a == b) before.keys stream ≡ before.keys = rw here refl in
-      keys ∙ put ∙ index.keys;
 }
 
 pub streams_in-push : (rows : List StreamRow) (row : StreamRow) → streams_in (rows ++ row ∷ []) ≡ streams_in rows

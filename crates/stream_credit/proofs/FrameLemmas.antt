@@ -1,9 +1,9 @@
 -- A walk meets a frame and the changes before it, and all frames and changes of a part.
-use Rattle.std.proofs.Common.{◌≡◌, ℕ, ◌+◌, ◌^◌, ◌<◌, Bool, true, false, List, [], ◌∷◌, ◌++◌, map, drop, take, length, slice_get, slice_index_or, Option, Some, Result, Ok, Err, IfOk, refl, sym, ap, ◌∙◌, subst, arith}
+use Rattle.std.proofs.Common.{◌≡◌, ℕ, ◌+◌, ◌^◌, ◌<◌, Bool, true, false, List, [], ◌∷◌, ◌++◌, map, take, length, slice_get, slice_index_or, Option, Some, Result, Ok, Err, IfOk, sym, ap, ◌∙◌, subst, arith}
 use Rattle.std.specs.Bool.{OnTrue, OnFalse}
 use Rattle.std.specs.Option.{ForSome, option_to_list}
 use Rattle.std.proofs.lemmas.Grind.{flat_map-append}
-use Rattle.std.proofs.lemmas.List.{append-nil, drop_more, take_more}
+use Rattle.std.proofs.lemmas.List.{append-nil, take_more}
 use Rattle.std.proofs.lemmas.Option.{slice_get-get_or}
 use Rattle.audit_terms.specs.declared.sides.Sides.{Sides}
 use Rattle.audit_terms.specs.declared.frames.Frame.{Frame}
@@ -131,13 +131,6 @@ module _ {L : Type 0} (answers : L → List Finding → Option ℕ → L → Typ
   }
 
 -- ---- all frames of a part
-
-pub frames-next : (frames : List Frame) (positions : List ℕ) (i d : ℕ) (e : Frame) → i < length positions
-    → slice_index_or positions i d < length frames
-    → frames_at frames (drop i positions)
-    ≡ slice_index_or frames (slice_index_or positions i d) e ∷ frames_at frames (drop (i + 1) positions)
-frames-next frames positions i d e within inside =
-    rw (drop_more positions i d within, slice_get-get_or frames (slice_index_or positions i d) e inside) refl
 
 pub frames-more : (frames : List Frame) (positions : List ℕ) (i d : ℕ) (e : Frame) → i < length positions
     → slice_index_or positions i d < length frames

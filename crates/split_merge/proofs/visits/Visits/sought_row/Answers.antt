@@ -1,8 +1,7 @@
-use Rattle.std.proofs.Common.{◌≡◌, ◌==◌, Bool, true, false, not, slice_get, refl, sym, ap, ◌∙◌, subst}
+use Rattle.std.proofs.Common.{◌≡◌, ◌==◌, Bool, true, false, not, refl, sym, ap, ◌∙◌, subst}
 use Rattle.std.specs.List.{list_any}
 use Rattle.split_merge.specs.code.Visits.{streams_in, IsIndex}
-use Rattle.split_merge.proofs.NamedStreams.{found_among, absent-from_set, index-more, streams_in-push}
-use Rattle.split_merge.proofs.Visited.{with_row-seen}
+use Rattle.split_merge.proofs.NamedStreams.{absent-from_set, index-more, streams_in-push}
 use Rattle.split_merge.proofs.visits.Visits.sought_row.Goals as goal
 
 not_back : (b : Bool) → not b ≡ true → b ≡ false
