@@ -43,7 +43,8 @@ def words_of(program: str, description: str) -> Words:
     parser.add_argument("files", nargs="*", default=[], metavar="FILE",
                         help="pcap or pcapng, also in gzip or zstd; standard input without one, or as -")  # fmt: skip
     parser.add_argument("-k", "--key-log", action="append", default=[], metavar="KEYLOG",
-                        help="secrets of TLS connections, as SSLKEYLOGFILE gets them; may stand several times")  # fmt: skip
+                        help="secrets of TLS connections, as SSLKEYLOGFILE gets them; "
+                             "may stand several times")  # fmt: skip
     parser.add_argument("-j", "--jobs", type=number(1, MOST_JOBS), default=1, metavar="N",
                         help=f"processes that decrypt, 1 to {MOST_JOBS}; 1 without it")  # fmt: skip
     parser.add_argument("-V", "--version", action="version", version=f"{program} {VERSION}",
