@@ -101,7 +101,7 @@ def run(program: str, work: Callable[[], int]) -> NoReturn:
     """
     gc.disable()
     hold_standard_files()
-    status = IO_FAILED
+    status, stopped = IO_FAILED, 0
     try:
         with signals_raise():
             done = work()
@@ -117,8 +117,10 @@ def run(program: str, work: Callable[[], int]) -> NoReturn:
         status = NO_MEMORY
         say(program, "out of memory")
     except Interrupted as why:
-        signal.signal(why.args[0], signal.SIG_DFL)
-        os.kill(os.getpid(), why.args[0])
+        stopped = why.args[0]
+    if stopped:  # by now the exception is gone, and with it every file that a frame of its traceback still held
+        signal.signal(stopped, signal.SIG_DFL)
+        os.kill(os.getpid(), stopped)
     leave(status)
 
 
