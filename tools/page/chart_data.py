@@ -157,12 +157,7 @@ def json_of(
         # Faults whose own window has no chart: connection, frame and time.
         "elsewhere": [number for place, frame, time in others for number in (place, frame, time // unit)],
         "stalls": [number for one in series for number in stall_steps(one)],
-        "faults": [
-            number
-            for one in series
-            for at, kind, *more in one.faults
-            for number in (at, kinds.index(kind), *more)
-        ],
+        "faults": [number for one in series for number in fault_numbers(one, kinds)],
     }
     return json.dumps(said, separators=(",", ":")).encode()
 
@@ -192,6 +187,12 @@ def onward(times: Iterable[int]) -> Iterator[int]:
     for time in times:
         latest = time if latest is None else max(latest, time)
         yield latest
+
+
+def fault_numbers(series: Series, kinds: list[str]) -> Iterator[int]:
+    """For each cross its point, the place of its kind, the value of its first fault, and how many it stands for."""
+    for at, kind, value, number in series.faults:
+        yield from (at, kinds.index(kind), value, number)
 
 
 def stall_steps(series: Series) -> Iterator[int]:

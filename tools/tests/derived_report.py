@@ -1,7 +1,7 @@
-"""Reports of h2audit derived from what tshark sees, by RFC 9113, 5.2 and 6.9, and docs/REPORT_FORMAT.md; nothing here is h2audit's.
+"""Reports of h2audit derived from what tshark sees, by RFC 9113, 5.2 and 6.9, and docs/REPORT_FORMAT.md.
 
-tshark gives packets, times and frames, the files of records the bytes of each side. It is for captures of whole connections whose
-every frame tshark shows and whose only faults are overruns, as those of tests/tls are.
+Nothing here is h2audit's. tshark gives packets, times and frames, the files of records the bytes of each side. It is for
+captures of whole connections whose every frame tshark shows and whose only faults are overruns, as those of tests/tls.
 """
 
 import collections
@@ -13,8 +13,12 @@ CLIENT, SERVER = 0, 1
 SIDES = ("client", "server")
 DATA, HEADERS, RST_STREAM, SETTINGS, WINDOW_UPDATE = 0, 1, 3, 4, 8
 END_STREAM, ACK = 1, 1
+SYN, SYN_ACK = 2, 18
 INITIAL_WINDOW = 65535
-RANKS = ("connection-overrun", "stream-overrun", "connection-stall-end", "connection-stall-begin", "stream-stall-end", "stream-stall-begin")
+RANKS = (
+    "connection-overrun", "stream-overrun", "connection-stall-end", "connection-stall-begin", "stream-stall-end",
+    "stream-stall-begin",
+)  # fmt: skip
 
 Packet = collections.namedtuple("Packet", "number nanos stream source target is_opening")
 Frame = collections.namedtuple("Frame", "packet side kind length stream flags window grant")
@@ -33,17 +37,20 @@ def fields(name, shown, *words):
 
 
 def packets_of(name):
-    shown = ("frame.number", "frame.time_epoch", "tcp.stream", "ip.src", "ip.dst", "ipv6.src", "ipv6.dst", "tcp.srcport", "tcp.dstport",
-             "tcp.flags")  # fmt: skip
+    shown = ("frame.number", "frame.time_epoch", "tcp.stream", "ip.src", "ip.dst", "ipv6.src", "ipv6.dst", "tcp.srcport",
+             "tcp.dstport", "tcp.flags")  # fmt: skip
     for number, time, stream, source, target, source6, target6, from_port, to_port, flags in fields(name, shown):
         seconds, fraction = time.split(".")
         hosts = (source, target) if source else (f"[{source6}]", f"[{target6}]")
-        yield Packet(int(number), int(seconds) * 10**9 + int(fraction), int(stream), f"{hosts[0]}:{from_port}", f"{hosts[1]}:{to_port}",
-                     int(flags, 16) & 18 == 2)  # fmt: skip
+        nanos, is_opening = int(seconds) * 10**9 + int(fraction), int(flags, 16) & (SYN | SYN_ACK) == SYN
+        ends = f"{hosts[0]}:{from_port}", f"{hosts[1]}:{to_port}"
+        yield Packet(int(number), nanos, int(stream), *ends, is_opening)
 
 
 def frames_of(name, packets):
-    """Frames by connection, in order. Values of settings and grants stand in rows of their own, which their frames take from."""
+    """Frames by connection, in order. Values of settings and grants stand in rows of their own, from which their frames
+    take them.
+    """
     clients = {one.stream: one.source for one in packets.values() if one.is_opening}
     found = collections.defaultdict(list)
     shown = ("frame.number", "http2.type", "http2.length", "http2.streamid", "http2.flags", "http2.settings.id",
@@ -132,8 +139,8 @@ def lines_of(frames):
     lines = sorted(windows.lines)
     for one in lines:
         packet = frames[one.frame - 1].packet
-        yield (f"frame {one.frame} record {packet.number} time {packet.nanos} {SIDES[one.side]} {RANKS[one.rank]} stream {one.stream} "
-               f"value {one.value}")  # fmt: skip
+        said = f"{SIDES[one.side]} {RANKS[one.rank]} stream {one.stream} value {one.value}"
+        yield f"frame {one.frame} record {packet.number} time {packet.nanos} {said}"
     for begin in (one for one in lines if RANKS[one.rank].endswith("stall-begin")):
         ends = (one for one in lines if one.frame > begin.frame and (one.side, one.stream) == (begin.side, begin.stream)
                 and RANKS[one.rank].endswith("stall-end"))  # fmt: skip

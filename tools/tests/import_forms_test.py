@@ -172,17 +172,19 @@ V4, V6, MACS = b"\x08\x00", b"\x86\xdd", bytes(12)
 # Link types, each with the front that it puts before a datagram of IPv4.
 FRONTS = [
     (1, MACS + b"\x81\x00\x00\x05" + V4), (1, MACS + b"\x88\xa8\x00\x01\x81\x00\x00\x02" + V4),
-    (1, MACS + b"\x91\x00\x00\x07\x81\x00\x00\x02" + V4), (12, b""), (14, b""), (101, b""), (228, b""), (113, bytes(14) + V4),
-    (113, bytes(14) + b"\x81\x00\x00\x02" + V4), (276, V4 + bytes(18)), (0, b"\x02\x00\x00\x00"), (0, b"\x00\x00\x00\x02"),
-    (108, b"\x00\x00\x00\x02"),
+    (1, MACS + b"\x91\x00\x00\x07\x81\x00\x00\x02" + V4), (12, b""), (14, b""), (101, b""), (228, b""),
+    (113, bytes(14) + V4), (113, bytes(14) + b"\x81\x00\x00\x02" + V4), (276, V4 + bytes(18)),
+    (0, b"\x02\x00\x00\x00"), (0, b"\x00\x00\x00\x02"), (108, b"\x00\x00\x00\x02"),
 ]  # fmt: skip
-FRONTS_OF_IPV6 = [(1, MACS + V6), (101, b""), (0, b"\x1e\x00\x00\x00"), (113, bytes(14) + V6), (276, V6 + bytes(18)), (229, b"")]
+FRONTS_OF_IPV6 = [
+    (1, MACS + V6), (101, b""), (0, b"\x1e\x00\x00\x00"), (113, bytes(14) + V6), (276, V6 + bytes(18)), (229, b""),
+]  # fmt: skip
 PADDING = b"\x01\x04" + bytes(4)
-# Extension headers, with the number of the first: none, hop-by-hop, two of options, a whole fragment, authentication, routing, and
-# three of them.
+# Extension headers, with the number of the first: none, hop-by-hop, two of options, a whole fragment, authentication,
+# routing, and three of them.
 EXTENSIONS = [
-    (b"", 6), (b"\x06\x00" + PADDING, 0), (b"\x3c\x00" + PADDING + b"\x06\x00" + PADDING, 0), (b"\x06\x00" + bytes(6), 44),
-    (b"\x06\x04" + bytes(22), 51), (b"\x06\x02\x00\x00" + bytes(20), 43),
+    (b"", 6), (b"\x06\x00" + PADDING, 0), (b"\x3c\x00" + PADDING + b"\x06\x00" + PADDING, 0),
+    (b"\x06\x00" + bytes(6), 44), (b"\x06\x04" + bytes(22), 51), (b"\x06\x02\x00\x00" + bytes(20), 43),
     (b"\x2b\x00" + PADDING + b"\x2c\x00" + bytes(6) + b"\x06\x00" + bytes(6), 60),
 ]  # fmt: skip
 
@@ -409,7 +411,7 @@ class Flows(unittest.TestCase):
 
 class Resumed(unittest.TestCase):
     def test_tickets_in_a_row(self):
-        """A resumed connection gets a ticket of its own, which the next one shows; what one process met, another may need."""
+        """A resumed connection gets a ticket of its own, which the next one shows; another process may have met it."""
         keys, workers = Keys(), [Sessions(), Sessions()]
         keys.add_line(b"CLIENT_RANDOM " + b"aa" * 32 + b" " + b"12" * 48)
         workers[0].begin(b"first ticket", 1, b"\xaa" * 32)
@@ -527,18 +529,22 @@ class Hostile(unittest.TestCase):
             front + block(6, struct.pack("<IIIII", 0, 0, 0, 0xFFFFFFFF, 9) + bytes(40)): "bad-block",
             front + block(0xA, struct.pack("<II", 0x544C534B, 0xFFFFFFFF) + b"CLIENT_RANDOM"): "bad-block",
             front + block(1, b""): "bad-block", section() + interface(ETHERNET) * 65537: "too-many-interfaces",
-            front + struct.pack("<II", 6, 17 << 20) + b"x" * 100: "cut", head + struct.pack("<IIII", 1, 0, 1 << 31, 9) + b"x" * 50: "cut",
+            front + struct.pack("<II", 6, 17 << 20) + b"x" * 100: "cut",
+            head + struct.pack("<IIII", 1, 0, 1 << 31, 9) + b"x" * 50: "cut",
             head + struct.pack("<IIII", 1, 0, 0, 1500): "refused short-ethernet",
             head + struct.pack("<IIII", 1, 0, 17 << 20, 9) + bytes(17 << 20): "refused no-packet",
         }  # fmt: skip
         for data, wanted in rows.items():
             made = given(data)
             found = [line.split(" ", 5)[5] for line in tools.lines_of(made, "passed")]
-            named = f"h2audit-import: capture refused: {wanted}: -\n"
-            self.assertTrue(made.status == 3 and made.said == named or made.status == 6 and found == [wanted], (wanted, made.said, found))
+            named = (3, f"h2audit-import: capture refused: {wanted}: -\n", [])
+            passed = (6, "h2audit-import: no connection could be read\n", [wanted])
+            self.assertIn((made.status, made.said, found), (named, passed))
 
     def test_bombs(self):
-        """What is small and becomes large takes no more memory than any capture: a packet of 600 MB, and a million of none."""
+        """What is small and becomes large takes no more memory than any capture: a packet of 600 MB, and a million of
+        none.
+        """
         for name, packet, size in (("one", struct.pack("<IIII", 1, 0, 600 << 20, 9), 600), ("many", b"", 16)):
             with gzip.open(f"{self.folder.name}/{name}", "wb", 1) as file:
                 file.write(PCAP[:24] + packet)
@@ -553,9 +559,11 @@ class Hostile(unittest.TestCase):
         """A key log that is damaged is counted; not a digit of it is in what is said and in the map."""
         secret, random_part = b"5ec7e7" * 16, b"ab" * 32
         lines = [b"CLIENT_RANDOM " + random_part + b" " + secret + b"zz", b"CLIENT_RANDOM " + secret, secret * 100,
-                 b"CLIENT_RANDOM " + random_part[:-2] + b" " + secret, bytes(99), b"CLIENT_RANDOM " + random_part + b" " + secret[:-2],
-                 b"\xff\xfeC\0L\0I\0", b"CLIENT_TRAFFIC_SECRET_0 " + random_part + b" " + secret + b" more"]  # fmt: skip
-        good = [b"", b"# a comment", b"ANOTHER_LABEL " + random_part + b" 12", b"CLIENT_RANDOM " + random_part + b" " + secret]
+                 b"CLIENT_RANDOM " + random_part[:-2] + b" " + secret, bytes(99),
+                 b"CLIENT_RANDOM " + random_part + b" " + secret[:-2], b"\xff\xfeC\0L\0I\0",
+                 b"CLIENT_TRAFFIC_SECRET_0 " + random_part + b" " + secret + b" more"]  # fmt: skip
+        good = [b"", b"# a comment", b"ANOTHER_LABEL " + random_part + b" 12",
+                b"CLIENT_RANDOM " + random_part + b" " + secret]  # fmt: skip
         self.file("keys", b"\n".join(lines + good))
         made = tools.imported("-k", f"{self.folder.name}/keys", tools.capture_named(NAME))
         self.assertEqual((made.status, made.said.splitlines()), (6, [
@@ -595,7 +603,8 @@ class Terminal(unittest.TestCase):
 
     def test_none(self):
         """Elsewhere nothing is said."""
-        with subprocess.Popen([tools.IMPORT, *KEYS, "-o", os.devnull], stdin=subprocess.PIPE, stderr=subprocess.PIPE) as child:
+        words = [tools.IMPORT, *KEYS, "-o", os.devnull]
+        with subprocess.Popen(words, stdin=subprocess.PIPE, stderr=subprocess.PIPE) as child:
             child.stdin.write(PCAP)
             end = time.monotonic() + 6
             self.feed(child, lambda: time.monotonic() > end)

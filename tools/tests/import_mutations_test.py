@@ -3,9 +3,9 @@
 
     tools/tests/import_mutations_test.py [COUNT [SEED [PROCESSES]]]
 
-A few hundred by default, by one process. The seed is printed: a count and that seed make the same mutations again, by however
-many processes, and number N of them alone with COUNT as N:N+1. Mutations go through the program's own entry in these processes,
-so that thousands are tried in minutes. The last line says how many ended how.
+A few hundred by default, by one process. The seed is printed: a count and that seed make the same mutations again, by
+however many processes, and number N of them alone with COUNT as N:N+1. Mutations go through the program's own entry in
+these processes, so that thousands are tried in minutes. The last line says how many ended how.
 """
 
 import collections
@@ -28,8 +28,8 @@ from h2audit_import import command, programs  # noqa: E402
 
 PROCESSOR_SECONDS, SECONDS = 20, 300  # for one mutation
 NAMES = (
-    "nghttp-nghttpd-13", "small-window-v6", "curl-nginx-12-any-cooked", "curl-apache-upload", "mixed", "secrets-inside", "snapped-96",
-    "zstd",
+    "nghttp-nghttpd-13", "small-window-v6", "curl-nginx-12-any-cooked", "curl-apache-upload", "mixed", "secrets-inside",
+    "snapped-96", "zstd",
 )  # fmt: skip
 STATUSES = (0, programs.CAPTURE_REFUSED, programs.NOTHING_READ)
 PART = 50

@@ -120,8 +120,9 @@ class Suites(Folder):
         self.assertEqual([data for _, _, data in tools.payloads(made)], [b"first", b"second"])
 
     def test_session_of_another(self):
-        """A key log with the session's first handshake alone, by identifier and by ticket, gives what the whole one gives, and
-        the same plaintext on standard input; processes change nothing. Nothing is read where that line is missing too.
+        """A key log with the session's first handshake alone, by identifier and by ticket, gives what the whole one
+        gives, and the same plaintext on standard input; processes change nothing. Nothing is read where that line is
+        missing too.
         """
         for name, option in (("identifier", ssl.OP_NO_TICKET), ("ticket", 0)):
             said, lines = self.resume(name, option)
@@ -170,13 +171,14 @@ class Suites(Folder):
         begun = flight[40 + record :]  # of the record behind the ServerHello
         self.assertTrue(begun and len(flight) == 440 and packets[4].data[20:22] == flight[20:22])
         cases = {
-            "no-handshake": packets[:1] + packets[2:], "handshake-unfinished": packets[:3], "gap 0": packets[:3] + packets[4:],
-            f"tail {len(begun)}": packets[:4], "not-tls": [*packets[:2], packets[2]._replace(data=first[:46] + b"\xff" + first[47:]),
-                                                           *packets[3:]],
+            "no-handshake": packets[:1] + packets[2:], "handshake-unfinished": packets[:3],
+            "gap 0": packets[:3] + packets[4:], f"tail {len(begun)}": packets[:4],
+            "not-tls": [*packets[:2], packets[2]._replace(data=first[:46] + b"\xff" + first[47:]), *packets[3:]],
         }  # fmt: skip
         for reason, kept in cases.items():
             made = tools.imported("-k", keys, input=tools.pcap_of(kept, 101))
-            self.assertEqual((made.status, tools.lines_of(made, "connection")[0].split(" packet 1 ")[1]), (6, f"refused {reason}"))
+            said = tools.lines_of(made, "connection")[0].split(" packet 1 ")[1]
+            self.assertEqual((made.status, said), (6, f"refused {reason}"))
 
     def test_alert(self):
         """A client that does not trust the certificate says alert 48 (RFC 8446, 6.2), in TLS 1.2 in the clear."""

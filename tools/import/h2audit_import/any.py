@@ -78,7 +78,7 @@ def main() -> NoReturn:
         metavar="N",
         help=f"split what is imported, and audit its parts side by side: 1 to {MOST_PARTS}",
     )
-    parser.add_argument("--h2audit", metavar="PROGRAM", help="the program that audits; without it H2AUDIT of the\nenvironment, "
-                        "the h2audit beside this program, or that of the path")  # fmt: skip
+    parser.add_argument("--h2audit", metavar="PROGRAM", help="the program that audits; without it H2AUDIT of the\n"
+                        "environment, the h2audit beside this program, or that of the path")  # fmt: skip
     asked = parser.parse_args()
     run(PROGRAM, lambda: audited(asked, way_of(asked)))

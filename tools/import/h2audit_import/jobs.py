@@ -148,19 +148,27 @@ class ManyProcesses:
     def __init__(self, keys: Keys, more_keys: bool, output: Output, jobs: int) -> None:
         self.output, self.keys, self.more_keys = output, keys, more_keys
         self.missed = b""
+        self.processes: list[ForkProcess] = []
+        before = signal.pthread_sigmask(signal.SIG_BLOCK, SIGNALS)  # they are for the thread that is here alone
+        try:
+            self.lanes = self.start(jobs)
+        finally:
+            signal.pthread_sigmask(signal.SIG_SETMASK, before)
+        self.owners: dict[bytes, Lane] = {}
+        self.step = self.bytes = self.segments = self.rounds = 0
+
+    def start(self, jobs: int) -> list[Lane]:
         forking = multiprocessing.get_context("fork")
         pipes: list[Pipe] = []
-        self.processes: list[ForkProcess] = []
         for _ in range(jobs):
             mine, theirs = forking.Pipe()
             pipes.append(mine)
-            process = forking.Process(target=work, args=(theirs, list(pipes), keys, more_keys), daemon=True)
+            words = theirs, list(pipes), self.keys, self.more_keys
+            process = forking.Process(target=work, args=words, daemon=True)
             process.start()
             self.processes.append(process)
             theirs.close()
-        self.lanes = [Lane(pipe, process) for pipe, process in zip(pipes, self.processes)]
-        self.owners: dict[bytes, Lane] = {}
-        self.step = self.bytes = self.segments = self.rounds = 0
+        return [Lane(pipe, process) for pipe, process in zip(pipes, self.processes)]
 
     def segment(self, arrival: Arrival, segment: Segment) -> None:
         lane = self.owners.get(segment.ends) or self.new_owner(segment.ends)

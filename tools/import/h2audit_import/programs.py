@@ -43,7 +43,8 @@ def words_of(program: str, description: str) -> Words:
     parser.add_argument("files", nargs="*", default=[], metavar="FILE",
                         help="pcap or pcapng, also in gzip or zstd; standard input without one, or as -")  # fmt: skip
     parser.add_argument("-k", "--key-log", action="append", default=[], metavar="KEYLOG",
-                        help="secrets of TLS connections, as SSLKEYLOGFILE gets them; may stand several times")  # fmt: skip
+                        help="secrets of TLS connections, as SSLKEYLOGFILE gets them; "
+                             "may stand several times")  # fmt: skip
     parser.add_argument("-j", "--jobs", type=number(1, MOST_JOBS), default=1, metavar="N",
                         help=f"processes that decrypt, 1 to {MOST_JOBS}; 1 without it")  # fmt: skip
     parser.add_argument("-V", "--version", action="version", version=f"{program} {VERSION}",
@@ -100,7 +101,7 @@ def run(program: str, work: Callable[[], int]) -> NoReturn:
     """
     gc.disable()
     hold_standard_files()
-    status = IO_FAILED
+    status, stopped = IO_FAILED, 0
     try:
         with signals_raise():
             done = work()
@@ -116,8 +117,10 @@ def run(program: str, work: Callable[[], int]) -> NoReturn:
         status = NO_MEMORY
         say(program, "out of memory")
     except Interrupted as why:
-        signal.signal(why.args[0], signal.SIG_DFL)
-        os.kill(os.getpid(), why.args[0])
+        stopped = why.args[0]
+    if stopped:  # by now the exception is gone, and with it every file that a frame of its traceback still held
+        signal.signal(stopped, signal.SIG_DFL)
+        os.kill(os.getpid(), stopped)
     leave(status)
 
 
