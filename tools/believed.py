@@ -25,7 +25,7 @@ CALLS = {
     "h2audit/src/program.rt": ["program_words", "run_program"],
     "h2audit/src/status.rt": ["ending"],
     "command_line/src/words.rt": ["parse"],
-    "capture_split/src/splitting.rt": ["split_capture"],
+    "capture_split/src/splitting.rt": ["split_capture", "split_file", "split_last"],
     "capture_split/src/laws.rt": ["one_part", "segments_name", "either_order"],
 }
 VIEWS = {"byte_accounts/src/kept_bytes.rt": ["KeptBytes"]}
