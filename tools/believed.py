@@ -26,7 +26,7 @@ CALLS = {
     "h2audit/src/status.rt": ["ending"],
     "command_line/src/words.rt": ["parse"],
     "capture_split/src/splitting.rt": ["split_capture", "split_file", "split_last"],
-    "capture_split/src/laws.rt": ["one_part", "segments_name", "either_order"],
+    "capture_split/src/laws.rt": ["one_part", "segments_name", "either_order", "same_records"],
 }
 VIEWS = {"byte_accounts/src/kept_bytes.rt": ["KeptBytes"]}
 
