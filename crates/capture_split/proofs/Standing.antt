@@ -10,7 +10,8 @@ use Rattle.pcap_records.specs.Record.{BeginsWithRecord, captured_length}
 use Rattle.pcap_records.proofs.Fronts.{ReadsFirst, in_front}
 use Rattle.capture_split.specs.Dealt.{IsRecord, part_at, part_bytes, part_numbers}
 use Rattle.capture_split.specs.Parts.{AllGrow, AreSplit}
-use Rattle.capture_split.specs.code.Dealing.{IsDealt, OneGrows, order_of}
+use Rattle.capture_split.specs.Files.{IsDealt, order_of}
+use Rattle.capture_split.specs.code.Dealing.{OneGrows}
 use Rattle.capture_split.specs.declared.dealer.Dealer.{Dealer}
 use Rattle.capture_split.specs.declared.part.Part.{Part}
 use Rattle.capture_split.specs.Pair.{front_of, pair_of, part_of}

@@ -3,7 +3,8 @@ use Rattle.std.proofs.Common.{◌≡◌, ◌<◌, ◌∙◌, ℕ, Option, List, 
 use Rattle.std.specs.Io.KnownBytes.{Consumes}
 use Rattle.std.proofs.KnownBytes.{Consumes-nil, Consumes-trans}
 use Rattle.pcap_records.specs.Record.{BeginsWithRecord}
-use Rattle.capture_split.specs.code.Dealing.{HasTurned, IsDealt, order_of}
+use Rattle.capture_split.specs.Files.{IsDealt, order_of}
+use Rattle.capture_split.specs.code.Dealing.{HasTurned}
 use Rattle.capture_split.specs.declared.dealer.Dealer.{Dealer}
 use Rattle.capture_split.specs.declared.part.Part.{Part}
 

@@ -1,4 +1,5 @@
 pub mod Dealt
+pub mod Files
 pub mod Laws
 pub mod Pair
 pub mod Parts

@@ -7,7 +7,8 @@ ghost use Rattle.pcap_records.specs.FileHeader.{format_of, link_of, number_of};
 ghost use Rattle.pcap_records.specs.Record.{BeginsWithRecord, captured_length};
 ghost use Rattle.capture_split.specs.Pair.{front_of, pair_of, part_of};
 ghost use Rattle.capture_split.specs.Parts.{AreSplit};
-ghost use Rattle.capture_split.specs.code.Dealing.{IsDealt, OneGrows, order_of};
+ghost use Rattle.capture_split.specs.Files.{IsDealt, order_of};
+ghost use Rattle.capture_split.specs.code.Dealing.{OneGrows};
 ghost use Rattle.capture_split.specs.declared.part.Part.{Part};
 
 use crate::fault::SplitFault;

@@ -2,7 +2,7 @@
 
 ghost use Rattle.std.specs.Prelude.{◌≡◌, ◌≤◌, IfSome, length};
 ghost use Rattle.pcap_records.specs.FileHeader.{format_of, link_of, number_of};
-ghost use Rattle.capture_split.specs.code.Dealing.{order_of};
+ghost use Rattle.capture_split.specs.Files.{order_of};
 
 use byteorder::{BigEndian, ByteOrder, LittleEndian};
 

@@ -1,6 +1,6 @@
 //! Laws of the definitions. The functions do nothing; their contracts are the laws.
 
-ghost use Rattle.capture_split.specs.Laws.{EitherOrder, OnePart, SegmentsName};
+ghost use Rattle.capture_split.specs.Laws.{EitherOrder, OnePart, SameRecords, SegmentsName};
 
 /// A record goes to one part, whole.
 pub fn one_part()
@@ -16,4 +16,9 @@ pub fn segments_name()
 /// And on no order of the two: both directions of a connection go to one part.
 pub fn either_order()
     ensures { EitherOrder }
+{}
+
+/// The records that are dealt are those that the reader of the whole capture finds: as many, before the same rest.
+pub fn same_records()
+    ensures { SameRecords }
 {}

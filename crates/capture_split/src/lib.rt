@@ -15,7 +15,8 @@
 //!   gets nothing more, names the endpoints of the record that it had no room for ([`Part::full`]), and its size with that
 //!   record is proved to be 2^31 or more. Of a file no contract can say what it gives or takes.
 //! - [`laws`]: a record goes to one part, whole; a packet in which `packet_heads` finds a segment names that segment's
-//!   endpoints in its front; either order of two endpoints goes to the same part.
+//!   endpoints in its front; either order of two endpoints goes to the same part; the records are those that the reader of
+//!   the whole capture finds.
 //!
 //! Wrong bodies that the prover refuses: a pair of a sender alone, a record without its header, a part that gets another
 //! part's bytes, one number for all records, a cut record that is cut again, a full part that goes on, unread bytes that

@@ -5,7 +5,8 @@ ghost use Rattle.std.specs.Io.KnownBytes.{Consumes, IsAtEnd};
 ghost use Rattle.pcap_records.specs.FileHeader.{format_of, link_of, number_of};
 ghost use Rattle.pcap_records.specs.Record.{BeginsWithRecord};
 ghost use Rattle.capture_split.specs.Parts.{AreSplit};
-ghost use Rattle.capture_split.specs.code.Dealing.{HasTurned, IsDealt, order_of};
+ghost use Rattle.capture_split.specs.Files.{IsDealt, order_of};
+ghost use Rattle.capture_split.specs.code.Dealing.{HasTurned};
 ghost use Rattle.capture_split.specs.declared.part.Part.{Part};
 
 use crate::dealer::Dealer;

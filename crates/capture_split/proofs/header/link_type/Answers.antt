@@ -1,7 +1,7 @@
 use Rattle.std.proofs.Common.{◌≡◌, ◌∙◌, ℕ, List, Option, Some, None, IfSome, ap}
 use Rattle.pcap_records.specs.FileHeader.{ByteOrder, format_of, link_of, number_of}
 use Rattle.pcap_records.specs.declared.format.Format.{Format}
-use Rattle.capture_split.specs.code.Dealing.{order_of}
+use Rattle.capture_split.specs.Files.{order_of}
 use Rattle.capture_split.proofs.header.link_type.Goals as goal
 
 same_link : (order : ByteOrder) (link : ℕ) (header : List ℕ) (told : Option Format) → link ≡ link_of order header

@@ -1,7 +1,7 @@
 use Rattle.std.proofs.Common.{◌≡◌, ◌-◌, ◌≤◌, ◌∙◌, ℕ, List, ◌++◌, length, take, drop, sym, ap, subst, arith}
 use Rattle.std.proofs.lemmas.List.{length-take-le, take-take}
 use Rattle.pcap_records.specs.Record.{BeginsWithRecord}
-use Rattle.capture_split.specs.code.Dealing.{IsDealt, order_of}
+use Rattle.capture_split.specs.Files.{IsDealt, order_of}
 use Rattle.capture_split.proofs.Buffer.{back_part, moved_to_front, two_parts}
 use Rattle.capture_split.proofs.splitting.deal_buffer.Goals as goal
 

@@ -2,7 +2,7 @@ use Rattle.std.proofs.Common.{◌≡◌, ℕ, List, [], Option, Some, None, IfSo
 use Rattle.pcap_records.specs.FileHeader.{ByteOrder, format_of, link_of, number_of}
 use Rattle.pcap_records.specs.declared.format.Format.{Format}
 use Rattle.capture_split.specs.Parts.{AreSplit}
-use Rattle.capture_split.specs.code.Dealing.{order_of}
+use Rattle.capture_split.specs.Files.{order_of}
 use Rattle.capture_split.proofs.Standing.{none_dealt}
 use Rattle.capture_split.proofs.splitting.split_capture.Goals as goal
 

@@ -1,6 +1,6 @@
 use Rattle.std.proofs.Common.{◌++◌, ℕ, Bool, List, take, subst, append_assoc}
 use Rattle.capture_split.specs.Parts.{AreSplit}
-use Rattle.capture_split.specs.code.Dealing.{order_of}
+use Rattle.capture_split.specs.Files.{order_of}
 use Rattle.capture_split.proofs.splitting.split_last.Goals as goal
 
 pub returns-clause-split : goal.returns-clause-split

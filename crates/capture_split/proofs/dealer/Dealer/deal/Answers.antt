@@ -1,7 +1,7 @@
 use Rattle.std.proofs.Common.{◌≡◌, ◌+◌, ◌-◌, ◌∙◌, ℕ, List, ◌++◌, length, take, drop, sym, ap, subst, rules, append_assoc, append-nil}
 use Rattle.std.proofs.Math.Seq.{take-add}
 use Rattle.std.proofs.lemmas.List.{take_rest}
-use Rattle.capture_split.specs.code.Dealing.{IsDealt}
+use Rattle.capture_split.specs.Files.{IsDealt}
 use Rattle.capture_split.proofs.dealer.Dealer.deal.Goals as goal
 
 pub loop-at-preserved : goal.loop-at-preserved

@@ -1,5 +1,5 @@
 use Rattle.std.proofs.Common.{◌≡◌, ◌-◌, ◌<◌, ◌≤◌, ◌++◌, ℕ, List, length, take}
-use Rattle.capture_split.specs.code.Dealing.{IsDealt}
+use Rattle.capture_split.specs.Files.{IsDealt}
 use Rattle.capture_split.specs.declared.part.Part.{Part}
 use Rattle.capture_split.proofs.dealer.Dealer.deal.Given as goal
 

@@ -1,5 +1,5 @@
 use Rattle.std.proofs.Common.{◌++◌, take, sym, subst, arith}
-use Rattle.capture_split.specs.code.Dealing.{IsDealt}
+use Rattle.capture_split.specs.Files.{IsDealt}
 use Rattle.capture_split.specs.declared.dealer.Dealer.{Dealer}
 use Rattle.capture_split.proofs.Standing.{dealt_more}
 use Rattle.capture_split.proofs.dealer.Dealer.deal_some.Goals as goal

@@ -3,7 +3,7 @@ use Rattle.std.proofs.lemmas.Bool.{eqb-true, eqb-false}
 use Rattle.std.proofs.lemmas.List.{nil_from_length}
 use Rattle.capture_split.specs.Parts.{AreSplit}
 use Rattle.capture_split.specs.Pair.{front_of, pair_of, part_of}
-use Rattle.capture_split.specs.code.Dealing.{order_of}
+use Rattle.capture_split.specs.Files.{order_of}
 use Rattle.capture_split.proofs.Given.{front-rest}
 use Rattle.capture_split.proofs.Standing.{dealt_all, dealt_rest}
 use Rattle.capture_split.proofs.dealer.Dealer.finish.Goals as goal
