@@ -348,6 +348,20 @@ class Order(unittest.TestCase):
         self.assertTrue(stream)
         self.assertTrue(tools.lines_of(made, "flow")[1].endswith(f" gap none tail {len(stream)} end cut"), made.map)
 
+    def test_reset(self):
+        """What comes up to 240 seconds after an RST still counts; later, and once another connection opened, no more."""
+        packets = [one for one in in_raw(NAME) if not one.data[33] & 1]
+        rows = len(WANTED)
+        for seconds, is_kept in ((239, True), (241, False)):
+            last = packets[-1]
+            reset = last._replace(data=last.data[:33] + b"\x04" + last.data[34:])
+            opening = packets[0].data
+            other = reset._replace(data=opening[:20] + b"\x00\x07" + opening[22:], nanos=reset.nanos + seconds * 10**9)
+            late = [one._replace(nanos=other.nanos) for one in packets[14:]]
+            made = given(tools.pcap_of([*packets[:14], reset, other, *late], RAW), *KEYS)
+            self.assertEqual(len(tools.rows_of(made)) == rows, is_kept, seconds)
+            self.assertEqual(len(tools.lines_of(made, "connection")), 2)
+
     def test_begins_late(self):
         made = given(tools.pcap_of(list(in_raw("key-updates"))[12:], RAW), *tools.key_log_of("key-updates"))
         self.assertEqual((made.status, tools.lines_of(made, "connection")), (6, []))
