@@ -78,8 +78,8 @@ deb: $(PROGRAM) $(SPLIT)
 		ZSHDIR=/usr/share/zsh/vendor-completions > /dev/null && \
 		tools/package/build_deb.sh "$$stage" "$(abspath $(PACKAGES))"
 
-# What tells within two minutes whether a change holds together, and proves nothing: layout, the front end on every crate, the
-# tests of calls, and the documents. With CRATE=NAME it proves that crate.
+# What tells in some two minutes whether a change holds together, and proves nothing: layout, the front end on every crate, the
+# tests of calls, and the definitions to believe. With CRATE=NAME it proves that crate.
 check:
 ifdef CRATE
 	cd crates/$(CRATE) && rt check
@@ -88,8 +88,6 @@ else
 	@cd crates/crate_tests && rt try | diff stdout -
 	@cd crates/h2audit_split && rt try -- $$(cat args) | diff stdout -
 	tools/tests/believed_test.py
-	tools/tests/words_test.py
-	tools/tests/recipes_test.py
 endif
 
 # The gate: proves every crate from nothing, tries the must-fail edits, runs the tests and the programs; and asks the
