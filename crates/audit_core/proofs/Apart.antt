@@ -8,7 +8,7 @@ use Rattle.audit_terms.specs.declared.findings.Finding.{Finding}
 use Rattle.audit_terms.specs.Finding.{comes_after}
 use Rattle.audit_terms.specs.Frame.{promised_by}
 use Rattle.audit_terms.specs.runs.Orderly.{IsInRange, IsOrderlyFrom, IsOrderly}
-use Rattle.audit_core.specs.code.StreamTable.{NotAmong, AreDistinct}
+use Rattle.audit_core.proofs.NamedStreams.{NotAmong, AreDistinct}
 use Rattle.audit_terms.specs.Pass.{PassState, pass_start, said, full_from, full, next, first_of, streams_of}
 use Rattle.audit_core.specs.ApartLaw.{EachPair, AreApart, StandApart}
 use Rattle.audit_core.proofs.Pairs.{Across, pairs-append, pairs-ordered}

@@ -26,7 +26,7 @@ use Rattle.audit_terms.specs.LocalFault.{local_said, fault, body_said, reading_f
 use Rattle.audit_terms.specs.InForce.{InForce, settings_said}
 use Rattle.audit_terms.specs.Connection.{connection_said, length_said, push_said, opening_order_said, promise_order_said, connection_windows_said, connection_window_said}
 use Rattle.audit_terms.specs.Stream.{WindowStep, opens, window_at_opening, window_step, stream_said, frame_said, stream_window_said, live_window_said, opened_window_said}
-use Rattle.audit_core.specs.code.StreamTable.{NotAmong, AreDistinct}
+use Rattle.audit_core.proofs.NamedStreams.{NotAmong, AreDistinct}
 use Rattle.audit_terms.specs.Pass.{PassState, streams_said, step_of, item_of}
 use Rattle.audit_core.specs.ApartLaw.{AreApart, StandApart}
 use Rattle.audit_core.proofs.Pairs.{all-append, across-by, pairs-append}

@@ -1,6 +1,6 @@
 pub mod PassOrder
-pub mod Rows
 pub mod PassRows
+pub mod PassChanges
 pub mod OrderlyRest
 pub mod Meetings
 pub mod CreditLemmas
@@ -8,14 +8,7 @@ pub mod LiveWindows
 pub mod StreamSteps
 pub mod StreamAlone
 pub mod PartsLemmas
-pub mod RowSteps
 pub mod QuietSteps
-pub mod Acknowledgements
-pub mod OneRow
-pub mod OwnRow
-pub mod OpenedRow
-pub mod PassOpenings
-pub mod MetRows
 pub mod NamedStreams
 pub mod StopLemmas
 pub mod Pairs

@@ -1,10 +1,27 @@
 -- The streams that frames name, gathered one by one.
-use Rattle.std.proofs.Common.{◌≡◌, ◌≢◌, ℕ, zero, suc, Bool, true, false, not, ◌==◌, ◌||◌, ◌&&◌, cond, List, [], ◌∷◌, ◌++◌, length, slice_get, filter, refl, sym, ap, ◌∙◌, subst, Option, Some, None, MatchOption, nat_eq, is_some, append_assoc, true≢false}
-use Rattle.std.specs.HashMap.{get, IsEmpty}
-use Rattle.audit_core.specs.declared.tables.StreamRow.{StreamRow}
-use borrow.Author.Tests.{eqb-true, eq-eqb}
+use Rattle.std.proofs.Common.{◌≡◌, ◌≢◌, ℕ, Bool, true, false, not, ◌==◌, ◌||◌, ◌&&◌, if◌then◌else◌, List, [], ◌∷◌, ◌++◌, filter, refl, sym, ap, ◌∙◌, append_assoc}
+use Rattle.std.proofs.lemmas.List.Elements.{filter_agree}
+use borrow.Author.Tests.{eqb-true}
 use Rattle.audit_terms.specs.Pass.{first_of}
-use Rattle.audit_core.specs.code.StreamTable.{NotAmong, AreDistinct, IsIndex, Positions, is_among, with_stream, streams_in}
+
+-- the stream is not among these
+abbrev pub NotAmong : ℕ → List ℕ → Type 0
+NotAmong stream [] = Unit {0}
+NotAmong stream (other ∷ others) = (stream ≢ other) × NotAmong stream others
+
+-- no stream stands twice
+abbrev pub AreDistinct : List ℕ → Type 0
+AreDistinct [] = Unit {0}
+AreDistinct (stream ∷ streams) = NotAmong stream streams × AreDistinct streams
+
+-- does the stream stand among these?
+abbrev pub is_among : ℕ → List ℕ → Bool
+is_among stream [] = false
+is_among stream (other ∷ others) = (stream == other) || is_among stream others
+
+-- the streams, and one more where it is not 0 and not among them
+abbrev pub with_stream : ℕ → List ℕ → List ℕ
+with_stream stream streams = if (stream == 0) || is_among stream streams then streams else streams ++ stream ∷ []
 
 -- the streams that are not among those seen
 abbrev pub without : List ℕ → List ℕ → List ℕ
@@ -14,28 +31,9 @@ or_false : (a : Bool) → (a || false) ≡ a
 or_false true = refl
 or_false false = refl
 
-or_true : (a : Bool) → (a || true) ≡ true
-or_true true = refl
-or_true false = refl
-
 or_assoc : (a b c : Bool) → ((a || b) || c) ≡ (a || (b || c))
 or_assoc true b c = refl
 or_assoc false b c = refl
-
-first_false : (a b : Bool) → (a || b) ≡ false → a ≡ false
-first_false true b e = e
-first_false false b e = refl
-
-second_false : (a b : Bool) → (a || b) ≡ false → b ≡ false
-second_false true b e = cc
-second_false false b e = e
-
-filter-alike : (p q : ℕ → Bool) → ((x : ℕ) → p x ≡ q x) → (xs : List ℕ) → filter p xs ≡ filter q xs
-filter-alike p q h [] = refl
-filter-alike p q h (x ∷ xs) = step _ refl (filter-alike p q h xs) where
-  step : (b : Bool) → q x ≡ b → filter p xs ≡ filter q xs → filter p (x ∷ xs) ≡ filter q (x ∷ xs)
-  step true e ih = simp (h, e) (ap (λ l. x ∷ l) ih)
-  step false e ih = simp (h, e) ih
 
 filter-filter : (p q : ℕ → Bool) (xs : List ℕ) → filter p (filter q xs) ≡ filter (λ x. q x && p x) xs
 filter-filter p q [] = refl
@@ -50,27 +48,6 @@ among-append : (q s : ℕ) (seen : List ℕ) → is_among q (seen ++ s ∷ []) �
 among-append q s [] = or_false (q == s)
 among-append q s (x ∷ seen) = ap (λ b. (q == x) || b) (among-append q s seen)
     ∙ sym (or_assoc (q == x) (is_among q seen) (q == s))
-
-none_among : (q : ℕ) (seen : List ℕ) → NotAmong q seen → is_among q seen ≡ false
-none_among q [] h = refl
-none_among q (x ∷ xs) h = step _ refl (none_among q xs h.1) where
-  step : (b : Bool) → (q == x) ≡ b → is_among q xs ≡ false → is_among q (x ∷ xs) ≡ false
-  step true e ih = absurd (h.0 (eqb-true q x e))
-  step false e ih = rw e ih
-
-found_among : (q : ℕ) (seen : List ℕ) (i : ℕ) → slice_get seen i ≡ Some q → is_among q seen ≡ true
-found_among q [] i e = cc
-found_among q (x ∷ xs) zero e =
-    let k : Some x ≡ Some q = e in
-    let p : x ≡ q = cc in rw (eq-eqb q x (sym p)) refl
-found_among q (x ∷ xs) (suc i) e = ap (λ b. (q == x) || b) (found_among q xs i e) ∙ or_true (q == x)
-
-not_here : (q x : ℕ) (b : Bool) → (q == x) ≡ b → b ≡ false → q ≢ x
-not_here q x b e f p = let t = eq-eqb q x p in absurd (true≢false (sym t ∙ e ∙ f))
-
-none-from_test : (q : ℕ) (seen : List ℕ) → is_among q seen ≡ false → NotAmong q seen
-none-from_test q [] h = tt
-none-from_test q (x ∷ xs) h = (not_here q x _ refl (first_false _ _ h), none-from_test q xs (second_false _ _ h))
 
 -- one more stream, of those still to come
 module _ (stream : ℕ) (seen later : List ℕ) where
@@ -89,7 +66,7 @@ module _ (stream : ℕ) (seen later : List ℕ) where
       let f : without seen (stream ∷ others) ≡ without seen others = rw h refl in
       ap (without seen) e ∙ f
       ∙ filter-filter (λ x. not (is_among x seen)) (λ x. not (x == stream)) later
-      ∙ filter-alike (λ x. not (x == stream) && not (is_among x seen)) (λ x. not (is_among x seen))
+      ∙ filter_agree (λ x. not (x == stream) && not (is_among x seen)) (λ x. not (is_among x seen))
       (λ x. seen-test x h _ refl) later
 
   new-test : (a b : Bool) → (not b && not a) ≡ not (a || b)
@@ -106,7 +83,7 @@ module _ (stream : ℕ) (seen later : List ℕ) where
       ap (without seen) e ∙ f
       ∙ ap (λ l. stream ∷ l)
       (filter-filter (λ x. not (is_among x seen)) (λ x. not (x == stream)) later
-      ∙ filter-alike (λ x. not (x == stream) && not (is_among x seen)) (λ x. not (is_among x (seen ++ stream ∷ [])))
+      ∙ filter_agree (λ x. not (x == stream) && not (is_among x seen)) (λ x. not (is_among x (seen ++ stream ∷ [])))
       (λ x. new-test (is_among x seen) (x == stream) ∙ ap not (sym (among-append x stream seen))) later)
 
   named-by : (a b : Bool) → (stream == 0) ≡ a → is_among stream seen ≡ b →
@@ -129,99 +106,9 @@ module _ (stream : ℕ) (seen later : List ℕ) where
       ++ without seen (first_of stream later)
   named-more = named-by _ _ refl refl
 
-pub with-zero : (stream : ℕ) (seen : List ℕ) → stream ≡ 0 → seen ≡ with_stream stream seen
-with-zero stream seen e = rw (eq-eqb stream 0 e) refl
-
-pub with-seen : (stream : ℕ) (seen : List ℕ) → is_among stream seen ≡ true → seen ≡ with_stream stream seen
-with-seen stream seen h =
-    let t : ((stream == 0) || is_among stream seen) ≡ true = ap (λ b. (stream == 0) || b) h ∙ or_true (stream == 0) in
-    rw t refl
-
-pub with-new : (stream : ℕ) (seen : List ℕ) → stream ≢ 0 → NotAmong stream seen → seen ++ stream ∷ []
-    ≡ with_stream stream seen
-with-new stream seen z h = step _ refl where
-  step : (b : Bool) → (stream == 0) ≡ b → seen ++ stream ∷ [] ≡ with_stream stream seen
-  step true e = absurd (z (eqb-true stream 0 e))
-  step false e = rw (e, none_among stream seen h) refl
-
--- what the map answers
-module _ (seen : List ℕ) (positions : Positions) (index : IsIndex seen positions) (stream : ℕ) where
-  placed-as : (o : Option ℕ) → get nat_eq positions stream ≡ o →
-      MatchOption o (NotAmong stream seen) (λ p. slice_get seen p ≡ Some stream)
-  placed-as o e = subst (λ o. MatchOption o (NotAmong stream seen) (λ p. slice_get seen p ≡ Some stream)) e
-      (index.placed stream)
-
-  pub among-from_map : (o : Option ℕ) → get nat_eq positions stream ≡ o → is_some o ≡ true → is_among stream seen ≡ true
-  among-from_map None e h = cc
-  among-from_map (Some place) e h = found_among stream seen place (placed-as (Some place) e)
-
-  pub absent-from_map : (o : Option ℕ) → get nat_eq positions stream ≡ o → is_some o ≡ false → NotAmong stream seen
-  absent-from_map None e h = placed-as None e
-  absent-from_map (Some place) e h = cc
-
-slice_get-append : (xs ys : List ℕ) (i x : ℕ) → slice_get xs i ≡ Some x → slice_get (xs ++ ys) i ≡ Some x
-slice_get-append [] ys i x e = cc
-slice_get-append (y ∷ xs) ys zero x e = e
-slice_get-append (y ∷ xs) ys (suc i) x e = slice_get-append xs ys i x e
-
-slice_get-last : (xs : List ℕ) (x : ℕ) → slice_get (xs ++ x ∷ []) (length xs) ≡ Some x
-slice_get-last [] x = refl
-slice_get-last (y ∷ xs) x = slice_get-last xs x
-
-not_among-append : (q s : ℕ) (xs : List ℕ) → NotAmong q xs → q ≢ s → NotAmong q (xs ++ s ∷ [])
-not_among-append q s [] h n = (n, tt)
-not_among-append q s (x ∷ xs) h n = (h.0, not_among-append q s xs h.1 n)
-
-distinct-append : (s : ℕ) (xs : List ℕ) → NotAmong s xs → AreDistinct xs → AreDistinct (xs ++ s ∷ [])
-distinct-append s [] n h = (tt, tt)
-distinct-append s (x ∷ xs) n h = (not_among-append x s xs h.0 (λ e. n.0 (sym e)), distinct-append s xs n.1 h.1)
-
-match-append : (q s : ℕ) (seen : List ℕ) (o : Option ℕ) → q ≢ s →
-    MatchOption o (NotAmong q seen) (λ p. slice_get seen p ≡ Some q) →
-    MatchOption o (NotAmong q (seen ++ s ∷ [])) (λ p. slice_get (seen ++ s ∷ []) p ≡ Some q)
-match-append q s seen None n h = not_among-append q s seen h n
-match-append q s seen (Some p) n h = slice_get-append seen (s ∷ []) p q h
-
--- one more stream
-pub index-more : (seen : List ℕ) (before after : Positions) (stream : ℕ) → IsIndex seen before → NotAmong stream seen →
-    ((q : ℕ) → get nat_eq after q ≡ cond (nat_eq stream q) (Some (length seen)) (get nat_eq before q)) →
-    IsIndex (seen ++ stream ∷ []) after
-index-more seen before after stream index new updates = record {
-  distinct = distinct-append stream seen new index.distinct;
-  placed = λ q. step q _ refl;
-} where
-  step : (q : ℕ) (b : Bool) → nat_eq stream q ≡ b →
-      MatchOption (get nat_eq after q) (NotAmong q (seen ++ stream ∷ []))
-      (λ p. slice_get (seen ++ stream ∷ []) p ≡ Some q)
-  step q true e =
-      let u : get nat_eq after q ≡ Some (length seen) = updates q ∙ (rw e refl) in
-      let k : slice_get (seen ++ stream ∷ []) (length seen) ≡ Some q = slice_get-last seen stream
-      ∙ ap Some (eqb-true stream q e) in
-      rw u k
-  step q false e =
-      let u : get nat_eq after q ≡ get nat_eq before q = updates q ∙ (rw e refl) in
-      rw u (match-append q stream seen (get nat_eq before q) (λ p. true≢false (sym (eq-eqb stream q (sym p)) ∙ e))
-      (index.placed q))
-
-pub streams_in-push : (rows : List StreamRow) (row : StreamRow) → streams_in (rows ++ row ∷ []) ≡ streams_in rows
-    ++ row.stream ∷ []
-streams_in-push [] row = refl
-streams_in-push (x ∷ rows) row = ap (λ l. x.stream ∷ l) (streams_in-push rows row)
-
-pub length-streams_in : (rows : List StreamRow) → length (streams_in rows) ≡ length rows
-length-streams_in [] = refl
-length-streams_in (x ∷ rows) = ap suc (length-streams_in rows)
-
 without-none : (streams : List ℕ) → without [] streams ≡ streams
 without-none [] = refl
 without-none (x ∷ xs) = ap (λ l. x ∷ l) (without-none xs)
 
 pub named-first : (streams : List ℕ) → [] ++ without [] streams ≡ streams
 named-first streams = without-none streams
-
--- a map of no entry
-pub index-empty : (positions : Positions) → IsEmpty positions → IsIndex [] positions
-index-empty positions e = record {
-  distinct = tt;
-  placed = λ q. rw e tt;
-}

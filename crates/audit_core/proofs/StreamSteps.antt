@@ -27,10 +27,10 @@ abbrev pub StepsFrom : (low : ℕ) → List Step → Type 0
 StepsFrom low [] = Unit {0}
 StepsFrom low (step ∷ steps) = (low ≤ step.number) × StepsFrom low steps
 
-differ_test : (m n : ℕ) → m < n → (m == n) ≡ false
+pub differ_test : (m n : ℕ) → m < n → (m == n) ≡ false
 differ_test m n h = grind (arith, nat_tests)
 
-differ_test_back : (m n : ℕ) → m < n → (n == m) ≡ false
+pub differ_test_back : (m n : ℕ) → m < n → (n == m) ≡ false
 differ_test_back m n h = grind (arith, nat_tests)
 
 less_test : (m n : ℕ) → m < n → nat_lt m n ≡ true
@@ -39,7 +39,7 @@ less_test m n h = grind (arith, nat_tests)
 not_less_test : (m n : ℕ) → m < n → nat_lt n m ≡ false
 not_less_test m n h = grind (arith, nat_tests)
 
-same_test : (n : ℕ) → (n == n) ≡ true
+pub same_test : (n : ℕ) → (n == n) ≡ true
 same_test n = grind (arith, nat_tests)
 
 with_change-from : (low : ℕ) (steps : List Step) (change : Change) → StepsFrom low steps → low ≤ change.number
@@ -113,7 +113,7 @@ frames_of-from low stream (frame ∷ frames) h = by_test (meets stream frame) (f
   by_test true rest = (h.0, rest)
   by_test false rest = rest
 
-changes-later : (low high : ℕ) (now : InForce) (frames : List Frame) → low ≤ high → IsOrderlyFrom high frames
+pub changes-later : (low high : ℕ) (now : InForce) (frames : List Frame) → low ≤ high → IsOrderlyFrom high frames
     → ChangesFrom low (changes_from now frames)
 changes-later low high now [] p h = tt
 changes-later low high now (frame ∷ frames) p h =

@@ -5,7 +5,7 @@ use borrow.Author.Tests.{eqb-true, eq-eqb}
 use Rattle.audit_terms.specs.declared.frames.Frame.{Frame}
 use Rattle.audit_terms.specs.Frame.{promised_in, promises, promised_by, meets}
 use Rattle.audit_terms.specs.Pass.{first_of, streams_of}
-use Rattle.audit_core.specs.code.StreamTable.{AreDistinct}
+use Rattle.audit_core.proofs.NamedStreams.{AreDistinct}
 use Rattle.audit_core.specs.ApartLaw.{EachPair}
 use Rattle.audit_core.specs.StreamsLaw.{StreamsAreThoseMet, StreamsAreNamedOnce}
 use Rattle.audit_core.proofs.Meetings.{and-false}

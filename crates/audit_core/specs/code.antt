@@ -1,2 +1,1 @@
-pub mod SettingsSoFar
-pub mod StreamTable
+pub mod StreamRows

@@ -24,8 +24,7 @@
 
 pub mod laws;
 mod passes;
-mod settings;
-mod tables;
+mod rows;
 pub mod worked_examples;
 
 pub use audit_terms::{

@@ -1,13 +1,14 @@
-ghost use Rattle.std.specs.Prelude.{◌≡◌, IfOk};
+ghost use Rattle.std.specs.Prelude.{◌≡◌, ◌==◌, IfOk};
+ghost use Rattle.std.specs.List.{find};
 ghost use Rattle.audit_terms.specs.runs.Orderly.{IsOrderly};
 ghost use Rattle.audit_terms.specs.Pass.{pass};
 
-use crate::settings::SettingsSoFar;
-use crate::tables::StreamTable;
+use crate::rows::{idle_rows, meet_all, opens};
 use audit_terms::{
-    Change, ConnectionState, Finding, Frame, Kind, Sides, cut_at_stop, previous_after,
-    put_in_order, say_if, say_local,
+    Change, ConnectionState, FIRST_WINDOW, Finding, Frame, Item, Kind, Sides, cut_at_stop,
+    initial_after, previous_after, put_in_order, say_if, say_local,
 };
+use settings_pair::pair;
 use std::alloc::{AllocError, Global};
 
 /// The plain pass over a connection's frames in capture order: all findings, in order, up to and including the first
@@ -21,46 +22,39 @@ pub fn one_pass(alloc: Global, frames: &[Frame]) -> Result<Vec<Finding>, AllocEr
         client: None,
         server: None,
     };
-    let mut settings = SettingsSoFar::start(alloc);
+    let pairs = pair(alloc, frames)?;
+    let mut in_force = Sides {
+        client: FIRST_WINDOW,
+        server: FIRST_WINDOW,
+    };
     let mut connection = ConnectionState::start();
-    let mut streams = StreamTable::of(alloc, frames)?;
+    let mut rows = idle_rows(alloc, frames)?;
     for frame in frames {
-        say_local(&mut found, &previous.of(frame.side), frame)?;
-        let initial = settings.initial();
-        let change = settings.meet(frame)?;
-        say_unmatched(&mut found, frame, &change)?;
-        let item = streams.item_at(frame, &change);
-        connection.meet(&mut found, &item)?;
-        streams.meet(&mut found, &initial, frame, &change)?;
+        let mut said = Vec::new(alloc);
+        say_local(&mut said, &previous.of(frame.side), frame)?;
+        let change = change_at(&pairs.changes, frame.number);
+        let kind = Kind::UnmatchedAck;
+        let ack = Finding::at(kind, frame.number, frame.stream, frame.side, 0);
+        say_if(&mut said, frame.body.is_ack() && change.is_none(), ack)?;
+        let item = Item {
+            frame: *frame,
+            opens: opens(&rows, frame),
+            change,
+        };
+        connection.meet(&mut said, &item)?;
+        rows = meet_all(alloc, &rows, &mut said, &in_force, &item)?;
+        put_in_order(&mut said)?;
+        found.append(&mut said)?;
         previous = previous_after(&previous, frame);
+        in_force = initial_after(&change, &in_force);
     }
-    put_in_order(&mut found)?;
     cut_at_stop(&mut found);
     Ok(found)
 }
 
-ghost use Rattle.std.specs.Prelude.{◌++◌, ◌&&◌, is_none, pos, OnOk};
-ghost use Rattle.audit_terms.specs.Frame.{is_ack};
-ghost use Rattle.audit_terms.specs.runs.Orderly.{IsInRange};
-ghost use Rattle.audit_terms.specs.Finding.{finding_at, say};
-
-/// Adds an acknowledgement that brings no change (RFC 9113, 6.5.3).
-fn say_unmatched(
-    found: &mut Vec<Finding>,
-    frame: &Frame,
-    change: &Option<Change>,
-) -> Result<(), AllocError>
-    requires { IsInRange frame.now }
-    ensures { OnOk result (found.new.items ≡ found.old.items
-        ++ say (is_ack frame.now.body && is_none change.now)
-        (finding_at Kind.UnmatchedAck frame.now.number frame.now.stream frame.now.side (pos 0))) }
+/// The change of this number.
+fn change_at(changes: &[Change], number: u32) -> Option<Change>
+    ensures { result ≡ find (λ change. change.number == number) changes.now }
 {
-    let ack = Finding::at(
-        Kind::UnmatchedAck,
-        frame.number,
-        frame.stream,
-        frame.side,
-        0,
-    );
-    say_if(found, frame.body.is_ack() && change.is_none(), ack)
+    changes.iter().copied().find(|one| one.number == number)
 }

@@ -14,8 +14,7 @@ use Rattle.audit_terms.specs.LocalFault.{local_said}
 use Rattle.audit_terms.specs.Pass.{PassState, pass_start, first_of, full_from, item_of, next, pass, said, step_of, streams_of, streams_said}
 use Rattle.audit_terms.specs.runs.States.{state_from}
 use Rattle.audit_terms.specs.Stream.{idle_stream, stream_said, stream_after}
-use Rattle.audit_core.specs.code.StreamTable.{is_among, with_stream}
-use Rattle.audit_core.proofs.NamedStreams.{without, named-more, named-first}
+use Rattle.audit_core.proofs.NamedStreams.{is_among, with_stream, without, named-more, named-first}
 use Rattle.audit_core.proofs.QuietSteps.{bare_step}
 use Rattle.audit_core.proofs.StreamsMet.{streams_met_lem}
 use Rattle.audit_rounds.specs.EarlyStop.{FrontsSettle}

@@ -8,7 +8,8 @@
 //! capture order.
 //!
 //! What is left for tests are calls, of single crates and of runs: calls that take memory once each where there is memory,
-//! and printed text. `assemble` beside a slow program over random segments; two passes over one desk; when runs look, with
+//! and printed text. `assemble` beside a slow program over random segments; `findings_of_each` beside `one_pass` over random
+//! frames; two passes over one desk; when runs look, with
 //! a stop and without; that a later job sees the stop which an earlier one lowered, that two workers are in one round at
 //! once, and how many jobs each round has; readers and writers that go in steps or fail; the texts of faults; and calls that
 //! whole reports do not reach, once each. What the program answers to words and to whole captures is asked of the program,
@@ -25,6 +26,7 @@ mod flows;
 mod frame_examples;
 mod looks;
 mod passes;
+mod random;
 mod reports;
 mod runs;
 mod scans;
@@ -40,7 +42,7 @@ use std::thread::Threads;
 fn print_calls(rt: &(impl AllocGlobal + Print + RandomSource + Sync + Threads)) -> io::Result<()> {
     let alloc = rt.alloc();
     print_answers(rt, &flows::answers(rt, alloc))?;
-    print_answers(rt, &passes::answers(alloc))?;
+    print_answers(rt, &passes::answers(rt, alloc))?;
     print_answers(rt, &looks::answers(alloc))
 }
 

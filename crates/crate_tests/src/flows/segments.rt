@@ -3,6 +3,7 @@
 use super::plain::{self, PlainFlow};
 use crate::answer::Answer;
 use crate::captures::Capture;
+use crate::random::next;
 use audit_terms::Side;
 use packet_heads::{Packets, decode_all};
 use pcap_records::records;
@@ -79,14 +80,6 @@ pub fn overlaps_and_gap(rt: &(impl Sync + Threads), alloc: Global) -> Answer {
             && flow.arrivals.as_slice() == arrivals.as_slice()
             && flow.gap == Some(7),
     )
-}
-
-/// The next number of a linear congruential generator (Knuth's MMIX constants).
-fn next(state: &mut u64) -> u32 {
-    *state = state
-        .wrapping_mul(6364136223846793005)
-        .wrapping_add(1442695040888963407);
-    (*state >> 40) as u32
 }
 
 /// A handshake, and then segments of up to 7 bytes that begin near the initial number, each filled with

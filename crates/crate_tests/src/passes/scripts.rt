@@ -10,7 +10,7 @@ use audit_core::{Body, Frame, Length, PackedSettings, Settings, Side};
 const END_HEADERS: u8 = 4;
 
 /// A frame of a script, without flags.
-fn frame(number: u32, side: Side, code: u8, stream: u32, length: u32, body: Body) -> Frame
+pub fn frame(number: u32, side: Side, code: u8, stream: u32, length: u32, body: Body) -> Frame
     requires { length < 2 ^ 24 }
 {
     Frame {
@@ -43,7 +43,15 @@ pub fn data(number: u32, side: Side, stream: u32, length: u32) -> Frame
 
 /// SETTINGS with nothing.
 pub fn settings(number: u32, side: Side) -> Frame {
-    let values = PackedSettings::of(&Settings::none());
+    initial_window(number, side, None)
+}
+
+/// SETTINGS with an initial window, where there is one.
+pub fn initial_window(number: u32, side: Side, initial: Option<u32>) -> Frame {
+    let values = PackedSettings::of(&Settings {
+        initial,
+        ..Settings::none()
+    });
     frame(number, side, 4, 0, 0, Body::Settings(values))
 }
 

@@ -1,25 +1,26 @@
-use Rattle.std.proofs.Common.{◌≡◌, ◌+◌, ◌*◌, ◌^◌, ◌≤◌, ◌++◌, drop, vec_len}
+use Rattle.std.proofs.Common.{◌≡◌, ℕ, ◌+◌, ◌*◌, ◌^◌, ◌≤◌, ◌++◌, drop}
+use Rattle.std.specs.List.{All, find}
 use Rattle.audit_terms.specs.code.Room.{HasRoom}
-use Rattle.audit_core.specs.code.SettingsSoFar.{in_force_of}
-use Rattle.audit_core.specs.code.StreamTable.{streams_in, RowsFit, IsIndex}
-use Rattle.audit_terms.specs.Finding.{in_order}
-use Rattle.audit_terms.specs.Pass.{PassState, pass_start, streams_of}
-use Rattle.audit_core.proofs.PassRows.{said_rows, rows_at}
+use Rattle.audit_terms.specs.runs.Changes.{changes_from}
+use Rattle.audit_terms.specs.runs.Orderly.{IsOrderlyFrom}
+use Rattle.audit_terms.specs.Pass.{PassState, full, full_from, streams_of}
+use Rattle.audit_core.specs.code.StreamRows.{RowFits, rows_in}
+use Rattle.audit_core.proofs.PassChanges.{is_at}
 use Rattle.audit_core.proofs.passes.one_pass.Given as goal
 
 abbrev pub invariant-loop-frame : goal.invariant-loop-frame
 invariant-loop-frame l = record {
   state : PassState;
+  low : ℕ;
+  orderly : IsOrderlyFrom low (drop l.frame-index l.frames);
   previous : l.previous ≡ state.previous;
-  in_force : in_force_of l.settings ≡ state.in_force;
+  changes : (number : ℕ) → low ≤ number → find (is_at number) l.pairs.changes.items
+      ≡ find (is_at number) (changes_from state.in_force (drop l.frame-index l.frames));
+  initial : l.in_force ≡ state.in_force.initial;
   connection : l.connection ≡ state.connection;
-  table : l.streams.rows.items ≡ rows_at state (streams_of l.frames);
-  index : IsIndex (streams_in l.streams.rows.items) l.streams.positions;
-  rows : in_order (l.found.items ++ said_rows (streams_of l.frames) state (drop l.frame-index l.frames))
-      ≡ in_order (said_rows (streams_of l.frames) pass_start l.frames);
-  client_paired : l.settings.paired.client ≤ vec_len l.settings.sent.server;
-  server_paired : l.settings.paired.server ≤ vec_len l.settings.sent.client;
+  rows : l.rows.items ≡ rows_in state.streams (streams_of l.frames);
+  found : l.found.items ++ full_from (streams_of l.frames) state (drop l.frame-index l.frames) ≡ full l.frames;
   client : HasRoom (2 ^ 17 + l.frame-index * 2 ^ 32) l.connection.credit.client;
   server : HasRoom (2 ^ 17 + l.frame-index * 2 ^ 32) l.connection.credit.server;
-  fits : RowsFit (2 ^ 17 + l.frame-index * 2 ^ 32) l.streams.rows.items;
+  fits : All (RowFits (2 ^ 17 + l.frame-index * 2 ^ 32)) l.rows.items;
 }

@@ -1,0 +1,50 @@
+-- The streams that `one_pass` keeps, a row for each.
+use Rattle.std.specs.Prelude.{ℕ, ◌^◌, ◌<◌, ◌==◌, ◌&&◌, if◌then◌else◌, Bool, List, map, Some, None}
+use Rattle.audit_terms.specs.declared.sides.Sides.{Sides}
+use Rattle.audit_terms.specs.declared.frames.Frame.{Frame}
+use Rattle.audit_terms.specs.declared.items.Item.{Item}
+use Rattle.audit_terms.specs.declared.items.Step.{Step}
+use Rattle.audit_terms.specs.declared.streams.Stream.{Stream}
+use Rattle.audit_terms.specs.declared.findings.Finding.{Finding}
+use Rattle.audit_terms.specs.Frame.{meets}
+use Rattle.audit_terms.specs.Life.{is_opening}
+use Rattle.audit_terms.specs.Stream.{idle_stream, stream_after, stream_said}
+use Rattle.audit_terms.specs.code.Room.{WindowHasRoom}
+use Rattle.audit_core.specs.declared.rows.StreamRow.{StreamRow}
+
+-- the rows of these streams, each as it is among all streams
+abbrev pub rows_in : (ℕ → Stream) → List ℕ → List StreamRow
+rows_in entries streams = map (λ stream. record { stream = stream; entry = entries stream }) streams
+
+-- the rows of streams that are not opened
+abbrev pub idle_rows : List ℕ → List StreamRow
+idle_rows streams = rows_in (λ _. idle_stream) streams
+
+-- is the frame on the stream of the row, and does it open that stream?
+abbrev pub row_opens : Frame → StreamRow → Bool
+row_opens frame row = (row.stream == frame.stream) && is_opening row.stream row.entry.life frame
+
+-- what a stream meets at the frame of an item
+abbrev pub step_at : Item → (stream : ℕ) → Step
+step_at item stream = record {
+  number = item.frame.number;
+  frame = (if meets stream item.frame then Some item.frame else None);
+  change = item.change;
+}
+
+-- what a row shows at an item
+abbrev pub row_said : Sides ℕ → Item → StreamRow → List Finding
+row_said initial item row = stream_said row.stream initial row.entry (step_at item row.stream)
+
+-- the row after an item
+abbrev pub row_after : Sides ℕ → Item → StreamRow → StreamRow
+row_after initial item row = record {
+  stream = row.stream;
+  entry = stream_after row.stream initial row.entry (step_at item row.stream);
+}
+
+-- a row whose stream has 31 bits and whose windows have room
+pub record RowFits (bound : ℕ) (row : StreamRow) : Type 0 where
+  pub stream : row.stream < 2 ^ 31
+  pub client : WindowHasRoom bound row.entry.window.client
+  pub server : WindowHasRoom bound row.entry.window.server

@@ -1,0 +1,106 @@
+//! Random frames, by the rounds and by the plain pass.
+
+use super::scripts::{acknowledgement, are_orderly, data, frame, headers, initial_window, settings};
+use crate::answer::Answer;
+use crate::random::next;
+use audit_core::{Body, Frame, Side, one_pass};
+use audit_rounds::{Division, findings_of_each};
+use audit_terms::{END_STREAM, Word, keep_shown};
+use job_crew::NoGate;
+use std::alloc::{AllocError, Global};
+use std::thread::Threads;
+use table_hash::TableHash;
+
+/// One of some numbers.
+fn one_of(state: &mut u64, numbers: &[u32; 4]) -> u32 {
+    numbers[(next(state) % 4) as usize]
+}
+
+/// A frame of a side on a stream, with the bit of END_STREAM in one of eight.
+fn random_frame(state: &mut u64, number: u32) -> Frame {
+    let side = if next(state) % 2 == 0 {
+        Side::Client
+    } else {
+        Side::Server
+    };
+    let stream = one_of(state, &[1, 3, 5, 2]);
+    let made = match next(state) % 16 {
+        0..=5 => data(number, side, stream, one_of(state, &[0, 1, 9_000, 16_384])),
+        6 | 7 => headers(number, side, stream),
+        8 => initial_window(number, side, Some(one_of(state, &[0, 5_000, 70_000, 0x7fff_ffff]))),
+        9 | 10 => acknowledgement(number, side),
+        11 => {
+            let grant = Word::of(one_of(state, &[0, 1, 20_000, 0x7fff_ffff]));
+            frame(number, side, 8, one_of(state, &[0, 1, 3, 2]), 4, Body::WindowUpdate(grant))
+        }
+        12 | 13 => {
+            let grant = Word::of(one_of(state, &[1, 500, 8_000, 30_000]));
+            frame(number, side, 8, one_of(state, &[0, 0, 1, stream]), 4, Body::WindowUpdate(grant))
+        }
+        14 => {
+            let promised = Word::of(one_of(state, &[2, 2, 4, 5]));
+            frame(number, Side::Server, 5, stream, 4, Body::PushPromise(promised))
+        }
+        _ => frame(number, side, 3, stream, 4, Body::RstStream),
+    };
+    let end = if next(state) % 8 == 0 { END_STREAM } else { 0 };
+    Frame {
+        flags: made.flags | end,
+        ..made
+    }
+}
+
+/// Both prefaces, the openings of streams 1, 3 and 5, and then so many frames.
+fn script(alloc: Global, state: &mut u64, count: u32) -> Result<Vec<Frame>, AllocError> {
+    let mut frames = Vec::new(alloc);
+    frames.push(settings(1, Side::Client))?;
+    frames.push(settings(2, Side::Server))?;
+    for opened in 0..3 {
+        frames.push(headers(3 + opened, Side::Client, 1 + 2 * opened))?;
+    }
+    for at in 0..count {
+        frames.push(random_frame(state, 6 + at))?;
+    }
+    Ok(frames)
+}
+
+/// Whether what each division shows of the frames is what the plain pass does.
+fn shows_the_pass(
+    rt: &(impl Sync + Threads),
+    alloc: Global,
+    frames: &[Frame],
+    credits_shown: bool,
+) -> Answer {
+    if !are_orderly(frames) {
+        return Ok(false);
+    }
+    let mut want = one_pass(alloc, frames)?;
+    keep_shown(&mut want, credits_shown);
+    for (workers, groups, block) in [(1, 1, 4096), (2, 2, 1), (4, 3, 7)] {
+        let division = Division {
+            workers,
+            groups,
+            block,
+            hash: TableHash::Keyless,
+        };
+        let found = findings_of_each(rt, alloc, &division, &NoGate, credits_shown, &[frames])?;
+        if found.len() != 1 || found[0].as_slice() != want.as_slice() {
+            return Ok(false);
+        }
+    }
+    Ok(true)
+}
+
+/// Each script twice, without credits and with them.
+pub fn random_frames(rt: &(impl Sync + Threads), alloc: Global) -> Answer {
+    let mut state = 1;
+    for round in 0..200 {
+        let frames = script(alloc, &mut state, round)?;
+        for credits_shown in [false, true] {
+            if !shows_the_pass(rt, alloc, &frames, credits_shown)? {
+                return Ok(false);
+            }
+        }
+    }
+    Ok(true)
+}
