@@ -13,8 +13,9 @@ CLASSIC = {
     b"\xd4\xc3\xb2\xa1": "<", b"\x4d\x3c\xb2\xa1": "<",
     b"\xa1\xb2\xc3\xd4": ">", b"\xa1\xb2\x3c\x4d": ">",
 }
-# pcapng, gzip, Zstandard.
-ELSE = (b"\x0a\x0d\x0d\x0a", b"\x1f\x8b", b"\x28\xb5\x2f\xfd")
+# gzip, Zstandard; and pcapng.
+PACKED = (b"\x1f\x8b", b"\x28\xb5\x2f\xfd")
+ELSE = (b"\x0a\x0d\x0d\x0a", *PACKED)
 ETHERNET, RAW_IP = 1, 101
 FILE_HEADER, RECORD_HEADER = 24, 16
 IPV6, VLAN_TAGS = 0x86DD, (0x8100, 0x88A8)
