@@ -1,7 +1,7 @@
 """The course of a run: which task comes next, what is tried again, and when a capture is entered.
 
-Futures say over a queue that they are done. So the one thread that enters captures waits for nothing else, and sees within half a
-second that it is to stop.
+Futures say over a queue that they are done. So the one thread that enters captures waits for nothing else, and sees
+within half a second that it is to stop.
 """
 
 import os
@@ -16,9 +16,8 @@ from dataclasses import dataclass, field
 from functools import partial
 from typing import Any
 
-from distributed import Client, Future, KilledWorker
-
 from fleet import tasks
+from fleet.carrier import Client, Future, KilledWorker
 from fleet.cluster import threads_of
 from fleet.tasks import Answer, Order
 from fleet.walk import Found
@@ -42,7 +41,7 @@ class Lost(Exception):
 
 @dataclass
 class Capture:
-    """A capture on its way: how often it was tried, its parts where it is large, and whether it has to be imported first."""
+    """A capture on its way: how often it was tried, its parts where it is large, and whether it is imported first."""
 
     found: Found
     parts: int = 0
@@ -54,6 +53,11 @@ class Capture:
     waiting: set[int] = field(default_factory=set)
     part_tries: dict[int, int] = field(default_factory=dict)
     futures: set[Future] = field(default_factory=set)
+
+    @property
+    def size(self) -> int:
+        """Its bytes; 0 where it is not there."""
+        return self.found.size or 0
 
     @property
     def is_large(self) -> bool:
@@ -118,11 +122,11 @@ class Course:
         first = self.next_capture()
         if first is None or first.is_large:
             return [first] if first else []
-        captures, left = [first], BYTES_TOGETHER - (first.found.size or 0)
+        captures, left = [first], BYTES_TOGETHER - first.size
         most = min(MOST_TOGETHER, 1 + len(self.waiting) // room)
-        while len(captures) < most and self.waiting and not self.waiting[0].parts and (self.waiting[0].found.size or 0) <= left:
+        while len(captures) < most and self.waiting and not self.waiting[0].parts and self.waiting[0].size <= left:
             captures.append(self.waiting.popleft())
-            left -= captures[-1].found.size or 0
+            left -= captures[-1].size
         return captures
 
     def next_capture(self) -> Capture | None:
@@ -180,8 +184,8 @@ class Course:
         else:
             self.import_first(capture)
 
-    def submit(self, capture: Capture, after: Callable[[Capture, Answer], None], work: Callable[..., Answer], *words: Any,
-               tries: int = 1) -> None:
+    def submit(self, capture: Capture, after: Callable[[Capture, Answer], None], work: Callable[..., Answer],
+               *words: Any, tries: int = 1) -> None:
         priority = LAST if max(capture.tries, tries) > 1 else FIRST if capture.is_large else USUAL
         future = self.client.submit(work, *words, pure=False, priority=priority)
         capture.futures.add(future)
@@ -243,7 +247,10 @@ class Course:
         self.held.append(capture)
 
     def again(self, capture: Capture, answer: Answer) -> None:
-        """Tries a capture once more. Of all tasks of a lost worker one is to blame, so each is tried alone, after all others."""
+        """Tries a capture once more.
+
+        Of all tasks of a lost worker one is to blame, so each is tried alone, after all others.
+        """
         self.release(capture)
         capture.waiting, capture.part_tries = set(), {}
         if answer["reason"] == WORKER_LOST:
@@ -264,7 +271,8 @@ class Course:
         capture.seconds += answer["seconds"]
         capture.divided = answer
         if parts := tasks.parts_of(answer["made_size"], self.order):
-            self.submit(capture, self.after_split, tasks.split_made, answer, folder_of_parts(capture), parts, self.order)
+            folder = folder_of_parts(capture)
+            self.submit(capture, self.after_split, tasks.split_made, answer, folder, parts, self.order)
         else:
             self.merge_when_ready(capture)
 

@@ -30,7 +30,10 @@ class Ended(Exception):
 
 
 class Interruption:
-    """Ctrl-C, SIGTERM and a terminal that goes: from some time on something to ask for. A second one ends the program at once."""
+    """Ctrl-C, SIGTERM and a terminal that goes: from some time on something to ask for.
+
+    A second one ends the program at once.
+    """
 
     def __init__(self) -> None:
         self.signal = 0
@@ -145,7 +148,7 @@ def options_of(asked: Asked) -> str:
 
 
 def missing_in(database: Database, walk: Walk, version: str, options: str) -> list[Found]:
-    """The captures that do not stand in the database, failed there, or have changed since, as their size and time say."""
+    """The captures that do not stand in the database, failed there, or have changed since by their size or time."""
     standing = {path: row for path, row in database.entered()}
 
     def stands(found: Found) -> bool:

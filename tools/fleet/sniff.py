@@ -35,7 +35,10 @@ def kind_of(head: bytes) -> str:
 
 
 def holds_ipv6(capture: BinaryIO) -> bool:
-    """Whether a plain capture has a packet of IPv6 that is neither of UDP nor of ICMPv6 (neighbours that look for each other)."""
+    """Whether a plain capture has a packet of IPv6 that is neither of UDP nor of ICMPv6.
+
+    By ICMPv6 neighbours look for each other.
+    """
     head = capture.read(FILE_HEADER)
     order = CLASSIC.get(head[:4])
     if order is None or len(head) < FILE_HEADER:

@@ -9,9 +9,9 @@
     merge         the reports of the parts into that of the whole, and of an import back to that of the original
     in_parts      all of them, where workers share no folder
 
-An answer that is the last of a capture has an `outcome`: `audited`, `partial` (a part of a large capture was refused), `refused`
-(the capture cannot be audited, and never will be) or `failed` (it might be another time), with a `reason`. Others are `import`
-(it has to be imported first), `imported` and `split`.
+An answer that is the last of a capture has an `outcome`: `audited`, `partial` (a part of a large capture was refused),
+`refused` (the capture cannot be audited, and never will be) or `failed` (it might be another time), with a `reason`.
+Others are `import` (it has to be imported first), `imported` and `split`.
 
 A worker needs this module, which is sent to it: it imports the standard library, and what is sent beside it.
 """
@@ -35,14 +35,14 @@ AUDIT, IMPORT, SPLIT, MERGE = "h2audit", "h2audit-any", "h2audit-split", "h2audi
 IMPORT_ALONE = "h2audit-import"
 NO_FAULT, FAULTS, REFUSED, IO_FAILED, NO_MEMORY, NOTHING_READ = 0, 1, 3, 4, 5, 6
 MOST_PARTS = 500
-# What a compressed capture grows to is known when it is read: one that is large if it grows by so much is imported first.
+# How large a compressed capture is shows as it is read. One that would be large, grown so much, is imported first.
 USUAL_GROWTH = 10
 TOO_LARGE = "too-large"
 
 
 class Order(TypedDict):
-    """How captures are to be audited: files of keys, when to import, seconds for each run of a program, and above how many
-    bytes a capture is split, 0 for none.
+    """How captures are to be audited: files of keys, when to import, seconds for each run of a program, and above how
+    many bytes a capture is split, 0 for none.
     """
 
     keys: list[str]
@@ -60,7 +60,8 @@ def opened(path: bytes) -> int:
     try:
         file = os.open(path, os.O_RDONLY | os.O_NONBLOCK | os.O_CLOEXEC)
     except OSError as error:
-        raise Unread({errno.ENOENT: "not-there", errno.EACCES: "not-allowed"}.get(error.errno or 0, "not-opened")) from None
+        reasons = {errno.ENOENT: "not-there", errno.EACCES: "not-allowed"}
+        raise Unread(reasons.get(error.errno or 0, "not-opened")) from None
     if not stat.S_ISREG(os.fstat(file).st_mode):
         os.close(file)
         raise Unread("not-a-file")
@@ -141,9 +142,9 @@ def parts_of(size: int | None, order: Order) -> int:
 
 
 def by_import(file: int, order: Order) -> Answer:
-    """The answer of the program that imports and audits; where it made too much to be audited whole, it goes in parts."""
-    answer = while_unchanged(
-        file, lambda name: by_program([IMPORT, *words_of_keys(order), "--workers", "1", name], file, order, is_fed=False))
+    """The answer of the program that imports and audits. What it made may be too large for h2audit: then it says so."""
+    words = [IMPORT, *words_of_keys(order), "--workers", "1"]
+    answer = while_unchanged(file, lambda name: by_program([*words, name], file, order, is_fed=False))
     return {"outcome": "import"} if answer["reason"] == TOO_LARGE and order["split_above"] else answer
 
 
@@ -199,7 +200,8 @@ def verdict(run: programs.Run) -> Answer:
         return {"outcome": "failed", "status": None, "reason": f"signal {-run.status}"}
     if run.status == REFUSED:
         return {"outcome": "refused", "status": run.status, "reason": run.said.partition(" refused: ")[2] or run.said}
-    reason = {IO_FAILED: io_failed(run.said), NO_MEMORY: "out-of-memory"}.get(run.status, f"status {run.status}: {run.said}")
+    reasons = {IO_FAILED: io_failed(run.said), NO_MEMORY: "out-of-memory"}
+    reason = reasons.get(run.status, f"status {run.status}: {run.said}")
     return {"outcome": "failed", "status": run.status, "reason": reason}
 
 
@@ -263,7 +265,8 @@ def split_file(file: int, folder: str, parts: int, order: Order) -> Answer:
     if refused is None or answer["outcome"] == "failed":
         return answer | ({"outcome": "failed", "reason": "no-parts"} if answer["outcome"] == "audited" else {})
     standing = [part for part in range(1, parts + 1) if part not in refused]
-    return answer | {"outcome": "split", "folder": folder, "standing": standing, "reason": "; ".join(refused.values()) or None}
+    reason = "; ".join(refused.values()) or None
+    return answer | {"outcome": "split", "folder": folder, "standing": standing, "reason": reason}
 
 
 def refused_parts(folder: str) -> dict[int, str] | None:
@@ -339,7 +342,7 @@ def after_merge(path: bytes, divided: Answer, order: Order, answer: Answer) -> A
 
 
 def in_parts(path: bytes, parts: int, order: Order) -> Answer:
-    """A large capture on one worker, in a folder of its own. Without parts it has to be imported first, as is known already."""
+    """A large capture on one worker, in a folder of its own. Without parts it is known that it is imported first."""
     begin = time.monotonic()
     with tempfile.TemporaryDirectory(prefix="h2audit-fleet-") as scratch:
         folder = os.path.join(scratch, "parts")
@@ -384,5 +387,6 @@ def version() -> str:
     """What h2audit says of itself on this worker."""
     if not programs.is_there(AUDIT):
         return ""
-    said = subprocess.run([AUDIT, "--version"], capture_output=True, text=True, errors="replace", timeout=60, check=False)
+    said = subprocess.run(
+        [AUDIT, "--version"], capture_output=True, text=True, errors="replace", timeout=60, check=False)
     return (said.stdout.splitlines() or ["unknown"])[0]
