@@ -160,6 +160,18 @@ class Forms(Imported):
         self.assertEqual(self.machine.run("--jobs", "2", *SPLIT, "-k", "keys", "captures")[::2], (1, ""))
         self.check_rows("-k", self.machine.folder / "keys")
 
+    def test_grows_too_large(self) -> None:
+        """What h2audit-any made may be too large for h2audit: then the import is a task, and its size decides again."""
+        self.pcapng()
+        self.by_one_worker()
+        too_large = "case $* in *--map*) ;; *) echo 'h2audit: capture refused: too-large' >&2; exit 3 ;; esac"
+        self.instead("h2audit-any", TOP / "tools" / "h2audit-any", too_large)
+        self.assertEqual(self.machine.run("--jobs", "1", "captures")[::2], (1, ""))
+        self.check_rows()
+        self.machine.database.unlink()
+        self.assertEqual(self.machine.run("--jobs", "1", "--split-above", "0", "captures")[0], 3)
+        self.assertEqual(self.machine.ask("SELECT outcome, reason FROM captures"), [("refused", "too-large")])
+
     def test_no_key(self) -> None:
         """Of TLS without keys nothing can be read: the status is 6."""
         self.capture("tls.pcap", over_tls(self.machine.folder))

@@ -40,12 +40,13 @@ class Reader:
         rest = iter(lines)
         if next(rest, "") != FIRST_LINE + "\n":
             raise ValueError
+        line = ""
         for line in rest:
             if line.startswith("record "):
                 self.record(line.split(" "))
             else:
                 self.other(line)
-        if not self.original.capture or self.sides:
+        if not self.original.capture or self.sides or not line.endswith("\n"):
             raise ValueError
 
     def record(self, words: list[str]) -> None:
