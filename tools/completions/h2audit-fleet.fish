@@ -10,7 +10,7 @@ complete -c h2audit-fleet -l import -x -a 'auto always never' -d 'When to import
 complete -c h2audit-fleet -l timeout -x -d 'Seconds for a capture'
 complete -c h2audit-fleet -l retries -x -d 'How often a capture is tried again'
 complete -c h2audit-fleet -l split-above -x -a '0 256 512 1024' -d 'Split captures of more megabytes'
-complete -c h2audit-fleet -l scratch -x -a '(__fish_complete_directories)' -d 'Where parts stand for a while'
+complete -c h2audit-fleet -l scratch -x -a '(__fish_complete_directories)' -d 'Where imports and parts stand for a while'
 complete -c h2audit-fleet -s j -l jobs -x -a '1 2 4 8 16' -d 'Workers on this machine'
 complete -c h2audit-fleet -l dashboard -x -a '127.0.0.1:8787' -d 'Serve the dashboard of dask'
 complete -c h2audit-fleet -l scheduler -x -a 'tls://' -d 'Use the workers of a scheduler'

@@ -77,12 +77,13 @@ _h2audit_import() {
 
 _h2audit_any() {
     local word=${COMP_WORDS[COMP_CWORD]} before=${COMP_WORDS[COMP_CWORD - 1]}
-    local options='--key-log -k --jobs -j --workers --groups --block --frames --parts --h2audit --help -h --version -V'
+    local options='--key-log -k --jobs -j --workers --groups --block --frames --parts --map --h2audit'
+    options+=' --help -h --version -V'
     [[ $before == = ]] && before=${COMP_WORDS[COMP_CWORD - 2]}
     case $before in
     --parts) _h2audit_offer -W '2 4 8 16 32 64 128 256 500' -- "$word" ;;
     --jobs | -j) _h2audit_offer -W "$(echo {1..64})" -- "$word" ;;
-    --key-log | -k | --h2audit) _h2audit_offer -f -- "$word" ;;
+    --key-log | -k | --map | --h2audit) _h2audit_offer -f -- "$word" ;;
     *)
         case $word in
         -*) _h2audit_offer -W "$options" -- "$word" ;;

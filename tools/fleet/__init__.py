@@ -6,6 +6,7 @@
     sniff     what the first bytes of a file say
     programs  one run of a program over a capture: its bytes, its digest, its time
     tasks     what a worker does: audit a capture, split it, audit a part, merge
+    carrier   what is asked of dask, which carries tasks to workers
     cluster   the workers: of this machine, or of a scheduler by its address
     course    which task comes next: tries, parts, Ctrl-C
     report    a report of h2audit as rows
@@ -13,8 +14,8 @@
     collect   reports that were made without this program
     progress  the line that tells how far it is
 
-The modules that a worker needs are sent to it with each task, and import nothing but the standard library: programs, sniff and
-tasks. So a worker needs h2audit and python3-distributed alone.
+The modules that a worker needs are sent to it with each task, and import nothing but the standard library: programs,
+sniff and tasks. So a worker needs h2audit and python3-distributed alone.
 """
 
 VERSION = "1.0.0"

@@ -1,7 +1,8 @@
 """The workers: processes of this machine, or those of a scheduler that is named by its address.
 
-Whoever reaches a scheduler of dask without TLS may run programs as its workers. So a local cluster has certificates of its own,
-made anew and held in memory, serves this machine alone, and a scheduler without TLS is refused unless it is asked for.
+Whoever reaches a scheduler of dask without TLS may run programs as its workers. So a local cluster has certificates of
+its own, made anew and held in memory, serves this machine alone, and a scheduler without TLS is refused unless it is
+asked for.
 """
 
 import logging
@@ -17,14 +18,10 @@ from collections.abc import Callable, Iterator
 from contextlib import contextmanager, suppress
 from dataclasses import dataclass
 from multiprocessing import resource_tracker
-from typing import Any
-
-import cloudpickle  # type: ignore[import]
-import dask
-from distributed import Client, LocalCluster, WorkerPlugin
-from distributed.security import Security
+from typing import Any, cast
 
 from fleet import programs, sniff, tasks
+from fleet.carrier import Client, cloudpickle, dask, distributed, security
 
 CONNECT_SECONDS = 30
 WORKER_SECONDS = 120
@@ -47,7 +44,7 @@ class Certificates:
     key: str
 
 
-class Quiet(WorkerPlugin):
+class Quiet(distributed.WorkerPlugin):  # type: ignore[misc]  # dask says no type of it
     """Keeps the words of the workers of this machine from its terminal: answers say what failed."""
 
     name = "quiet"
@@ -73,7 +70,7 @@ def settle() -> None:
 
 @contextmanager
 def deaf() -> Iterator[None]:
-    """Threads that begin here, and the processes that they start, do not hear the keys of the terminal, nor that it goes."""
+    """Threads that begin here, and the processes that they start, do not hear the terminal's keys, nor that it goes."""
     # To start this one later would let its thread hear again.
     resource_tracker.ensure_running()
     before = signal.pthread_sigmask(signal.SIG_BLOCK, OF_TERMINAL)
@@ -85,14 +82,18 @@ def deaf() -> Iterator[None]:
 
 @contextmanager
 def local(jobs: int, dashboard: str | None) -> Iterator[Client]:
-    """Workers of this machine, one process each, which may still be on their way. Without a dashboard their web servers answer nothing."""
+    """Workers of this machine, one process each, which may still be on their way.
+
+    Without a dashboard their web servers answer nothing.
+    """
     settle()
     if dashboard is None:
-        dask.config.set({"distributed.scheduler.http.routes": [], "distributed.worker.http.routes": []})
+        no_routes: list[str] = []
+        dask.config.set({f"distributed.{what}.http.routes": no_routes for what in ("scheduler", "worker")})
     with tempfile.TemporaryDirectory(prefix="h2audit-fleet-", ignore_cleanup_errors=True) as folder:
         cluster = local_cluster(dashboard, folder)
         try:
-            with Client(cluster) as client:
+            with client_of(cluster) as client:
                 client.register_worker_plugin(Quiet())
                 cluster.scale(jobs)
                 yield client
@@ -100,7 +101,12 @@ def local(jobs: int, dashboard: str | None) -> Iterator[Client]:
             close(cluster)
 
 
-def close(cluster: LocalCluster) -> None:
+def client_of(scheduler: Any, **more: Any) -> Client:
+    """A client of a local cluster, or of a scheduler by its address."""
+    return cast(Client, distributed.Client(scheduler, **more))
+
+
+def close(cluster: Any) -> None:
     """Ends the workers. Where one was ended while it began dask waits for it, and it never comes."""
     try:
         cluster.close(timeout=CLOSE_SECONDS)
@@ -114,12 +120,13 @@ def close(cluster: LocalCluster) -> None:
             child.join()
 
 
-def local_cluster(dashboard: str | None, folder: str) -> LocalCluster:
+def local_cluster(dashboard: str | None, folder: str) -> Any:
     try:
         with deaf():
-            return LocalCluster(
-                n_workers=0, threads_per_worker=1, host=HERE, security=Security.temporary(), silence_logs=50,
-                local_directory=folder, dashboard_address=dashboard or f"{HERE}:0", worker_dashboard_address=f"{HERE}:0")
+            return distributed.LocalCluster(
+                n_workers=0, threads_per_worker=1, host=HERE, security=security.Security.temporary(), silence_logs=50,
+                local_directory=folder, dashboard_address=dashboard or f"{HERE}:0",
+                worker_dashboard_address=f"{HERE}:0")
     except (OSError, ImportError, RuntimeError) as why:
         raise NoCluster(f"the workers cannot be started: {first_line(why)}") from None
 
@@ -130,20 +137,21 @@ def remote(address: str, certificates: Certificates | None) -> Iterator[Client]:
     settle()
     address = address if "://" in address else f"tls://{address}"
     try:
-        client = Client(address, security=security_of(certificates), timeout=CONNECT_SECONDS, set_as_default=False)
+        client = client_of(address, security=security_of(certificates), timeout=CONNECT_SECONDS, set_as_default=False)
     except (OSError, TimeoutError, ssl.SSLError, ValueError, RuntimeError) as why:
         raise NoCluster(f"{address}: {first_line(why)}") from None
     with client:
         yield client
 
 
-def security_of(certificates: Certificates | None) -> Security | None:
+def security_of(certificates: Certificates | None) -> Any:
+    """How a client proves who it is, in dask's terms."""
     if certificates is None:
         return None
     for name in (certificates.authority, certificates.certificate, certificates.key):
         with open(name, "rb"):
             pass
-    return Security(
+    return security.Security(
         require_encryption=True, tls_ca_file=certificates.authority, tls_client_cert=certificates.certificate,
         tls_client_key=certificates.key)
 

@@ -35,8 +35,8 @@ def read_job(named: Path, version: str) -> tuple[bytes, Answer] | None:
     path = head_of(named)
     if not status or not path:
         return None
-    answer: Answer = {"program": tasks.IMPORT, "version": version, "options": "collected", "tries": 1, "seconds": float(status[2])}
-    answer |= file_of(named) | tasks.verdict(run_of(int(status[1]), named))
+    answer: Answer = {"program": tasks.IMPORT, "version": version, "options": "collected", "tries": 1}
+    answer |= {"seconds": float(status[2])} | file_of(named) | tasks.verdict(run_of(int(status[1]), named))
     if answer["outcome"] == "audited":
         with open(named.with_suffix(".report"), "rb") as report:
             answer |= tasks.kept(report)
@@ -44,9 +44,10 @@ def read_job(named: Path, version: str) -> tuple[bytes, Answer] | None:
 
 
 def run_of(status: int, named: Path) -> programs.Run:
+    said = ""
     with suppress(OSError), open(named.with_suffix(".error"), "rb") as error:
-        return programs.Run(SIGNALS - status if status > SIGNALS else status, programs.last_line(error), 0, status == TIME_IS_UP)
-    return programs.Run(SIGNALS - status if status > SIGNALS else status, "", 0, status == TIME_IS_UP)
+        said = programs.last_line(error)
+    return programs.Run(SIGNALS - status if status > SIGNALS else status, said, 0, status == TIME_IS_UP)
 
 
 def file_of(named: Path) -> Answer:

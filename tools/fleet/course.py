@@ -1,7 +1,7 @@
 """The course of a run: which task comes next, what is tried again, and when a capture is entered.
 
-Futures say over a queue that they are done. So the one thread that enters captures waits for nothing else, and sees within half a
-second that it is to stop.
+Futures say over a queue that they are done. So the one thread that enters captures waits for nothing else, and sees
+within half a second that it is to stop.
 """
 
 import os
@@ -16,9 +16,8 @@ from dataclasses import dataclass, field
 from functools import partial
 from typing import Any
 
-from distributed import Client, Future, KilledWorker
-
 from fleet import tasks
+from fleet.carrier import Client, Future, KilledWorker
 from fleet.cluster import threads_of
 from fleet.tasks import Answer, Order
 from fleet.walk import Found
@@ -42,32 +41,36 @@ class Lost(Exception):
 
 @dataclass
 class Capture:
-    """A capture on its way: how often it was tried, and its parts where it is large."""
+    """A capture on its way: how often it was tried, its parts where it is large, and whether it is imported first."""
 
     found: Found
     parts: int = 0
+    is_imported: bool = False
     tries: int = 0
     seconds: float = 0.0
     folder: str | None = None
-    split: Answer = field(default_factory=dict)
+    divided: Answer = field(default_factory=dict)
     waiting: set[int] = field(default_factory=set)
     part_tries: dict[int, int] = field(default_factory=dict)
     futures: set[Future] = field(default_factory=set)
 
+    @property
+    def size(self) -> int:
+        """Its bytes; 0 where it is not there."""
+        return self.found.size or 0
+
+    @property
+    def is_large(self) -> bool:
+        """Whether it takes room beside itself, for its parts or its import."""
+        return bool(self.parts) or self.is_imported
+
 
 @dataclass(frozen=True)
 class Limits:
-    """How often each task is tried, above which size a capture is split, and in which shared folder."""
+    """How often each task is tried, and in which shared folder imports and parts stand."""
 
     tries: int
-    split_above: int
     scratch: str | None
-
-    def parts_of(self, size: int | None) -> int:
-        """How many parts a capture goes into: none, or as many as make each half as large as may be whole."""
-        if size is None or not 0 < self.split_above < size:
-            return 0
-        return min(-(-2 * size // self.split_above), tasks.MOST_PARTS)
 
 
 Enter = Callable[[Capture, Answer], None]
@@ -90,7 +93,7 @@ class Course:
 
     def run(self, captures: Iterable[Found], tick: Callable[[], bool]) -> bool:
         """Audits all captures. Ends early, with False, where a tick says so."""
-        self.waiting.extend(Capture(found, self.limits.parts_of(found.size)) for found in captures)
+        self.waiting.extend(Capture(found, tasks.parts_of(found.size, self.order)) for found in captures)
         if self.limits.scratch is not None:
             self.scratch = tempfile.mkdtemp(prefix="h2audit-fleet-", dir=self.limits.scratch)
         try:
@@ -117,13 +120,13 @@ class Course:
     def next_captures(self, room: int) -> list[Capture]:
         """The next capture; where it is small, with others, but never with so many that a worker would have none."""
         first = self.next_capture()
-        if first is None or first.parts:
+        if first is None or first.is_large:
             return [first] if first else []
-        captures, left = [first], BYTES_TOGETHER - (first.found.size or 0)
+        captures, left = [first], BYTES_TOGETHER - first.size
         most = min(MOST_TOGETHER, 1 + len(self.waiting) // room)
-        while len(captures) < most and self.waiting and not self.waiting[0].parts and (self.waiting[0].found.size or 0) <= left:
+        while len(captures) < most and self.waiting and not self.waiting[0].parts and self.waiting[0].size <= left:
             captures.append(self.waiting.popleft())
-            left -= captures[-1].found.size or 0
+            left -= captures[-1].size
         return captures
 
     def next_capture(self) -> Capture | None:
@@ -163,24 +166,27 @@ class Course:
     def begin(self, capture: Capture) -> None:
         capture.tries += 1
         path = capture.found.path
-        if not capture.parts:
+        if not capture.is_large:
             self.submit(capture, self.after_whole, tasks.audit, path, self.order)
             return
         self.large += 1
+        parts = 0 if capture.is_imported else capture.parts
         if self.scratch is None:
-            self.submit(capture, self.after_whole, tasks.in_parts, path, capture.parts, self.order)
+            self.submit(capture, self.after_whole, tasks.in_parts, path, parts, self.order)
             return
         try:
             capture.folder = tempfile.mkdtemp(dir=self.scratch)
         except OSError as why:
             self.after_whole(capture, {"outcome": "failed", "status": None, "reason": tasks.named(why)})
             return
-        parts = os.path.join(capture.folder, "parts")
-        self.submit(capture, self.after_split, tasks.split, path, parts, capture.parts, self.order)
+        if parts:
+            self.submit(capture, self.after_split, tasks.split, path, folder_of_parts(capture), parts, self.order)
+        else:
+            self.import_first(capture)
 
-    def submit(self, capture: Capture, after: Callable[[Capture, Answer], None], work: Callable[..., Answer], *words: Any,
-               tries: int = 1) -> None:
-        priority = LAST if max(capture.tries, tries) > 1 else FIRST if capture.parts else USUAL
+    def submit(self, capture: Capture, after: Callable[[Capture, Answer], None], work: Callable[..., Answer],
+               *words: Any, tries: int = 1) -> None:
+        priority = LAST if max(capture.tries, tries) > 1 else FIRST if capture.is_large else USUAL
         future = self.client.submit(work, *words, pure=False, priority=priority)
         capture.futures.add(future)
         self.fly(future, partial(after, capture))
@@ -225,13 +231,26 @@ class Course:
 
     def after_whole(self, capture: Capture, answer: Answer) -> None:
         capture.seconds += answer.get("seconds") or 0.0
-        if answer["outcome"] == "failed" and capture.tries < self.limits.tries and is_worth_a_try(answer):
+        if answer["outcome"] == "import":
+            self.hold_for_import(capture)
+        elif answer["outcome"] == "failed" and capture.tries < self.limits.tries and is_worth_a_try(answer):
             self.again(capture, answer)
-            return
-        self.finish(capture, answer)
+        else:
+            self.finish(capture, answer)
+
+    def hold_for_import(self, capture: Capture) -> None:
+        """What may grow large as it is imported waits for its turn among the large ones; that was no try yet."""
+        self.on_way -= 1
+        capture.tries -= 1
+        capture.is_imported = True
+        capture.futures = set()
+        self.held.append(capture)
 
     def again(self, capture: Capture, answer: Answer) -> None:
-        """Tries a capture once more. Of all tasks of a lost worker one is to blame, so each is tried alone, after all others."""
+        """Tries a capture once more.
+
+        Of all tasks of a lost worker one is to blame, so each is tried alone, after all others.
+        """
         self.release(capture)
         capture.waiting, capture.part_tries = set(), {}
         if answer["reason"] == WORKER_LOST:
@@ -240,12 +259,33 @@ class Course:
             self.on_way += 1
             self.begin(capture)
 
+    def import_first(self, capture: Capture) -> None:
+        capture.is_imported = True
+        self.submit(capture, self.after_import, tasks.import_first, capture.found.path, capture.folder, self.order)
+
+    def after_import(self, capture: Capture, answer: Answer) -> None:
+        """Splits what was made where that is large; else it is audited whole."""
+        if answer["outcome"] != "imported":
+            self.after_whole(capture, answer)
+            return
+        capture.seconds += answer["seconds"]
+        capture.divided = answer
+        if parts := tasks.parts_of(answer["made_size"], self.order):
+            folder = folder_of_parts(capture)
+            self.submit(capture, self.after_split, tasks.split_made, answer, folder, parts, self.order)
+        else:
+            self.merge_when_ready(capture)
+
     def after_split(self, capture: Capture, answer: Answer) -> None:
         if answer["outcome"] == "import":
-            self.submit(capture, self.after_whole, tasks.audit, capture.found.path, self.order, capture.parts)
+            self.import_first(capture)
         elif answer["outcome"] == "split":
             capture.seconds += answer["seconds"]
-            capture.split, capture.waiting = answer, set(answer["standing"])
+            if capture.is_imported:
+                # Its parts take its room.
+                with suppress(OSError):
+                    os.unlink(capture.divided["made"])
+            capture.divided, capture.waiting = answer, set(answer["standing"])
             for number in answer["standing"]:
                 self.submit_part(capture, number)
             self.merge_when_ready(capture)
@@ -255,7 +295,7 @@ class Course:
     def submit_part(self, capture: Capture, number: int) -> None:
         capture.part_tries[number] = tries = capture.part_tries.get(number, 0) + 1
         follow = partial(self.after_part, number=number)
-        self.submit(capture, follow, tasks.part, capture.split["folder"], number, self.order, tries=tries)
+        self.submit(capture, follow, tasks.part, capture.divided["folder"], number, self.order, tries=tries)
 
     def after_part(self, capture: Capture, answer: Answer, number: int) -> None:
         capture.seconds += answer.get("seconds") or 0.0
@@ -269,16 +309,19 @@ class Course:
         else:
             capture.waiting.clear()
             capture.tries = capture.part_tries[number]
-            self.finish(capture, capture.split | tasks.of_part(number, answer))
+            self.finish(capture, capture.divided | tasks.of_part(number, answer))
 
     def merge_when_ready(self, capture: Capture) -> None:
         if not capture.waiting:
-            self.submit(capture, self.after_merge, tasks.merge, capture.found.path, capture.split, self.order)
+            self.submit(capture, self.after_merge, tasks.merge, capture.found.path, capture.divided, self.order)
 
     def after_merge(self, capture: Capture, answer: Answer) -> None:
+        """The merge may show that the whole has to be imported first: then its parts are not needed."""
         if answer["outcome"] == "import":
             capture.seconds += answer["seconds"]
-            self.submit(capture, self.after_whole, tasks.audit, capture.found.path, self.order, capture.parts)
+            capture.part_tries = {}
+            shutil.rmtree(folder_of_parts(capture), ignore_errors=True)
+            self.import_first(capture)
         else:
             self.after_whole(capture, answer)
 
@@ -290,13 +333,18 @@ class Course:
     def release(self, capture: Capture) -> None:
         """Gives up what a try took: its place, the tasks that are left of it, and the room of its parts."""
         self.on_way -= 1
-        self.large -= bool(capture.parts)
+        self.large -= capture.is_large
         left = [future for future in capture.futures if self.flying.pop(future, None)]
         if left:
             self.client.cancel(left)
         if capture.folder:
             shutil.rmtree(capture.folder, ignore_errors=True)
-        capture.futures, capture.folder, capture.split = set(), None, {}
+        capture.futures, capture.folder, capture.divided = set(), None, {}
+
+
+def folder_of_parts(capture: Capture) -> str:
+    assert capture.folder
+    return os.path.join(capture.folder, "parts")
 
 
 def is_worth_a_try(answer: Answer) -> bool:

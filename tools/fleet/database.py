@@ -1,4 +1,6 @@
-"""The database, and the one that writes it. A capture and all its rows come in one transaction, so either all stand or none does.
+"""The database, and the one that writes it.
+
+A capture and all its rows come in one transaction, so either all stand or none does.
 
 While it runs others may read the database: it keeps a write-ahead log, which is folded in at the end.
 """
@@ -24,8 +26,8 @@ SCHEMA_VERSION = 1
 APPLICATION = 1748123206
 TABLES = ("passed_over", "unopened", "findings", "stalls", "connections")
 HEADS = ("records", "segments", "snapped", "not_ipv4", "fragments", "not_tcp", "refused")
-COLUMNS = ("path", "size", "modified", "sha256", "outcome", "status", "reason", "program", "version", "options", "tries", "seconds",
-           "worker", "entered", "report_sha256", "report_bytes", *HEADS)
+COLUMNS = ("path", "size", "modified", "sha256", "outcome", "status", "reason", "program", "version", "options",
+           "tries", "seconds", "worker", "entered", "report_sha256", "report_bytes", *HEADS)
 ROWS_AT_ONCE = 10000
 
 
@@ -121,7 +123,8 @@ class Database:
         marks = ", ".join("?" * len(COLUMNS))
         changes = ", ".join(f"{column} = excluded.{column}" for column in COLUMNS)
         found = self.base.execute(
-            f"INSERT INTO captures ({', '.join(COLUMNS)}) VALUES ({marks}) ON CONFLICT (path) DO UPDATE SET {changes} RETURNING id",
+            f"INSERT INTO captures ({', '.join(COLUMNS)}) VALUES ({marks}) "
+            f"ON CONFLICT (path) DO UPDATE SET {changes} RETURNING id",
             [row[column] for column in COLUMNS]).fetchone()
         return int(found[0])
 
@@ -147,8 +150,8 @@ class Database:
 def held(path: str) -> int:
     """The open file of a database, which no other h2audit-fleet writes until it is closed.
 
-    This lock is not one of SQLite's, which would shut out those that read. It has to be closed after the database: to close any
-    open file of it gives up SQLite's locks.
+    This lock is not one of SQLite's, which would shut out those that read. It has to be closed after the database: to
+    close any open file of it gives up SQLite's locks.
     """
     file = os.open(path, os.O_RDWR | os.O_CREAT | os.O_NONBLOCK, 0o666)
     try:
@@ -163,7 +166,10 @@ def held(path: str) -> int:
 
 
 def is_held(file: int) -> bool:
-    """Whether another process has the lock, which is taken here else. Where a file system has no such locks nobody has one."""
+    """Whether another process has the lock, which is taken here else.
+
+    Where a file system has no such locks nobody has one.
+    """
     try:
         fcntl.flock(file, fcntl.LOCK_EX | fcntl.LOCK_NB)
     except BlockingIOError:

@@ -15,7 +15,7 @@ from fleet import collect, names, tasks
 from fleet.database import Database, Unusable
 from fleet.progress import Progress
 from fleet.walk import Found, NotThere, Walk, found_in
-from fleet.words import Asked, read_words
+from fleet.words import MEGABYTE, Asked, read_words
 from report.command import IO_FAILED, MISSING, OK, REFUSED, failed, io_reason
 
 NAME = "h2audit-fleet"
@@ -30,7 +30,10 @@ class Ended(Exception):
 
 
 class Interruption:
-    """Ctrl-C, SIGTERM and a terminal that goes: from some time on something to ask for. A second one ends the program at once."""
+    """Ctrl-C, SIGTERM and a terminal that goes: from some time on something to ask for.
+
+    A second one ends the program at once.
+    """
 
     def __init__(self) -> None:
         self.signal = 0
@@ -123,9 +126,10 @@ def run(asked: Asked, client: Any, database: Database, walk: Walk, captures: lis
 
     if asked.dashboard is not None or (asked.scheduler is not None and sys.stderr.isatty()):
         print(f"{NAME}: dashboard at {client.dashboard_link}", file=sys.stderr)
-    order: tasks.Order = {"keys": [os.path.abspath(key) for key in asked.keys], "imports": asked.imports, "timeout": asked.timeout}
+    order: tasks.Order = {"keys": [os.path.abspath(key) for key in asked.keys], "imports": asked.imports,
+                          "timeout": asked.timeout, "split_above": asked.split_above * MEGABYTE}
     scratch = asked.scratch or (tempfile.gettempdir() if asked.scheduler is None else None)
-    course = Course(client, order, Limits(asked.retries + 1, asked.split_above * 1000000, scratch), enter)
+    course = Course(client, order, Limits(asked.retries + 1, scratch), enter)
     is_whole = course.run(captures, tick)
     progress.clear()
     print(progress.summary(len(walk.captures) - len(captures), walk.others))
@@ -144,7 +148,7 @@ def options_of(asked: Asked) -> str:
 
 
 def missing_in(database: Database, walk: Walk, version: str, options: str) -> list[Found]:
-    """The captures that do not stand in the database, failed there, or have changed since, as their size and time say."""
+    """The captures that do not stand in the database, failed there, or have changed since by their size or time."""
     standing = {path: row for path, row in database.entered()}
 
     def stands(found: Found) -> bool:

@@ -1,7 +1,7 @@
 """A path as one word: every byte outside ! to ~, and the percent sign, is written %XX.
 
-So a name with line feeds, blanks or bytes that are no UTF-8 stands in one line, and comes back as it was. It is the way in which
-the map of an import writes its files.
+So a name with line feeds, blanks or bytes that are no UTF-8 stands in one line, and comes back as it was. It is the way
+in which the map of an import writes its files.
 """
 
 import re

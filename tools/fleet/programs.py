@@ -1,6 +1,7 @@
-"""One run of a program over a capture: it is given the bytes on standard input, and a digest of the same bytes is taken.
+"""One run of a program over a capture: it gets the bytes on standard input, and a digest of the same bytes is taken.
 
-So the digest is that of what was audited, also where the capture is still written to, and no name of a file reaches the program.
+So the digest is that of what was audited, also where the capture is still written to, and no name of a file reaches the
+program.
 
 A worker needs this module, which is sent to it: it imports the standard library alone.
 """
@@ -54,12 +55,16 @@ def is_there(program: str) -> bool:
 
 
 def run(words: Sequence[str], source: int | None, output: IO[bytes], seconds: float, is_fed: bool = True) -> Run:
-    """Runs a program for so many seconds at most. It is fed with an open file on its standard input, or is handed the file itself."""
+    """Runs a program for so many seconds at most.
+
+    It is fed with an open file on its standard input, or is handed the file itself.
+    """
     if not is_there(words[0]):
         raise NoProgram(words[0])
     begin = time.monotonic()
-    handed = (source,) if source is not None and not is_fed else ()
-    with tempfile.TemporaryFile() as said, child_of(words, source is not None and is_fed, handed, output, said) as child:
+    has_input = source is not None and is_fed
+    handed = () if source is None or is_fed else (source,)
+    with tempfile.TemporaryFile() as said, child_of(words, has_input, handed, output, said) as child:
         with time_limit(child, seconds) as is_late:
             size, digest = feed(source, child.stdin, is_late) if source is not None and child.stdin else (0, "")
             status = child.wait()
@@ -71,12 +76,13 @@ def child_of(words: Sequence[str], has_input: bool, handed: tuple[int, ...], out
              said: IO[bytes]) -> Iterator[subprocess.Popen[bytes]]:
     """A child in a session of its own, which keys of the terminal do not reach.
 
-    It does not outlive its worker for long: one that is fed comes to the end of its capture, and any other is tied to the worker.
+    It does not outlive its worker for long: one that is fed comes to the end of its capture, and any other is tied to
+    the worker.
     """
     tied = [] if has_input or not shutil.which("setpriv") else ["setpriv", "--pdeathsig", "KILL", "--"]
     child = subprocess.Popen(
-        [*tied, *words], stdin=subprocess.PIPE if has_input else subprocess.DEVNULL, stdout=output, stderr=said, bufsize=0,
-        pass_fds=handed, start_new_session=True)
+        [*tied, *words], stdin=subprocess.PIPE if has_input else subprocess.DEVNULL, stdout=output, stderr=said,
+        bufsize=0, pass_fds=handed, start_new_session=True)
     try:
         yield child
     finally:

@@ -6,7 +6,9 @@ from io import BufferedReader, RawIOBase
 from typing import BinaryIO
 
 from report.blame import OTHER_SIDE, who_broke_it
-from report.lines import Audited, Capture, Finding, Flow, Line, Opening, PassedOver, Refused, Stall, Unopened, read_lines
+from report.lines import (
+    Audited, Capture, Finding, Flow, Line, Opening, PassedOver, Refused, Stall, Unopened, read_lines,
+)
 
 # A table's name, and the values of a row but for the capture's number.
 Row = tuple[str, tuple[object, ...]]

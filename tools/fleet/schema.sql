@@ -106,8 +106,8 @@ CREATE INDEX stalls_by_nanos ON stalls (nanos);
 
 -- Each fault, with the endpoint of the side that broke the rule.
 CREATE VIEW faults AS
-SELECT captures.path, findings.connection, findings.frame, findings.record, findings.time, findings.kind, findings.stream,
-       findings.value, findings.broke,
+SELECT captures.path, findings.connection, findings.frame, findings.record, findings.time, findings.kind,
+       findings.stream, findings.value, findings.broke,
        CASE findings.broke WHEN 'client' THEN connections.client ELSE connections.server END AS endpoint
 FROM findings
 JOIN captures ON captures.id = findings.capture
@@ -124,8 +124,8 @@ GROUP BY kind, broke;
 
 -- How many faults each endpoint has; of a client its address, since its ports differ.
 CREATE VIEW faults_by_peer AS
-SELECT CASE broke WHEN 'client' THEN rtrim(rtrim(endpoint, '0123456789'), ':') ELSE endpoint END AS peer, broke AS role, kind,
-       COUNT(*) AS faults, COUNT(DISTINCT path) AS captures
+SELECT CASE broke WHEN 'client' THEN rtrim(rtrim(endpoint, '0123456789'), ':') ELSE endpoint END AS peer,
+       broke AS role, kind, COUNT(*) AS faults, COUNT(DISTINCT path) AS captures
 FROM faults
 GROUP BY peer, role, kind;
 
@@ -151,9 +151,13 @@ WHERE stalls.last IS NULL;
 
 -- Of each peer that granted nothing, how often and how long others waited for it; of a client its address.
 CREATE VIEW stalls_by_peer AS
-SELECT CASE stalls.ask WHEN 'client' THEN rtrim(rtrim(connections.client, '0123456789'), ':') ELSE connections.server END AS peer,
-       stalls.ask AS role, COUNT(*) AS stalls, SUM(stalls.last IS NULL) AS open, MAX(stalls.nanos) / 1e6 AS longest_milliseconds,
-       TOTAL(stalls.nanos) / 1e6 AS total_milliseconds, COUNT(DISTINCT stalls.capture) AS captures
+SELECT CASE stalls.ask
+           WHEN 'client' THEN rtrim(rtrim(connections.client, '0123456789'), ':')
+           ELSE connections.server
+       END AS peer,
+       stalls.ask AS role, COUNT(*) AS stalls, SUM(stalls.last IS NULL) AS open,
+       MAX(stalls.nanos) / 1e6 AS longest_milliseconds, TOTAL(stalls.nanos) / 1e6 AS total_milliseconds,
+       COUNT(DISTINCT stalls.capture) AS captures
 FROM stalls
 JOIN connections ON connections.capture = stalls.capture AND connections.number = stalls.connection
 GROUP BY peer, role;

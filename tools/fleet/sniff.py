@@ -13,8 +13,9 @@ CLASSIC = {
     b"\xd4\xc3\xb2\xa1": "<", b"\x4d\x3c\xb2\xa1": "<",
     b"\xa1\xb2\xc3\xd4": ">", b"\xa1\xb2\x3c\x4d": ">",
 }
-# pcapng, gzip, Zstandard.
-ELSE = (b"\x0a\x0d\x0d\x0a", b"\x1f\x8b", b"\x28\xb5\x2f\xfd")
+# gzip, Zstandard; and pcapng.
+PACKED = (b"\x1f\x8b", b"\x28\xb5\x2f\xfd")
+ELSE = (b"\x0a\x0d\x0d\x0a", *PACKED)
 ETHERNET, RAW_IP = 1, 101
 FILE_HEADER, RECORD_HEADER = 24, 16
 IPV6, VLAN_TAGS = 0x86DD, (0x8100, 0x88A8)
@@ -34,7 +35,10 @@ def kind_of(head: bytes) -> str:
 
 
 def holds_ipv6(capture: BinaryIO) -> bool:
-    """Whether a plain capture has a packet of IPv6 that is neither of UDP nor of ICMPv6 (neighbours that look for each other)."""
+    """Whether a plain capture has a packet of IPv6 that is neither of UDP nor of ICMPv6.
+
+    By ICMPv6 neighbours look for each other.
+    """
     head = capture.read(FILE_HEADER)
     order = CLASSIC.get(head[:4])
     if order is None or len(head) < FILE_HEADER:

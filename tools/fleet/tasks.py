@@ -1,42 +1,54 @@
 """What a worker does with a capture. Each task answers with a dictionary of plain values, also where it fails.
 
-    audit     one capture by one program, as h2audit alone audits it
-    audit_all several small ones, with an answer for each
-    split     a large capture into parts, in a folder that all workers share
-    part      the audit of one part
-    merge     the reports of the parts into that of the whole
-    in_parts  the three of them, where workers share no folder
+    audit         one capture by one program, as h2audit alone audits it
+    audit_all     several small ones, with an answer for each
+    import_first  the import of a capture that may be large, into a folder that all workers share
+    split         a large capture into parts, in such a folder
+    split_made    the same, of what an import made
+    part          the audit of one part
+    merge         the reports of the parts into that of the whole, and of an import back to that of the original
+    in_parts      all of them, where workers share no folder
 
-An answer of `audit`, `merge` and `in_parts` has an `outcome`: `audited`, `partial` (a part of a large capture was refused),
+An answer that is the last of a capture has an `outcome`: `audited`, `partial` (a part of a large capture was refused),
 `refused` (the capture cannot be audited, and never will be) or `failed` (it might be another time), with a `reason`.
+Others are `import` (it has to be imported first), `imported` and `split`.
 
 A worker needs this module, which is sent to it: it imports the standard library, and what is sent beside it.
 """
 
 import errno
 import os
+import shutil
 import stat
 import subprocess
 import tempfile
 import time
 from collections.abc import Callable
-from typing import Any, TypedDict
+from typing import IO, Any, TypedDict
 
 from fleet import programs, sniff
 
 Answer = dict[str, Any]
 
 AUDIT, IMPORT, SPLIT, MERGE = "h2audit", "h2audit-any", "h2audit-split", "h2audit-merge"
+# What h2audit-any does in one, for an import that stands for a while.
+IMPORT_ALONE = "h2audit-import"
 NO_FAULT, FAULTS, REFUSED, IO_FAILED, NO_MEMORY, NOTHING_READ = 0, 1, 3, 4, 5, 6
 MOST_PARTS = 500
+# How large a compressed capture is shows as it is read. One that would be large, grown so much, is imported first.
+USUAL_GROWTH = 10
+TOO_LARGE = "too-large"
 
 
 class Order(TypedDict):
-    """How captures are to be audited: files of keys, when to import, seconds for each run of a program."""
+    """How captures are to be audited: files of keys, when to import, seconds for each run of a program, and above how
+    many bytes a capture is split, 0 for none.
+    """
 
     keys: list[str]
     imports: str
     timeout: float
+    split_above: int
 
 
 class Unread(Exception):
@@ -48,7 +60,8 @@ def opened(path: bytes) -> int:
     try:
         file = os.open(path, os.O_RDONLY | os.O_NONBLOCK | os.O_CLOEXEC)
     except OSError as error:
-        raise Unread({errno.ENOENT: "not-there", errno.EACCES: "not-allowed"}.get(error.errno or 0, "not-opened")) from None
+        reasons = {errno.ENOENT: "not-there", errno.EACCES: "not-allowed"}
+        raise Unread(reasons.get(error.errno or 0, "not-opened")) from None
     if not stat.S_ISREG(os.fstat(file).st_mode):
         os.close(file)
         raise Unread("not-a-file")
@@ -82,9 +95,9 @@ def worker_name() -> str:
     return f"{os.uname().nodename}:{os.getpid()}"
 
 
-def audit(path: bytes, order: Order, parts: int = 0) -> Answer:
-    """The audit of one capture; of a large one that has to be imported, in so many parts."""
-    return on_capture(path, lambda file, _: audit_file(file, order, parts))
+def audit(path: bytes, order: Order) -> Answer:
+    """The audit of one capture; or says that it is, or may be, a large one that has to be imported first."""
+    return on_capture(path, lambda file, _: audit_file(file, order))
 
 
 def audit_all(paths: list[bytes], order: Order) -> list[Answer]:
@@ -92,13 +105,11 @@ def audit_all(paths: list[bytes], order: Order) -> list[Answer]:
     return [audit(path, order) for path in paths]
 
 
-def audit_file(file: int, order: Order, parts: int = 0) -> Answer:
+def audit_file(file: int, order: Order) -> Answer:
     if is_imported(file, order):
-        return by_import(file, order, parts)
+        return {"outcome": "import"} if may_be_large(file, order) else by_import(file, order)
     answer = by_program([AUDIT, "--workers", "1"], file, order)
-    if answer["outcome"] == "audited" and hides_ipv6(file, order, answer):
-        return by_import(file, order, parts)
-    return answer
+    return by_import(file, order) if answer["outcome"] == "audited" and hides_ipv6(file, order, answer) else answer
 
 
 def is_imported(file: int, order: Order) -> bool:
@@ -117,14 +128,37 @@ def hides_ipv6(file: int, order: Order, answer: Answer) -> bool:
         return sniff.holds_ipv6(capture)
 
 
-def by_import(file: int, order: Order, parts: int) -> Answer:
-    """The answer of the program that imports. It may read the capture twice, for keys in it, so it has the open file by a name.
+def may_be_large(file: int, order: Order) -> bool:
+    """Whether a compressed capture may hold more than what is split, by what captures usually grow to."""
+    is_packed = os.pread(file, sniff.FILE_HEADER, 0).startswith(sniff.PACKED)
+    return is_packed and bool(parts_of(USUAL_GROWTH * os.fstat(file).st_size, order))
+
+
+def parts_of(size: int | None, order: Order) -> int:
+    """How many parts a capture goes into: none, or as many as make each half as large as may be whole."""
+    if size is None or not 0 < order["split_above"] < size:
+        return 0
+    return min(-(-2 * size // order["split_above"]), MOST_PARTS)
+
+
+def by_import(file: int, order: Order) -> Answer:
+    """The answer of the program that imports and audits. What it made may be too large for h2audit: then it says so."""
+    words = [IMPORT, *words_of_keys(order), "--workers", "1"]
+    answer = while_unchanged(file, lambda name: by_program([*words, name], file, order, is_fed=False))
+    return {"outcome": "import"} if answer["reason"] == TOO_LARGE and order["split_above"] else answer
+
+
+def words_of_keys(order: Order) -> list[str]:
+    return [word for key in order["keys"] for word in ("-k", key)]
+
+
+def while_unchanged(file: int, work: Callable[[str], Answer]) -> Answer:
+    """What an import answers. It may read the capture twice, for keys in it, so it has the open file by a name.
 
     Where the capture is written to meanwhile nobody can say what was audited.
     """
     name, before = f"/dev/fd/{file}", state_of(file)
-    words = [word for key in order["keys"] for word in ("-k", key)] + (["--parts", str(parts)] if parts else [])
-    answer = by_program([IMPORT, *words, "--workers", "1", name], file, order, is_fed=False)
+    answer = work(name)
     if state_of(file) != before:
         return {"outcome": "failed", "status": None, "program": IMPORT, "reason": "changed"}
     return answer | {"reason": answer["reason"].removesuffix(f": {name}") if answer["reason"] else None}
@@ -137,15 +171,18 @@ def state_of(file: int) -> tuple[int, int]:
 
 
 def by_program(words: list[str], file: int, order: Order, is_fed: bool = True) -> Answer:
-    """A program's answer to an open capture, from its beginning."""
+    """A program's answer to an open capture, with its report."""
+    with tempfile.TemporaryFile() as output:
+        answer = run_on(words, file, output, order, is_fed)
+        return answer | (kept(output) if answer["outcome"] == "audited" else {})
+
+
+def run_on(words: list[str], file: int, output: IO[bytes], order: Order, is_fed: bool = True) -> Answer:
+    """What a program's end says of an open capture, which it is given from the beginning."""
     digested = None if is_fed else programs.digest_of(file)
     os.lseek(file, 0, os.SEEK_SET)
-    with tempfile.TemporaryFile() as output:
-        run = programs.run(words, file, output, order["timeout"], is_fed)
-        answer = verdict(run) | {"program": words[0]} | bytes_of(*(digested or (run.size, run.digest)))
-        if answer["outcome"] == "refused" and output.seek(0, os.SEEK_END):
-            answer["outcome"] = "partial"
-        return answer | (kept(output) if answer["outcome"] in ("audited", "partial") else {})
+    run = programs.run(words, file, output, order["timeout"], is_fed)
+    return verdict(run) | {"program": words[0]} | bytes_of(*(digested or (run.size, run.digest)))
 
 
 def bytes_of(size: int, digest: str) -> Answer:
@@ -163,7 +200,8 @@ def verdict(run: programs.Run) -> Answer:
         return {"outcome": "failed", "status": None, "reason": f"signal {-run.status}"}
     if run.status == REFUSED:
         return {"outcome": "refused", "status": run.status, "reason": run.said.partition(" refused: ")[2] or run.said}
-    reason = {IO_FAILED: io_failed(run.said), NO_MEMORY: "out-of-memory"}.get(run.status, f"status {run.status}: {run.said}")
+    reasons = {IO_FAILED: io_failed(run.said), NO_MEMORY: "out-of-memory"}
+    reason = reasons.get(run.status, f"status {run.status}: {run.said}")
     return {"outcome": "failed", "status": run.status, "reason": reason}
 
 
@@ -189,22 +227,46 @@ def number_after(line: bytes, word: bytes) -> int:
 # Large captures
 
 
+def import_first(path: bytes, folder: str, order: Order) -> Answer:
+    """Imports a capture, for an answer with what was made and its map, which stand in a folder."""
+    return on_capture(path, lambda file, _: while_unchanged(file, lambda name: import_file(file, name, folder, order)))
+
+
+def import_file(file: int, name: str, folder: str, order: Order) -> Answer:
+    made, map_file = (os.path.join(folder, f"imported.{kind}") for kind in ("pcap", "map"))
+    words = [IMPORT_ALONE, *words_of_keys(order), "-o", made, "-m", map_file, name]
+    with tempfile.TemporaryFile() as output:
+        answer = run_on(words, file, output, order, is_fed=False) | {"program": IMPORT}
+    if answer["outcome"] != "audited":
+        return answer
+    return answer | {"outcome": "imported", "made": made, "made_size": os.path.getsize(made), "map": map_file}
+
+
 def split(path: bytes, folder: str, parts: int, order: Order) -> Answer:
-    """Splits a capture, for an answer with the parts that stand; or says that it needs an import."""
+    """Splits a capture, for an answer with the parts that stand; or says that it has to be imported first."""
     return on_capture(path, lambda file, _: split_file(file, folder, parts, order))
+
+
+def split_made(imported: Answer, folder: str, parts: int, order: Order) -> Answer:
+    """Splits what an import made, for an answer about the original."""
+    as_it_is: Order = {"keys": [], "imports": "never", "timeout": order["timeout"], "split_above": order["split_above"]}
+    answer = split(os.fsencode(imported["made"]), folder, parts, as_it_is)
+    if answer["reason"] == "not-there":
+        answer["reason"] = "io-failed ENOENT"
+    return answer | {key: imported[key] for key in ("size", "modified", "sha256", "program", "map")}
 
 
 def split_file(file: int, folder: str, parts: int, order: Order) -> Answer:
     if is_imported(file, order):
         return {"outcome": "import"}
     with tempfile.TemporaryFile() as output:
-        run = programs.run([SPLIT, "--parts", str(parts), "-o", folder], file, output, order["timeout"])
-    answer = verdict(run) | {"program": SPLIT} | bytes_of(run.size, run.digest)
+        answer = run_on([SPLIT, "--parts", str(parts), "-o", folder], file, output, order)
     refused = refused_parts(folder)
     if refused is None or answer["outcome"] == "failed":
         return answer | ({"outcome": "failed", "reason": "no-parts"} if answer["outcome"] == "audited" else {})
     standing = [part for part in range(1, parts + 1) if part not in refused]
-    return answer | {"outcome": "split", "folder": folder, "standing": standing, "reason": "; ".join(refused.values()) or None}
+    reason = "; ".join(refused.values()) or None
+    return answer | {"outcome": "split", "folder": folder, "standing": standing, "reason": reason}
 
 
 def refused_parts(folder: str) -> dict[int, str] | None:
@@ -229,51 +291,91 @@ def part(folder: str, number: int, order: Order) -> Answer:
     return answer | verdict(run) | {"seconds": run.seconds}
 
 
-def merge(path: bytes, split_answer: Answer, order: Order) -> Answer:
-    """The report of the whole. What was passed over as not IPv4 may ask for an import instead."""
+def merge(path: bytes, divided: Answer, order: Order) -> Answer:
+    """The report of the whole, of the answer of a split, or of an import that needed none.
+
+    What was passed over as not IPv4 may ask for an import instead.
+    """
     begin = time.monotonic()
-    whole = {key: split_answer[key] for key in ("size", "modified", "sha256")} | {"program": MERGE, "worker": worker_name()}
+    whole = {key: divided[key] for key in ("size", "modified", "sha256")}
+    whole |= {"program": IMPORT if "map" in divided else MERGE, "worker": worker_name()}
     answer: Answer = {"outcome": "failed", "status": None}
-    standing = ["--standing"] if split_answer["reason"] else []
     try:
         with tempfile.TemporaryFile() as output:
-            run = programs.run([MERGE, *standing, split_answer["folder"]], None, output, order["timeout"])
-            answer |= verdict(run)
-            answer |= kept(output) if answer["outcome"] == "audited" else {}
+            answer |= verdict(programs.run(words_of_merge(divided), None, output, order["timeout"]))
+            if answer["outcome"] == "audited":
+                answer |= of_original(divided["map"], output, order) if "map" in divided else kept(output)
     except (programs.NoProgram, OSError) as why:
-        answer["reason"] = named(why)
+        answer |= {"outcome": "failed", "status": None, "reason": named(why)}
     if answer["outcome"] == "audited":
-        answer |= after_merge(path, split_answer, order, answer)
+        answer |= after_merge(path, divided, order, answer)
     return whole | answer | {"seconds": time.monotonic() - begin}
 
 
-def after_merge(path: bytes, split_answer: Answer, order: Order, answer: Answer) -> Answer:
+def words_of_merge(divided: Answer) -> list[str]:
+    """What gives the report: the merge of the parts that stand, or the audit of what an import made."""
+    if divided["outcome"] == "imported":
+        return [AUDIT, "--workers", "1", divided["made"]]
+    return [MERGE, *["--standing"] * bool(divided["reason"]), divided["folder"]]
+
+
+def of_original(map_file: str, report: IO[bytes], order: Order) -> Answer:
+    """The report of what an import made, as one about the original."""
+    os.lseek(report.fileno(), 0, os.SEEK_SET)
+    with tempfile.TemporaryFile() as output:
+        run = programs.run([IMPORT, "--map", map_file], report.fileno(), output, order["timeout"])
+        answer = verdict(run)
+        return answer | (kept(output) if answer["outcome"] == "audited" else {})
+
+
+def after_merge(path: bytes, divided: Answer, order: Order, answer: Answer) -> Answer:
+    """What follows from packets and parts that are not in a report. An import has no packets of IPv6 left."""
+    if "map" in divided:
+        return {"outcome": "partial", "status": REFUSED, "reason": divided["reason"]} if divided["reason"] else {}
     file = opened(path)
     try:
         if hides_ipv6(file, order, answer):
             return {"outcome": "import"}
     finally:
         os.close(file)
-    return {"outcome": "partial", "reason": split_answer["reason"]} if split_answer["reason"] else {}
+    return {"outcome": "partial", "reason": divided["reason"]} if divided["reason"] else {}
 
 
 def in_parts(path: bytes, parts: int, order: Order) -> Answer:
-    """A large capture on one worker, in a folder of its own."""
+    """A large capture on one worker, in a folder of its own. Without parts it is known that it is imported first."""
+    begin = time.monotonic()
     with tempfile.TemporaryDirectory(prefix="h2audit-fleet-") as scratch:
-        answer = split(path, os.path.join(scratch, "parts"), parts, order)
-        seconds = answer["seconds"]
-        if answer["outcome"] == "split":
-            for number in answer["standing"]:
-                one = part(answer["folder"], number, order)
-                if one["outcome"] != "audited":
-                    return answer | of_part(number, one)
-                seconds += one["seconds"]
-            answer = merge(path, answer, order)
-            seconds += answer["seconds"]
-    if answer["outcome"] == "import":
-        answer = audit(path, order, parts)
-        seconds += answer["seconds"]
-    return answer | {"seconds": seconds}
+        folder = os.path.join(scratch, "parts")
+        answer: Answer = {"outcome": "import"}
+        if parts:
+            answer = in_its_parts(path, split(path, folder, parts, order), order)
+        if answer["outcome"] == "import":
+            shutil.rmtree(folder, ignore_errors=True)
+            answer = in_its_parts(path, imported_in_parts(path, scratch, folder, order), order)
+    return answer | {"seconds": time.monotonic() - begin}
+
+
+def imported_in_parts(path: bytes, scratch: str, folder: str, order: Order) -> Answer:
+    """The answer of an import, or of the split of what was made where that is large."""
+    answer = import_first(path, scratch, order)
+    parts = parts_of(answer.get("made_size"), order)
+    if not parts:
+        return answer
+    divided = split_made(answer, folder, parts, order)
+    if divided["outcome"] == "split":
+        os.unlink(answer["made"])
+    return divided
+
+
+def in_its_parts(path: bytes, divided: Answer, order: Order) -> Answer:
+    """The audits of the parts, one after the other, and the merge."""
+    if divided["outcome"] not in ("imported", "split"):
+        return divided
+    for number in divided.get("standing", ()):
+        one = part(divided["folder"], number, order)
+        if one["outcome"] != "audited":
+            return divided | of_part(number, one)
+    return merge(path, divided, order)
 
 
 def of_part(number: int, answer: Answer) -> Answer:
@@ -285,5 +387,6 @@ def version() -> str:
     """What h2audit says of itself on this worker."""
     if not programs.is_there(AUDIT):
         return ""
-    said = subprocess.run([AUDIT, "--version"], capture_output=True, text=True, errors="replace", timeout=60, check=False)
+    said = subprocess.run(
+        [AUDIT, "--version"], capture_output=True, text=True, errors="replace", timeout=60, check=False)
     return (said.stdout.splitlines() or ["unknown"])[0]

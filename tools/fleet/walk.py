@@ -1,4 +1,7 @@
-"""Which captures PATHs, folders and lists name. Nothing that is named is lost: a file that cannot be read is tried all the same."""
+"""Which captures PATHs, folders and lists name.
+
+Nothing that is named is lost: a file that cannot be read is tried all the same.
+"""
 
 import os
 import re
@@ -33,14 +36,14 @@ class Walk:
     others: int = 0
 
     def named(self, path: bytes) -> None:
-        """A PATH of the command line or of a list: a folder with all that is in it, or one capture whatever it holds."""
+        """A PATH of the command line or of a list: a folder with all that is in it, or one capture, whatever it is."""
         if os.path.isdir(path):
             self.folder(os.path.abspath(path))
         else:
             self.add(os.path.abspath(path))
 
     def folder(self, top: bytes) -> None:
-        """All captures below a folder. Links to folders are not followed; a folder that cannot be read ends the walk."""
+        """All captures below a folder. Links to folders are not followed; one that cannot be read ends the walk."""
         for folder, folders, files in os.walk(top, onerror=stop):
             folders.sort()
             for name in sorted(files):

@@ -54,12 +54,15 @@ def parser() -> Words:
     words.add_argument("--db", metavar="FILE", required=True, help="the database")
     words.add_argument("--list", dest="lists", metavar="FILE", action="append", default=[],
                        help="a list of PATHs, one a line or each ended by a zero byte; - is standard input")
-    words.add_argument("--resume", action="store_true", help="go on with a database: do what is missing, failed or has changed")
+    words.add_argument("--resume", action="store_true",
+                       help="go on with a database: do what is missing, failed or has changed")
     words.add_argument("--reports", metavar="DIR", help="keep each report as DIR/SHA256.report")
-    words.add_argument("--collect", metavar="DIR", help="enter the reports that h2audit-any left in DIR, and audit nothing")
+    words.add_argument("--collect", metavar="DIR",
+                       help="enter the reports that h2audit-any left in DIR, and audit nothing")
     add_audit(words)
     add_workers(words)
-    words.add_argument("-V", "--version", action="version", version=f"h2audit-fleet {VERSION}", help="print the version")
+    words.add_argument("-V", "--version", action="version", version=f"h2audit-fleet {VERSION}",
+                       help="print the version")
     return words
 
 
@@ -73,8 +76,10 @@ def add_audit(words: Words) -> None:
     words.add_argument("--retries", metavar="N", type=number(0, 100), default=2,
                        help="tries after the first where memory, time or a worker is lost (default: 2)")
     words.add_argument("--split-above", metavar="MB", type=number(0, LARGEST), default=512,
-                       help="split captures of more megabytes, and audit their parts side by side; 0 never (default: 512)")
-    words.add_argument("--scratch", metavar="DIR", help="where parts stand for a while: a folder that all workers share")
+                       help="split captures, and imports, of more megabytes, and audit their parts side by side; "
+                            "0 never (default: 512)")
+    words.add_argument("--scratch", metavar="DIR",
+                       help="where imports and parts stand for a while: a folder that all workers share")
 
 
 def add_workers(words: Words) -> None:
@@ -85,7 +90,8 @@ def add_workers(words: Words) -> None:
     words.add_argument("--tls-ca", metavar="FILE", help="the authority that signs the scheduler's certificate")
     words.add_argument("--tls-cert", metavar="FILE", help="the certificate of this program")
     words.add_argument("--tls-key", metavar="FILE", help="the key of that certificate")
-    words.add_argument("--unencrypted", action="store_true", help="use a scheduler without TLS, which anybody may command")
+    words.add_argument("--unencrypted", action="store_true",
+                       help="use a scheduler without TLS, which anybody may command")
 
 
 def read_words(words: list[str]) -> Asked:
@@ -104,7 +110,8 @@ def problem_of(asked: Asked) -> str | None:
     if not asked.paths and not asked.lists:
         return "a PATH, --list or --collect is needed"
     if asked.scheduler is None:
-        return "--tls-ca, --tls-cert, --tls-key and --unencrypted are for a --scheduler" if any(has_tls) or asked.unencrypted else None
+        is_for_one = any(has_tls) or asked.unencrypted
+        return "--tls-ca, --tls-cert, --tls-key and --unencrypted are for a --scheduler" if is_for_one else None
     if asked.jobs is not None:
         return "--jobs is for workers on this machine; a scheduler has its own"
     if asked.dashboard is not None:
@@ -114,8 +121,10 @@ def problem_of(asked: Asked) -> str | None:
 
 def problem_of_scheduler(asked: Asked, has_tls: list[bool]) -> str | None:
     scheme = asked.scheduler.partition("://")[0] if asked.scheduler and "://" in asked.scheduler else "tls"
+    if scheme == "tcp" and asked.unencrypted:
+        return None
     if scheme == "tcp":
-        return None if asked.unencrypted else "a scheduler without TLS runs the programs of anybody: --unencrypted allows it"
+        return "a scheduler without TLS runs the programs of anybody: --unencrypted allows it"
     if scheme != "tls":
         return f"no scheduler is reached by {scheme}://"
     if asked.unencrypted:

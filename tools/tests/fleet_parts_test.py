@@ -21,17 +21,19 @@ STAND_IN = TOP / "tools" / "tests" / "split_stand_in"
 MERGE = TOP / "tools" / "h2audit-merge"
 
 
-def over_ipv6(script: str) -> bytes:
-    """The capture that a script spells, its segments in packets of IPv6 from 2001:db8::1 and 2001:db8::2."""
-    capture, found, at = scripts.capture_of(script), bytearray(scripts.FILE_HEADER), 24
-    while at < len(capture):
+def over_ipv6(capture: bytes) -> bytes:
+    """A capture with its segments in packets of IPv6, from 2001:db8::1 and 2001:db8::2. What is no IPv4, or is cut, stays as it is."""
+    found, at = bytearray(capture[:24]), 24
+    while at + 16 <= len(capture):
         seconds, moment, length, _ = struct.unpack_from("<IIII", capture, at)
         packet = capture[at + 16:at + 16 + length]
-        ends = [bytes.fromhex("20010db8") + bytes(11) + address[3:] for address in (packet[26:30], packet[30:34])]
-        whole = bytes(12) + b"\x86\xdd" + struct.pack(">IHBB", 6 << 28, length - 34, 6, 64) + ends[0] + ends[1] + packet[34:]
-        found += struct.pack("<IIII", seconds, moment, len(whole), len(whole)) + whole
+        if packet[12:14] == b"\x08\x00" and len(packet) == length:
+            ends = [bytes.fromhex("20010db8") + bytes(11) + address[3:] for address in (packet[26:30], packet[30:34])]
+            head = struct.pack(">IHBB", 6 << 28, length - 34, 6, 64)
+            packet = bytes(12) + b"\x86\xdd" + head + ends[0] + ends[1] + packet[34:]
+        found += struct.pack("<IIII", seconds, moment, len(packet), len(packet)) + packet
         at += 16 + length
-    return bytes(found)
+    return bytes(found) + capture[at:]
 
 
 @unittest.skipUnless(PROGRAM, "imports and parts: h2audit is not built")
@@ -75,7 +77,8 @@ class Imports(Beside):
         stem = TOP / "examples" / "stream_overrun_go.pcap"
         subprocess.run(["editcap", "-F", "pcapng", stem, self.machine.captures / "a.pcapng"], check=True)
         (self.machine.captures / "a.pcap.gz").write_bytes(gzip.compress(plain.capture))
-        (self.machine.captures / "six.pcap").write_bytes(over_ipv6((TOP / "examples" / "use_after_reset.script").read_text()))
+        script = (TOP / "examples" / "use_after_reset.script").read_text()
+        (self.machine.captures / "six.pcap").write_bytes(over_ipv6(scripts.capture_of(script)))
         status, said, error = self.machine.run("--jobs", "2", "--reports", "reports", "captures")
         self.assertEqual((status, said, error), (1, "3 captures: 3 with faults, 0 refused, 0 failed\n", ""))
         six = wanted["use_after_reset"].report.replace("10.0.0.1:", "[2001:db8::1]:").replace("10.0.0.2:", "[2001:db8::2]:")
@@ -126,7 +129,7 @@ class Parts(Beside):
         path = os.environ["PATH"]
         self.addCleanup(os.environ.__setitem__, "PATH", path)
         os.environ["PATH"] = f"{self.machine.bin}:/usr/bin:/bin"
-        answer = tasks.in_parts(os.fsencode(large), 3, {"keys": [], "imports": "auto", "timeout": 60.0})
+        answer = tasks.in_parts(os.fsencode(large), 3, {"keys": [], "imports": "auto", "timeout": 60.0, "split_above": 1000000})
         self.assertEqual((answer["outcome"], answer["report_sha256"]),
                          ("audited", hashlib.sha256(self.report_of(large).stdout).hexdigest()))
 

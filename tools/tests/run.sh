@@ -107,6 +107,7 @@ try 'library example' tools/tests/library_example_test.py
 try 'captures of TLS' tools/tests/import_test.py "${audits[@]}"
 try 'forms of captures' tools/tests/import_forms_test.py
 try 'cipher suites, resumption, PSK, early data' tools/tests/import_tls_test.py "${audits[@]}"
+try_built 'reports of earlier imports' tools/tests/import_map_test.py "$built"
 try 'mutated captures and key logs' tools/tests/import_mutations_test.py
 try 'many captures: tables' tools/tests/fleet_test.py "${audits[@]}" Tables
 try 'many captures: lost workers, memory, time' tools/tests/fleet_test.py Course.test_{killed_worker,worker_killed_each_time,memory_and_time}
@@ -116,6 +117,9 @@ try 'many captures: the database and its writer' tools/tests/fleet_test.py Write
 try 'many captures: a cluster' tools/tests/fleet_cluster_test.py Tls
 try 'many captures: two machines' tools/tests/fleet_cluster_test.py TwoMachines
 try_built 'many captures: imports and parts' tools/tests/fleet_parts_test.py "$built"
+try_built 'many captures: large imports in parts' tools/tests/fleet_imports_test.py "$built" Forms
+try_built 'many captures: large imports, lost workers, Ctrl-C, time' tools/tests/fleet_imports_test.py "$built" Misfortunes
+try_built 'many captures: large imports on a cluster' tools/tests/fleet_imports_test.py "$built" OnCluster
 try 'many captures: without daemons' tools/tests/fleet_collect_test.py "${audits[@]}"
 try 'install and package' tools/tests/package_test.sh "$program" "$split"
 try_built 'refused growths, threads, reads and writes' tools/tests/refusals_test.py "$built"

@@ -1,20 +1,27 @@
 """h2audit-any: imports captures, audits what is made, and prints the report of the original."""
 
 import errno
+import io
+import re
 import sys
 from argparse import Namespace
-from typing import NoReturn
+from typing import Iterable, Iterator, NoReturn
 
 from .audit import Audit, Report, audit_by, program_named
 from .command import imported
+from .interrupts import Waiting
+from .outcomes import Refusal
 from .parts import MOST_PARTS, REPORTED, audit_in_parts
-from .private_files import nameless
+from .private_files import BUFFER, nameless
 from .programs import NOTHING_READ, number, run, say, words_of
+from .read_map import read_map
 from .report import Original, brought_back
 from .stages import Output
 from .writer import Writer
 
 PROGRAM = "h2audit-any"
+# Findings that are nobody's breach (docs/REPORT_FORMAT.md); any other makes the status 1.
+NO_FAULT = re.compile(r" [a-z]+-(?:stall-begin|stall-end|credit) stream ")
 NO_REPORT = OSError(errno.EPROTO, "what it said is no report", "h2audit")
 DESCRIPTION = """Audits the HTTP/2 flow control of captures as people have them: TLS with its key log, pcapng, IPv6,
 cooked packets, several files. Prints h2audit's report, with the packet numbers and addresses of the original."""
@@ -47,6 +54,36 @@ def write(report: Report, original: Original) -> bool:
     return is_there
 
 
+class Noted:
+    """The lines of a report, of which it is noted whether they show a fault."""
+
+    def __init__(self, lines: Iterable[str]) -> None:
+        self.lines = lines
+        self.has_faults = False
+
+    def __iter__(self) -> Iterator[str]:
+        for line in self.lines:
+            self.has_faults |= line.startswith("frame ") and not NO_FAULT.search(line)
+            yield line
+
+
+def of_original(path: str) -> int:
+    """Prints a report that stands on standard input, of what was imported with a map, as one of the original."""
+    original = read_map(path)
+    with io.TextIOWrapper(io.BufferedReader(Waiting(0, closefd=False), BUFFER), encoding="ascii", newline="\n") as file:
+        lines = Noted(file)
+        if not write(Report(lines), original):
+            raise NO_REPORT
+    if lines.has_faults:
+        return 1
+    return 0 if any(not isinstance(one, Refusal) for one in original.outcomes.values()) else nothing_read()
+
+
+def nothing_read() -> int:
+    say(PROGRAM, "no connection could be read")
+    return NOTHING_READ
+
+
 def audited(asked: Namespace, audit: Audit) -> int:
     original = Original()
     with nameless() as (file, path):
@@ -56,10 +93,7 @@ def audited(asked: Namespace, audit: Audit) -> int:
             is_there = write(report, original)
         if report.status in REPORTED and not is_there:
             raise NO_REPORT
-    if report.status == 0 and counts.read == 0:
-        say(PROGRAM, "no connection could be read")
-        return NOTHING_READ
-    return report.status
+    return nothing_read() if report.status == 0 and counts.read == 0 else report.status
 
 
 def main() -> NoReturn:
@@ -78,7 +112,13 @@ def main() -> NoReturn:
         metavar="N",
         help=f"split what is imported, and audit its parts side by side: 1 to {MOST_PARTS}",
     )
+    parser.add_argument("--map", metavar="MAP", help="import and audit nothing: take h2audit's report on standard input\n"
+                        "back to the original, by the map of h2audit-import")  # fmt: skip
     parser.add_argument("--h2audit", metavar="PROGRAM", help="the program that audits; without it H2AUDIT of the\n"
                         "environment, the h2audit beside this program, or that of the path")  # fmt: skip
     asked = parser.parse_args()
-    run(PROGRAM, lambda: audited(asked, way_of(asked)))
+    if asked.map is None:
+        run(PROGRAM, lambda: audited(asked, way_of(asked)))
+    if asked.files or asked.key_log or asked.parts or asked.h2audit or options_of(asked):
+        parser.error("--map takes a report on standard input, and nothing else")
+    run(PROGRAM, lambda: of_original(asked.map))
