@@ -19,7 +19,7 @@ HERE = pathlib.Path(__file__).resolve().parent
 MERGE = HERE.parent / "tools" / "h2audit-merge"
 
 
-def timed(step, size, words, output):
+def timed(step: str, size: float, words: list[object], output: str | pathlib.Path) -> int:
     """Runs a step whose input or output has this size in megabytes, and prints what it took."""
     with open(output, "wb") as file:
         start = time.monotonic()
@@ -32,11 +32,11 @@ def timed(step, size, words, output):
     return child.returncode
 
 
-def megabytes(path):
+def megabytes(path: pathlib.Path) -> float:
     return path.stat().st_size / 1e6
 
 
-def main():
+def main() -> None:
     parser = argparse.ArgumentParser(description=__doc__.splitlines()[0])
     parser.add_argument("h2audit", type=pathlib.Path)
     parser.add_argument("split", type=pathlib.Path)

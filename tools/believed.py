@@ -174,7 +174,7 @@ def words_of(text: str) -> set[str]:
 class Reading:
     """What is reached from some names: modules, each with the definitions that are reached in it."""
 
-    def __init__(self, crates: pathlib.Path):
+    def __init__(self, crates: pathlib.Path) -> None:
         self.crates = crates
         self.read: dict[pathlib.Path, Module] = {}
         self.reached: dict[pathlib.Path, set[str]] = {}

@@ -217,7 +217,8 @@ def shown(text: str) -> bool | None:
     with tempfile.TemporaryDirectory() as folder:
         definitions = crate(folder, f"{PRELUDE}{DEFINITIONS}\nClaim : ℕ → Type 0\nClaim _ = {text}\n")
         try:
-            return definitions.named("small.Text.Claim").run(0)
+            found: bool | None = definitions.named("small.Text.Claim").run(0)
+            return found
         except NotYet:
             return None
 

@@ -22,17 +22,17 @@ from captures import PREFACE, SERVER, SYN, SYN_ACK, Capture, capture_of, frame_o
 SETTINGS, SETTINGS_ACK = frame_of(["SETTINGS"]), frame_of(["ACK"])
 
 
-def pings(frames):
+def pings(frames: int) -> bytes:
     """One connection of so many frames: the four with which it is opened, and PINGs, 87 bytes a record."""
     return capture_of("opened\n" + "C PING\n" * (frames - 4))
 
 
-def error_at_once(frames):
+def error_at_once(frames: int) -> bytes:
     """The same, whose fifth frame is an error of the connection."""
     return capture_of("opened\nS WINDOW_UPDATE 9 1\n" + "C PING\n" * (frames - 5))
 
 
-def connections(count):
+def connections(count: int) -> bytes:
     """So many connections of six records and four frames each, in 480 bytes."""
     capture = Capture()
     for port in range(1000, 1000 + count):
@@ -79,15 +79,19 @@ ROWS = [
 
 
 class Threads(unittest.TestCase):
+    shim: pathlib.Path
+    met: pathlib.Path
+    capture: pathlib.Path
+
     @classmethod
-    def setUpClass(cls):
+    def setUpClass(cls) -> None:
         folder = tempfile.TemporaryDirectory()
         cls.addClassCleanup(folder.cleanup)
         cls.shim, cls.met, cls.capture = (pathlib.Path(folder.name, name) for name in ("refuse.so", "met", "capture"))
         source = pathlib.Path(__file__).with_name("refuse.c")
         subprocess.run(["cc", "-O2", "-shared", "-fPIC", "-o", cls.shim, source], check=True)
 
-    def started(self, words, capture):
+    def started(self, words: str, capture: bytes) -> int:
         """How many threads a run starts. The capture is a file, which a read gives as much of as it asks for."""
         self.capture.write_bytes(capture)
         self.met.unlink(missing_ok=True)
@@ -95,12 +99,12 @@ class Threads(unittest.TestCase):
         subprocess.run([PROGRAM, *words.split(), self.capture], capture_output=True, env=surroundings, timeout=60)
         return self.met.stat().st_size if self.met.exists() else 0
 
-    def test_each_way(self):
+    def test_each_way(self) -> None:
         for words, capture, ways in ROWS:
             with self.subTest(words, ways=ways):
                 self.assertEqual(self.started(words, capture), sum(ways.values()))
 
-    def test_one_worker(self):
+    def test_one_worker(self) -> None:
         for _, capture, _ in ROWS:
             self.assertEqual(self.started("--workers 1 --block 64", capture), 0)
 
