@@ -78,13 +78,14 @@ deb: $(PROGRAM) $(SPLIT)
 		ZSHDIR=/usr/share/zsh/vendor-completions > /dev/null && \
 		tools/package/build_deb.sh "$$stage" "$(abspath $(PACKAGES))"
 
-# What tells in some two minutes whether a change holds together, and proves nothing: layout, the front end on every crate, the
-# tests of calls, and the definitions to believe. With CRATE=NAME it proves that crate.
+# What tells in some two minutes whether a change holds together, and proves nothing: layout, types of Python, the front
+# end on every crate, the tests of calls, and the definitions to believe. With CRATE=NAME it proves that crate.
 check:
 ifdef CRATE
 	cd crates/$(CRATE) && rt check
 else
 	@rattle fmt --check $(filter-out crates.txt,$(SOURCES))
+	tools/tests/sources_test.py
 	@cd crates/crate_tests && rt try | diff stdout -
 	@cd crates/h2audit_split && rt try -- $$(cat args) | diff stdout -
 	tools/tests/believed_test.py

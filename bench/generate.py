@@ -2,7 +2,7 @@
 """Writes a capture for measuring: generate.py SHAPE MEGABYTES FILE.
 
 Shapes:
-  bulk         one connection, one stream, a download of 16,384-byte DATA frames in full TCP segments, with window updates
+  bulk         one connection, one stream, a download of 16,384-byte DATA frames in full segments, with window updates
   small        one connection, many streams, DATA frames of a few bytes, a frame in a record
   connections  many short connections of a handshake, a request and a response
   chatty       one connection, one stream, many frames of a few bytes in each segment
@@ -295,7 +295,9 @@ def next_client() -> None:
 
 USUAL = (bulk, small, connections, chatty, calls, streams, early)
 HOSTILE = (
-    closed, strays, colliding, empty, hollow, openings, backwards, overlapping, grants, settings, waiting, crumbs, promised)
+    closed, strays, colliding, empty, hollow, openings, backwards, overlapping, grants, settings, waiting, crumbs,
+    promised,
+)
 QUADRATIC = (live, live_early)
 SHAPES = {each.__name__: each for each in USUAL + HOSTILE + QUADRATIC}
 

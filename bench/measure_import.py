@@ -1,9 +1,10 @@
 #!/usr/bin/python3
 """Measures h2audit-import beside tshark: measure_import.py [--runs N] [SHAPE=MEGABYTES ..]
 
-For each shape of generate_tls.py, the least wall and processor seconds of N runs each in turn (3 without --runs), and the greatest peak
-of memory: h2audit-import with one process and with four, and tshark's two ways to the same bytes, `-z follow,tls` of one connection
-and a tap in Lua over all, each with the capture in memory and its output thrown away.
+For each shape of generate_tls.py, the least wall and processor seconds of N runs each in turn (3 without --runs), and
+the greatest peak of memory: h2audit-import with one process and with four, and tshark's two ways to the same bytes,
+`-z follow,tls` of one connection and a tap in Lua over all, each with the capture in memory and its output thrown
+away.
 """
 import argparse
 import os

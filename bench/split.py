@@ -1,9 +1,10 @@
 #!/usr/bin/env python3
 """Measures splitting and merging: split.py H2AUDIT SPLIT SHAPE MEGABYTES [--times K] [--parts N] [--frames]
 
-Generates a capture of this shape and size, names it K times as the files of one capture, splits that, audits the parts one after the
-other and merges their reports. Prints wall and processor seconds, megabytes a second of each and the peak of memory of each step, and
-says whether the merged report is that of the whole, where K is 1 and h2audit takes it. Nothing is kept.
+Generates a capture of this shape and size, names it K times as the files of one capture, splits that, audits the
+parts one after the other and merges their reports. Prints wall and processor seconds, megabytes a second of each and
+the peak of memory of each step, and says whether the merged report is that of the whole, where K is 1 and h2audit
+takes it. Nothing is kept.
 """
 import argparse
 import os

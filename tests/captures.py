@@ -1,8 +1,8 @@
 """Captures as scripts.
 
-The first line of a script says what the capture begins with: `empty` (a file header), `handshake` (records 1 and 2, a SYN and a SYN
-ACK), `opened` (records 1 to 6, both sides' SETTINGS and their acknowledgements too) or `bytes`. Each line after it is one record, and
-record n has the time n microseconds:
+The first line of a script says what the capture begins with: `empty` (a file header), `handshake` (records 1 and 2, a
+SYN and a SYN ACK), `opened` (records 1 to 6, both sides' SETTINGS and their acknowledgements too) or `bytes`. Each
+line after it is one record, and record n has the time n microseconds:
 
 - `C PAYLOAD` and `S PAYLOAD`: the next bytes of the client and of the server;
 - `C AT SEQ PAYLOAD` and `S AT SEQ PAYLOAD`: bytes at any sequence number;
@@ -12,8 +12,8 @@ record n has the time n microseconds:
 - `RECORD ORIGINAL HEX`: a packet of any bytes that had this length;
 - `SET OFFSET BYTE`: no record, but a byte of the packet before.
 
-A payload is a frame, as `DATA 1 16384`, or `PREFACE` and a frame, or `HEX` and bytes. After `bytes` each line is hex. Bytes of a frame
-that its words do not give are zero.
+A payload is a frame, as `DATA 1 16384`, or `PREFACE` and a frame, or `HEX` and bytes. After `bytes` each line is hex.
+Bytes of a frame that its words do not give are zero.
 """
 
 import struct
@@ -80,7 +80,7 @@ def payload_of(words: list[str]) -> bytes:
 
 
 def packet(source: Endpoint, target: Endpoint, seq: int, flags: int, payload: bytes = b"") -> bytes:
-    """A segment without options. Its total length is 0 where 16 bits do not hold it, as captures with segmentation offload have."""
+    """A segment without options. Its total length is 0 where 16 bits do not hold it, as offload leaves it."""
     total = 40 + len(payload)
     addresses, ports = (source[0], target[0]), (source[1], target[1])
     ip = struct.pack(">BBHIBBHII", 0x45, 0, total if total < 65536 else 0, 0, 64, 6, 0, *addresses)
@@ -105,7 +105,15 @@ class Capture:
         self.last = len(self.bytes)
         self.bytes += captured
 
-    def segment(self, source: Endpoint, target: Endpoint, seq: int, flags: int, payload: bytes = b"", kept: int | None = None) -> None:
+    def segment(
+        self,
+        source: Endpoint,
+        target: Endpoint,
+        seq: int,
+        flags: int,
+        payload: bytes = b"",
+        kept: int | None = None,
+    ) -> None:
         whole = packet(source, target, seq, flags, payload)
         self.record(len(whole), whole if kept is None else whole[: HEADERS + kept])
 

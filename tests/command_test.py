@@ -1,5 +1,7 @@
 #!/usr/bin/env python3
-"""Calls the program with words, and compares its exit status, standard output and standard error: command_test.py PROGRAM.."""
+"""Calls the program with words, and compares its exit status, standard output and standard error:
+command_test.py PROGRAM..
+"""
 
 import pathlib
 import subprocess

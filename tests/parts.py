@@ -1,4 +1,6 @@
-"""What h2audit-split has to make of a capture, written down from its description alone and slowly: the oracle of split_test.py."""
+"""What h2audit-split has to make of a capture, written down from its description alone and slowly: the oracle
+of split_test.py.
+"""
 
 import struct
 

@@ -1,14 +1,14 @@
 #!/usr/bin/env python3
 """Audits whole captures by the program, in each mix of workers, groups and block lengths: reports_test.py PROGRAM..
 
-A file of reports/ has rows. A row begins with a line `== NAME`. Its script follows (captures.py says how it is written), then
-`-- status N` with the exit status, what standard error says, and the report with its credit lines: the report without them is the
-rest. Where the status line begins `-- findings`, the row has the report without credit lines alone. Empty lines and those that begin
-with `#` say nothing. The reports were written by hand, from the description of the report and from the rules of the audit; none was
-taken from the program.
+A file of reports/ has rows. A row begins with a line `== NAME`. Its script follows (captures.py says how it is
+written), then `-- status N` with the exit status, what standard error says, and the report with its credit lines: the
+report without them is the rest. Where the status line begins `-- findings`, the row has the report without credit
+lines alone. Empty lines and those that begin with `#` say nothing. The reports were written by hand, from the
+description of the report and from the rules of the audit; none was taken from the program.
 
-The report of examples/NAME.pcap is NAME.report, and with credit lines NAME.frames.report. Where there is NAME.script, the capture has
-the bytes that it spells. Captures that are too long to be written out have reports that a rule gives.
+The report of examples/NAME.pcap is NAME.report, and with credit lines NAME.frames.report. Where there is NAME.script,
+the capture has the bytes that it spells. Captures that are too long to be written out have reports that a rule gives.
 """
 
 import functools
@@ -26,8 +26,8 @@ TOP = pathlib.Path(__file__).resolve().parents[1]
 EXAMPLES = TOP / "examples"
 Test = Callable[[str], bool]  # whether a program passes it
 
-# Numbers of workers, of groups, and of frames in a block: the least of each, some between, the most that matter here. Three
-# workers and five are halved unevenly.
+# Numbers of workers, of groups, and of frames in a block: the least of each, some between, the most that matter here.
+# Three workers and five are halved unevenly.
 MIXES = list(itertools.product((1, 2, 3, 5, 64), (1, 3, 1024), (1, 2, 4096)))
 
 # The captures of examples/ whose exit status is 1: one side or the other broke the connection.
@@ -42,10 +42,8 @@ def answer_of(program: str, words: list[str], capture: bytes) -> str:
 
 def always_answers(program: str, capture: bytes, wanted: str, *words: str) -> bool:
     """Whether a run leaves this answer in each mix."""
-    return all(
-        answer_of(program, [*words, f"--workers={workers}", f"--groups={groups}", f"--block={block}"], capture) == wanted
-        for workers, groups, block in MIXES
-    )
+    mixes = [[f"--workers={workers}", f"--groups={groups}", f"--block={block}"] for workers, groups, block in MIXES]
+    return all(answer_of(program, [*words, *mix], capture) == wanted for mix in mixes)
 
 
 def lines_of(text: str, credits_shown: bool) -> str:
@@ -90,7 +88,8 @@ def many_frames(program: str) -> bool:
     A stream sends 6,800 DATA frames of 5,000 bytes, each granted back to the connection at once.
     """
     rounds = range(6800)
-    capture = capture_of("opened\nC HEADERS 1\nS WINDOW_UPDATE 1 36000000\n" + 6800 * "C DATA 1 5000\nS WINDOW_UPDATE 0 5000\n")
+    opening, turn = "opened\nC HEADERS 1\nS WINDOW_UPDATE 1 36000000\n", "C DATA 1 5000\nS WINDOW_UPDATE 0 5000\n"
+    capture = capture_of(opening + 6800 * turn)
     wanted = """status 0
 capture records 13608 segments 13608 snapped 0 not-ipv4 0 fragments 0 not-tcp 0 refused 0
 connection 1 client 10.0.0.1:40000 server 10.0.0.2:80 record 1 http2 frames 13606
@@ -106,11 +105,12 @@ frame {frame} record {frame + 2} time {frame + 2}000 client connection-credit st
 frame {frame} record {frame + 2} time {frame + 2}000 client stream-credit stream 1 value {left}
 frame {frame + 1} record {frame + 3} time {frame + 3}000 client connection-credit stream 0 value 65535
 """
-    return len(capture) > 33 * 1048576 and always_answers(program, capture, wanted + "audit of all frames\n", "--frames")
+    wanted += "audit of all frames\n"
+    return len(capture) > 33 * 1048576 and always_answers(program, capture, wanted, "--frames")
 
 
 def long_with_error(program: str, frame: int) -> bool:
-    """A connection of 5,000 frames whose error stands at this one: a front of 156 frames is gone through by itself first."""
+    """A connection of 5,000 frames with an error at this one: a front of 156 frames goes through by itself first."""
     data = "C DATA 1 1\n"
     script = f"opened\nC HEADERS 1\n{data * (frame - 6)}S WINDOW_UPDATE 9 1\n{data * (5000 - frame)}"
     wanted = f"""status 1
@@ -160,7 +160,7 @@ audit stopped at frame 5
 
 
 def each_prefix(program: str) -> bool:
-    """A prefix below a file header is refused. Every other has a report, and says whether a record was cut and a stall is open."""
+    """A prefix below a file header is refused. Every other one has a report: was a record cut, is a stall open?"""
     script = "opened\nC HEADERS 1\nC DATA 1 100\nS SETTINGS 4 0\nC ACK\nS WINDOW_UPDATE 1 100\nS WINDOW_UPDATE 1 1\n"
     capture = capture_of(script)
     # The lengths at which the capture ends with a whole record.

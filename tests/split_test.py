@@ -1,18 +1,19 @@
 #!/usr/bin/env python3
 """Splits captures, audits the parts and merges their reports: split_test.py H2AUDIT SPLIT..
 
-Each part has to be what parts.py makes of the capture, byte for byte, and the merged report has to be that of h2audit over the whole
-capture. The captures are those of examples/ and random ones, with every kind of packet and with records that are cut, damaged or
-longer than the splitter's buffer.
+Each part has to be what parts.py makes of the capture, byte for byte, and the merged report has to be that of h2audit
+over the whole capture. The captures are those of examples/ and random ones, with every kind of packet and with
+records that are cut, damaged or longer than the splitter's buffer.
 """
 
 import pathlib
 import random
+import shutil
 import struct
 import subprocess
 import sys
 import tempfile
-from collections.abc import Callable, Iterator
+from collections.abc import Iterator
 
 from parts import parts_of, records_of
 
@@ -31,10 +32,13 @@ def header_of(order: str, magic: int, link: int) -> bytes:
 
 
 def record_of(order: str, number: int, packet: bytes, original: int | None = None) -> bytes:
-    return struct.pack(order + "IIII", 1_700_000_000 + number, number % 1000, len(packet), original or len(packet)) + packet
+    seconds, fraction = 1_700_000_000 + number, number % 1000
+    return struct.pack(order + "IIII", seconds, fraction, len(packet), original or len(packet)) + packet
 
 
-def datagram_of(source: int, target: int, protocol: int, payload: bytes, flags: int = 0, total: int | None = None) -> bytes:
+def datagram_of(
+    source: int, target: int, protocol: int, payload: bytes, flags: int = 0, total: int | None = None
+) -> bytes:
     size = 20 + len(payload) if total is None else total
     head = struct.pack(">BBHHHBBH", 0x45, 0, size % 65536, 0, flags, 64, protocol, 0)
     return head + struct.pack(">II", source, target) + payload
@@ -53,7 +57,8 @@ class Traffic:
 
     def tcp(self) -> bytes:
         dice = self.random
-        client, server = (0x0A000000 + dice.randrange(3), 40000 + dice.randrange(4)), (0x0A000100, 80 + dice.randrange(2))
+        client = 0x0A000000 + dice.randrange(3), 40000 + dice.randrange(4)
+        server = 0x0A000100, 80 + dice.randrange(2)
         sides = (client, server) if dice.random() < 0.6 else (server, client)
         (source, from_port), (target, to_port) = sides
         begun = self.sent.setdefault(sides, 0)
@@ -196,8 +201,9 @@ def refusals(program: pathlib.Path) -> list[str]:
     nanos, raw = header_of("<", 0xA1B23C4D, 1), header_of("<", 0xA1B2C3D4, 101)
     record = record_of("<", 1, bytes(60))
     files = {
-        "good": little + record, "cut": little + record[:-1], "big": big, "nanos": nanos, "raw": raw, "short": little[:23],
-        "magic": b"notes" * 8, "version": little[:4] + b"\x03" + little[5:], "cooked": header_of("<", 0xA1B2C3D4, 113),
+        "good": little + record, "cut": little + record[:-1], "big": big, "nanos": nanos, "raw": raw,
+        "short": little[:23], "magic": b"notes" * 8, "version": little[:4] + b"\x03" + little[5:],
+        "cooked": header_of("<", 0xA1B2C3D4, 113),
     }
     calls = [
         ("--parts 2 -o out good cut", 0, ""),
@@ -234,29 +240,38 @@ def refusals(program: pathlib.Path) -> list[str]:
 def merge_refusals(audit: pathlib.Path, program: pathlib.Path) -> list[str]:
     """What h2audit-merge says of folders in which something is missing or does not fit."""
     capture = passed_over_first() + Traffic(9).capture("<", 0xA1B2C3D4, 101, 200)[24:]
-    damages: list[tuple[Callable[[pathlib.Path], object], str]] = [
-        (lambda parts: (parts / "split.txt").unlink(), "no split.txt"),
-        (lambda parts: (parts / "split.txt").write_bytes(b"parts 3\n"), "is no summary"),
-        (lambda parts: (parts / "split.txt").write_text("h2audit-split 1\nparts 3\npart 2 refused too-large\n"), "part 2 was refused"),
-        (lambda parts: (parts / "part-002.report").unlink(), "part-002.report is missing"),
-        (lambda parts: (parts / "part-002.report").write_bytes(b""), "line 1 is not"),
-        (lambda parts: (parts / "part-002.report").write_bytes((parts / "part-001.report").read_bytes()), "is not"),
-        (lambda parts: (parts / "part-002.report").write_bytes((parts / "part-002.report").read_bytes()[:-9]), "is not one of"),
-        (lambda parts: (parts / "part-003.records").write_bytes(b"1234567"), "is no list"),
-        (lambda parts: (parts / "part-003.records").write_bytes(b""), "is not the report of this part"),
-        (lambda parts: (parts / "part-001.pcap").write_bytes(b""), "has no file header"),
-        (lambda parts: (parts / "part-001.pcap").write_bytes(capture[:24]), "is not one of"),
-    ]
     wrong = []
-    for damage, text in damages:
-        with tempfile.TemporaryDirectory() as made:
-            parts = split(program, pathlib.Path(made), 3, capture, [])
-            merged(audit, parts, 3, [])
-            damage(parts)
+    with tempfile.TemporaryDirectory() as made:
+        whole, parts = split(program, pathlib.Path(made), 3, capture, []), pathlib.Path(made, "damaged")
+        merged(audit, whole, 3, [])
+        for name, content, text in damages_of(whole):
+            shutil.copytree(whole, parts)
+            (parts / name).unlink()
+            if content is not None:
+                (parts / name).write_bytes(content)
             status, _, said = run(MERGE, parts)
             if status != 3 or text not in said.decode() or said.count(b"\n") != 1:
                 wrong.append(f"merge, {text}: {status} {said.decode()!r}")
+            shutil.rmtree(parts)
     return wrong
+
+
+def damages_of(parts: pathlib.Path) -> list[tuple[str, bytes | None, str]]:
+    """A file, what it holds instead, or None where it is missing, and what h2audit-merge says of it."""
+    first, second = ((parts / f"part-00{number}.report").read_bytes() for number in (1, 2))
+    return [
+        ("split.txt", None, "no split.txt"),
+        ("split.txt", b"parts 3\n", "is no summary"),
+        ("split.txt", b"h2audit-split 1\nparts 3\npart 2 refused too-large\n", "part 2 was refused"),
+        ("part-002.report", None, "part-002.report is missing"),
+        ("part-002.report", b"", "line 1 is not"),
+        ("part-002.report", first, "is not"),
+        ("part-002.report", second[:-9], "is not one of"),
+        ("part-003.records", b"1234567", "is no list"),
+        ("part-003.records", b"", "is not the report of this part"),
+        ("part-001.pcap", b"", "has no file header"),
+        ("part-001.pcap", (parts / "part-001.pcap").read_bytes()[:24], "is not one of"),
+    ]
 
 
 def main(audit: pathlib.Path, programs: list[pathlib.Path]) -> int:

@@ -23,6 +23,7 @@ WORDS = [
     "--disable-background-networking",
 ]
 PATIENCE = 30
+IS_READY = "return document.documentElement.dataset.ready === 'true'"
 
 
 class Browser:
@@ -50,7 +51,7 @@ class Browser:
     def scripts(self, are_on: bool) -> None:
         self.command("Emulation.setScriptExecutionDisabled", value=not are_on)
 
-    def load(self, path: pathlib.Path | str, is_ready: str = "return document.documentElement.dataset.ready === 'true'") -> float:
+    def load(self, path: pathlib.Path | str, is_ready: str = IS_READY) -> float:
         """Opens a page; answers the seconds until its charts are there."""
         start = time.monotonic()
         self.driver.get(f"file://{path}")

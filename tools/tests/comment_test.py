@@ -72,10 +72,9 @@ FINDING = re.compile(r"^frame \d+ record (\d+) .* (client|server) ([a-z-]+) stre
 
 
 def shown(capture: pathlib.Path, fields: list[str] = FIELDS, *more: str) -> list[list[str]]:
-    words: list[str | pathlib.Path] = ["tshark", "-n", "-o", "frame.generate_md5_hash:TRUE", "-r", capture, "-T", "fields", *more]
-    run = subprocess.run(
-        words + [word for field in fields for word in ("-e", field)], capture_output=True, text=True, timeout=60
-    )
+    wanted = [word for field in fields for word in ("-e", field)]
+    words = ["tshark", "-n", "-o", "frame.generate_md5_hash:TRUE", "-r", str(capture), "-T", "fields", *more, *wanted]
+    run = subprocess.run(words, capture_output=True, text=True, timeout=60)
     assert run.returncode == 0, run.stderr
     return [line.split("\t") for line in run.stdout.splitlines()]
 

@@ -1,13 +1,14 @@
 #!/usr/bin/python3
-"""Computes reports from the definitions (tools/by-definition), and compares them with known ones and with the program's.
+"""Computes reports from the definitions (tools/by-definition), and compares them with known ones and with the
+program's.
 
     tools/tests/definitions_test.py                            known reports
     tools/tests/definitions_test.py [--seed N] PROGRAM [KIND]  the program's, of captures or connections, or of both
 
-The known ones are those of examples/ up to 4,000 bytes and of each row of tests/reports. Then ten definitions are changed,
-one in each layer, and the search for witnesses is misled: each time a report has to be another one, or not shown. The
-program is asked for those of 300 random captures and 1,000 random connections, in which all 27 kinds of findings occur;
-the seed is printed.
+The known ones are those of examples/ up to 4,000 bytes and of each row of tests/reports. Then ten definitions are
+changed, one in each layer, and the search for witnesses is misled: each time a report has to be another one, or not
+shown. The program is asked for those of 300 random captures and 1,000 random connections, in which all 27 kinds of
+findings occur; the seed is printed.
 """
 
 import argparse

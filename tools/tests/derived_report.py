@@ -1,7 +1,8 @@
 """Reports of h2audit derived from what tshark sees, by RFC 9113, 5.2 and 6.9, and docs/REPORT_FORMAT.md.
 
-Nothing here is h2audit's. tshark gives packets, times and frames, the files of records the bytes of each side. It is for
-captures of whole connections whose every frame tshark shows and whose only faults are overruns, as those of tests/tls.
+Nothing here is h2audit's. tshark gives packets, times and frames, the files of records the bytes of each side. It is
+for captures of whole connections whose every frame tshark shows and whose only faults are overruns, as those of
+tests/tls.
 """
 
 import collections
@@ -63,8 +64,8 @@ def fields(name: str, shown: tuple[str, ...], *words: str) -> list[list[str]]:
 
 
 def packets_of(name: str) -> Iterator[Packet]:
-    shown = ("frame.number", "frame.time_epoch", "tcp.stream", "ip.src", "ip.dst", "ipv6.src", "ipv6.dst", "tcp.srcport",
-             "tcp.dstport", "tcp.flags")  # fmt: skip
+    shown = ("frame.number", "frame.time_epoch", "tcp.stream", "ip.src", "ip.dst", "ipv6.src", "ipv6.dst",
+             "tcp.srcport", "tcp.dstport", "tcp.flags")  # fmt: skip
     for number, time, stream, source, target, source6, target6, from_port, to_port, flags in fields(name, shown):
         seconds, fraction = time.split(".")
         hosts = (source, target) if source else (f"[{source6}]", f"[{target6}]")

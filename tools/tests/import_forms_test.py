@@ -1,8 +1,9 @@
 #!/usr/bin/python3
-"""Tests of h2audit-import on the forms that a capture may have: files, link types, IPv6, order of packets, holes, refusals.
+"""Tests of h2audit-import on the forms that a capture may have: files, link types, IPv6, order of packets, holes,
+refusals.
 
-The same packets in another form give the same plaintext; what is wanted is taken from the form that other tests hold against
-tshark. Nothing of an expected value is made by h2audit-import, but for that.
+The same packets in another form give the same plaintext; what is wanted is taken from the form that other tests hold
+against tshark. Nothing of an expected value is made by h2audit-import, but for that.
 """
 
 import contextlib
@@ -137,7 +138,9 @@ class Files(unittest.TestCase):
         self.assertEqual(made.packets[0].nanos, 105_500_000_000)
 
     def test_secrets_after_packets(self) -> None:
-        """Keys that come last, on standard input too, where a capture cannot be read twice; processes change nothing."""
+        """Keys that come last, on standard input too, where a capture cannot be read twice; processes change
+        nothing.
+        """
         packets = b"".join(enhanced(0, one.nanos // 1000, one) for one in PACKETS)
         for data in (
             section() + interface(ETHERNET) + packets + secrets(),
@@ -160,8 +163,9 @@ class Files(unittest.TestCase):
         cases = {
             b"": "short-header", b"abc": "short-header", b"abcdefgh": "bad-magic", PCAP[:23]: "short-header",
             header + struct.pack("<I", 105) + e[24:]: "link-type 105", PCAP[:4] + b"\x03" + PCAP[5:]: "bad-version",
-            simple: "simple-packet-block", section()[:-1] + b"\x01": "bad-block", gzip.compress(PCAP)[:2] + b"x" * 9: "bad-gzip",
-            section() + interface(1) + enhanced(1, 0, PACKETS[0]): "no-interface", b"\x28\xb5\x2f\xfd" + b"x" * 9: "bad-zstd",
+            simple: "simple-packet-block", section()[:-1] + b"\x01": "bad-block",
+            section() + interface(1) + enhanced(1, 0, PACKETS[0]): "no-interface",
+            gzip.compress(PCAP)[:2] + b"x" * 9: "bad-gzip", b"\x28\xb5\x2f\xfd" + b"x" * 9: "bad-zstd",
             tools.pcap_of([*v6[:1], clash], RAW): "address-clash",
         }  # fmt: skip
         for data, name in cases.items():
@@ -351,7 +355,9 @@ class Order(unittest.TestCase):
         self.assertTrue(tools.lines_of(made, "flow")[1].endswith(f" gap none tail {len(stream)} end cut"), made.map)
 
     def test_reset(self) -> None:
-        """What comes up to 240 seconds after an RST still counts; later, and once another connection opened, no more."""
+        """What comes up to 240 seconds after an RST still counts; later, and once another connection opened,
+        no more.
+        """
         packets = [one for one in in_raw(NAME) if not one.data[33] & 1]
         rows = len(WANTED)
         for seconds, is_kept in ((239, True), (241, False)):
@@ -373,7 +379,9 @@ class Order(unittest.TestCase):
 
 
 def in_raw(name: str) -> Iterator[tools.Packet]:
-    """The packets of a capture of IPv4 as raw IP; those of a pcapng file by way of h2audit-import without keys are not had."""
+    """The packets of a capture of IPv4 as raw IP; those of a pcapng file by way of h2audit-import without
+    keys are not had.
+    """
     data = tools.capture_named(name).read_bytes()
     if data[:4] != b"\x0a\x0d\x0d\x0a":
         packets, _ = tools.read_pcap(data)

@@ -3,8 +3,8 @@
 
     tools/tests/import_test.py [PROGRAM]
 
-PROGRAM is h2audit; without it the tests of reports are skipped. REPORTS=write in the environment writes the stored reports of
-tests/tls anew, to be read and compared with their truth.
+PROGRAM is h2audit; without it the tests of reports are skipped. REPORTS=write in the environment writes the stored
+reports of tests/tls anew, to be read and compared with their truth.
 """
 
 import base64
@@ -26,8 +26,9 @@ import import_tools as tools
 PROGRAM = os.path.abspath(sys.argv.pop()) if len(sys.argv) > 1 and not sys.argv[-1].startswith("-") else None
 # Frames of each connection, as the peers' logs and tshark count them.
 FRAMES = {
-    "nghttp-nghttpd-13": [20], "small-window-v6": [35], "curl-nginx-12-any-cooked": [131], "curl-nginx-13-v6-any-sll2": [62],
-    "curl-apache-upload": [15], "h2load-node-many": [64] * 12, "loss-and-reordering": [92], "key-updates": [114],
+    "nghttp-nghttpd-13": [20], "small-window-v6": [35], "curl-nginx-12-any-cooked": [131],
+    "curl-nginx-13-v6-any-sll2": [62], "curl-apache-upload": [15], "h2load-node-many": [64] * 12, "loss-and-reordering": [92],
+    "key-updates": [114],
     "stream-overrun-go": [201], "two-interfaces": [21], "secrets-inside": [35], "zstd": [35],
 }  # fmt: skip
 # Words of h2audit, and how the reports are named that it gives with them.
@@ -64,7 +65,9 @@ def frames_of(data: bytes) -> Iterator[tuple[str, int, int]]:
 
 class Records(unittest.TestCase):
     def test_each_record(self) -> None:
-        """Packet, side, SHA-1 and length of each record's plaintext, as own decryption of a trial and tshark agreed on them."""
+        """Packet, side, SHA-1 and length of each record's plaintext, as own decryption of a trial and tshark
+        agreed on them.
+        """
         for path in sorted(tools.CAPTURES.glob("*.records")):
             name = path.name.split(".")[0]
             with self.subTest(name):
@@ -96,7 +99,8 @@ class Records(unittest.TestCase):
         """The bytes of both sides are those that tshark shows."""
         for name in ("nghttp-nghttpd-13", "curl-apache-upload", "key-updates", "loss-and-reordering"):
             client, server = tools.flows(made_of(name))
-            options = ["-o", f"tls.keylog_file:{tools.CAPTURES / (name + '.keys')}", "-o", "tcp.reassemble_out_of_order:TRUE",
+            keys = tools.CAPTURES / f"{name}.keys"
+            options = ["-o", f"tls.keylog_file:{keys}", "-o", "tcp.reassemble_out_of_order:TRUE",
                        "-o", "tcp.try_heuristic_first:TRUE", "-q", "-z", "follow,tls,yaml,0"]  # fmt: skip
             run = subprocess.run(
                 ["tshark", "-n", "-r", tools.capture_named(name), *options], capture_output=True, text=True
@@ -215,7 +219,9 @@ def ledgers(truth: dict[str, Any]) -> Iterator[tuple[str, str, list[tuple[int, i
 
 
 def stalls_of(report: str, client: str, side: str) -> list[tuple[int, int, int | None]]:
-    """Stream, first and last packet of each stall of streams that lasts longer than a packet, of the connection of a client."""
+    """Stream, first and last packet of each stall of streams that lasts longer than a packet, of the
+    connection of a client.
+    """
     found: list[tuple[int, int, int | None]] = []
     packets: dict[str, int] = {}
     is_it = False

@@ -1,12 +1,14 @@
 #!/usr/bin/python3
-"""Tests of h2audit-import on connections that OpenSSL makes: each cipher suite, resumption, PSK, early data, and what may go wrong.
+"""Tests of h2audit-import on connections that OpenSSL makes: each cipher suite, resumption, PSK, early data, and what
+may go wrong.
 
-What was said is known, and each record's plaintext has to be it. The connections of ``openssl s_server`` and ``s_client`` are
-captured by tcpdump on the loopback interface, which needs root; else these tests are skipped.
+What was said is known, and each record's plaintext has to be it. The connections of ``openssl s_server`` and
+``s_client`` are captured by tcpdump on the loopback interface, which needs root; else these tests are skipped.
 
     tools/tests/import_tls_test.py [PROGRAM]
 
-With PROGRAM, which is h2audit, the captures of examples/ are said over TLS, and have to give the frames that they have in the clear.
+With PROGRAM, which is h2audit, the captures of examples/ are said over TLS, and have to give the frames that they
+have in the clear.
 """
 
 import contextlib
@@ -64,7 +66,9 @@ def tls12_suites() -> list[str]:
 
 
 class Suites(Folder):
-    def talk(self, version: ssl.TLSVersion, ciphers: str | None, said: Iterable[tuple[int, bytes]], name: str = "one") -> tuple[tools.Made, tls_talk.Talk]:
+    def talk(
+        self, version: ssl.TLSVersion, ciphers: str | None, said: Iterable[tuple[int, bytes]], name: str = "one"
+    ) -> tuple[tools.Made, tls_talk.Talk]:
         """A connection in which this is said, and what is made of its capture."""
         capture, keys = tls_talk.Capture(), self.path(f"{name}.keys")
         keys.write_bytes(b"")
@@ -114,7 +118,9 @@ class Suites(Folder):
                 )
 
     def test_resumed(self) -> None:
-        """Resumption in TLS 1.2 by a ticket: the second connection has no certificate, and a line of its own in the key log."""
+        """Resumption in TLS 1.2 by a ticket: the second connection has no certificate, and a line of its own
+        in the key log.
+        """
         capture, keys = tls_talk.Capture(), self.path("resumed.keys")
         keys.write_bytes(b"")
         pair = tls_talk.contexts(self.certificates, keys, ssl.TLSVersion.TLSv1_2, "ECDHE-RSA-AES128-SHA")
@@ -265,18 +271,23 @@ def findings(report: str) -> list[str]:
 class Servers(Folder):
     """openssl s_server and s_client over the loopback interface, captured by tcpdump."""
 
-    def run_openssl(self, name: str, server_words: Sequence[tools.Word], client_words: Sequence[Sequence[tools.Word]], said: Said = b"hello\n") -> tools.Made:
+    def run_openssl(
+        self,
+        name: str,
+        server_words: Sequence[tools.Word],
+        client_words: Sequence[Sequence[tools.Word]],
+        said: Said = b"hello\n",
+    ) -> tools.Made:
         port = free_port()
         keys = self.path(f"{name}.keys")
         certificate = self.certificates[0]
         with self.captured(name, port):
-            server = subprocess.Popen(["openssl", "s_server", "-accept", f"127.0.0.1:{port}", "-cert", certificate, "-key", certificate,
-                                       "-quiet", *server_words], stdin=subprocess.PIPE, stdout=subprocess.DEVNULL,
-                                      stderr=subprocess.DEVNULL)  # fmt: skip
+            words: list[tools.Word] = ["-accept", f"127.0.0.1:{port}", "-cert", certificate, "-key", certificate, "-quiet"]
+            server = started("s_server", [*words, *server_words])
             try:
                 wait_for(port)
-                for words in client_words:
-                    self.client(port, keys, words, said)
+                for client in client_words:
+                    self.client(port, keys, client, said)
             finally:
                 server.kill()
                 server.wait()
@@ -286,8 +297,8 @@ class Servers(Folder):
 
     def client(self, port: int, keys: pathlib.Path, words: Sequence[tools.Word], said: Said) -> None:
         """Says one thing after the other; each goes out by itself."""
-        client = subprocess.Popen(["openssl", "s_client", "-connect", f"127.0.0.1:{port}", "-keylogfile", keys, "-alpn", "h2", *words],
-                                  stdin=subprocess.PIPE, stdout=subprocess.DEVNULL, stderr=subprocess.DEVNULL)  # fmt: skip
+        end = f"127.0.0.1:{port}"
+        client = started("s_client", ["-connect", end, "-keylogfile", keys, "-alpn", "h2", *words])
         assert client.stdin
         time.sleep(0.7)
         for one in said if isinstance(said, tuple) else (said,):
@@ -299,8 +310,9 @@ class Servers(Folder):
 
     @contextlib.contextmanager
     def captured(self, name: str, port: int) -> Iterator[None]:
-        tcpdump = subprocess.Popen(["tcpdump", "-i", "lo", "-U", "--immediate-mode", "-w", self.path(f"{name}.pcap"), f"tcp port {port}"],
-                                   stderr=subprocess.PIPE)  # fmt: skip
+        written = str(self.path(f"{name}.pcap"))
+        words = ["tcpdump", "-i", "lo", "-U", "--immediate-mode", "-w", written, f"tcp port {port}"]
+        tcpdump = subprocess.Popen(words, stderr=subprocess.PIPE)
         assert tcpdump.stderr
         tcpdump.stderr.readline()
         try:
@@ -347,8 +359,9 @@ class Servers(Folder):
     def test_psk(self) -> None:
         """A PSK of both ends, in TLS 1.2 and in TLS 1.3, without a certificate in the second."""
         psk = ["-psk", "1a2b3c4d"]
-        made = self.run_openssl("psk", [*psk, "-cipher", "PSK-AES128-GCM-SHA256"], [[*psk, "-tls1_2", "-cipher", "PSK-AES128-GCM-SHA256"],
-                                                                                   [*psk, "-tls1_3"]])  # fmt: skip
+        cipher = ["-cipher", "PSK-AES128-GCM-SHA256"]
+        clients = [[*psk, "-tls1_2", *cipher], [*psk, "-tls1_3"]]
+        made = self.run_openssl("psk", [*psk, *cipher], clients)
         self.assertEqual(self.said(made), [b"hello\n"] * 2)
         self.assertIn("TLS_PSK_WITH_AES_128_GCM_SHA256", tools.lines_of(made, "connection")[0])
 
@@ -357,8 +370,9 @@ class Servers(Folder):
         """Early data that the server accepts is read; what it rejects is counted, and not given out."""
         session, early = self.path("session13"), self.path("early")
         early.write_bytes(b"early\n")
-        clients: list[list[tools.Word]] = [["-tls1_3", "-sess_out", session], ["-tls1_3", "-sess_in", session, "-early_data", early]]
-        made = self.run_openssl("early", ["-early_data"], clients)
+        first: list[tools.Word] = ["-tls1_3", "-sess_out", session]
+        second: list[tools.Word] = ["-tls1_3", "-sess_in", session, "-early_data", early]
+        made = self.run_openssl("early", ["-early_data"], [first, second])
         self.assertEqual(self.said(made), [b"hello\n", b"early\n", b"hello\n"])
         self.assertEqual(tools.lines_of(made, "early-data"), ["early-data accepted 1 rejected 0"])
         for name, words in (
@@ -368,6 +382,12 @@ class Servers(Folder):
             with self.subTest(name):
                 made = self.run_openssl(name, words, [["-tls1_3", "-sess_in", session, "-early_data", early]])
                 self.assertEqual(self.said(made), [b"hello\n"])
+
+
+def started(program: str, words: Sequence[tools.Word]) -> subprocess.Popen[bytes]:
+    """A program of openssl, which nobody listens to."""
+    nowhere = subprocess.DEVNULL
+    return subprocess.Popen(["openssl", program, *words], stdin=subprocess.PIPE, stdout=nowhere, stderr=nowhere)
 
 
 def free_port() -> int:

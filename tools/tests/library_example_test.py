@@ -3,8 +3,8 @@
 
     tools/tests/library_example_test.py
 
-The example is the block ```rust of the crate's comment. It stands as it is in a test of its own crate, over a capture of
-examples/, and has to give the report beside it.
+The example is the block ```rust of the crate's comment. It stands as it is in a test of its own crate, over a capture
+of examples/, and has to give the report beside it.
 """
 
 import pathlib

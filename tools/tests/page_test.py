@@ -489,7 +489,8 @@ class Thinning(unittest.TestCase):
 
     def test_one_window_takes_no_room_from_others(self) -> None:
         """Where one window has more stalls than all others have credit lines, it is thinned and they have charts."""
-        report = large(1, 8000, 4) + crowded(1500, 6, 10**9).partition("\n")[2].replace("connection 1 c", "connection 0 c")
+        small = crowded(1500, 6, 10**9).partition("\n")[2].replace("connection 1 c", "connection 0 c")
+        report = large(1, 8000, 4) + small
         with mock.patch.object(chart_data, "MOST_BYTES", 60_000):
             charts = chart_data.packed(audit_of(report))
         self.assertEqual((charts.windows, charts.left_out, charts.marked), (3001, [], 2000))

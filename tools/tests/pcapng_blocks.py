@@ -47,7 +47,9 @@ def section(order: str = "<", length: int = -1, options: bytes = b"") -> bytes:
     return block(order, 0x0A0D0D0A, struct.pack(order + "IHHq", 0x1A2B3C4D, 1, 0, length) + options)
 
 
-def interface(order: str, link: int, resolution: int | None = None, offset: int | None = None, name: bytes = b"") -> bytes:
+def interface(
+    order: str, link: int, resolution: int | None = None, offset: int | None = None, name: bytes = b""
+) -> bytes:
     options = option(order, 2, name) if name else b""
     if resolution is not None:
         options += option(order, 9, bytes([resolution]))

@@ -114,7 +114,8 @@ class Pictures(unittest.TestCase):
         self.assertTrue(list(PICTURES.glob("*.svg")))
         for picture in PICTURES.glob("*.svg"):
             text = picture.read_text()
-            self.assertIn(f"Matplotlib v{matplotlib.__version__},", text, f"{picture.name} was drawn by another matplotlib")
+            by_another = f"{picture.name} was drawn by another matplotlib"
+            self.assertIn(f"Matplotlib v{matplotlib.__version__},", text, by_another)
             with tempfile.TemporaryDirectory() as folder:
                 again = pathlib.Path(folder, "again.svg")
                 draw(EXAMPLES / f"{picture.stem}.frames.report", again, *CHOICES.get(picture.stem, []))

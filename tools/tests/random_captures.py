@@ -1,8 +1,9 @@
 """Random captures, for comparing two ways to their reports.
 
-`script(random)` is a connection whose frames are legal for the most part; findings of each kind come from small windows,
-from rare frames and from wild ones. `capture(random)` mixes such connections: segments out of order, repeated, cut or
-lost, two connections in one capture, packets and files with changed bytes, each byte order, unit of time and link type.
+`script(random)` is a connection whose frames are legal for the most part; findings of each kind come from small
+windows, from rare frames and from wild ones. `capture(random)` mixes such connections: segments out of order,
+repeated, cut or lost, two connections in one capture, packets and files with changed bytes, each byte order, unit of
+time and link type.
 """
 
 import struct

@@ -3,9 +3,10 @@
 
     tools/tests/recipes_test.py [PROGRAM]
 
-A command is a block ```sh that a block ```text follows. It is run by bash at the top of the repository, where it has an awk
-once with each that is installed. The name h2audit is that of PROGRAM, and those of the programs beside it are of tools/.
-Without PROGRAM, h2audit is a stand-in that prints the stored reports of examples/, and commands that import are left out.
+A command is a block ```sh that a block ```text follows. It is run by bash at the top of the repository, where it has
+an awk once with each that is installed. The name h2audit is that of PROGRAM, and those of the programs beside it are
+of tools/. Without PROGRAM, h2audit is a stand-in that prints the stored reports of examples/, and commands that
+import are left out.
 """
 
 import os

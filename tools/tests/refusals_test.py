@@ -1,10 +1,10 @@
 #!/usr/bin/python3
 """Refuses each growth, thread, read and write of a program in turn: tools/tests/refusals_test.py PROGRAM
 
-refuse.c is loaded before the C library and makes one call fail. A run whose call is refused either says so, with the status and
-the line that README.md names and nothing on standard output, or gives the same answer as a run that meets no refusal. Only after
-a failed write is there more on standard output: a beginning of the report. A thread that cannot be had changes nothing, and
-neither does a read or a write of a single byte.
+refuse.c is loaded before the C library and makes one call fail. A run whose call is refused either says so, with the
+status and the line that README.md names and nothing on standard output, or gives the same answer as a run that meets
+no refusal. Only after a failed write is there more on standard output: a beginning of the report. A thread that
+cannot be had changes nothing, and neither does a read or a write of a single byte.
 """
 
 import os
@@ -26,7 +26,10 @@ HEADERS, PADDED, END_HEADERS = 1, 8, 4
 OUT_OF_MEMORY = (5, b"", b"h2audit: out of memory\n")
 READ_FAILED = (4, b"", b"h2audit: read failed\n")
 WRITE_FAILED = (4, b"h2audit: write failed\n")
-WORDS_REFUSED = b"error: invalid value '0' for '--workers <N>': 0 is not in 1..=64\n\nFor more information, try '--help'.\n"
+WORDS_REFUSED = (
+    b"error: invalid value '0' for '--workers <N>': 0 is not in 1..=64\n\n"
+    b"For more information, try '--help'.\n"
+)
 Answer = tuple[int, bytes, bytes]  # status, standard output, standard error
 BAD_MAGIC = b"h2audit: capture refused: bad-magic\n"
 
@@ -100,7 +103,13 @@ class Refusals(unittest.TestCase):
             cls.captures[name] = home / name
             cls.captures[name].write_bytes(data)
 
-    def run_program(self, words: list[str], refused: str = "none 0", source: pathlib.Path | None = None, most_memory: int | None = None) -> tuple[Answer, bool]:
+    def run_program(
+        self,
+        words: list[str],
+        refused: str = "none 0",
+        source: pathlib.Path | None = None,
+        most_memory: int | None = None,
+    ) -> tuple[Answer, bool]:
         """Status and both outputs, and whether the refused call was made."""
         self.met.unlink(missing_ok=True)
 
@@ -114,7 +123,9 @@ class Refusals(unittest.TestCase):
                                    preexec_fn=bound)
         return (ended.returncode, ended.stdout, ended.stderr), self.met.exists()
 
-    def each_refused(self, kind: str, words: list[str], source: pathlib.Path | None = None) -> tuple[Answer, list[Answer]]:
+    def each_refused(
+        self, kind: str, words: list[str], source: pathlib.Path | None = None
+    ) -> tuple[Answer, list[Answer]]:
         """The answer of a run with no refusal, and then of each run in which the first, second .. call is refused."""
         whole, _ = self.run_program(words, source=source)
         answers: list[Answer] = []

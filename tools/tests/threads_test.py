@@ -1,9 +1,9 @@
 #!/usr/bin/python3
 """Counts the threads that a program starts: tools/tests/threads_test.py PROGRAM
 
-No contract says that threads run, since it could not say that they take turns. So each way in which docs/ARCHITECTURE.md divides the
-work has a capture here that takes it, and the number of threads that it adds, computed by hand. A way that is idle, or a thread that
-is started in vain, changes a sum. One worker starts no thread.
+No contract says that threads run, since it could not say that they take turns. So each way in which
+docs/ARCHITECTURE.md divides the work has a capture here that takes it, and the number of threads that it adds,
+computed by hand. A way that is idle, or a thread that is started in vain, changes a sum. One worker starts no thread.
 """
 
 import os
@@ -58,7 +58,8 @@ ROWS = [
     ("--workers 4 --block 64", SHORT, {
         "a part ahead": 1, "one side's flow": 1, "room for frames": 1, "61 blocks are summed": 3}),
     ("--workers 4", LONG, {
-        "a part ahead": 1, "one side's flow": 1, "room for frames": 1, "faults beside the split, from 4,096 frames on": 1}),
+        "a part ahead": 1, "one side's flow": 1, "room for frames": 1,
+        "faults beside the split, from 4,096 frames on": 1}),
     ("--workers 4 --block 64", LONG, {
         "a part ahead": 1, "one side's flow": 1, "room for frames": 1, "faults beside the split": 1,
         "two blocks of a front of 128 frames": 1, "64 blocks are summed": 3}),
@@ -66,12 +67,14 @@ ROWS = [
         "a part ahead": 1, "one side's flow": 1, "room for frames": 1, "nothing behind an error in the front": 0}),
     ("--workers 4", LONGER, {
         "parts ahead, one at each 256 KiB of the first MiB": 4, "a walk beside the second part": 1,
-        "three parts of packets are decoded": 2, "one side's flow": 1, "room for frames": 1, "faults beside the split": 1,
+        "three parts of packets are decoded": 2, "one side's flow": 1, "room for frames": 1,
+        "faults beside the split": 1,
         "faults in three pieces": 2, "five blocks are summed": 3}),
     ("--workers 2", connections(2), {"flows of one": 1, "one is made ready": 1, "one of two blocks is summed": 1}),
     ("--workers 4", connections(63), {"flows": 3, "made ready by halves": 3, "blocks are summed": 3}),
     ("--workers 4", connections(64), {
-        "flows": 3, "halves, from 64 connections on": 1, "each is made ready by halves": 2, "blocks of each are summed": 2}),
+        "flows": 3, "halves, from 64 connections on": 1, "each is made ready by halves": 2,
+        "blocks of each are summed": 2}),
     ("--workers 4", connections(5000), {
         "parts ahead": 4, "one more at the second MiB": 1, "walks beside the second part and the third": 2,
         "four parts of packets are decoded": 3, "flows": 3, "halves of one batch, and halves of these": 3}),

@@ -1,7 +1,7 @@
 """Captures of TLS connections that OpenSSL makes in memory, both ends of each in this process; what was said is known.
 
-The bytes of TLS are OpenSSL's own, as the ssl module of Python gives them, and so is the key log. The packets around them are
-made here.
+The bytes of TLS are OpenSSL's own, as the ssl module of Python gives them, and so is the key log. The packets around
+them are made here.
 """
 
 import datetime
@@ -47,7 +47,9 @@ def dh_parameters(folder: str | pathlib.Path) -> pathlib.Path:
     return path
 
 
-def contexts(certificates: list[pathlib.Path], key_log: pathlib.Path | str, version: ssl.TLSVersion, ciphers: str | None = None) -> Contexts:
+def contexts(
+    certificates: list[pathlib.Path], key_log: pathlib.Path | str, version: ssl.TLSVersion, ciphers: str | None = None
+) -> Contexts:
     """Contexts of a client and of a server, which writes no key log: the client's is enough."""
     client, server = ssl.SSLContext(ssl.PROTOCOL_TLS_CLIENT), ssl.SSLContext(ssl.PROTOCOL_TLS_SERVER)
     client.check_hostname, client.verify_mode = False, ssl.CERT_NONE
@@ -87,7 +89,14 @@ class Capture:
 class Talk:
     """A connection: what either end says goes through OpenSSL into packets of at most ``segment`` bytes."""
 
-    def __init__(self, capture: Capture, pair: Contexts, port: int = 40000, segment: int = 1448, session: ssl.SSLSession | None = None) -> None:
+    def __init__(
+        self,
+        capture: Capture,
+        pair: Contexts,
+        port: int = 40000,
+        segment: int = 1448,
+        session: ssl.SSLSession | None = None,
+    ) -> None:
         self.capture, self.segment = capture, segment
         self.incoming = ssl.MemoryBIO(), ssl.MemoryBIO()
         self.outgoing = ssl.MemoryBIO(), ssl.MemoryBIO()

@@ -1,8 +1,8 @@
 #!/usr/bin/python3
 """Tests of the man pages and of the completions, each by its own program: all of them name the programs' options.
 
-The options of h2audit and h2audit-split are those of their help texts, which tests of the gate pin; those of the programs in
-Python are in their --help.
+The options of h2audit and h2audit-split are those of their help texts, which tests of the gate pin; those of the
+programs in Python are in their --help.
 """
 
 import os
