@@ -1,10 +1,11 @@
 #!/usr/bin/env python3
 """Measures h2audit-fleet beside a loop of the shell: measure_fleet.py H2AUDIT [CAPTURES MEGABYTES]..
 
-For each set, of so many captures of so many megabytes each, in turn all usual shapes of generate.py: captures and megabytes a second
-of a loop of the shell that runs H2AUDIT with one worker on each and keeps its report, and of h2audit-fleet with 1, 2 and 4 workers.
-"All" is the whole run; "audits" is without what a run over one capture takes, most of it to start dask. "Processor" is user and system time
-of all processes. Without sets these are 1000 of 0.05 megabytes, and 20 of 20.
+For each set, of so many captures of so many megabytes each, in turn all usual shapes of generate.py: captures and
+megabytes a second of a loop of the shell that runs H2AUDIT with one worker on each and keeps its report, and of
+h2audit-fleet with 1, 2 and 4 workers. "All" is the whole run; "audits" is without what a run over one capture takes,
+most of it to start dask. "Processor" is user and system time of all processes. Without sets these are 1000 of 0.05
+megabytes, and 20 of 20.
 """
 import os
 import pathlib
@@ -41,8 +42,11 @@ def fleet_seconds(folder: pathlib.Path, program: pathlib.Path, jobs: int, captur
 
 def line(name: str, number: int, size: float, run: Seconds, start: Seconds = (0, 0)) -> None:
     seconds, audits, processor = run[0], max(run[0] - start[0], 0.01), max(run[1] - start[1], 0.01)
-    print(f"{name:22} {seconds:8.2f} {number / seconds:10.1f} {size / seconds:7.1f} {number / audits:12.1f} {size / audits:8.1f} "
-          f"{1000 * processor / number:12.2f}", flush=True)
+    print(
+        f"{name:22} {seconds:8.2f} {number / seconds:10.1f} {size / seconds:7.1f} {number / audits:12.1f} "
+        f"{size / audits:8.1f} {1000 * processor / number:12.2f}",
+        flush=True,
+    )
 
 
 def measure(program: pathlib.Path, number: int, megabytes: float) -> None:

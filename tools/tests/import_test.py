@@ -27,8 +27,8 @@ PROGRAM = os.path.abspath(sys.argv.pop()) if len(sys.argv) > 1 and not sys.argv[
 # Frames of each connection, as the peers' logs and tshark count them.
 FRAMES = {
     "nghttp-nghttpd-13": [20], "small-window-v6": [35], "curl-nginx-12-any-cooked": [131],
-    "curl-nginx-13-v6-any-sll2": [62], "curl-apache-upload": [15], "h2load-node-many": [64] * 12, "loss-and-reordering": [92],
-    "key-updates": [114],
+    "curl-nginx-13-v6-any-sll2": [62], "curl-apache-upload": [15], "h2load-node-many": [64] * 12,
+    "loss-and-reordering": [92], "key-updates": [114],
     "stream-overrun-go": [201], "two-interfaces": [21], "secrets-inside": [35], "zstd": [35],
 }  # fmt: skip
 # Words of h2audit, and how the reports are named that it gives with them.

@@ -282,8 +282,8 @@ class Servers(Folder):
         keys = self.path(f"{name}.keys")
         certificate = self.certificates[0]
         with self.captured(name, port):
-            words: list[tools.Word] = ["-accept", f"127.0.0.1:{port}", "-cert", certificate, "-key", certificate, "-quiet"]
-            server = started("s_server", [*words, *server_words])
+            own: list[tools.Word] = ["-accept", f"127.0.0.1:{port}", "-cert", certificate, "-key", certificate]
+            server = started("s_server", [*own, "-quiet", *server_words])
             try:
                 wait_for(port)
                 for client in client_words:
