@@ -9,7 +9,7 @@ SPLIT = crates/h2audit_split/out/h2audit_split
 RUN ?= examples/negative_window.pcap
 # Programs in Python beside these, and the packages that they share.
 PYTHON_PROGRAMS = h2audit-any h2audit-comment h2audit-fleet h2audit-import h2audit-merge h2audit-page h2audit-plot
-PYTHON_PACKAGES = comment fleet import/h2audit_import page page/assets report split
+PYTHON_PACKAGES = comment fleet import/h2audit_import page page/assets plot report split
 BESIDE = $(PYTHON_PROGRAMS) h2audit-split
 FIRST = examples/negative_window_tomcat.pcap examples/stream_overrun_go.pcap
 SOURCES := crates.txt $(shell find crates -name out -prune -o -name '*.rt' -print -o -name '*.antt' -print)
@@ -78,13 +78,14 @@ deb: $(PROGRAM) $(SPLIT)
 		ZSHDIR=/usr/share/zsh/vendor-completions > /dev/null && \
 		tools/package/build_deb.sh "$$stage" "$(abspath $(PACKAGES))"
 
-# What tells in some two minutes whether a change holds together, and proves nothing: layout, the front end on every crate, the
-# tests of calls, and the definitions to believe. With CRATE=NAME it proves that crate.
+# What tells in some two minutes whether a change holds together, and proves nothing: layout, types of Python, the front
+# end on every crate, the tests of calls, and the definitions to believe. With CRATE=NAME it proves that crate.
 check:
 ifdef CRATE
 	cd crates/$(CRATE) && rt check
 else
 	@rattle fmt --check $(filter-out crates.txt,$(SOURCES))
+	tools/tests/sources_test.py
 	@cd crates/crate_tests && rt try | diff stdout -
 	@cd crates/h2audit_split && rt try -- $$(cat args) | diff stdout -
 	tools/tests/believed_test.py

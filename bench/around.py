@@ -30,21 +30,21 @@ WRITTEN = {"stalls": "large(400, 2400, 20)", "60,000": "crowded(60000, 7, 50)"}
 WRITE = "import sys; from page_test import crowded, large; sys.stdout.write({})"
 
 
-def capture_of(folder, shape, megabytes):
+def capture_of(folder: pathlib.Path, shape: str, megabytes: int) -> pathlib.Path:
     path = folder / "capture.pcap"
     with open(path, "wb", buffering=1 << 20) as file:
         SHAPES[shape](Capture(file), megabytes * 1000000)
     return path
 
 
-def report_of(program, capture, *more):
+def report_of(program: str, capture: pathlib.Path, *more: str) -> pathlib.Path:
     path = capture.with_suffix(".report")
     with open(path, "wb") as file:
         subprocess.run([program, *more, capture], stdout=file, check=False)
     return path
 
 
-def measure_page(browser, shape, report):
+def measure_page(browser: Browser, shape: str, report: pathlib.Path) -> None:
     page = report.with_suffix(".html")
     wall, cpu, peak = once([str(TOP / "tools" / "h2audit-page"), "-", "-o", str(page)], report)
     with open(report, "rb") as file:
@@ -57,7 +57,7 @@ def measure_page(browser, shape, report):
     )
 
 
-def measure_comment(shape, capture, report):
+def measure_comment(shape: str, capture: pathlib.Path, report: pathlib.Path) -> None:
     out = str(capture.with_suffix(".pcapng"))
     comment = [str(TOP / "tools" / "h2audit-comment"), "-", str(report), "-o", out]
     for name, words in (("h2audit-comment", comment), ("editcap -a", ["editcap", "-a", "1:one", "-", out])):
@@ -69,7 +69,7 @@ def measure_comment(shape, capture, report):
         )
 
 
-def main():
+def main() -> None:
     if len(sys.argv) != 2:
         sys.exit(__doc__)
     program = sys.argv[1]

@@ -2,7 +2,7 @@
 """Writes a capture for measuring: generate.py SHAPE MEGABYTES FILE.
 
 Shapes:
-  bulk         one connection, one stream, a download of 16,384-byte DATA frames in full TCP segments, with window updates
+  bulk         one connection, one stream, a download of 16,384-byte DATA frames in full segments, with window updates
   small        one connection, many streams, DATA frames of a few bytes, a frame in a record
   connections  many short connections of a handshake, a request and a response
   chatty       one connection, one stream, many frames of a few bytes in each segment
@@ -28,6 +28,10 @@ The same words always give the same bytes.
 """
 import struct
 import sys
+from collections.abc import Callable
+from typing import BinaryIO
+
+Ends = tuple[int, int]  # of the client and of the server
 
 CLIENT, SERVER = 0, 1
 PREFACE = b"PRI * HTTP/2.0\r\n\r\nSM\r\n\r\n"
@@ -35,31 +39,31 @@ SYN, SYN_ACK, ACK = 0x02, 0x12, 0x10
 ADDRESSES = (0x0A000001, 0x0A000002)
 
 
-def frame(kind, flags, stream, payload=b""):
+def frame(kind: int, flags: int, stream: int, payload: bytes = b"") -> bytes:
     return struct.pack(">I", len(payload))[1:] + struct.pack(">BBI", kind, flags, stream) + payload
 
 
-def window_update(stream, increment):
+def window_update(stream: int, increment: int) -> bytes:
     return frame(8, 0, stream, struct.pack(">I", increment))
 
 
 class Capture:
     """A capture that is written record by record, a microsecond apart."""
 
-    def __init__(self, file):
+    def __init__(self, file: BinaryIO) -> None:
         self.file = file
         self.size = 24
         self.records = 0
         file.write(struct.pack("<IHHIIII", 0xA1B2C3D4, 2, 4, 0, 0, 262144, 1))
 
-    def segment(self, ports, side, seq, flags, payload=b""):
+    def segment(self, ports: Ends, side: int, seq: int, flags: int, payload: bytes = b"") -> None:
         total = 40 + len(payload)
         ends = (ADDRESSES[side], ADDRESSES[1 - side])
         ip = struct.pack(">BBHIBBHII", 0x45, 0, total, 0, 64, 6, 0, *ends)
         tcp = struct.pack(">HHIIBBHHH", ports[side], ports[1 - side], seq % 2 ** 32, 0, 0x50, flags, 0, 0, 0)
         self.record(bytes(12) + b"\x08\x00" + ip + tcp + payload)
 
-    def record(self, packet):
+    def record(self, packet: bytes) -> None:
         self.records += 1
         head = struct.pack("<IIII", self.records // 1000000, self.records % 1000000, len(packet), len(packet))
         self.file.write(head + packet)
@@ -69,7 +73,7 @@ class Capture:
 class Connection:
     """Two sides that send whole frames in order."""
 
-    def __init__(self, capture, port):
+    def __init__(self, capture: Capture, port: int) -> None:
         self.capture, self.ports, self.next = capture, (port, 80), [1001, 5001]
         capture.segment(self.ports, CLIENT, 1000, SYN)
         capture.segment(self.ports, SERVER, 5000, SYN_ACK)
@@ -78,14 +82,14 @@ class Connection:
         self.send(CLIENT, frame(4, 1, 0))
         self.send(SERVER, frame(4, 1, 0))
 
-    def send(self, side, data, most=1460):
+    def send(self, side: int, data: bytes, most: int = 1460) -> None:
         for start in range(0, len(data), most):
             piece = data[start:start + most]
             self.capture.segment(self.ports, side, self.next[side], ACK, piece)
             self.next[side] += len(piece)
 
 
-def bulk(capture, size):
+def bulk(capture: Capture, size: int) -> None:
     one = Connection(capture, 40000)
     one.send(CLIENT, frame(1, 4, 1))
     while capture.size < size:
@@ -93,7 +97,7 @@ def bulk(capture, size):
         one.send(CLIENT, window_update(0, 16384) + window_update(1, 16384))
 
 
-def small(capture, size):
+def small(capture: Capture, size: int) -> None:
     one = Connection(capture, 40000)
     stream = 1
     while capture.size < size:
@@ -106,7 +110,7 @@ def small(capture, size):
         stream += 2
 
 
-def connections(capture, size):
+def connections(capture: Capture, size: int) -> None:
     port = 1024
     while capture.size < size:
         one = Connection(capture, port)
@@ -118,7 +122,7 @@ def connections(capture, size):
             next_client()
 
 
-def chatty(capture, size):
+def chatty(capture: Capture, size: int) -> None:
     one = Connection(capture, 40000)
     one.send(CLIENT, frame(1, 4, 1))
     while capture.size < size:
@@ -128,7 +132,7 @@ def chatty(capture, size):
         one.send(SERVER, 2 * (window_update(0, 45) + window_update(1, 45)))
 
 
-def calls(capture, size):
+def calls(capture: Capture, size: int) -> None:
     one = Connection(capture, 40000)
     ids = range(1, 2001, 2)
     for stream in ids:
@@ -139,17 +143,17 @@ def calls(capture, size):
             one.send(SERVER, window_update(0, 1000) + window_update(stream, 1000))
 
 
-def streams(capture, size):
+def streams(capture: Capture, size: int) -> None:
     three_frames_each(capture, size, Connection(capture, 40000))
 
 
-def early(capture, size):
+def early(capture: Capture, size: int) -> None:
     one = Connection(capture, 40000)
     one.send(CLIENT, window_update(0, 2 ** 31 - 1))
     three_frames_each(capture, size, one)
 
 
-def three_frames_each(capture, size, one):
+def three_frames_each(capture: Capture, size: int, one: Connection) -> None:
     stream = 1
     while capture.size < size:
         one.send(CLIENT, frame(1, 5, stream))
@@ -158,7 +162,7 @@ def three_frames_each(capture, size, one):
         stream += 2
 
 
-def closed(capture, size):
+def closed(capture: Capture, size: int) -> None:
     one = Connection(capture, 40000)
     stream = 1
     while capture.size < size / 2:
@@ -171,7 +175,7 @@ def closed(capture, size):
         one.send(SERVER, frame(4, 1, 0))
 
 
-def strays(capture, size):
+def strays(capture: Capture, size: int) -> None:
     port = 1
     while capture.size < size:
         capture.segment((port, 80), CLIENT, 1, ACK, b"a")
@@ -181,24 +185,24 @@ def strays(capture, size):
             next_client()
 
 
-def empty(capture, size):
+def empty(capture: Capture, size: int) -> None:
     one = Connection(capture, 40000)
     one.send(CLIENT, frame(1, 4, 1))
     while capture.size < size:
         one.send(CLIENT, 160 * frame(0, 0, 1))
 
 
-def hollow(capture, size):
+def hollow(capture: Capture, size: int) -> None:
     while capture.size < size:
         capture.record(b"")
 
 
-def openings(capture, size):
+def openings(capture: Capture, size: int) -> None:
     while capture.size < size:
         capture.segment((40000, 80), CLIENT, capture.records, SYN)
 
 
-def backwards(capture, size):
+def backwards(capture: Capture, size: int) -> None:
     one = Connection(capture, 40000)
     one.send(CLIENT, frame(1, 4, 1))
     payload = frame(0, 0, 1, b"abcdefghijk")
@@ -206,7 +210,7 @@ def backwards(capture, size):
         capture.segment(one.ports, CLIENT, one.next[CLIENT] + number * len(payload), ACK, payload)
 
 
-def overlapping(capture, size):
+def overlapping(capture: Capture, size: int) -> None:
     one = Connection(capture, 40000)
     one.send(CLIENT, frame(1, 4, 1))
     payload = 14 * frame(0, 0, 1, bytes(91))
@@ -215,34 +219,34 @@ def overlapping(capture, size):
         one.next[CLIENT] += 100
 
 
-def grants(capture, size):
+def grants(capture: Capture, size: int) -> None:
     one = Connection(capture, 40000)
     one.send(CLIENT, frame(1, 4, 1))
     while capture.size < size:
         one.send(SERVER, 110 * window_update(1, 1))
 
 
-def settings(capture, size):
+def settings(capture: Capture, size: int) -> None:
     one = Connection(capture, 40000)
     while capture.size < size:
         one.send(CLIENT, 90 * frame(4, 0, 0, struct.pack(">HI", 4, 65535)))
         one.send(SERVER, 90 * frame(4, 1, 0))
 
 
-def waiting(capture, size):
+def waiting(capture: Capture, size: int) -> None:
     one = Connection(capture, 40000)
     while capture.size < size:
         one.send(CLIENT, 160 * frame(4, 0, 0))
 
 
-def crumbs(capture, size):
+def crumbs(capture: Capture, size: int) -> None:
     one = Connection(capture, 40000)
     one.send(CLIENT, frame(1, 4, 1))
     while capture.size < size:
         one.send(CLIENT, frame(0, 0, 1), most=1)
 
 
-def promised(capture, size):
+def promised(capture: Capture, size: int) -> None:
     one = Connection(capture, 40000)
     one.send(CLIENT, frame(1, 4, 1))
     stream = 2
@@ -251,7 +255,7 @@ def promised(capture, size):
         stream += 220
 
 
-def colliding(capture, size):
+def colliding(capture: Capture, size: int) -> None:
     global ADDRESSES
     number = 0
     while capture.size < size:
@@ -261,17 +265,17 @@ def colliding(capture, size):
         number += 1
 
 
-def live(capture, size):
+def live(capture: Capture, size: int) -> None:
     many_moves(capture, size, Connection(capture, 40000))
 
 
-def live_early(capture, size):
+def live_early(capture: Capture, size: int) -> None:
     one = Connection(capture, 40000)
     one.send(CLIENT, window_update(0, 2 ** 31 - 1))
     many_moves(capture, size, one)
 
 
-def many_moves(capture, size, one):
+def many_moves(capture: Capture, size: int, one: Connection) -> None:
     stream = 1
     while capture.size < size / 2:
         one.send(CLIENT, frame(1, 4, stream))
@@ -283,7 +287,7 @@ def many_moves(capture, size, one):
         one.send(CLIENT, frame(4, 1, 0))
 
 
-def next_client():
+def next_client() -> None:
     """The next client address, where the ports of one are used up."""
     global ADDRESSES
     ADDRESSES = (ADDRESSES[0] + 256, ADDRESSES[1])
@@ -291,12 +295,14 @@ def next_client():
 
 USUAL = (bulk, small, connections, chatty, calls, streams, early)
 HOSTILE = (
-    closed, strays, colliding, empty, hollow, openings, backwards, overlapping, grants, settings, waiting, crumbs, promised)
+    closed, strays, colliding, empty, hollow, openings, backwards, overlapping, grants, settings, waiting, crumbs,
+    promised,
+)
 QUADRATIC = (live, live_early)
 SHAPES = {each.__name__: each for each in USUAL + HOSTILE + QUADRATIC}
 
 
-def main():
+def main() -> None:
     if len(sys.argv) != 4 or sys.argv[1] not in SHAPES:
         sys.exit(__doc__)
     with open(sys.argv[3], "wb", buffering=1 << 20) as file:

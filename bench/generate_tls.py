@@ -15,11 +15,11 @@ import tls_talk  # noqa: E402
 PREFACE = b"PRI * HTTP/2.0\r\n\r\nSM\r\n\r\n"
 
 
-def frame(kind, flags, stream, payload=b""):
+def frame(kind: int, flags: int, stream: int, payload: bytes = b"") -> bytes:
     return struct.pack(">I", len(payload))[1:] + struct.pack(">BBI", kind, flags, stream) + payload
 
 
-def begin(talk):
+def begin(talk: tls_talk.Talk) -> tls_talk.Talk:
     talk.shake_hands()
     talk.say(
         0,
@@ -33,28 +33,28 @@ def begin(talk):
     return talk
 
 
-def bulk(capture, pair, size):
+def bulk(capture: tls_talk.Capture, pair: tls_talk.Contexts, size: int) -> None:
     """A download in DATA frames of 16,384 bytes over full segments, records as large as they may be."""
     talk, part = begin(tls_talk.Talk(capture, pair)), frame(0, 0, 1, bytes(16384 - 9))
     for _ in range(size // len(part)):
         talk.say(1, part)
 
 
-def small(capture, pair, size):
+def small(capture: tls_talk.Capture, pair: tls_talk.Contexts, size: int) -> None:
     """Messages of 100 bytes, each in a record of its own, from both sides in turn."""
     talk, part = begin(tls_talk.Talk(capture, pair)), frame(0, 0, 1, bytes(91))
     for at in range(size // 200):
         talk.say(at % 2, part)
 
 
-def many(capture, pair, size):
+def many(capture: tls_talk.Capture, pair: tls_talk.Contexts, size: int) -> None:
     """Connections one after the other, each with a full handshake, a request and a response of 1,000 bytes."""
     for at in range(size // 5000):
         talk = begin(tls_talk.Talk(capture, pair, port=1024 + at % 64000))
         talk.say(1, frame(0, 1, 1, bytes(1000)))
 
 
-def main():
+def main() -> None:
     shape, megabytes, path, keys = sys.argv[1:]
     pathlib.Path(keys).write_bytes(b"")
     with tls_talk.temporary() as folder:

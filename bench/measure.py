@@ -75,9 +75,12 @@ def best(commands: list[list[str]], path: str, runs: int) -> list[Run]:
 def digest(program: str, path: str) -> bytes:
     """Of the report, which is not kept."""
     words = [program, "--workers", "1"]
+    report = hashlib.sha256()
     with open(path, "rb") as source, subprocess.Popen(words, stdin=source, stdout=subprocess.PIPE) as child:
         assert child.stdout
-        return hashlib.file_digest(child.stdout, "sha256").digest()
+        while part := child.stdout.read(1 << 20):
+            report.update(part)
+    return report.digest()
 
 
 def commands_of(programs: Programs) -> list[list[str]]:

@@ -1,9 +1,10 @@
 #!/usr/bin/env python3
 """Measures splitting and merging: split.py H2AUDIT SPLIT SHAPE MEGABYTES [--times K] [--parts N] [--frames]
 
-Generates a capture of this shape and size, names it K times as the files of one capture, splits that, audits the parts one after the
-other and merges their reports. Prints wall and processor seconds, megabytes a second of each and the peak of memory of each step, and
-says whether the merged report is that of the whole, where K is 1 and h2audit takes it. Nothing is kept.
+Generates a capture of this shape and size, names it K times as the files of one capture, splits that, audits the
+parts one after the other and merges their reports. Prints wall and processor seconds, megabytes a second of each and
+the peak of memory of each step, and says whether the merged report is that of the whole, where K is 1 and h2audit
+takes it. Nothing is kept.
 """
 import argparse
 import os
@@ -19,7 +20,7 @@ HERE = pathlib.Path(__file__).resolve().parent
 MERGE = HERE.parent / "tools" / "h2audit-merge"
 
 
-def timed(step, size, words, output):
+def timed(step: str, size: float, words: list[object], output: str | pathlib.Path) -> int:
     """Runs a step whose input or output has this size in megabytes, and prints what it took."""
     with open(output, "wb") as file:
         start = time.monotonic()
@@ -32,11 +33,11 @@ def timed(step, size, words, output):
     return child.returncode
 
 
-def megabytes(path):
+def megabytes(path: pathlib.Path) -> float:
     return path.stat().st_size / 1e6
 
 
-def main():
+def main() -> None:
     parser = argparse.ArgumentParser(description=__doc__.splitlines()[0])
     parser.add_argument("h2audit", type=pathlib.Path)
     parser.add_argument("split", type=pathlib.Path)

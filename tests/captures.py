@@ -1,8 +1,8 @@
 """Captures as scripts.
 
-The first line of a script says what the capture begins with: `empty` (a file header), `handshake` (records 1 and 2, a SYN and a SYN
-ACK), `opened` (records 1 to 6, both sides' SETTINGS and their acknowledgements too) or `bytes`. Each line after it is one record, and
-record n has the time n microseconds:
+The first line of a script says what the capture begins with: `empty` (a file header), `handshake` (records 1 and 2, a
+SYN and a SYN ACK), `opened` (records 1 to 6, both sides' SETTINGS and their acknowledgements too) or `bytes`. Each
+line after it is one record, and record n has the time n microseconds:
 
 - `C PAYLOAD` and `S PAYLOAD`: the next bytes of the client and of the server;
 - `C AT SEQ PAYLOAD` and `S AT SEQ PAYLOAD`: bytes at any sequence number;
@@ -12,8 +12,8 @@ record n has the time n microseconds:
 - `RECORD ORIGINAL HEX`: a packet of any bytes that had this length;
 - `SET OFFSET BYTE`: no record, but a byte of the packet before.
 
-A payload is a frame, as `DATA 1 16384`, or `PREFACE` and a frame, or `HEX` and bytes. After `bytes` each line is hex. Bytes of a frame
-that its words do not give are zero.
+A payload is a frame, as `DATA 1 16384`, or `PREFACE` and a frame, or `HEX` and bytes. After `bytes` each line is hex.
+Bytes of a frame that its words do not give are zero.
 """
 
 import struct
@@ -24,18 +24,19 @@ ETHERNET = bytes(12) + b"\x08\x00"
 CLIENT, SERVER = (0x0A000001, 40000), (0x0A000002, 80)
 SYN, SYN_ACK, ACK = 0x02, 0x12, 0x10
 END_STREAM, END_HEADERS, PADDED = 1, 4, 8
+Endpoint = tuple[int, int]  # address and port
 
 
-def frame(kind, flags, stream, payload=b""):
+def frame(kind: int, flags: int, stream: int, payload: bytes = b"") -> bytes:
     """The bytes of a frame (RFC 9113, 4.1)."""
     return len(payload).to_bytes(3, "big") + struct.pack(">BBI", kind, flags, stream) + payload
 
 
-def number(value):
+def number(value: int) -> bytes:
     return struct.pack(">I", value)
 
 
-def frame_of(words):
+def frame_of(words: list[str]) -> bytes:
     """The bytes of the frame that these words name."""
     name, *values = words
     last = END_STREAM if values[-1:] == ["END_STREAM"] else 0
@@ -67,7 +68,7 @@ def frame_of(words):
     raise ValueError(f"no frame: {' '.join(words)}")
 
 
-def payload_of(words):
+def payload_of(words: list[str]) -> bytes:
     match words:
         case []:
             return b""
@@ -78,8 +79,8 @@ def payload_of(words):
     return frame_of(words)
 
 
-def packet(source, target, seq, flags, payload=b""):
-    """A segment without options. Its total length is 0 where 16 bits do not hold it, as captures with segmentation offload have."""
+def packet(source: Endpoint, target: Endpoint, seq: int, flags: int, payload: bytes = b"") -> bytes:
+    """A segment without options. Its total length is 0 where 16 bits do not hold it, as offload leaves it."""
     total = 40 + len(payload)
     addresses, ports = (source[0], target[0]), (source[1], target[1])
     ip = struct.pack(">BBHIBBHII", 0x45, 0, total if total < 65536 else 0, 0, 64, 6, 0, *addresses)
@@ -92,31 +93,39 @@ HEADERS = len(packet(CLIENT, SERVER, 0, ACK))
 class Capture:
     """A capture that grows record by record. Its two sides, C and S, are those of one connection."""
 
-    def __init__(self):
+    def __init__(self) -> None:
         self.bytes = bytearray(FILE_HEADER)
         self.records = self.last = 0
         self.ends = {"C": (CLIENT, SERVER), "S": (SERVER, CLIENT)}
         self.next = {"C": 1001, "S": 5001}
 
-    def record(self, original, captured):
+    def record(self, original: int, captured: bytes) -> None:
         self.records += 1
         self.bytes += struct.pack("<IIII", 0, self.records, len(captured), original)
         self.last = len(self.bytes)
         self.bytes += captured
 
-    def segment(self, source, target, seq, flags, payload=b"", kept=None):
+    def segment(
+        self,
+        source: Endpoint,
+        target: Endpoint,
+        seq: int,
+        flags: int,
+        payload: bytes = b"",
+        kept: int | None = None,
+    ) -> None:
         whole = packet(source, target, seq, flags, payload)
         self.record(len(whole), whole if kept is None else whole[: HEADERS + kept])
 
-    def syn(self, side, seq, flags):
+    def syn(self, side: str, seq: int, flags: int) -> None:
         self.next[side] = seq + 1
         self.segment(*self.ends[side], seq, flags)
 
-    def send(self, side, payload, kept=None):
+    def send(self, side: str, payload: bytes, kept: int | None = None) -> None:
         self.segment(*self.ends[side], self.next[side], ACK, payload, kept)
         self.next[side] += len(payload)
 
-    def step(self, line):
+    def step(self, line: str) -> None:
         """Takes one line of a script."""
         match line.split():
             case []:
@@ -150,7 +159,7 @@ BEGINNINGS = {
 }
 
 
-def capture_of(script):
+def capture_of(script: str) -> bytes:
     """The bytes of the capture that a script spells."""
     first, _, steps = script.partition("\n")
     if first == "bytes":

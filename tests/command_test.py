@@ -1,5 +1,7 @@
 #!/usr/bin/env python3
-"""Calls the program with words, and compares its exit status, standard output and standard error: command_test.py PROGRAM.."""
+"""Calls the program with words, and compares its exit status, standard output and standard error:
+command_test.py PROGRAM..
+"""
 
 import pathlib
 import subprocess
@@ -41,12 +43,12 @@ REFUSED = [
 ]
 
 
-def call(program, folder, words, given):
+def call(program: pathlib.Path, folder: str, words: str, given: bytes) -> tuple[int, str, str]:
     ran = subprocess.run([program, *words.split()], cwd=folder, input=given, capture_output=True, timeout=60)
     return ran.returncode, ran.stdout.decode(), ran.stderr.decode()
 
 
-def differing(program, folder):
+def differing(program: pathlib.Path, folder: str) -> tuple[list[str], int]:
     """The calls that leave something else, and how many there were in all."""
     wrong = [words for words, given, wanted in CALLS if call(program, folder, words, given) != wanted]
     for words in REFUSED:
@@ -60,7 +62,7 @@ def differing(program, folder):
     return wrong, len(CALLS) + len(REFUSED) + 1
 
 
-def main(programs):
+def main(programs: list[str]) -> None:
     failed = passed = 0
     with tempfile.TemporaryDirectory() as folder:
         for name, content in FILES.items():

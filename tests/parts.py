@@ -1,4 +1,6 @@
-"""What h2audit-split has to make of a capture, written down from its description alone and slowly: the oracle of split_test.py."""
+"""What h2audit-split has to make of a capture, written down from its description alone and slowly: the oracle
+of split_test.py.
+"""
 
 import struct
 
@@ -7,13 +9,13 @@ RAW_IP = 101
 MULTIPLIER = 0x9E3779B97F4A7C15
 
 
-def numbers(capture):
+def numbers(capture: bytes) -> tuple[str, int]:
     """How a capture writes its numbers, and its link type."""
     order = "<" if capture[:4] in LITTLE else ">"
     return order, struct.unpack(order + "I", capture[20:24])[0] % 65536
 
 
-def records_of(capture):
+def records_of(capture: bytes) -> tuple[list[bytes], bytes]:
     """The records of a capture, and the rest that holds no whole one."""
     order, _ = numbers(capture)
     at, records = 24, []
@@ -26,7 +28,7 @@ def records_of(capture):
     return records, capture[at:]
 
 
-def endpoints_of(link, packet):
+def endpoints_of(link: int, packet: bytes) -> tuple[bytes, bytes] | None:
     """The two endpoints that the first 82 bytes of a packet name, or nothing."""
     front = packet[:82]
     start = 0
@@ -41,7 +43,7 @@ def endpoints_of(link, packet):
     return datagram[12:16] + segment[:2], datagram[16:20] + segment[2:4]
 
 
-def part_of(link, count, number, record):
+def part_of(link: int, count: int, number: int, record: bytes) -> int:
     """The part of a record with this number, counted from 0."""
     pair = endpoints_of(link, record[16:])
     if pair is None:
@@ -50,11 +52,11 @@ def part_of(link, count, number, record):
     return key * MULTIPLIER % 2**64 // 2**32 % count
 
 
-def parts_of(capture, count):
+def parts_of(capture: bytes, count: int) -> list[tuple[bytes, bytes]]:
     """For each part its capture and the numbers of its records, as h2audit-split writes both."""
     _, link = numbers(capture)
     records, rest = records_of(capture)
-    parts = [([capture[:24]], []) for _ in range(count)]
+    parts: list[tuple[list[bytes], list[bytes]]] = [([capture[:24]], []) for _ in range(count)]
     for number, record in enumerate(records + ([rest] if rest else []), 1):
         packets, places = parts[part_of(link, count, number, record)]
         packets.append(record)

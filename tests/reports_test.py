@@ -1,57 +1,58 @@
 #!/usr/bin/env python3
 """Audits whole captures by the program, in each mix of workers, groups and block lengths: reports_test.py PROGRAM..
 
-A file of reports/ has rows. A row begins with a line `== NAME`. Its script follows (captures.py says how it is written), then
-`-- status N` with the exit status, what standard error says, and the report with its credit lines: the report without them is the
-rest. Where the status line begins `-- findings`, the row has the report without credit lines alone. Empty lines and those that begin
-with `#` say nothing. The reports were written by hand, from the description of the report and from the rules of the audit; none was
-taken from the program.
+A file of reports/ has rows. A row begins with a line `== NAME`. Its script follows (captures.py says how it is
+written), then `-- status N` with the exit status, what standard error says, and the report with its credit lines: the
+report without them is the rest. Where the status line begins `-- findings`, the row has the report without credit
+lines alone. Empty lines and those that begin with `#` say nothing. The reports were written by hand, from the
+description of the report and from the rules of the audit; none was taken from the program.
 
-The report of examples/NAME.pcap is NAME.report, and with credit lines NAME.frames.report. Where there is NAME.script, the capture has
-the bytes that it spells. Captures that are too long to be written out have reports that a rule gives.
+The report of examples/NAME.pcap is NAME.report, and with credit lines NAME.frames.report. Where there is NAME.script,
+the capture has the bytes that it spells. Captures that are too long to be written out have reports that a rule gives.
 """
 
+import functools
 import itertools
 import os
 import pathlib
 import subprocess
 import sys
+from collections.abc import Callable, Iterator
 from concurrent.futures import ThreadPoolExecutor
 
 from captures import Capture, capture_of, frame_of
 
 TOP = pathlib.Path(__file__).resolve().parents[1]
 EXAMPLES = TOP / "examples"
+Test = Callable[[str], bool]  # whether a program passes it
 
-# Numbers of workers, of groups, and of frames in a block: the least of each, some between, the most that matter here. Three
-# workers and five are halved unevenly.
+# Numbers of workers, of groups, and of frames in a block: the least of each, some between, the most that matter here.
+# Three workers and five are halved unevenly.
 MIXES = list(itertools.product((1, 2, 3, 5, 64), (1, 3, 1024), (1, 2, 4096)))
 
 # The captures of examples/ whose exit status is 1: one side or the other broke the connection.
 FAULTY = {"connection_overflow_nginx", "stream_overrun_go", "use_after_reset", "zero_increment_nginx"}
 
 
-def answer_of(program, words, capture):
+def answer_of(program: str, words: list[str], capture: bytes) -> str:
     """What a run leaves, line by line: its exit status, what standard error says, and the report."""
     ran = subprocess.run([program, *words], input=capture, capture_output=True, timeout=60)
     return f"status {ran.returncode}\n{ran.stderr.decode()}{ran.stdout.decode()}"
 
 
-def always_answers(program, capture, wanted, *words):
+def always_answers(program: str, capture: bytes, wanted: str, *words: str) -> bool:
     """Whether a run leaves this answer in each mix."""
-    return all(
-        answer_of(program, [*words, f"--workers={workers}", f"--groups={groups}", f"--block={block}"], capture) == wanted
-        for workers, groups, block in MIXES
-    )
+    mixes = [[f"--workers={workers}", f"--groups={groups}", f"--block={block}"] for workers, groups, block in MIXES]
+    return all(answer_of(program, [*words, *mix], capture) == wanted for mix in mixes)
 
 
-def lines_of(text, credits_shown):
+def lines_of(text: str, credits_shown: bool) -> str:
     """The lines of a text that say something; those of credit only where they are shown."""
     lines = [line for line in text.splitlines() if line and not line.startswith("#")]
     return "".join(f"{line}\n" for line in lines if credits_shown or "-credit stream " not in line)
 
 
-def row(program, text):
+def row(program: str, text: str) -> bool:
     """Whether the capture of a row has the answer that the row asks for."""
     script, _, wanted = text.partition("-- ")
     capture, findings = capture_of(script), wanted.removeprefix("findings ")
@@ -60,7 +61,7 @@ def row(program, text):
     )
 
 
-def rows():
+def rows() -> Iterator[tuple[str, str]]:
     """Each row of the files, by its name."""
     for file in sorted(TOP.glob("tests/reports/*.rows")):
         for text in file.read_text().split("== ")[1:]:
@@ -68,7 +69,7 @@ def rows():
             yield name, rest
 
 
-def example(program, capture):
+def example(program: str, capture: pathlib.Path) -> bool:
     """Whether the reports of a capture of examples/ are those that stand beside it."""
     status = f"status {int(capture.stem in FAULTY)}\n"
     script = capture.with_suffix(".script")
@@ -81,13 +82,14 @@ def example(program, capture):
     )
 
 
-def many_frames(program):
+def many_frames(program: str) -> bool:
     """13,606 frames in more than 33 MiB: the capture is held in 34 parts of 1 MiB, and the text grows often.
 
     A stream sends 6,800 DATA frames of 5,000 bytes, each granted back to the connection at once.
     """
     rounds = range(6800)
-    capture = capture_of("opened\nC HEADERS 1\nS WINDOW_UPDATE 1 36000000\n" + 6800 * "C DATA 1 5000\nS WINDOW_UPDATE 0 5000\n")
+    opening, turn = "opened\nC HEADERS 1\nS WINDOW_UPDATE 1 36000000\n", "C DATA 1 5000\nS WINDOW_UPDATE 0 5000\n"
+    capture = capture_of(opening + 6800 * turn)
     wanted = """status 0
 capture records 13608 segments 13608 snapped 0 not-ipv4 0 fragments 0 not-tcp 0 refused 0
 connection 1 client 10.0.0.1:40000 server 10.0.0.2:80 record 1 http2 frames 13606
@@ -103,11 +105,12 @@ frame {frame} record {frame + 2} time {frame + 2}000 client connection-credit st
 frame {frame} record {frame + 2} time {frame + 2}000 client stream-credit stream 1 value {left}
 frame {frame + 1} record {frame + 3} time {frame + 3}000 client connection-credit stream 0 value 65535
 """
-    return len(capture) > 33 * 1048576 and always_answers(program, capture, wanted + "audit of all frames\n", "--frames")
+    wanted += "audit of all frames\n"
+    return len(capture) > 33 * 1048576 and always_answers(program, capture, wanted, "--frames")
 
 
-def long_with_error(program, frame):
-    """A connection of 5,000 frames whose error stands at this one: a front of 156 frames is gone through by itself first."""
+def long_with_error(program: str, frame: int) -> bool:
+    """A connection of 5,000 frames with an error at this one: a front of 156 frames goes through by itself first."""
     data = "C DATA 1 1\n"
     script = f"opened\nC HEADERS 1\n{data * (frame - 6)}S WINDOW_UPDATE 9 1\n{data * (5000 - frame)}"
     wanted = f"""status 1
@@ -121,15 +124,15 @@ audit stopped at frame {frame}
     return always_answers(program, capture_of(script), wanted)
 
 
-def error_in_front(program):
+def error_in_front(program: str) -> bool:
     return long_with_error(program, 101)
 
 
-def error_past_front(program):
+def error_past_front(program: str) -> bool:
     return long_with_error(program, 4001)
 
 
-def many_openings(program):
+def many_openings(program: str) -> bool:
     """1,000 SYNs with numbers of their own are a connection each."""
     numbers = range(1, 1001)
     wanted = "status 0\ncapture records 1000 segments 1000 snapped 0 not-ipv4 0 fragments 0 not-tcp 0 refused 0\n"
@@ -142,7 +145,7 @@ flow server bytes 0 gap none tail 0
     return always_answers(program, capture_of("empty\n" + "".join(f"SYN {number}\n" for number in numbers)), wanted)
 
 
-def never_opened(program):
+def never_opened(program: str) -> bool:
     """1,024 streams that were never opened, the greatest first: the first frame's finding stands alone."""
     script = "opened\n" + "".join(f"S WINDOW_UPDATE {stream} 1\n" for stream in range(2047, 0, -2))
     wanted = """status 1
@@ -156,8 +159,8 @@ audit stopped at frame 5
     return always_answers(program, capture_of(script), wanted)
 
 
-def each_prefix(program):
-    """A prefix below a file header is refused. Every other has a report, and says whether a record was cut and a stall is open."""
+def each_prefix(program: str) -> bool:
+    """A prefix below a file header is refused. Every other one has a report: was a record cut, is a stall open?"""
     script = "opened\nC HEADERS 1\nC DATA 1 100\nS SETTINGS 4 0\nC ACK\nS WINDOW_UPDATE 1 100\nS WINDOW_UPDATE 1 1\n"
     capture = capture_of(script)
     # The lengths at which the capture ends with a whole record.
@@ -168,7 +171,7 @@ stall client stream 1 from 8 open
 audit of all frames
 """
 
-    def is_told(length):
+    def is_told(length: int) -> bool:
         text = answer_of(program, ["--workers=1", "--groups=1", "--block=1"], capture[:length])
         if length < 24:
             return text == "status 3\nh2audit: capture refused: short-header\n"
@@ -178,7 +181,7 @@ audit of all frames
     return len(capture) == 1092 and all(is_told(length) for length in range(1093))
 
 
-def spelling(_program):
+def spelling(_program: str) -> bool:
     """Scripts spell the bytes that were written out by hand."""
     handshake = """
         d4c3b2a1 0200 0400 00000000 00000000 00000400 01000000
@@ -208,20 +211,20 @@ def spelling(_program):
     )
 
 
-def tests():
+def tests() -> Iterator[tuple[str, Test]]:
     """Each test's name, and what answers whether it is passed."""
     for test in (spelling, many_frames, error_in_front, error_past_front, many_openings, never_opened, each_prefix):
         yield test.__name__, test
     for name, text in rows():
-        yield name, lambda program, text=text: row(program, text)
+        yield name, functools.partial(row, text=text)
     for capture in sorted(EXAMPLES.glob("*.pcap")):
-        yield capture.stem, lambda program, capture=capture: example(program, capture)
+        yield capture.stem, functools.partial(example, capture=capture)
 
 
-def main(programs):
+def main(programs: list[str]) -> None:
     named = [(f"{name} of {program}", test, program) for program in programs for name, test in tests()]
     with ThreadPoolExecutor(os.cpu_count()) as pool:
-        answers = list(pool.map(lambda it: it[1](it[2]), named))
+        answers = [ended.result() for ended in [pool.submit(test, program) for _, test, program in named]]
     differing = [name for (name, _, _), same in zip(named, answers) if not same]
     for name in differing:
         print(f"{name}: differs")

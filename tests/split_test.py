@@ -1,17 +1,19 @@
 #!/usr/bin/env python3
 """Splits captures, audits the parts and merges their reports: split_test.py H2AUDIT SPLIT..
 
-Each part has to be what parts.py makes of the capture, byte for byte, and the merged report has to be that of h2audit over the whole
-capture. The captures are those of examples/ and random ones, with every kind of packet and with records that are cut, damaged or
-longer than the splitter's buffer.
+Each part has to be what parts.py makes of the capture, byte for byte, and the merged report has to be that of h2audit
+over the whole capture. The captures are those of examples/ and random ones, with every kind of packet and with
+records that are cut, damaged or longer than the splitter's buffer.
 """
 
 import pathlib
 import random
+import shutil
 import struct
 import subprocess
 import sys
 import tempfile
+from collections.abc import Iterator
 
 from parts import parts_of, records_of
 
@@ -25,34 +27,38 @@ MAGICS = {"<": (0xA1B2C3D4, 0xA1B23C4D), ">": (0xA1B2C3D4, 0xA1B23C4D)}
 LONG = 300_000
 
 
-def header_of(order, magic, link):
+def header_of(order: str, magic: int, link: int) -> bytes:
     return struct.pack(order + "IHHIIII", magic, 2, 4, 0, 0, 262144, link)
 
 
-def record_of(order, number, packet, original=None):
-    return struct.pack(order + "IIII", 1_700_000_000 + number, number % 1000, len(packet), original or len(packet)) + packet
+def record_of(order: str, number: int, packet: bytes, original: int | None = None) -> bytes:
+    seconds, fraction = 1_700_000_000 + number, number % 1000
+    return struct.pack(order + "IIII", seconds, fraction, len(packet), original or len(packet)) + packet
 
 
-def datagram_of(source, target, protocol, payload, flags=0, total=None):
+def datagram_of(
+    source: int, target: int, protocol: int, payload: bytes, flags: int = 0, total: int | None = None
+) -> bytes:
     size = 20 + len(payload) if total is None else total
     head = struct.pack(">BBHHHBBH", 0x45, 0, size % 65536, 0, flags, 64, protocol, 0)
     return head + struct.pack(">II", source, target) + payload
 
 
-def segment_of(ports, sequence, flags, payload=b""):
+def segment_of(ports: tuple[int, int], sequence: int, flags: int, payload: bytes = b"") -> bytes:
     return struct.pack(">HHIIBBHHH", *ports, sequence % 2**32, 0, 0x50, flags, 65535, 0, 0) + payload
 
 
 class Traffic:
     """Random packets of a dozen connections, and others."""
 
-    def __init__(self, seed):
+    def __init__(self, seed: int) -> None:
         self.random = random.Random(seed)
-        self.sent = {}
+        self.sent: dict[tuple[tuple[int, int], tuple[int, int]], int] = {}
 
-    def tcp(self):
+    def tcp(self) -> bytes:
         dice = self.random
-        client, server = (0x0A000000 + dice.randrange(3), 40000 + dice.randrange(4)), (0x0A000100, 80 + dice.randrange(2))
+        client = 0x0A000000 + dice.randrange(3), 40000 + dice.randrange(4)
+        server = 0x0A000100, 80 + dice.randrange(2)
         sides = (client, server) if dice.random() < 0.6 else (server, client)
         (source, from_port), (target, to_port) = sides
         begun = self.sent.setdefault(sides, 0)
@@ -68,7 +74,7 @@ class Traffic:
             self.sent[sides] = max(begun, 1) + len(payload)
         return datagram_of(source, target, 6, segment_of((from_port, to_port), begun, flags, payload))
 
-    def other(self):
+    def other(self) -> bytes:
         dice = self.random
         kind = dice.randrange(6)
         source = 0x0A000000 + dice.randrange(3)
@@ -85,7 +91,7 @@ class Traffic:
             return datagram_of(source, 0x0A000100, 6, segment, total=dice.randrange(90))
         return datagram_of(0x0A000002, 0x0A000100, 6, segment_of((40001, 81), 9, 0x10, bytes(LONG)), total=0)
 
-    def capture(self, order, magic, link, count):
+    def capture(self, order: str, magic: int, link: int, count: int) -> bytes:
         dice = self.random
         records = []
         for number in range(count):
@@ -100,7 +106,7 @@ class Traffic:
         return header_of(order, magic, link) + b"".join(records)
 
 
-def random_captures():
+def random_captures() -> Iterator[tuple[str, bytes]]:
     """Whole captures in each format, then cut and damaged ones."""
     for seed, order in enumerate("<><>"):
         link = (1, 101, 101, 1)[seed]
@@ -116,7 +122,7 @@ def random_captures():
             yield f"random {seed} damaged {turn}", bytes(damaged)
 
 
-def passed_over_first():
+def passed_over_first() -> bytes:
     """Pairs that never open, of which packets that are passed over come first, in another order than their segments."""
     pairs = [(0x0A000000 + place, segment_of((50000 + place, 80), 1, 0x10, bytes(8))) for place in range(8)]
     fragments = [datagram_of(source, 0x0A000100, 6, segment, flags=0x2000) for source, segment in reversed(pairs)]
@@ -126,7 +132,7 @@ def passed_over_first():
     return header_of("<", 0xA1B2C3D4, 101) + b"".join(record_of("<", number, packet) for number, packet in packets)
 
 
-def captures():
+def captures() -> Iterator[tuple[str, bytes]]:
     for path in sorted((TOP / "examples").glob("*.pcap")):
         yield path.stem, path.read_bytes()
     # Once for each number of parts.
@@ -135,17 +141,17 @@ def captures():
     yield from random_captures()
 
 
-def run(*words, given=None):
+def run(*words: object, given: bytes | None = None) -> tuple[int, bytes, bytes]:
     ran = subprocess.run([str(word) for word in words], input=given, capture_output=True, timeout=120)
     return ran.returncode, ran.stdout, ran.stderr
 
 
-def read_parts(folder, count):
-    return [tuple((folder / f"part-{number:03}.{kind}").read_bytes() for kind in ("pcap", "records"))
-            for number in range(1, count + 1)]
+def read_parts(folder: pathlib.Path, count: int) -> list[tuple[bytes, bytes]]:
+    parts = [folder / f"part-{number:03}.pcap" for number in range(1, count + 1)]
+    return [(part.read_bytes(), part.with_suffix(".records").read_bytes()) for part in parts]
 
 
-def split(program, folder, count, capture, pieces):
+def split(program: pathlib.Path, folder: pathlib.Path, count: int, capture: bytes, pieces: list[bytes]) -> pathlib.Path:
     """Splits a capture, which is given in one file, in several, or on standard input where there is none."""
     paths = []
     for index, piece in enumerate(pieces):
@@ -156,7 +162,7 @@ def split(program, folder, count, capture, pieces):
     return folder / "parts"
 
 
-def merged(program, parts, count, words):
+def merged(program: pathlib.Path, parts: pathlib.Path, count: int, words: list[str]) -> tuple[int, bytes, bytes]:
     for number in range(1, count + 1):
         status, report, said = run(program, *words, parts / f"part-{number:03}.pcap")
         assert status in (0, 1) and not said, said
@@ -164,7 +170,7 @@ def merged(program, parts, count, words):
     return run(MERGE, parts)
 
 
-def rotated(capture):
+def rotated(capture: bytes) -> list[bytes]:
     """The capture in three files, each with the header."""
     records, rest = records_of(capture)
     third = len(records) // 3
@@ -172,10 +178,11 @@ def rotated(capture):
     return [capture[:24] + body for body in bodies]
 
 
-def check_capture(audit, program, name, capture, turn):
+def check_capture(audit: pathlib.Path, program: pathlib.Path, name: str, capture: bytes, turn: int) -> list[str]:
     """Compares parts and merged reports of one capture."""
     count = (1, 2, 3, 5, 16)[turn % 5]
-    pieces = ([capture], rotated(capture), [])[turn % 3]
+    forms: tuple[list[bytes], ...] = ([capture], rotated(capture), [])
+    pieces = forms[turn % 3]
     words = ["--frames"] if turn % 2 else []
     with tempfile.TemporaryDirectory() as made:
         folder = pathlib.Path(made)
@@ -188,14 +195,15 @@ def check_capture(audit, program, name, capture, turn):
     return []
 
 
-def refusals(program):
+def refusals(program: pathlib.Path) -> list[str]:
     """What is refused: words, files, and what the program says."""
     little, big = header_of("<", 0xA1B2C3D4, 1), header_of(">", 0xA1B2C3D4, 1)
     nanos, raw = header_of("<", 0xA1B23C4D, 1), header_of("<", 0xA1B2C3D4, 101)
     record = record_of("<", 1, bytes(60))
     files = {
-        "good": little + record, "cut": little + record[:-1], "big": big, "nanos": nanos, "raw": raw, "short": little[:23],
-        "magic": b"notes" * 8, "version": little[:4] + b"\x03" + little[5:], "cooked": header_of("<", 0xA1B2C3D4, 113),
+        "good": little + record, "cut": little + record[:-1], "big": big, "nanos": nanos, "raw": raw,
+        "short": little[:23], "magic": b"notes" * 8, "version": little[:4] + b"\x03" + little[5:],
+        "cooked": header_of("<", 0xA1B2C3D4, 113),
     }
     calls = [
         ("--parts 2 -o out good cut", 0, ""),
@@ -229,37 +237,45 @@ def refusals(program):
     return wrong
 
 
-def merge_refusals(audit, program):
+def merge_refusals(audit: pathlib.Path, program: pathlib.Path) -> list[str]:
     """What h2audit-merge says of folders in which something is missing or does not fit."""
     capture = passed_over_first() + Traffic(9).capture("<", 0xA1B2C3D4, 101, 200)[24:]
-    damages = [
-        (lambda parts: (parts / "split.txt").unlink(), "no split.txt"),
-        (lambda parts: (parts / "split.txt").write_bytes(b"parts 3\n"), "is no summary"),
-        (lambda parts: (parts / "split.txt").write_text("h2audit-split 1\nparts 3\npart 2 refused too-large\n"), "part 2 was refused"),
-        (lambda parts: (parts / "part-002.report").unlink(), "part-002.report is missing"),
-        (lambda parts: (parts / "part-002.report").write_bytes(b""), "line 1 is not"),
-        (lambda parts: (parts / "part-002.report").write_bytes((parts / "part-001.report").read_bytes()), "is not"),
-        (lambda parts: (parts / "part-002.report").write_bytes((parts / "part-002.report").read_bytes()[:-9]), "is not one of"),
-        (lambda parts: (parts / "part-003.records").write_bytes(b"1234567"), "is no list"),
-        (lambda parts: (parts / "part-003.records").write_bytes(b""), "is not the report of this part"),
-        (lambda parts: (parts / "part-001.pcap").write_bytes(b""), "has no file header"),
-        (lambda parts: (parts / "part-001.pcap").write_bytes(capture[:24]), "is not one of"),
-    ]
     wrong = []
-    for damage, text in damages:
-        with tempfile.TemporaryDirectory() as made:
-            parts = split(program, pathlib.Path(made), 3, capture, [])
-            merged(audit, parts, 3, [])
-            damage(parts)
+    with tempfile.TemporaryDirectory() as made:
+        whole, parts = split(program, pathlib.Path(made), 3, capture, []), pathlib.Path(made, "damaged")
+        merged(audit, whole, 3, [])
+        for name, content, text in damages_of(whole):
+            shutil.copytree(whole, parts)
+            (parts / name).unlink()
+            if content is not None:
+                (parts / name).write_bytes(content)
             status, _, said = run(MERGE, parts)
             if status != 3 or text not in said.decode() or said.count(b"\n") != 1:
                 wrong.append(f"merge, {text}: {status} {said.decode()!r}")
+            shutil.rmtree(parts)
     return wrong
 
 
-def main(audit, programs):
-    wrong = []
-    audit, programs = pathlib.Path(audit).resolve(), [pathlib.Path(program).resolve() for program in programs]
+def damages_of(parts: pathlib.Path) -> list[tuple[str, bytes | None, str]]:
+    """A file, what it holds instead, or None where it is missing, and what h2audit-merge says of it."""
+    first, second = ((parts / f"part-00{number}.report").read_bytes() for number in (1, 2))
+    return [
+        ("split.txt", None, "no split.txt"),
+        ("split.txt", b"parts 3\n", "is no summary"),
+        ("split.txt", b"h2audit-split 1\nparts 3\npart 2 refused too-large\n", "part 2 was refused"),
+        ("part-002.report", None, "part-002.report is missing"),
+        ("part-002.report", b"", "line 1 is not"),
+        ("part-002.report", first, "is not"),
+        ("part-002.report", second[:-9], "is not one of"),
+        ("part-003.records", b"1234567", "is no list"),
+        ("part-003.records", b"", "is not the report of this part"),
+        ("part-001.pcap", b"", "has no file header"),
+        ("part-001.pcap", (parts / "part-001.pcap").read_bytes()[:24], "is not one of"),
+    ]
+
+
+def main(audit: pathlib.Path, programs: list[pathlib.Path]) -> int:
+    wrong: list[str] = []
     count = 0
     for program in programs:
         wrong += refusals(program) + merge_refusals(audit, program)
@@ -273,4 +289,5 @@ def main(audit, programs):
 
 
 if __name__ == "__main__":
-    sys.exit(main(sys.argv[1], sys.argv[2:]))
+    audit, *programs = [pathlib.Path(word).resolve() for word in sys.argv[1:]]
+    sys.exit(main(audit, programs))

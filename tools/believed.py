@@ -5,7 +5,7 @@ calls, and then what those of the splitter rest on beside them.
     python3 tools/believed.py            prints each module that is reached, and in it each definition with its lines
     python3 tools/believed.py --write    puts list and sums into README.md and docs/PROOFS.md
     python3 tools/believed.py --check    fails where these two say something else
-    python3 tools/believed.py --used     marks the modules that standard input names, one in a line (by-definition --modules)
+    python3 tools/believed.py --used     marks the modules that standard input names in lines (by-definition --modules)
 
 It begins at the names in the contracts of the calls that the programs make (CALLS, SPLITTER_CALLS) and in the views of
 the types that these contracts show (VIEWS), and follows each name to its definition, by the imports of the file in
@@ -174,7 +174,7 @@ def words_of(text: str) -> set[str]:
 class Reading:
     """What is reached from some names: modules, each with the definitions that are reached in it."""
 
-    def __init__(self, crates: pathlib.Path):
+    def __init__(self, crates: pathlib.Path) -> None:
         self.crates = crates
         self.read: dict[pathlib.Path, Module] = {}
         self.reached: dict[pathlib.Path, set[str]] = {}

@@ -92,5 +92,5 @@ def unpacked(capture: BinaryIO) -> BinaryIO:
     begin = capture.read(4)
     whole = io.BufferedReader(Rejoined(begin, capture), BUFFER)
     if begin.startswith(GZIP):
-        return io.BufferedReader(Unzipped(whole), BUFFER)  # type: ignore[arg-type]
-    return io.BufferedReader(Expanded(whole), BUFFER) if begin == ZSTD else whole  # type: ignore[arg-type]
+        return io.BufferedReader(Unzipped(whole), BUFFER)
+    return io.BufferedReader(Expanded(whole), BUFFER) if begin == ZSTD else whole

@@ -5,12 +5,14 @@ is shown by a witness: the value that an equation gives, or one that `propose` s
 Whatever is proposed, a claim that it does not bear out is not shown; since another witness might, it is not refuted.
 """
 
-from typing import Callable, Iterable, NamedTuple
+from collections.abc import Callable, Iterable
+from functools import partial
+from typing import NamedTuple
 
-from .ranges import answers
+from .ranges import Range, answers
 from .values import Data, Function, Hole, Joined, Made, NotYet, Stuck, Value
 
-Values = list  # the values at hand, by their places
+Values = list[Value]  # the values at hand, by their places
 Claim = Callable[[Values], Value]
 
 
@@ -116,7 +118,7 @@ class Claims:
     def some(self, factor: Factor, factors: list[Factor], values: Values) -> bool | None:
         """Whether the factors hold of some number."""
 
-        def claim(number):
+        def claim(number: int | Range) -> Value:
             values[factor.place] = number
             return self.aside(self.holds, factors, values)
 
@@ -126,7 +128,7 @@ class Claims:
         """Whether a claim holds of all values of a type; of no number, where it need not look at the value."""
         if kind.name != "ℕ":
             return self.aside(claim, Hole(None))
-        for found in answers(lambda number: self.aside(claim, number)):
+        for found in answers(partial(self.aside, claim)):
             if found is not True:
                 return found
         return True

@@ -9,7 +9,7 @@ from operator import itemgetter
 from typing import Any, Callable, NoReturn, Sequence
 
 from .claims import Claim, Claims, Factor, Values
-from .ranges import Remembering
+from .ranges import Kept, Key, Remembering
 from .reading import Function as Clauses
 from .reading import Module, Record, Term, Unreadable, read
 from .values import Data, Function, Made, Stuck, Value, apply, filled, known
@@ -22,7 +22,7 @@ CONSTANTS: dict[str, Value] = {"true": True, "false": False, "zero": 0, "[]": ()
 class Scope:
     """The names of a clause, each with its place among the values at hand."""
 
-    def __init__(self, module: Module, owner: str, names: dict[str, int], size: int):
+    def __init__(self, module: Module, owner: str, names: dict[str, int], size: int) -> None:
         self.module, self.owner, self.names, self.size = module, owner, dict(names), size
 
     def place(self, name: str) -> int:
@@ -39,13 +39,13 @@ class Scope:
 class Definitions(Claims):
     """The definitions in a folder of crates."""
 
-    def __init__(self, folder: pathlib.Path):
+    def __init__(self, folder: pathlib.Path) -> None:
         super().__init__()
         self.folder = folder
         self.modules: dict[str, Module] = {}
         self.meanings: dict[tuple[str, str], Value | None] = {}
         self.used: set[str] = set()  # the modules of what was evaluated
-        self.kept: dict[tuple, tuple] = {}  # what functions that recur gave
+        self.kept: dict[Key, Kept] = {}  # what functions that recur gave
 
     # ---- names
 
@@ -97,7 +97,7 @@ class Definitions(Claims):
         name, behind = (term.parts[0].parts[0], term.parts[1]) if term.kind == "field" else (term.parts[0], None)
         path, inner = module.uses.get(name, ((), None))
         found = inner or behind
-        if found in ("◌∷◌", "suc", None) or found in CONSTANTS:
+        if found is None or found in ("◌∷◌", "suc", *CONSTANTS):
             return "◌∷◌" if name == "◌∷◌" else found
         meaning = self.imported(path, found)
         if meaning is None:
@@ -113,11 +113,11 @@ class Definitions(Claims):
         clauses, size = [], 0
         for patterns, body in definition.clauses:
             scope = Scope(module, definition.name, {}, arity)
-            tests = [(place, self.pattern(pattern, scope, place)) for place, pattern in enumerate(patterns)]
+            tests = [(place, self.argument(pattern, scope, place)) for place, pattern in enumerate(patterns)]
             clauses.append(([(place, test) for place, test in tests if test], self.term(body, scope)))
             size = max(size, scope.size)
 
-        def run(*arguments):
+        def run(*arguments: Value) -> Value:
             self.used.add(module.name)
             values = [*arguments, *[None] * (size - arity)]
             for tests, body in clauses:
@@ -128,28 +128,27 @@ class Definitions(Claims):
                     return body(values)
             raise Stuck(f"{module.name}: no clause of {definition.name} for {arguments}")
 
-        recurs = any(mentions(body, {definition.name, *LOOPS}) for _, body in definition.clauses)
-        function.run = Remembering(run, self.kept, number_in(definition)) if recurs else run
+        function.run = run
+        if any(mentions(body, {definition.name, *LOOPS}) for _, body in definition.clauses):
+            function.run = Remembering(run, self.kept, number_in(definition))
         return function if arity else run()
 
-    def pattern(self, pattern: Term, scope: Scope, place: int | None = None) -> Test | None:
-        """Whether a value has a form; None for any value, which has its place among the values at hand already."""
+    def argument(self, pattern: Term, scope: Scope, place: int) -> Test | None:
+        """Whether an argument has a form; None for any value, which has its place among the values at hand already."""
+        if pattern.kind != "name" or self.constructor(scope.module, pattern):
+            return self.pattern(pattern, scope)
+        scope.names[pattern.parts[0]] = place
+        return None
+
+    def pattern(self, pattern: Term, scope: Scope) -> Test:
+        """Whether a value has a form. What it names is put among the values at hand."""
         head, parts = pattern.parts if pattern.kind == "call" else (pattern, ())
         name = self.constructor(scope.module, head)
-        if name is None:
-            if pattern.kind != "name":
-                scope.fail(pattern, "no pattern of the language")
-            if place is not None:
-                scope.names[pattern.parts[0]] = place
-                return None
-            return put(scope.place(pattern.parts[0]))
-        tests = [self.pattern(part, scope) for part in parts]
-
-        def test(value, values):
-            found = parts_of(name, value if type(value) is Made else known(value))
-            return found is not None and all([test(part, values) for test, part in zip(tests, found, strict=True)])
-
-        return test
+        if name:
+            return made_by(name, [self.pattern(part, scope) for part in parts])
+        if pattern.kind != "name":
+            scope.fail(pattern, "no pattern of the language")
+        return put(scope.place(pattern.parts[0]))
 
     def record(self, module: Module, definition: Record) -> Value:
         scope = Scope(module, definition.name, {}, 0)
@@ -157,7 +156,7 @@ class Definitions(Claims):
             scope.place(parameter)
         arity, factors = scope.size, self.factors(definition.fields, scope)
 
-        def run(*arguments):
+        def run(*arguments: Value) -> Value:
             self.used.add(module.name)
             return self.holds(factors, [*arguments, *[None] * (scope.size - arity)])
 
@@ -169,7 +168,8 @@ class Definitions(Claims):
 
     def term(self, term: Term, scope: Scope) -> Claim:
         """What gives the term's value, from the values at hand."""
-        return getattr(self, "term_" + term.kind.replace(" ", "_"))(term, scope, *term.parts)
+        made: Claim = getattr(self, "term_" + term.kind.replace(" ", "_"))(term, scope, *term.parts)
+        return made
 
     def term_name(self, term: Term, scope: Scope, name: str) -> Claim:
         if name in scope.names:
@@ -197,7 +197,7 @@ class Definitions(Claims):
             return (lambda values: found) if found is not None else scope.fail(term, f"{label} has no meaning here")
         whole = self.term(of, scope)
 
-        def field(values):
+        def field(values: Values) -> Value:
             value = known(whole(values))
             if type(value) is not dict or label not in value:
                 raise Stuck(f"{scope.module.name}:{term.line}: no field {label} in {value}")
@@ -210,7 +210,7 @@ class Definitions(Claims):
         place = inner.place(name)
         rest, scope.size = self.term(body, inner), inner.size
 
-        def let(values):
+        def let(values: Values) -> Value:
             values[place] = given(values)
             return rest(values)
 
@@ -274,10 +274,10 @@ class Definitions(Claims):
         rest = self.term(term._replace(parts=(others, body)) if others else body, inner)
         scope.size = inner.size
 
-        def claim(values):
+        def claim(values: Values) -> Value:
             found = self.aside(condition, values)
 
-            def of(value):
+            def of(value: Value) -> Value:
                 values[place] = value
                 return rest(values)
 
@@ -314,7 +314,19 @@ def parts_of(name: str, value: Value) -> Sequence[Value] | None:
     return value.parts if value.name == name else None
 
 
+def made_by(name: str, tests: list[Test]) -> Test:
+    """Whether a constructor of this name made a value, of parts that have the forms of its own parts."""
+
+    def test(value: Value, values: Values) -> bool:
+        found = parts_of(name, value if type(value) is Made else known(value))
+        return found is not None and all([test(part, values) for test, part in zip(tests, found, strict=True)])
+
+    return test
+
+
 def put(place: int) -> Test:
+    """Any value, which has this place among the values at hand."""
+
     def test(value: Value, values: Values) -> bool:
         values[place] = filled(value)
         return True

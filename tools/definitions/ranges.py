@@ -6,11 +6,14 @@ a matter of its cases.
 """
 
 import itertools
-from typing import Callable, Iterator
+from collections.abc import Callable, Iterator
+from typing import NoReturn
 
 from .values import Value
 
 EVER = float("inf")
+Key = tuple[Value, ...]  # a function, and what stands for each of its arguments
+Kept = tuple[tuple[Value, ...], Value]  # arguments, and what the function gave for them
 PIECES = 100_000  # a claim of more pieces is not shown
 VARIABLES = itertools.count()
 
@@ -18,82 +21,83 @@ VARIABLES = itertools.count()
 class Split(Exception):
     """A question with more than one answer on a range: it is asked anew on both sides of `at`, or number by number."""
 
-    def __init__(self, variable: int, at: int | None = None):
+    def __init__(self, variable: int, at: int | None = None) -> None:
         self.variable, self.at = variable, at
 
 
 class AtOnce:
     """Something of each number of a range at once. What has no rule of its own is asked number by number."""
 
-    def __init__(self, variable: int):
+    def __init__(self, variable: int) -> None:
         self.variable = variable
 
-    def each(self, *_):
+    def each(self, *_: Value) -> NoReturn:
         raise Split(self.variable)
 
-    __eq__ = __lt__ = __le__ = __gt__ = __ge__ = __hash__ = __bool__ = __str__ = __index__ = __len__ = __iter__ = each
-    __add__ = __radd__ = __sub__ = __rsub__ = __mul__ = __rmul__ = __pow__ = __rpow__ = __and__ = __rand__ = each
-    __mod__ = __rmod__ = __floordiv__ = __rfloordiv__ = each
+    ask: Callable[..., Value] = each  # in the place of any of these
+    __eq__ = __lt__ = __le__ = __gt__ = __ge__ = __hash__ = __bool__ = __str__ = __index__ = __len__ = __iter__ = ask
+    __add__ = __radd__ = __sub__ = __rsub__ = __mul__ = __rmul__ = __pow__ = __rpow__ = __and__ = __rand__ = ask
+    __mod__ = __rmod__ = __floordiv__ = __rfloordiv__ = ask
 
 
 class Range(AtOnce):
     """The numbers from low up to high: each is one of a variable, plus `more`."""
 
-    def __init__(self, variable: int, low: int, high: float, more: int = 0):
+    def __init__(self, variable: int, low: int, high: float, more: int = 0) -> None:
         super().__init__(variable)
         self.low, self.high, self.more = low, high, more
         self.bounds = variable, low, high, more
 
-    def __add__(self, by):
+    def __add__(self, by: Value) -> "Range":
         return Range(self.variable, self.low + by, self.high + by, self.more + by) if type(by) is int else self.each()
 
     __radd__ = __add__
 
-    def __sub__(self, by):
+    def __sub__(self, by: Value) -> "Range":
         return self + -by if type(by) is int else self.each()
 
-    def __mod__(self, by):
+    def __mod__(self, by: int) -> "Range":
         start = self.low - self.low % by
         return self - start if self < start + by else self.each()
 
-    def __lt__(self, bound):
+    def __lt__(self, bound: Value) -> bool:
         if type(bound) is Range:
             if bound.variable == self.variable:
                 return self.more < bound.more
             raise Split(min(self, bound, key=lambda range: range.high - range.low).variable)
         if self.low < bound < self.high:
             raise Split(self.variable, bound - self.more)
-        return self.high <= bound
+        return bool(self.high <= bound)
 
-    def __ge__(self, bound):
+    def __ge__(self, bound: Value) -> bool:
         return not self < bound
 
-    def __le__(self, bound):
-        return self < bound + 1
+    def __le__(self, bound: Value) -> bool:
+        return bool(self < bound + 1)
 
-    def __gt__(self, bound):
+    def __gt__(self, bound: Value) -> bool:
         return not self < bound + 1
 
-    def __eq__(self, other):
+    def __eq__(self, other: Value) -> bool:
         return not self < other and self < other + 1
 
-    __hash__ = AtOnce.each
+    __hash__ = AtOnce.ask
 
 
 class Each(AtOnce):
     """The elements of a list at a range of places."""
 
-    def __init__(self, places: Range, elements: tuple[Value, ...]):
+    def __init__(self, places: Range, elements: tuple[Value, ...]) -> None:
         super().__init__(places.variable)
         self.elements = elements
 
-    def __eq__(self, other):
+    def __eq__(self, other: Value) -> bool:
         same = type(other) is Each and other.variable == self.variable and other.elements == self.elements
         return same or self.each()
 
-    __hash__ = AtOnce.each
+    __hash__ = AtOnce.ask
 
-    def __getattr__(self, name):
+    def __getattr__(self, name: str) -> NoReturn:
         raise Split(self.variable)
 
 
@@ -133,18 +137,18 @@ class Remembering:
     same arguments is kept. On a range of numbers it is what it is at the least, where it is that at each further one,
     supposed that it is at the one before."""
 
-    def __init__(self, run: Callable[..., Value], kept: dict[tuple, tuple], place: int | None):
+    def __init__(self, run: Callable[..., Value], kept: dict[Key, Kept], place: int | None) -> None:
         self.run, self.kept, self.place, self.busy, self.supposes = run, kept, place, False, False
 
-    def key_of(self, arguments):
+    def key_of(self, arguments: tuple[Value, ...]) -> Key:
         return self, *map(identity, arguments)
 
-    def __call__(self, *arguments):
+    def __call__(self, *arguments: Value) -> Value:
         key = self.key_of(arguments)
         if key in self.kept:
             return self.kept[key][1]
         if self.place is not None and type(arguments[self.place]) is Range:
-            return self.on_range(arguments, arguments[self.place])
+            return self.on_range(arguments, self.place)
         if self.busy:
             return self.run(*arguments)
         self.busy = True
@@ -154,9 +158,11 @@ class Remembering:
             self.busy = False
         return self.kept[key][1]
 
-    def on_range(self, arguments, number):
-        def at(value):
-            return *arguments[: self.place], value, *arguments[self.place + 1 :]
+    def on_range(self, arguments: tuple[Value, ...], place: int) -> Value:
+        number = arguments[place]
+
+        def at(value: int | Range) -> tuple[Value, ...]:
+            return *arguments[:place], value, *arguments[place + 1 :]
 
         if self.supposes:
             number.each()

@@ -7,7 +7,7 @@ definition that was proved is well typed. What is written otherwise is an error 
 
 import pathlib
 import re
-from typing import NamedTuple, NoReturn
+from typing import Any, NamedTuple, NoReturn
 
 TOKEN = re.compile(r'(?P<space>\s+|--[^\n]*)|"(?:[^"\\\n]|\\[n"\\])*"|[(){};,@.«»]|[^\s(){}.;,@"«»]+')
 NUMBER = re.compile(r"(0x)?[0-9a-fA-F_]+")
@@ -77,7 +77,7 @@ def items_of(tokens: list[Token]) -> list[list[Token]]:
 
 class Term(NamedTuple):
     kind: str  # name, number, text, call, lambda, let, if, record, field, tuple, binder, function type, product
-    parts: tuple
+    parts: tuple[Any, ...]  # by its kind: terms, names, lists of them
     line: int
 
 
@@ -101,7 +101,7 @@ class Module(NamedTuple):
 class Reader:
     """Reads the tokens of one item."""
 
-    def __init__(self, tokens: list[Token], name: str):
+    def __init__(self, tokens: list[Token], name: str) -> None:
         self.tokens, self.name, self.at = tokens, name, 0
 
     def fail(self, why: str) -> NoReturn:
@@ -132,7 +132,7 @@ class Reader:
         self.take(end)
         return names
 
-    def made(self, kind: str, *parts) -> Term:
+    def made(self, kind: str, *parts: Any) -> Term:
         return Term(kind, parts, self.tokens[max(0, self.at - 1)].line)
 
     # ---- terms
@@ -181,7 +181,7 @@ class Reader:
         return left
 
     def factor(self, term: Term) -> list[tuple[str | None, Term]]:
-        return term.parts[0] if term.kind == "binder" else [(None, term)]
+        return [*term.parts[0]] if term.kind == "binder" else [(None, term)]
 
     def operand(self) -> Term:
         if self.binds():

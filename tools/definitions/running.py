@@ -48,7 +48,7 @@ class Answer(NamedTuple):
 class Reader:
     """Asks the definitions in a folder."""
 
-    def __init__(self, folder: pathlib.Path = CRATES):
+    def __init__(self, folder: pathlib.Path = CRATES) -> None:
         self.definitions = Definitions(folder)
 
     def ask(self, entry: str, *arguments: Value) -> Value:

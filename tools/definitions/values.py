@@ -19,7 +19,7 @@ class NotYet(Exception):
 class Data:
     """A type of data. A claim is a type too, but its value is whether it is shown: True, False, or None for neither."""
 
-    def __init__(self, name: str):
+    def __init__(self, name: str) -> None:
         self.name = name
 
 
@@ -28,16 +28,16 @@ class Made:
 
     __slots__ = ("name", "parts")
 
-    def __init__(self, name: str, *parts: Value):
+    def __init__(self, name: str, *parts: Value) -> None:
         self.name, self.parts = name, parts
 
-    def __eq__(self, other):
+    def __eq__(self, other: object) -> bool:
         return isinstance(other, Made) and self.name == other.name and self.parts == other.parts
 
-    def __hash__(self):
+    def __hash__(self) -> int:
         return hash(self.name)
 
-    def __repr__(self):
+    def __repr__(self) -> str:
         return f"({' '.join([self.name, *map(repr, self.parts)])})" if self.parts else self.name
 
 
@@ -46,7 +46,7 @@ class Function:
 
     __slots__ = ("arity", "run", "held", "kept")
 
-    def __init__(self, arity: int, run: Callable[..., Value], held: tuple[Value, ...] = ()):
+    def __init__(self, arity: int, run: Callable[..., Value], held: tuple[Value, ...] = ()) -> None:
         self.arity, self.run, self.held = arity, run, held
         self.kept: dict[int, Value] = {}
 
@@ -54,18 +54,18 @@ class Function:
 class Hole:
     """A value that an equation of this depth may give. No equation gives one of depth None: it is any value."""
 
-    def __init__(self, depth: int | None):
+    def __init__(self, depth: int | None) -> None:
         self.depth = depth
         self.value: Value = None
 
-    def __bool__(self):
+    def __bool__(self) -> bool:
         return bool(known(self))
 
 
 class Joined:
     """A list that ends with a hole."""
 
-    def __init__(self, front: tuple[Value, ...], hole: Hole):
+    def __init__(self, front: tuple[Value, ...], hole: Hole) -> None:
         self.front, self.hole = front, hole
 
 

@@ -1,8 +1,8 @@
 #!/usr/bin/env bash
 # Builds a Debian package: build_deb.sh STAGE FOLDER
 #
-# STAGE has what `make install` put there with PREFIX=/usr. The package goes to FOLDER, and its name is printed. Its version is
-# the first of the changelog. The same files give the same package, byte for byte.
+# STAGE has what `make install` put there with PREFIX=/usr. The package goes to FOLDER, and its name is printed. Its
+# version is the first of the changelog. The same files give the same package, byte for byte.
 set -euo pipefail
 cd "$(dirname "$0")"
 
@@ -33,6 +33,7 @@ control() {
     libc=$(libc_of "$stage/usr/bin/h2audit")
     size=$(du -k -s --apparent-size "$stage/usr" | cut -f 1)
     install -d "$stage/DEBIAN"
+    install -m 755 postinst prerm "$stage/DEBIAN"
     sed -e "s/@VERSION@/$version/" -e "s/@ARCHITECTURE@/$architecture/" -e "s/@SIZE@/$size/" \
         -e "s/@LIBC@/${libc:+ (>= $libc)}/" control > "$stage/DEBIAN/control"
     (cd "$stage" && find usr -type f -print0 | LC_ALL=C sort -z | xargs -0 md5sum > DEBIAN/md5sums)

@@ -40,7 +40,8 @@ def title_of(asked: argparse.Namespace) -> str:
         return str(asked.title).encode(errors="replace").decode()
     if asked.report == "-":
         return "Audit of HTTP/2 flow control"
-    return "Audit of HTTP/2 flow control: " + os.path.basename(asked.report).encode(errors="replace").decode()
+    name = os.path.basename(str(asked.report)).encode(errors="replace").decode()
+    return f"Audit of HTTP/2 flow control: {name}"
 
 
 def main(words: list[str]) -> int:

@@ -24,14 +24,19 @@ class Series:
     whole: int
 
     @property
+    def stood_for(self) -> list[int]:
+        """Of each shade and each cross, for how many it stands."""
+        return [number for _, _, number in self.stalls] + [number for _, _, _, number in self.faults]
+
+    @property
     def marked(self) -> int:
         """How many stalls and faults the shades and crosses stand for."""
-        return sum(mark[-1] for mark in (*self.stalls, *self.faults))
+        return sum(self.stood_for)
 
     @property
     def merged(self) -> int:
         """How many of them share a shade or a cross with others."""
-        return sum(mark[-1] for mark in (*self.stalls, *self.faults) if mark[-1] > 1)
+        return sum(number for number in self.stood_for if number > 1)
 
 
 def series_of(window: Window) -> Series:

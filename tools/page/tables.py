@@ -269,14 +269,14 @@ def window_row(window: Window) -> Markup:
 def sums_of(windows: list[Window]) -> list[Content]:
     """What windows have together: faults, stalls, the longest, the time of all, the least and the greatest credit."""
     waits = [wait for window in windows for wait in window.waits]
-    moved = [window.credits for window in windows if window.frames]
+    credits = [credit for window in windows if window.frames for credit in (min(window.credits), max(window.credits))]
     return [
         sum(len(window.faults) for window in windows),
         len(waits),
         duration(max(waits)) if waits else "none",
         duration(sum(waits)) if waits else "none",
-        f"{min(map(min, moved)):,}" if moved else "not in the report",
-        f"{max(map(max, moved)):,}" if moved else "not in the report",
+        f"{min(credits):,}" if credits else "not in the report",
+        f"{max(credits):,}" if credits else "not in the report",
     ]
 
 
@@ -319,7 +319,8 @@ def thinning(charts: Packed) -> Markup:
         )
     if charts.left_out:
         windows = charts.left_out
-        faults, stalls, _, _, least, greatest = sums_of(windows)
+        *_, least, greatest = sums_of(windows)
+        faults, stalls = sum(len(one.faults) for one in windows), sum(len(one.waits) for one in windows)
         said.append(
             f"{len(windows):,} of {charts.windows:,} windows have no chart: those with the most faults have one, then "
             "those that stood still longest, then those that the report has first. The others have "

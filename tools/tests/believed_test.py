@@ -14,10 +14,8 @@ TOP = pathlib.Path(__file__).resolve().parents[2]
 sys.path.insert(0, str(TOP / "tests"))
 import reports_test  # noqa: E402
 
-FOUND = importlib.util.spec_from_file_location("believed", TOP / "tools" / "believed.py")
-believed = importlib.util.module_from_spec(FOUND)
-sys.modules["believed"] = believed
-FOUND.loader.exec_module(believed)
+sys.path.insert(0, str(TOP / "tools"))
+import believed  # noqa: E402
 
 CODE = """\
 ghost use Rattle.std.specs.Prelude.{◌≡◌};
@@ -198,8 +196,8 @@ class Definitions(unittest.TestCase):
         self.assertIn(f"{len(used)} of the {len(names)} are within its reach", self.PROOFS)
 
     def used(self, *words: str, given: bytes = b"") -> set[str]:
-        program = [TOP / "tools" / "by-definition", "--modules", *words]
-        run = subprocess.run(program, input=given, capture_output=True, cwd=TOP, timeout=120)
+        program = TOP / "tools" / "by-definition"
+        run = subprocess.run([program, "--modules", *words], input=given, capture_output=True, cwd=TOP, timeout=120)
         self.assertEqual((run.returncode, run.stderr), (0, b""))
         return set(run.stdout.decode().split())
 
@@ -219,7 +217,8 @@ class Definitions(unittest.TestCase):
 
 def lines_of(file: pathlib.Path) -> int:
     """The lines of a module but blank ones, comments and docstrings."""
-    text, said = file.read_text(encoding="utf-8"), set()
+    text = file.read_text(encoding="utf-8")
+    said: set[int] = set()
     for node in ast.walk(ast.parse(text)):
         if isinstance(node, ast.Expr) and isinstance(node.value, ast.Constant) and isinstance(node.value.value, str):
             said.update(range(node.lineno, (node.end_lineno or 0) + 1))

@@ -17,6 +17,7 @@ import subprocess
 import sys
 import tempfile
 import unittest
+from typing import Any
 from unittest import mock
 
 TOP = pathlib.Path(__file__).resolve().parents[2]
@@ -70,39 +71,38 @@ SAID_OF_GO = {
 FINDING = re.compile(r"^frame \d+ record (\d+) .* (client|server) ([a-z-]+) stream", re.M)
 
 
-def shown(capture, fields=FIELDS, *more):
-    words = ["tshark", "-n", "-o", "frame.generate_md5_hash:TRUE", "-r", capture, "-T", "fields", *more]
-    run = subprocess.run(
-        words + [word for field in fields for word in ("-e", field)], capture_output=True, text=True, timeout=60
-    )
+def shown(capture: pathlib.Path, fields: list[str] = FIELDS, *more: str) -> list[list[str]]:
+    wanted = [word for field in fields for word in ("-e", field)]
+    words = ["tshark", "-n", "-o", "frame.generate_md5_hash:TRUE", "-r", str(capture), "-T", "fields", *more, *wanted]
+    run = subprocess.run(words, capture_output=True, text=True, timeout=60)
     assert run.returncode == 0, run.stderr
     return [line.split("\t") for line in run.stdout.splitlines()]
 
 
-def comments(capture):
+def comments(capture: pathlib.Path) -> dict[int, str]:
     """The comments of each packet that has some, one string for each packet."""
     return {
         int(number): said for number, said in shown(capture, ["frame.number", "frame.comment"], "-Y", "frame.comment")
     }
 
 
-def run(*words, **more):
+def run(*words: object, **more: Any) -> subprocess.CompletedProcess[bytes]:
     return subprocess.run([PROGRAM, *map(str, words)], capture_output=True, timeout=120, **more)
 
 
 class InFolder(unittest.TestCase):
-    def setUp(self):
+    def setUp(self) -> None:
         self.work = tempfile.TemporaryDirectory()
         self.addCleanup(self.work.cleanup)
         self.folder = pathlib.Path(self.work.name)
         self.out = self.folder / "out.pcapng"
 
-    def write(self, name, data):
+    def write(self, name: str, data: bytes) -> pathlib.Path:
         path = self.folder / name
         path.write_bytes(data)
         return path
 
-    def comment(self, capture, report, *more):
+    def comment(self, capture: pathlib.Path, report: pathlib.Path, *more: object) -> pathlib.Path:
         done = run(capture, report, "-o", self.out, *more)
         self.assertEqual((done.returncode, done.stderr, done.stdout), (0, b"", b""))
         return self.out
@@ -111,7 +111,7 @@ class InFolder(unittest.TestCase):
 class Examples(InFolder):
     """Each finding but credit is in a comment of its packet, and the packets are as they were."""
 
-    def test_each(self):
+    def test_each(self) -> None:
         for capture in sorted(EXAMPLES.glob("*.pcap")):
             with self.subTest(capture.name):
                 report = capture.with_suffix(".report")
@@ -123,11 +123,11 @@ class Examples(InFolder):
                 said = {int(row[0]): row[-1] for row in found if row[-1]}
                 self.assertEqual(kinds_said(said), kinds_in(report.read_text()))
 
-    def test_by_hand(self):
+    def test_by_hand(self) -> None:
         self.comment(EXAMPLES / "stream_overrun_go.pcap", EXAMPLES / "stream_overrun_go.report")
         self.assertEqual(comments(self.out), SAID_OF_GO)
 
-    def test_an_overflow_is_the_other_sides(self):
+    def test_an_overflow_is_the_other_sides(self) -> None:
         self.comment(EXAMPLES / "connection_overflow_nginx.pcap", EXAMPLES / "connection_overflow_nginx.report")
         self.assertIn(
             "server's credit of the connection rose to 2,147,547,182, above 2^31 - 1 (connection-overflow); "
@@ -135,7 +135,7 @@ class Examples(InFolder):
             comments(self.out)[15],
         )
 
-    def test_filter_of_wireshark(self):
+    def test_filter_of_wireshark(self) -> None:
         self.comment(EXAMPLES / "use_after_reset.pcap", EXAMPLES / "use_after_reset.report")
         found = shown(self.out, ["frame.number"], "-Y", 'frame.comment contains "h2audit"')
         self.assertEqual([int(number) for number, in found], [9, 10])
@@ -143,7 +143,7 @@ class Examples(InFolder):
         self.assertRegex(expert, r"Comments \(2\)")
         self.assertIn("h2audit: server sent WINDOW_UPDATE on stream 7", expert)
 
-    def test_credit(self):
+    def test_credit(self) -> None:
         """Credit lines are passed over, unless they are asked for."""
         capture, report = EXAMPLES / "stream_overrun_go.pcap", EXAMPLES / "stream_overrun_go.frames.report"
         self.assertEqual(sorted(comments(self.comment(capture, report))), [12, 14])
@@ -160,25 +160,25 @@ class Forms(InFolder):
     NAME = "stream_overrun_go"
     REPORT = EXAMPLES / f"{NAME}.report"
 
-    def setUp(self):
+    def setUp(self) -> None:
         super().setUp()
         self.records, self.link = records_of(EXAMPLES / f"{self.NAME}.pcap")
         self.wanted = SAID_OF_GO
 
-    def same(self, data, name="in.pcap", fields=FIELDS):
+    def same(self, data: bytes, name: str = "in.pcap", fields: list[str] = FIELDS) -> None:
         capture = self.write(name, data)
         self.comment(capture, self.REPORT)
         found = shown(self.out, [*fields, "frame.comment"])
         self.assertEqual({int(row[0]): row[-1] for row in found if row[-1]}, self.wanted)
         self.assertEqual([row[:-1] for row in found], shown(capture, fields))
 
-    def test_classic(self):
+    def test_classic(self) -> None:
         fields = [field for field in FIELDS if not field.startswith("frame.interface")]
         for order in "<>":
             for is_nano in (False, True):
                 self.same(classic(self.records, self.link, order, is_nano), fields=fields)
 
-    def test_nanoseconds_are_kept(self):
+    def test_nanoseconds_are_kept(self) -> None:
         report = re.sub(r" time (\d+)", lambda time: f" time {int(time[1]) + 123}", self.REPORT.read_text())
         parts = classic([], self.link, is_nano=True) + b"".join(
             struct.pack("<IIII", seconds, fraction * 1000 + 123, len(data), length) + data
@@ -189,7 +189,7 @@ class Forms(InFolder):
         self.assertEqual(shown(self.out, ["frame.time_epoch"]), shown(capture, ["frame.time_epoch"]))
         self.assertTrue(shown(self.out, ["frame.time_epoch"])[0][0].endswith("123"))
 
-    def test_two_interfaces_and_resolutions(self):
+    def test_two_interfaces_and_resolutions(self) -> None:
         """Microseconds on one interface, and nanoseconds with an offset on the other."""
         for order in "<>":
             parts = [
@@ -202,7 +202,7 @@ class Forms(InFolder):
                 parts.append(packet(order, number % 2, time, one))
             self.same(b"".join(parts), "in.pcapng")
 
-    def test_comments_that_stand_there(self):
+    def test_comments_that_stand_there(self) -> None:
         there = option("<", 1, b"seen before") + option("<", 2, bytes(4)) + option("<", 0, b"")
         parts = [section(), interface("<", self.link)] + [
             packet("<", 0, micros(one), one, there) for one in self.records
@@ -212,7 +212,7 @@ class Forms(InFolder):
         self.assertEqual(found[1], "seen before")
         self.assertEqual(found[12], "seen before," + self.wanted[12])
 
-    def test_sections(self):
+    def test_sections(self) -> None:
         """Two sections; the second has its own order of bytes, tells its length, and has packet blocks of old."""
         first = (
             section()
@@ -222,7 +222,7 @@ class Forms(InFolder):
         inner = interface(">", self.link) + b"".join(old_packet(">", 0, micros(one), one) for one in self.records[11:])
         self.same(first + section(">", len(inner)) + inner, "in.pcapng")
 
-    def test_other_blocks_stay(self):
+    def test_other_blocks_stay(self) -> None:
         """Names, statistics, secrets and blocks that nobody knows are copied byte for byte."""
         others = (
             block("<", 5, struct.pack("<III", 0, 0, 0))
@@ -241,7 +241,7 @@ class Forms(InFolder):
         self.comment(self.folder / "in.pcapng", no_findings)
         self.assertEqual(self.out.read_bytes(), data)
 
-    def test_numbered_as_wireshark_does(self):
+    def test_numbered_as_wireshark_does(self) -> None:
         """Custom blocks and journal entries have a number in Wireshark, so the packets after them move on."""
         custom = block("<", 0xBAD, struct.pack("<I", 32473) + b"abcd")
         parts = [section(), interface("<", self.link), custom] + [
@@ -251,7 +251,7 @@ class Forms(InFolder):
         self.comment(self.write("in.pcapng", b"".join(parts)), self.write("report", report.encode()))
         self.assertEqual(sorted(comments(self.out)), [13, 15])
 
-    def test_gzip(self):
+    def test_gzip(self) -> None:
         fields = [field for field in FIELDS if not field.startswith("frame.interface")]
         self.same(gzip.compress(classic(self.records, self.link)), "in.pcap.gz", fields)
         whole = b"".join(
@@ -259,14 +259,14 @@ class Forms(InFolder):
         )
         self.same(gzip.compress(whole), "in.pcapng.gz")
 
-    def test_zstd(self):
+    def test_zstd(self) -> None:
         fields = [field for field in FIELDS if not field.startswith("frame.interface")]
         self.same(zstandard.compress(classic(self.records, self.link)), "in.pcap.zst", fields)
         data = (EXAMPLES / f"{self.NAME}.pcap").read_bytes()
         frames = zstandard.compress(data[:1000]) + zstandard.compress(data[1000:])
         self.same(frames, "in.pcap.zst", fields)
 
-    def test_standard_input_and_output(self):
+    def test_standard_input_and_output(self) -> None:
         data = (EXAMPLES / f"{self.NAME}.pcap").read_bytes()
         done = run("-", self.REPORT, "-o", "-", input=data)
         self.assertEqual((done.returncode, done.stderr), (0, b""))
@@ -274,7 +274,7 @@ class Forms(InFolder):
         done = run(EXAMPLES / f"{self.NAME}.pcap", "-", "-o", self.out, input=self.REPORT.read_bytes())
         self.assertEqual((done.returncode, done.stderr), (0, b""))
 
-    def test_many_comments_of_one_packet(self):
+    def test_many_comments_of_one_packet(self) -> None:
         """More than a block can hold: the last comment says how many are left out, and Wireshark reads the file."""
         head, finding = self.REPORT.read_text().split("\n")[0:2], self.REPORT.read_text().split("\n")[5]
         report = self.write("report", "\n".join(head + [finding] * 50000).encode() + b"\n")
@@ -293,17 +293,17 @@ class Maps(InFolder):
 
     CAPTURE = EXAMPLES / "stream_overrun_go.pcap"
 
-    def setUp(self):
+    def setUp(self) -> None:
         super().setUp()
         text = CAPTURE_REPORT.read_text()
         # The made capture has records 2 and 3 where the original has packets 12 and 14.
         moved = text.replace(" record 12 time", " record 2 time").replace(" record 14 time", " record 3 time")
         self.report = self.write("report", moved.encode())
 
-    def map(self, *lines):
+    def map(self, *lines: str) -> pathlib.Path:
         return self.write("map", "\n".join(["h2audit-map 1", *lines, ""]).encode())
 
-    def test_map(self):
+    def test_map(self) -> None:
         path = self.map(
             "file 1 somewhere/a%20b.pcap",
             "address 240.0.0.1 2001:db8::1",
@@ -317,7 +317,7 @@ class Maps(InFolder):
         self.assertEqual(sorted(comments(self.out)), [12, 14])
         self.assertIn("up to packet 14 (", comments(self.out)[12])
 
-    def test_several_files(self):
+    def test_several_files(self) -> None:
         """The capture is found by its name; what is about another file is told, and a stall may end there."""
         path = self.map(
             "file 1 old/first.pcap",
@@ -333,12 +333,12 @@ class Maps(InFolder):
         self.assertEqual(sorted(comments(self.out)), [12])
         self.assertIn("up to packet 3 of first.pcap", comments(self.out)[12])
 
-    def refuses(self, why, path):
+    def refuses(self, why: str, path: pathlib.Path) -> None:
         done = run(self.CAPTURE, self.report, "-o", self.out, "-m", path)
         self.assertEqual((done.returncode, done.stderr.decode()), (3, f"h2audit-comment: map refused: {why}\n"))
         self.assertFalse(self.out.exists())
 
-    def test_refused(self):
+    def test_refused(self) -> None:
         self.refuses("not a map of h2audit-import", self.write("map", b"\0" * 100))
         self.refuses("not a map of h2audit-import", self.write("map", b""))
         self.refuses("version 2 of the map is unknown: this is for version 1", self.write("map", b"h2audit-map 2\n"))
@@ -363,7 +363,7 @@ class Imports(InFolder):
         "zstd": 16,
     }
 
-    def test_each(self):
+    def test_each(self) -> None:
         for name, number in self.NAMES.items():
             with self.subTest(name):
                 (capture,) = [path for path in TLS.glob(f"{name}.*") if ".pcap" in path.name]
@@ -376,34 +376,35 @@ class Imports(InFolder):
                 self.assertEqual(kinds_said(said), kinds_in(report))
                 self.assertEqual(sum(map(len, kinds_said(said).values())), number)
 
-    def report_of_made(self, capture, name, report):
+    def report_of_made(self, capture: pathlib.Path, name: str, report: str) -> pathlib.Path:
         keys, made = TLS / f"{name}.keys", self.folder / "made.pcap"
-        words = [*(["-k", keys] if keys.exists() else []), "-m", self.folder / "map", "-o", made, capture]
+        words: list[str | pathlib.Path] = ["-k", keys] if keys.exists() else []
+        words += ["-m", self.folder / "map", "-o", made, capture]
         done = subprocess.run([IMPORT, *words], capture_output=True, text=True, timeout=120)
         self.assertEqual((done.returncode, done.stderr), (0, ""))
         if AUDIT:
-            done = subprocess.run([AUDIT, made], capture_output=True, timeout=120)
-            self.assertIn(done.returncode, (0, 1))
-            return self.write("report", done.stdout)
-        records = {}
+            audited = subprocess.run([AUDIT, made], capture_output=True, timeout=120)
+            self.assertIn(audited.returncode, (0, 1))
+            return self.write("report", audited.stdout)
+        records: dict[str, str] = {}
         for record, packet_number in re.findall(r"(?m)^record (\d+) file 1 packet (\d+)$", self.map_text()):
             records.setdefault(packet_number, record)
         moved = re.sub(r"(?<= record )(\d+)(?= time)", lambda at: records[at[1]], report)
         return self.write("report", moved.encode())
 
-    def map_text(self):
+    def map_text(self) -> str:
         return (self.folder / "map").read_text()
 
 
-def kinds_in(report):
+def kinds_in(report: str) -> dict[int, list[str]]:
     """Of each packet the kinds of its findings, by a report."""
-    wanted = {}
+    wanted: dict[int, list[str]] = {}
     for record, _, kind in FINDING.findall(report):
         wanted.setdefault(int(record), []).append(kind)
     return wanted
 
 
-def kinds_said(said):
+def kinds_said(said: dict[int, str]) -> dict[int, list[str]]:
     """Of each packet the kinds of its findings, by its comments."""
     return {record: re.findall(r"\(([a-z-]+)\);", text) for record, text in said.items()}
 
@@ -416,15 +417,15 @@ class BadInput(InFolder):
 
     CAPTURE = EXAMPLES / "stream_overrun_go.pcap"
 
-    def refuses(self, why, capture=CAPTURE, report=CAPTURE_REPORT):
+    def refuses(self, why: str, capture: pathlib.Path = CAPTURE, report: pathlib.Path = CAPTURE_REPORT) -> None:
         done = run(capture, report, "-o", self.out)
         self.assertEqual((done.returncode, done.stderr.decode()), (3, f"h2audit-comment: {why}\n"))
         self.assertFalse(list(self.folder.glob("*.pcapng")) + list(self.folder.glob(".h2audit-*")))
 
-    def data(self, data):
+    def data(self, data: bytes) -> pathlib.Path:
         return self.write("in", data)
 
-    def test_captures(self):
+    def test_captures(self) -> None:
         good = self.CAPTURE.read_bytes()
         records, link = records_of(self.CAPTURE)
         self.refuses("capture refused: short-header", self.data(b""))
@@ -448,14 +449,14 @@ class BadInput(InFolder):
         bad = b"".join(packet("<", 0, micros(one), one, b"\1\0\xff\0") for one in records)
         self.refuses("capture refused: bad-options", self.data(head + bad))
 
-    def test_no_zstandard(self):
+    def test_no_zstandard(self) -> None:
         capture = self.data(zstandard.compress(self.CAPTURE.read_bytes()))
         with mock.patch.dict(sys.modules, {"zstandard": None}), contextlib.redirect_stderr(io.StringIO()) as said:
             status = main([str(capture), str(CAPTURE_REPORT), "-o", str(self.out)])
         why = "h2audit-comment: zstandard is not installed (Debian: apt-get install python3-zstandard)\n"
         self.assertEqual((status, said.getvalue(), self.out.exists()), (5, why, False))
 
-    def test_reports(self):
+    def test_reports(self) -> None:
         good = CAPTURE_REPORT.read_text()
         self.refuses("report refused: not a report of h2audit", report=self.CAPTURE)
         self.refuses(
@@ -471,7 +472,7 @@ class BadInput(InFolder):
             report=self.data(good.replace("record 14 time", "record 0 time").encode()),
         )
 
-    def test_a_cut_capture(self):
+    def test_a_cut_capture(self) -> None:
         """What is whole is written, and a line says what is left out."""
         good = self.CAPTURE.read_bytes()
         packed = zstandard.ZstdCompressor(level=0).compress(good[:-1])
@@ -483,7 +484,7 @@ class BadInput(InFolder):
             )
             self.assertEqual(len(shown(self.out, ["frame.number"])), 21)
 
-    def test_files(self):
+    def test_files(self) -> None:
         missing = "/nowhere/at all"
         for words, name in (
             ((missing, CAPTURE_REPORT, "-o", self.out), missing),
@@ -496,7 +497,7 @@ class BadInput(InFolder):
                 (done.returncode, done.stderr.decode()), (4, f"h2audit-comment: {name}: No such file or directory\n")
             )
 
-    def test_words(self):
+    def test_words(self) -> None:
         for words in (
             (),
             ("a",),
@@ -508,7 +509,7 @@ class BadInput(InFolder):
             done = run(*words)
             self.assertEqual((done.returncode, done.stderr.count(b"\n"), done.stdout), (2, 1, b""), words)
 
-    def test_the_capture_may_be_the_output(self):
+    def test_the_capture_may_be_the_output(self) -> None:
         """A file takes the capture's place only once it is whole."""
         capture = self.write("in.pcap", self.CAPTURE.read_bytes())
         os.chmod(capture, 0o640)
@@ -518,7 +519,7 @@ class BadInput(InFolder):
         again = run(capture, self.data(b"no report"), "-o", capture)
         self.assertEqual((again.returncode, sorted(comments(capture))), (3, [12, 14]))
 
-    def test_damaged_files(self):
+    def test_damaged_files(self) -> None:
         """Whatever bytes are changed, there is a capture or a reason, and never a traceback."""
         records, link = records_of(self.CAPTURE)
         blocks = b"".join([section(), interface("<", link)] + [packet("<", 0, micros(one), one) for one in records])
@@ -542,7 +543,7 @@ class BadInput(InFolder):
                 self.assertIn(status, (0, 3))
                 self.assertLessEqual(said.getvalue().count("\n"), 1)
 
-    def test_closed_pipe(self):
+    def test_closed_pipe(self) -> None:
         words = [PROGRAM, self.CAPTURE, CAPTURE_REPORT]
         done = subprocess.run(
             ["bash", "-c", 'set -o pipefail; "$0" "$1" "$2" -o - | true', *words], capture_output=True

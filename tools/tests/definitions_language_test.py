@@ -17,9 +17,11 @@ from definitions.reading import Unreadable, read  # noqa: E402
 from definitions.running import deeply  # noqa: E402
 from definitions.values import NotYet, Stuck  # noqa: E402
 
-PRELUDE = """use Rattle.std.specs.Prelude.{ℕ, zero, suc, ◌+◌, ◌-◌, ◌*◌, ◌/◌, ◌%◌, ◌^◌, ◌<◌, ◌≤◌, ◌==◌, nat_lt, ℤ, pos, ◌+ℤ◌}
+PRELUDE = """use Rattle.std.specs.Prelude.{ℕ, zero, suc, ◌+◌, ◌-◌, ◌*◌, ◌/◌, ◌%◌, ◌^◌, ◌<◌, ◌≤◌, ◌==◌, nat_lt}
+use Rattle.std.specs.Prelude.{ℤ, pos, ◌+ℤ◌}
 use Rattle.std.specs.Prelude.{◌-ℤ◌, ◌≡◌, ◌⊎◌, Bool, true, false, not, ◌&&◌, ◌||◌, if◌then◌else◌, IsTrue, List, []}
-use Rattle.std.specs.Prelude.{◌∷◌, ◌++◌, length, take, drop, map, find, slice_get, slice_index, Option, Some, None, codes}
+use Rattle.std.specs.Prelude.{◌∷◌, ◌++◌, length, take, drop, map, find, slice_get, slice_index}
+use Rattle.std.specs.Prelude.{Option, Some, None, codes}
 use Rattle.std.specs.Prelude.{IsSomeAnd}
 use Rattle.std.specs.Fmt.{decimal, signed_decimal}
 """
@@ -217,7 +219,8 @@ def shown(text: str) -> bool | None:
     with tempfile.TemporaryDirectory() as folder:
         definitions = crate(folder, f"{PRELUDE}{DEFINITIONS}\nClaim : ℕ → Type 0\nClaim _ = {text}\n")
         try:
-            return definitions.named("small.Text.Claim").run(0)
+            found: bool | None = definitions.named("small.Text.Claim").run(0)
+            return found
         except NotYet:
             return None
 
@@ -257,7 +260,8 @@ def main() -> int:
     wrong += filter(None, (damaged(Random(number)) for number in range(DAMAGED)))
     print(
         *wrong,
-        f"{DAMAGED} damaged modules, {len(CLAIMS)} claims, {len(UNREADABLE)} texts that cannot be read: {len(wrong)} wrong",
+        f"{DAMAGED} damaged modules, {len(CLAIMS)} claims, {len(UNREADABLE)} texts that cannot be read: "
+        f"{len(wrong)} wrong",
         sep="\n" if wrong else "",
     )
     return 1 if wrong else 0

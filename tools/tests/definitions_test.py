@@ -1,13 +1,14 @@
 #!/usr/bin/python3
-"""Computes reports from the definitions (tools/by-definition), and compares them with known ones and with the program's.
+"""Computes reports from the definitions (tools/by-definition), and compares them with known ones and with the
+program's.
 
     tools/tests/definitions_test.py                            known reports
     tools/tests/definitions_test.py [--seed N] PROGRAM [KIND]  the program's, of captures or connections, or of both
 
-The known ones are those of examples/ up to 4,000 bytes and of each row of tests/reports. Then ten definitions are changed,
-one in each layer, and the search for witnesses is misled: each time a report has to be another one, or not shown. The
-program is asked for those of 300 random captures and 1,000 random connections, in which all 27 kinds of findings occur;
-the seed is printed.
+The known ones are those of examples/ up to 4,000 bytes and of each row of tests/reports. Then ten definitions are
+changed, one in each layer, and the search for witnesses is misled: each time a report has to be another one, or not
+shown. The program is asked for those of 300 random captures and 1,000 random connections, in which all 27 kinds of
+findings occur; the seed is printed.
 """
 
 import argparse
@@ -19,11 +20,11 @@ import subprocess
 import sys
 import tempfile
 import time
-from collections.abc import Callable, Iterator
+from collections.abc import Callable, Iterable, Iterator
 from concurrent.futures import ProcessPoolExecutor
 from functools import partial
 from random import Random
-from typing import NamedTuple
+from typing import Any, NamedTuple, TypeVar
 
 TOP = pathlib.Path(__file__).resolve().parents[2]
 sys.path[:0] = [str(TOP / "tools"), str(TOP / "tests")]
@@ -33,7 +34,7 @@ import reports_test  # noqa: E402
 from captures import capture_of  # noqa: E402
 from definitions import search  # noqa: E402
 from definitions.running import CRATES, NotShown, Reader, deeply  # noqa: E402
-from definitions.values import Made, Stuck  # noqa: E402
+from definitions.values import Made, Stuck, Value  # noqa: E402
 
 LARGE = 4000  # bytes of an example
 KINDS = 27
@@ -57,7 +58,7 @@ CHANGES = [
 
 
 # Ways to mislead the search: its function, and what is made of its answer.
-SPOILED = [
+SPOILED: list[tuple[str, Callable[[Any], Value]]] = [
     ("records", lambda found: {**found, "rows": {"items": found["rows"]["items"][:-1]}}),
     ("flow", lambda found: {**found, "gap": Made("None")}),
     ("flow", lambda found: {**found, "gap": Made("Some", 0)}),
@@ -82,6 +83,9 @@ SPOILED = [
     ("frames", lambda found: found[:-1]),
     ("length", lambda found: found + 1),
 ]
+
+
+Answered = TypeVar("Answered")
 
 
 class Job(NamedTuple):
@@ -137,14 +141,14 @@ def done(jobs: list[Job], program: str | None) -> list[tuple[str, str]]:
     reader, found = Reader(), []
     for job in jobs:
         said = answer(reader, job.capture, job.credits_shown)
-        wanted = job.wanted or reports_test.answer_of(program, ["--frames"], job.capture)
+        wanted = job.wanted if program is None else reports_test.answer_of(program, ["--frames"], job.capture)
         found.append(
             ("" if said == wanted else f"{job.name}: the definitions say\n{said}and it should be\n{wanted}", said)
         )
     return found
 
 
-def in_parallel(run: Callable, items: list, *others) -> list:
+def in_parallel(run: Callable[..., Answered], items: Iterable[object], *others: object) -> list[Answered]:
     """What a function makes of each item, with room for its recursion."""
     with ProcessPoolExecutor(os.cpu_count()) as workers:
         return [made.result() for made in [workers.submit(deeply, partial(run, item, *others)) for item in items]]

@@ -1,11 +1,14 @@
 """Reports of h2audit derived from what tshark sees, by RFC 9113, 5.2 and 6.9, and docs/REPORT_FORMAT.md.
 
-Nothing here is h2audit's. tshark gives packets, times and frames, the files of records the bytes of each side. It is for
-captures of whole connections whose every frame tshark shows and whose only faults are overruns, as those of tests/tls.
+Nothing here is h2audit's. tshark gives packets, times and frames, the files of records the bytes of each side. It is
+for captures of whole connections whose every frame tshark shows and whose only faults are overruns, as those of
+tests/tls.
 """
 
 import collections
 import subprocess
+from collections.abc import Iterator
+from typing import NamedTuple
 
 import import_tools as tools
 
@@ -20,12 +23,36 @@ RANKS = (
     "stream-stall-begin",
 )  # fmt: skip
 
-Packet = collections.namedtuple("Packet", "number nanos stream source target is_opening")
-Frame = collections.namedtuple("Frame", "packet side kind length stream flags window grant")
-Line = collections.namedtuple("Line", "frame rank stream side value")
+
+class Packet(NamedTuple):
+    number: int
+    nanos: int
+    stream: int
+    source: str
+    target: str
+    is_opening: bool
 
 
-def fields(name, shown, *words):
+class Frame(NamedTuple):
+    packet: Packet
+    side: int
+    kind: int
+    length: int
+    stream: int
+    flags: int
+    window: int | None  # of settings that have one
+    grant: int | None
+
+
+class Line(NamedTuple):
+    frame: int
+    rank: int
+    stream: int
+    side: int
+    value: int
+
+
+def fields(name: str, shown: tuple[str, ...], *words: str) -> list[list[str]]:
     """The rows that tshark shows of a capture, each a list of words."""
     options = ["-o", "tcp.reassemble_out_of_order:TRUE", "-o", "tcp.try_heuristic_first:TRUE"]
     if keys := tools.key_log_of(name):
@@ -36,9 +63,9 @@ def fields(name, shown, *words):
     return [line.split("\t") for line in run.stdout.splitlines()]
 
 
-def packets_of(name):
-    shown = ("frame.number", "frame.time_epoch", "tcp.stream", "ip.src", "ip.dst", "ipv6.src", "ipv6.dst", "tcp.srcport",
-             "tcp.dstport", "tcp.flags")  # fmt: skip
+def packets_of(name: str) -> Iterator[Packet]:
+    shown = ("frame.number", "frame.time_epoch", "tcp.stream", "ip.src", "ip.dst", "ipv6.src", "ipv6.dst",
+             "tcp.srcport", "tcp.dstport", "tcp.flags")  # fmt: skip
     for number, time, stream, source, target, source6, target6, from_port, to_port, flags in fields(name, shown):
         seconds, fraction = time.split(".")
         hosts = (source, target) if source else (f"[{source6}]", f"[{target6}]")
@@ -47,12 +74,12 @@ def packets_of(name):
         yield Packet(int(number), nanos, int(stream), *ends, is_opening)
 
 
-def frames_of(name, packets):
+def frames_of(name: str, packets: dict[int, Packet]) -> dict[int, list[Frame]]:
     """Frames by connection, in order. Values of settings and grants stand in rows of their own, from which their frames
     take them.
     """
     clients = {one.stream: one.source for one in packets.values() if one.is_opening}
-    found = collections.defaultdict(list)
+    found: dict[int, list[Frame]] = collections.defaultdict(list)
     shown = ("frame.number", "http2.type", "http2.length", "http2.streamid", "http2.flags", "http2.settings.id",
              "http2.settings.initial_window_size", "http2.window_update.window_size_increment")  # fmt: skip
     for number, *rows in fields(name, shown, "-Y", "http2.type"):
@@ -73,17 +100,19 @@ def frames_of(name, packets):
 class Windows:
     """The windows of a connection, each with the side that sends through it, and the lines that they give."""
 
-    def __init__(self):
+    def __init__(self) -> None:
         self.credit = {(side, 0): INITIAL_WINDOW for side in (CLIENT, SERVER)}
         self.initial = [INITIAL_WINDOW, INITIAL_WINDOW]
-        self.announced = ([], [])  # of each side, the windows of settings that were not acknowledged yet
-        self.lines, self.frame = [], 0
+        # Of each side, the windows of settings that were not acknowledged yet.
+        self.announced: tuple[list[int | None], list[int | None]] = ([], [])
+        self.lines: list[Line] = []
+        self.frame = 0
 
-    def line(self, kind, side, stream):
+    def line(self, kind: str, side: int, stream: int) -> None:
         scope = "stream" if stream else "connection"
         self.lines.append(Line(self.frame, RANKS.index(f"{scope}-{kind}"), stream, side, self.credit[side, stream]))
 
-    def add(self, side, stream, change):
+    def add(self, side: int, stream: int, change: int) -> None:
         before = self.credit[side, stream]
         self.credit[side, stream] = after = before + change
         if change < 0 and after < 0:
@@ -93,13 +122,13 @@ class Windows:
         elif before <= 0 < after:
             self.line("stall-end", side, stream)
 
-    def end(self, side, stream):
+    def end(self, side: int, stream: int) -> None:
         if (side, stream) in self.credit:
             if self.credit[side, stream] <= 0:
                 self.line("stall-end", side, stream)
             del self.credit[side, stream]
 
-    def take(self, frame):
+    def take(self, frame: Frame) -> None:
         self.frame += 1
         side, other = frame.side, 1 - frame.side
         if frame.kind == HEADERS and side == CLIENT and (CLIENT, frame.stream) not in self.credit:
@@ -109,6 +138,7 @@ class Windows:
             for window in (0, frame.stream):
                 self.add(side, window, -frame.length)
         elif frame.kind == WINDOW_UPDATE and (other, frame.stream) in self.credit:
+            assert frame.grant is not None
             self.add(other, frame.stream, frame.grant)
         elif frame.kind == SETTINGS:
             self.settings(frame)
@@ -118,7 +148,7 @@ class Windows:
             self.end(CLIENT, frame.stream)
             self.end(SERVER, frame.stream)
 
-    def settings(self, frame):
+    def settings(self, frame: Frame) -> None:
         """Those of one side hold for the other's windows once it acknowledges them."""
         if not frame.flags & ACK:
             self.announced[frame.side].append(frame.window)
@@ -131,7 +161,7 @@ class Windows:
                     self.add(side, stream, change)
 
 
-def lines_of(frames):
+def lines_of(frames: list[Frame]) -> Iterator[str]:
     """The lines of a connection behind its flows."""
     windows = Windows()
     for frame in frames:
@@ -150,16 +180,17 @@ def lines_of(frames):
     yield "audit of all frames"
 
 
-def derived(name):
+def derived(name: str) -> Iterator[str]:
     """The report of a capture whose every packet is a whole segment of a connection of HTTP/2."""
     packets = {one.number: one for one in packets_of(name)}
-    frames, sizes = frames_of(name, packets), collections.Counter()
+    frames = frames_of(name, packets)
+    sizes: collections.Counter[tuple[int, int]] = collections.Counter()
     for row in (tools.CAPTURES / f"{name}.records").read_text().splitlines():
-        number, side, _, length = row.split()
-        sizes[packets[int(number)].stream, int(side)] += int(length)
+        packet, sender, _, length = row.split()
+        sizes[packets[int(packet)].stream, int(sender)] += int(length)
     count = len(packets)
     yield f"capture records {count} segments {count} snapped 0 not-ipv4 0 fragments 0 not-tcp 0 refused 0"
-    openings = {}
+    openings: dict[int, Packet] = {}
     for one in packets.values():
         if one.is_opening:
             openings.setdefault(one.stream, one)

@@ -1,8 +1,9 @@
 #!/usr/bin/python3
-"""Tests of h2audit-import on the forms that a capture may have: files, link types, IPv6, order of packets, holes, refusals.
+"""Tests of h2audit-import on the forms that a capture may have: files, link types, IPv6, order of packets, holes,
+refusals.
 
-The same packets in another form give the same plaintext; what is wanted is taken from the form that other tests hold against
-tshark. Nothing of an expected value is made by h2audit-import, but for that.
+The same packets in another form give the same plaintext; what is wanted is taken from the form that other tests hold
+against tshark. Nothing of an expected value is made by h2audit-import, but for that.
 """
 
 import contextlib
@@ -21,6 +22,7 @@ import sys
 import tempfile
 import time
 import unittest
+from collections.abc import Callable, Iterable, Iterator
 
 import import_tools as tools
 
@@ -36,18 +38,19 @@ KEYS = tools.key_log_of(NAME)
 WANTED = (tools.CAPTURES / f"{NAME}.records").read_text().splitlines()
 PACKETS, ETHERNET = tools.read_pcap(PCAP)
 RAW = 101
+JOBS: tuple[list[str], ...] = ([], ["-j", "2"])  # in one process, and in several
 
 
-def given(data, *words):
+def given(data: bytes, *words: tools.Word) -> tools.Made:
     """What is made of these bytes on standard input."""
     return tools.imported(*words, input=data)
 
 
-def datagrams():
+def datagrams() -> list[tools.Packet]:
     return [tools.Packet(one.nanos, one.data[14:], one.original - 14) for one in PACKETS]
 
 
-def in_ipv6(extensions=b"", first=6):
+def in_ipv6(extensions: bytes = b"", first: int = 6) -> list[tools.Packet]:
     """The packets between 2001:db8::1 and ::2, with these extension headers, of which the first has this number."""
     made = []
     for one in datagrams():
@@ -60,24 +63,24 @@ def in_ipv6(extensions=b"", first=6):
     return [tools.Packet(one.nanos, data, len(data)) for one, data in zip(PACKETS, made)]
 
 
-def block(kind, body, order="<"):
+def block(kind: int, body: bytes, order: str = "<") -> bytes:
     body += bytes(-len(body) % 4)
     return struct.pack(order + "II", kind, 12 + len(body)) + body + struct.pack(order + "I", 12 + len(body))
 
 
-def option(code, value):
+def option(code: int, value: bytes) -> bytes:
     return struct.pack("<HH", code, len(value)) + value + bytes(-len(value) % 4)
 
 
-def section():
+def section() -> bytes:
     return block(0x0A0D0D0A, struct.pack("<IHHq", 0x1A2B3C4D, 1, 0, -1))
 
 
-def interface(link, *options):
+def interface(link: int, *options: bytes) -> bytes:
     return block(1, struct.pack("<HHI", link, 0, 0) + b"".join(options) + bytes(4) * bool(options))
 
 
-def enhanced(number, ticks, one, order="<"):
+def enhanced(number: int, ticks: int, one: tools.Packet, order: str = "<") -> bytes:
     return block(
         6,
         struct.pack(order + "IIIII", number, ticks >> 32, ticks & 0xFFFFFFFF, len(one.data), one.original) + one.data,
@@ -85,25 +88,25 @@ def enhanced(number, ticks, one, order="<"):
     )
 
 
-def secrets():
+def secrets() -> bytes:
     text = (tools.CAPTURES / f"{NAME}.keys").read_bytes()
     return block(0xA, struct.pack("<II", 0x544C534B, len(text)) + text)
 
 
 class Files(unittest.TestCase):
-    def test_byte_orders_and_units(self):
+    def test_byte_orders_and_units(self) -> None:
         for order in "<>":
             for unit in (1, 1000):
                 made = given(tools.pcap_of(PACKETS, ETHERNET, order, unit), *KEYS)
                 self.assertEqual(tools.rows_of(made), WANTED)
                 self.assertEqual(made.packets[0].nanos, PACKETS[0].nanos // unit * unit)
 
-    def test_compressed(self):
+    def test_compressed(self) -> None:
         zstd = subprocess.run([*"zstd -q -c".split()], input=PCAP, capture_output=True, check=True).stdout
         for data in (gzip.compress(PCAP), gzip.compress(PCAP[:5000]) + gzip.compress(PCAP[5000:]), zstd):
             self.assertEqual(tools.rows_of(given(data, *KEYS)), WANTED)
 
-    def test_rotated(self):
+    def test_rotated(self) -> None:
         """Files in the order given are one capture; packets are those of each file."""
         with tempfile.TemporaryDirectory() as folder:
             paths = [pathlib.Path(folder, name) for name in ("a b%.pcap", "b.pcapng", "c.pcap.gz")]
@@ -122,7 +125,7 @@ class Files(unittest.TestCase):
         )
         self.assertTrue(tools.lines_of(made, "file")[0].endswith("/a%20b%25.pcap"))
 
-    def test_sections_and_clocks(self):
+    def test_sections_and_clocks(self) -> None:
         """Two sections, of either byte order; clocks of 2^-10 s and of 10^-9 s with an offset."""
         first = section() + interface(105) + interface(ETHERNET, option(9, b"\x8a"), option(14, struct.pack("<q", 100)))
         data = first + b"".join(enhanced(1, 5 * 1024 + 512, one) for one in PACKETS[:10])
@@ -134,22 +137,24 @@ class Files(unittest.TestCase):
         self.assertEqual(tools.rows_of(made), WANTED)
         self.assertEqual(made.packets[0].nanos, 105_500_000_000)
 
-    def test_secrets_after_packets(self):
-        """Keys that come last, on standard input too, where a capture cannot be read twice; processes change nothing."""
+    def test_secrets_after_packets(self) -> None:
+        """Keys that come last, on standard input too, where a capture cannot be read twice; processes change
+        nothing.
+        """
         packets = b"".join(enhanced(0, one.nanos // 1000, one) for one in PACKETS)
         for data in (
             section() + interface(ETHERNET) + packets + secrets(),
             section() + interface(ETHERNET) + secrets() + packets,
         ):
-            for words in ([], ["-j", "2"]):
+            for words in JOBS:
                 self.assertEqual(tools.rows_of(given(data, *words)), WANTED)
 
-    def test_cut(self):
+    def test_cut(self) -> None:
         made = given(PCAP[:-1], *KEYS)
         self.assertEqual(tools.lines_of(made, "passed"), [f"passed file 1 packet {len(PACKETS)} cut"])
         self.assertEqual(tools.rows_of(made), WANTED)
 
-    def test_refused(self):
+    def test_refused(self) -> None:
         """What cannot be read is refused by name, with status 3, and no file is left."""
         header = PCAP[:20]
         simple = section() + interface(1) + block(3, struct.pack("<I", 4) + b"abcd")
@@ -158,8 +163,9 @@ class Files(unittest.TestCase):
         cases = {
             b"": "short-header", b"abc": "short-header", b"abcdefgh": "bad-magic", PCAP[:23]: "short-header",
             header + struct.pack("<I", 105) + e[24:]: "link-type 105", PCAP[:4] + b"\x03" + PCAP[5:]: "bad-version",
-            simple: "simple-packet-block", section()[:-1] + b"\x01": "bad-block", gzip.compress(PCAP)[:2] + b"x" * 9: "bad-gzip",
-            section() + interface(1) + enhanced(1, 0, PACKETS[0]): "no-interface", b"\x28\xb5\x2f\xfd" + b"x" * 9: "bad-zstd",
+            simple: "simple-packet-block", section()[:-1] + b"\x01": "bad-block",
+            section() + interface(1) + enhanced(1, 0, PACKETS[0]): "no-interface",
+            gzip.compress(PCAP)[:2] + b"x" * 9: "bad-gzip", b"\x28\xb5\x2f\xfd" + b"x" * 9: "bad-zstd",
             tools.pcap_of([*v6[:1], clash], RAW): "address-clash",
         }  # fmt: skip
         for data, name in cases.items():
@@ -189,11 +195,11 @@ EXTENSIONS = [
 ]  # fmt: skip
 
 
-def fronted(packets, front):
+def fronted(packets: list[tools.Packet], front: bytes) -> list[tools.Packet]:
     return [tools.Packet(one.nanos, front + one.data, one.original + len(front)) for one in packets]
 
 
-def of_ipv6():
+def of_ipv6() -> Iterator[tuple[int, list[tools.Packet]]]:
     """Captures of IPv6: each link type, and each row of extension headers, as link type and packets."""
     for link, front in FRONTS_OF_IPV6:
         yield link, fronted(in_ipv6(), front)
@@ -202,13 +208,13 @@ def of_ipv6():
 
 
 class Links(unittest.TestCase):
-    def test_links(self):
+    def test_links(self) -> None:
         for link, front in FRONTS:
             with self.subTest(link=link, front=front):
                 made = given(tools.pcap_of(fronted(datagrams(), front), link), *KEYS)
                 self.assertEqual(tools.rows_of(made), WANTED)
 
-    def test_ipv6(self):
+    def test_ipv6(self) -> None:
         for link, packets in of_ipv6():
             made = given(tools.pcap_of(packets, link), *KEYS)
             self.assertEqual(tools.rows_of(made), WANTED)
@@ -219,7 +225,7 @@ class Links(unittest.TestCase):
             self.assertIn("client [2001:db8::1]:38292 server [2001:db8::2]:21001", line)
 
     @unittest.skipUnless(shutil.which("tshark"), "tshark is not installed")
-    def test_tshark(self):
+    def test_tshark(self) -> None:
         """tshark sees the same segments in each of these forms."""
         forms = [(ETHERNET, PACKETS), *((link, fronted(datagrams(), front)) for link, front in FRONTS), *of_ipv6()]
         data = section() + b"".join(interface(link) for link, _ in forms)
@@ -233,7 +239,7 @@ class Links(unittest.TestCase):
         self.assertEqual(lines, lines[: len(PACKETS)] * len(forms))
         self.assertNotIn("\t\t", lines[0])
 
-    def test_passed_over(self):
+    def test_passed_over(self) -> None:
         """What is no segment is counted, and named where it might have been one."""
         one = datagrams()[5]
         fragment = one.data[:6] + b"\x20\x00" + one.data[8:]
@@ -255,7 +261,7 @@ class Links(unittest.TestCase):
         ])  # fmt: skip
 
 
-def pieces_of(packet, dice):
+def pieces_of(packet: tools.Packet, dice: random.Random) -> list[tools.Packet]:
     """A segment cut in two, or as it stands."""
     data = packet.data
     start = 20 + (data[32] >> 4) * 4
@@ -275,9 +281,9 @@ def pieces_of(packet, dice):
     return [packet._replace(data=part, original=len(part)) for part in (front, back)]
 
 
-def joined(packets, dice):
+def joined(packets: list[tools.Packet], dice: random.Random) -> list[tools.Packet]:
     """Some segments with the one that follows them in their place, as one segment; the later packet goes."""
-    made = []
+    made: list[tools.Packet] = []
     for one in packets:
         before = made[-1].data if made else b""
         if before and dice.random() < 0.5 and follows(before, one.data) and len(before) + len(one.data) < 60000:
@@ -289,18 +295,18 @@ def joined(packets, dice):
     return made
 
 
-def payload_of(data):
+def payload_of(data: bytes) -> bytes:
     return data[20 + (data[32] >> 4) * 4 :]
 
 
-def follows(before, data):
+def follows(before: bytes, data: bytes) -> bool:
     """Whether a segment begins where another of its side ends, and both have payload alone."""
     end = int.from_bytes(before[24:28], "big") + len(payload_of(before))
     is_next = before[12:24] == data[12:24] and end & 0xFFFFFFFF == int.from_bytes(data[24:28], "big")
-    return is_next and not (before[33] | data[33]) & 7 and payload_of(before) and payload_of(data)
+    return is_next and not (before[33] | data[33]) & 7 and bool(payload_of(before) and payload_of(data))
 
 
-def disturbed(packets, dice, window):
+def disturbed(packets: list[tools.Packet], dice: random.Random, window: int) -> list[tools.Packet]:
     """Packets joined, cut in two, doubled, and in random order within a window; the openings stay first."""
     pieces = [piece for one in joined(packets[2:], dice) for piece in pieces_of(one, dice) * dice.choice((1, 1, 2))]
     order = sorted(range(len(pieces)), key=lambda at: at + dice.uniform(0, window))
@@ -308,7 +314,7 @@ def disturbed(packets, dice, window):
 
 
 class Order(unittest.TestCase):
-    def test_disturbed(self):
+    def test_disturbed(self) -> None:
         """The same plaintext of both sides, whatever the order of their packets."""
         seed = random.randrange(1 << 32)
         dice = random.Random(seed)
@@ -319,7 +325,7 @@ class Order(unittest.TestCase):
                 made = given(tools.pcap_of(disturbed(packets, dice, window), RAW), *tools.key_log_of(name))
                 self.assertEqual(tools.flows(made), tools.flows(base), (name, window, "seed", seed))
 
-    def test_lost_packets(self):
+    def test_lost_packets(self) -> None:
         """Packets 30 and 31 are missing: the server's plaintext ends there, and h2audit sees a later byte."""
         name = "curl-nginx-12-any-cooked"
         packets = list(in_raw(name))
@@ -331,11 +337,11 @@ class Order(unittest.TestCase):
         first = next(one.data for one in made.packets[2:] if one.data[20:22] == last[20:22])
         self.assertEqual(int.from_bytes(last[24:28], "big") - int.from_bytes(first[24:28], "big"), 164193)
 
-    def test_cut_record(self):
+    def test_cut_record(self) -> None:
         """A capture that ends within a record says how many bytes of it there are."""
         name, count = "loss-and-reordering", 22
         packets = list(in_raw(name))[:count]
-        sent = {}
+        sent: dict[int, bytes] = {}
         for one in packets:
             payload = one.data[20 + (one.data[32] >> 4) * 4 :]
             if payload and one.data[20:22] != packets[0].data[20:22]:
@@ -348,8 +354,10 @@ class Order(unittest.TestCase):
         self.assertTrue(stream)
         self.assertTrue(tools.lines_of(made, "flow")[1].endswith(f" gap none tail {len(stream)} end cut"), made.map)
 
-    def test_reset(self):
-        """What comes up to 240 seconds after an RST still counts; later, and once another connection opened, no more."""
+    def test_reset(self) -> None:
+        """What comes up to 240 seconds after an RST still counts; later, and once another connection opened,
+        no more.
+        """
         packets = [one for one in in_raw(NAME) if not one.data[33] & 1]
         rows = len(WANTED)
         for seconds, is_kept in ((239, True), (241, False)):
@@ -362,7 +370,7 @@ class Order(unittest.TestCase):
             self.assertEqual(len(tools.rows_of(made)) == rows, is_kept, seconds)
             self.assertEqual(len(tools.lines_of(made, "connection")), 2)
 
-    def test_begins_late(self):
+    def test_begins_late(self) -> None:
         made = given(tools.pcap_of(list(in_raw("key-updates"))[12:], RAW), *tools.key_log_of("key-updates"))
         self.assertEqual((made.status, tools.lines_of(made, "connection")), (6, []))
         self.assertEqual(
@@ -370,8 +378,10 @@ class Order(unittest.TestCase):
         )
 
 
-def in_raw(name):
-    """The packets of a capture of IPv4 as raw IP; those of a pcapng file by way of h2audit-import without keys are not had."""
+def in_raw(name: str) -> Iterator[tools.Packet]:
+    """The packets of a capture of IPv4 as raw IP; those of a pcapng file by way of h2audit-import without
+    keys are not had.
+    """
     data = tools.capture_named(name).read_bytes()
     if data[:4] != b"\x0a\x0d\x0d\x0a":
         packets, _ = tools.read_pcap(data)
@@ -383,7 +393,7 @@ def in_raw(name):
         yield tools.Packet(one.nanos, one.data[front : front + total], total)
 
 
-def enhanced_in(data):
+def enhanced_in(data: bytes) -> Iterator[tools.Packet]:
     at = 0
     while at < len(data):
         kind, length = struct.unpack_from("<II", data, at)
@@ -396,11 +406,12 @@ def enhanced_in(data):
 class Flows(unittest.TestCase):
     """The reassembly of one side, beside a model that keeps of each offset the first byte that came for it."""
 
-    def test_model(self):
+    def test_model(self) -> None:
         seed = random.randrange(1 << 32)
         dice = random.Random(seed)
         for _ in range(3000):
-            flow, first, given_out = Flow(), {}, b""
+            flow, given_out = Flow(), b""
+            first: dict[int, int] = {}
             for packet in range(dice.randrange(1, 12)):
                 offset, data = dice.randrange(20), dice.randbytes(dice.randrange(1, 9))
                 for at, byte in enumerate(data, offset):
@@ -410,12 +421,12 @@ class Flows(unittest.TestCase):
                 self.assertEqual(given_out, bytes(first[at] for at in range(run)), seed)
                 self.assertEqual((flow.next, flow.behind_hole is not None), (run, max(first) > run), seed)
 
-    def test_end_of_offsets(self):
+    def test_end_of_offsets(self) -> None:
         flow = Flow()
         flow.next = (1 << 31) - 2
         self.assertEqual((flow.add((1 << 31) - 2, b"abcd", (1, 0)), flow.next), (b"ab", 1 << 31))
 
-    def test_limit(self):
+    def test_limit(self) -> None:
         """What is held behind a hole is let go at 64 MiB, and the hole stays one."""
         flow = Flow()
         for at in range(1100):
@@ -424,7 +435,7 @@ class Flows(unittest.TestCase):
 
 
 class Resumed(unittest.TestCase):
-    def test_tickets_in_a_row(self):
+    def test_tickets_in_a_row(self) -> None:
         """A resumed connection gets a ticket of its own, which the next one shows; another process may have met it."""
         keys, workers = Keys(), [Sessions(), Sessions()]
         keys.add_line(b"CLIENT_RANDOM " + b"aa" * 32 + b" " + b"12" * 48)
@@ -438,7 +449,7 @@ class Resumed(unittest.TestCase):
 
 
 class Secrets(unittest.TestCase):
-    def test_modes(self):
+    def test_modes(self) -> None:
         """Capture and map are for their owner alone, also where a file of that name was not."""
         with tempfile.TemporaryDirectory() as folder:
             out, made_map = pathlib.Path(folder, "out"), pathlib.Path(folder, "map")
@@ -447,16 +458,17 @@ class Secrets(unittest.TestCase):
             self.assertEqual([stat.S_IMODE(path.stat().st_mode) for path in (out, made_map)], [0o600, 0o600])
             self.assertEqual(sorted(os.listdir(folder)), ["map", "out"])
 
-    def test_signals(self):
+    def test_signals(self) -> None:
         """A signal leaves no file behind."""
         for one in (signal.SIGTERM, signal.SIGINT, signal.SIGHUP):
-            for words in ([], ["-j", "2"]):
+            for words in JOBS:
                 with tempfile.TemporaryDirectory() as folder:
                     child = subprocess.Popen(
                         [tools.IMPORT, *words, "-o", f"{folder}/out", "-m", f"{folder}/map"],
                         stdin=subprocess.PIPE,
                         stderr=subprocess.PIPE,
                     )
+                    assert child.stdin and child.stderr
                     child.stdin.write(PCAP[:20000])
                     child.stdin.flush()
                     deadline = time.monotonic() + 30
@@ -470,7 +482,7 @@ class Secrets(unittest.TestCase):
                     self.assertEqual(os.listdir(folder), [])
 
 
-def ended(words, **more):
+def ended(words: str, **more: str) -> tuple[int, str]:
     """Status and standard error of a command line of the shell, where $IMPORT is the program."""
     run = subprocess.run(["sh", "-c", words], capture_output=True, text=True, timeout=120,
                          env={**os.environ, "IMPORT": str(tools.IMPORT), "ANY": str(tools.ANY), **more})  # fmt: skip
@@ -480,21 +492,21 @@ def ended(words, **more):
 class Hostile(unittest.TestCase):
     """What is no capture, no key log, or cannot be read or written: a line that says so, and a status."""
 
-    def setUp(self):
+    def setUp(self) -> None:
         self.folder = tempfile.TemporaryDirectory()
         self.addCleanup(self.folder.cleanup)
         self.made = {"D": self.folder.name, "P": str(tools.capture_named(NAME)), "K": str(KEYS[1])}
 
-    def file(self, name, data):
+    def file(self, name: str, data: bytes) -> None:
         pathlib.Path(self.folder.name, name).write_bytes(data)
 
-    def check(self, rows):
+    def check(self, rows: Iterable[tuple[str, int, str]]) -> None:
         for words, status, said in rows:
             with self.subTest(words):
                 self.assertEqual(ended(words, **self.made), (status, said and f"{said}\n"))
         self.assertEqual([name for name in os.listdir(self.folder.name) if name.startswith(".")], [])
 
-    def test_files(self):
+    def test_files(self) -> None:
         os.mkfifo(f"{self.folder.name}/pipe")
         self.file("zeros", bytes(5000))
         name = "h2audit-import:"
@@ -515,7 +527,7 @@ class Hostile(unittest.TestCase):
             ("cat $K > $D/pipe & $IMPORT -k $D/pipe -o $D/o $P", 0, ""),
         ])  # fmt: skip
 
-    def test_closed(self):
+    def test_closed(self) -> None:
         """Where a standard file is closed, no other file takes its place."""
         self.check([
             ("$IMPORT -k $K -o $D/o <&-", 4, "h2audit-import: standard input: Bad file descriptor"),
@@ -523,7 +535,7 @@ class Hostile(unittest.TestCase):
             ("$IMPORT -k $K -o $D/o $P >&- 2>&- <&-", 0, ""), ("$IMPORT -o $D/o $D/none 2>&-", 4, ""),
         ])  # fmt: skip
 
-    def test_programs(self):
+    def test_programs(self) -> None:
         """A program that is no h2audit, or is ended."""
         self.file("killed", b"#!/bin/sh\nkill -9 $$\n")
         os.chmod(f"{self.folder.name}/killed", 0o755)
@@ -534,7 +546,7 @@ class Hostile(unittest.TestCase):
             ("$ANY --h2audit $D/none -k $K $P", 4, "h2audit-any: D/none: No such file or directory"),
         ])  # fmt: skip
 
-    def test_blocks(self):
+    def test_blocks(self) -> None:
         """Lengths of pcapng and pcap that nothing stands behind."""
         front, head = section() + interface(ETHERNET), PCAP[:24]
         rows = {
@@ -551,11 +563,11 @@ class Hostile(unittest.TestCase):
         for data, wanted in rows.items():
             made = given(data)
             found = [line.split(" ", 5)[5] for line in tools.lines_of(made, "passed")]
-            named = (3, f"h2audit-import: capture refused: {wanted}: -\n", [])
+            named: tuple[int, str, list[str]] = (3, f"h2audit-import: capture refused: {wanted}: -\n", [])
             passed = (6, "h2audit-import: no connection could be read\n", [wanted])
             self.assertIn((made.status, made.said, found), (named, passed))
 
-    def test_bombs(self):
+    def test_bombs(self) -> None:
         """What is small and becomes large takes no more memory than any capture: a packet of 600 MB, and a million of
         none.
         """
@@ -569,7 +581,7 @@ class Hostile(unittest.TestCase):
         self.check([("ulimit -v 400000; head -c 500000000 /dev/zero | $IMPORT -k $K -o $D/o $P -", 3,
                      "h2audit-import: capture refused: bad-magic: -")])  # fmt: skip
 
-    def test_key_logs(self):
+    def test_key_logs(self) -> None:
         """A key log that is damaged is counted; not a digit of it is in what is said and in the map."""
         secret, random_part = b"5ec7e7" * 16, b"ab" * 32
         lines = [b"CLIENT_RANDOM " + random_part + b" " + secret + b"zz", b"CLIENT_RANDOM " + secret, secret * 100,
@@ -588,11 +600,12 @@ class Hostile(unittest.TestCase):
 
 
 class Terminal(unittest.TestCase):
-    def test_progress(self):
+    def test_progress(self) -> None:
         """On a terminal work that is long says how far it is, and takes that back."""
         leader, follower = pty.openpty()
         words = [tools.IMPORT, *KEYS, "-o", os.devnull]
         with subprocess.Popen(words, stdin=subprocess.PIPE, stderr=follower) as child:
+            assert child.stdin
             os.close(follower)
             child.stdin.write(PCAP)
             self.feed(child, lambda: select.select([leader], [], [], 0)[0])
@@ -605,8 +618,9 @@ class Terminal(unittest.TestCase):
         os.close(leader)
         self.assertRegex(said, rb"^(\rh2audit-import: [\d,]+ packets)+\r +\r$")
 
-    def feed(self, child, is_enough):
+    def feed(self, child: subprocess.Popen[bytes], is_enough: Callable[[], object]) -> None:
         """Thousands of packets every half a second."""
+        assert child.stdin
         packets = (struct.pack("<IIII", 1, 0, 1, 1) + b"x") * 5000
         for _ in range(120):
             child.stdin.write(packets)
@@ -615,10 +629,11 @@ class Terminal(unittest.TestCase):
             if is_enough():
                 return
 
-    def test_none(self):
+    def test_none(self) -> None:
         """Elsewhere nothing is said."""
         words = [tools.IMPORT, *KEYS, "-o", os.devnull]
         with subprocess.Popen(words, stdin=subprocess.PIPE, stderr=subprocess.PIPE) as child:
+            assert child.stdin and child.stderr
             child.stdin.write(PCAP)
             end = time.monotonic() + 6
             self.feed(child, lambda: time.monotonic() > end)

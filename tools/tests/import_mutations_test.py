@@ -19,6 +19,7 @@ import random
 import signal
 import sys
 import tempfile
+from collections.abc import Iterator
 
 import import_tools as tools
 
@@ -33,7 +34,7 @@ NAMES = (
 )  # fmt: skip
 STATUSES = (0, programs.CAPTURE_REFUSED, programs.NOTHING_READ)
 PART = 50
-KNOWN = set()  # each 16 bytes of the originals' plaintext
+KNOWN: set[bytes] = set()  # each 16 bytes of the originals' plaintext
 INTERESTING = (b"\x00", b"\xff", b"\x7f\xff", b"\x80\x00", b"\x16\x03\x03", b"\xff\xff\xff\xff", b"\x00\x00\x00\x00")
 
 
@@ -41,12 +42,12 @@ class Hangs(BaseException):
     """It takes too long. No handler of errors takes it for one of its own."""
 
 
-def hangs(*_):
+def hangs(*_: object) -> None:
     raise Hangs
 
 
 @contextlib.contextmanager
-def time_limits():
+def time_limits() -> Iterator[None]:
     for one in (signal.SIGPROF, signal.SIGALRM):
         signal.signal(one, hangs)
     signal.setitimer(signal.ITIMER_PROF, PROCESSOR_SECONDS)
@@ -58,7 +59,7 @@ def time_limits():
         signal.alarm(0)
 
 
-def changed(data, dice):
+def changed(data: bytes, dice: random.Random) -> bytes:
     """Bytes with a few changes: flipped, set, cut out, doubled, or the end cut off."""
     data = bytearray(data)
     for _ in range(dice.choice((1, 1, 2, 5, 20))):
@@ -82,7 +83,7 @@ def changed(data, dice):
     return bytes(data)
 
 
-def run(words):
+def run(words: list[tools.Word]) -> tuple[int, str]:
     """Status and standard error of h2audit-import in this process."""
     said = io.StringIO()
     sys.argv = ["h2audit-import", *map(str, words)]
@@ -90,12 +91,13 @@ def run(words):
         try:
             command.main()
         except SystemExit as end:
-            return end.code, said.getvalue()
+            return int(end.code or 0), said.getvalue()
+    raise AssertionError("it ends by an exit")
 
 
-def known_plaintext(folder):
+def known_plaintext(folder: pathlib.Path) -> set[bytes]:
     """Every 16 bytes of plaintext that some original holds, of any side."""
-    found = set()
+    found: set[bytes] = set()
     for name in NAMES:
         path = folder / "known"
         run([*tools.key_log_of(name), "-o", path, "-m", folder / "map", tools.capture_named(name)])
@@ -105,12 +107,12 @@ def known_plaintext(folder):
     return found
 
 
-def payload_of(data):
+def payload_of(data: bytes) -> bytes:
     header = (data[0] & 15) * 4
     return data[header + (data[header + 12] >> 4) * 4 :]
 
 
-def check(made, map_path, known, words):
+def check(made: pathlib.Path, map_path: pathlib.Path, known: set[bytes], words: object) -> None:
     """What TLS records gave is plaintext of the original; its records are those of the map."""
     packets = tools.read_pcap(made.read_bytes())[0]
     lines = map_path.read_text().splitlines()
@@ -125,9 +127,9 @@ def check(made, map_path, known, words):
         assert all(piece in known for piece in pieces), (words, number)
 
 
-def has_pair_of_both_kinds(lines):
+def has_pair_of_both_kinds(lines: list[str]) -> bool:
     """Whether two endpoints have a connection of TLS and one without, as a packet that became a SYN makes it."""
-    kinds = {"tls": set(), "clear": set()}
+    kinds: dict[str, set[frozenset[str]]] = {"tls": set(), "clear": set()}
     for line in lines:
         words = line.split()
         if words[0] == "connection" and words[9] in kinds:
@@ -135,7 +137,7 @@ def has_pair_of_both_kinds(lines):
     return bool(kinds["tls"] & kinds["clear"])
 
 
-def mutated(name, dice):
+def mutated(name: str, dice: random.Random) -> tuple[bytes, bytes]:
     """Bytes of a capture and of its key log, of which at least one is changed."""
     data = tools.capture_named(name).read_bytes()
     path = tools.CAPTURES / f"{name}.keys"
@@ -145,7 +147,7 @@ def mutated(name, dice):
     return changed(data, dice), text
 
 
-def one(folder, seed, known, number):
+def one(folder: pathlib.Path, seed: int, known: set[bytes], number: int) -> str:
     """Tries a mutation, and answers how it ended."""
     dice = random.Random(f"{seed} {number}")
     name = dice.choice(NAMES)
@@ -169,7 +171,7 @@ def one(folder, seed, known, number):
     return "capture refused" if status == programs.CAPTURE_REFUSED else "nothing read" if status else "read"
 
 
-def tried(words):
+def tried(words: tuple[int, range]) -> list[tuple[int, str]]:
     """How each mutation of a range ended, or what was wrong with it."""
     seed, numbers = words
     ended = []
@@ -183,16 +185,16 @@ def tried(words):
     return ended
 
 
-def main():
-    first, _, last = (sys.argv[1] if len(sys.argv) > 1 else "400").rpartition(":")
-    first, last = int(first or 0), int(last)
+def main() -> int:
+    begin, _, end = (sys.argv[1] if len(sys.argv) > 1 else "400").rpartition(":")
+    first, last = int(begin or 0), int(end)
     seed = int(sys.argv[2]) if len(sys.argv) > 2 else int.from_bytes(os.urandom(4), "big")
     processes = int(sys.argv[3]) if len(sys.argv) > 3 else 1
     print(f"mutations {first} to {last - 1}, seed {seed}", flush=True)
     with tempfile.TemporaryDirectory(prefix="h2audit-test-") as name:
         KNOWN.update(known_plaintext(pathlib.Path(name)))
     parts = [(seed, range(at, min(at + PART, last))) for at in range(first, last, PART)]
-    ways = collections.Counter()
+    ways: collections.Counter[str] = collections.Counter()
     with multiprocessing.get_context("fork").Pool(processes) as pool:
         for number, way in (row for part in pool.imap_unordered(tried, parts) for row in part):
             ways[way.split()[0] if way.startswith("FAILED") else way] += 1

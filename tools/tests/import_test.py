@@ -3,8 +3,8 @@
 
     tools/tests/import_test.py [PROGRAM]
 
-PROGRAM is h2audit; without it the tests of reports are skipped. REPORTS=write in the environment writes the stored reports of
-tests/tls anew, to be read and compared with their truth.
+PROGRAM is h2audit; without it the tests of reports are skipped. REPORTS=write in the environment writes the stored
+reports of tests/tls anew, to be read and compared with their truth.
 """
 
 import base64
@@ -15,7 +15,10 @@ import re
 import shutil
 import subprocess
 import sys
+import tempfile
 import unittest
+from collections.abc import Iterator
+from typing import Any
 
 import derived_report
 import import_tools as tools
@@ -23,10 +26,13 @@ import import_tools as tools
 PROGRAM = os.path.abspath(sys.argv.pop()) if len(sys.argv) > 1 and not sys.argv[-1].startswith("-") else None
 # Frames of each connection, as the peers' logs and tshark count them.
 FRAMES = {
-    "nghttp-nghttpd-13": [20], "small-window-v6": [35], "curl-nginx-12-any-cooked": [131], "curl-nginx-13-v6-any-sll2": [62],
-    "curl-apache-upload": [15], "h2load-node-many": [64] * 12, "loss-and-reordering": [92], "key-updates": [114],
+    "nghttp-nghttpd-13": [20], "small-window-v6": [35], "curl-nginx-12-any-cooked": [131],
+    "curl-nginx-13-v6-any-sll2": [62], "curl-apache-upload": [15], "h2load-node-many": [64] * 12,
+    "loss-and-reordering": [92], "key-updates": [114],
     "stream-overrun-go": [201], "two-interfaces": [21], "secrets-inside": [35], "zstd": [35],
 }  # fmt: skip
+# Words of h2audit, and how the reports are named that it gives with them.
+FORMS: tuple[tuple[list[str], str], ...] = (([], ".report"), (["--frames"], ".frames.report"))
 NGHTTP_LOGS = ("nghttp-nghttpd-13", "small-window-v6", "loss-and-reordering")
 TYPES = (
     "DATA",
@@ -44,11 +50,11 @@ needs_program = unittest.skipUnless(PROGRAM, "h2audit is not built")
 
 
 @functools.cache
-def made_of(name, *words):
+def made_of(name: str, *words: str) -> tools.Made:
     return tools.imported(*tools.key_log_of(name), *words, tools.capture_named(name))
 
 
-def frames_of(data):
+def frames_of(data: bytes) -> Iterator[tuple[str, int, int]]:
     """Type, length and stream of each frame in a side's bytes."""
     data = data[24:] if data.startswith(b"PRI * HTTP/2.0") else data
     while len(data) >= 9:
@@ -58,25 +64,27 @@ def frames_of(data):
 
 
 class Records(unittest.TestCase):
-    def test_each_record(self):
-        """Packet, side, SHA-1 and length of each record's plaintext, as own decryption of a trial and tshark agreed on them."""
+    def test_each_record(self) -> None:
+        """Packet, side, SHA-1 and length of each record's plaintext, as own decryption of a trial and tshark
+        agreed on them.
+        """
         for path in sorted(tools.CAPTURES.glob("*.records")):
             name = path.name.split(".")[0]
             with self.subTest(name):
                 self.assertEqual(tools.rows_of(made_of(name)), path.read_text().splitlines())
 
-    def test_other_forms(self):
+    def test_other_forms(self) -> None:
         """The same connection with its secrets inside, and compressed."""
         wanted = (tools.CAPTURES / "small-window-v6.records").read_text().splitlines()
         for name in ("secrets-inside", "zstd"):
             self.assertEqual(tools.rows_of(made_of(name)), wanted)
 
-    def test_jobs(self):
+    def test_jobs(self) -> None:
         """Processes change no byte of capture and map."""
         for name in ("h2load-node-many", "mixed", "loss-and-reordering"):
             self.assertEqual(made_of(name), made_of(name, "--jobs", "3"))
 
-    def test_frames_of_logs(self):
+    def test_frames_of_logs(self) -> None:
         """The frames of each side are those that nghttp says it sent and received."""
         for name in NGHTTP_LOGS:
             log = (tools.CAPTURES / f"{name}.client.log").read_text()
@@ -87,11 +95,12 @@ class Records(unittest.TestCase):
                 self.assertEqual(list(frames_of(data)), said, (name, word))
 
     @unittest.skipUnless(shutil.which("tshark"), "tshark is not installed")
-    def test_tshark(self):
+    def test_tshark(self) -> None:
         """The bytes of both sides are those that tshark shows."""
         for name in ("nghttp-nghttpd-13", "curl-apache-upload", "key-updates", "loss-and-reordering"):
             client, server = tools.flows(made_of(name))
-            options = ["-o", f"tls.keylog_file:{tools.CAPTURES / (name + '.keys')}", "-o", "tcp.reassemble_out_of_order:TRUE",
+            keys = tools.CAPTURES / f"{name}.keys"
+            options = ["-o", f"tls.keylog_file:{keys}", "-o", "tcp.reassemble_out_of_order:TRUE",
                        "-o", "tcp.try_heuristic_first:TRUE", "-q", "-z", "follow,tls,yaml,0"]  # fmt: skip
             run = subprocess.run(
                 ["tshark", "-n", "-r", tools.capture_named(name), *options], capture_output=True, text=True
@@ -99,10 +108,10 @@ class Records(unittest.TestCase):
             self.assertEqual(followed(run.stdout, made_of(name)), [client, server], name)
 
 
-def followed(yaml, made):
+def followed(yaml: str, made: tools.Made) -> list[bytes]:
     """The bytes of client and server in what tshark follows; its first peer is the side that spoke first."""
     server = tools.lines_of(made, "connection")[0].split()[4].rsplit(":", 1)[1]
-    is_server_first = re.search(r"peer: 0\n +host: .*\n +port: (\d+)", yaml)[1] == server
+    is_server_first = re.findall(r"peer: 0\n +host: .*\n +port: (\d+)", yaml)[0] == server
     shown = [b"", b""]
     for peer, text in re.findall(r"- packet: \d+\n +peer: (\d)\n.*\n +data: !!binary \|\n((?:      .*\n)+)", yaml):
         shown[int(peer) ^ is_server_first] += base64.b64decode("".join(text.split()))
@@ -112,7 +121,7 @@ def followed(yaml, made):
 class Outcomes(unittest.TestCase):
     """Each connection of a capture is in the map."""
 
-    def test_mixed(self):
+    def test_mixed(self) -> None:
         lines = [line.split(" packet ")[1] for line in tools.lines_of(made_of("mixed"), "connection")]
         suite = "TLS_AES_256_GCM_SHA384"
         self.assertEqual(lines, [
@@ -120,12 +129,12 @@ class Outcomes(unittest.TestCase):
             "50 refused no-key", "71 clear", f"89 tls 1.3 {suite} alpn h2 records 6",
         ])  # fmt: skip
 
-    def test_wrong_keys(self):
+    def test_wrong_keys(self) -> None:
         """Keys whose digits differ open nothing, and nothing is made of them."""
         name = "nghttp-nghttpd-13"
         text = (tools.CAPTURES / f"{name}.keys").read_text()
         wrong = re.sub(r"(\w{63})(\w)$", lambda found: found[1] + "%x" % (int(found[2], 16) ^ 1), text, flags=re.M)
-        with tools.tempfile.NamedTemporaryFile("w") as keys:
+        with tempfile.NamedTemporaryFile("w") as keys:
             keys.write(wrong)
             keys.flush()
             made = tools.imported("-k", keys.name, tools.capture_named(name))
@@ -134,25 +143,26 @@ class Outcomes(unittest.TestCase):
         )
         self.assertEqual(list(tools.payloads(made)), [])
 
-    def test_no_key(self):
+    def test_no_key(self) -> None:
         made = tools.imported(tools.capture_named("curl-nginx-12-any-cooked"))
         self.assertEqual((made.status, made.said), (6, "h2audit-import: no connection could be read\n"))
         self.assertTrue(tools.lines_of(made, "connection")[0].endswith("refused no-key"))
 
-    def test_snapped(self):
+    def test_snapped(self) -> None:
         made = made_of("snapped-96")
         self.assertEqual(made.status, 6)
         self.assertTrue(tools.lines_of(made, "connection")[0].endswith("refused snapped"))
 
 
 @functools.cache
-def report_of(name):
+def report_of(name: str) -> tuple[str, int, str]:
+    assert PROGRAM
     return tools.report_of(PROGRAM, *tools.key_log_of(name), tools.capture_named(name))
 
 
 class Reports(unittest.TestCase):
     @needs_program
-    def test_stored(self):
+    def test_stored(self) -> None:
         """Reports as they were read and compared with the truth of each capture."""
         for name in tools.names():
             with self.subTest(name):
@@ -167,13 +177,13 @@ class Reports(unittest.TestCase):
                 )
 
     @needs_program
-    def test_frames(self):
+    def test_frames(self) -> None:
         for name, wanted in FRAMES.items():
             found = re.findall(r"^connection .* http2 frames (\d+)$", report_of(name)[0], re.M)
             self.assertEqual([int(count) for count in found], wanted, name)
 
     @needs_program
-    def test_stalls(self):
+    def test_stalls(self) -> None:
         """Stream, first and last packet of each stall, as the ledger says that is made of what tshark sees."""
         for path in sorted(tools.CAPTURES.glob("*.truth.json")):
             name = path.name.split(".")[0]
@@ -182,7 +192,7 @@ class Reports(unittest.TestCase):
                 self.assertEqual(found, wanted, (name, side))
 
     @unittest.skipUnless(shutil.which("tshark"), "tshark is not installed")
-    def test_derived(self):
+    def test_derived(self) -> None:
         """Each line of a stored report, derived from tshark's frames and times, files of records, and the RFC."""
         for name in FRAMES:
             stored = (tools.CAPTURES / f"{name}.report").read_text()
@@ -190,16 +200,17 @@ class Reports(unittest.TestCase):
             self.assertEqual("\n".join(derived_report.derived(told)) + "\n", stored, name)
 
     @needs_program
-    def test_examples(self):
+    def test_examples(self) -> None:
         """A capture that h2audit reads has the report that it has alone."""
         for path in sorted(tools.EXAMPLES.glob("*.pcap")):
-            for words, ending in (([], ".report"), (["--frames"], ".frames.report")):
+            for words, ending in FORMS:
                 wanted = path.with_suffix(ending).read_text()
+                assert PROGRAM
                 alone = subprocess.run([PROGRAM, *words, path], capture_output=True)
                 self.assertEqual(tools.report_of(PROGRAM, *words, path), (wanted, alone.returncode, ""), path.name)
 
 
-def ledgers(truth):
+def ledgers(truth: dict[str, Any]) -> Iterator[tuple[str, str, list[tuple[int, int, int | None]]]]:
     """Client's endpoint, side, and the stalls of its streams, of each connection that tshark sees frames of."""
     for one in truth["tcp_streams"]:
         for side, ledger in one.get("ledger", {}).get("at_ack", {}).items():
@@ -207,9 +218,13 @@ def ledgers(truth):
             yield one["client"], side, sorted((row[0], row[1], row[2]) for row in at_zero if row[0])
 
 
-def stalls_of(report, client, side):
-    """Stream, first and last packet of each stall of streams that lasts longer than a packet, of the connection of a client."""
-    found, packets, is_it = [], {}, False
+def stalls_of(report: str, client: str, side: str) -> list[tuple[int, int, int | None]]:
+    """Stream, first and last packet of each stall of streams that lasts longer than a packet, of the
+    connection of a client.
+    """
+    found: list[tuple[int, int, int | None]] = []
+    packets: dict[str, int] = {}
+    is_it = False
     for line in report.splitlines():
         words = line.split()
         if words[0] == "connection":

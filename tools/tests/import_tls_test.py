@@ -1,15 +1,18 @@
 #!/usr/bin/python3
-"""Tests of h2audit-import on connections that OpenSSL makes: each cipher suite, resumption, PSK, early data, and what may go wrong.
+"""Tests of h2audit-import on connections that OpenSSL makes: each cipher suite, resumption, PSK, early data, and what
+may go wrong.
 
-What was said is known, and each record's plaintext has to be it. The connections of ``openssl s_server`` and ``s_client`` are
-captured by tcpdump on the loopback interface, which needs root; else these tests are skipped.
+What was said is known, and each record's plaintext has to be it. The connections of ``openssl s_server`` and
+``s_client`` are captured by tcpdump on the loopback interface, which needs root; else these tests are skipped.
 
     tools/tests/import_tls_test.py [PROGRAM]
 
-With PROGRAM, which is h2audit, the captures of examples/ are said over TLS, and have to give the frames that they have in the clear.
+With PROGRAM, which is h2audit, the captures of examples/ are said over TLS, and have to give the frames that they
+have in the clear.
 """
 
 import contextlib
+import itertools
 import os
 import pathlib
 import re
@@ -18,8 +21,10 @@ import socket
 import ssl
 import subprocess
 import sys
+import tempfile
 import time
 import unittest
+from collections.abc import Iterable, Iterator, Sequence
 
 import import_tools as tools
 import tls_talk
@@ -29,25 +34,30 @@ EXAMPLE = tools.EXAMPLES / "stream_overrun_go.pcap"
 # What python3-cryptography has no cipher for, and what needs another kind of key exchange than a certificate.
 NOT_READ = ("ARIA",)
 WITHOUT_CERTIFICATE = ("PSK", "SRP", "ADH", "AECDH", "DSS", "GOST", "IDEA", "SEED", "RC4", "MD5", "DES-CBC3")
+Said = bytes | tuple[bytes, ...]  # one thing, or several that go out by themselves
 can_capture = os.geteuid() == 0 and shutil.which("tcpdump") and shutil.which("openssl")
 
 
 class Folder(unittest.TestCase):
+    kept: tempfile.TemporaryDirectory[str]
+    folder: str
+    certificates: list[pathlib.Path]
+
     @classmethod
-    def setUpClass(cls):
+    def setUpClass(cls) -> None:
         cls.kept = tls_talk.temporary()
         cls.folder = cls.kept.name
         cls.certificates = [tls_talk.certificate(cls.folder, kind) for kind in ("rsa", "ec")]
 
     @classmethod
-    def tearDownClass(cls):
+    def tearDownClass(cls) -> None:
         cls.kept.cleanup()
 
-    def path(self, name):
+    def path(self, name: str) -> pathlib.Path:
         return pathlib.Path(self.folder, name)
 
 
-def tls12_suites():
+def tls12_suites() -> list[str]:
     """The TLS 1.2 suites of this OpenSSL that go with a certificate."""
     context = ssl.SSLContext(ssl.PROTOCOL_TLS_SERVER)
     context.set_ciphers("ALL:eNULL:@SECLEVEL=0")
@@ -56,7 +66,9 @@ def tls12_suites():
 
 
 class Suites(Folder):
-    def talk(self, version, ciphers, said, name="one"):
+    def talk(
+        self, version: ssl.TLSVersion, ciphers: str | None, said: Iterable[tuple[int, bytes]], name: str = "one"
+    ) -> tuple[tools.Made, tls_talk.Talk]:
         """A connection in which this is said, and what is made of its capture."""
         capture, keys = tls_talk.Capture(), self.path(f"{name}.keys")
         keys.write_bytes(b"")
@@ -68,7 +80,7 @@ class Suites(Folder):
         capture.write(self.path(f"{name}.pcap"))
         return tools.imported("-k", keys, self.path(f"{name}.pcap")), talk
 
-    def test_tls12(self):
+    def test_tls12(self) -> None:
         """Each suite by name; what is not read is refused by the number that OpenSSL gives it."""
         said, suites = list(tls_talk.payloads_of(EXAMPLE)), tls12_suites()
         self.assertGreater(len(suites), 30)
@@ -82,7 +94,7 @@ class Suites(Folder):
                 self.assertIn(" tls 1.2 TLS_", line)
                 self.assertEqual(joined(tools.payloads(made)), joined((0, *one) for one in talk.said), name)
 
-    def test_tls13(self):
+    def test_tls13(self) -> None:
         """Each suite, by OpenSSL's configuration, since the ssl module cannot choose among them."""
         for suite in (
             "AES_128_GCM_SHA256",
@@ -105,8 +117,10 @@ class Suites(Folder):
                     joined(tools.payloads(made)), joined((0, *one) for one in tls_talk.payloads_of(EXAMPLE))
                 )
 
-    def test_resumed(self):
-        """Resumption in TLS 1.2 by a ticket: the second connection has no certificate, and a line of its own in the key log."""
+    def test_resumed(self) -> None:
+        """Resumption in TLS 1.2 by a ticket: the second connection has no certificate, and a line of its own
+        in the key log.
+        """
         capture, keys = tls_talk.Capture(), self.path("resumed.keys")
         keys.write_bytes(b"")
         pair = tls_talk.contexts(self.certificates, keys, ssl.TLSVersion.TLSv1_2, "ECDHE-RSA-AES128-SHA")
@@ -119,7 +133,7 @@ class Suites(Folder):
         made = tools.imported("-k", keys, self.path("resumed.pcap"))
         self.assertEqual([data for _, _, data in tools.payloads(made)], [b"first", b"second"])
 
-    def test_session_of_another(self):
+    def test_session_of_another(self) -> None:
         """A key log with the session's first handshake alone, by identifier and by ticket, gives what the whole one
         gives, and the same plaintext on standard input; processes change nothing. Nothing is read where that line is
         missing too.
@@ -139,14 +153,14 @@ class Suites(Folder):
             made = tools.imported("-k", keys, path)
             self.assertEqual([line.split()[-1] for line in tools.lines_of(made, "connection")], ["no-key"] * 4)
 
-    def resume(self, name, option):
+    def resume(self, name: str, option: int) -> tuple[list[bytes], list[str]]:
         """Four connections of one session; what was said, and the lines of their key log."""
         capture, keys = tls_talk.Capture(), self.path(f"{name}.keys")
         keys.write_bytes(b"")
         pair = tls_talk.contexts(self.certificates, keys, ssl.TLSVersion.TLSv1_2, "ECDHE-RSA-AES128-GCM-SHA256")
         pair[1].options |= option
         said = [b"first", b"second", b"third", b"fourth"]
-        talks = []  # of all, since a server forgets the session of an end that goes
+        talks: list[tls_talk.Talk] = []  # of all, since a server forgets the session of an end that goes
         for at, data in enumerate(said):
             session = talks[-1].ends[0].session if talks else None
             talks.append(tls_talk.Talk(capture, pair, port=40000 + at, session=session).shake_hands())
@@ -158,7 +172,7 @@ class Suites(Folder):
         self.assertEqual(len({line.split()[2] for line in lines}), 1)
         return said, lines
 
-    def test_refused(self):
+    def test_refused(self) -> None:
         """A handshake that is not whole, by what is missing of it."""
         capture, keys = tls_talk.Capture(), self.path("refused.keys")
         keys.write_bytes(b"")
@@ -180,7 +194,7 @@ class Suites(Folder):
             said = tools.lines_of(made, "connection")[0].split(" packet 1 ")[1]
             self.assertEqual((made.status, said), (6, f"refused {reason}"))
 
-    def test_alert(self):
+    def test_alert(self) -> None:
         """A client that does not trust the certificate says alert 48 (RFC 8446, 6.2), in TLS 1.2 in the clear."""
         capture, keys = tls_talk.Capture(), self.path("alert.keys")
         keys.write_bytes(b"")
@@ -194,11 +208,11 @@ class Suites(Folder):
         made = tools.imported("-k", keys, self.path("alert.pcap"))
         self.assertTrue(tools.lines_of(made, "connection")[0].endswith(" refused alert 48"), made.map)
 
-    def test_old_versions(self):
+    def test_old_versions(self) -> None:
         made, _ = self.talk(ssl.TLSVersion.TLSv1_1, None, [])
         self.assertTrue(tools.lines_of(made, "connection")[0].endswith("refused tls-version 0x0302"))
 
-    def test_broken_record(self):
+    def test_broken_record(self) -> None:
         """A byte that differs in the last record but one ends its side before it, and h2audit sees a later byte."""
         for version in (ssl.TLSVersion.TLSv1_2, ssl.TLSVersion.TLSv1_3):
             said = [(1, b"a" * 100), (1, b"b" * 100), (1, b"c" * 100)]
@@ -217,20 +231,15 @@ class Suites(Folder):
             self.assertEqual(tools.lines_of(made, "flow")[1], "flow server bytes 100 gap 100 tail 0 end bad-record")
 
 
-def joined(rows):
+def joined(rows: Iterable[tuple[int, int, bytes]]) -> list[tuple[int, bytes]]:
     """The bytes of each side one after the other, in turns: a write may be cut into records."""
-    turns = []
-    for _, side, data in rows:
-        if turns and turns[-1][0] == side:
-            turns[-1][1] += data
-        else:
-            turns.append([side, bytearray(data)])
-    return turns
+    turns = itertools.groupby(rows, key=lambda row: row[1])
+    return [(side, b"".join(data for _, _, data in turn)) for side, turn in turns]
 
 
 class Frames(Folder):
     @unittest.skipUnless(PROGRAM, "h2audit is not built")
-    def test_examples(self):
+    def test_examples(self) -> None:
         """What examples/ say in the clear has the same findings when it is said over TLS, but for packets and times."""
         for path in sorted(tools.EXAMPLES.glob("*.pcap")):
             wanted = path.with_suffix(".report").read_text()
@@ -247,11 +256,12 @@ class Frames(Folder):
             for side, data in tls_talk.payloads_of(path):
                 talk.say(side, data)
             capture.write(self.path("e.pcap"))
+            assert PROGRAM
             found, _, _ = tools.report_of(PROGRAM, "-k", keys, self.path("e.pcap"))
             self.assertEqual(findings(found), findings(wanted), path.name)
 
 
-def findings(report):
+def findings(report: str) -> list[str]:
     """A report without what another capture changes: records, times, endpoints."""
     lines = report.splitlines()[1:]
     lines = [re.sub(r"record \d+ time \d+", "", line) for line in lines]
@@ -261,28 +271,35 @@ def findings(report):
 class Servers(Folder):
     """openssl s_server and s_client over the loopback interface, captured by tcpdump."""
 
-    def run_openssl(self, name, server_words, client_words, said=b"hello\n"):
+    def run_openssl(
+        self,
+        name: str,
+        server_words: Sequence[tools.Word],
+        client_words: Sequence[Sequence[tools.Word]],
+        said: Said = b"hello\n",
+    ) -> tools.Made:
         port = free_port()
         keys = self.path(f"{name}.keys")
         certificate = self.certificates[0]
         with self.captured(name, port):
-            server = subprocess.Popen(["openssl", "s_server", "-accept", f"127.0.0.1:{port}", "-cert", certificate, "-key", certificate,
-                                       "-quiet", *server_words], stdin=subprocess.PIPE, stdout=subprocess.DEVNULL,
-                                      stderr=subprocess.DEVNULL)  # fmt: skip
+            own: list[tools.Word] = ["-accept", f"127.0.0.1:{port}", "-cert", certificate, "-key", certificate]
+            server = started("s_server", [*own, "-quiet", *server_words])
             try:
                 wait_for(port)
-                for words in client_words:
-                    self.client(port, keys, words, said)
+                for client in client_words:
+                    self.client(port, keys, client, said)
             finally:
                 server.kill()
                 server.wait()
+                assert server.stdin
                 server.stdin.close()
         return tools.imported("-k", keys, self.path(f"{name}.pcap"))
 
-    def client(self, port, keys, words, said):
+    def client(self, port: int, keys: pathlib.Path, words: Sequence[tools.Word], said: Said) -> None:
         """Says one thing after the other; each goes out by itself."""
-        client = subprocess.Popen(["openssl", "s_client", "-connect", f"127.0.0.1:{port}", "-keylogfile", keys, "-alpn", "h2", *words],
-                                  stdin=subprocess.PIPE, stdout=subprocess.DEVNULL, stderr=subprocess.DEVNULL)  # fmt: skip
+        end = f"127.0.0.1:{port}"
+        client = started("s_client", ["-connect", end, "-keylogfile", keys, "-alpn", "h2", *words])
+        assert client.stdin
         time.sleep(0.7)
         for one in said if isinstance(said, tuple) else (said,):
             client.stdin.write(one)
@@ -292,9 +309,11 @@ class Servers(Folder):
         client.wait(20)
 
     @contextlib.contextmanager
-    def captured(self, name, port):
-        tcpdump = subprocess.Popen(["tcpdump", "-i", "lo", "-U", "--immediate-mode", "-w", self.path(f"{name}.pcap"), f"tcp port {port}"],
-                                   stderr=subprocess.PIPE)  # fmt: skip
+    def captured(self, name: str, port: int) -> Iterator[None]:
+        written = str(self.path(f"{name}.pcap"))
+        words = ["tcpdump", "-i", "lo", "-U", "--immediate-mode", "-w", written, f"tcp port {port}"]
+        tcpdump = subprocess.Popen(words, stderr=subprocess.PIPE)
+        assert tcpdump.stderr
         tcpdump.stderr.readline()
         try:
             yield
@@ -304,11 +323,11 @@ class Servers(Folder):
             tcpdump.wait()
             tcpdump.stderr.close()
 
-    def said(self, made):
+    def said(self, made: tools.Made) -> list[bytes]:
         return [data for _, _, data in tools.payloads(made)]
 
     @unittest.skipUnless(can_capture, "needs root, tcpdump and openssl")
-    def test_encrypt_then_mac(self):
+    def test_encrypt_then_mac(self) -> None:
         """A CBC suite of TLS 1.2, with encrypt-then-MAC and without, and resumption by session."""
         session = self.path("session")
         words = ["-tls1_2", "-cipher", "ECDHE-RSA-AES128-SHA256"]
@@ -318,7 +337,7 @@ class Servers(Folder):
         self.assertEqual(self.said(made), [b"hello\n"])
 
     @unittest.skipUnless(can_capture, "needs root, tcpdump and openssl")
-    def test_record_padding(self):
+    def test_record_padding(self) -> None:
         """Records of TLS 1.3 filled up to 512 bytes with zeros (RFC 8446, 5.4)."""
         made = self.run_openssl("padding", [], [["-tls1_3", "-record_padding", "512"]])
         self.assertEqual(self.said(made), [b"hello\n"])
@@ -327,7 +346,7 @@ class Servers(Folder):
         self.assertIn((512 + 16).to_bytes(2, "big"), bodies)
 
     @unittest.skipUnless(can_capture, "needs root, tcpdump and openssl")
-    def test_renegotiation(self):
+    def test_renegotiation(self) -> None:
         """In TLS 1.2 a line that begins with R makes s_client take new keys; what is said before that is read."""
         words = ["-tls1_2", "-cipher", "ECDHE-RSA-AES128-GCM-SHA256"]
         made = self.run_openssl("again", ["-client_renegotiation"], [words], (b"hello\n", b"R\n", b"later\n"))
@@ -337,21 +356,23 @@ class Servers(Folder):
         ])  # fmt: skip
 
     @unittest.skipUnless(can_capture, "needs root, tcpdump and openssl")
-    def test_psk(self):
+    def test_psk(self) -> None:
         """A PSK of both ends, in TLS 1.2 and in TLS 1.3, without a certificate in the second."""
         psk = ["-psk", "1a2b3c4d"]
-        made = self.run_openssl("psk", [*psk, "-cipher", "PSK-AES128-GCM-SHA256"], [[*psk, "-tls1_2", "-cipher", "PSK-AES128-GCM-SHA256"],
-                                                                                   [*psk, "-tls1_3"]])  # fmt: skip
+        cipher = ["-cipher", "PSK-AES128-GCM-SHA256"]
+        clients = [[*psk, "-tls1_2", *cipher], [*psk, "-tls1_3"]]
+        made = self.run_openssl("psk", [*psk, *cipher], clients)
         self.assertEqual(self.said(made), [b"hello\n"] * 2)
         self.assertIn("TLS_PSK_WITH_AES_128_GCM_SHA256", tools.lines_of(made, "connection")[0])
 
     @unittest.skipUnless(can_capture, "needs root, tcpdump and openssl")
-    def test_early_data(self):
+    def test_early_data(self) -> None:
         """Early data that the server accepts is read; what it rejects is counted, and not given out."""
         session, early = self.path("session13"), self.path("early")
         early.write_bytes(b"early\n")
-        clients = [["-tls1_3", "-sess_out", session], ["-tls1_3", "-sess_in", session, "-early_data", early]]
-        made = self.run_openssl("early", ["-early_data"], clients)
+        first: list[tools.Word] = ["-tls1_3", "-sess_out", session]
+        second: list[tools.Word] = ["-tls1_3", "-sess_in", session, "-early_data", early]
+        made = self.run_openssl("early", ["-early_data"], [first, second])
         self.assertEqual(self.said(made), [b"hello\n", b"early\n", b"hello\n"])
         self.assertEqual(tools.lines_of(made, "early-data"), ["early-data accepted 1 rejected 0"])
         for name, words in (
@@ -363,13 +384,19 @@ class Servers(Folder):
                 self.assertEqual(self.said(made), [b"hello\n"])
 
 
-def free_port():
+def started(program: str, words: Sequence[tools.Word]) -> subprocess.Popen[bytes]:
+    """A program of openssl, which nobody listens to."""
+    nowhere = subprocess.DEVNULL
+    return subprocess.Popen(["openssl", program, *words], stdin=subprocess.PIPE, stdout=nowhere, stderr=nowhere)
+
+
+def free_port() -> int:
     with socket.socket() as one:
         one.bind(("127.0.0.1", 0))
-        return one.getsockname()[1]
+        return int(one.getsockname()[1])
 
 
-def wait_for(port):
+def wait_for(port: int) -> None:
     """Waits until the server listens, without a connection to it, which the capture would have."""
     wanted = f":{port:04X} "
     for _ in range(100):
@@ -379,7 +406,7 @@ def wait_for(port):
     raise AssertionError("the server does not listen")
 
 
-def talk_of_13(folder):
+def talk_of_13(folder: str) -> None:
     keys = pathlib.Path(folder, "13.keys")
     keys.write_bytes(b"")
     client, server = tls_talk.contexts([pathlib.Path(folder, "ec.pem")], keys, ssl.TLSVersion.TLSv1_3)
@@ -392,6 +419,6 @@ def talk_of_13(folder):
 
 if __name__ == "__main__":
     if sys.argv[1:2] == ["--talk"]:
-        talk_of_13(PROGRAM)
+        talk_of_13(sys.argv[2])
     else:
         unittest.main()

@@ -3,8 +3,8 @@
 
     tools/tests/library_example_test.py
 
-The example is the block ```rust of the crate's comment. It stands as it is in a test of its own crate, over a capture of
-examples/, and has to give the report beside it.
+The example is the block ```rust of the crate's comment. It stands as it is in a test of its own crate, over a capture
+of examples/, and has to give the report beside it.
 """
 
 import pathlib
@@ -41,7 +41,7 @@ mod tests {{
 """
 
 
-def example():
+def example() -> str:
     """The lines of the example, without the signs of a comment."""
     blocks = EXAMPLE.findall((TOP / "crates" / "h2audit" / "src" / "lib.rt").read_text())
     if len(blocks) != 1:
@@ -49,7 +49,7 @@ def example():
     return "\n".join(" " * 8 + line.removeprefix("//! ").removeprefix("//!") for line in blocks[0].splitlines())
 
 
-def lay_out(folder):
+def lay_out(folder: pathlib.Path) -> None:
     """Writes a repository of the example's crate and of those that it stands on."""
     (folder / "crates" / NAME / "src").mkdir(parents=True)
     for crate in (TOP / "crates").iterdir():
@@ -65,7 +65,7 @@ def lay_out(folder):
         report=CAPTURE.with_suffix(".report").read_text()))
 
 
-def main():
+def main() -> None:
     with tempfile.TemporaryDirectory() as room:
         folder = pathlib.Path(room)
         lay_out(folder)

@@ -28,7 +28,7 @@ same() {
 }
 
 on_root() {
-    dpkg --root="$work/root" --force-not-root "$@" 2> >(grep -v 'files list file for package' >&2)
+    dpkg --root="$work/root" --force-not-root --force-script-chrootless "$@" 2> >(grep -v 'files list file for package' >&2)
 }
 
 # The programs beside h2audit, by what follows their names.
@@ -42,7 +42,8 @@ installed() {
 
 # By the repository, and not by the Makefile: each module and asset.
 modules() {
-    (cd tools && find comment fleet import page report split -name __pycache__ -prune -o -type f -printf "./$1/share/h2audit/%p\n")
+    (cd tools && find comment fleet import page plot report split -name __pycache__ -prune -o -type f \
+        -printf "./$1/share/h2audit/%p\n")
 }
 
 # The completions for fish, and the man pages, with what ends their names: words FOLDER and ENDING.
@@ -56,7 +57,8 @@ in_order() {
 }
 
 test_install() {
-    make --no-print-directory install PROGRAM="$program" SPLIT="$split" DESTDIR="$work/dest" PREFIX=/opt/h2audit > /dev/null
+    make --no-print-directory install PROGRAM="$program" SPLIT="$split" DESTDIR="$work/dest" PREFIX=/opt/h2audit \
+        > /dev/null
     same 'installed files' "$({
         installed opt/h2audit
         modules opt/h2audit
@@ -78,12 +80,13 @@ test_package() {
     lintian --allow-root --fail-on error,warning "$package"
     prepare_root
     on_root --install "$package" > /dev/null
+    compiled
     same 'files of the package' "$({
         installed usr
         modules usr
         pages usr .1.gz
         printf './usr/share/%s\n' doc/h2audit/{changelog.gz,copyright} zsh/vendor-completions/_h2audit
-    } | in_order)" "$(files_below "$work/root")"
+    } | in_order)" "$(files_below "$work/root" | grep -v /__pycache__/)"
     run_installed
     on_root --purge h2audit > /dev/null
     same 'files that are left' '' "$(files_below "$work/root")"
@@ -95,15 +98,23 @@ prepare_root() {
     cp /var/lib/dpkg/status "$work/root/var/lib/dpkg/status"
 }
 
+# Each module has its bytecode.
+compiled() {
+    local modules
+    mapfile -t modules < <(cd "$work/root" && find usr/share/h2audit -name '*.py')
+    same 'compiled modules' "${#modules[@]}" "$(files_below "$work/root" | grep -c '/__pycache__/.*\.pyc$')"
+}
+
 run_installed() {
-    "$work/root/usr/bin/h2audit" --help > /dev/null
-    "$work/root/usr/bin/h2audit-plot" examples/negative_window.frames.report > "$work/picture.svg"
-    "$work/root/usr/bin/h2audit-comment" examples/negative_window.pcap examples/negative_window.report -o "$work/c.pcapng"
-    "$work/root/usr/bin/h2audit-page" examples/negative_window.frames.report -o "$work/page.html"
-    "$work/root/usr/bin/h2audit-import" -o "$work/made.pcap" -k tests/tls/nghttp-nghttpd-13.keys tests/tls/nghttp-nghttpd-13.pcap
-    "$work/root/usr/bin/h2audit-any" examples/negative_window.pcap > /dev/null
-    "$work/root/usr/bin/h2audit-fleet" --version > /dev/null
-    "$work/root/usr/bin/h2audit-split" --help > /dev/null
+    local bin=$work/root/usr/bin
+    "$bin/h2audit" --help > /dev/null
+    "$bin/h2audit-plot" examples/negative_window.frames.report > "$work/picture.svg"
+    "$bin/h2audit-comment" examples/negative_window.pcap examples/negative_window.report -o "$work/c.pcapng"
+    "$bin/h2audit-page" examples/negative_window.frames.report -o "$work/page.html"
+    "$bin/h2audit-import" -o "$work/made.pcap" -k tests/tls/nghttp-nghttpd-13.{keys,pcap}
+    "$bin/h2audit-any" examples/negative_window.pcap > /dev/null
+    "$bin/h2audit-fleet" --version > /dev/null
+    "$bin/h2audit-split" --help > /dev/null
     mandoc -Tmarkdown "$work/root/usr/share/man/man1/h2audit.1.gz" | grep '# EXIT STATUS' > /dev/null ||
         fail 'the manual of the package cannot be read'
 }

@@ -15,11 +15,13 @@ import sys
 import tempfile
 import unittest
 import zlib
+from typing import Any
 from unittest import mock
 
 from selenium.webdriver.common.action_chains import ActionChains
 from selenium.webdriver.common.by import By
 from selenium.webdriver.common.keys import Keys
+from selenium.webdriver.remote.webelement import WebElement
 from selenium.webdriver.support.ui import Select
 
 TOP = pathlib.Path(__file__).resolve().parents[2]
@@ -67,58 +69,62 @@ SAID = "return document.querySelector(`${arguments[0]} output`).textContent"
 FIRST = "#chart-0"
 
 
-def colour(name, scheme):
+def colour(name: str, scheme: str) -> list[int]:
     style = (TOP / "tools" / "page" / "assets" / "page.css").read_text()
     root = re.findall(r":root \{(.*?)\}", style, re.S)[0 if scheme == "light" else 1]
-    value = re.search(rf"--{name}: #([0-9a-f]{{6}})", root)[1]
+    value = re.findall(rf"--{name}: #([0-9a-f]{{6}})", root)[0]
     return [int(value[at : at + 2], 16) for at in (0, 2, 4)]
 
 
 class InBrowser(unittest.TestCase):
+    work: tempfile.TemporaryDirectory[str]
+    folder: pathlib.Path
+    browser: Browser
+
     @classmethod
-    def setUpClass(cls):
+    def setUpClass(cls) -> None:
         cls.work = tempfile.TemporaryDirectory()
         cls.folder = pathlib.Path(cls.work.name)
         cls.browser = Browser()
 
     @classmethod
-    def tearDownClass(cls):
+    def tearDownClass(cls) -> None:
         cls.browser.close()
         cls.work.cleanup()
 
-    def setUp(self):
+    def setUp(self) -> None:
         self.browser.scheme("light")
         self.browser.messages(), self.browser.requests()
 
-    def tearDown(self):
+    def tearDown(self) -> None:
         """No page says anything in the console, and none asks the network for anything."""
         self.assertEqual(self.browser.messages(), [])
         self.assertEqual([url for url in self.browser.requests() if not url.startswith(f"file://{self.folder}/")], [])
 
-    def made(self, report, name="page.html"):
+    def made(self, report: str, name: str = "page.html") -> pathlib.Path:
         path = self.folder / name
         subprocess.run([PROGRAM, "-", "-o", path, "--title", "A page"], input=report.encode(), check=True, timeout=200)
         return path
 
-    def example(self, name):
+    def example(self, name: str) -> float:
         report = (EXAMPLES / f"{name}.frames.report").read_text()
         return self.browser.load(self.made(report, f"{name}.html"))
 
-    def drawn(self, figure=FIRST):
+    def drawn(self, figure: str = FIRST) -> None:
         self.browser.until(IS_DRAWN, figure)
 
-    def labels(self, figure=FIRST):
-        return self.browser.run(LABELS, figure)
+    def labels(self, figure: str = FIRST) -> str:
+        return str(self.browser.run(LABELS, figure))
 
-    def said(self, figure=FIRST):
-        return self.browser.run(SAID, figure)
+    def said(self, figure: str = FIRST) -> str:
+        return str(self.browser.run(SAID, figure))
 
-    def find(self, selector):
+    def find(self, selector: str) -> WebElement:
         return self.browser.driver.find_element(By.CSS_SELECTOR, selector)
 
 
 class Examples(InBrowser):
-    def test_each(self):
+    def test_each(self) -> None:
         """Each finding stands in the page's text, and the chart has the colours of what is in it."""
         for report in sorted(EXAMPLES.glob("*.frames.report")):
             with self.subTest(report.name):
@@ -133,7 +139,7 @@ class Examples(InBrowser):
                         self.assertIn(f"({kind})", shown)
                 self.judge_colours(text)
 
-    def judge_colours(self, text):
+    def judge_colours(self, text: str) -> None:
         pixels = {name: self.browser.run(PIXELS, FIRST, *colour(name, "light")) for name in ("line", "stall", "fault")}
         self.assertGreater(pixels["line"], 3)
         windows = set(re.findall(r"(?m)^stall (client|server) stream (\d+)", text))
@@ -144,7 +150,7 @@ class Examples(InBrowser):
         if not has_faults:
             self.assertEqual(pixels["stall"] > 20, bool(windows))
 
-    def test_an_empty_canvas_differs(self):
+    def test_an_empty_canvas_differs(self) -> None:
         self.example("stream_stalls_nghttpd")
         self.drawn()
         same = self.browser.run(
@@ -156,7 +162,7 @@ class Examples(InBrowser):
         )
         self.assertFalse(same)
 
-    def test_trouble_comes_first(self):
+    def test_trouble_comes_first(self) -> None:
         self.example("stream_overrun_go")
         heads = [one.text for one in self.browser.driver.find_elements(By.CSS_SELECTOR, "figure h3")]
         self.assertEqual(heads[0], "Connection 1, client, stream 1")
@@ -166,14 +172,14 @@ class Examples(InBrowser):
 class Hands(InBrowser):
     """What a user does to a chart."""
 
-    def setUp(self):
+    def setUp(self) -> None:
         super().setUp()
         self.example("negative_window_tomcat")
         self.drawn()
         self.whole = self.labels()
         self.canvas = self.find(f"{FIRST} canvas:last-of-type")
 
-    def drag(self, begin, end, *keys):
+    def drag(self, begin: float, end: float, *keys: str) -> None:
         """Over the chart, from one part of its width to another."""
         wide = self.canvas.size["width"]
         chain = ActionChains(self.browser.driver)
@@ -185,7 +191,7 @@ class Hands(InBrowser):
             chain.key_up(key)
         chain.perform()
 
-    def changed(self, before):
+    def changed(self, before: str) -> str:
         self.assertNotEqual(
             self.browser.until(
                 f"const now = (() => {{ {LABELS} }})(); return now !== arguments[1] && now", FIRST, before
@@ -194,10 +200,10 @@ class Hands(InBrowser):
         )
         return self.labels()
 
-    def seconds(self):
+    def seconds(self) -> list[float]:
         return [float(label) for label in self.labels().split()]
 
-    def test_zoom_and_pan_and_whole(self):
+    def test_zoom_and_pan_and_whole(self) -> None:
         least, most = min(self.seconds()), max(self.seconds())
         self.drag(0.4, 0.6)
         zoomed = self.changed(self.whole)
@@ -211,7 +217,7 @@ class Hands(InBrowser):
         self.changed(panned)
         self.assertEqual(self.labels(), self.whole)
 
-    def test_value_under_the_pointer(self):
+    def test_value_under_the_pointer(self) -> None:
         """The last point: the grant of a megabyte, at the end."""
         wide = self.canvas.size["width"]
         ActionChains(self.browser.driver).move_to_element_with_offset(self.canvas, wide // 2 - 12, 0).perform()
@@ -221,7 +227,7 @@ class Hands(InBrowser):
         ][-1]
         self.assertRegex(self.said(), rf"^Frame {frame}, 2\.\d+ s: credit {int(value):,} bytes$")
 
-    def test_keys(self):
+    def test_keys(self) -> None:
         figure = self.find(FIRST)
         figure.send_keys("+")
         zoomed = self.changed(self.whole)
@@ -237,8 +243,8 @@ class Hands(InBrowser):
         figure.send_keys(Keys.PAGE_UP)
         self.assertEqual(self.said(), first)
 
-    def test_heights(self):
-        def heights():
+    def test_heights(self) -> None:
+        def heights() -> list[str]:
             return [
                 one.text for one in self.browser.driver.find_elements(By.CSS_SELECTOR, f"{FIRST} .dygraph-axis-label-y")
             ]
@@ -249,19 +255,19 @@ class Hands(InBrowser):
             max(int(one.replace(",", "")) for one in heights()), max(int(one.replace(",", "")) for one in before)
         )
 
-    def test_buttons(self):
+    def test_buttons(self) -> None:
         for button in self.find(FIRST).find_elements(By.TAG_NAME, "button"):
             self.assertTrue(button.text)
             button.click()
         self.find(f"{FIRST} .keys button:first-child").click()
         self.changed(self.whole)
 
-    def test_by_frame(self):
+    def test_by_frame(self) -> None:
         self.find("input[value=frame]").click()
         self.assertEqual(self.find(f"{FIRST} .dygraph-xlabel").text, "frame")
         self.changed(self.whole)
 
-    def test_a_finding_leads_to_its_place(self):
+    def test_a_finding_leads_to_its_place(self) -> None:
         """By mouse and by keyboard, from the findings, and from the summary to the finding."""
         row = self.find('tr[data-frame="17"][data-kind="stream-stall-begin"]')
         row.find_element(By.TAG_NAME, "a").click()
@@ -277,11 +283,11 @@ class Hands(InBrowser):
         self.find("#summary tbody a").click()
         self.assertTrue(self.browser.run("return location.hash").startswith("#c1-f10-server-stream-stall-begin"))
 
-    def test_filters(self):
-        def heads():
+    def test_filters(self) -> None:
+        def heads() -> list[str]:
             return [one.text for one in self.browser.driver.find_elements(By.CSS_SELECTOR, "figure h3")]
 
-        def rows():
+        def rows() -> int:
             return len(
                 [
                     one
@@ -309,7 +315,7 @@ class Hands(InBrowser):
 class Schemes(InBrowser):
     """Light, dark, without scripts, and printed."""
 
-    def test_colours_of_both(self):
+    def test_colours_of_both(self) -> None:
         for scheme in ("light", "dark"):
             self.browser.scheme(scheme)
             self.example("stream_overrun_go")
@@ -319,13 +325,13 @@ class Schemes(InBrowser):
             for name in ("line", "stall", "fault"):
                 self.assertGreater(self.browser.run(PIXELS, FIRST, *colour(name, scheme)), 20, (scheme, name))
 
-    def test_charts_follow_the_scheme(self):
+    def test_charts_follow_the_scheme(self) -> None:
         self.example("stream_overrun_go")
         self.drawn()
         self.browser.scheme("dark")
         self.browser.until(PIXELS, FIRST, *colour("fault", "dark"))
 
-    def test_contrast_of_what_is_shown(self):
+    def test_contrast_of_what_is_shown(self) -> None:
         """Of each text that is shown, in both schemes: 4.5 to its ground, or 3 where it is large (WCAG 2.2, 1.4.3)."""
         for scheme in ("light", "dark"):
             self.browser.scheme(scheme)
@@ -335,7 +341,7 @@ class Schemes(InBrowser):
             self.assertGreater(found["judged"], 100)
             self.assertEqual(found["low"], [], scheme)
 
-    def test_accessible(self):
+    def test_accessible(self) -> None:
         """Names of controls and pictures, order of headings, sizes of targets, identifiers, language."""
         self.example("stream_overrun_go")
         self.drawn()
@@ -343,7 +349,7 @@ class Schemes(InBrowser):
             self.browser.run((TOP / "tools" / "tests" / "accessible.js").read_text() + "return faults();"), []
         )
 
-    def test_without_scripts(self):
+    def test_without_scripts(self) -> None:
         report = (EXAMPLES / "stream_overrun_go.frames.report").read_text()
         path = self.made(report)
         self.browser.scripts(False)
@@ -357,7 +363,7 @@ class Schemes(InBrowser):
         self.assertNotIn("Charts over", text)
         self.assertIn("Windows of connection 1", text)
 
-    def test_print(self):
+    def test_print(self) -> None:
         self.browser.scheme("dark", "print")
         self.example("stream_overrun_go")
         for hidden in ("#filters", ".keys", "footer"):
@@ -376,7 +382,7 @@ class Schemes(InBrowser):
 
 
 class Hostile(InBrowser):
-    def test_addresses(self):
+    def test_addresses(self) -> None:
         """Nothing of a report runs, and the console has nothing to say of it."""
         report = (EXAMPLES / "stream_overrun_go.frames.report").read_text()
         evil = "<img/src=x/onerror=document.title='owned'>"
@@ -391,7 +397,7 @@ class Hostile(InBrowser):
 class Large(InBrowser):
     """A million lines: the page opens within two seconds of the processor, and hundreds of streams can be searched."""
 
-    def test_a_million_lines(self):
+    def test_a_million_lines(self) -> None:
         report = large(400, 2400, 20)
         path = self.opened(report)
         self.judge_marks(path.read_text())
@@ -408,7 +414,7 @@ class Large(InBrowser):
         self.find("#more").click()
         self.assertEqual(len(self.browser.driver.find_elements(By.TAG_NAME, "figure")), 18)
 
-    def opened(self, report):
+    def opened(self, report: str) -> pathlib.Path:
         """The page of a report of a million lines, which is small enough and opens soon enough."""
         self.assertGreater(report.count("\n"), 10**6)
         path = self.made(report)
@@ -416,7 +422,7 @@ class Large(InBrowser):
         self.assertLess(min(self.work_of(path) for _ in range(3)), 2)
         return path
 
-    def work_of(self, path):
+    def work_of(self, path: pathlib.Path) -> float:
         """The processor seconds in which the browser draws a page: the wall's say little on a busy machine."""
         before = self.browser.processor_seconds()
         self.browser.load(path)
@@ -424,7 +430,7 @@ class Large(InBrowser):
         self.assertGreater(spent, 0)
         return spent
 
-    def judge_marks(self, text):
+    def judge_marks(self, text: str) -> None:
         """Every stall is in the charts: those of 400 windows, one for each 20 lines."""
         self.assertIn("The charts are thinned: of 960,000 credit lines", text)
         self.assertIn("The charts mark every fault and every stall.", text)
@@ -435,7 +441,7 @@ class Large(InBrowser):
 class Crowded(Large):
     """A million lines of 60,000 connections: each window has a chart, and what the tables leave out is said."""
 
-    def test_a_million_lines(self):
+    def test_a_million_lines(self) -> None:
         path = self.opened(crowded(60000, 7, 50))
         text = path.read_text()
         self.assertIn("The charts mark every fault and every stall.", text)
@@ -455,7 +461,7 @@ class Crowded(Large):
 class Merged(InBrowser):
     """Marks that stand for several say so, and nothing else does."""
 
-    def test_marks_that_are_shared(self):
+    def test_marks_that_are_shared(self) -> None:
         report = large(1, 4000, 4).replace(" stream-stall-begin ", " zero-stream-grant ", 300)
         with mock.patch.object(chart_data, "MOST_BYTES", 2000):
             text = document.page(read_audit(io.BytesIO(report.encode())), "A page", library())
@@ -479,12 +485,13 @@ class Merged(InBrowser):
         self.assertEqual(more, {times - 1 for times in said["faults"][3::4] if times > 1})
 
 
-def data_of(text):
-    data = re.search(r'<script type="text/plain" id="chart-data">([^<]*)<', text)[1]
-    return json.loads(zlib.decompress(base64.b64decode(data)))
+def data_of(text: str) -> dict[str, Any]:
+    (data,) = re.findall(r'<script type="text/plain" id="chart-data">([^<]*)<', text)
+    found: dict[str, Any] = json.loads(zlib.decompress(base64.b64decode(data)))
+    return found
 
 
-def write_pictures():
+def write_pictures() -> None:
     browser = Browser()
     browser.command("Emulation.setDeviceMetricsOverride", width=1100, height=1170, deviceScaleFactor=1, mobile=False)
     with tempfile.TemporaryDirectory() as folder:

@@ -7,6 +7,7 @@ import hashlib
 import html.parser
 import io
 import json
+import math
 import pathlib
 import random
 import re
@@ -15,6 +16,7 @@ import sys
 import tempfile
 import unittest
 import zlib
+from typing import Any
 from unittest import mock
 
 TOP = pathlib.Path(__file__).resolve().parents[2]
@@ -26,8 +28,8 @@ sys.dont_write_bytecode = True
 import page.program
 from page import chart_data, document, tables
 from page.library import Missing, library
-from page.model import read_audit
-from page.series import series_of, thinned
+from page.model import Audit, read_audit
+from page.series import Series, series_of, thinned
 
 FINDING = re.compile(
     r"^frame (\d+) record (\d+) time (\d+) (client|server) ([a-z-]+) stream (\d+) value (-?\d+)$", re.M
@@ -36,17 +38,23 @@ HEAD = "capture records 9 segments 9 snapped 0 not-ipv4 0 fragments 0 not-tcp 0 
 BOTH_FLOWS = "flow client bytes 9 gap none tail 0\nflow server bytes 9 gap none tail 0\n"
 
 
+Attributes = dict[str, str]
+
+
 class Tags(html.parser.HTMLParser):
     """The elements of a page with their attributes, the text of its tables, and the text of its scripts and styles."""
 
-    def __init__(self, text):
+    def __init__(self, text: str) -> None:
         super().__init__()
-        self.elements, self.open, self.rows, self.texts = [], [], [], {"script": [], "style": []}
+        self.elements: list[tuple[str, Attributes]] = []
+        self.open: list[str] = []
+        self.rows: list[tuple[Attributes, list[str]]] = []
+        self.texts: dict[str, list[tuple[Attributes, str]]] = {"script": [], "style": []}
         self.policy = ""
         self.feed(text)
 
-    def handle_starttag(self, tag, attributes):
-        found = dict(attributes)
+    def handle_starttag(self, tag: str, attributes: list[tuple[str, str | None]]) -> None:
+        found = {name: value or "" for name, value in attributes}
         self.elements.append((tag, found))
         if tag == "meta" and found.get("http-equiv") == "Content-Security-Policy":
             self.policy = found["content"]
@@ -57,10 +65,10 @@ class Tags(html.parser.HTMLParser):
         if tag in self.texts:
             self.texts[tag].append((found, ""))
 
-    def handle_endtag(self, tag):
+    def handle_endtag(self, tag: str) -> None:
         assert self.open.pop() == tag, tag
 
-    def handle_data(self, data):
+    def handle_data(self, data: str) -> None:
         if self.open and self.open[-1] in self.texts:
             attributes, text = self.texts[self.open[-1]].pop()
             self.texts[self.open[-1]].append((attributes, text + data))
@@ -68,19 +76,19 @@ class Tags(html.parser.HTMLParser):
             self.rows[-1][1].append(data)
 
 
-def page_of(report, *more):
+def page_of(report: str, *more: str) -> str:
     """The page of a report's text."""
     done = subprocess.run([PROGRAM, "-", "-o", "-", *more], input=report.encode(), capture_output=True, timeout=200)
     assert (done.returncode, done.stderr) == (0, b""), done.stderr
     return done.stdout.decode()
 
 
-def examples():
+def examples() -> list[pathlib.Path]:
     return sorted(EXAMPLES.glob("*.frames.report"))
 
 
 class Examples(unittest.TestCase):
-    def test_each_finding_is_in_a_row(self):
+    def test_each_finding_is_in_a_row(self) -> None:
         """With its frame, its record, its side, its kind and its stream, in the order of the report."""
         for report in examples():
             with self.subTest(report.name):
@@ -108,9 +116,9 @@ class Examples(unittest.TestCase):
                 )
                 self.judge_windows(text, tags)
 
-    def judge_windows(self, text, tags):
+    def judge_windows(self, text: str, tags: Tags) -> None:
         """Each window has a row with its least, greatest and last credit."""
-        credits = {}
+        credits: dict[tuple[str, str], list[int]] = {}
         for _, _, _, side, kind, stream, value in FINDING.findall(text):
             if kind.endswith("-credit"):
                 credits.setdefault((side, stream), []).append(int(value))
@@ -120,7 +128,7 @@ class Examples(unittest.TestCase):
                 found[f"w1-{side}-{stream}"], [f"{value:,}" for value in (min(values), max(values), values[-1])]
             )
 
-    def test_words(self):
+    def test_words(self) -> None:
         """Written by hand, from the example's README."""
         text = page_of((EXAMPLES / "connection_overflow_nginx.frames.report").read_text())
         rows = ["|".join(cells) for _, cells in Tags(text).rows]
@@ -136,19 +144,19 @@ class Examples(unittest.TestCase):
         )
         self.assertIn("No rule was broken.", text)
 
-    def test_without_credit(self):
+    def test_without_credit(self) -> None:
         text = page_of((EXAMPLES / "stream_overrun_go.report").read_text())
         self.assertIn("Make it with h2audit --frames to have them.", text)
         self.assertNotIn("<script", text)
         self.assertIn("client sent 5,000 bytes past its credit on stream 1", text)
 
-    def test_nothing_audited(self):
+    def test_nothing_audited(self) -> None:
         text = page_of(HEAD + "connection 1 client 1.2.3.4:5 server 1.2.3.4:6 record 1 not-http2\n" + BOTH_FLOWS)
         self.assertIn("Nothing was audited", text)
         text = page_of(HEAD + "connection 1 client [::1]:5 server [::1]:6 record 1 refused no-key\n")
         self.assertIn("Verdict: not audited: no-key.", text)
 
-    def test_doubts(self):
+    def test_doubts(self) -> None:
         text = page_of(
             HEAD.replace("snapped 0", "snapped 3") + "record 9 cut\nunopened 1.2.3.4:5 1.2.3.4:6 segments 2\n"
             "connection 1 client 1.2.3.4:5 server 1.2.3.4:6 record 1 http2 frames 1\n"
@@ -163,14 +171,14 @@ class Examples(unittest.TestCase):
         ):
             self.assertIn(said, text)
 
-    def test_title(self):
+    def test_title(self) -> None:
         self.assertIn("<h1>A &lt;b&gt; title</h1>", page_of(HEAD, "--title", "A <b> title"))
 
 
 class Policy(unittest.TestCase):
     """The page loads nothing, and only the scripts and styles that it was made with count."""
 
-    def test_policy(self):
+    def test_policy(self) -> None:
         tags = Tags(page_of(examples()[0].read_text()))
         rules = dict(rule.strip().split(" ", 1) for rule in tags.policy.split(";"))
         self.assertEqual(
@@ -183,13 +191,13 @@ class Policy(unittest.TestCase):
             self.assertEqual(rules[f"{tag}-src"].split(), hashes)
         self.assertEqual(set(rules), {"default-src", "base-uri", "form-action", "script-src", "style-src"})
 
-    def test_no_address(self):
+    def test_no_address(self) -> None:
         """Nothing refers to another file."""
         for tag, attributes in Tags(page_of(examples()[0].read_text())).elements:
             self.assertFalse({"src", "action", "style", "onclick"} & attributes.keys(), tag)
             self.assertTrue(attributes.get("href", "#").startswith("#"), attributes)
 
-    def test_licence(self):
+    def test_licence(self) -> None:
         text = page_of(examples()[0].read_text())
         self.assertIn(f"dygraphs {library().version}, MIT licence", text)
         self.assertIn("The above copyright notice and this permission notice shall be", text)
@@ -210,14 +218,14 @@ class Hostile(unittest.TestCase):
         "\x01\x7f",
     )
 
-    def test_addresses(self):
+    def test_addresses(self) -> None:
         plain = Tags(self.page("1.2.3.4:5")).elements
         for evil in self.EVIL:
             tags = Tags(self.page(evil))
             self.assertEqual([tag for tag, _ in tags.elements], [tag for tag, _ in plain], evil)
             self.assertEqual([sorted(one) for _, one in tags.elements], [sorted(one) for _, one in plain], evil)
 
-    def page(self, address):
+    def page(self, address: str) -> str:
         return page_of(
             HEAD
             + f"connection 1 client {address} server {address} record 1 http2 frames 2\n"
@@ -228,14 +236,14 @@ class Hostile(unittest.TestCase):
             "stall client stream 1 from 1 open\naudit of all frames\n"
         )
 
-    def test_title(self):
+    def test_title(self) -> None:
         for evil in self.EVIL:
             self.assertEqual(
                 [tag for tag, _ in Tags(page_of(HEAD, f"--title={evil}")).elements],
                 [tag for tag, _ in Tags(page_of(HEAD)).elements],
             )
 
-    def test_numbers(self):
+    def test_numbers(self) -> None:
         """Numbers of any size give a page or a reason, and never a traceback."""
         opening = HEAD + "connection 1 client 1.2.3.4:5 server 1.2.3.4:6 record 1 http2 frames 2\n"
         for frame, time, stream, value in (
@@ -256,7 +264,7 @@ class Hostile(unittest.TestCase):
                 status, said = answer(opening + line)
                 self.assertIn(status, (0, 3), (line, said))
 
-    def test_damaged_reports(self):
+    def test_damaged_reports(self) -> None:
         """Whatever bytes are changed, there is a page or a reason, and never a traceback."""
         good = (EXAMPLES / "stream_overrun_go.frames.report").read_bytes()
         chance = random.Random(1)
@@ -268,7 +276,7 @@ class Hostile(unittest.TestCase):
             self.assertIn(status, (0, 3))
             self.assertLessEqual(said.count("\n"), 1)
 
-    def test_frames_that_go_back(self):
+    def test_frames_that_go_back(self) -> None:
         line = "frame {} record 1 time 1 client stream-credit stream 1 value 1\n"
         opening = "connection 1 client 1.2.3.4:5 server 1.2.3.4:6 record 1 http2 frames 2\n"
         self.assertEqual(
@@ -277,7 +285,7 @@ class Hostile(unittest.TestCase):
         )
 
 
-def answer(report, *words):
+def answer(report: str, *words: str) -> tuple[int, str]:
     """The status of a run over a report's text, and its line on standard error."""
     said = io.StringIO()
     with tempfile.NamedTemporaryFile() as file, contextlib.redirect_stderr(said):
@@ -286,12 +294,12 @@ def answer(report, *words):
         try:
             status = page.program.main([file.name, "-o", "/dev/null", *words])
         except SystemExit as ended:
-            status = ended.code
+            status = int(ended.code or 0)
     return status, said.getvalue()
 
 
 class Refusals(unittest.TestCase):
-    def test_reports(self):
+    def test_reports(self) -> None:
         good = (EXAMPLES / "stream_overrun_go.report").read_text()
         self.assertEqual(answer(""), (3, "h2audit-page: report refused: not a report of h2audit\n"))
         self.assertEqual(answer("{}"), (3, "h2audit-page: report refused: not a report of h2audit\n"))
@@ -299,20 +307,20 @@ class Refusals(unittest.TestCase):
             answer(good.replace("nanos", "nano")), (3, "h2audit-page: report refused: line 8 is no line of a report\n")
         )
 
-    def test_words(self):
+    def test_words(self) -> None:
         for words in ((), ("a",), ("a", "-o"), ("a", "b", "-o", "c"), ("a", "-o", "c", "--none")):
             done = subprocess.run([PROGRAM, *words], capture_output=True, text=True)
             self.assertEqual((done.returncode, done.stderr.count("\n"), done.stdout), (2, 1, ""), words)
 
-    def test_files(self):
+    def test_files(self) -> None:
         report = examples()[0]
-        for words in (("/nowhere/at all", "-o", "/dev/null"), (report, "-o", "/nowhere/at all")):
+        for words in (["/nowhere/at all", "-o", "/dev/null"], [str(report), "-o", "/nowhere/at all"]):
             done = subprocess.run([PROGRAM, *words], capture_output=True, text=True)
             self.assertEqual(
                 (done.returncode, done.stderr), (4, "h2audit-page: /nowhere/at all: No such file or directory\n")
             )
 
-    def test_no_library(self):
+    def test_no_library(self) -> None:
         with self.assertRaisesRegex(
             Missing, r"^/nowhere/dygraph.js is missing \(Debian: apt-get install libjs-dygraphs\)$"
         ):
@@ -321,7 +329,7 @@ class Refusals(unittest.TestCase):
             status, said = answer(HEAD)
         self.assertEqual((status, said.count("\n")), (5, 1))
 
-    def test_another_library(self):
+    def test_another_library(self) -> None:
         with tempfile.TemporaryDirectory() as folder:
             for name in ("dygraph.js", "dygraph.min.js", "dygraph.min.css"):
                 pathlib.Path(folder, name).write_text("something else")
@@ -329,7 +337,7 @@ class Refusals(unittest.TestCase):
                 library(folder)
 
 
-def large(windows, lines, every):
+def large(windows: int, lines: int, every: int) -> str:
     """A report of so many windows with so many credit lines each, of which each so many are a stall of two lines."""
     parts = [HEAD, "connection 1 client 1.2.3.4:5 server 1.2.3.4:6 record 1 http2 frames 9\n", BOTH_FLOWS]
     frame, state = 0, 1
@@ -352,7 +360,7 @@ def large(windows, lines, every):
     return "".join(parts)
 
 
-def crowded(connections, lines, every):
+def crowded(connections: int, lines: int, every: int) -> str:
     """A report of so many connections of two windows with so many credit lines each; each so many have a stall."""
     parts, record, state = [HEAD], 0, 1
     for number in range(1, connections + 1):
@@ -370,18 +378,25 @@ def crowded(connections, lines, every):
     return "".join(parts)
 
 
-def unpacked(charts):
-    return json.loads(zlib.decompress(base64.b64decode(charts.text)))
+def unpacked(charts: chart_data.Packed) -> dict[str, Any]:
+    found: dict[str, Any] = json.loads(zlib.decompress(base64.b64decode(charts.text)))
+    return found
 
 
-def audit_of(text):
+def audit_of(text: str) -> Audit:
     return read_audit(io.BytesIO(text.encode()))
+
+
+def shades_of(series: Series) -> list[tuple[int, int, int]]:
+    """Of each shade the frames at both ends, up to the last where it has none, and how many stalls it stands for."""
+    frames = series.frames
+    return [(frames[begin], frames[-1 if end is None else end], number) for begin, end, number in series.stalls]
 
 
 class Thinning(unittest.TestCase):
     """What is thinned keeps both ends of each stall, each fault, and the extremes; the page says that it is thinned."""
 
-    def test_marks_and_extremes_are_kept(self):
+    def test_marks_and_extremes_are_kept(self) -> None:
         for window in audit_of(large(3, 4000, 50)).windows:
             whole = series_of(window)
             self.assertEqual(len(whole.frames), 4000)
@@ -389,12 +404,12 @@ class Thinning(unittest.TestCase):
                 less = thinned(whole, most, 10**9)
                 self.assertLess(len(less.frames), most + 3 * 2 * 80)
                 self.assertEqual(
-                    [(less.frames[begin], less.frames[end], number) for begin, end, number in less.stalls],
-                    [(whole.frames[begin], whole.frames[end], 1) for begin, end, _ in whole.stalls],
+                    shades_of(less),
+                    shades_of(whole),
                 )
                 self.judge_extremes(whole, less, most)
 
-    def judge_extremes(self, whole, less, most):
+    def judge_extremes(self, whole: Series, less: Series, most: int) -> None:
         """The least and the greatest of the whole and of each stretch are there, each at its place."""
         place = dict(zip(less.frames, zip(less.times, less.credits)))
         known = dict(zip(whole.frames, zip(whole.times, whole.credits)))
@@ -406,7 +421,7 @@ class Thinning(unittest.TestCase):
             kept = [whole.credits[at] for at in stretch if whole.frames[at] in place]
             self.assertEqual((min(kept), max(kept)), (min(values), max(values)))
 
-    def test_faults_are_kept(self):
+    def test_faults_are_kept(self) -> None:
         text = large(1, 9000, 9000).replace("server stream-stall-begin", "server zero-stream-grant")
         faults = re.sub(
             r"(?m)^(frame \d*77 record \d+ time \d+) server (stream-credit) (stream 1) value \d+$",
@@ -424,7 +439,7 @@ class Thinning(unittest.TestCase):
         for kind in set(kinds):
             self.assertEqual(sum(one[3] for one in least.faults if one[1] == kind), kinds.count(kind))
 
-    def test_points_at_ends_without_credit_lines(self):
+    def test_points_at_ends_without_credit_lines(self) -> None:
         """A reset ends a stall with no credit line; the chart has a point there all the same."""
         text = (EXAMPLES / "stream_overrun_go.frames.report").read_text()
         window = audit_of(text).windows[0]
@@ -432,26 +447,26 @@ class Thinning(unittest.TestCase):
         self.assertEqual(list(zip(series.frames, series.credits)), [(5, 10000), (6, 0), (7, -5000), (8, -5000)])
         self.assertEqual((series.stalls, series.faults), ([(1, 3, 1)], [(2, "stream-overrun", -5000, 1)]))
 
-    def test_faults_whose_window_has_no_chart(self):
+    def test_faults_whose_window_has_no_chart(self) -> None:
         """They stand in the charts of their connection: here one on a stream that was never opened."""
         charts = chart_data.packed(audit_of((EXAMPLES / "use_after_reset.frames.report").read_text()))
         said = unpacked(charts)
         self.assertEqual((said["elsewhere"][0::3], said["elsewhere"][1::3]), ([0], [8]))
         self.assertEqual((charts.marked, charts.marks_in_report), (2, 2))
 
-    def test_too_many_marks_share_a_shade(self):
+    def test_too_many_marks_share_a_shade(self) -> None:
         whole = series_of(audit_of(large(1, 4000, 4)).windows[0])
         self.assertEqual(len(whole.stalls), 1000)
         less = thinned(whole, 60, 100)
         self.assertLessEqual(len(less.stalls), 100)
         self.assertEqual(less.merged, 1000 - sum(one[2] == 1 for one in less.stalls))
-        shades = [(less.frames[begin], less.frames[end], number) for begin, end, number in less.stalls]
-        begun = [(whole.frames[begin], whole.frames[end]) for begin, end, _ in whole.stalls]
+        shades = shades_of(less)
+        begun = [(begin, end) for begin, end, _ in shades_of(whole)]
         for first, last, number in shades:
             self.assertEqual(sum(first <= begin and end <= last for begin, end in begun), number)
         self.assertEqual(sum(number for _, _, number in shades), 1000)
 
-    def test_extremes_of_many_windows(self):
+    def test_extremes_of_many_windows(self) -> None:
         """Where there is room for nothing else, each window has its first, last, least and greatest credit."""
         for window in audit_of(crowded(30, 40, 3)).windows:
             series = series_of(window)
@@ -461,7 +476,7 @@ class Thinning(unittest.TestCase):
             self.assertEqual((less.frames[0], less.frames[-1]), (series.frames[0], series.frames[-1]))
             self.assertLessEqual({values[0], min(values), max(values), values[-1]}, set(less.credits))
 
-    def test_every_window_has_a_chart(self):
+    def test_every_window_has_a_chart(self) -> None:
         """Of many windows each is thinned to its extremes before one of them has no chart."""
         audit = audit_of(crowded(1000, 20, 7))
         with mock.patch.object(chart_data, "MOST_BYTES", 60_000):
@@ -472,14 +487,15 @@ class Thinning(unittest.TestCase):
         stalls = sum(len(window.stalls) for window in audit.windows)
         self.assertEqual((charts.marked, charts.marks_in_report, sum(said["stalls"][2::3])), (stalls, stalls, stalls))
 
-    def test_one_window_takes_no_room_from_others(self):
+    def test_one_window_takes_no_room_from_others(self) -> None:
         """Where one window has more stalls than all others have credit lines, it is thinned and they have charts."""
-        report = large(1, 8000, 4) + crowded(1500, 6, 10**9).partition("\n")[2].replace("connection 1 c", "connection 0 c")
+        small = crowded(1500, 6, 10**9).partition("\n")[2].replace("connection 1 c", "connection 0 c")
+        report = large(1, 8000, 4) + small
         with mock.patch.object(chart_data, "MOST_BYTES", 60_000):
             charts = chart_data.packed(audit_of(report))
         self.assertEqual((charts.windows, charts.left_out, charts.marked), (3001, [], 2000))
 
-    def test_windows_that_are_left_out_are_told(self):
+    def test_windows_that_are_left_out_are_told(self) -> None:
         """How many they are, by which rule, and what they have together."""
         report = crowded(300, 20, 7)
         with mock.patch.object(chart_data, "MOST_BYTES", 4000):
@@ -497,7 +513,7 @@ class Thinning(unittest.TestCase):
         self.assertLess(charts.marked, charts.marks_in_report)
         self.assertIn(f"The charts mark {charts.marked} of {charts.marks_in_report} faults", tables.thinning(charts))
 
-    def test_a_small_page_is_whole(self):
+    def test_a_small_page_is_whole(self) -> None:
         for report in examples():
             charts = chart_data.packed(audit_of(report.read_text()))
             said = unpacked(charts)
@@ -506,7 +522,7 @@ class Thinning(unittest.TestCase):
             self.assertEqual((charts.merged, charts.left_out, tables.thinning(charts)), (0, [], ""))
             self.assertEqual(sum(said["points"]), len(said["frames"]))
 
-    def test_every_size_fits(self):
+    def test_every_size_fits(self) -> None:
         """Where the bound is small, the charts of one report go through all that is given up, and stay below it."""
         audit = audit_of(large(60, 400, 10))
         for bound in (400_000, 60_000, 30_000, 10_000, 3_000, 500):
@@ -518,7 +534,7 @@ class Thinning(unittest.TestCase):
 class LargeTables(unittest.TestCase):
     """What a large report has and the tables have not is said, and what is said is so."""
 
-    def test_rows_are_as_many_as_is_said(self):
+    def test_rows_are_as_many_as_is_said(self) -> None:
         report = crowded(700, 20, 2)
         audit = audit_of(report)
         charts = chart_data.packed(audit)
@@ -536,11 +552,11 @@ class LargeTables(unittest.TestCase):
                 self.assertIn(f"<li>{number:,} of {whole:,} {what}", text)
             self.judge_links(tags)
 
-    def judge_links(self, tags):
+    def judge_links(self, tags: Tags) -> None:
         names = {one["id"] for _, one in tags.elements if "id" in one}
         self.assertLessEqual({one["href"][1:] for tag, one in tags.elements if tag == "a"}, names)
 
-    def test_the_last_rows_have_the_extremes(self):
+    def test_the_last_rows_have_the_extremes(self) -> None:
         """Of the windows that have no row, of the connections that are not in full, and of those not in the list."""
         audit = audit_of(crowded(700, 20, 2))
         choice = tables.chosen(audit, 0.1)
@@ -551,7 +567,7 @@ class LargeTables(unittest.TestCase):
         self.assertIn(f"<td>{2 * len(rest):,} windows</td>", said)
         self.assertIn("<td>650 connections more</td>", tables.connections(audit, choice))
 
-    def test_faults_of_the_summary_have_a_row(self):
+    def test_faults_of_the_summary_have_a_row(self) -> None:
         """The first of each rule that was broken is in the tables, though thousands of others come before it."""
         line = "frame {0} record {0} time {0} client {1} stream 1 value 0\n"
         report = crowded(1, 4, 9) + "connection 2 client 1.2.3.4:5 server 1.2.3.4:6 record 1 http2 frames 9\n"
@@ -584,7 +600,7 @@ class Contrast(unittest.TestCase):
         ("rule", "raised"),
     ]
 
-    def test_both_schemes(self):
+    def test_both_schemes(self) -> None:
         style = (TOP / "tools" / "page" / "assets" / "page.css").read_text()
         schemes = [
             dict(re.findall(r"--([a-z-]+): (#[0-9a-f]{6})", root))
@@ -598,14 +614,14 @@ class Contrast(unittest.TestCase):
                     self.assertGreaterEqual(contrast(scheme[one], scheme[other]), least, (one, other, scheme))
 
 
-def luminance(colour):
+def luminance(colour: str) -> float:
     """WCAG 2.2, relative luminance."""
     parts = [int(colour[at : at + 2], 16) / 255 for at in (1, 3, 5)]
-    red, green, blue = (part / 12.92 if part <= 0.04045 else ((part + 0.055) / 1.055) ** 2.4 for part in parts)
+    red, green, blue = (part / 12.92 if part <= 0.04045 else math.pow((part + 0.055) / 1.055, 2.4) for part in parts)
     return 0.2126 * red + 0.7152 * green + 0.0722 * blue
 
 
-def contrast(one, other):
+def contrast(one: str, other: str) -> float:
     light, dark = sorted((luminance(one), luminance(other)), reverse=True)
     return (light + 0.05) / (dark + 0.05)
 

@@ -1,11 +1,13 @@
 """Captures for tests, written from the file formats: pcapng by blocks, and classic pcap of either order of bytes."""
 
+import pathlib
 import struct
 
 EXAMPLE_HEAD = 24
+Record = tuple[int, int, int, bytes]  # seconds, fraction, original length, bytes
 
 
-def records_of(path):
+def records_of(path: pathlib.Path) -> tuple[list[Record], int]:
     """The packets of a classic capture as (seconds, fraction, original length, bytes), with its link type."""
     data = path.read_bytes()
     order = {b"\xd4\xc3\xb2\xa1": "<", b"\xa1\xb2\xc3\xd4": ">"}[data[:4]]
@@ -18,7 +20,7 @@ def records_of(path):
     return found, link
 
 
-def classic(records, link, order="<", is_nano=False):
+def classic(records: list[Record], link: int, order: str = "<", is_nano: bool = False) -> bytes:
     magic = 0xA1B23C4D if is_nano else 0xA1B2C3D4
     parts = [struct.pack(order + "IHHiIII", magic, 2, 4, 0, 0, 262144, link)]
     for seconds, fraction, length, data in records:
@@ -28,24 +30,26 @@ def classic(records, link, order="<", is_nano=False):
     return b"".join(parts)
 
 
-def padded(data):
+def padded(data: bytes) -> bytes:
     return data + bytes(-len(data) % 4)
 
 
-def block(order, kind, body):
+def block(order: str, kind: int, body: bytes) -> bytes:
     size = len(padded(body)) + 12
     return struct.pack(order + "II", kind, size) + padded(body) + struct.pack(order + "I", size)
 
 
-def option(order, code, value):
+def option(order: str, code: int, value: bytes) -> bytes:
     return struct.pack(order + "HH", code, len(value)) + padded(value)
 
 
-def section(order="<", length=-1, options=b""):
+def section(order: str = "<", length: int = -1, options: bytes = b"") -> bytes:
     return block(order, 0x0A0D0D0A, struct.pack(order + "IHHq", 0x1A2B3C4D, 1, 0, length) + options)
 
 
-def interface(order, link, resolution=None, offset=None, name=b""):
+def interface(
+    order: str, link: int, resolution: int | None = None, offset: int | None = None, name: bytes = b""
+) -> bytes:
     options = option(order, 2, name) if name else b""
     if resolution is not None:
         options += option(order, 9, bytes([resolution]))
@@ -56,23 +60,23 @@ def interface(order, link, resolution=None, offset=None, name=b""):
     )
 
 
-def packet(order, number, time, record, options=b""):
+def packet(order: str, number: int, time: int, record: Record, options: bytes = b"") -> bytes:
     """An Enhanced Packet Block at a time in the interface's unit."""
     _, _, length, data = record
     head = struct.pack(order + "IIIII", number, time >> 32, time & 0xFFFFFFFF, len(data), length)
     return block(order, 6, head + padded(data) + options)
 
 
-def old_packet(order, number, time, record):
+def old_packet(order: str, number: int, time: int, record: Record) -> bytes:
     _, _, length, data = record
     return block(
         order, 2, struct.pack(order + "HHIIII", number, 0, time >> 32, time & 0xFFFFFFFF, len(data), length) + data
     )
 
 
-def simple_packet(order, record):
+def simple_packet(order: str, record: Record) -> bytes:
     return block(order, 3, struct.pack(order + "I", record[2]) + record[3])
 
 
-def micros(record):
+def micros(record: Record) -> int:
     return record[0] * 10**6 + record[1]

@@ -6,8 +6,6 @@
 """
 
 import contextlib
-import importlib.machinery
-import importlib.util
 import io
 import pathlib
 import re
@@ -18,6 +16,12 @@ import unittest
 import xml.etree.ElementTree as xml
 
 TOP = pathlib.Path(__file__).resolve().parents[2]
+sys.path.insert(0, str(TOP / "tools"))
+sys.dont_write_bytecode = True
+
+from plot import program  # noqa: E402
+from plot.windows import chosen, connections_of, windows_of  # noqa: E402
+
 PROGRAM = TOP / "tools" / "h2audit-plot"
 EXAMPLES = TOP / "examples"
 PICTURES = TOP / "docs" / "pictures"
@@ -32,38 +36,26 @@ CHOICES = {
 }
 
 
-def loaded():
-    sys.dont_write_bytecode = True
-    loader = importlib.machinery.SourceFileLoader("h2audit_plot", str(PROGRAM))
-    module = importlib.util.module_from_spec(importlib.util.spec_from_loader(loader.name, loader))
-    sys.modules[loader.name] = module
-    loader.exec_module(module)
-    return module
-
-
-plot = loaded()
-
-
-def answer(*words):
+def answer(*words: str) -> tuple[int, str]:
     """The status of a run and its line on standard error."""
     said = io.StringIO()
     with contextlib.redirect_stderr(said):
         try:
-            status = plot.main(list(words))
+            status = program.main(list(words))
         except SystemExit as ended:
-            status = ended.code
+            status = int(ended.code or 0)
     return status, said.getvalue()
 
 
-def reports():
+def reports() -> list[pathlib.Path]:
     return sorted(EXAMPLES.glob("*.frames.report"))
 
 
-def name_of(report):
+def name_of(report: pathlib.Path) -> str:
     return report.name.removesuffix(".frames.report")
 
 
-def draw(report, output, *choices):
+def draw(report: pathlib.Path, output: pathlib.Path | str, *choices: str) -> None:
     status, said = answer(str(report), "--output", str(output), *choices)
     assert (status, said) == (0, ""), (report, status, said)
 
@@ -71,7 +63,7 @@ def draw(report, output, *choices):
 class Examples(unittest.TestCase):
     """Each report is read whole, and each of its windows, stalls and faults is in the picture."""
 
-    def test_each_report(self):
+    def test_each_report(self) -> None:
         self.assertTrue(reports())
         with tempfile.TemporaryDirectory() as folder:
             for report in reports():
@@ -79,7 +71,7 @@ class Examples(unittest.TestCase):
                     draw(report, pathlib.Path(folder, "picture.svg"))
                     self.judge(report.read_text(), pathlib.Path(folder, "picture.svg").read_text())
 
-    def judge(self, report, picture):
+    def judge(self, report: str, picture: str) -> None:
         xml.fromstring(picture)
         windows = set(re.findall(r"(client|server) \w+-credit stream (\d+)", report))
         for side, stream in windows if len(windows) <= 8 else []:
@@ -89,22 +81,22 @@ class Examples(unittest.TestCase):
         for frame, kind in re.findall(r"^frame (\d+) record .* (\S*(?:over|after|not-|zero-)\S*) stream", report, re.M):
             self.assertIn(f"frame {frame}: {kind} by the ", picture)
 
-    def test_png(self):
+    def test_png(self) -> None:
         with tempfile.TemporaryDirectory() as folder:
             draw(reports()[0], pathlib.Path(folder, "picture.PNG"))
             self.assertEqual(pathlib.Path(folder, "picture.PNG").read_bytes()[:8], b"\x89PNG\r\n\x1a\n")
 
-    def test_stalls_are_those_of_the_report(self):
+    def test_stalls_are_those_of_the_report(self) -> None:
         for report in reports():
             text = report.read_text()
-            windows = [window for one in plot.connections_of(report.open("rb")) for window in plot.windows_of(one)]
+            windows = [window for one in connections_of(report.open("rb")) for window in windows_of(one)]
             drawn = sorted(
                 f"stall {window.side} stream {window.stream} from {begin.frame} "
                 + (f"to {end.frame} nanos {end.time - begin.time}" if end else "open")
                 for window in windows for begin, end in window.stalls)
             self.assertEqual(drawn, sorted(re.findall(r"^stall .*", text, re.M)), report.name)
 
-    def test_who_broke_it(self):
+    def test_who_broke_it(self) -> None:
         with tempfile.TemporaryDirectory() as folder:
             picture = pathlib.Path(folder, "picture.svg")
             draw(EXAMPLES / "connection_overflow_nginx.frames.report", picture)
@@ -116,13 +108,14 @@ class Examples(unittest.TestCase):
 class Pictures(unittest.TestCase):
     """The pictures of docs/ are those of the reports."""
 
-    def test_pictures(self):
+    def test_pictures(self) -> None:
         import matplotlib
 
         self.assertTrue(list(PICTURES.glob("*.svg")))
         for picture in PICTURES.glob("*.svg"):
             text = picture.read_text()
-            self.assertIn(f"Matplotlib v{matplotlib.__version__},", text, f"{picture.name} was drawn by another matplotlib")
+            by_another = f"{picture.name} was drawn by another matplotlib"
+            self.assertIn(f"Matplotlib v{matplotlib.__version__},", text, by_another)
             with tempfile.TemporaryDirectory() as folder:
                 again = pathlib.Path(folder, "again.svg")
                 draw(EXAMPLES / f"{picture.stem}.frames.report", again, *CHOICES.get(picture.stem, []))
@@ -134,18 +127,18 @@ class Choices(unittest.TestCase):
 
     REPORT = EXAMPLES / "negative_window_tomcat.frames.report"
 
-    def windows(self, *words):
-        asked = plot.arguments([str(self.REPORT), *words])
-        drawn, left_out = plot.chosen(plot.connections_of(self.REPORT.open("rb")), asked)
+    def windows(self, *words: str) -> tuple[list[str], int]:
+        asked = program.arguments([str(self.REPORT), *words])
+        drawn, left_out = chosen(connections_of(self.REPORT.open("rb")), asked)
         return [window.name for window in drawn], left_out
 
-    def test_windows(self):
+    def test_windows(self) -> None:
         self.assertEqual(self.windows(), (["server, connection", "server, stream 1", "server, stream 3"], 0))
         self.assertEqual(self.windows("--connection", "1", "--stream", "3"), (["server, stream 3"], 0))
         self.assertEqual(self.windows("--stream", "0"), (["server, connection"], 0))
         self.assertEqual(self.windows("--panels", "1"), (["server, stream 1"], 2))
 
-    def test_standard_input_and_output(self):
+    def test_standard_input_and_output(self) -> None:
         for form, begin in (("svg", b"<?xml"), ("png", b"\x89PNG")):
             with self.REPORT.open("rb") as report:
                 run = subprocess.run([PROGRAM, "--by-frame", "--format", form], stdin=report, capture_output=True)
@@ -156,13 +149,13 @@ class Choices(unittest.TestCase):
 class BadInput(unittest.TestCase):
     """Each gives one line on standard error, and its status."""
 
-    def refuses(self, text, why):
+    def refuses(self, text: bytes, why: str) -> None:
         with tempfile.NamedTemporaryFile() as file:
             file.write(text)
             file.flush()
             self.assertEqual(answer(file.name, "-o", "/dev/null"), (3, f"h2audit-plot: report refused: {why}\n"))
 
-    def test_refused_reports(self):
+    def test_refused_reports(self) -> None:
         good = (EXAMPLES / "stream_overrun_go.frames.report").read_bytes()
         self.refuses(b"", "not a report of h2audit")
         self.refuses(b"\xff\xfe", "not a report of h2audit")
@@ -175,33 +168,33 @@ class BadInput(unittest.TestCase):
         self.refuses(good[:-12], "line 17 is no line of a report")
         self.refuses(good.replace(b"value 10000", b"value " + b"9" * 5000), "line 5 is no line of a report")
 
-    def test_nothing_to_draw(self):
+    def test_nothing_to_draw(self) -> None:
         report = str(EXAMPLES / "stream_overrun_go.frames.report")
         self.assertEqual(answer(report, "--connection", "2"),
                          (3, "h2audit-plot: report refused: the report has no connection 2\n"))
         self.assertEqual(answer(report, "--stream", "3"),
                          (3, "h2audit-plot: report refused: the report tells no credit of stream 3\n"))
 
-    def test_files(self):
+    def test_files(self) -> None:
         report = str(EXAMPLES / "stream_overrun_go.frames.report")
         missing = "/nowhere/at all"
         self.assertEqual(answer(missing), (4, f"h2audit-plot: {missing}: No such file or directory\n"))
         self.assertEqual(answer(report, "-o", missing), (4, f"h2audit-plot: {missing}: No such file or directory\n"))
         self.assertEqual(answer("/", "-o", missing), (4, "h2audit-plot: /: Is a directory\n"))
 
-    def test_words(self):
+    def test_words(self) -> None:
         for words in (["--connection", "0"], ["--stream", "-1"], ["--stream"], ["--format", "gif"], ["one", "two"],
                       ["--panels", "65"], ["--panels", "9" * 5000]):
             status, said = answer(*words)
             self.assertEqual((status, said.count("\n"), said.startswith("h2audit-plot: ")), (2, 1, True), words)
 
-    def test_closed_pipe(self):
+    def test_closed_pipe(self) -> None:
         report = EXAMPLES / "stream_stalls_nghttpd.frames.report"
         run = subprocess.run(["bash", "-c", 'set -o pipefail; "$0" "$1" | true', PROGRAM, report], capture_output=True)
         self.assertIn((run.returncode, run.stderr), [(0, b""), (4, b"h2audit-plot: input or output: Broken pipe\n")])
 
 
-def write_pictures():
+def write_pictures() -> None:
     for picture in PICTURES.glob("*.svg"):
         draw(EXAMPLES / f"{picture.stem}.frames.report", picture, *CHOICES.get(picture.stem, []))
 

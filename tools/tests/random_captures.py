@@ -1,24 +1,28 @@
 """Random captures, for comparing two ways to their reports.
 
-`script(random)` is a connection whose frames are legal for the most part; findings of each kind come from small windows,
-from rare frames and from wild ones. `capture(random)` mixes such connections: segments out of order, repeated, cut or
-lost, two connections in one capture, packets and files with changed bytes, each byte order, unit of time and link type.
+`script(random)` is a connection whose frames are legal for the most part; findings of each kind come from small
+windows, from rare frames and from wild ones. `capture(random)` mixes such connections: segments out of order,
+repeated, cut or lost, two connections in one capture, packets and files with changed bytes, each byte order, unit of
+time and link type.
 """
 
 import struct
 from random import Random
 
-from captures import ACK, CLIENT, PREFACE, SERVER, SYN, SYN_ACK, Capture, frame, number
+from captures import ACK, CLIENT, PREFACE, SERVER, SYN, SYN_ACK, Capture, Endpoint, frame, number
 
 LARGEST = 2**31 - 1
+# Source, target, sequence number, flags, payload.
+Segment = tuple[Endpoint, Endpoint, int, int, bytes]
 SMALL = (0, 0, 1, 2, 5, 10, 40, 100)
 
 
 class Script:
     """Frames of a connection, one after the other."""
 
-    def __init__(self, random: Random):
-        self.random, self.opened, self.promised, self.unanswered = random, [], 0, {"C": 1, "S": 1}
+    def __init__(self, random: Random) -> None:
+        self.random, self.promised, self.unanswered = random, 0, {"C": 1, "S": 1}
+        self.opened: list[int] = []
         self.errors = random.choice((0, 0.02, 0.1))
 
     def pairs(self) -> bytes:
@@ -146,7 +150,7 @@ def script(random: Random) -> bytes:
     return bytes(capture.bytes)
 
 
-def segments(random: Random) -> list[tuple]:
+def segments(random: Random) -> list[Segment]:
     """The segments of a connection: cut anywhere, some of them twice, late, lost or with other bytes."""
     client, server = (CLIENT[0], random.choice((40000, 40001))), SERVER if random.random() < 0.9 else CLIENT
     isn = {side: random.choice((1000, 2**32 - 30)) for side in "CS"}
@@ -202,8 +206,9 @@ def capture(random: Random) -> bytes:
         other = segments(random)
         sent = [item for pair in zip(sent, other) for item in pair] + sent[len(other) :] + other[len(sent) :]
     spoiled = random.choice((0, 0, 0.05, 0.3))
-    for item in sent:
-        made.segment(*item, kept=len(item[4]) // 2 if random.random() < 0.03 else None)
+    for segment in sent:
+        kept = len(segment[4]) // 2 if random.random() < 0.03 else None
+        made.segment(*segment, kept)
         if random.random() < spoiled:  # a header's byte
             made.bytes[made.last + random.randint(12, 53)] = random.choice((0, 1, 4, 6, 17, 32, 69, 70, 255))
     octets = bytes(made.bytes)

@@ -3,9 +3,10 @@
 
     tools/tests/recipes_test.py [PROGRAM]
 
-A command is a block ```sh that a block ```text follows. It is run by bash at the top of the repository, where it has an awk
-once with each that is installed. The name h2audit is that of PROGRAM, and those of the programs beside it are of tools/.
-Without PROGRAM, h2audit is a stand-in that prints the stored reports of examples/, and commands that import are left out.
+A command is a block ```sh that a block ```text follows. It is run by bash at the top of the repository, where it has
+an awk once with each that is installed. The name h2audit is that of PROGRAM, and those of the programs beside it are
+of tools/. Without PROGRAM, h2audit is a stand-in that prints the stored reports of examples/, and commands that
+import are left out.
 """
 
 import os
@@ -15,27 +16,28 @@ import shutil
 import subprocess
 import sys
 import tempfile
+from collections.abc import Iterator
 
 TOP = pathlib.Path(__file__).resolve().parents[2]
 PAIR = re.compile(r"^```sh\n(.*?)^```\n+```text\n(.*?)^```$", re.M | re.S)
 LINK = re.compile(r"\]\(([^)#:]+)(?:#[^)]*)?\)")
 IMPORTS = re.compile("h2audit-(any|import) ")
-AWKS = [awk for awk in ("mawk", "gawk", "original-awk") if shutil.which(awk)]
+AWKS = {awk: path for awk in ("mawk", "gawk", "original-awk") if (path := shutil.which(awk))}
 
 
-def documents():
+def documents() -> list[pathlib.Path]:
     folders = [TOP, TOP / "docs", TOP / "bench", TOP / "examples"]
     return [document for folder in folders for document in sorted(folder.glob("*.md"))]
 
 
-def broken_links():
+def broken_links() -> list[str]:
     """The links of the documents that lead to no file."""
     return [f"{document.relative_to(TOP)}: no file {link[1]}"
             for document in documents() for link in LINK.finditer(document.read_text())
             if not (document.parent / link[1]).exists()]
 
 
-def recipes():
+def recipes() -> Iterator[tuple[str, str, str]]:
     """Each command with its place and what it should print."""
     for document in documents():
         text = document.read_text()
@@ -44,18 +46,18 @@ def recipes():
             yield f"{document.relative_to(TOP)}:{line}", pair[1], pair[2]
 
 
-def tools_folder(folder, program, awk):
+def tools_folder(folder: str, program: pathlib.Path, awk: str) -> pathlib.Path:
     """A folder that has the programs by their names."""
     bin_of = pathlib.Path(folder, awk)
     bin_of.mkdir()
     (bin_of / "h2audit").symlink_to(program)
     for name in ("h2audit-any", "h2audit-comment", "h2audit-fleet", "h2audit-import", "h2audit-page", "h2audit-plot"):
         (bin_of / name).symlink_to(TOP / "tools" / name)
-    (bin_of / "awk").symlink_to(shutil.which(awk))
+    (bin_of / "awk").symlink_to(AWKS[awk])
     return bin_of
 
 
-def printed(command, bin_of):
+def printed(command: str, bin_of: pathlib.Path) -> str:
     path = f"{bin_of}:{os.environ['PATH']}"
     with tempfile.TemporaryDirectory() as folder:
         surroundings = {**os.environ, "PATH": path, "LC_ALL": "C.UTF-8", "TMPDIR": folder}
@@ -64,7 +66,7 @@ def printed(command, bin_of):
     return run.stdout + run.stderr
 
 
-def main(words):
+def main(words: list[str]) -> int:
     program = pathlib.Path(words[0]).resolve() if words else TOP / "tools" / "tests" / "h2audit_stand_in"
     for line in broken_links():
         print(line)
@@ -73,7 +75,7 @@ def main(words):
         for awk in AWKS:
             bin_of = tools_folder(folder, program, awk)
             for place, command, wanted in recipes():
-                if awk != AWKS[0] and "awk" not in command or not words and IMPORTS.search(command):
+                if awk != next(iter(AWKS)) and "awk" not in command or not words and IMPORTS.search(command):
                     continue
                 number += 1
                 found = printed(command, bin_of)

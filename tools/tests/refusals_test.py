@@ -1,13 +1,12 @@
 #!/usr/bin/python3
 """Refuses each growth, thread, read and write of a program in turn: tools/tests/refusals_test.py PROGRAM
 
-refuse.c is loaded before the C library and makes one call fail. A run whose call is refused either says so, with the status and
-the line that README.md names and nothing on standard output, or gives the same answer as a run that meets no refusal. Only after
-a failed write is there more on standard output: a beginning of the report. A thread that cannot be had changes nothing, and
-neither does a read or a write of a single byte.
+refuse.c is loaded before the C library and makes one call fail. A run whose call is refused either says so, with the
+status and the line that README.md names and nothing on standard output, or gives the same answer as a run that meets
+no refusal. Only after a failed write is there more on standard output: a beginning of the report. A thread that
+cannot be had changes nothing, and neither does a read or a write of a single byte.
 """
 
-import itertools
 import os
 import pathlib
 import resource
@@ -27,16 +26,20 @@ HEADERS, PADDED, END_HEADERS = 1, 8, 4
 OUT_OF_MEMORY = (5, b"", b"h2audit: out of memory\n")
 READ_FAILED = (4, b"", b"h2audit: read failed\n")
 WRITE_FAILED = (4, b"h2audit: write failed\n")
-WORDS_REFUSED = b"error: invalid value '0' for '--workers <N>': 0 is not in 1..=64\n\nFor more information, try '--help'.\n"
+WORDS_REFUSED = (
+    b"error: invalid value '0' for '--workers <N>': 0 is not in 1..=64\n\n"
+    b"For more information, try '--help'.\n"
+)
+Answer = tuple[int, bytes, bytes]  # status, standard output, standard error
 BAD_MAGIC = b"h2audit: capture refused: bad-magic\n"
 
 
-def one_frame(one, side, data):
+def one_frame(one: Connection, side: int, data: bytes) -> None:
     """A frame in a record of its own."""
     one.send(side, data, most=len(data))
 
 
-def padded_stall(capture):
+def padded_stall(capture: Capture) -> None:
     """Content that uses up both windows of its side."""
     one = Connection(capture, 40000)
     one_frame(one, CLIENT, frame(HEADERS, END_HEADERS, 1))
@@ -45,7 +48,7 @@ def padded_stall(capture):
     one_frame(one, CLIENT, frame(0, PADDED, 1, bytes([10]) + bytes(16382)))
 
 
-def first_error_below_overflow(capture):
+def first_error_below_overflow(capture: Capture) -> None:
     """An error of one stream, and after it one of the connection."""
     one = Connection(capture, 40000)
     for stream in (1, 3):
@@ -55,7 +58,7 @@ def first_error_below_overflow(capture):
     one_frame(one, CLIENT, frame(0, 0, 11))
 
 
-def many_connections(capture):
+def many_connections(capture: Capture) -> None:
     """Connections enough for several workers, strays, and a record of no byte."""
     for port in range(40000, 40006):
         one = Connection(capture, port)
@@ -66,7 +69,7 @@ def many_connections(capture):
     capture.record(b"")
 
 
-def long_connection(capture):
+def long_connection(capture: Capture) -> None:
     """Frames enough for several workers to share one connection."""
     one = Connection(capture, 40000)
     for stream in range(1, 401, 2):
@@ -77,8 +80,13 @@ def long_connection(capture):
 
 
 class Refusals(unittest.TestCase):
+    folder: tempfile.TemporaryDirectory[str]
+    shim: pathlib.Path
+    met: pathlib.Path
+    captures: dict[str, pathlib.Path]
+
     @classmethod
-    def setUpClass(cls):
+    def setUpClass(cls) -> None:
         cls.folder = tempfile.TemporaryDirectory()
         cls.addClassCleanup(cls.folder.cleanup)
         home = pathlib.Path(cls.folder.name)
@@ -95,35 +103,47 @@ class Refusals(unittest.TestCase):
             cls.captures[name] = home / name
             cls.captures[name].write_bytes(data)
 
-    def run_program(self, words, refused="none 0", source=None, most_memory=None):
+    def run_program(
+        self,
+        words: list[str],
+        refused: str = "none 0",
+        source: pathlib.Path | None = None,
+        most_memory: int | None = None,
+    ) -> tuple[Answer, bool]:
         """Status and both outputs, and whether the refused call was made."""
         self.met.unlink(missing_ok=True)
-        bound = most_memory and (lambda: resource.setrlimit(resource.RLIMIT_AS, (most_memory, most_memory)))
+
+        def bound() -> None:
+            if most_memory:
+                resource.setrlimit(resource.RLIMIT_AS, (most_memory, most_memory))
+
         surroundings = dict(os.environ, LD_PRELOAD=str(self.shim), REFUSE=refused, MET=str(self.met))
         with open(source or os.devnull, "rb") as given:
             ended = subprocess.run([PROGRAM, *words], stdin=given, capture_output=True, env=surroundings, timeout=60,
                                    preexec_fn=bound)
         return (ended.returncode, ended.stdout, ended.stderr), self.met.exists()
 
-    def each_refused(self, kind, words, source=None):
+    def each_refused(
+        self, kind: str, words: list[str], source: pathlib.Path | None = None
+    ) -> tuple[Answer, list[Answer]]:
         """The answer of a run with no refusal, and then of each run in which the first, second .. call is refused."""
         whole, _ = self.run_program(words, source=source)
-        answers = []
-        for number in itertools.count(1):
-            answer, met = self.run_program(words, f"{kind} {number}", source)
-            if not met:
-                self.assertEqual(answer, whole)
-                return whole, answers
+        answers: list[Answer] = []
+        answer, met = self.run_program(words, f"{kind} 1", source)
+        while met:
             answers.append(answer)
+            answer, met = self.run_program(words, f"{kind} {len(answers) + 1}", source)
+        self.assertEqual(answer, whole)
+        return whole, answers
 
-    def growths(self, words, status, source=None):
+    def growths(self, words: list[str], status: int, source: pathlib.Path | None = None) -> None:
         whole, answers = self.each_refused("growth", words, source)
         self.assertEqual(whole[0], status)
         self.assertEqual(answers[:1], [OUT_OF_MEMORY])
         for number, answer in enumerate(answers, 1):
             self.assertIn(answer, (whole, OUT_OF_MEMORY), f"growth {number}")
 
-    def test_endings(self):
+    def test_endings(self) -> None:
         for words, status, starts, said in (
             (["--help"], 0, b"Audits the HTTP/2 flow control", b""),
             ([str(self.captures["padded_stall"])], 0, b"capture records ", b""),
@@ -137,7 +157,7 @@ class Refusals(unittest.TestCase):
                 self.assertEqual((ended, text[:len(starts)], line), (status, starts, said))
                 self.assertEqual(text == b"", starts == b"")
 
-    def test_refused_header_is_all_that_is_kept(self):
+    def test_refused_header_is_all_that_is_kept(self) -> None:
         path = pathlib.Path(self.folder.name) / "long"
         with open(path, "wb") as file:
             file.write(b"\n\r\r\n")
@@ -145,7 +165,7 @@ class Refusals(unittest.TestCase):
         answer, _ = self.run_program([str(path)], most_memory=64 << 20)
         self.assertEqual(answer, (3, b"", BAD_MAGIC))
 
-    def test_growths(self):
+    def test_growths(self) -> None:
         for name, workers, status in (
             ("padded_stall", 1, 0),
             ("padded_stall", 2, 0),
@@ -160,12 +180,12 @@ class Refusals(unittest.TestCase):
         with self.subTest("standard input"):
             self.growths([], 0, self.captures["padded_stall"])
 
-    def test_growths_of_words(self):
+    def test_growths_of_words(self) -> None:
         for words, status in ((["--help"], 0), (["--workers", "0"], 2), (["/nothing/there"], 4)):
             with self.subTest(words):
                 self.growths(words, status)
 
-    def test_threads(self):
+    def test_threads(self) -> None:
         for name in ("many_connections", "long_connection"):
             with self.subTest(name):
                 words = ["--workers", "4", "--groups", "8", "--block", "64", str(self.captures[name])]
@@ -173,7 +193,7 @@ class Refusals(unittest.TestCase):
                 self.assertNotEqual(answers, [])
                 self.assertEqual(set(answers), {whole})
 
-    def test_reads(self):
+    def test_reads(self) -> None:
         for name in self.captures:
             with self.subTest(name):
                 path = str(self.captures[name])
@@ -182,7 +202,7 @@ class Refusals(unittest.TestCase):
                 whole, answers = self.each_refused("read-one", [path])
                 self.assertEqual(set(answers), {whole})
 
-    def test_writes(self):
+    def test_writes(self) -> None:
         for name in ("no_record", "padded_stall"):
             path = str(self.captures[name])
             for kind, taken in (("write", 0), ("write-none", 0), ("drip", 3)):

@@ -18,7 +18,7 @@ DOCS = TOP / "docs"
 RANKED = re.compile(r"^\| \d+ \| `([a-z-]+)` \| [^|]* \| [^|]* \| ([^|]*) \|$", re.M)
 
 
-def rows(document):
+def rows(document: str) -> list[list[str]]:
     """The rows of all tables of a document, each as its cells."""
     return [
         [cell.strip() for cell in line.strip("|").split(" | ")]
@@ -27,7 +27,7 @@ def rows(document):
     ]
 
 
-def sections_in(text):
+def sections_in(text: str) -> set[str]:
     """Each section of a text as "6.1 to 6.9, 4.2"."""
     found = set()
     for begin, end in re.findall(r"\b(\d(?:\.\d+)+)(?: to (\d(?:\.\d+)+))?", text):
@@ -39,12 +39,12 @@ def sections_in(text):
 class Blame(unittest.TestCase):
     """The table of kinds says what the documents say."""
 
-    def test_who_broke_the_rule(self):
+    def test_who_broke_the_rule(self) -> None:
         ranked = {kind: who.strip("* ") for kind, who in RANKED.findall((DOCS / "REPORT_FORMAT.md").read_text())}
         self.assertEqual(len(ranked), 27)
         self.assertEqual({kind: said.blame for kind, said in blame.KINDS.items()}, ranked)
 
-    def test_who_is_to_blame(self):
+    def test_who_is_to_blame(self) -> None:
         """So says the other table of that document, and the one of the README."""
         for document in ("REPORT_FORMAT.md", "../README.md"):
             for cells in rows(document):
@@ -57,8 +57,8 @@ class Blame(unittest.TestCase):
                         if kind in blame.KINDS:
                             self.assertEqual(blame.KINDS[kind].blame, who, (document, kind))
 
-    def test_sections(self):
-        named = {}
+    def test_sections(self) -> None:
+        named: dict[str, set[str]] = {}
         for cells in rows("AUDIT_RULES.md"):
             kinds, colon, _ = cells[0].partition(":")
             for kind in re.findall(r"[a-z-]+", kinds) if colon else []:
@@ -68,7 +68,7 @@ class Blame(unittest.TestCase):
         self.assertEqual(faults, {kind: named.get(kind) for kind in faults})
         self.assertFalse([kind for kind, said in blame.KINDS.items() if not blame.is_fault(kind) and said.sections])
 
-    def test_sections_of_findings(self):
+    def test_sections_of_findings(self) -> None:
         """Where side or value decide, the section is one of the kind's."""
         for kind, said in blame.KINDS.items():
             for side in ("client", "server"):
@@ -76,7 +76,7 @@ class Blame(unittest.TestCase):
                     found = blame.section_of(lines.Finding(1, 1, 1, side, kind, 1, value))
                     self.assertLessEqual(sections_in(found), sections_in(said.sections), kind)
 
-    def test_types(self):
+    def test_types(self) -> None:
         """Frame types have the sections 6.1 to 6.10 in their order, as the table of section 4 of the rules has them."""
         types = {
             int(cells[0].split()[0]): cells[0].split()[1]
@@ -85,10 +85,10 @@ class Blame(unittest.TestCase):
         }
         self.assertEqual(types, dict(enumerate(blame.FRAME_TYPES)))
 
-    def said(self, *finding):
-        return blame.sentence_of(lines.Finding(7, 12, 1, *finding))
+    def said(self, side: str, kind: str, stream: int, value: int) -> str:
+        return blame.sentence_of(lines.Finding(7, 12, 1, side, kind, stream, value))
 
-    def test_sentences(self):
+    def test_sentences(self) -> None:
         """Written by hand, from the tables of the documents."""
         self.assertEqual(
             self.said("client", "stream-overrun", 1, -5000),
@@ -124,13 +124,13 @@ class Blame(unittest.TestCase):
             "for it (not-opened); the server broke RFC 9113, 6.6",
         )
 
-    def test_every_kind_has_a_sentence(self):
+    def test_every_kind_has_a_sentence(self) -> None:
         for kind in [*blame.KINDS, "new-kind"]:
             said = self.said("client", kind, 0, 9)
             self.assertIn(f"({kind})", said)
             self.assertNotRegex(said, r"[{}]|  ")
 
-    def test_durations(self):
+    def test_durations(self) -> None:
         for nanos, said in (
             (0, "0 ns"),
             (999, "999 ns"),
@@ -144,14 +144,14 @@ class Blame(unittest.TestCase):
 
 
 class Lines(unittest.TestCase):
-    def test_examples(self):
+    def test_examples(self) -> None:
         """Each line of each report is read, and the stalls are those that the report has."""
         for report in sorted((TOP / "examples").glob("*report")):
             read = list(lines.read_lines(io.BytesIO(report.read_bytes())))
             self.assertEqual(len(read), len(report.read_text().splitlines()))
             self.judge(read)
 
-    def judge(self, read):
+    def judge(self, read: list[lines.Line]) -> None:
         pairing, begins = Pairing(), []
         for line in read:
             if isinstance(line, lines.Opening):
@@ -171,18 +171,22 @@ class Lines(unittest.TestCase):
         self.assertEqual(found, [tuple(line) for line in read if isinstance(line, lines.Stall)])
         self.assertFalse([note for note in begins if "stall" not in sentence(note)])
 
-    def test_reports_of_imports(self):
+    def test_reports_of_imports(self) -> None:
         """Addresses of IPv6, and connections that were not decrypted."""
         line = "connection 1 client [2001:db8::1]:40000 server [2001:db8::2]:443 record 1 "
-        self.assertEqual(lines.read_line(line + "http2 frames 2").client, "[2001:db8::1]:40000")
+        opening = lines.read_line(line + "http2 frames 2")
+        assert isinstance(opening, lines.Opening)
+        self.assertEqual(opening.client, "[2001:db8::1]:40000")
         for reason in ("refused no-key", "refused cipher-suite 0x1302"):
-            self.assertEqual(lines.read_line(line + reason).form, reason)
+            opening = lines.read_line(line + reason)
+            assert isinstance(opening, lines.Opening)
+            self.assertEqual(opening.form, reason)
 
-    def refuses(self, text, why):
+    def refuses(self, text: bytes, why: str) -> None:
         with self.assertRaisesRegex(lines.Refused, why):
             list(lines.read_lines(io.BytesIO(text)))
 
-    def test_refused(self):
+    def test_refused(self) -> None:
         good = (TOP / "examples" / "stream_overrun_go.report").read_bytes()
         self.refuses(b"", "not a report of h2audit")
         self.refuses(b"\xff\n", "not a report of h2audit")

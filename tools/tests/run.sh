@@ -1,7 +1,7 @@
 #!/usr/bin/env bash
-# Tests what stands around the program: imports, comments, pages, pictures, many captures, man pages, completions, recipes,
-# the Debian package and the example of the library. And what the program answers where memory, threads, reads and writes
-# are refused.
+# Tests what stands around the program: imports, comments, pages, pictures, many captures, man pages, completions,
+# recipes, the Debian package and the example of the library. And what the program answers where memory, threads,
+# reads and writes are refused.
 #
 # It proves nothing, and builds the library's example alone. Where the program is not built, or is older than its
 # sources, the recipes read the stored reports of examples/, and install and package have another program in its place;
@@ -11,6 +11,8 @@ set -euo pipefail
 cd "$(dirname "$0")/../.."
 
 needed=(python3-matplotlib mandoc lintian zsh fish gawk mawk original-awk tshark binutils gcc libc6-dev)
+# Of types.
+needed+=(mypy)
 # Of the page and its tests.
 needed+=(libjs-dygraphs chromium chromium-driver python3-selenium)
 # Of imports and their tests.
@@ -85,6 +87,7 @@ else
     echo "what needs it does not run: build it by 'make build' or 'make test'"
 fi
 make -q "$split" > /dev/null 2>&1 || split=$program
+try 'types of Python, and lines' tools/tests/sources_test.py
 try 'man pages and completions' tools/tests/words_test.py
 try 'definitions to believe' tools/tests/believed_test.py
 try 'measuring' tools/tests/bench_test.py
@@ -110,7 +113,8 @@ try 'cipher suites, resumption, PSK, early data' tools/tests/import_tls_test.py 
 try_built 'reports of earlier imports' tools/tests/import_map_test.py "$built"
 try 'mutated captures and key logs' tools/tests/import_mutations_test.py
 try 'many captures: tables' tools/tests/fleet_test.py "${audits[@]}" Tables
-try 'many captures: lost workers, memory, time' tools/tests/fleet_test.py Course.test_{killed_worker,worker_killed_each_time,memory_and_time}
+try 'many captures: lost workers, memory, time' tools/tests/fleet_test.py \
+    Course.test_{killed_worker,worker_killed_each_time,memory_and_time}
 try 'many captures: Ctrl-C and resumption' tools/tests/fleet_test.py Course.test_{interrupted,ended_at_start,resumed}
 try 'many captures: names and refusals' tools/tests/fleet_test.py Words Schema
 try 'many captures: the database and its writer' tools/tests/fleet_test.py Writer

@@ -1,9 +1,9 @@
 #!/usr/bin/python3
 """Counts the threads that a program starts: tools/tests/threads_test.py PROGRAM
 
-No contract says that threads run, since it could not say that they take turns. So each way in which docs/ARCHITECTURE.md divides the
-work has a capture here that takes it, and the number of threads that it adds, computed by hand. A way that is idle, or a thread that
-is started in vain, changes a sum. One worker starts no thread.
+No contract says that threads run, since it could not say that they take turns. So each way in which
+docs/ARCHITECTURE.md divides the work has a capture here that takes it, and the number of threads that it adds,
+computed by hand. A way that is idle, or a thread that is started in vain, changes a sum. One worker starts no thread.
 """
 
 import os
@@ -22,17 +22,17 @@ from captures import PREFACE, SERVER, SYN, SYN_ACK, Capture, capture_of, frame_o
 SETTINGS, SETTINGS_ACK = frame_of(["SETTINGS"]), frame_of(["ACK"])
 
 
-def pings(frames):
+def pings(frames: int) -> bytes:
     """One connection of so many frames: the four with which it is opened, and PINGs, 87 bytes a record."""
     return capture_of("opened\n" + "C PING\n" * (frames - 4))
 
 
-def error_at_once(frames):
+def error_at_once(frames: int) -> bytes:
     """The same, whose fifth frame is an error of the connection."""
     return capture_of("opened\nS WINDOW_UPDATE 9 1\n" + "C PING\n" * (frames - 5))
 
 
-def connections(count):
+def connections(count: int) -> bytes:
     """So many connections of six records and four frames each, in 480 bytes."""
     capture = Capture()
     for port in range(1000, 1000 + count):
@@ -58,7 +58,8 @@ ROWS = [
     ("--workers 4 --block 64", SHORT, {
         "a part ahead": 1, "one side's flow": 1, "room for frames": 1, "61 blocks are summed": 3}),
     ("--workers 4", LONG, {
-        "a part ahead": 1, "one side's flow": 1, "room for frames": 1, "faults beside the split, from 4,096 frames on": 1}),
+        "a part ahead": 1, "one side's flow": 1, "room for frames": 1,
+        "faults beside the split, from 4,096 frames on": 1}),
     ("--workers 4 --block 64", LONG, {
         "a part ahead": 1, "one side's flow": 1, "room for frames": 1, "faults beside the split": 1,
         "two blocks of a front of 128 frames": 1, "64 blocks are summed": 3}),
@@ -66,12 +67,14 @@ ROWS = [
         "a part ahead": 1, "one side's flow": 1, "room for frames": 1, "nothing behind an error in the front": 0}),
     ("--workers 4", LONGER, {
         "parts ahead, one at each 256 KiB of the first MiB": 4, "a walk beside the second part": 1,
-        "three parts of packets are decoded": 2, "one side's flow": 1, "room for frames": 1, "faults beside the split": 1,
+        "three parts of packets are decoded": 2, "one side's flow": 1, "room for frames": 1,
+        "faults beside the split": 1,
         "faults in three pieces": 2, "five blocks are summed": 3}),
     ("--workers 2", connections(2), {"flows of one": 1, "one is made ready": 1, "one of two blocks is summed": 1}),
     ("--workers 4", connections(63), {"flows": 3, "made ready by halves": 3, "blocks are summed": 3}),
     ("--workers 4", connections(64), {
-        "flows": 3, "halves, from 64 connections on": 1, "each is made ready by halves": 2, "blocks of each are summed": 2}),
+        "flows": 3, "halves, from 64 connections on": 1, "each is made ready by halves": 2,
+        "blocks of each are summed": 2}),
     ("--workers 4", connections(5000), {
         "parts ahead": 4, "one more at the second MiB": 1, "walks beside the second part and the third": 2,
         "four parts of packets are decoded": 3, "flows": 3, "halves of one batch, and halves of these": 3}),
@@ -79,15 +82,19 @@ ROWS = [
 
 
 class Threads(unittest.TestCase):
+    shim: pathlib.Path
+    met: pathlib.Path
+    capture: pathlib.Path
+
     @classmethod
-    def setUpClass(cls):
+    def setUpClass(cls) -> None:
         folder = tempfile.TemporaryDirectory()
         cls.addClassCleanup(folder.cleanup)
         cls.shim, cls.met, cls.capture = (pathlib.Path(folder.name, name) for name in ("refuse.so", "met", "capture"))
         source = pathlib.Path(__file__).with_name("refuse.c")
         subprocess.run(["cc", "-O2", "-shared", "-fPIC", "-o", cls.shim, source], check=True)
 
-    def started(self, words, capture):
+    def started(self, words: str, capture: bytes) -> int:
         """How many threads a run starts. The capture is a file, which a read gives as much of as it asks for."""
         self.capture.write_bytes(capture)
         self.met.unlink(missing_ok=True)
@@ -95,12 +102,12 @@ class Threads(unittest.TestCase):
         subprocess.run([PROGRAM, *words.split(), self.capture], capture_output=True, env=surroundings, timeout=60)
         return self.met.stat().st_size if self.met.exists() else 0
 
-    def test_each_way(self):
+    def test_each_way(self) -> None:
         for words, capture, ways in ROWS:
             with self.subTest(words, ways=ways):
                 self.assertEqual(self.started(words, capture), sum(ways.values()))
 
-    def test_one_worker(self):
+    def test_one_worker(self) -> None:
         for _, capture, _ in ROWS:
             self.assertEqual(self.started("--workers 1 --block 64", capture), 0)
 

@@ -1,7 +1,7 @@
 """Captures of TLS connections that OpenSSL makes in memory, both ends of each in this process; what was said is known.
 
-The bytes of TLS are OpenSSL's own, as the ssl module of Python gives them, and so is the key log. The packets around them are
-made here.
+The bytes of TLS are OpenSSL's own, as the ssl module of Python gives them, and so is the key log. The packets around
+them are made here.
 """
 
 import datetime
@@ -10,6 +10,7 @@ import ssl
 import struct
 import subprocess
 import tempfile
+from collections.abc import Iterator
 
 from cryptography import x509
 from cryptography.hazmat.primitives import hashes, serialization
@@ -18,10 +19,13 @@ from cryptography.x509.oid import NameOID
 
 CLIENT, SERVER = 0, 1
 SYN, SYN_ACK, ACK, PUSH = 2, 18, 16, 24
+Ends = tuple[tuple[bytes, int], tuple[bytes, int]]  # address and port of who sends and of who receives
+Contexts = tuple[ssl.SSLContext, ssl.SSLContext]  # of client and server
 
 
-def certificate(folder, kind):
+def certificate(folder: str | pathlib.Path, kind: str) -> pathlib.Path:
     """A self-signed certificate with its key, in one file."""
+    key: rsa.RSAPrivateKey | ec.EllipticCurvePrivateKey
     key = rsa.generate_private_key(65537, 2048) if kind == "rsa" else ec.generate_private_key(ec.SECP256R1())
     name = x509.Name([x509.NameAttribute(NameOID.COMMON_NAME, "localhost")])
     start = datetime.datetime(2026, 1, 1)
@@ -34,7 +38,7 @@ def certificate(folder, kind):
     return path
 
 
-def dh_parameters(folder):
+def dh_parameters(folder: str | pathlib.Path) -> pathlib.Path:
     """Those of RFC 7919, for suites with DHE."""
     path = pathlib.Path(folder, "dh.pem")
     if not path.exists():
@@ -43,13 +47,15 @@ def dh_parameters(folder):
     return path
 
 
-def contexts(certificates, key_log, version, ciphers=None):
+def contexts(
+    certificates: list[pathlib.Path], key_log: pathlib.Path | str, version: ssl.TLSVersion, ciphers: str | None = None
+) -> Contexts:
     """Contexts of a client and of a server, which writes no key log: the client's is enough."""
     client, server = ssl.SSLContext(ssl.PROTOCOL_TLS_CLIENT), ssl.SSLContext(ssl.PROTOCOL_TLS_SERVER)
     client.check_hostname, client.verify_mode = False, ssl.CERT_NONE
     for path in certificates:
         server.load_cert_chain(path)
-    server.load_dh_params(dh_parameters(certificates[0].parent))
+    server.load_dh_params(str(dh_parameters(certificates[0].parent)))
     for one in (client, server):
         one.minimum_version = one.maximum_version = version
         one.set_ciphers((ciphers or "ALL") + ":@SECLEVEL=0")
@@ -61,11 +67,11 @@ def contexts(certificates, key_log, version, ciphers=None):
 class Capture:
     """The packets of a capture, in raw IP."""
 
-    def __init__(self):
-        self.packets = []  # time in nanoseconds, datagram
+    def __init__(self) -> None:
+        self.packets: list[tuple[int, bytes]] = []  # time in nanoseconds, datagram
         self.now = 10**18
 
-    def add(self, ends, sequence, flags, payload=b"", answer=0):
+    def add(self, ends: Ends, sequence: int, flags: int, payload: bytes = b"", answer: int = 0) -> None:
         source, target = ends
         total = 40 + len(payload)
         header = struct.pack(">BBHHHBBH4s4s", 0x45, 0, total, 0, 0x4000, 64, 6, 0, source[0], target[0])
@@ -73,7 +79,7 @@ class Capture:
         self.now += 1000
         self.packets.append((self.now, header + tcp + payload))
 
-    def write(self, path):
+    def write(self, path: pathlib.Path | str) -> None:
         with open(path, "wb") as file:
             file.write(struct.pack("<IHHiIII", 0xA1B23C4D, 2, 4, 0, 0, 1 << 18, 101))
             for nanos, data in self.packets:
@@ -83,7 +89,14 @@ class Capture:
 class Talk:
     """A connection: what either end says goes through OpenSSL into packets of at most ``segment`` bytes."""
 
-    def __init__(self, capture, pair, port=40000, segment=1448, session=None):
+    def __init__(
+        self,
+        capture: Capture,
+        pair: Contexts,
+        port: int = 40000,
+        segment: int = 1448,
+        session: ssl.SSLSession | None = None,
+    ) -> None:
         self.capture, self.segment = capture, segment
         self.incoming = ssl.MemoryBIO(), ssl.MemoryBIO()
         self.outgoing = ssl.MemoryBIO(), ssl.MemoryBIO()
@@ -95,12 +108,12 @@ class Talk:
         places = (bytes([10, 0, 0, 1]), port), (bytes([10, 0, 0, 2]), 443)
         self.places = places, places[::-1]
         self.sequences = [1000, 5000]
-        self.said = []  # side and bytes
+        self.said: list[tuple[int, bytes]] = []  # side and bytes
         capture.add(self.places[CLIENT], 1000, SYN)
         capture.add(self.places[SERVER], 5000, SYN_ACK)
         self.sequences = [1001, 5001]
 
-    def move(self, side):
+    def move(self, side: int) -> bool:
         """Takes what an end has to send, in packets, to the other end."""
         data = self.outgoing[side].read()
         for at in range(0, len(data), self.segment):
@@ -110,7 +123,7 @@ class Talk:
         self.incoming[1 - side].write(data)
         return bool(data)
 
-    def shake_hands(self):
+    def shake_hands(self) -> "Talk":
         done = [False, False]
         while not all(done) or self.move(CLIENT) or self.move(SERVER):
             for side in (CLIENT, SERVER):
@@ -122,20 +135,20 @@ class Talk:
                 self.move(side)
         return self
 
-    def say(self, side, data):
+    def say(self, side: int, data: bytes) -> None:
         self.ends[side].write(data)
         self.said.append((side, data))
         self.move(side)
         self.hear(1 - side)
 
-    def hear(self, side):
+    def hear(self, side: int) -> None:
         try:
             while self.ends[side].read(1 << 16):
                 pass
         except ssl.SSLWantReadError:
             pass
 
-    def end(self):
+    def end(self) -> None:
         for side in (CLIENT, SERVER):
             try:
                 self.ends[side].unwrap()
@@ -144,7 +157,7 @@ class Talk:
             self.move(side)
 
 
-def payloads_of(path):
+def payloads_of(path: pathlib.Path) -> Iterator[tuple[int, bytes]]:
     """The payloads of an example's one connection, in order, each with its side."""
     data = path.read_bytes()
     order = "<" if data[0] in (0xD4, 0x4D) else ">"
@@ -164,5 +177,5 @@ def payloads_of(path):
             yield (CLIENT if source == client else SERVER), payload
 
 
-def temporary():
+def temporary() -> tempfile.TemporaryDirectory[str]:
     return tempfile.TemporaryDirectory(prefix="h2audit-test-")

@@ -1,8 +1,8 @@
 #!/usr/bin/python3
 """Tests of the man pages and of the completions, each by its own program: all of them name the programs' options.
 
-The options of h2audit and h2audit-split are those of their help texts, which tests of the gate pin; those of the programs in
-Python are in their --help.
+The options of h2audit and h2audit-split are those of their help texts, which tests of the gate pin; those of the
+programs in Python are in their --help.
 """
 
 import os
@@ -13,6 +13,8 @@ import subprocess
 import tempfile
 import time
 import unittest
+from collections.abc import Callable
+from typing import Any
 
 TOP = pathlib.Path(__file__).resolve().parents[2]
 MAN = TOP / "tools" / "man"
@@ -22,11 +24,11 @@ IN_PYTHON = ("any", "comment", "fleet", "import", "merge", "page", "plot")
 OPTION = re.compile(r"(?<![\w-])(--[a-z][a-z0-9-]*)")
 
 
-def output_of(*words, **more):
-    return subprocess.run(words, check=True, capture_output=True, text=True, **more).stdout
+def output_of(*words: str | pathlib.Path, **more: Any) -> str:
+    return str(subprocess.run(words, check=True, capture_output=True, text=True, **more).stdout)
 
 
-def options_of(name):
+def options_of(name: str) -> list[str]:
     """The long options of a program's help."""
     if name in HELP_TEXTS:
         text = HELP_TEXTS[name].read_text()
@@ -39,21 +41,21 @@ PROGRAMS = {name: options_of(name) for name in (*HELP_TEXTS, *(f"h2audit-{end}" 
 
 
 class Version(unittest.TestCase):
-    def test_package(self):
+    def test_package(self) -> None:
         """The package has the version that the program prints."""
         source = (TOP / "crates" / "command_line" / "src" / "command.rt").read_text()
-        version = re.search(r'const VERSION: &str = "(.*)";', source)[1]
+        (version,) = re.findall(r'const VERSION: &str = "(.*)";', source)
         changelog = (TOP / "tools" / "package" / "changelog").read_text()
         self.assertTrue(changelog.startswith(f"h2audit ({version}) "))
 
 
 class Man(unittest.TestCase):
-    def test_lint(self):
+    def test_lint(self) -> None:
         """mandoc finds nothing; whether other manuals are on this machine says nothing of ours."""
         run = subprocess.run(["mandoc", "-Tlint", *MAN.glob("*.1")], capture_output=True, text=True)
         self.assertEqual([line for line in run.stdout.splitlines() if "referenced manual not found" not in line], [])
 
-    def test_options(self):
+    def test_options(self) -> None:
         for name, options in PROGRAMS.items():
             tags = re.findall(r"^\.It (Fl .*)", (MAN / f"{name}.1").read_text(), re.M)
             named = sorted("--" + word for tag in tags for word in re.findall(r"Fl \\-([a-z][a-z0-9-]*)", tag))
@@ -61,7 +63,7 @@ class Man(unittest.TestCase):
 
 
 class Bash(unittest.TestCase):
-    def offered(self, *words):
+    def offered(self, *words: str | pathlib.Path) -> list[str]:
         """What bash offers for the last word, after those before."""
         script = """
             source "$1"; shift
@@ -71,11 +73,11 @@ class Bash(unittest.TestCase):
         """
         return output_of("bash", "-euc", script, "bash", COMPLETIONS / "h2audit.bash", *words, cwd=TOP).split("\n")[:-1]
 
-    def test_options(self):
+    def test_options(self) -> None:
         for name, options in PROGRAMS.items():
             self.assertEqual(sorted(self.offered(name, "--")), options)
 
-    def test_values(self):
+    def test_values(self) -> None:
         self.assertEqual(self.offered("h2audit", "--workers", "6"), ["6", "60", "61", "62", "63", "64"])
         self.assertEqual(self.offered("h2audit", "--workers", "=", "64"), ["64"])
         self.assertEqual(len(self.offered("h2audit", "--workers", "=")), 64)
@@ -96,18 +98,18 @@ class Bash(unittest.TestCase):
 
 
 class Fish(unittest.TestCase):
-    def offered(self, line):
+    def offered(self, line: str) -> list[str]:
         name = line.split()[0]
         script = f"source {COMPLETIONS}/{name}.fish; complete -C '{line}'"
         with tempfile.TemporaryDirectory() as home:
             said = output_of("fish", "--no-config", "-c", script, cwd=TOP, env={**os.environ, "HOME": home})
         return [word.split("\t")[0] for word in said.splitlines()]
 
-    def test_options(self):
+    def test_options(self) -> None:
         for name, options in PROGRAMS.items():
             self.assertEqual(sorted(self.offered(f"{name} --")), options)
 
-    def test_values(self):
+    def test_values(self) -> None:
         self.assertEqual(self.offered("h2audit --workers 6"), ["6", "60", "61", "62", "63", "64"])
         self.assertEqual(self.offered("h2audit --groups=10"), ["--groups=1024"])
         self.assertEqual(self.offered("h2audit --block 104"), ["1048576"])
@@ -123,9 +125,12 @@ class Zsh(unittest.TestCase):
     """zsh completes in a terminal of its own; a key shows what the line has become."""
 
     SHOW, TAB = "\x18", "\t"
+    folder: tempfile.TemporaryDirectory[str]
+    shown: pathlib.Path
+    terminal: int
 
     @classmethod
-    def setUpClass(cls):
+    def setUpClass(cls) -> None:
         cls.folder = tempfile.TemporaryDirectory()
         cls.shown = pathlib.Path(cls.folder.name, "shown")
         ready = pathlib.Path(cls.folder.name, "ready")
@@ -139,16 +144,16 @@ class Zsh(unittest.TestCase):
         cls.until(ready.exists)
 
     @classmethod
-    def tearDownClass(cls):
+    def tearDownClass(cls) -> None:
         os.close(cls.terminal)
         cls.folder.cleanup()
 
     @classmethod
-    def type(cls, text):
+    def type(cls, text: str) -> None:
         os.write(cls.terminal, text.encode())
 
     @classmethod
-    def until(cls, is_done):
+    def until(cls, is_done: Callable[[], bool]) -> None:
         """Waits at most 30 seconds, and reads what the terminal shows, so that zsh can go on writing."""
         os.set_blocking(cls.terminal, False)
         for _ in range(300):
@@ -161,13 +166,13 @@ class Zsh(unittest.TestCase):
             time.sleep(0.1)
         raise AssertionError("zsh does not answer")
 
-    def completed(self, line, tabs=1):
+    def completed(self, line: str, tabs: int = 1) -> str:
         self.shown.unlink(missing_ok=True)
         self.type(line + self.TAB * tabs + self.SHOW)
         self.until(lambda: self.shown.exists() and self.shown.read_text().endswith("\n"))
         return self.shown.read_text().rstrip("\n ")
 
-    def test_options(self):
+    def test_options(self) -> None:
         """Each option is found from its beginning, and the whole list has no other."""
         for name, options in PROGRAMS.items():
             for option in options:
@@ -177,7 +182,7 @@ class Zsh(unittest.TestCase):
             found = {self.completed(f"{name} --", tabs).rstrip("=") for tabs in range(1, len(options) + 2)}
             self.assertEqual(sorted(word.split()[1] for word in found), options)
 
-    def test_values(self):
+    def test_values(self) -> None:
         self.assertEqual(self.completed("h2audit --workers=6", 2), "h2audit --workers=60")
         self.assertEqual(self.completed("h2audit --groups=10"), "h2audit --groups=1024")
         self.assertEqual(self.completed("h2audit --block=104"), "h2audit --block=1048576")

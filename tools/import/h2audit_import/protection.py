@@ -7,11 +7,12 @@ stood and the rest of the record.
 """
 
 import struct
-from typing import Callable, Protocol
+from collections.abc import Callable
+from typing import Protocol, cast
 
 from cryptography.exceptions import InvalidSignature, InvalidTag
 from cryptography.hazmat.primitives import constant_time
-from cryptography.hazmat.primitives.ciphers import BlockCipherAlgorithm, Cipher, algorithms, modes
+from cryptography.hazmat.primitives.ciphers import BlockCipherAlgorithm, Cipher, CipherAlgorithm, algorithms, modes
 from cryptography.hazmat.primitives.ciphers.aead import AESCCM, AESGCM, ChaCha20Poly1305
 
 from .key_schedule import TrafficKeys, keyed_hash
@@ -132,7 +133,8 @@ class Blocks:
         size = self.algorithm.block_size // 8
         if len(body) < 2 * size or len(body) % size:
             raise InvalidSignature
-        opened = Cipher(self.algorithm, modes.CBC(body[:size])).decryptor()
+        # Each of these is a CipherAlgorithm too, which the types of the library don't say.
+        opened = Cipher(cast(CipherAlgorithm, self.algorithm), modes.CBC(body[:size])).decryptor()
         padded = opened.update(body[size:]) + opened.finalize()
         padding = padded[-1] + 1
         if padding > len(padded) or padded[-padding:] != bytes([padding - 1]) * padding:
@@ -153,8 +155,9 @@ def old_cipher(name: str) -> Callable[[bytes], BlockCipherAlgorithm]:
     try:
         from cryptography.hazmat.decrepit.ciphers import algorithms as decrepit
     except ImportError:
-        return getattr(algorithms, name)
-    return getattr(decrepit, name, None) or getattr(algorithms, name)
+        decrepit = algorithms
+    found: Callable[[bytes], BlockCipherAlgorithm] = getattr(decrepit, name, None) or getattr(algorithms, name)
+    return found
 
 
 def additional_data(sequence: int, header: bytes, length: int) -> bytes:
