@@ -1,7 +1,6 @@
 #!/usr/bin/python3
 """Tests that each storey of specs/ rests on those before it alone, and what ARCHITECTURE.md says of crates and lemmas."""
 
-import importlib.util
 import pathlib
 import re
 import sys
@@ -9,12 +8,10 @@ import unittest
 from collections.abc import Iterator
 
 TOP = pathlib.Path(__file__).resolve().parents[2]
-CRATES = TOP / "crates"
-FOUND = importlib.util.spec_from_file_location("believed", TOP / "tools" / "believed.py")
-believed = importlib.util.module_from_spec(FOUND)
-sys.modules["believed"] = believed
-FOUND.loader.exec_module(believed)
+sys.path.insert(0, str(TOP / "tools"))
+import believed  # noqa: E402
 
+CRATES = TOP / "crates"
 ARCHITECTURE = (TOP / "docs" / "ARCHITECTURE.md").read_text(encoding="utf-8")
 # Each rests on itself and on those before it.
 STOREYS = ["specs", "code", "laws", "examples"]
