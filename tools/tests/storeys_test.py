@@ -59,6 +59,14 @@ class Storeys(unittest.TestCase):
             is_law = LAWS.search(file.relative_to(CRATES).as_posix())
             self.rests(file, STOREYS.index("examples" if is_law else "code"))
 
+    def test_statements_of_laws(self) -> None:
+        """The statement of a law stands in laws/, but for those of which docs/ARCHITECTURE.md says that code needs them."""
+        crates = set()
+        for file in CRATES.glob("*/src/laws.rt"):
+            crates |= {crate for crate, room, path in cited(file) if room == "specs" and storey(path) == 1}
+        (said,) = re.findall(r"two laws by which code is proved have their\nstatements in [^;.]*\(([^)]*)\)", ARCHITECTURE)
+        self.assertEqual(crates, set(re.findall(r"of `(\w+)`", said)))
+
     def rests(self, file: pathlib.Path, highest: int) -> None:
         """The file names no definition of a storey past this one."""
         for crate, room, path in cited(file):
