@@ -89,6 +89,7 @@ else
 	@cd crates/crate_tests && rt try | diff stdout -
 	@cd crates/h2audit_split && rt try -- $$(cat args) | diff stdout -
 	tools/tests/believed_test.py
+	tools/tests/storeys_test.py
 endif
 
 # The gate: proves every crate from nothing, tries the must-fail edits, runs the tests and the programs; and asks the

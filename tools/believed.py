@@ -11,9 +11,9 @@ It begins at the names in the contracts of the calls that the programs make (CAL
 the types that these contracts show (VIEWS), and follows each name to its definition, by the imports of the file in
 which it stands. So exactly the definitions that are reached are listed, whatever else their files hold. A crate comes
 after those that it cites, a module after those that it imports. Lines are counted without imports, blank lines and
-comments. No definition may rest on specs/code/, the bookkeeping of code: that is an error. The structs and enums of
-which the definitions speak are named at the end, by the files that declare them, and so are the toolchain's modules;
-neither is counted.
+comments. No definition may rest on specs/code/, specs/laws/ or specs/examples/: that is an error. A law that a list of
+calls names has its statement listed, by its module of specs/laws/. The structs and enums of which the definitions speak
+are named at the end, by the files that declare them, and so are the toolchain's modules; neither is counted.
 """
 
 import pathlib
@@ -33,6 +33,8 @@ SPLITTER_CALLS = {
     "capture_split/src/laws.rt": ["one_part", "segments_name", "either_order", "same_records"],
 }
 VIEWS = {"byte_accounts/src/kept_bytes.rt": ["KeptBytes"]}
+# The folders of specs/ that hold what is not believed.
+BESIDE = {"code": "bookkeeping of code", "laws": "the statement of a law", "examples": "a worked example"}
 
 TOP = pathlib.Path(__file__).resolve().parent.parent
 IMPORT = re.compile(
@@ -190,14 +192,16 @@ class Reading:
             self.read[file] = read_module(self.crates, crate, file)
         return self.read[file]
 
-    def follow(self, crate: str, path: str, name: str, where: str) -> None:
+    def follow(self, asking: Module, crate: str, path: str, name: str, where: str) -> None:
         """Takes what an import leads to: a definition, a type of the code, or a word of the toolchain."""
+        folder = path.partition(".")[0]
+        is_law = folder == "laws" and "laws" in asking.file.with_suffix("").parts
         if not (self.crates / crate).is_dir():
             self.library.add(f"{crate}.{path}")
         elif path.startswith("declared"):
             self.types.add(declared(self.crates, crate, path))
-        elif path.startswith("code."):
-            raise Astray(f"{where} rests on bookkeeping of code: {crate}.{path}.{name}")
+        elif folder in BESIDE and not is_law:
+            raise Astray(f"{where} rests on {BESIDE[folder]}: {crate}.{path}.{name}")
         else:
             self.take(self.module(crate, path, where), name, where)
 
@@ -222,9 +226,9 @@ class Reading:
             if word in module.definitions:
                 self.take(module, word, here)
             elif word in module.names:
-                self.follow(*module.names[word], here)
+                self.follow(module, *module.names[word], here)
             elif name and head in module.aliases and head not in variables:
-                self.follow(*module.aliases[head], name.partition(".")[0], here)
+                self.follow(module, *module.aliases[head], name.partition(".")[0], here)
 
     def root(self, file: str, name: str) -> None:
         """Begins at the contract of a function of this name, or at the view of a type."""

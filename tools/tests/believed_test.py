@@ -152,6 +152,27 @@ class Reach(unittest.TestCase):
         self.write("base/specs/Words.antt", words.replace("n + n\n", "inner\n", 1))
         self.refused("^base/specs/Words.antt:4 rests on bookkeeping of code: base.code.Steps.inner$")
 
+    def test_folders_beside(self) -> None:
+        """No definition rests on a law or on an example."""
+        for folder, said in (("laws", "the statement of a law"), ("examples", "a worked example")):
+            self.write(f"base/specs/{folder}/Steps.antt", FILES["base/specs/code/Steps.antt"])
+            words = WORDS.replace("use ", f"use Rattle.base.specs.{folder}.Steps.{{inner}}\nuse ", 1)
+            self.write("base/specs/Words.antt", words.replace("n + n\n", "inner\n", 1))
+            self.refused(f"^base/specs/Words.antt:4 rests on {said}: base.{folder}.Steps.inner$")
+
+    def test_law(self) -> None:
+        """The statement of a law is reached from the law, and what it is made of."""
+        law = "use Rattle.base.specs.laws.Numbers.{twice}\n\nabbrev pub Law : Type 1\nLaw = twice\n"
+        self.write("app/specs/laws/Laws.antt", law)
+        self.write("base/specs/laws/Numbers.antt", WORDS)
+        contract = "ghost use Rattle.app.specs.laws.Laws.{Law};\n\npub fn law()\n    ensures { Law }\n{}\n"
+        self.write("app/src/laws.rt", contract)
+        rows = believed.read(self.crates, {"app/src/laws.rt": ["law"]}).by_crate()
+        self.assertEqual(
+            [believed.shown(module.file) for _, modules in rows for module, _, _ in modules],
+            ["laws/Numbers", "laws/Laws"],
+        )
+
     def test_no_definition(self) -> None:
         self.write("base/specs/Words.antt", WORDS.replace("twice", "double"))
         self.refused("names twice of base/specs/Words.antt, which does not define it")
@@ -175,6 +196,42 @@ class Documents(unittest.TestCase):
         """README.md and docs/PROOFS.md say what is reached today."""
         run = subprocess.run([sys.executable, TOP / "tools" / "believed.py", "--check"], capture_output=True, text=True)
         self.assertEqual((run.returncode, run.stderr), (0, ""))
+
+
+class Folders(unittest.TestCase):
+    """specs/ itself holds what is believed, and nothing else."""
+
+    def setUp(self) -> None:
+        self.reading = believed.read(TOP / "crates", believed.CALLS | believed.VIEWS)
+        believed.read(TOP / "crates", believed.SPLITTER_CALLS, self.reading)
+
+    def test_modules(self) -> None:
+        """Believed is each module outside of code/, laws/ and examples/, and of laws/ those of the laws in the lists."""
+        of_laws = {file for file in self.reading.reached if "laws" in file.parts}
+        named = {name.partition("/")[0] for name in believed.SPLITTER_CALLS if name.endswith("/src/laws.rt")}
+        self.assertEqual({self.reading.read[file].crate for file in of_laws}, named)
+        self.assertEqual(names_of(set(self.reading.reached) - of_laws), names_of(own_modules()))
+
+    def test_definitions(self) -> None:
+        """No such module holds a definition that is not believed."""
+        for file in own_modules() & set(self.reading.reached):
+            definitions = self.reading.read[file].definitions.values()
+            self.assertEqual({one.name for one in definitions} - self.reading.reached[file], set(), file)
+
+
+def own_modules() -> set[pathlib.Path]:
+    """The modules of specs/ outside of its folders code/, laws/ and examples/ that define something."""
+    found = set()
+    for file in (TOP / "crates").glob("*/specs/**/*.antt"):
+        is_list = not re.sub(r"^pub mod \w+$", "", file.read_text(encoding="utf-8"), flags=re.M).strip()
+        folder = file.relative_to(TOP / "crates").parts[2]
+        if not is_list and folder not in believed.BESIDE:
+            found.add(file)
+    return found
+
+
+def names_of(files: set[pathlib.Path]) -> list[str]:
+    return sorted(file.relative_to(TOP / "crates").as_posix() for file in files)
 
 
 class Definitions(unittest.TestCase):

@@ -90,6 +90,7 @@ make -q "$split" > /dev/null 2>&1 || split=$program
 try 'types of Python, and lines' tools/tests/sources_test.py
 try 'man pages and completions' tools/tests/words_test.py
 try 'definitions to believe' tools/tests/believed_test.py
+try 'storeys of definitions, and lemmas of other crates' tools/tests/storeys_test.py
 try 'measuring' tools/tests/bench_test.py
 try 'recipes' tools/tests/recipes_test.py "${audits[@]}"
 try 'language of the definitions' tools/tests/definitions_language_test.py

@@ -1,0 +1,131 @@
+#!/usr/bin/python3
+"""Tests that each storey of specs/ rests on those before it, and what ARCHITECTURE.md says of crates and lemmas."""
+
+import pathlib
+import re
+import sys
+import unittest
+from collections.abc import Iterator
+
+TOP = pathlib.Path(__file__).resolve().parents[2]
+sys.path.insert(0, str(TOP / "tools"))
+import believed  # noqa: E402
+
+CRATES = TOP / "crates"
+ARCHITECTURE = (TOP / "docs" / "ARCHITECTURE.md").read_text(encoding="utf-8")
+# Each rests on itself and on those before it.
+STOREYS = ["specs", "code", "laws", "examples"]
+# What the toolchain makes of the code.
+MADE = ("declared", "contracts")
+CITED = re.compile(r"\bRattle\.(\w+)\.(specs|proofs)\.(\w+(?:\.\w+)*)|\b(\w+)::(specs|proofs)::(\w+(?:::\w+)*)")
+# Functions with empty bodies, whose contracts are laws and examples. crate_tests is a program of tests.
+LAWS = re.compile(r"src/laws\.rt$|src/worked_\w+\.rt$|^crate_tests/src/")
+
+
+def cited(file: pathlib.Path) -> Iterator[tuple[str, str, list[str]]]:
+    """What a file names of crates: the crate, specs or proofs, and the path there."""
+    own = file.relative_to(CRATES).parts[0]
+    for found in CITED.finditer(file.read_text(encoding="utf-8")):
+        crate, room, path = found[1] or found[4], found[2] or found[5], (found[3] or found[6]).replace("::", ".")
+        crate = own if crate == "crate" else crate
+        if (CRATES / crate).is_dir():
+            yield crate, room, path.split(".")
+
+
+def files(room: str, ending: str = "antt") -> list[pathlib.Path]:
+    return sorted(CRATES.glob(f"*/{room}/**/*.{ending}"))
+
+
+def storey(path: list[str]) -> int:
+    return STOREYS.index(path[0]) if len(path) > 1 and path[0] in STOREYS else 0
+
+
+def rows(heading: str) -> list[list[str]]:
+    """The cells of the table under a line of head cells."""
+    table = re.search(rf"^{re.escape(heading)}\n\|[-|]+\n((?:\|.*\n)+)", ARCHITECTURE, re.M)
+    assert table, f"docs/ARCHITECTURE.md has no table with the heads {heading}"
+    return [[cell.strip() for cell in line.strip("|").split("|")] for line in table[1].splitlines()]
+
+
+class Storeys(unittest.TestCase):
+    def test_definitions_rest_on_those_before(self) -> None:
+        for file in files("specs"):
+            own = storey(list(file.relative_to(CRATES).with_suffix("").parts[2:]))
+            self.rests(file, own)
+
+    def test_code_cites_no_law(self) -> None:
+        """Contracts of code cite neither laws nor examples."""
+        for file in files("src", "rt"):
+            is_law = LAWS.search(file.relative_to(CRATES).as_posix())
+            self.rests(file, STOREYS.index("examples" if is_law else "code"))
+
+    def test_statements_of_laws(self) -> None:
+        """The statement of a law stands in laws/, but for the two by which code is proved."""
+        crates = set()
+        for file in CRATES.glob("*/src/laws.rt"):
+            crates |= {crate for crate, room, path in cited(file) if room == "specs" and storey(path) == 1}
+        (said,) = re.findall(r"two laws by which code is proved have[^(.]*\(([^)]*)\)", ARCHITECTURE)
+        self.assertEqual(crates, set(re.findall(r"of `(\w+)`", said)))
+
+    def rests(self, file: pathlib.Path, highest: int) -> None:
+        """The file names no definition of a storey past this one."""
+        for crate, room, path in cited(file):
+            if room == "specs" and path[0] not in MADE:
+                where = f"{file.relative_to(CRATES)} names {crate}.{'.'.join(path)}"
+                self.assertLessEqual(storey(path), highest, where)
+
+
+class Documents(unittest.TestCase):
+    def test_believed_crates(self) -> None:
+        """The table of crates has each of crates.txt, and says of which something is believed."""
+        said = {row[0].strip("`"): row[3] for row in rows("| crate | takes | answers | believed | beside it |")}
+        self.assertEqual(set(said), set(uses()))
+        reading = believed.read(CRATES, believed.CALLS | believed.VIEWS)
+        believed.read(CRATES, believed.SPLITTER_CALLS, reading)
+        crates = {module.crate for file, module in reading.read.items() if file in reading.reached}
+        self.assertEqual({crate for crate, cell in said.items() if cell != "none"}, crates)
+
+    def test_pairs(self) -> None:
+        """Proofs cite lemmas along the pairs of the table, and along no others."""
+        said = set()
+        for crate, others, _ in rows("| proofs of | cite lemmas of | on |"):
+            said |= {(crate.strip("`"), other) for other in re.findall(r"`(\w+)`", others)}
+        self.assertEqual(sorted(pairs()), sorted(said))
+
+
+class Lemmas(unittest.TestCase):
+    def test_proofs_alone_cite_them(self) -> None:
+        for file in files("specs") + files("src", "rt"):
+            own = file.relative_to(CRATES).parts[0]
+            others = {crate for crate, room, _ in cited(file) if room == "proofs" and crate != own}
+            self.assertEqual(others, set(), file.relative_to(CRATES))
+
+    def test_along_uses(self) -> None:
+        """Of a crate that its line in crates.txt names, and of a public module right in proofs/."""
+        for file in files("proofs"):
+            own = file.relative_to(CRATES).parts[0]
+            for crate, room, path in cited(file):
+                if room == "proofs" and crate != own:
+                    public = (CRATES / crate / "proofs" / "Lib.antt").read_text(encoding="utf-8").splitlines()
+                    self.assertIn(crate, uses()[own], file.relative_to(CRATES))
+                    self.assertIn(f"pub mod {path[0]}", public, file.relative_to(CRATES))
+                    self.assertTrue((CRATES / crate / "proofs" / f"{path[0]}.antt").is_file(), file.relative_to(CRATES))
+
+
+def uses() -> dict[str, list[str]]:
+    """Each crate with the libraries that its line in crates.txt names."""
+    text = re.sub(r"#.*", "", (TOP / "crates.txt").read_text(encoding="utf-8"))
+    return {line.partition(":")[0]: line.partition(":")[2].split() for line in text.splitlines() if line.strip()}
+
+
+def pairs() -> set[tuple[str, str]]:
+    """The crates whose proofs cite lemmas of others."""
+    found = set()
+    for file in files("proofs"):
+        own = file.relative_to(CRATES).parts[0]
+        found |= {(own, crate) for crate, room, _ in cited(file) if room == "proofs" and crate != own}
+    return found
+
+
+if __name__ == "__main__":
+    unittest.main()
