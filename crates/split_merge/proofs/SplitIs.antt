@@ -1,19 +1,28 @@
 -- The table of all visits, laid out, is the split.
-use Rattle.std.proofs.Common.{◌≡◌, ◌≢◌, ℕ, ◌<◌, List, length, get_or, refl, sym, ap, ◌∙◌, subst, arith}
+use Rattle.std.proofs.Common.{◌≡◌, ◌≢◌, ℕ, ◌<◌, Bool, false, not, List, [], ◌∷◌, filter, flat_map, length, get_or, refl, sym, ap, ◌∙◌, subst, arith}
 use Rattle.std.proofs.lemmas.List.{get_or-map}
 use Rattle.audit_terms.specs.declared.frames.Frame.{Frame}
+use Rattle.audit_terms.specs.declared.items.Change.{Change}
 use Rattle.audit_terms.specs.Pass.{streams_of}
 use Rattle.split_merge.specs.declared.splits.StreamRow.{StreamRow}
 use Rattle.split_merge.specs.declared.splits.SplitFrames.{SplitFrames}
 use Rattle.split_merge.specs.declared.visits.Visits.{Visits}
-use Rattle.split_merge.specs.Split.{positions_of, IsRange, IsPartOf, IsSplit, part_of}
+use Rattle.split_merge.specs.Split.{positions_of, IsRange, IsPartOf, IsSplit, part_of, opening_of}
 use Rattle.split_merge.specs.code.Visits.{streams_in, notes_from, noted_positions, total_of, laid_out, IsTableOf, HasRoomFor, IsFilled}
 use Rattle.split_merge.proofs.NamedStreams.{length-streams_in}
 use Rattle.split_merge.proofs.Visited.{not_among-at}
 use Rattle.split_merge.proofs.Positions.{noted-positions, frames_at-positions, positions-within}
 use Rattle.split_merge.proofs.LaidOut.{laid-streams, room-laid, filled-streams}
 
-module _ (frames : List Frame) (table : Visits) (split : SplitFrames)
+filter-all : (xs : List ℕ) → filter (λ _. not false) xs ≡ xs
+filter-all [] = refl
+filter-all (x ∷ xs) = ap (λ l. x ∷ l) (filter-all xs)
+
+filter-none : (xs : List ℕ) → filter (λ _. false) xs ≡ []
+filter-none [] = refl
+filter-none (x ∷ xs) = filter-none xs
+
+module _ (credits_shown : Bool) (changes : List Change) (frames : List Frame) (table : Visits) (split : SplitFrames)
     (streams : streams_in table.rows.items ≡ streams_of frames) (told : IsTableOf (notes_from 0 frames) table)
     (filled : IsFilled (laid_out 0 table.rows.items) (notes_from 0 frames) split.rows.items split.positions.items)
     (long : length split.positions.items ≡ total_of table.rows.items) where
@@ -67,9 +76,12 @@ module _ (frames : List Frame) (table : Visits) (split : SplitFrames)
         within = positions-within stream frames;
       }
 
-  pub split-is : IsSplit frames split
-  split-is = record {
-    streams = same-streams ∙ streams;
+  pub split-is : split.opened.items ≡ [] → IsSplit credits_shown changes frames split
+  split-is none = record {
+    is_quiet = λ _. false;
+    streams = same-streams ∙ streams ∙ sym (filter-all (streams_of frames));
     ranges = range-at;
     parts = part-at;
+    quiet = λ k d l e. cc;
+    opened = none ∙ sym (ap (flat_map (opening_of frames changes)) (filter-none (streams_of frames)));
   }

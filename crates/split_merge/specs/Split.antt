@@ -1,10 +1,12 @@
 -- The frames of a connection by stream: where the frames stand that each stream meets (RFC 9113, 5 and 6.6).
-use Rattle.std.specs.Prelude.{◌≡◌, ℕ, ◌+◌, ◌<◌, ◌≤◌, if◌then◌else◌, List, [], ◌∷◌, map, length, slice_get, option_to_list}
+use Rattle.std.specs.Prelude.{◌≡◌, ℕ, ◌+◌, ◌<◌, ◌≤◌, Bool, true, not, if◌then◌else◌, List, [], ◌∷◌, map, filter, length, slice_get, option_to_list}
 use Rattle.std.specs.List.{All, between, flat_map}
 use Rattle.audit_terms.specs.declared.frames.Frame.{Frame}
+use Rattle.audit_terms.specs.declared.items.Change.{Change}
+use Rattle.audit_terms.specs.Finding.{shown}
 use Rattle.audit_terms.specs.Frame.{meets}
 use Rattle.audit_terms.specs.Pass.{streams_of}
-use Rattle.audit_terms.specs.runs.Streams.{frames_of}
+use Rattle.audit_terms.specs.runs.Streams.{frames_of, stream_at_end, stream_run}
 use Rattle.split_merge.specs.declared.splits.StreamRow.{StreamRow}
 use Rattle.split_merge.specs.declared.splits.SplitFrames.{SplitFrames}
 
@@ -39,8 +41,19 @@ pub record IsPartOf (all : List Frame) (stream : ℕ) (part : List ℕ) : Type 0
   pub frames : frames_at all part ≡ frames_of stream all
   pub within : All (λ position. position < length all) part
 
--- a row for each stream other than 0 that meets a frame, in order of first frames, with the positions of its frames
-pub record IsSplit (frames : List Frame) (split : SplitFrames) : Type 0 where
-  pub streams : map (λ (row : StreamRow). row.stream) split.rows.items ≡ streams_of frames
+-- the number of the frame that opens the stream, if one does (5.1)
+abbrev pub opening_of : List Frame → List Change → (stream : ℕ) → List ℕ
+opening_of frames changes stream =
+    option_to_list (stream_at_end stream (frames_of stream frames) changes).life.opened
+
+-- some streams that meet a frame are quiet: nothing is shown of them, and the frames that open them are told. Each other
+-- one has a row with the positions of its frames, in order of first frames
+pub record IsSplit (credits_shown : Bool) (changes : List Change) (frames : List Frame) (split : SplitFrames) : Type 0 where
+  pub is_quiet : ℕ → Bool
+  pub streams : map (λ (row : StreamRow). row.stream) split.rows.items
+      ≡ filter (λ stream. not (is_quiet stream)) (streams_of frames)
   pub ranges : All (IsRange split) split.rows.items
   pub parts : All (λ (row : StreamRow). IsPartOf frames row.stream (part_of split row)) split.rows.items
+  pub quiet : All (λ (stream : ℕ). is_quiet stream ≡ true →
+      shown credits_shown (stream_run stream (frames_of stream frames) changes) ≡ []) (streams_of frames)
+  pub opened : split.opened.items ≡ flat_map (opening_of frames changes) (filter is_quiet (streams_of frames))

@@ -1,10 +1,13 @@
 ghost use Rattle.std.specs.Prelude.{◌≡◌, ◌^◌, ◌<◌, IfOk, length, set};
+ghost use Rattle.audit_terms.specs.runs.Orderly.{IsOrderly};
+ghost use Rattle.settings_pair.specs.Changes.{AreOrderly, AreAcknowledged};
 ghost use Rattle.split_merge.specs.Split.{IsRange, IsSplit, part_of};
 ghost use Rattle.split_merge.specs.code.Visits.{AreDistinct, AreOfRows, HasRoomFor, IsFilled, NotAmong, counted, laid_out, notes_of, streams_in, total_of};
 
 use crate::visits::{Visit, Visits};
 use audit_terms::Frame;
 use std::alloc::{AllocError, Global};
+use stream_credit::Changes;
 use table_hash::TableHash;
 
 /// A stream, and the range of its frames' positions in the list of a split.
@@ -18,10 +21,12 @@ pub struct StreamRow {
 /// The frames of a connection by stream. No frame is copied.
 #[derive(Drop)]
 pub struct SplitFrames {
-    /// A row for each stream other than 0 that meets a frame, in order of first frames.
+    /// A row for each stream other than 0 that meets a frame and is not quiet, in order of first frames.
     pub rows: Vec<StreamRow>,
-    /// Where the frames stand in the list of all frames, stream after stream.
+    /// Where the frames of the rows stand in the list of all frames, stream after stream.
     pub positions: Vec<u32>,
+    /// The numbers of the frames that open the quiet streams.
+    pub opened: Vec<u32>,
 }
 
 impl SplitFrames {
@@ -35,15 +40,29 @@ impl SplitFrames {
 }
 
 /// The frames of a connection by stream, each where its own stream meets it and where the stream that it promises does.
-pub fn split(alloc: Global, hash: TableHash, frames: &[Frame]) -> Result<SplitFrames, AllocError>
-    requires { length frames.now < 2 ^ 28 }
-    ensures { IfOk result (IsSplit frames.now) }
+/// A stream is quiet where nothing is shown of it by itself; with credits none is.
+pub fn split(
+    alloc: Global,
+    hash: TableHash,
+    credits_shown: bool,
+    changes: &Changes<'_>,
+    frames: &[Frame],
+) -> Result<SplitFrames, AllocError>
+    requires length { length frames.now < 2 ^ 28 }
+    requires frames { IsOrderly frames.now }
+    requires changes { AreOrderly changes.now }
+    requires acknowledged { AreAcknowledged frames.now changes.now }
+    ensures { IfOk result (IsSplit credits_shown changes.now frames.now) }
 {
     let table = Visits::of(alloc, hash, frames)?;
     let mut rows = table.rows;
     let total = lay_out(&mut rows);
     let positions = place(alloc, &mut rows, table.visits.as_slice(), total)?;
-    Ok(SplitFrames { rows, positions })
+    Ok(SplitFrames {
+        rows,
+        positions,
+        opened: Vec::new(alloc),
+    })
 }
 
 /// Gives each row its range, empty as yet, with room for the visits that it counts, and answers the room in all.

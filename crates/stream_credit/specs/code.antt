@@ -1,5 +1,6 @@
 pub mod Left
 pub mod Merged
 pub mod Quiet
+pub mod QuietStream
 pub mod Silent
 pub mod Walk

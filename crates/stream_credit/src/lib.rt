@@ -36,6 +36,7 @@ mod ends;
 mod left;
 mod parts;
 mod quiet;
+mod quiet_streams;
 mod runs;
 mod silent;
 mod walks;
@@ -43,4 +44,5 @@ pub mod worked_examples;
 
 pub use changes::Changes;
 pub use parts::{StreamPart, StreamRun};
+pub use quiet_streams::QuietStream;
 pub use runs::stream_run;

@@ -71,10 +71,11 @@ returns c =
     c.in_ok-positions.ensures.filled) in
     let kept : length c.place.new.rows ≡ c.in_ok-table.table.rows.len =
     omega (arith, filled.long ∙ laid-length 0 rows.items, rows.ok.0) in
-    split-is c.args.frames.now table record {
+    split-is c.args.credits_shown c.args.changes.now c.args.frames.now table record {
       rows = with_items (with_items rows c.lay_out-total.new.rows) c.place.new.rows;
       positions = c.in_ok-positions.positions;
+      opened = c.new-opened.result;
     } c.in_ok-table.ensures.streams c.in_ok-table.ensures.table
     (subst (λ l. IsFilled (laid_out 0 rows.items) noted l c.in_ok-positions.positions.items)
     (sym (with_items_is (with_items rows c.lay_out-total.new.rows) c.place.new.rows kept)) filled)
-    (c.in_ok-positions.ensures.long ∙ total)
+    (c.in_ok-positions.ensures.long ∙ total) c.new-opened.ensures
