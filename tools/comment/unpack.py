@@ -27,7 +27,7 @@ class Rejoined(io.RawIOBase):
     def readable(self) -> bool:
         return True
 
-    def readinto(self, room: memoryview) -> int:  # type: ignore[override]
+    def readinto(self, room: memoryview) -> int:  # type: ignore[override]  # no other buffer comes here
         part = self.begin[: len(room)] or self.rest.read(len(room))
         self.begin = self.begin[len(part) :]
         room[: len(part)] = part
@@ -45,7 +45,7 @@ class Unzipped(io.RawIOBase):
     def readable(self) -> bool:
         return True
 
-    def readinto(self, room: memoryview) -> int:  # type: ignore[override]
+    def readinto(self, room: memoryview) -> int:  # type: ignore[override]  # no other buffer comes here
         while True:
             if self.inflater.eof:
                 self.packed = self.inflater.unused_data
@@ -80,7 +80,7 @@ class Expanded(io.RawIOBase):
     def readable(self) -> bool:
         return True
 
-    def readinto(self, room: memoryview) -> int:  # type: ignore[override]
+    def readinto(self, room: memoryview) -> int:  # type: ignore[override]  # no other buffer comes here
         try:
             return int(self.reader.readinto(room))
         except self.error:

@@ -7,7 +7,7 @@ import os
 import sys
 import tempfile
 from collections.abc import Iterator
-from typing import BinaryIO
+from typing import BinaryIO, cast
 
 
 @contextlib.contextmanager
@@ -38,10 +38,11 @@ def whole_file(path: str) -> Iterator[BinaryIO]:
             raise
 
 
-def open_beside(target: str):  # type: ignore[no-untyped-def]
+def open_beside(target: str) -> BinaryIO:
     """A new file in the folder of the target, so that it can take the target's place."""
+    folder = os.path.dirname(target)
     try:
-        return tempfile.NamedTemporaryFile(dir=os.path.dirname(target), prefix=".h2audit-", delete=False)
+        return cast(BinaryIO, tempfile.NamedTemporaryFile(dir=folder, prefix=".h2audit-", delete=False))
     except OSError as why:
         raise OSError(why.errno, why.strerror, target) from None
 

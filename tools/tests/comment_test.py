@@ -17,7 +17,6 @@ import subprocess
 import sys
 import tempfile
 import unittest
-from typing import Any
 from unittest import mock
 
 TOP = pathlib.Path(__file__).resolve().parents[2]
@@ -86,8 +85,8 @@ def comments(capture: pathlib.Path) -> dict[int, str]:
     }
 
 
-def run(*words: object, **more: Any) -> subprocess.CompletedProcess[bytes]:
-    return subprocess.run([PROGRAM, *map(str, words)], capture_output=True, timeout=120, **more)
+def run(*words: object, input: bytes | None = None) -> subprocess.CompletedProcess[bytes]:
+    return subprocess.run([PROGRAM, *map(str, words)], capture_output=True, timeout=120, input=input)
 
 
 class InFolder(unittest.TestCase):

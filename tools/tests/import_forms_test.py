@@ -25,6 +25,7 @@ import unittest
 from collections.abc import Callable, Iterable, Iterator
 
 import import_tools as tools
+from pcapng_blocks import block, interface, packet, section
 
 sys.path.insert(0, str(tools.TOP / "tools" / "import"))
 
@@ -63,34 +64,13 @@ def in_ipv6(extensions: bytes = b"", first: int = 6) -> list[tools.Packet]:
     return [tools.Packet(one.nanos, data, len(data)) for one, data in zip(PACKETS, made)]
 
 
-def block(kind: int, body: bytes, order: str = "<") -> bytes:
-    body += bytes(-len(body) % 4)
-    return struct.pack(order + "II", kind, 12 + len(body)) + body + struct.pack(order + "I", 12 + len(body))
-
-
-def option(code: int, value: bytes) -> bytes:
-    return struct.pack("<HH", code, len(value)) + value + bytes(-len(value) % 4)
-
-
-def section() -> bytes:
-    return block(0x0A0D0D0A, struct.pack("<IHHq", 0x1A2B3C4D, 1, 0, -1))
-
-
-def interface(link: int, *options: bytes) -> bytes:
-    return block(1, struct.pack("<HHI", link, 0, 0) + b"".join(options) + bytes(4) * bool(options))
-
-
 def enhanced(number: int, ticks: int, one: tools.Packet, order: str = "<") -> bytes:
-    return block(
-        6,
-        struct.pack(order + "IIIII", number, ticks >> 32, ticks & 0xFFFFFFFF, len(one.data), one.original) + one.data,
-        order,
-    )
+    return packet(order, number, ticks, (0, 0, one.original, one.data))
 
 
 def secrets() -> bytes:
     text = (tools.CAPTURES / f"{NAME}.keys").read_bytes()
-    return block(0xA, struct.pack("<II", 0x544C534B, len(text)) + text)
+    return block("<", 0xA, struct.pack("<II", 0x544C534B, len(text)) + text)
 
 
 class Files(unittest.TestCase):
@@ -111,7 +91,7 @@ class Files(unittest.TestCase):
         with tempfile.TemporaryDirectory() as folder:
             paths = [pathlib.Path(folder, name) for name in ("a b%.pcap", "b.pcapng", "c.pcap.gz")]
             paths[0].write_bytes(tools.pcap_of(PACKETS[:6], ETHERNET))
-            paths[1].write_bytes(section() + interface(ETHERNET, option(9, b"\x09")) +
+            paths[1].write_bytes(section() + interface("<", ETHERNET, 9) +
                                  b"".join(enhanced(0, one.nanos, one) for one in PACKETS[6:15]))  # fmt: skip
             paths[2].write_bytes(gzip.compress(tools.pcap_of(PACKETS[15:], ETHERNET)))
             made = tools.imported(*KEYS, *paths)
@@ -127,11 +107,9 @@ class Files(unittest.TestCase):
 
     def test_sections_and_clocks(self) -> None:
         """Two sections, of either byte order; clocks of 2^-10 s and of 10^-9 s with an offset."""
-        first = section() + interface(105) + interface(ETHERNET, option(9, b"\x8a"), option(14, struct.pack("<q", 100)))
+        first = section() + interface("<", 105) + interface("<", ETHERNET, 0x8A, 100)
         data = first + b"".join(enhanced(1, 5 * 1024 + 512, one) for one in PACKETS[:10])
-        data += block(0x0A0D0D0A, struct.pack(">IHHq", 0x1A2B3C4D, 1, 0, -1), ">") + block(
-            1, struct.pack(">HHI", 1, 0, 0), ">"
-        )
+        data += section(">") + interface(">", ETHERNET)
         data += b"".join(enhanced(0, one.nanos // 1000, one, ">") for one in PACKETS[10:])
         made = given(data, *KEYS)
         self.assertEqual(tools.rows_of(made), WANTED)
@@ -143,8 +121,8 @@ class Files(unittest.TestCase):
         """
         packets = b"".join(enhanced(0, one.nanos // 1000, one) for one in PACKETS)
         for data in (
-            section() + interface(ETHERNET) + packets + secrets(),
-            section() + interface(ETHERNET) + secrets() + packets,
+            section() + interface("<", ETHERNET) + packets + secrets(),
+            section() + interface("<", ETHERNET) + secrets() + packets,
         ):
             for words in JOBS:
                 self.assertEqual(tools.rows_of(given(data, *words)), WANTED)
@@ -157,14 +135,14 @@ class Files(unittest.TestCase):
     def test_refused(self) -> None:
         """What cannot be read is refused by name, with status 3, and no file is left."""
         header = PCAP[:20]
-        simple = section() + interface(1) + block(3, struct.pack("<I", 4) + b"abcd")
+        simple = section() + interface("<", 1) + block("<", 3, struct.pack("<I", 4) + b"abcd")
         e, v6 = tools.pcap_of(PACKETS[:1], ETHERNET), in_ipv6()
         clash = tools.Packet(0, datagrams()[0].data[:12] + bytes([240, 0, 0, 9]) + datagrams()[0].data[16:], 100)
         cases = {
             b"": "short-header", b"abc": "short-header", b"abcdefgh": "bad-magic", PCAP[:23]: "short-header",
             header + struct.pack("<I", 105) + e[24:]: "link-type 105", PCAP[:4] + b"\x03" + PCAP[5:]: "bad-version",
             simple: "simple-packet-block", section()[:-1] + b"\x01": "bad-block",
-            section() + interface(1) + enhanced(1, 0, PACKETS[0]): "no-interface",
+            section() + interface("<", 1) + enhanced(1, 0, PACKETS[0]): "no-interface",
             gzip.compress(PCAP)[:2] + b"x" * 9: "bad-gzip", b"\x28\xb5\x2f\xfd" + b"x" * 9: "bad-zstd",
             tools.pcap_of([*v6[:1], clash], RAW): "address-clash",
         }  # fmt: skip
@@ -228,7 +206,7 @@ class Links(unittest.TestCase):
     def test_tshark(self) -> None:
         """tshark sees the same segments in each of these forms."""
         forms = [(ETHERNET, PACKETS), *((link, fronted(datagrams(), front)) for link, front in FRONTS), *of_ipv6()]
-        data = section() + b"".join(interface(link) for link, _ in forms)
+        data = section() + b"".join(interface("<", link) for link, _ in forms)
         data += b"".join(enhanced(at, 0, one) for at, (_, packets) in enumerate(forms) for one in packets)
         with tempfile.NamedTemporaryFile(suffix=".pcapng") as file:
             file.write(data)
@@ -548,13 +526,14 @@ class Hostile(unittest.TestCase):
 
     def test_blocks(self) -> None:
         """Lengths of pcapng and pcap that nothing stands behind."""
-        front, head = section() + interface(ETHERNET), PCAP[:24]
+        front, head = section() + interface("<", ETHERNET), PCAP[:24]
         rows = {
             front + struct.pack("<II", 6, 0xFFFFFFFC) + b"x" * 100: "too-long-block",
             front + struct.pack("<II", 6, 0) + b"x" * 100: "bad-block",
-            front + block(6, struct.pack("<IIIII", 0, 0, 0, 0xFFFFFFFF, 9) + bytes(40)): "bad-block",
-            front + block(0xA, struct.pack("<II", 0x544C534B, 0xFFFFFFFF) + b"CLIENT_RANDOM"): "bad-block",
-            front + block(1, b""): "bad-block", section() + interface(ETHERNET) * 65537: "too-many-interfaces",
+            front + block("<", 6, struct.pack("<IIIII", 0, 0, 0, 0xFFFFFFFF, 9) + bytes(40)): "bad-block",
+            front + block("<", 0xA, struct.pack("<II", 0x544C534B, 0xFFFFFFFF) + b"CLIENT_RANDOM"): "bad-block",
+            front + block("<", 1, b""): "bad-block",
+            section() + interface("<", ETHERNET) * 65537: "too-many-interfaces",
             front + struct.pack("<II", 6, 17 << 20) + b"x" * 100: "cut",
             head + struct.pack("<IIII", 1, 0, 1 << 31, 9) + b"x" * 50: "cut",
             head + struct.pack("<IIII", 1, 0, 0, 1500): "refused short-ethernet",

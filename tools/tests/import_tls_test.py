@@ -419,6 +419,7 @@ def talk_of_13(folder: str) -> None:
 
 if __name__ == "__main__":
     if sys.argv[1:2] == ["--talk"]:
-        talk_of_13(sys.argv[2])
+        assert PROGRAM  # the last word, which is the folder here
+        talk_of_13(PROGRAM)
     else:
         unittest.main()

@@ -28,7 +28,8 @@ same() {
 }
 
 on_root() {
-    dpkg --root="$work/root" --force-not-root --force-script-chrootless "$@" 2> >(grep -v 'files list file for package' >&2)
+    dpkg --root="$work/root" --force-not-root --force-script-chrootless "$@" \
+        2> >(grep -v 'files list file for package' >&2)
 }
 
 # The programs beside h2audit, by what follows their names.

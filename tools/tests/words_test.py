@@ -14,7 +14,6 @@ import tempfile
 import time
 import unittest
 from collections.abc import Callable
-from typing import Any
 
 TOP = pathlib.Path(__file__).resolve().parents[2]
 MAN = TOP / "tools" / "man"
@@ -24,8 +23,9 @@ IN_PYTHON = ("any", "comment", "fleet", "import", "merge", "page", "plot")
 OPTION = re.compile(r"(?<![\w-])(--[a-z][a-z0-9-]*)")
 
 
-def output_of(*words: str | pathlib.Path, **more: Any) -> str:
-    return str(subprocess.run(words, check=True, capture_output=True, text=True, **more).stdout)
+def output_of(*words: str | pathlib.Path, home: str | None = None) -> str:
+    surroundings = {**os.environ, "HOME": home} if home else None
+    return subprocess.run(words, check=True, capture_output=True, text=True, cwd=TOP, env=surroundings).stdout
 
 
 def options_of(name: str) -> list[str]:
@@ -71,7 +71,7 @@ class Bash(unittest.TestCase):
             "$(complete -p "$1" | sed 's/.*-F \\([a-z0-9_]*\\) .*/\\1/')"
             printf '%s\\n' "${COMPREPLY[@]}"
         """
-        return output_of("bash", "-euc", script, "bash", COMPLETIONS / "h2audit.bash", *words, cwd=TOP).split("\n")[:-1]
+        return output_of("bash", "-euc", script, "bash", COMPLETIONS / "h2audit.bash", *words).split("\n")[:-1]
 
     def test_options(self) -> None:
         for name, options in PROGRAMS.items():
@@ -102,7 +102,7 @@ class Fish(unittest.TestCase):
         name = line.split()[0]
         script = f"source {COMPLETIONS}/{name}.fish; complete -C '{line}'"
         with tempfile.TemporaryDirectory() as home:
-            said = output_of("fish", "--no-config", "-c", script, cwd=TOP, env={**os.environ, "HOME": home})
+            said = output_of("fish", "--no-config", "-c", script, home=home)
         return [word.split("\t")[0] for word in said.splitlines()]
 
     def test_options(self) -> None:
