@@ -128,8 +128,9 @@ def run(asked: Asked, client: Any, database: Database, walk: Walk, captures: lis
         print(f"{NAME}: dashboard at {client.dashboard_link}", file=sys.stderr)
     order: tasks.Order = {"keys": [os.path.abspath(key) for key in asked.keys], "imports": asked.imports,
                           "timeout": asked.timeout, "split_above": asked.split_above * MEGABYTE}
-    scratch = asked.scratch or (tempfile.gettempdir() if asked.scheduler is None else None)
-    course = Course(client, order, Limits(asked.retries + 1, scratch), enter)
+    shared = asked.scratch or (tempfile.gettempdir() if asked.scheduler is None else None)
+    limits = Limits(asked.retries + 1, os.path.abspath(shared) if shared else None)
+    course = Course(client, order, limits, enter)
     is_whole = course.run(captures, tick)
     progress.clear()
     print(progress.summary(len(walk.captures) - len(captures), walk.others))

@@ -1,7 +1,7 @@
-"""What tests of h2audit-fleet stand on: captures with what h2audit answers, a folder of programs, and a run of h2audit-fleet.
+"""What tests of h2audit-fleet stand on: captures with what h2audit answers, a folder of programs, and its runs.
 
-The answers were written by hand: those of tests/reports and of examples/. With a program more captures are generated, and the
-answers are those of the program alone.
+The answers were written by hand: those of tests/reports and of examples/. With a program more captures are generated,
+and the answers are those of the program alone.
 """
 
 import hashlib
@@ -15,6 +15,7 @@ import tempfile
 import time
 from collections.abc import Callable
 from dataclasses import dataclass, field
+from typing import Any
 
 TOP = pathlib.Path(__file__).resolve().parents[2]
 sys.path[:0] = [str(TOP / "tests"), str(TOP / "bench")]
@@ -25,10 +26,14 @@ import reports_test  # noqa: E402
 
 FLEET = TOP / "tools" / "h2audit-fleet"
 # The first word of a test may name h2audit.
-PROGRAM = str(pathlib.Path(sys.argv.pop(1)).resolve()) if len(sys.argv) > 1 and os.access(sys.argv[1], os.X_OK) else None
+HAS_PROGRAM = len(sys.argv) > 1 and os.access(sys.argv[1], os.X_OK)
+PROGRAM = str(pathlib.Path(sys.argv.pop(1)).resolve()) if HAS_PROGRAM else None
 STAND_IN = TOP / "tools" / "tests" / "fleet_stand_in"
 # Seconds for what takes a few on a machine that is not busy.
 PATIENCE = 200
+# A row of the database, as SQLite has it.
+Row = tuple[Any, ...]
+Ran = subprocess.CompletedProcess[bytes]
 
 
 @dataclass(frozen=True)
@@ -96,7 +101,7 @@ class Machine:
     samples: list[Sample]
     program: str | None
     folder: pathlib.Path = field(init=False)
-    acts: dict[str, list] = field(default_factory=dict)
+    acts: dict[str, list[object]] = field(default_factory=dict)
 
     def __enter__(self) -> "Machine":
         self.held = tempfile.TemporaryDirectory()
@@ -133,11 +138,13 @@ class Machine:
                   "answers": {sample.digest: [sample.status, sample.error, sample.report] for sample in self.samples}}
         (self.folder / "orders.json").write_text(json.dumps(orders))
 
-    def start(self, *words: object, before: tuple[str, ...] = (), **more: object) -> subprocess.Popen:
+    def start(self, *words: object, before: tuple[str, ...] = (),
+              start_new_session: bool = False) -> subprocess.Popen[str]:
         self.write_orders()
         return subprocess.Popen(
-            [*before, FLEET, "--db", self.database, *map(os.fspath, words)], env=self.surroundings, cwd=self.folder,
-            stdout=subprocess.PIPE, stderr=subprocess.PIPE, stdin=subprocess.DEVNULL, text=True, **more)
+            [*before, FLEET, "--db", self.database, *map(str, words)], env=self.surroundings, cwd=self.folder,
+            stdout=subprocess.PIPE, stderr=subprocess.PIPE, stdin=subprocess.DEVNULL, text=True,
+            start_new_session=start_new_session)
 
     def run(self, *words: object, before: tuple[str, ...] = ()) -> tuple[int, str, str]:
         """Status, standard output and standard error of h2audit-fleet."""
@@ -145,7 +152,7 @@ class Machine:
         said, error = child.communicate(timeout=PATIENCE)
         return child.returncode, said, error
 
-    def ask(self, question: str, *values: object) -> list[tuple]:
+    def ask(self, question: str, *values: object) -> list[Row]:
         base = sqlite3.connect(self.database)
         try:
             return base.execute(question, values).fetchall()
@@ -167,4 +174,4 @@ class Machine:
 
 def count(machine: Machine) -> int:
     tables = machine.ask("SELECT COUNT(*) FROM sqlite_master WHERE name = 'captures'")
-    return machine.ask("SELECT COUNT(*) FROM captures")[0][0] if tables[0][0] else 0
+    return int(machine.ask("SELECT COUNT(*) FROM captures")[0][0]) if tables[0][0] else 0

@@ -1,8 +1,8 @@
 #!/usr/bin/python3
 """Tests of h2audit-fleet on a cluster by its scheduler's address: with TLS, and on two machines.
 
-The certificates are made by openssl here. The machines are network namespaces that the test makes and takes away, which needs
-root; without it that test is skipped by name.
+The certificates are made by openssl here. The machines are network namespaces that the test makes and takes away, which
+needs root; without it that test is skipped by name.
 """
 
 import itertools
@@ -11,7 +11,6 @@ import os
 import pathlib
 import signal
 import subprocess
-import sys
 import unittest
 
 from fleet_captures import PATIENCE, Machine, by_hand, count, until
@@ -27,7 +26,7 @@ class Cluster:
     def __init__(self, machine: Machine) -> None:
         self.machine = machine
         self.address = ""
-        self.children: list[subprocess.Popen] = []
+        self.children: list[subprocess.Popen[bytes]] = []
         self.numbers = itertools.count()
         self.certify("authority")
         self.certify("scheduler", "authority")
@@ -39,29 +38,31 @@ class Cluster:
 
     def certify(self, name: str, authority: str | None = None) -> None:
         """A key of its own, and a certificate that itself or the authority signs."""
-        words = ["openssl", "req", "-x509", "-newkey", "ec", "-pkeyopt", "ec_paramgen_curve:P-256", "-nodes", "-days", "2",
-                 "-subj", f"/CN={name}", "-keyout", f"{name}.key", "-out", f"{name}.pem"]
+        words = ["openssl", "req", "-x509", "-newkey", "ec", "-pkeyopt", "ec_paramgen_curve:P-256", "-nodes", "-days",
+                 "2", "-subj", f"/CN={name}", "-keyout", f"{name}.key", "-out", f"{name}.pem"]
         if authority:
-            words += ["-CA", f"{authority}.pem", "-CAkey", f"{authority}.key", "-addext", "basicConstraints=critical,CA:false"]
+            words += ["-CA", f"{authority}.pem", "-CAkey", f"{authority}.key"]
+            words += ["-addext", "basicConstraints=critical,CA:false"]
         subprocess.run(words, cwd=self.folder, check=True, capture_output=True)
 
     def words_of_tls(self, name: str) -> list[str]:
         files = {"--tls-ca-file": "authority.pem", "--tls-cert": f"{name}.pem", "--tls-key": f"{name}.key"}
         return [word for option, file in files.items() for word in (option, str(self.folder / file))]
 
-    def start(self, program: str, *words: str, before: tuple[str, ...] = ()) -> subprocess.Popen:
+    def start(self, program: str, *words: str, before: tuple[str, ...] = ()) -> subprocess.Popen[bytes]:
         log = self.folder / f"{program}.{next(self.numbers)}"
         surroundings = {**self.machine.surroundings, "DASK_DISTRIBUTED__COMM__TIMEOUTS__TCP": "15s",
                         "DASK_DISTRIBUTED__SCHEDULER__WORKER_TTL": "15s"}
         with open(log, "wb") as said:
-            child = subprocess.Popen([*TIED, *before, program, *self.words_of_tls("scheduler"), *words], stdin=subprocess.DEVNULL,
-                                     stdout=said, stderr=said, env=surroundings, cwd=self.folder, start_new_session=True)
+            child = subprocess.Popen(
+                [*TIED, *before, program, *self.words_of_tls("scheduler"), *words], stdin=subprocess.DEVNULL,
+                stdout=said, stderr=said, env=surroundings, cwd=self.folder, start_new_session=True)
         self.children.append(child)
         return child
 
     def scheduler(self, host: str, before: tuple[str, ...] = ()) -> None:
-        child = self.start("dask-scheduler", "--host", host, "--port", "0", "--scheduler-file", "scheduler.json", "--no-dashboard",
-                           "--protocol", "tls", before=before)
+        child = self.start("dask-scheduler", "--host", host, "--port", "0", "--scheduler-file", "scheduler.json",
+                           "--no-dashboard", "--protocol", "tls", before=before)
         until(lambda: self.is_found() or child.poll() is not None, self.said)
         assert self.address, self.said()
 
@@ -73,7 +74,7 @@ class Cluster:
             pass
         return bool(self.address)
 
-    def worker(self, *words: str, before: tuple[str, ...] = ()) -> subprocess.Popen:
+    def worker(self, *words: str, before: tuple[str, ...] = ()) -> subprocess.Popen[bytes]:
         return self.start("dask-worker", self.address, "--nthreads", "1", "--no-dashboard", "--local-directory",
                           str(self.folder / "temporary"), *words, before=before)
 
@@ -115,14 +116,15 @@ class Tls(unittest.TestCase):
         self.cluster.wait_for(2)
 
     def words(self, name: str = "client", authority: str = "authority") -> tuple[str, ...]:
-        return ("--scheduler", self.cluster.address.removeprefix("tls://"), "--tls-ca", f"{authority}.pem", "--tls-cert",
-                f"{name}.pem", "--tls-key", f"{name}.key", "captures")
+        tls = ("--tls-ca", f"{authority}.pem", "--tls-cert", f"{name}.pem", "--tls-key", f"{name}.key")
+        return ("--scheduler", self.cluster.address.removeprefix("tls://"), *tls, "captures")
 
     def test_by_address(self) -> None:
         """All captures are audited over TLS, by both workers; who has no certificate of the authority is not let in."""
         self.machine.acts = {sample.digest: ["meet", 2] for sample in self.machine.samples}
         faults = sum(sample.status == 1 for sample in self.machine.samples)
-        self.assertEqual(self.machine.run(*self.words()), (1, f"20 captures: {faults} with faults, 0 refused, 0 failed\n", ""))
+        wanted = f"20 captures: {faults} with faults, 0 refused, 0 failed\n"
+        self.assertEqual(self.machine.run(*self.words()), (1, wanted, ""))
         rows = self.machine.ask("SELECT sha256, status, report_sha256 IS NOT NULL FROM captures")
         self.assertEqual(sorted(rows), sorted((sample.digest, sample.status, 1) for sample in self.machine.samples))
         self.assertEqual(len({worker for worker, in self.machine.ask("SELECT DISTINCT worker FROM captures")}), 2)
@@ -189,8 +191,8 @@ class TwoMachines(unittest.TestCase):
         cluster.worker("--host", B, "--name", "there", before=there)
         cluster.wait_for(2)
         self.machine.acts = {sample.digest: ["sleep", 0.4] for sample in self.machine.samples}
-        child = self.machine.start("--scheduler", cluster.address, "--tls-ca", "authority.pem", "--tls-cert", "client.pem",
-                                   "--tls-key", "client.key", "captures", before=here)
+        tls = ("--tls-ca", "authority.pem", "--tls-cert", "client.pem", "--tls-key", "client.key")
+        child = self.machine.start("--scheduler", cluster.address, *tls, "captures", before=here)
         until(lambda: self.machine.workers() == 2 or child.poll() is not None, cluster.said)
         self.ip("-n", self.names[1], "link", "set", "cable", "down")
         said, error = child.communicate(timeout=PATIENCE)
@@ -200,4 +202,4 @@ class TwoMachines(unittest.TestCase):
 
 
 if __name__ == "__main__":
-    sys.exit(unittest.main())
+    unittest.main()

@@ -8,14 +8,20 @@ without, a program that stands in for it answers what was written by hand.
 import os
 import re
 import subprocess
+import sys
 import unittest
 
 from fleet_captures import PATIENCE, PROGRAM, STAND_IN, TOP, Machine, by_hand
-from fleet_test import names, rows_by_hand
+from fleet_test import rows_by_hand
 
+sys.path.insert(0, str(TOP / "tools"))
+
+from fleet import names  # noqa: E402
 
 BLOCK = re.compile(r"^```\n(.*?)^```$", re.M | re.S)
-EXAMPLES = ("stream_overrun_go", "use_after_reset", "connection_overflow_nginx", "lost_segment", "stream_stalls_nghttpd")
+EXAMPLES = ("stream_overrun_go", "use_after_reset", "connection_overflow_nginx", "lost_segment",
+            "stream_stalls_nghttpd")
+PATHS = "replace(replace(path, '/captures/', ''), '.pcap', '')"
 
 
 def block(word: str) -> str:
@@ -37,11 +43,11 @@ class Collected(unittest.TestCase):
         (self.machine.captures / f"{first.name}.pcap").rename(self.machine.captures / "a\n'b $(c).pcap")
         self.jobs = self.machine.folder / "jobs"
 
-    def bash(self, commands: str, **more: str) -> subprocess.CompletedProcess:
+    def bash(self, commands: str, **more: str) -> subprocess.CompletedProcess[str]:
         self.machine.write_orders()
         surroundings = {**self.machine.surroundings, "HOME": str(self.machine.folder), **more}
-        return subprocess.run(["bash", "-c", commands], cwd=self.machine.folder, env=surroundings, capture_output=True, text=True,
-                              timeout=PATIENCE)
+        return subprocess.run(["bash", "-c", commands], cwd=self.machine.folder, env=surroundings, capture_output=True,
+                              text=True, timeout=PATIENCE)
 
     def name_of(self, place: int) -> str:
         name = "a\n'b $(c).pcap" if place == 0 else f"{self.machine.samples[place].name}.pcap"
@@ -50,7 +56,8 @@ class Collected(unittest.TestCase):
     def check(self, place: int) -> None:
         """All rows of a capture are those that its report says."""
         sample = self.machine.samples[place]
-        row = self.machine.ask("SELECT id, size, sha256, outcome, status FROM captures WHERE path = ?", self.name_of(place))
+        asked = "SELECT id, size, sha256, outcome, status FROM captures WHERE path = ?"
+        row = self.machine.ask(asked, self.name_of(place))
         self.assertEqual([one[1:] for one in row], [(len(sample.capture), sample.digest, "audited", sample.status)])
         for table, rows in rows_by_hand(sample.report).items():
             found = self.machine.ask(f"SELECT * FROM {table} WHERE capture = ?", row[0][0])
@@ -58,9 +65,10 @@ class Collected(unittest.TestCase):
 
     def test_parallel(self) -> None:
         """GNU parallel, and then the same tables; what is changed and audited anew is collected anew."""
-        commands = block("h2audit_job()") + block("export -f").replace("--db audits.sqlite", f"--db {self.machine.database}")
-        ran = self.bash(commands)
-        self.assertEqual((ran.returncode, ran.stdout), (1, "5 captures: 3 with faults, 0 refused, 0 failed\n"), ran.stderr)
+        commands = block("h2audit_job()") + block("export -f")
+        ran = self.bash(commands.replace("--db audits.sqlite", f"--db {self.machine.database}"))
+        wanted = "5 captures: 3 with faults, 0 refused, 0 failed\n"
+        self.assertEqual((ran.returncode, ran.stdout), (1, wanted), ran.stderr)
         for place in range(5):
             self.check(place)
         again = self.machine.run("--collect", "jobs")
@@ -100,12 +108,15 @@ class Collected(unittest.TestCase):
         self.job("unended", None)
         self.job("unread", "no status\n")
         status, said, error = self.machine.run("--collect", "jobs")
-        self.assertEqual((status, said, error), (3, "7 captures: 0 with faults, 1 refused, 6 failed; 2 did not come to their end\n", ""))
-        found = dict(self.machine.ask("SELECT replace(replace(path, '/captures/', ''), '.pcap', ''), outcome || ' ' || reason FROM captures"))
+        wanted = "7 captures: 0 with faults, 1 refused, 6 failed; 2 did not come to their end\n"
+        self.assertEqual((status, said, error), (3, wanted, ""))
+        rows = self.machine.ask(f"SELECT {PATHS}, outcome || ' ' || reason FROM captures")
+        found = {name: why for name, why in rows}
         self.assertRegex(found.pop("torn"), r"^failed bad-report: line \d+ is no line of a report$")
         self.assertEqual(found, {
-            "late": "failed timeout", "killed": "failed signal 9", "poor": "failed out-of-memory", "odd": "refused link-type 105",
-            "huge": "failed bad-report: a number of the report is too large", "empty": "failed bad-report: not a report of h2audit"})
+            "late": "failed timeout", "killed": "failed signal 9", "poor": "failed out-of-memory",
+            "odd": "refused link-type 105", "huge": "failed bad-report: a number of the report is too large",
+            "empty": "failed bad-report: not a report of h2audit"})
         for table in ("connections", "findings", "stalls", "unopened", "passed_over"):
             self.assertEqual(self.machine.ask(f"SELECT * FROM {table}"), [])
 

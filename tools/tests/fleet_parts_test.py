@@ -1,8 +1,8 @@
 #!/usr/bin/python3
-"""Tests of captures that are imported and of large ones that are split, in h2audit-fleet and h2audit-any: fleet_parts_test.py PROGRAM
+"""Tests of imports, and of large captures in parts, in h2audit-fleet and h2audit-any: fleet_parts_test.py PROGRAM
 
-What is wanted is the report of PROGRAM for the whole, and what was written by hand. h2audit-split is the one that is built; where none
-is, a program stands in for it.
+What is wanted is the report of PROGRAM for the whole, and what was written by hand. h2audit-split is the one that is
+built; where none is, a program stands in for it.
 """
 
 import gzip
@@ -11,10 +11,16 @@ import os
 import pathlib
 import struct
 import subprocess
+import sys
 import unittest
 
-from fleet_captures import PATIENCE, PROGRAM, TOP, Machine, by_hand, generate, scripts
-from fleet_test import tasks
+from fleet_captures import PATIENCE, PROGRAM, TOP, Machine, Ran, by_hand
+
+sys.path[:0] = [str(TOP / "tools"), str(TOP / "bench"), str(TOP / "tests")]
+
+import captures as scripts  # noqa: E402
+import generate  # noqa: E402
+from fleet import tasks  # noqa: E402
 
 SPLIT = TOP / "crates" / "h2audit_split" / "out" / "h2audit_split"
 STAND_IN = TOP / "tools" / "tests" / "split_stand_in"
@@ -22,7 +28,7 @@ MERGE = TOP / "tools" / "h2audit-merge"
 
 
 def over_ipv6(capture: bytes) -> bytes:
-    """A capture with its segments in packets of IPv6, from 2001:db8::1 and 2001:db8::2. What is no IPv4, or is cut, stays as it is."""
+    """A capture with its segments in IPv6, from 2001:db8::1 and 2001:db8::2. What is no IPv4, or is cut, stays."""
     found, at = bytearray(capture[:24]), 24
     while at + 16 <= len(capture):
         seconds, moment, length, _ = struct.unpack_from("<IIII", capture, at)
@@ -45,8 +51,9 @@ class Beside(unittest.TestCase):
         self.machine.__enter__()
         self.addCleanup(self.machine.__exit__)
         (self.machine.bin / "h2audit").unlink()
-        programs = {"h2audit": PROGRAM, "h2audit-any": TOP / "tools" / "h2audit-any", "h2audit-merge": MERGE,
-                    "h2audit-split": SPLIT if SPLIT.exists() else STAND_IN}
+        programs: dict[str, str | pathlib.Path] = {
+            "h2audit": str(PROGRAM), "h2audit-any": TOP / "tools" / "h2audit-any", "h2audit-merge": MERGE,
+            "h2audit-split": SPLIT if SPLIT.exists() else STAND_IN}
         for name, program in programs.items():
             (self.machine.bin / name).symlink_to(program)
 
@@ -61,11 +68,12 @@ class Beside(unittest.TestCase):
             file.write(b"cut")
         return path
 
-    def report_of(self, *words: object) -> subprocess.CompletedProcess:
-        return subprocess.run([PROGRAM, *words], capture_output=True)
+    def report_of(self, *words: object) -> Ran:
+        return subprocess.run([str(PROGRAM), *map(str, words)], capture_output=True)
 
-    def any(self, *words: object, **more: str) -> subprocess.CompletedProcess:
-        return subprocess.run([TOP / "tools" / "h2audit-any", "--h2audit", PROGRAM, *words], capture_output=True, timeout=PATIENCE,
+    def any(self, *words: object, **more: str) -> Ran:
+        line = [TOP / "tools" / "h2audit-any", "--h2audit", PROGRAM, *words]
+        return subprocess.run(list(map(str, line)), capture_output=True, timeout=PATIENCE,
                               env={**self.machine.surroundings, **more})
 
 
@@ -81,7 +89,9 @@ class Imports(Beside):
         (self.machine.captures / "six.pcap").write_bytes(over_ipv6(scripts.capture_of(script)))
         status, said, error = self.machine.run("--jobs", "2", "--reports", "reports", "captures")
         self.assertEqual((status, said, error), (1, "3 captures: 3 with faults, 0 refused, 0 failed\n", ""))
-        six = wanted["use_after_reset"].report.replace("10.0.0.1:", "[2001:db8::1]:").replace("10.0.0.2:", "[2001:db8::2]:")
+        six = wanted["use_after_reset"].report
+        for side in "12":
+            six = six.replace(f"10.0.0.{side}:", f"[2001:db8::{side}]:")
         rows = self.machine.ask("SELECT path, program, outcome, report_sha256 FROM captures")
         for path, program, outcome, digest in rows:
             report = six if path.endswith("six.pcap") else plain.report
@@ -96,7 +106,8 @@ class Imports(Beside):
         (self.machine.captures / "a.pcapng").write_bytes(bytes.fromhex("0a0d0d0a") + bytes(40))
         (self.machine.bin / "h2audit-any").unlink()
         self.assertEqual(self.machine.run("--jobs", "1", "captures")[0], 3)
-        self.assertEqual(self.machine.ask("SELECT outcome, reason FROM captures"), [("failed", "no-program h2audit-any")])
+        rows = self.machine.ask("SELECT outcome, reason FROM captures")
+        self.assertEqual(rows, [("failed", "no-program h2audit-any")])
         self.assertEqual(self.machine.run("--jobs", "1", "--resume", "--import", "never", "captures")[0], 3)
         self.assertEqual(self.machine.ask("SELECT outcome, reason FROM captures"), [("refused", "bad-magic")])
 
@@ -105,7 +116,8 @@ class Parts(Beside):
     def test_any(self) -> None:
         """h2audit-any --parts prints the report of the whole, byte for byte, with credit lines too."""
         large = self.large()
-        for capture, words in ((large, ()), *((path, ("--frames",)) for path in sorted((TOP / "examples").glob("*.pcap"))[:4])):
+        examples = sorted((TOP / "examples").glob("*.pcap"))[:4]
+        for capture, words in ((large, ()), *((path, ("--frames",)) for path in examples)):
             wanted = self.report_of(*words, capture)
             found = self.any("--parts", "3", *words, capture)
             self.assertEqual((found.returncode, found.stderr), (wanted.returncode, b""))
@@ -118,7 +130,8 @@ class Parts(Beside):
         wanted = self.report_of(large)
         status, said, error = self.machine.run("--jobs", "2", "--split-above", "1", "captures")
         self.assertEqual((status, error), (wanted.returncode, ""), said)
-        row = self.machine.ask("SELECT program, outcome, reason, status, sha256, report_sha256, report_bytes FROM captures")
+        row = self.machine.ask(
+            "SELECT program, outcome, reason, status, sha256, report_sha256, report_bytes FROM captures")
         digests = [hashlib.sha256(text).hexdigest() for text in (large.read_bytes(), wanted.stdout)]
         self.assertEqual(row, [("h2audit-merge", "audited", None, wanted.returncode, *digests, len(wanted.stdout))])
         self.assertEqual(list((self.machine.folder / "temporary").iterdir()), [])
@@ -129,7 +142,8 @@ class Parts(Beside):
         path = os.environ["PATH"]
         self.addCleanup(os.environ.__setitem__, "PATH", path)
         os.environ["PATH"] = f"{self.machine.bin}:/usr/bin:/bin"
-        answer = tasks.in_parts(os.fsencode(large), 3, {"keys": [], "imports": "auto", "timeout": 60.0, "split_above": 1000000})
+        order: tasks.Order = {"keys": [], "imports": "auto", "timeout": 60.0, "split_above": 1000000}
+        answer = tasks.in_parts(os.fsencode(large), 3, order)
         self.assertEqual((answer["outcome"], answer["report_sha256"]),
                          ("audited", hashlib.sha256(self.report_of(large).stdout).hexdigest()))
 
@@ -151,19 +165,21 @@ class Parts(Beside):
         self.assertTrue(found.stdout.startswith(b"capture records "))
 
     def test_misfortunes(self) -> None:
-        """A part that runs out of memory, a splitter that fails: the capture is entered as failed, and nothing is left."""
+        """A part that runs out of memory, a splitter that fails: the capture is entered as failed, nothing is left."""
         self.large()
         (self.machine.bin / "h2audit").unlink()
         (self.machine.bin / "h2audit").write_text(
             f"#!/bin/sh\ncase $* in *part-002*) exit 5 ;; esac\nexec {PROGRAM} \"$@\"\n")
         (self.machine.bin / "h2audit").chmod(0o755)
         self.assertEqual(self.machine.run("--jobs", "2", "--retries", "1", "--split-above", "1", "captures")[0], 3)
-        self.assertEqual(self.machine.ask("SELECT outcome, reason, tries FROM captures"), [("failed", "part 2: out-of-memory", 2)])
+        asked = "SELECT outcome, reason, tries FROM captures"
+        self.assertEqual(self.machine.ask(asked), [("failed", "part 2: out-of-memory", 2)])
         (self.machine.bin / "h2audit-split").unlink()
         (self.machine.bin / "h2audit-split").write_text("#!/bin/sh\necho 'h2audit-split: write failed' >&2; exit 4\n")
         (self.machine.bin / "h2audit-split").chmod(0o755)
-        self.assertEqual(self.machine.run("--jobs", "2", "--retries", "0", "--resume", "--split-above", "1", "captures")[0], 3)
-        self.assertEqual(self.machine.ask("SELECT outcome, reason, tries FROM captures"), [("failed", "write-failed", 1)])
+        words = ("--jobs", "2", "--retries", "0", "--resume", "--split-above", "1", "captures")
+        self.assertEqual(self.machine.run(*words)[0], 3)
+        self.assertEqual(self.machine.ask(asked), [("failed", "write-failed", 1)])
         self.assertEqual(list((self.machine.folder / "temporary").iterdir()), [])
 
 

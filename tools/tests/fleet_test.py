@@ -1,8 +1,8 @@
 #!/usr/bin/python3
 """Tests of h2audit-fleet on the workers of this machine: fleet_test.py [PROGRAM]
 
-What a capture's rows should be is taken from answers that were written by hand, as tests/reports and examples/ have them. With
-PROGRAM more captures are generated, and their answers are those of PROGRAM alone.
+What a capture's rows should be is taken from answers that were written by hand, as tests/reports and examples/ have
+them. With PROGRAM more captures are generated, and their answers are those of PROGRAM alone.
 """
 
 import contextlib
@@ -18,8 +18,9 @@ import sys
 import threading
 import unittest
 import urllib.request
+from typing import ClassVar
 
-from fleet_captures import PATIENCE, PROGRAM, TOP, Machine, Sample, by_hand, count, generated, until
+from fleet_captures import PATIENCE, PROGRAM, TOP, Machine, Row, Sample, by_hand, count, generated, until
 
 sys.path.insert(0, str(TOP / "tools"))
 
@@ -28,17 +29,20 @@ from fleet import database, names, programs, tasks  # noqa: E402
 CAPTURES = 200
 OTHER = {"client": "server", "server": "client"}
 OVERFLOWS = ("connection-overflow", "stream-overflow", "setting-overflow")
+TABLES = ("connections", "findings", "stalls", "unopened", "passed_over")
+WANTED = """size, sha256, outcome, status, reason, program, version, tries, report_sha256, report_bytes,
+    records, segments, snapped, not_ipv4, fragments, not_tcp, refused"""
 
 
 def sorted_samples() -> list[Sample]:
-    """200 captures, none twice: those that were written by hand, and either generated ones or the former with a cut record."""
+    """200 captures, none twice: those written by hand, and either generated ones or the former with a cut record."""
     hand = list({sample.digest: sample for sample in by_hand()}.values())
     more = generated(PROGRAM, CAPTURES - len(hand)) if PROGRAM else cut_ones(hand)
     return [*hand, *more][:CAPTURES]
 
 
 def cut_ones(samples: list[Sample]) -> list[Sample]:
-    """Captures with one to three bytes of a record more: the report has one line more, and it says which record was cut."""
+    """Captures with one to three bytes of a record more: the report says in one line more which record was cut."""
     found = []
     for sample in samples:
         first, _, rest = sample.report.partition("\n")
@@ -48,13 +52,16 @@ def cut_ones(samples: list[Sample]) -> list[Sample]:
         others = [line for line in rest.splitlines(True) if not line.startswith("record ")]
         cut = f"record {int(first.split()[2]) + 1} cut\n"
         report = "".join([first + "\n", *passed, cut, *others])
-        found += [Sample(f"{sample.name}_cut_{number}", sample.capture + bytes(number), sample.status, "", report) for number in (1, 2, 3)]
+        for number in (1, 2, 3):
+            capture = sample.capture + bytes(number)
+            found.append(Sample(f"{sample.name}_cut_{number}", capture, sample.status, "", report))
     return found
 
 
-def rows_by_hand(report: str) -> dict[str, list[tuple]]:
+def rows_by_hand(report: str) -> dict[str, list[Row]]:
     """The rows that a report should make, by its words and their numbers."""
-    rows: dict[str, list[tuple]] = {name: [] for name in ("connections", "findings", "stalls", "unopened", "passed_over")}
+    rows: dict[str, list[Row]] = {name: [] for name in TABLES}
+    connections: list[list[object]] = []
     for words in map(str.split, report.splitlines()[1:]):
         match words:
             case ["record", record, *reason]:
@@ -63,26 +70,33 @@ def rows_by_hand(report: str) -> dict[str, list[tuple]]:
                 rows["unopened"].append((len(rows["unopened"]) + 1, sender, receiver, int(segments)))
             case ["connection", number, _, client, _, server, _, record, holds, *frames]:
                 position = 0
-                rows["connections"].append([int(number), client, server, int(record), holds, int(frames[1]) if frames else None])
+                connection = int(number)
+                held = int(frames[1]) if frames else None
+                connections.append([connection, client, server, int(record), holds, held])
             case ["flow", _, _, size, _, gap, _, tail]:
-                rows["connections"][-1] += [int(size), None if gap == "none" else int(gap), int(tail)]
+                connections[-1] += [int(size), None if gap == "none" else int(gap), int(tail)]
             case ["frame", frame, _, record, _, moment, side, kind, _, stream, _, value]:
                 position += 1
                 broke = "nobody" if "-stall-" in kind else OTHER[side] if kind in OVERFLOWS else side
-                rows["findings"].append((rows["connections"][-1][0], position, int(frame), int(record), int(moment), side, kind,
+                rows["findings"].append((connection, position, int(frame), int(record), int(moment), side, kind,
                                          int(stream), int(value), broke))
             case ["stall", side, _, stream, _, first, *end]:
                 position += 1
                 last, nanos = (None, None) if end == ["open"] else (int(end[1]), int(end[3]))
-                rows["stalls"].append((rows["connections"][-1][0], position, side, int(stream), int(first), last, nanos, OTHER[side]))
+                rows["stalls"].append(
+                    (connection, position, side, int(stream), int(first), last, nanos, OTHER[side]))
             case ["audit", *how]:
-                rows["connections"][-1].append(int(how[-1]) if how[0] == "stopped" else None)
-    rows["connections"] = [tuple([*row, None][:13]) for row in rows["connections"]]
+                connections[-1].append(int(how[-1]) if how[0] == "stopped" else None)
+    rows["connections"] = [tuple([*row, None][:13]) for row in connections]
     return rows
 
 
 class Tables(unittest.TestCase):
     """200 captures over four workers of this machine: each row is what h2audit alone answers."""
+
+    samples: ClassVar[list[Sample]]
+    machine: ClassVar[Machine]
+    answer: ClassVar[tuple[int, str, str]]
 
     @classmethod
     def setUpClass(cls) -> None:
@@ -91,7 +105,7 @@ class Tables(unittest.TestCase):
         cls.addClassCleanup(cls.machine.__exit__)
         cls.answer = cls.machine.run("--jobs", "4", "--import", "never", "--reports", "reports", "captures")
 
-    def rows_of(self, sample: Sample, table: str) -> list[tuple]:
+    def rows_of(self, sample: Sample, table: str) -> list[Row]:
         path = names.word_of(os.fsencode(self.machine.captures / f"{sample.name}.pcap"))
         rows = self.machine.ask(f"SELECT {table}.* FROM {table} JOIN captures ON id = capture WHERE path = ?", path)
         return [row[1:] for row in rows]
@@ -105,14 +119,18 @@ class Tables(unittest.TestCase):
     def test_captures(self) -> None:
         for sample in self.samples:
             path = names.word_of(os.fsencode(self.machine.captures / f"{sample.name}.pcap"))
-            row = self.machine.ask("SELECT size, sha256, outcome, status, reason, program, version, tries, report_sha256, report_bytes, "
-                                   "records, segments, snapped, not_ipv4, fragments, not_tcp, refused FROM captures WHERE path = ?", path)
-            is_refused = sample.status == 3
-            report = [None, None] if is_refused else [hashlib.sha256(sample.report.encode()).hexdigest(), len(sample.report)]
-            heads = [None] * 7 if is_refused else [int(word) for word in sample.report.splitlines()[0].split()[2::2]]
-            reason = sample.error.strip().rpartition(" ")[2] if is_refused else None
-            self.assertEqual(row, [(len(sample.capture), sample.digest, "refused" if is_refused else "audited", sample.status, reason,
-                                    "h2audit", "h2audit 1.0.0", 1, *report, *heads)], sample.name)
+            row = self.machine.ask(f"SELECT {WANTED} FROM captures WHERE path = ?", path)
+            outcome: list[object] = ["audited", sample.status, None]
+            report: list[object] = [hashlib.sha256(sample.report.encode()).hexdigest(), len(sample.report)]
+            if sample.status == 3:
+                outcome = ["refused", sample.status, sample.error.strip().rpartition(" ")[2]]
+                report += [None] * 7
+                report[:2] = [None, None]
+            else:
+                report += [int(word) for word in sample.report.splitlines()[0].split()[2::2]]
+            program = ["h2audit", "h2audit 1.0.0", 1]
+            wanted = (len(sample.capture), sample.digest, *outcome, *program, *report)
+            self.assertEqual(row, [wanted], sample.name)
 
     def test_rows(self) -> None:
         for sample in self.samples:
@@ -142,13 +160,13 @@ class Course(unittest.TestCase):
         self.addCleanup(machine.__exit__)
         return machine
 
-    def outcomes(self, machine: Machine) -> dict[str, tuple]:
+    def outcomes(self, machine: Machine) -> dict[str, Row]:
         rows = machine.ask("SELECT sha256, path, outcome, reason, tries FROM captures")
         digests = {f"{sample.name}.pcap": sample.digest for sample in machine.samples}
         return {digests[os.path.basename(path)]: tuple(more) for _, path, *more in rows}
 
     def test_killed_worker(self) -> None:
-        """A worker is killed by its own process number while it audits: the capture is audited by another, and none is missing."""
+        """A worker is killed by its process number while it audits: another audits the capture, and none is missing."""
         machine = self.machine(30)
         slow = machine.samples[7]
         machine.acts[slow.digest] = ["wait", 1]
@@ -204,17 +222,19 @@ class Course(unittest.TestCase):
         self.assertEqual([address for address in addresses if answers_http(address)], [])
         os.killpg(child.pid, signal.SIGINT)
         _, error = child.communicate(timeout=PATIENCE)
-        self.assertEqual((child.returncode, error), (130, "h2audit-fleet: ended early: --resume goes on with the database\n"))
-        before = dict(machine.ask("SELECT path, entered FROM captures"))
+        said = "h2audit-fleet: ended early: --resume goes on with the database\n"
+        self.assertEqual((child.returncode, error), (130, said))
+        before = {path: when for path, when in machine.ask("SELECT path, entered FROM captures")}
         self.assertTrue(5 <= len(before) < 40)
         self.assertEqual(machine.ask("PRAGMA integrity_check"), [("ok",)])
-        self.assertEqual(list(machine.folder.glob("audits.sqlite-*")) + list((machine.folder / "temporary").iterdir()), [])
+        left = [*machine.folder.glob("audits.sqlite-*"), *(machine.folder / "temporary").iterdir()]
+        self.assertEqual(left, [])
         machine.acts = {}
         status, said, error = machine.run("--jobs", "4", "--resume", "captures")
         self.assertEqual((status, error), (1, ""))
         self.assertIn(f"{40 - len(before)} captures: ", said)
         self.assertIn(f"; {len(before)} were there\n", said)
-        after = dict(machine.ask("SELECT path, entered FROM captures"))
+        after = {path: when for path, when in machine.ask("SELECT path, entered FROM captures")}
         self.assertEqual((len(after), {path: after[path] for path in before}), (40, before))
 
     def test_ended_at_start(self) -> None:
@@ -231,7 +251,7 @@ class Course(unittest.TestCase):
         self.assertEqual(machine.run("--jobs", "2", "--resume", "captures")[0], 1)
 
     def test_resumed(self) -> None:
-        """What failed, is new or has changed is audited, and nothing else; rows of what a capture was before are gone."""
+        """What failed, is new or has changed is audited, and nothing else; rows of what a capture was are gone."""
         machine = self.machine(12)
         failed, changed, new, touched = machine.samples[:4]
         machine.acts[failed.digest] = ["status", 5, 1]
@@ -247,13 +267,14 @@ class Course(unittest.TestCase):
         machine.samples.append(other)
         self.assertEqual(machine.run("--resume", "--jobs", "2", "captures")[0], 1)
         self.assertEqual(set(machine.notes()), {failed.digest, other.digest, new.digest, touched.digest})
-        rows = machine.ask("SELECT kind, value, broke, faults.record FROM faults WHERE path LIKE ?", f"%/{changed.name}.pcap")
+        rows = machine.ask(
+            "SELECT kind, value, broke, faults.record FROM faults WHERE path LIKE ?", f"%/{changed.name}.pcap")
         self.assertEqual(rows, [("stream-overrun", -5000, "client", 12)])
         self.assertEqual(machine.ask("PRAGMA foreign_key_check"), [])
 
 
-class Words(unittest.TestCase):
-    """Names, lists and refusals."""
+class OneCapture(unittest.TestCase):
+    """A machine with one capture."""
 
     def setUp(self) -> None:
         self.machine = Machine([sample for sample in by_hand() if sample.name == "stream_overrun_go"], None)
@@ -261,16 +282,22 @@ class Words(unittest.TestCase):
         self.addCleanup(self.machine.__exit__)
         self.capture = self.machine.samples[0].capture
 
+
+class Words(OneCapture):
+    """Names, lists and refusals."""
+
     def test_hostile_names(self) -> None:
         """A name may hold any byte but 0, and each stands in one word of the database."""
-        hostile = [b"--help", b"-o a.pcap", b"a\nb.pcap", b"\xff\xfe.pcap", b"%41.pcap", "Köln.pcap".encode(), b" ", b"'; DROP TABLE"]
+        hostile = [b"--help", b"-o a.pcap", b"a\nb.pcap", b"\xff\xfe.pcap", b"%41.pcap", "Köln.pcap".encode(), b" ",
+                   b"'; DROP TABLE"]
         for name in hostile:
             with open(os.path.join(os.fsencode(self.machine.captures), name), "wb") as file:
                 file.write(self.capture)
         status, said, error = self.machine.run("--jobs", "2", "captures")
         self.assertEqual((status, said, error), (1, "9 captures: 9 with faults, 0 refused, 0 failed\n", ""))
         paths = [path for path, in self.machine.ask("SELECT path FROM captures WHERE outcome = 'audited'")]
-        self.assertEqual({os.path.basename(names.path_of(path)) for path in paths}, {b"stream_overrun_go.pcap", *hostile})
+        found = {os.path.basename(names.path_of(path)) for path in paths}
+        self.assertEqual(found, {b"stream_overrun_go.pcap", *hostile})
         self.assertTrue(any(path.endswith("/a%0Ab.pcap") for path in paths))
         self.assertTrue(all(path.isascii() and path.isprintable() and " " not in path for path in paths))
 
@@ -288,7 +315,7 @@ class Words(unittest.TestCase):
         self.assertEqual(failed, [("/not/there.pcap", "not-there", 1)])
 
     def test_what_a_folder_holds(self) -> None:
-        """Captures are known by name or by first bytes; pipes and other files are passed over, links to folders not followed."""
+        """Captures are known by name or by first bytes; pipes and other files are passed over, and links to folders."""
         (self.machine.captures / "unnamed").write_bytes(self.capture)
         (self.machine.captures / "ring.pcap12").write_bytes(b"")
         (self.machine.captures / "README").write_text("of no interest")
@@ -297,7 +324,8 @@ class Words(unittest.TestCase):
         self.machine.samples.append(next(sample for sample in by_hand() if sample.error.endswith("short-header\n")))
         (self.machine.captures / "ring.pcap12").write_bytes(self.machine.samples[1].capture)
         status, said, _ = self.machine.run("--jobs", "1", "captures")
-        self.assertEqual((status, said), (3, "3 captures: 2 with faults, 1 refused, 0 failed; 2 other files passed over\n"))
+        wanted = "3 captures: 2 with faults, 1 refused, 0 failed; 2 other files passed over\n"
+        self.assertEqual((status, said), (3, wanted))
 
     def test_refused(self) -> None:
         """Each refusal is one line on standard error with its status, and leaves a database as it was."""
@@ -334,10 +362,8 @@ class Words(unittest.TestCase):
         self.assertRegex(error, r"^h2audit-fleet: worker tls://\S+ has no program h2audit\n$")
 
 
-class Writer(unittest.TestCase):
+class Writer(OneCapture):
     """The database, and the one that writes it."""
-
-    setUp = Words.setUp
 
     def test_read_and_written_by_others(self) -> None:
         """While others read the database it is written all the same; another h2audit-fleet may not write it."""
@@ -356,22 +382,26 @@ class Writer(unittest.TestCase):
         self.assertEqual(reader.execute("SELECT COUNT(*) FROM captures").fetchone(), (1,))
 
     def test_no_room(self) -> None:
-        """Where no more can be written one line says so, and what stands is whole; so it is with reports that are kept."""
+        """Where no more can be written one line says so, and what stands is whole; so it is with kept reports."""
         for number in range(60):
             (self.machine.captures / f"{number}.pcap").write_bytes(self.capture)
         little = ("prlimit", "--fsize=90000")
         status, said, error = self.machine.run("--jobs", "1", "captures", before=little)
         self.assertEqual((status, said), (4, ""))
-        self.assertRegex(error, rf"^h2audit-fleet: {self.machine.database}: (disk I/O error|database or disk is full)\n$")
+        why = "(disk I/O error|database or disk is full)"
+        self.assertRegex(error, rf"^h2audit-fleet: {self.machine.database}: {why}\n$")
         self.assertEqual(self.machine.ask("PRAGMA integrity_check"), [("ok",)])
-        self.assertEqual(self.machine.ask("SELECT COUNT(*) FROM captures WHERE id NOT IN (SELECT capture FROM connections)"), [(0,)])
+        torn = self.machine.ask("SELECT COUNT(*) FROM captures WHERE id NOT IN (SELECT capture FROM connections)")
+        self.assertEqual(torn, [(0,)])
         with open("/dev/full", "wb", buffering=0) as full:
-            self.assertRaisesRegex(OSError, "No space left on device: 'reports'", database.write_all, full.fileno(), b"a", "reports")
+            with self.assertRaisesRegex(OSError, "No space left on device: 'reports'"):
+                database.write_all(full.fileno(), b"a", "reports")
 
     def test_no_database(self) -> None:
         """A folder, a pipe, a database of another version or of something else is refused, and stays as it was."""
         os.mkfifo(self.machine.folder / "pipe")
-        for name, why in (("pipe", "it is no file"), ("captures", "Is a directory"), ("none/a", "No such file or directory")):
+        for name, why in (("pipe", "it is no file"), ("captures", "Is a directory"),
+                          ("none/a", "No such file or directory")):
             with self.assertRaisesRegex((database.Unusable, OSError), why):
                 database.Database(str(self.machine.folder / name), True)
         for change, why in (("PRAGMA user_version = 2", "its schema is 2, and this program writes 1"),
@@ -436,7 +466,7 @@ def answers_http(address: str) -> bool:
     """Whether a web server shows anything there to whoever asks."""
     try:
         with urllib.request.urlopen(f"http://{address}/health", timeout=5) as answer:
-            return answer.status == 200
+            return bool(answer.status == 200)
     except (OSError, http.client.HTTPException):
         return False
 

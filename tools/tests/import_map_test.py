@@ -34,7 +34,7 @@ class Back(unittest.TestCase):
         return run(PROGRAM, "--frames", self.made)[1]
 
     def test_each_capture(self) -> None:
-        """Each capture of TLS, with its keys and without, and each example: the report and the status of h2audit-any."""
+        """Captures of TLS, with their keys and without, and examples: the report and the status of h2audit-any."""
         captures = [(tools.capture_named(name), tools.key_log_of(name)) for name in tools.names()]
         captures += [(capture, []) for capture, keys in captures if keys]
         captures += [(capture, []) for capture in sorted(tools.EXAMPLES.glob("*.pcap"))]
