@@ -206,7 +206,7 @@ class Folders(unittest.TestCase):
         believed.read(TOP / "crates", believed.SPLITTER_CALLS, self.reading)
 
     def test_modules(self) -> None:
-        """Believed is each module outside of code/, laws/ and examples/, and of laws/ those of the laws in the lists."""
+        """Believed is each module outside of code/, laws/ and examples/, and those of laws/ that the lists name."""
         of_laws = {file for file in self.reading.reached if "laws" in file.parts}
         named = {name.partition("/")[0] for name in believed.SPLITTER_CALLS if name.endswith("/src/laws.rt")}
         self.assertEqual({self.reading.read[file].crate for file in of_laws}, named)

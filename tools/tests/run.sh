@@ -123,7 +123,7 @@ try 'many captures: a cluster' tools/tests/fleet_cluster_test.py Tls
 try 'many captures: two machines' tools/tests/fleet_cluster_test.py TwoMachines
 try_built 'many captures: imports and parts' tools/tests/fleet_parts_test.py "$built"
 try_built 'many captures: large imports in parts' tools/tests/fleet_imports_test.py "$built" Forms
-try_built 'many captures: large imports, lost workers, Ctrl-C, time' tools/tests/fleet_imports_test.py "$built" Misfortunes
+try_built 'many captures: large imports, lost workers' tools/tests/fleet_imports_test.py "$built" Misfortunes
 try_built 'many captures: large imports on a cluster' tools/tests/fleet_imports_test.py "$built" OnCluster
 try 'many captures: without daemons' tools/tests/fleet_collect_test.py "${audits[@]}"
 try 'install and package' tools/tests/package_test.sh "$program" "$split"

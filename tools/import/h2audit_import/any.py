@@ -112,8 +112,12 @@ def main() -> NoReturn:
         metavar="N",
         help=f"split what is imported, and audit its parts side by side: 1 to {MOST_PARTS}",
     )
-    parser.add_argument("--map", metavar="MAP", help="import and audit nothing: take h2audit's report on standard input\n"
-                        "back to the original, by the map of h2audit-import")  # fmt: skip
+    parser.add_argument(
+        "--map",
+        metavar="MAP",
+        help="import and audit nothing: take h2audit's report on standard input\n"
+        "back to the original, by the map of h2audit-import",
+    )
     parser.add_argument("--h2audit", metavar="PROGRAM", help="the program that audits; without it H2AUDIT of the\n"
                         "environment, the h2audit beside this program, or that of the path")  # fmt: skip
     asked = parser.parse_args()
