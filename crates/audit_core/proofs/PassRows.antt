@@ -1,8 +1,9 @@
 -- The rows of the streams beside the state of the pass, and what is said at a frame.
-use Rattle.std.proofs.Common.{◌≡◌, ◌≢◌, ℕ, pos, ◌^◌, ◌<◌, ◌≤◌, ◌%◌, Bool, true, false, not, ◌==◌, ◌&&◌, ◌||◌, if◌then◌else◌, List, [], ◌∷◌, ◌++◌, length, map, filter, get_or, Option, is_none, refl, sym, ap, ◌∙◌, subst, append_assoc}
+use Rattle.std.proofs.Common.{◌≡◌, ◌≢◌, ℕ, pos, ◌^◌, ◌<◌, ◌≤◌, ◌%◌, Bool, true, false, not, ◌==◌, ◌&&◌, ◌||◌, List, [], ◌∷◌, ◌++◌, length, map, filter, get_or, Option, is_none, refl, sym, ap, ◌∙◌, subst, append_assoc}
 use Rattle.std.specs.List.{All, flat_map, list_any}
 use Rattle.std.proofs.lemmas.List.Elements.{All-nil, All-cons}
 use Rattle.std.proofs.lemmas.Bool.{and_right}
+use Rattle.std.proofs.lemmas.Simd.{map-map}
 use Rattle.std.proofs.lemmas.List.Folds.{flat_map-map, list_any_at}
 use borrow.Author.Tests.{eqb-true, eq-eqb, ne_eqb}
 use Rattle.audit_terms.specs.declared.sides.Sides.{Sides}
@@ -30,32 +31,22 @@ use Rattle.audit_core.proofs.StreamsMet.{streams_met_lem}
 
 -- ---- the rows before the first frame
 
--- the rows of other streams stay when those of one stream go
-idle-others : (stream : ℕ) (streams : List ℕ) →
-    filter (λ (row : StreamRow). not (row.stream == stream)) (idle_rows streams)
-    ≡ idle_rows (filter (λ other. not (other == stream)) streams)
-idle-others stream [] = refl
-idle-others stream (other ∷ others) = by_test (other == stream) (idle-others stream others) where
-  others-left : List ℕ
-  others-left = filter (λ x. not (x == stream)) others
-
-  by_test : (b : Bool) →
-      filter (λ (row : StreamRow). not (row.stream == stream)) (idle_rows others) ≡ idle_rows others-left →
-      (if not b then record { stream = other; entry = idle_stream }
-      ∷ filter (λ (row : StreamRow). not (row.stream == stream)) (idle_rows others)
-      else filter (λ (row : StreamRow). not (row.stream == stream)) (idle_rows others))
-      ≡ idle_rows (if not b then other ∷ others-left else others-left)
-  by_test true ih = ih
-  by_test false ih = ap (λ rows. record { stream = other; entry = idle_stream } ∷ rows) ih
+filter-map : {X Y : Type 0} (test : Y → Bool) (f : X → Y) (xs : List X) →
+    filter test (map f xs) ≡ map f (filter (λ x. test (f x)) xs)
+filter-map test f [] = refl
+filter-map test f (x ∷ xs) = by_test (test (f x)) refl (filter-map test f xs) where
+  by_test : (b : Bool) → test (f x) ≡ b → filter test (map f xs) ≡ map f (filter (λ x. test (f x)) xs) →
+      filter test (map f (x ∷ xs)) ≡ map f (filter (λ x. test (f x)) (x ∷ xs))
+  by_test true e ih = rw e (ap (λ l. f x ∷ l) ih)
+  by_test false e ih = rw e ih
 
 -- a stream that is not 0 comes before the others
 pub first-more : (stream : ℕ) (streams : List ℕ) (old left new : List StreamRow) → stream ≢ 0 →
     old ≡ idle_rows streams → left ≡ filter (λ (row : StreamRow). not (row.stream == stream)) old →
     new ≡ record { stream = stream; entry = idle_stream } ∷ left → new ≡ idle_rows (first_of stream streams)
 first-more stream streams old left new above e f g =
-    rw (ne_eqb stream 0 above)
-    (g ∙ ap (λ rows. record { stream = stream; entry = idle_stream } ∷ rows)
-    (f ∙ ap (filter (λ (row : StreamRow). not (row.stream == stream))) e ∙ idle-others stream streams))
+    rw (g, f, e, ne_eqb stream 0 above)
+    (ap (λ rows. record { stream = stream; entry = idle_stream } ∷ rows) (filter-map _ _ streams))
 
 idle-fits : (bound stream : ℕ) → stream < 2 ^ 31 → RowFits bound (record { stream = stream; entry = idle_stream })
 idle-fits bound stream h = record { stream = h; client = λ x e. cc; server = λ x e. cc }
@@ -76,73 +67,54 @@ idle_rows-fit bound (stream ∷ streams) h =
 
 -- ---- the opening of a frame's stream
 
-any-map : {X Y : Type 0} (test : Y → Bool) (f : X → Y) (xs : List X) →
-    list_any test (map f xs) ≡ list_any (λ x. test (f x)) xs
-any-map test f [] = refl
-any-map test f (x ∷ xs) = ap (λ b. test (f x) || b) (any-map test f xs)
-
--- one number alone passes the first test
-at-one : (q : ℕ) (test : ℕ → Bool) (numbers : List ℕ) →
-    list_any (λ n. (n == q) && test n) numbers ≡ (list_any (λ n. n == q) numbers && test q)
-at-one q test [] = refl
-at-one q test (n ∷ numbers) = by_tests (n == q) (test q) refl refl (at-one q test numbers) where
-  by_tests : (same passes : Bool) → (n == q) ≡ same → test q ≡ passes →
-      list_any (λ n. (n == q) && test n) numbers ≡ (list_any (λ n. n == q) numbers && test q) →
-      list_any (λ n. (n == q) && test n) (n ∷ numbers) ≡ (list_any (λ n. n == q) (n ∷ numbers) && test q)
-  by_tests true true e f ih =
-      let own : test n ≡ true = ap test (eqb-true n q e) ∙ f in rw (e, own, f) refl
-  by_tests true false e f ih =
-      let own : test n ≡ false = ap test (eqb-true n q e) ∙ f in
-      rw (e, own, f) (ih ∙ ap (λ b. list_any (λ n. n == q) numbers && b) f ∙ and_right _ false refl)
-  by_tests false passes e f ih = rw e ih
-
 module _ (state : PassState) (frame : Frame) where
-  abbrev is_opened : Bool
-  is_opened = is_opening frame.stream (state.streams frame.stream).life frame
+  abbrev opens_it : ℕ → Bool
+  opens_it stream = is_opening stream (state.streams stream).life frame
+
+  absorb : (a b : Bool) → (b || (a && b)) ≡ b
+  absorb a true = refl
+  absorb a false = and_right a false refl
+
+  -- the row of the frame's stream alone may say so
+  opens-rows : (streams : List ℕ) → list_any (row_opens frame) (rows_in state.streams streams)
+      ≡ (list_any (λ other. other == frame.stream) streams && opens_it frame.stream)
+  opens-rows [] = refl
+  opens-rows (stream ∷ streams) = by_test (stream == frame.stream) refl (opens-rows streams) where
+    by_test : (b : Bool) → (stream == frame.stream) ≡ b →
+        list_any (row_opens frame) (rows_in state.streams streams)
+        ≡ (list_any (λ other. other == frame.stream) streams && opens_it frame.stream) →
+        list_any (row_opens frame) (rows_in state.streams (stream ∷ streams))
+        ≡ (list_any (λ other. other == frame.stream) (stream ∷ streams) && opens_it frame.stream)
+    by_test true e ih = rw (e, ap opens_it (eqb-true stream frame.stream e), ih) (absorb _ _)
+    by_test false e ih = rw e ih
 
   -- the frame meets its own stream
   meets-own : meets frame.stream frame ≡ true
   meets-own = rw (eq-eqb frame.stream frame.stream refl) refl
 
-  is_opened-pass : opens_stream state frame ≡ is_opened
-  is_opened-pass = rw meets-own refl
-
   -- no frame promises its own stream, and none opens stream 0
-  zero-unopened : (frame.stream == 0) ≡ true → is_opened ≡ false
+  zero-unopened : (frame.stream == 0) ≡ true → opens_it frame.stream ≡ false
   zero-unopened e =
-      let zero : frame.stream ≡ 0 = eqb-true frame.stream 0 e in
-      let even : (frame.stream % 2 == 1) ≡ false = ap (λ q. q % 2 == 1) zero in
+      let even : (frame.stream % 2 == 1) ≡ false = ap (λ q. q % 2 == 1) (eqb-true frame.stream 0 e) in
       let own : promises frame.stream frame ≡ false =
           rw (eq-eqb frame.stream frame.stream refl) (and_right _ false refl) in
       rw (even, own) (and_right _ false refl)
-
-  opens-named : (streams : List ℕ) →
-      list_any (λ other. other == frame.stream) streams ≡ not (frame.stream == 0) →
-      list_any (row_opens frame) (rows_in state.streams streams) ≡ opens_stream state frame
-  opens-named streams named =
-      any-map (row_opens frame) _ streams
-      ∙ at-one frame.stream (λ stream. is_opening stream (state.streams stream).life frame) streams
-      ∙ ap (λ b. b && is_opened) named
-      ∙ by_test (frame.stream == 0) refl
-      ∙ sym is_opened-pass where
-        by_test : (b : Bool) → (frame.stream == 0) ≡ b → (not (frame.stream == 0) && is_opened) ≡ is_opened
-        by_test true e = rw e (sym (zero-unopened e))
-        by_test false e = rw e refl
 
 -- the row of a frame's stream says whether the frame opens it
 pub opens-frame : (state : PassState) (frames : List Frame) (i : ℕ) (frame : Frame) → frame ≡ get_or frames i frame →
     i < length frames →
     list_any (row_opens frame) (rows_in state.streams (streams_of frames)) ≡ opens_stream state frame
 opens-frame state frames i frame is within =
-    opens-named state frame (streams_of frames)
-    (streams_met_lem frame.stream frames ∙ ap (λ b. not (frame.stream == 0) && b) met ∙ and_true _) where
+    opens-rows state frame (streams_of frames)
+    ∙ rw (streams_met_lem frame.stream frames, met, meets-own state frame) (by_test (frame.stream == 0) refl) where
       met : list_any (meets frame.stream) frames ≡ true
       met = list_any_at (meets frame.stream) frames i frame within
           (subst (λ (one : Frame). meets frame.stream one ≡ true) is (meets-own state frame))
 
-      and_true : (b : Bool) → (b && true) ≡ b
-      and_true true = refl
-      and_true false = refl
+      by_test : (b : Bool) → (frame.stream == 0) ≡ b →
+          ((not (frame.stream == 0) && true) && opens_it state frame frame.stream) ≡ opens_it state frame frame.stream
+      by_test true e = rw e (sym (zero-unopened state frame e))
+      by_test false e = rw e refl
 
 -- ---- a frame, as the code meets it
 
@@ -150,13 +122,6 @@ module _ (state : PassState) (frame : Frame) (names : List ℕ) where
   said-rows : flat_map (row_said state.in_force.initial (item_of state frame)) (rows_in state.streams names)
       ≡ streams_said names state frame
   said-rows = flat_map-map _ _ names
-
-  after-rows : (streams : List ℕ) →
-      map (row_after state.in_force.initial (item_of state frame)) (rows_in state.streams streams)
-      ≡ rows_in (next state frame).streams streams
-  after-rows [] = refl
-  after-rows (stream ∷ streams) =
-      ap (λ rows. record { stream = stream; entry = (next state frame).streams stream } ∷ rows) (after-rows streams)
 
   pub same_item : (opens : Bool) (change : Option Change) → opens ≡ opens_stream state frame →
       change ≡ change_of state.in_force frame →
@@ -166,7 +131,7 @@ module _ (state : PassState) (frame : Frame) (names : List ℕ) where
   pub rows-more : (initial : Sides ℕ) (item : Item) (rows : List StreamRow) → initial ≡ state.in_force.initial →
       item ≡ item_of state frame → rows ≡ rows_in state.streams names →
       map (row_after initial item) rows ≡ rows_in (next state frame).streams names
-  rows-more initial item rows e f g = rw (e, f, g) (after-rows names)
+  rows-more initial item rows e f g = rw (e, f, g) (map-map _ _ names)
 
   -- what the code adds, one part after the other
   pub said-more : (previous : Option Frame) (initial : Sides ℕ) (connection : ConnectionState) (item : Item)

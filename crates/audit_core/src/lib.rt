@@ -2,7 +2,8 @@
 //! of the definitions that it follows, which stand in `audit_terms`.
 //!
 //! - [`one_pass`] gives the findings of the pass: all, of every kind, in order, up to and including the first that
-//!   stops. It is a program for tests; the audit itself goes in the rounds of `audit_rounds`.
+//!   stops. It is a program for tests, a plain fold over the frames that keeps its streams in a list; the audit itself
+//!   goes in the rounds of `audit_rounds`.
 //! - [`laws`] say what follows from the definitions, and of no code. Each credit is the closed sum of RFC 9113, 6.9,
 //!   and a live window is one of an opened stream that its side has not ended. The streams of a connection are those
 //!   that its frames meet, each once, and the steps of a stream are its frames and the changes, in order. The pass ends
@@ -18,8 +19,9 @@
 //! which parts may change places, so all findings split by machine; and a stream that has no frame and no change at a
 //! number says nothing there. From this the law on parts follows.
 //!
-//! A wrong body that the prover refuses: DATA on a reset stream that is not counted. Tested, in `crate_tests`: that
-//! `one_pass` succeeds where there is memory.
+//! Wrong bodies that the prover refuses: DATA on a reset stream that is not counted, initial windows that count at the
+//! frame that brings them into force, promised streams that are left out. Tested, in `crate_tests`: that `one_pass`
+//! succeeds where there is memory, and that the rounds show what it does of random frames.
 #![tactic(auto)]
 
 pub mod laws;
@@ -27,8 +29,4 @@ mod passes;
 mod rows;
 pub mod worked_examples;
 
-pub use audit_terms::{
-    Body, Change, Finding, Frame, Item, Kind, Length, PackedSettings, Place, Settings, Side, Sides,
-    Step, Stream,
-};
 pub use passes::one_pass;

@@ -1,11 +1,15 @@
 //! Random frames, by the rounds and by the plain pass.
 
-use super::scripts::{acknowledgement, are_orderly, data, frame, headers, initial_window, settings};
+ghost use Rattle.std.specs.Prelude.{◌≤◌};
+
+use super::scripts::{
+    acknowledgement, are_orderly, data, grant, headers, initial_window, promise, reset, settings,
+};
 use crate::answer::Answer;
 use crate::random::next;
-use audit_core::{Body, Frame, Side, one_pass};
+use audit_core::one_pass;
 use audit_rounds::{Division, findings_of_each};
-use audit_terms::{END_STREAM, Word, keep_shown};
+use audit_terms::{END_STREAM, Frame, Side, keep_shown};
 use job_crew::NoGate;
 use std::alloc::{AllocError, Global};
 use std::thread::Threads;
@@ -25,23 +29,34 @@ fn random_frame(state: &mut u64, number: u32) -> Frame {
     };
     let stream = one_of(state, &[1, 3, 5, 2]);
     let made = match next(state) % 16 {
-        0..=5 => data(number, side, stream, one_of(state, &[0, 1, 9_000, 16_384])),
+        0..=5 => data(number, side, stream, next(state) % 3 * 8_192),
         6 | 7 => headers(number, side, stream),
-        8 => initial_window(number, side, Some(one_of(state, &[0, 5_000, 70_000, 0x7fff_ffff]))),
+        8 => initial_window(
+            number,
+            side,
+            Some(one_of(state, &[0, 5_000, 70_000, 0x7fff_ffff])),
+        ),
         9 | 10 => acknowledgement(number, side),
         11 => {
-            let grant = Word::of(one_of(state, &[0, 1, 20_000, 0x7fff_ffff]));
-            frame(number, side, 8, one_of(state, &[0, 1, 3, 2]), 4, Body::WindowUpdate(grant))
+            let stream = one_of(state, &[0, 1, 3, 2]);
+            grant(
+                number,
+                side,
+                stream,
+                one_of(state, &[0, 1, 20_000, 0x7fff_ffff]),
+            )
         }
         12 | 13 => {
-            let grant = Word::of(one_of(state, &[1, 500, 8_000, 30_000]));
-            frame(number, side, 8, one_of(state, &[0, 0, 1, stream]), 4, Body::WindowUpdate(grant))
+            let stream = one_of(state, &[0, 0, 1, stream]);
+            grant(
+                number,
+                side,
+                stream,
+                one_of(state, &[1, 500, 8_000, 30_000]),
+            )
         }
-        14 => {
-            let promised = Word::of(one_of(state, &[2, 2, 4, 5]));
-            frame(number, Side::Server, 5, stream, 4, Body::PushPromise(promised))
-        }
-        _ => frame(number, side, 3, stream, 4, Body::RstStream),
+        14 => promise(number, stream, one_of(state, &[4, 4, 6, 5])),
+        _ => reset(number, side, stream),
     };
     let end = if next(state) % 8 == 0 { END_STREAM } else { 0 };
     Frame {
@@ -50,16 +65,19 @@ fn random_frame(state: &mut u64, number: u32) -> Frame {
     }
 }
 
-/// Both prefaces, the openings of streams 1, 3 and 5, and then so many frames.
-fn script(alloc: Global, state: &mut u64, count: u32) -> Result<Vec<Frame>, AllocError> {
+/// SETTINGS of both sides, the openings of streams 1, 3, 5 and 2, and then so many frames.
+fn script(alloc: Global, state: &mut u64, count: u32) -> Result<Vec<Frame>, AllocError>
+    requires { count ≤ 1000 }
+{
     let mut frames = Vec::new(alloc);
     frames.push(settings(1, Side::Client))?;
     frames.push(settings(2, Side::Server))?;
     for opened in 0..3 {
         frames.push(headers(3 + opened, Side::Client, 1 + 2 * opened))?;
     }
+    frames.push(promise(6, 1, 2))?;
     for at in 0..count {
-        frames.push(random_frame(state, 6 + at))?;
+        frames.push(random_frame(state, 7 + at))?;
     }
     Ok(frames)
 }

@@ -4,13 +4,13 @@ ghost use Rattle.std.specs.Prelude.{◌≡◌, ◌<◌, ◌^◌, true};
 ghost use Rattle.audit_terms.specs.Frame.{promised_in};
 ghost use Rattle.audit_terms.specs.runs.Orderly.{IsInRange, IsOrderly};
 
-use audit_core::{Body, Frame, Length, PackedSettings, Settings, Side};
+use audit_terms::{Body, Frame, Length, PackedSettings, Settings, Side, Word};
 
-/// END_HEADERS of HEADERS.
+/// END_HEADERS of HEADERS and PUSH_PROMISE.
 const END_HEADERS: u8 = 4;
 
 /// A frame of a script, without flags.
-pub fn frame(number: u32, side: Side, code: u8, stream: u32, length: u32, body: Body) -> Frame
+fn frame(number: u32, side: Side, code: u8, stream: u32, length: u32, body: Body) -> Frame
     requires { length < 2 ^ 24 }
 {
     Frame {
@@ -57,6 +57,26 @@ pub fn initial_window(number: u32, side: Side, initial: Option<u32>) -> Frame {
 
 pub fn acknowledgement(number: u32, side: Side) -> Frame {
     frame(number, side, 4, 0, 0, Body::SettingsAck)
+}
+
+/// RST_STREAM.
+pub fn reset(number: u32, side: Side, stream: u32) -> Frame {
+    frame(number, side, 3, stream, 4, Body::RstStream)
+}
+
+/// WINDOW_UPDATE of some bytes.
+pub fn grant(number: u32, side: Side, stream: u32, amount: u32) -> Frame {
+    let body = Body::WindowUpdate(Word::of(amount));
+    frame(number, side, 8, stream, 4, body)
+}
+
+/// PUSH_PROMISE of the server, which ends its block.
+pub fn promise(number: u32, stream: u32, promised: u32) -> Frame {
+    let body = Body::PushPromise(Word::of(promised));
+    Frame {
+        flags: END_HEADERS,
+        ..frame(number, Side::Server, 5, stream, 4, body)
+    }
 }
 
 /// Is the promised stream of the body below 2^31?

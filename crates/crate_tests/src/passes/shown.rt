@@ -2,7 +2,8 @@
 
 use super::scripts::{acknowledgement, are_orderly, data, headers, settings};
 use crate::answer::Answer;
-use audit_core::{Finding, Kind, Side, one_pass};
+use audit_core::one_pass;
+use audit_terms::{Finding, Kind, Side};
 use std::alloc::Global;
 
 /// A stream opens, and then one that was never opened stops the pass.

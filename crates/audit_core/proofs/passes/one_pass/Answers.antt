@@ -1,22 +1,17 @@
-use Rattle.std.proofs.Common.{◌≡◌, pos, ◌+◌, ◌*◌, ◌^◌, ◌∷◌, ◌++◌, ◌&&◌, drop, Option, is_none, refl, sym, ap, ◌∙◌, subst, arith}
+use Rattle.std.proofs.Common.{◌≡◌, pos, ◌+◌, ◌*◌, ◌^◌, ◌∷◌, ◌&&◌, drop, is_none, refl, sym, ap, ◌∙◌, subst, arith}
 use Rattle.std.specs.List.{All, list_any, find}
 use Rattle.std.proofs.lemmas.List.Elements.{All-weaker}
 use Rattle.std.proofs.lemmas.Int.{ints}
-use Rattle.audit_terms.specs.declared.sides.Sides.{Sides}
 use Rattle.audit_terms.specs.declared.frames.Frame.{Frame}
 use Rattle.audit_terms.specs.declared.items.Item.{Item}
 use Rattle.audit_terms.specs.declared.connections.ConnectionState.{ConnectionState}
-use Rattle.audit_terms.specs.Sides.{side_of}
 use Rattle.audit_terms.specs.Frame.{is_ack}
 use Rattle.audit_terms.specs.code.Room.{HasRoom}
-use Rattle.audit_terms.specs.LocalFault.{local_said, previous_after}
 use Rattle.audit_terms.specs.InForce.{change_of}
 use Rattle.audit_terms.specs.Connection.{connection_after}
-use Rattle.audit_terms.specs.Finding.{say}
 use Rattle.audit_terms.specs.Pass.{PassState, pass_start, next, item_of, streams_of}
 use Rattle.audit_terms.specs.runs.Changes.{changes_from}
 use Rattle.audit_terms.specs.runs.Orderly.{IsOrderlyFrom}
-use Rattle.audit_terms.specs.runs.Streams.{initial_after}
 use Rattle.audit_terms.proofs.Bounds.{room-wider}
 use Rattle.audit_core.specs.code.StreamRows.{RowFits, row_opens}
 use Rattle.audit_core.proofs.OrderlyRest.{length-orderly, drop-at}
@@ -107,27 +102,21 @@ loop-frame-preserved c =
         ] in
     let rows = c.deref-in-loop-frame-2.ensures.value ∙ old.rows in
     let said = said-more state frame (streams_of frames) _ _ _ _ _ _ _ _ _
-        (c.of.ensures ∙ ap (λ (p : Sides (Option Frame)). side_of frame.side p) old.previous)
+        (rw old.previous at c.of.ensures)
         old.initial old.connection item rows
-        (c.in_ok-say_local.ensures ∙ ap (λ l. l ++ local_said c.of.result frame) c.new-said.ensures.items)
-        (c.in_ok-say_if.ensures.ok
-        ∙ ap (λ b. c.say_local.new.found.items ++ say b c.at-ack.result) unmatched
-        ∙ ap (λ f. c.say_local.new.found.items
-        ++ say (is_ack frame.body && is_none c.change_at-change.result) f) c.at-ack.ensures)
+        (rw c.new-said.ensures.items at c.in_ok-say_local.ensures)
+        (rw (unmatched, c.at-ack.ensures) at c.in_ok-say_if.ensures.ok)
         c.in_ok-meet.ensures.said c.in_ok-rows-2.ensures.said in
     record {
       state = next state frame;
       low = frame.number + 1;
       orderly = ahead.2;
-      previous = c.previous_after-previous.ensures
-          ∙ ap (λ (p : Sides (Option Frame)). previous_after p frame) old.previous;
+      previous = rw old.previous at c.previous_after-previous.ensures;
       changes = λ number l.
           old.changes number (omega (arith, ahead.0))
           ∙ ap (λ k. find (is_at number) (changes_from state.in_force k)) left
           ∙ change-past state.in_force frame (drop (i + 1) frames) number (omega arith);
-      initial = c.initial_after-in_force.ensures
-          ∙ ap (λ change. initial_after change c.loop-frame.in_force) brings
-          ∙ ap (initial_after (change_of state.in_force frame)) old.initial;
+      initial = rw (brings, old.initial) at c.initial_after-in_force.ensures;
       connection = c.in_ok-meet.ensures.after
           ∙ ap (λ (k : ConnectionState). connection_after k met) old.connection
           ∙ ap (connection_after state.connection) item;
