@@ -6,7 +6,7 @@ use Rattle.std.proofs.lemmas.List.Edits.{between_more, between_none}
 use Rattle.std.proofs.lemmas.Slice.{between_is}
 use borrow.Author.Tests.{eqb-true, eq-eqb}
 use Rattle.split_merge.specs.declared.splits.StreamRow.{StreamRow}
-use Rattle.split_merge.specs.code.Visits.{streams_in, row_positions, noted, noted_positions, total_of, counted, laid_out, grown, AreDistinct, HasRoomFor, IsFilled}
+use Rattle.split_merge.specs.code.Visits.{streams_in, row_positions, noted_positions, total_of, counted, laid_out, grown, AreDistinct, HasRoomFor, IsFilled}
 use Rattle.split_merge.proofs.NamedStreams.{length-streams_in}
 use Rattle.split_merge.proofs.Visited.{noted_positions-append, three, row-within, positions-here, positions-there}
 

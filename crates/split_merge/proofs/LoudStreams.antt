@@ -1,15 +1,14 @@
 -- The loud streams among all: which they are, where they stand, what they count, and what visits note of them.
 use Rattle.std.proofs.Common.{◌≡◌, ◌≢◌, ℕ, zero, suc, ◌+◌, ◌<◌, ◌≤◌, ◌==◌, not, Bool, true, false, if◌then◌else◌, List, [], ◌∷◌, ◌++◌, length, get_or, slice_get, drop, filter, flat_map, Option, Some, None, MatchOption, option_to_list, refl, sym, ap, ◌∙◌, subst, arith, true≢false, append_assoc}
-use Rattle.std.specs.List.{All}
 use Rattle.std.proofs.lemmas.List.{drop_more, length-append}
 use borrow.Author.Tests.{eqb-true, eq-eqb}
 use Rattle.stream_credit.specs.declared.quiet_streams.QuietStream.{QuietStream}
 use Rattle.stream_credit.specs.code.QuietStream.{opened_of}
 use Rattle.split_merge.specs.declared.splits.StreamRow.{StreamRow}
 use Rattle.split_merge.specs.declared.loud.Visit.{Visit}
-use Rattle.split_merge.specs.code.Visits.{streams_in, noted, notes_of, noted_positions, total_of, is_among, NotAmong, AreDistinct, AreOfRows}
+use Rattle.split_merge.specs.code.Visits.{streams_in, noted, notes_of, noted_positions, total_of, is_among, NotAmong, AreDistinct}
 use Rattle.split_merge.specs.code.Loud.{loud_of, places_from, opened_in, quiet_in, ArePlaces, visit_of, AreVisits}
-use Rattle.split_merge.proofs.NamedStreams.{none-from_test, none_among, found_among}
+use Rattle.split_merge.proofs.NamedStreams.{none_among}
 use Rattle.split_merge.proofs.Visited.{append-none, noted_positions-append, noted_positions-one, where_so, noted-one, get-from_slice_get, within-from_slice_get, not_among-at}
 use Rattle.split_merge.proofs.Noted.{known-visit, notes-visit}
 use Rattle.split_merge.proofs.Ahead.{above-at}

@@ -1,5 +1,5 @@
 -- The streams that frames name, gathered one by one.
-use Rattle.std.proofs.Common.{◌≡◌, ◌≢◌, ℕ, zero, suc, Bool, true, false, not, ◌==◌, ◌||◌, ◌&&◌, cond, List, [], ◌∷◌, ◌++◌, length, slice_get, filter, refl, sym, ap, ◌∙◌, subst, Some, append_assoc, true≢false}
+use Rattle.std.proofs.Common.{◌≡◌, ◌≢◌, ℕ, zero, suc, Bool, true, false, not, ◌==◌, ◌||◌, ◌&&◌, List, [], ◌∷◌, ◌++◌, length, slice_get, filter, refl, sym, ap, ◌∙◌, subst, Some, append_assoc, true≢false}
 use Rattle.std.specs.List.{find, list_any}
 use Rattle.table_hash.specs.declared.TableHash.{TableHash}
 use Rattle.indexmap.specs.IndexSet.{IndexSet, insert_key, IsEmpty}

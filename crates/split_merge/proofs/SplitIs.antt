@@ -1,5 +1,5 @@
 -- The rows of the loud streams, laid out, are the split.
-use Rattle.std.proofs.Common.{◌≡◌, ◌≢◌, ℕ, ◌<◌, Bool, true, false, not, List, [], ◌∷◌, filter, flat_map, length, get_or, slice_get, Some, option_to_list, refl, sym, ap, ◌∙◌, subst, arith}
+use Rattle.std.proofs.Common.{◌≡◌, ◌≢◌, ℕ, ◌<◌, Bool, true, false, not, List, [], filter, flat_map, length, get_or, slice_get, Some, option_to_list, refl, sym, ap, ◌∙◌, subst, arith}
 use Rattle.std.proofs.lemmas.List.{get_or-map}
 use Rattle.std.proofs.lemmas.Option.{slice_get-get_or}
 use Rattle.audit_terms.specs.declared.frames.Frame.{Frame}
@@ -12,7 +12,7 @@ use Rattle.split_merge.specs.declared.splits.StreamRow.{StreamRow}
 use Rattle.split_merge.specs.declared.splits.SplitFrames.{SplitFrames}
 use Rattle.split_merge.specs.declared.loud.Visit.{Visit}
 use Rattle.split_merge.specs.Split.{positions_of, IsRange, IsPartOf, IsSplit, part_of, opening_of}
-use Rattle.split_merge.specs.code.Visits.{streams_in, notes_from, notes_of, noted_positions, row_positions, total_of, laid_out, is_among, NotAmong, AreDistinct, IsListed, HasRoomFor, IsFilled}
+use Rattle.split_merge.specs.code.Visits.{streams_in, notes_from, notes_of, noted_positions, total_of, laid_out, is_among, NotAmong, AreDistinct, IsListed, HasRoomFor}
 use Rattle.split_merge.specs.code.Ahead.{AreHushed}
 use Rattle.split_merge.specs.code.Loud.{loud_of, opened_in, quiet_in, AreVisits, AreCounted, IsLaid}
 use Rattle.split_merge.proofs.NamedStreams.{length-streams_in, found_among}

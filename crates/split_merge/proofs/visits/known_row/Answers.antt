@@ -1,4 +1,4 @@
-use Rattle.std.proofs.Common.{is_some, sym, ap, ◌∙◌}
+use Rattle.std.proofs.Common.{sym}
 use Rattle.split_merge.specs.code.Visits.{streams_in}
 use Rattle.split_merge.proofs.NamedStreams.{row-from_set, absent-from_set}
 use Rattle.split_merge.proofs.visits.known_row.Goals as goal

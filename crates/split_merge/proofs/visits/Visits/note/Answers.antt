@@ -1,4 +1,4 @@
-use Rattle.std.proofs.Common.{◌∷◌, ◌++◌, length, get_or, set, sym, ap, ◌∙◌, subst, arith}
+use Rattle.std.proofs.Common.{◌∷◌, ◌++◌, length, set, sym, ap, ◌∙◌, subst, arith}
 use Rattle.std.proofs.lemmas.List.{length-set}
 use Rattle.split_merge.specs.code.Visits.{streams_in, counted, total_of, IsIndex, IsListed, noted}
 use Rattle.split_merge.proofs.NamedStreams.{length-streams_in}
