@@ -11,7 +11,6 @@ use Rattle.audit_terms.specs.declared.frames.Frame.{Frame}
 use Rattle.audit_terms.specs.runs.Look.{is_past}
 use Rattle.conn_scan.specs.declared.block_items.Block.{Block}
 use Rattle.split_merge.specs.declared.splits.SplitFrames.{SplitFrames}
-use Rattle.split_merge.specs.declared.splits.StreamRow.{StreamRow}
 use Rattle.split_merge.specs.Groups.{groups, group_at}
 use Rattle.stream_groups.specs.declared.streams.Streams.{Streams}
 use Rattle.audit_rounds.specs.Settling.{frames_within}
@@ -22,7 +21,7 @@ use Rattle.audit_rounds.specs.code.Few.{AreFew, PreparedAreFew, RestsAreFew, Row
 use Rattle.audit_rounds.specs.code.Prepared.{IsPrepared}
 use Rattle.audit_rounds.specs.code.StreamJobs.{job_at, plan_from}
 use Rattle.audit_rounds.specs.code.StreamRound.{IsStreamsOf}
-use Rattle.audit_rounds.proofs.StreamReady.{length-streams_of}
+use Rattle.audit_rounds.proofs.StreamReady.{length-rows}
 
 abbrev pub lent : Bor (List Frame) → ℕ
 lent = λ (frames : Bor (List Frame)). length frames.now
@@ -154,32 +153,32 @@ few-rests connections stops opened rests opens are h =
 abbrev rows-in : Streams → ℕ
 rows-in = λ (one : Streams). length one.split.now.rows.items
 
-rows-one : (connection : Prepared) (streams : Streams) → IsPrepared connection → IsStreamsOf connection streams
-    → rows-in streams ≤ 2 * length connection.frames.now
-rows-one connection streams p is =
+rows-one : (credits_shown : Bool) (connection : Prepared) (streams : Streams) → IsPrepared credits_shown connection
+    → IsStreamsOf connection streams → rows-in streams ≤ 2 * length connection.frames.now
+rows-one credits_shown connection streams p is =
     let same = ap (λ (split : SplitFrames). length split.rows.items) is.split in
-    let number = length-map connection.split.rows.items (λ (row : StreamRow). row.stream) in
-    let each = ap length p.split.streams in
-    let twice = length-streams_of connection.frames.now in
-    omega (arith, same, number, each, twice)
+    let twice = length-rows credits_shown connection.changes.items connection.frames.now connection.split p.split in
+    omega (arith, same, twice)
 
-rows-twice : (connections : List Prepared) (streams : List Streams) → All IsPrepared connections
-    → AllZip IsStreamsOf connections streams
+rows-twice : (credits_shown : Bool) (connections : List Prepared) (streams : List Streams)
+    → All (IsPrepared credits_shown) connections → AllZip IsStreamsOf connections streams
     → sum_by rows-in streams ≤ 2 * sum_by (λ (one : Prepared). length one.frames.now) connections
-rows-twice [] [] p h = omega arith
-rows-twice [] (y ∷ ys) p h = absurd h
-rows-twice (x ∷ xs) [] p h = absurd h
-rows-twice (x ∷ xs) (y ∷ ys) p h =
-    let first = rows-one x y (All-head IsPrepared x xs p) h.0 in
-    let rest = rows-twice xs ys (All-tail IsPrepared x xs p) h.1 in
+rows-twice credits_shown [] [] p h = omega arith
+rows-twice credits_shown [] (y ∷ ys) p h = absurd h
+rows-twice credits_shown (x ∷ xs) [] p h = absurd h
+rows-twice credits_shown (x ∷ xs) (y ∷ ys) p h =
+    let first = rows-one credits_shown x y (All-head (IsPrepared credits_shown) x xs p) h.0 in
+    let rest = rows-twice credits_shown xs ys (All-tail (IsPrepared credits_shown) x xs p) h.1 in
     let left = sum_by-cons rows-in y ys in
     let right = sum_by-cons (λ (one : Prepared). length one.frames.now) x xs in
     omega (arith, first, rest, left, right)
 
 -- the rows of connections that are ready
-pub few-rows : (connections : List Prepared) (streams : List Streams) → All IsPrepared connections
-    → AllZip IsStreamsOf connections streams → PreparedAreFew connections → RowsAreFew streams
-few-rows connections streams p is h = let twice = rows-twice connections streams p is in omega (arith, twice, h)
+pub few-rows : (credits_shown : Bool) (connections : List Prepared) (streams : List Streams)
+    → All (IsPrepared credits_shown) connections → AllZip IsStreamsOf connections streams
+    → PreparedAreFew connections → RowsAreFew streams
+few-rows credits_shown connections streams p is h =
+    let twice = rows-twice credits_shown connections streams p is in omega (arith, twice, h)
 
 -- no more jobs than rows
 pub jobs-few : (count at : ℕ) (streams : List Streams) → length (plan_from count at streams) ≤ sum_by rows-in streams

@@ -104,7 +104,7 @@ all-within (frame ∷ frames) = ap (λ fs. frame ∷ fs) (all-within frames)
 -- ---- one connection
 
 module _ (credits_shown : Bool) (connection : Prepared) (stop : Option ℕ) (opened : List ℕ) (rest : Block)
-    (found : List Finding) (prepared : IsPrepared connection) (is : IsRest connection stop opened rest)
+    (found : List Finding) (prepared : IsPrepared credits_shown connection) (is : IsRest connection stop opened rest)
     (after : IsAfterStreams credits_shown connection.frames.now found stop opened) where
   within-orderly : IsOrderly rest.frames.now
   within-orderly = subst IsOrderly (sym is.frames)
@@ -150,7 +150,8 @@ list-in_order list = upto_stop (in_order list.items)
 
 module _ (credits_shown : Bool) (connections : List Prepared) (found : List (Vec Finding Global))
     (stops : List (Option ℕ)) (opened : List (Vec ℕ Global)) (rests : List Block)
-    (prepared : All IsPrepared connections) (after : AreAfterStreams credits_shown connections found stops opened)
+    (prepared : All (IsPrepared credits_shown) connections)
+    (after : AreAfterStreams credits_shown connections found stops opened)
     (are : AreRests connections stops opened rests) where
   pub each-remains : (n : ℕ) (rest : Block) (stop : Option ℕ) (list : Vec Finding Global) → n < length rests
       → IsRemaining (get_or rests n rest) (get_or stops n stop) (get_or found n list).items

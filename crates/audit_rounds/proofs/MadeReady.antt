@@ -1,5 +1,5 @@
 -- Connections made ready in two halves.
-use Rattle.std.proofs.Common.{◌≡◌, ℕ, List, ◌++◌, map, take, drop, sym, ap, ◌∙◌, subst, Bor, Vec, Global}
+use Rattle.std.proofs.Common.{◌≡◌, ℕ, Bool, List, ◌++◌, map, take, drop, sym, ap, ◌∙◌, subst, Bor, Vec, Global}
 use Rattle.std.proofs.lemmas.List.{map-append, take-append-drop}
 use Rattle.std.proofs.lemmas.List.Elements.{All-append}
 use Rattle.audit_terms.specs.declared.findings.Finding.{Finding}
@@ -9,27 +9,28 @@ use Rattle.audit_rounds.specs.code.Prepared.{IsPrepared, found_before}
 use Rattle.audit_rounds.specs.code.MadeReady.{AreMadeReady}
 
 -- those of one half, and then those of the other
-pub made-together : (front back : List (Bor (List Frame))) (made more : List Prepared)
-    (found later : List (Vec Finding Global)) → AreMadeReady front made found → AreMadeReady back more later
-    → AreMadeReady (front ++ back) (made ++ more) (found ++ later)
-made-together front back made more found later one other =
+pub made-together : (credits_shown : Bool) (front back : List (Bor (List Frame))) (made more : List Prepared)
+    (found later : List (Vec Finding Global)) → AreMadeReady credits_shown front made found
+    → AreMadeReady credits_shown back more later
+    → AreMadeReady credits_shown (front ++ back) (made ++ more) (found ++ later)
+made-together credits_shown front back made more found later one other =
     let frames = λ (one : Prepared). one.frames.now in
     let lent = λ (frames : Bor (List Frame)). frames.now in
     let items = λ (list : Vec Finding Global). list.items in
     record {
       frames = map-append frames made more ∙ ap (λ l. l ++ map frames more) one.frames
           ∙ ap (λ l. map lent front ++ l) other.frames ∙ sym (map-append lent front back);
-      prepared = All-append IsPrepared made more one.prepared other.prepared;
+      prepared = All-append (IsPrepared credits_shown) made more one.prepared other.prepared;
       before = map-append items found later ∙ ap (λ l. l ++ map items later) one.before
           ∙ ap (λ l. map found_before made ++ l) other.before ∙ sym (map-append found_before made more);
     }
 
 -- of a list that was split
-pub made-whole : (all front back : List (Bor (List Frame))) (at : ℕ) (made more : List Prepared)
+pub made-whole : (credits_shown : Bool) (all front back : List (Bor (List Frame))) (at : ℕ) (made more : List Prepared)
     (found later : List (Vec Finding Global)) → front ≡ take at all → back ≡ drop at all
-    → AreMadeReady front made found → AreMadeReady back more later
-    → AreMadeReady all (made ++ more) (found ++ later)
-made-whole all front back at made more found later is_front is_back one other =
-    subst (λ l. AreMadeReady l (made ++ more) (found ++ later))
+    → AreMadeReady credits_shown front made found → AreMadeReady credits_shown back more later
+    → AreMadeReady credits_shown all (made ++ more) (found ++ later)
+made-whole credits_shown all front back at made more found later is_front is_back one other =
+    subst (λ l. AreMadeReady credits_shown l (made ++ more) (found ++ later))
     (ap (λ l. l ++ back) is_front ∙ ap (λ l. take at all ++ l) is_back ∙ take-append-drop at all)
-    (made-together front back made more found later one other)
+    (made-together credits_shown front back made more found later one other)

@@ -6,6 +6,7 @@ use Rattle.std.proofs.lemmas.List.{get_or_default, take_more}
 use Rattle.std.specs.List.Sorted.{IsPermutation, IsSorted}
 use Rattle.std.specs.Ordering.{nat_cmp}
 use Rattle.job_crew.specs.declared.parts.Part.{Part}
+use Rattle.audit_rounds.specs.declared.prepared.Prepared.{Prepared}
 use Rattle.audit_rounds.specs.code.Opened.{numbers_told, IsInOrder}
 use Rattle.audit_rounds.proofs.Whole.{never-fall}
 
@@ -66,3 +67,27 @@ module _ (lists now : List (Vec ℕ Global)) (i : ℕ) (one new : Vec ℕ Global
   pub order-left : (n : ℕ) (list : Vec ℕ Global) → i + 1 ≤ n → get_or (set now i new) n list ≡ get_or lists n list
   order-left n list m =
       get_or-set_other now i n new list (λ e. omega (arith, m, e)) ∙ left n list (omega (arith, m))
+
+  -- one list more with the numbers that the split of its connection tells
+  pub added-more : (connections : List Prepared) (connection : Prepared) → length lists ≡ length connections
+      → connection ≡ get_or connections i connection
+      → new.items ≡ (get_or now i one).items ++ connection.split.opened.items
+      → ((n : ℕ) (list list' : Vec ℕ Global) (other : Prepared) → n < i
+      → (get_or now n list).items ≡ (get_or lists n list').items ++ (get_or connections n other).split.opened.items)
+      → (n : ℕ) (list list' : Vec ℕ Global) (other : Prepared) → n < i + 1
+      → (get_or (set now i new) n list).items
+      ≡ (get_or lists n list').items ++ (get_or connections n other).split.opened.items
+  added-more connections connection long is added done n list list' other m = ⊎_elim
+      (λ e.
+      let numbers = connection.split.opened.items in
+      ap (λ (v : Vec ℕ Global). v.items) (ap (λ k. get_or (set now i new) k list) e
+      ∙ get_or-set_same now i new list (omega (arith, number, l)))
+      ∙ added
+      ∙ ap (λ (v : Vec ℕ Global). v.items ++ numbers) (get_or_default now i one list' (omega (arith, number, l))
+      ∙ left i list' (omega arith) ∙ ap (λ k. get_or lists k list') (sym e))
+      ∙ ap (λ (p : Prepared). (get_or lists n list').items ++ p.split.opened.items)
+      (is ∙ get_or_default connections i connection other (omega (arith, long, l))
+      ∙ ap (λ k. get_or connections k other) (sym e)))
+      (λ ne. ap (λ (v : Vec ℕ Global). v.items) (get_or-set_other now i n new list ne)
+      ∙ done n list list' other (omega (arith, m, ne)))
+      (cases_eq n i)

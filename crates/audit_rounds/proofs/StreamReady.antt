@@ -1,8 +1,13 @@
 -- Connections that are prepared have streams that are ready.
-use Rattle.std.proofs.Common.{ℕ, suc, ◌+◌, ◌*◌, ◌≤◌, ◌==◌, not, Bool, true, false, if◌then◌else◌, List, [], ◌∷◌, length, filter, arith}
+use Rattle.std.proofs.Common.{ℕ, suc, ◌+◌, ◌*◌, ◌≤◌, ◌==◌, not, Bool, true, false, if◌then◌else◌, List, [], ◌∷◌, length, map, filter, ap, arith}
+use Rattle.std.proofs.lemmas.List.{length-map}
 use Rattle.audit_terms.specs.declared.frames.Frame.{Frame}
+use Rattle.audit_terms.specs.declared.items.Change.{Change}
 use Rattle.audit_terms.specs.Frame.{promised_by}
 use Rattle.audit_terms.specs.Pass.{first_of, streams_of}
+use Rattle.split_merge.specs.declared.splits.StreamRow.{StreamRow}
+use Rattle.split_merge.specs.declared.splits.SplitFrames.{SplitFrames}
+use Rattle.split_merge.specs.Split.{IsSplit}
 
 length-filter : (test : ℕ → Bool) (xs : List ℕ) → length (filter test xs) ≤ length xs
 length-filter test [] = omega arith
@@ -27,3 +32,13 @@ length-streams_of (frame ∷ frames) =
             ≤ length streams + 1
         by_test true = omega arith
         by_test false = let l = length-filter (λ other. not (other == stream)) streams in omega (arith, l)
+
+-- so its split has no more rows
+pub length-rows : (credits_shown : Bool) (changes : List Change) (frames : List Frame) (split : SplitFrames)
+    → IsSplit credits_shown changes frames split → length split.rows.items ≤ 2 * length frames
+length-rows credits_shown changes frames split is =
+    let number = length-map split.rows.items (λ (row : StreamRow). row.stream) in
+    let same = ap length is.streams in
+    let fewer = length-filter (λ stream. not (is.is_quiet stream)) (streams_of frames) in
+    let twice = length-streams_of frames in
+    omega (arith, number, same, fewer, twice)

@@ -1,5 +1,5 @@
 -- The round over streams: its plan, and what its jobs find and open of each connection.
-use Rattle.std.proofs.Common.{◌≡◌, ℕ, zero, suc, ◌+◌, ◌*◌, ◌-◌, ◌^◌, ◌<◌, ◌≤◌, ◌==◌, Bool, false, if◌then◌else◌, List, [], ◌∷◌, ◌++◌, length, map, flat_map, get_or, slice_get, All, Option, Some, None, refl, sym, ap, ◌∙◌, subst, arith, append-nil, Vec, Global}
+use Rattle.std.proofs.Common.{◌≡◌, ℕ, zero, suc, ◌+◌, ◌*◌, ◌-◌, ◌^◌, ◌<◌, ◌≤◌, ◌==◌, Bool, true, false, not, if◌then◌else◌, List, [], ◌∷◌, ◌++◌, length, map, filter, flat_map, get_or, slice_get, All, Option, Some, None, refl, sym, ap, ◌∙◌, subst, arith, append-nil, Vec, Global}
 use Rattle.std.specs.Option.{option_map_or, option_to_list}
 use Rattle.std.specs.List.{AllZip, between}
 use Rattle.std.proofs.lemmas.Bool.Decides.{nat_tests}
@@ -25,10 +25,11 @@ use Rattle.audit_core.proofs.OrderlyRest.{length-orderly}
 use Rattle.audit_terms.proofs.SaidPlaces.{AreAt, AreWithin, at-in_order, at-local, at-settings}
 use Rattle.audit_core.proofs.PassOrder.{AreStreams as Are31Bits, streams-streams_of}
 use Rattle.settings_pair.specs.Changes.{AreOrderly, AreAcknowledged}
+use Rattle.split_merge.specs.declared.splits.SplitFrames.{SplitFrames}
 use Rattle.split_merge.specs.declared.splits.StreamRow.{StreamRow}
 use Rattle.split_merge.specs.Board.{Job, findings_of_jobs}
 use Rattle.split_merge.specs.Groups.{groups, AreConsecutive}
-use Rattle.split_merge.specs.Split.{IsSplit, frames_at, part_of}
+use Rattle.split_merge.specs.Split.{IsSplit, frames_at, opening_of, part_of}
 use Rattle.split_merge.proofs.GroupRanges.{groups-consecutive, groups-joined}
 use Rattle.stop_desk.specs.Stop.{IsPlace, IsStop, past_places}
 use Rattle.audit_rounds.specs.declared.prepared.Prepared.{Prepared}
@@ -37,11 +38,13 @@ use Rattle.audit_rounds.specs.declared.stream_plan.StreamJob.{StreamJob}
 use Rattle.audit_rounds.specs.code.Prepared.{IsPrepared, found_before}
 use Rattle.audit_rounds.specs.code.StreamJobs.{IsReady, IsJobOf, job_of, job_at, of_rows, plan_from}
 use Rattle.audit_rounds.specs.code.StreamRound.{IsFirstStop, IsStreamsOf}
-use Rattle.stream_groups.specs.Streams.{IsRow, row_frames, rows_opened}
+use Rattle.stream_groups.specs.Streams.{IsRow, row_frames, rows_opened, shown_of}
 use Rattle.audit_rounds.specs.Openings.{openings_of}
 use Rattle.audit_rounds.specs.Rounds.{streams_shown}
+use Rattle.audit_rounds.specs.Settling.{AgreeWithin}
 use Rattle.audit_rounds.proofs.Parts.{orderly-frames_of, acknowledged-frames_of}
-use Rattle.audit_rounds.proofs.StreamReady.{length-streams_of}
+use Rattle.audit_rounds.proofs.StreamReady.{length-rows}
+use Rattle.audit_rounds.proofs.Told.{agree-parted}
 use Rattle.audit_rounds.proofs.Whole.{flat_map-map}
 pub use Rattle.std.proofs.lemmas.Slice.Zip.{AllZip-long as zip-length}
 
@@ -136,10 +139,18 @@ small : (rows : List StreamRow) → Are31Bits (map (λ (row : StreamRow). row.st
 small [] h = All-nil (λ (row : StreamRow). row.stream < 2 ^ 31)
 small (row ∷ rows) h = All-cons (λ (row : StreamRow). row.stream < 2 ^ 31) row rows h.0 (small rows h.1)
 
+bits-kept : (test : ℕ → Bool) (streams : List ℕ) → Are31Bits streams → Are31Bits (filter test streams)
+bits-kept test [] h = tt
+bits-kept test (stream ∷ streams) h = by_test (test stream) (bits-kept test streams h.1) where
+  by_test : (b : Bool) → Are31Bits (filter test streams)
+      → Are31Bits (if b then stream ∷ filter test streams else filter test streams)
+  by_test true rest = (h.0, rest)
+  by_test false rest = rest
+
 -- the rows of a split, and at most two for each frame
 module _ (streams : Streams) (o : IsOrderly streams.frames.now)
     (a : AreAcknowledged streams.frames.now streams.changes.now)
-    (s : IsSplit streams.frames.now streams.split.now) where
+    (credits_shown : Bool) (s : IsSplit credits_shown streams.changes.now streams.frames.now streams.split.now) where
   rows-are : All (IsRow streams) streams.split.now.rows.items
   rows-are k d l =
       let row = get_or streams.split.now.rows.items k d in
@@ -147,7 +158,8 @@ module _ (streams : Streams) (o : IsOrderly streams.frames.now)
       record {
         range = s.ranges k d l;
         in_range = small streams.split.now.rows.items
-            (subst Are31Bits (sym s.streams) (streams-streams_of 0 streams.frames.now o)) k d l;
+            (subst Are31Bits (sym s.streams) (bits-kept (λ stream. not (s.is_quiet stream))
+            (streams_of streams.frames.now) (streams-streams_of 0 streams.frames.now o))) k d l;
         within = part.within;
         orderly = subst IsOrderly (sym part.frames) (orderly-frames_of row.stream streams.frames.now o);
         acknowledged = subst (λ (frames : List Frame). AreAcknowledged frames streams.changes.now) (sym part.frames)
@@ -156,32 +168,32 @@ module _ (streams : Streams) (o : IsOrderly streams.frames.now)
 
   few-rows : length streams.split.now.rows.items < 2 ^ 32
   few-rows =
-      let number = length-map streams.split.now.rows.items (λ (row : StreamRow). row.stream) in
-      let same : length (map (λ (row : StreamRow). row.stream) streams.split.now.rows.items)
-      ≡ length (streams_of streams.frames.now) = ap length s.streams in
-      let streams_few = length-streams_of streams.frames.now in
-      let frames_few = length-orderly 0 streams.frames.now (omega arith) o in
-      omega (arith, number, same, streams_few, frames_few)
+      let rows = length-rows credits_shown streams.changes.now streams.frames.now streams.split.now s in
+      let frames = length-orderly 0 streams.frames.now (omega arith) o in
+      omega (arith, rows, frames)
 
-ready-one : (connection : Prepared) (streams : Streams) → IsPrepared connection → IsStreamsOf connection streams
-    → IsReady streams
-ready-one connection streams p is =
+ready-one : (credits_shown : Bool) (connection : Prepared) (streams : Streams) → IsPrepared credits_shown connection
+    → IsStreamsOf connection streams → IsReady streams
+ready-one credits_shown connection streams p is =
     let orderly = subst IsOrderly (sym is.frames) p.orderly in
     let acknowledged : AreAcknowledged streams.frames.now streams.changes.now =
     subst (λ (frames : List Frame). AreAcknowledged frames streams.changes.now) (sym is.frames)
     (subst (AreAcknowledged connection.frames.now) (sym is.changes) p.acknowledged) in
-    let split : IsSplit streams.frames.now streams.split.now =
-    subst (λ (frames : List Frame). IsSplit frames streams.split.now) (sym is.frames)
-    (subst (IsSplit connection.frames.now) (sym is.split) p.split) in
+    let split : IsSplit credits_shown streams.changes.now streams.frames.now streams.split.now =
+    subst (λ (frames : List Frame). IsSplit credits_shown streams.changes.now frames streams.split.now) (sym is.frames)
+    (subst (λ (changes : List Change). IsSplit credits_shown changes connection.frames.now streams.split.now)
+    (sym is.changes)
+    (subst (IsSplit credits_shown connection.changes.items connection.frames.now) (sym is.split) p.split)) in
     record {
       changes = subst AreOrderly (sym is.changes) p.changes_orderly;
-      rows = rows-are streams orderly acknowledged split;
-      counted = few-rows streams orderly acknowledged split;
+      rows = rows-are streams orderly acknowledged credits_shown split;
+      counted = few-rows streams orderly acknowledged credits_shown split;
     }
 
-pub ready-each : (connections : List Prepared) (streams : List Streams) → All IsPrepared connections
-    → AllZip IsStreamsOf connections streams → All IsReady streams
-ready-each connections streams p is = zip-all IsPrepared IsStreamsOf IsReady ready-one connections streams p is
+pub ready-each : (credits_shown : Bool) (connections : List Prepared) (streams : List Streams)
+    → All (IsPrepared credits_shown) connections → AllZip IsStreamsOf connections streams → All IsReady streams
+ready-each credits_shown connections streams p is =
+    zip-all (IsPrepared credits_shown) IsStreamsOf IsReady (ready-one credits_shown) connections streams p is
 
 -- ---- what is said of the jobs of one connection
 
@@ -265,8 +277,19 @@ zip-at R (z ∷ xs) [] n x h e = absurd h
 zip-at R (z ∷ xs) (y ∷ ys) zero x h e = (y, refl, subst (λ v. R v y) (same_Some z x e) h.0)
 zip-at R (z ∷ xs) (y ∷ ys) (suc n) x h e = zip-at R xs ys n x h.1 e
 
+-- one of the connections that are prepared
+pub prepared-at : (credits_shown : Bool) (connections : List Prepared) → All (IsPrepared credits_shown) connections
+    → (n : ℕ) (one : Prepared) → slice_get connections n ≡ Some one → IsPrepared credits_shown one
+prepared-at credits_shown connections p n one e =
+    subst (IsPrepared credits_shown) (get_or_from_slice_get connections n one one e)
+    (p n one (slice_get_within connections n one e))
+
+-- the streams of the rows of a connection
+abbrev pub row_streams : Prepared → List ℕ
+row_streams one = map (λ (row : StreamRow). row.stream) one.split.rows.items
+
 -- what is said of each stream, from its frames and the changes of its connection
-module _ {X : Type 0} (said : ℕ → List Frame → List Change → List X) where
+module _ {X : Type 0} (credits_shown : Bool) (said : ℕ → List Frame → List Change → List X) where
   abbrev of_row : Streams → StreamRow → List X
   of_row streams row = said row.stream (row_frames streams row) streams.changes.now
 
@@ -291,15 +314,17 @@ module _ {X : Type 0} (said : ℕ → List Frame → List Change → List X) whe
       ∙ flat_map-flat_map (of_row one) (λ (range : ℕ × ℕ). between range.0 range.1 rows) (groups_of count one)
       ∙ ap (flat_map (of_row one)) (groups-joined rows count h)
 
-  -- the rows of a connection are its streams
-  rows-streams : (connection : Prepared) (streams : Streams) → IsPrepared connection → IsStreamsOf connection streams
+  -- the rows of a connection are some of its streams
+  rows-streams : (connection : Prepared) (streams : Streams) → IsPrepared credits_shown connection
+      → IsStreamsOf connection streams
       → flat_map (of_row streams) streams.split.now.rows.items
       ≡ flat_map
       (λ stream. said stream (frames_of stream connection.frames.now) (changes_of connection.frames.now))
-      (streams_of connection.frames.now)
+      (row_streams connection)
   rows-streams connection streams p is =
       let frames = connection.frames.now in
-      let split : IsSplit frames streams.split.now = subst (IsSplit frames) (sym is.split) p.split in
+      let split : IsSplit credits_shown connection.changes.items frames streams.split.now =
+      subst (IsSplit credits_shown connection.changes.items frames) (sym is.split) p.split in
       flat_map-by (of_row streams) (λ stream. said stream (frames_of stream frames) (changes_of frames))
       (λ (row : StreamRow). row.stream) streams.split.now.rows.items
       (λ k d l.
@@ -308,44 +333,97 @@ module _ {X : Type 0} (said : ℕ → List Frame → List Change → List X) whe
       ap (λ met. said row.stream met streams.changes.now)
       (ap (λ all. frames_at all part) is.frames ∙ (split.parts k d l).frames)
       ∙ ap (said row.stream (frames_of row.stream frames)) (is.changes ∙ p.changes))
-      ∙ ap (flat_map (λ stream. said stream (frames_of stream frames) (changes_of frames))) split.streams
+      ∙ ap (λ (split : SplitFrames). flat_map (λ stream. said stream (frames_of stream frames) (changes_of frames))
+      (map (λ (row : StreamRow). row.stream) split.rows.items)) is.split
 
-  -- what is said of the jobs of a connection is said of its streams
+  -- what is said of the jobs of a connection is said of the streams of its rows
   of-streams : (count : ℕ) (connections : List Prepared) (streams : List Streams) → 1 ≤ count
-      → All IsPrepared connections → AllZip IsStreamsOf connections streams → (n : ℕ) (one : Prepared)
+      → All (IsPrepared credits_shown) connections → AllZip IsStreamsOf connections streams → (n : ℕ) (one : Prepared)
       → slice_get connections n ≡ Some one
       → flat_map (of_connection (of_rows each_row streams) n)
       (plan_from count 0 streams)
       ≡ flat_map (λ stream. said stream (frames_of stream one.frames.now) (changes_of one.frames.now))
-      (streams_of one.frames.now)
+      (row_streams one)
   of-streams count connections streams h p is n one e =
       let found = zip-at IsStreamsOf connections streams n one is e in
-      let prepared = subst IsPrepared (get_or_from_slice_get connections n one one e)
-      (p n one (slice_get_within connections n one e)) in
+      let prepared = prepared-at credits_shown connections p n one e in
       all-rows count streams n found.0 h found.1 ∙ rows-streams one found.0 prepared found.2
+
+-- what is said of streams of which nothing is said may be left out
+flat_map-kept : {X : Type 0} (said : ℕ → List X) (quiet : ℕ → Bool) (streams : List ℕ)
+    → All (λ stream. quiet stream ≡ true → said stream ≡ []) streams
+    → flat_map said (filter (λ stream. not (quiet stream)) streams) ≡ flat_map said streams
+flat_map-kept said quiet [] h = refl
+flat_map-kept said quiet (stream ∷ streams) h =
+    by_test _ refl (flat_map-kept said quiet streams (All-tail IsNothing stream streams h)) where
+      IsNothing : ℕ → Type 0
+      IsNothing = λ stream. quiet stream ≡ true → said stream ≡ []
+
+      by_test : (b : Bool) → quiet stream ≡ b
+          → flat_map said (filter (λ stream. not (quiet stream)) streams) ≡ flat_map said streams
+          → flat_map said (filter (λ stream. not (quiet stream)) (stream ∷ streams)) ≡ flat_map said (stream ∷ streams)
+      by_test true e rest =
+          ap (λ b. flat_map said (if not b then stream ∷ filter (λ stream. not (quiet stream)) streams
+          else filter (λ stream. not (quiet stream)) streams)) e
+          ∙ rest ∙ ap (λ l. l ++ flat_map said streams) (sym (All-head IsNothing stream streams h e))
+      by_test false e rest =
+          ap (λ b. flat_map said (if not b then stream ∷ filter (λ stream. not (quiet stream)) streams
+          else filter (λ stream. not (quiet stream)) streams)) e
+          ∙ ap (λ l. said stream ++ l) rest
+
+-- what is shown of the rows of a connection is shown of its streams
+rows-shown : (credits_shown : Bool) (one : Prepared) → IsPrepared credits_shown one
+    → flat_map (shown_of credits_shown one.frames.now) (row_streams one) ≡ streams_shown credits_shown one.frames.now
+rows-shown credits_shown one p =
+    let frames = one.frames.now in
+    let split = p.split in
+    ap (flat_map (shown_of credits_shown frames)) split.streams
+    ∙ flat_map-kept (shown_of credits_shown frames) split.is_quiet (streams_of frames)
+    (subst (λ (changes : List Change). All (λ (stream : ℕ). split.is_quiet stream ≡ true
+    → shown credits_shown (stream_run stream (frames_of stream frames) changes) ≡ []) (streams_of frames))
+    p.changes split.quiet)
+
+-- the openings of the rows of a connection, and those that its split tells, are all
+pub openings-all : (credits_shown : Bool) (one : Prepared) → IsPrepared credits_shown one → (stop : Option ℕ)
+    → AgreeWithin stop (openings_of one.frames.now (row_streams one) ++ one.split.opened.items)
+    (openings_of one.frames.now (streams_of one.frames.now))
+openings-all credits_shown one p stop =
+    let frames = one.frames.now in
+    let split = p.split in
+    let quiet : one.split.opened.items ≡ openings_of frames (filter split.is_quiet (streams_of frames)) =
+    split.opened
+    ∙ ap (λ (changes : List Change). flat_map (opening_of frames changes) (filter split.is_quiet (streams_of frames)))
+    p.changes in
+    subst (λ (numbers : List ℕ). AgreeWithin stop numbers (openings_of frames (streams_of frames)))
+    (sym (ap (λ (streams : List ℕ). openings_of frames streams ++ one.split.opened.items) split.streams
+    ∙ ap (λ (numbers : List ℕ). openings_of frames (filter (λ stream. not (split.is_quiet stream)) (streams_of frames))
+    ++ numbers) quiet))
+    (agree-parted frames stop split.is_quiet (streams_of frames))
 
 -- the jobs of a connection find what its streams show
 pub jobs-of : (credits_shown : Bool) (count : ℕ) (connections : List Prepared) (streams : List Streams) → 1 ≤ count
-    → All IsPrepared connections → AllZip IsStreamsOf connections streams → (n : ℕ) (one : Prepared)
+    → All (IsPrepared credits_shown) connections → AllZip IsStreamsOf connections streams → (n : ℕ) (one : Prepared)
     → slice_get connections n ≡ Some one
     → findings_of_jobs n (map (job_of credits_shown streams) (plan_from count 0 streams))
     ≡ streams_shown credits_shown one.frames.now
 jobs-of credits_shown count connections streams h p is n one e =
     sym (flat_map-map (λ (job : Job). if job.connection == n then job.findings else []) (job_of credits_shown streams)
     (plan_from count 0 streams))
-    ∙ of-streams (λ stream frames changes. shown credits_shown (stream_run stream frames changes)) count connections
-    streams h p is n one e
+    ∙ of-streams credits_shown (λ stream frames changes. shown credits_shown (stream_run stream frames changes)) count
+    connections streams h p is n one e
+    ∙ rows-shown credits_shown one (prepared-at credits_shown connections p n one e)
 
--- the jobs of a connection have all its openings
-pub openings-of : (count : ℕ) (connections : List Prepared) (streams : List Streams) → 1 ≤ count
-    → All IsPrepared connections → AllZip IsStreamsOf connections streams → (n : ℕ) (one : Prepared)
+-- the jobs of a connection have all openings of its rows
+pub openings-of : (credits_shown : Bool) (count : ℕ) (connections : List Prepared) (streams : List Streams) → 1 ≤ count
+    → All (IsPrepared credits_shown) connections → AllZip IsStreamsOf connections streams → (n : ℕ) (one : Prepared)
     → slice_get connections n ≡ Some one
     → flat_map (λ (job : StreamJob). if job.connection == n then of_rows rows_opened streams job else [])
     (plan_from count 0 streams)
-    ≡ openings_of one.frames.now (streams_of one.frames.now)
-openings-of count connections streams h p is n one e =
-    of-streams (λ stream frames changes. option_to_list (stream_at_end stream frames changes).life.opened) count
-    connections streams h p is n one e
+    ≡ openings_of one.frames.now (row_streams one)
+openings-of credits_shown count connections streams h p is n one e =
+    of-streams credits_shown
+    (λ stream frames changes. option_to_list (stream_at_end stream frames changes).life.opened) count connections streams h
+    p is n one e
 
 -- ---- the stops that connections begin with are places
 
@@ -380,8 +458,9 @@ settings-below now low (frame ∷ frames) h =
     (at-below frame.number (settings_said now frame) h.1.number (at-settings frame h.1.stream now))
     (settings-below (in_force_after now frame) (frame.number + 1) frames h.2)
 
-before-below : (connection : Prepared) → IsPrepared connection → All IsBelow (found_before connection)
-before-below connection p =
+before-below : (credits_shown : Bool) (connection : Prepared) → IsPrepared credits_shown connection
+    → All IsBelow (found_before connection)
+before-below credits_shown connection p =
     All-append IsBelow (local_run connection.frames.now) (settings_run connection.frames.now)
     (local-below no_previous 0 connection.frames.now p.orderly)
     (settings-below initial_in_force 0 connection.frames.now p.orderly)
@@ -396,16 +475,18 @@ all-unmap P f [] h = All-nil (λ x. P (f x))
 all-unmap P f (x ∷ xs) h =
     All-cons (λ x. P (f x)) x xs (All-head P (f x) (map f xs) h) (all-unmap P f xs (All-tail P (f x) (map f xs) h))
 
-pub stops-are-places : (connections : List Prepared) (found : List (Vec Finding Global)) (stops : List (Option ℕ))
-    → All IsPrepared connections → map (λ (one : Vec Finding Global). one.items) found ≡ map found_before connections
+pub stops-are-places : (credits_shown : Bool) (connections : List Prepared) (found : List (Vec Finding Global))
+    (stops : List (Option ℕ)) → All (IsPrepared credits_shown) connections
+    → map (λ (one : Vec Finding Global). one.items) found ≡ map found_before connections
     → AllZip (λ (one : Vec Finding Global) (stop : Option ℕ). IsFirstStop one.items stop) found stops
     → All IsStop stops
-stops-are-places connections found stops p e is =
+stops-are-places credits_shown connections found stops p e is =
     zip-all (λ (one : Vec Finding Global). All IsBelow one.items)
     (λ (one : Vec Finding Global) (stop : Option ℕ). IsFirstStop one.items stop) IsStop
     (λ one stop h first. stop-place one.items stop h first) found stops
     (all-unmap (All IsBelow) (λ (one : Vec Finding Global). one.items) found
     (subst (All (All IsBelow)) (sym e)
     (All-map (All IsBelow) found_before connections
-    (All-weaker IsPrepared (λ connection. All IsBelow (found_before connection)) before-below connections p))))
+    (All-weaker (IsPrepared credits_shown) (λ connection. All IsBelow (found_before connection))
+    (before-below credits_shown) connections p))))
     is

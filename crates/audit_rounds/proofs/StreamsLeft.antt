@@ -6,6 +6,7 @@ use Rattle.std.proofs.lemmas.Option.{slice_get_within, slice_get-get_or, get_or_
 use Rattle.std.proofs.lemmas.Slice.Zip.{AllZip-long}
 use Rattle.audit_terms.specs.declared.findings.Finding.{Finding}
 use Rattle.audit_terms.specs.Finding.{in_order, upto_stop}
+use Rattle.audit_terms.specs.Pass.{streams_of}
 use Rattle.split_merge.specs.Board.{Job, StopsAt, IsLeast, stop_of, findings_of_jobs, findings_of_parts}
 use Rattle.split_merge.specs.RoundLaws.{Merges}
 use Rattle.split_merge.proofs.RoundMerge.{board_merges_lem}
@@ -15,6 +16,7 @@ use Rattle.job_crew.specs.Laid.{part_of, board_with}
 use Rattle.audit_rounds.specs.declared.prepared.Prepared.{Prepared}
 use Rattle.stream_groups.specs.declared.streams.Streams.{Streams}
 use Rattle.audit_rounds.specs.declared.stream_plan.StreamJob.{StreamJob}
+use Rattle.audit_rounds.specs.Openings.{openings_of}
 use Rattle.audit_rounds.specs.Rounds.{streams_shown}
 use Rattle.audit_rounds.specs.Settling.{AgreeWithin, Reaches, IsAfterStreams}
 use Rattle.audit_rounds.specs.code.AfterStreams.{AreAfterStreams, HaveSettled}
@@ -25,8 +27,8 @@ use Rattle.audit_rounds.specs.code.StreamRound.{IsFirstStop, IsStreamsOf}
 use Rattle.stream_groups.specs.Streams.{rows_opened}
 use Rattle.audit_rounds.proofs.Jobs.{job-is}
 use Rattle.audit_rounds.proofs.Settles.{parts-within}
-use Rattle.audit_rounds.proofs.StreamRounds.{jobs-of, jobs-within, openings-of}
-use Rattle.audit_rounds.proofs.Told.{agree-append, agree-permuted, agree-reached}
+use Rattle.audit_rounds.proofs.StreamRounds.{jobs-of, jobs-within, openings-of, prepared-at, openings-all}
+use Rattle.audit_rounds.proofs.Told.{agree-append, agree-on, agree-permuted, agree-reached}
 
 -- ---- lists side by side
 
@@ -133,7 +135,7 @@ module _ (credits_shown : Bool) (count : ℕ) (streams : List Streams) (opening 
       zip-of (Tells stops (of_rows rows_opened streams)) parts plan
       (h.count ∙ length-map plan (job_of credits_shown streams)) part-tells
 
-  module _ (connections : List Prepared) (some : 1 ≤ count) (prepared : All IsPrepared connections)
+  module _ (connections : List Prepared) (some : 1 ≤ count) (prepared : All (IsPrepared credits_shown) connections)
       (is : AllZip IsStreamsOf connections streams) (n : ℕ) (one : Prepared)
       (there : slice_get connections n ≡ Some one)
       (least : IsLeast (StopsAt (found_before one)) (stop_of opening n)) where
@@ -146,9 +148,27 @@ module _ (credits_shown : Bool) (count : ℕ) (streams : List Streams) (opening 
     shows : findings_of_jobs n jobs ≡ streams_shown credits_shown one.frames.now
     shows = jobs-of credits_shown count connections streams some prepared is n one there
 
+    -- the openings that its parts and its split tell are all, up to the stop
+    agree-all : AgreeWithin (stop_of stops n) (numbers_told n parts ++ one.split.opened.items)
+        (openings_of one.frames.now (streams_of one.frames.now))
+    agree-all =
+        let quiet = one.split.opened.items in
+        let stop = stop_of stops n in
+        let said = flat_map (λ (job : StreamJob). if job.connection == n then of_rows rows_opened streams job else [])
+        plan in
+        agree-on stop (numbers_told n parts ++ quiet) (said ++ quiet)
+        (openings_of one.frames.now (streams_of one.frames.now))
+        (agree-append stop (numbers_told n parts) said quiet quiet
+        (agree-parts stops (of_rows rows_opened streams) n parts plan all-tell) (λ number e. refl))
+        (subst (λ (numbers : List ℕ). AgreeWithin stop (numbers ++ quiet)
+        (openings_of one.frames.now (streams_of one.frames.now)))
+        (sym (openings-of credits_shown count connections streams some prepared is n one there))
+        (openings-all credits_shown one (prepared-at credits_shown connections prepared n one there) stop))
+
     -- what is left of a connection
     pub is-after : (last : List Finding) (opened : List ℕ)
-        → last ≡ found_before one ++ findings_of_parts n (map part_of parts) → IsInOrder (numbers_told n parts) opened
+        → last ≡ found_before one ++ findings_of_parts n (map part_of parts)
+        → IsInOrder (numbers_told n parts ++ one.split.opened.items) opened
         → IsAfterStreams credits_shown one.frames.now last (stop_of stops n) opened
     is-after last opened e order =
         let frames = one.frames.now in
@@ -156,10 +176,9 @@ module _ (credits_shown : Bool) (count : ℕ) (streams : List Streams) (opening 
           cut = merges.findings ∙ ap (λ l. upto_stop (in_order (found_before one ++ l))) shows;
           least = subst (λ l. IsLeast (StopsAt (found_before one ++ l)) (stop_of stops n)) shows merges.stop;
           kept = merges.kept_stop;
-          opened_within = subst (AgreeWithin (stop_of stops n) opened)
-              (openings-of count connections streams some prepared is n one there)
-              (agree-permuted (stop_of stops n) (numbers_told n parts) _ opened
-              (agree-parts stops (of_rows rows_opened streams) n parts plan all-tell) order.same);
+          opened_within =
+              agree-permuted (stop_of stops n) (numbers_told n parts ++ one.split.opened.items) _ opened agree-all
+              order.same;
           rising = order.rising;
         })
 
@@ -172,7 +191,7 @@ module _ (credits_shown : Bool) (count : ℕ) (streams : List Streams) (opening 
       (jobs-within credits_shown count streams bound number)
 
   -- what is left of all connections
-  module _ (connections : List Prepared) (some : 1 ≤ count) (prepared : All IsPrepared connections)
+  module _ (connections : List Prepared) (some : 1 ≤ count) (prepared : All (IsPrepared credits_shown) connections)
       (is : AllZip IsStreamsOf connections streams) (found last : List (Vec Finding Global))
       (opened : List (Vec ℕ Global))
       (before : map (λ (one : Vec Finding Global). one.items) found ≡ map found_before connections)
@@ -181,8 +200,9 @@ module _ (credits_shown : Bool) (count : ℕ) (streams : List Streams) (opening 
       (kept : (n : ℕ) (list list' : Vec Finding Global) → n < length found
       → (get_or last n list).items ≡ (get_or found n list').items ++ findings_of_parts n (map part_of parts))
       (opens : length opened ≡ length connections)
-      (orders : (n : ℕ) (list : Vec ℕ Global) → n < length connections
-      → IsInOrder (numbers_told n parts) (get_or opened n list).items) where
+      (orders : (n : ℕ) (list : Vec ℕ Global) (connection : Prepared) → n < length connections
+      → IsInOrder (numbers_told n parts ++ (get_or connections n connection).split.opened.items)
+      (get_or opened n list).items) where
     founds : length found ≡ length connections
     founds = as-many connections found before
 
@@ -215,6 +235,6 @@ module _ (credits_shown : Bool) (count : ℕ) (streams : List Streams) (opening 
               (get_or opened n numbers).items
               (kept n list list (omega (arith, a, l))
               ∙ ap (λ front. front ++ findings_of_parts n (map part_of parts)) (found-at n list connection l))
-              (orders n numbers l));
+              (orders n numbers connection l));
           places = h.places;
         }

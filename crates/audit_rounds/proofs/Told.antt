@@ -1,10 +1,11 @@
 -- Openings as runs tell them that went up to some place.
-use Rattle.std.proofs.Common.{◌≡◌, ℕ, suc, ◌≤◌, ◌==◌, ◌||◌, Bool, true, false, All, List, [], ◌∷◌, ◌++◌, map, refl, sym, ap, ◌∙◌, arith, Option, Some, None, le-ltb, ltb-false, true≢false}
+use Rattle.std.proofs.Common.{◌≡◌, ℕ, suc, ◌≤◌, ◌==◌, ◌||◌, Bool, true, false, All, List, [], ◌∷◌, ◌++◌, not, map, filter, flat_map, refl, sym, ap, ◌∙◌, arith, Option, Some, None, le-ltb, ltb-false, true≢false}
 use Rattle.std.specs.Option.{option_to_list}
 use Rattle.std.specs.List.{list_any}
 use Rattle.std.specs.List.Sorted.{IsPermutation}
+use Rattle.std.proofs.lemmas.Grind.{flat_map-append}
 use Rattle.std.proofs.lemmas.List.Folds.{list_any-append}
-use Rattle.std.proofs.lemmas.List.Sorted.{list_any-IsPermutation}
+use Rattle.std.proofs.lemmas.List.Sorted.{list_any-IsPermutation, IsPermutation-filter_both}
 use borrow.Author.Tests.{eqb-true}
 use Rattle.audit_terms.specs.declared.frames.Frame.{Frame}
 use Rattle.audit_terms.specs.runs.Changes.{changes_of}
@@ -30,6 +31,10 @@ pub agree-permuted : (stop : Option ℕ) (xs ys us : List ℕ) → AgreeWithin s
     AgreeWithin stop us ys
 agree-permuted stop xs ys us h p number e =
     sym (list_any-IsPermutation (λ one. one == number) xs us p) ∙ h number e
+
+pub agree-on : (stop : Option ℕ) (xs ys zs : List ℕ) → AgreeWithin stop xs ys → AgreeWithin stop ys zs →
+    AgreeWithin stop xs zs
+agree-on stop xs ys zs h k number e = h number e ∙ k number e
 
 -- what is not past the stop is not past what reached it
 reached : (upto stop : Option ℕ) (number : ℕ) → Reaches upto stop → is_past stop number ≡ false →
@@ -78,6 +83,23 @@ any-openings frames number [] = refl
 any-openings frames number (stream ∷ streams) =
     list_any-append (λ one. one == number) (opening_of frames stream) (openings_of frames streams)
     ∙ ap (λ b. list_any (λ one. one == number) (opening_of frames stream) || b) (any-openings frames number streams)
+
+-- the openings of some streams and of the others are those of all
+pub agree-parted : (frames : List Frame) (stop : Option ℕ) (test : ℕ → Bool) (streams : List ℕ) →
+    AgreeWithin stop
+    (openings_of frames (filter (λ stream. not (test stream)) streams) ++ openings_of frames (filter test streams))
+    (openings_of frames streams)
+agree-parted frames stop test streams number e =
+    let others = filter (λ stream. not (test stream)) streams in
+    let ones = filter test streams in
+    ap (list_any (λ one. one == number)) (sym (flat_map-append (opening_of frames) others ones))
+    ∙ any-openings frames number (others ++ ones)
+    ∙ sym (list_any-IsPermutation _ streams (others ++ ones)
+    (IsPermutation-filter_both (λ stream. not (test stream)) test (λ stream. twice (test stream)) streams))
+    ∙ sym (any-openings frames number streams) where
+      twice : (b : Bool) → b ≡ not (not b)
+      twice true = refl
+      twice false = refl
 
 pub openings_are_told_lem : OpeningsAreTold
 openings_are_told_lem frames runs stop opened s h p number e =

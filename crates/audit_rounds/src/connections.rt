@@ -79,7 +79,14 @@ pub(crate) fn findings_of_batch<R: Threads + Sync, G: Gate>(
     ensures { IfOk result (λ found. map (λ one. one.items) found.items
         ≡ map (λ frames. shown credits_shown (pass frames.now)) connections.now) }
 {
-    let made = prepare_each(rt, alloc, division.workers, division.hash, connections)?;
+    let made = prepare_each(
+        rt,
+        alloc,
+        division.workers,
+        division.hash,
+        credits_shown,
+        connections,
+    )?;
     let MadeReady { prepared, found } = made;
     let prepared = prepared.as_slice();
     findings_of_prepared(rt, alloc, division, gate, credits_shown, prepared, found)
@@ -97,7 +104,7 @@ fn findings_of_prepared<R: Threads + Sync, G: Gate>(
 ) -> Result<Vec<Vec<Finding>>, AllocError>
     requires workers { 0 < division.now.workers }
     requires groups { 0 < division.now.groups }
-    requires prepared { All IsPrepared connections.now }
+    requires prepared { All (IsPrepared credits_shown) connections.now }
     requires few { PreparedAreFew connections.now }
     requires found { map (λ one. one.items) found.items ≡ map found_before connections.now }
     ensures { IfOk result (λ found. map (λ one. one.items) found.items
@@ -131,15 +138,17 @@ fn prepare_in_turn<'a, R: Threads + Sync>(
     alloc: Global,
     workers: u32,
     hash: TableHash,
+    credits_shown: bool,
     connections: &[&'a [Frame]],
 ) -> Result<MadeReady<'a>, AllocError>
     requires workers { 0 < workers }
     requires frames { All (λ frames. IsOrderly frames.now) connections.now }
-    ensures { IfOk result (λ made. AreMadeReady connections.now made.prepared.items made.found.items) }
+    ensures { IfOk result (λ made. AreMadeReady credits_shown connections.now made.prepared.items
+        made.found.items) }
 {
     let mut made = MadeReady::with_capacity(alloc, connections.len())?;
     for frames in connections {
-        let (ready, before) = prepare(rt, alloc, workers, hash, *frames)?;
+        let (ready, before) = prepare(rt, alloc, workers, hash, credits_shown, *frames)?;
         made.push(ready, before)?;
     }
     Ok(made)
@@ -171,14 +180,16 @@ fn prepare_each<'a, R: Threads + Sync>(
     alloc: Global,
     workers: u32,
     hash: TableHash,
+    credits_shown: bool,
     connections: &[&'a [Frame]],
 ) -> Result<MadeReady<'a>, AllocError>
     requires workers { 0 < workers }
     requires frames { All (λ frames. IsOrderly frames.now) connections.now }
-    ensures { IfOk result (λ made. AreMadeReady connections.now made.prepared.items made.found.items) }
+    ensures { IfOk result (λ made. AreMadeReady credits_shown connections.now made.prepared.items
+        made.found.items) }
 {
     if workers == 1 || connections.len() < 2 {
-        return prepare_in_turn(rt, alloc, workers, hash, connections);
+        return prepare_in_turn(rt, alloc, workers, hash, credits_shown, connections);
     }
     let (front, back) = connections.split_at(middle(connections));
     let half = workers / 2;
@@ -187,12 +198,14 @@ fn prepare_each<'a, R: Threads + Sync>(
         rt,
         || -> Result<MadeReady<'_>, AllocError>
             requires { IsSync R.row × (0 < half) × All (λ frames. IsOrderly frames.now) front.now }
-            ensures { IfOk result (λ made. AreMadeReady front.entry.now made.prepared.items made.found.items) }
-        { prepare_each(rt, alloc, half, hash, front) },
+            ensures { IfOk result (λ made. AreMadeReady credits_shown front.entry.now made.prepared.items
+                made.found.items) }
+        { prepare_each(rt, alloc, half, hash, credits_shown, front) },
         || -> Result<MadeReady<'_>, AllocError>
             requires { IsSync R.row × (0 < rest) × All (λ frames. IsOrderly frames.now) back.now }
-            ensures { IfOk result (λ made. AreMadeReady back.entry.now made.prepared.items made.found.items) }
-        { prepare_each(rt, alloc, rest, hash, back) },
+            ensures { IfOk result (λ made. AreMadeReady credits_shown back.entry.now made.prepared.items
+                made.found.items) }
+        { prepare_each(rt, alloc, rest, hash, credits_shown, back) },
     );
     let mut made = one?;
     let mut more = other?;
@@ -216,7 +229,7 @@ fn frames_within<'a>(stop: &Option<Place>, frames: &'a [Frame]) -> &'a [Frame]
 
 /// What is left to do of a connection, of which this is known.
 fn rest_of<'a>(connection: &'a Prepared<'a>, stop: &Option<Place>, opened: &'a [u32]) -> Block<'a>
-    requires { IsPrepared connection.now }
+    requires { IsOrderly connection.now.frames.now }
     ensures { IsRest connection.now stop.now opened.now result }
 {
     Block {
@@ -236,7 +249,7 @@ fn rest_of_each<'a>(
 ) -> Result<Vec<Block<'a>>, AllocError>
     requires stops { length stops.now ≡ length connections.now }
     requires opened { length opened.now ≡ length connections.now }
-    requires prepared { All IsPrepared connections.now }
+    requires frames { All (λ one. IsOrderly one.frames.now) connections.now }
     ensures { IfOk result (λ rests. AreRests connections.now stops.now opened.now rests.items) }
 {
     let mut rests = Vec::with_capacity(alloc, connections.len())?;

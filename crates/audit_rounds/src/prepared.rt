@@ -3,8 +3,9 @@
 ghost use Rattle.std.specs.Prelude.{◌≡◌, ◌<◌, ◌^◌, IfOk, length};
 ghost use Rattle.std.specs.Thread.{IsSync};
 ghost use Rattle.audit_terms.specs.runs.Orderly.{IsOrderly};
+ghost use Rattle.audit_terms.specs.runs.LocalFaults.{local_run};
+ghost use Rattle.settings_pair.specs.Changes.{AreOrderly, AreAcknowledged};
 ghost use Rattle.split_merge.specs.Split.{IsSplit};
-ghost use Rattle.audit_rounds.specs.code.MadeReady.{IsTold};
 ghost use Rattle.audit_rounds.specs.code.Prepared.{IsPrepared, found_before};
 
 use audit_terms::{Change, Finding, Frame};
@@ -13,6 +14,7 @@ use settings_pair::pair;
 use split_merge::{SplitFrames, split};
 use std::alloc::{AllocError, Global};
 use std::thread::{Threads, join};
+use stream_credit::Changes;
 use table_hash::TableHash;
 
 /// The frames of a connection, with what its rounds need beside them.
@@ -21,69 +23,70 @@ pub(crate) struct Prepared<'a> {
     pub(crate) frames: &'a [Frame],
     /// What its acknowledgements bring into force, in order.
     pub(crate) changes: Vec<Change>,
-    /// Its frames by stream.
+    /// Its frames by stream, but for the streams of which nothing is shown.
     pub(crate) split: SplitFrames,
-}
-
-/// What single frames and pairs of settings tell of a connection.
-#[derive(Drop)]
-struct Told {
-    changes: Vec<Change>,
-    found: Vec<Finding>,
 }
 
 /// From so many frames on a connection is made ready by more than one thread.
 const MANY: usize = 4096;
 
-/// What single frames and pairs of settings tell: first the faults of frames, then the unmatched acknowledgements.
-fn tell<R: Threads + Sync>(
-    rt: &R,
+/// The frames of a connection by stream. Which streams are quiet, the connection's changes tell.
+fn split_with(
     alloc: Global,
-    workers: usize,
+    hash: TableHash,
+    credits_shown: bool,
+    changes: &[Change],
     frames: &[Frame],
-) -> Result<Told, AllocError>
-    requires workers { 0 < workers }
+) -> Result<SplitFrames, AllocError>
+    requires length { length frames.now < 2 ^ 28 }
     requires frames { IsOrderly frames.now }
-    ensures { IfOk result (IsTold frames.now) }
+    requires changes { AreOrderly changes.now }
+    requires acknowledged { AreAcknowledged frames.now changes.now }
+    ensures { IfOk result (IsSplit credits_shown changes.now frames.now) }
 {
-    let mut pairs = pair(alloc, frames)?;
-    let mut found = local_faults(rt, alloc, workers, frames)?;
-    found.append(&mut pairs.findings)?;
-    Ok(Told {
-        changes: pairs.changes,
-        found,
-    })
+    let changes = Changes::of(alloc, changes)?;
+    split(alloc, hash, credits_shown, &changes, frames)
 }
 
-/// What single frames and pairs of settings tell, and the frames by stream: side by side, where there are many frames
-/// and workers.
-fn tell_and_split<R: Threads + Sync>(
+/// The faults of single frames, and the frames by stream: side by side, where there are many frames and workers.
+fn faults_and_split<R: Threads + Sync>(
     rt: &R,
     alloc: Global,
     workers: u32,
     hash: TableHash,
+    credits_shown: bool,
+    changes: &[Change],
     frames: &[Frame],
-) -> (Result<Told, AllocError>, Result<SplitFrames, AllocError>)
+) -> (
+    Result<Vec<Finding>, AllocError>,
+    Result<SplitFrames, AllocError>,
+)
     requires workers { 0 < workers }
     requires frames { IsOrderly frames.now }
     requires length { length frames.now < 2 ^ 28 }
-    ensures told { IfOk result.0 (IsTold frames.now) }
-    ensures split { IfOk result.1 (IsSplit frames.now) }
+    requires changes { AreOrderly changes.now }
+    requires acknowledged { AreAcknowledged frames.now changes.now }
+    ensures faults { IfOk result.0 (λ found. found.items ≡ local_run frames.now) }
+    ensures split { IfOk result.1 (IsSplit credits_shown changes.now frames.now) }
 {
     if workers == 1 || frames.len() < MANY {
-        return (tell(rt, alloc, 1, frames), split(alloc, hash, frames));
+        return (
+            local_faults(rt, alloc, 1, frames),
+            split_with(alloc, hash, credits_shown, changes, frames),
+        );
     }
     let others = workers as usize - 1;
     join(
         rt,
-        || -> Result<Told, AllocError>
+        || -> Result<Vec<Finding>, AllocError>
             requires { IsSync R.row × (0 < others) × IsOrderly frames.now }
-            ensures { IfOk result (IsTold frames.entry.now) }
-        { tell(rt, alloc, others, frames) },
+            ensures { IfOk result (λ found. found.items ≡ local_run frames.entry.now) }
+        { local_faults(rt, alloc, others, frames) },
         || -> Result<SplitFrames, AllocError>
-            requires { length frames.now < 2 ^ 28 }
-            ensures { IfOk result (IsSplit frames.entry.now) }
-        { split(alloc, hash, frames) },
+            requires { (length frames.now < 2 ^ 28) × IsOrderly frames.now × AreOrderly changes.now
+                × AreAcknowledged frames.now changes.now }
+            ensures { IfOk result (IsSplit credits_shown changes.entry.now frames.entry.now) }
+        { split_with(alloc, hash, credits_shown, changes, frames) },
     )
 }
 
@@ -94,21 +97,25 @@ pub(crate) fn prepare<'a, R: Threads + Sync>(
     alloc: Global,
     workers: u32,
     hash: TableHash,
+    credits_shown: bool,
     frames: &'a [Frame],
 ) -> Result<(Prepared<'a>, Vec<Finding>), AllocError>
     requires workers { 0 < workers }
     requires frames { IsOrderly frames.now }
     ensures frames { IfOk result (λ made. made.0.frames.now ≡ frames.now) }
-    ensures prepared { IfOk result (λ made. IsPrepared made.0) }
+    ensures prepared { IfOk result (λ made. IsPrepared credits_shown made.0) }
     ensures found { IfOk result (λ made. made.1.items ≡ found_before made.0) }
 {
-    let (told, split) = tell_and_split(rt, alloc, workers, hash, frames);
-    let told = told?;
+    let mut pairs = pair(alloc, frames)?;
+    let changes = pairs.changes.as_slice();
+    let (found, split) = faults_and_split(rt, alloc, workers, hash, credits_shown, changes, frames);
+    let mut found = found?;
     let split = split?;
+    found.append(&mut pairs.findings)?;
     let prepared = Prepared {
         frames,
-        changes: told.changes,
+        changes: pairs.changes,
         split,
     };
-    Ok((prepared, told.found))
+    Ok((prepared, found))
 }

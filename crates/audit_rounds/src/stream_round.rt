@@ -81,7 +81,7 @@ fn settled_over<R: Threads + Sync, G: Gate>(
 ) -> Result<Settled<Vec<u32>>, AllocError>
     requires workers { 0 < division.now.workers }
     requires groups { 0 < division.now.groups }
-    requires prepared { All IsPrepared connections.now }
+    requires prepared { All (IsPrepared credits_shown) connections.now }
     requires few { PreparedAreFew connections.now }
     requires found { map (λ one. one.items) found.now ≡ map found_before connections.now }
     ensures { IfOk result (λ settled. HaveSettledOver credits_shown division.now.groups connections.now found.now
@@ -107,7 +107,7 @@ pub(crate) fn round_over_streams<R: Threads + Sync, G: Gate>(
 ) -> Result<AfterStreams, AllocError>
     requires workers { 0 < division.now.workers }
     requires groups { 0 < division.now.groups }
-    requires prepared { All IsPrepared connections.now }
+    requires prepared { All (IsPrepared credits_shown) connections.now }
     requires few { PreparedAreFew connections.now }
     requires found { map (λ one. one.items) found.items ≡ map found_before connections.now }
     ensures { IfOk result (λ after. AreAfterStreams credits_shown connections.now after.found.items after.stops.items
@@ -123,7 +123,7 @@ pub(crate) fn round_over_streams<R: Threads + Sync, G: Gate>(
         connections,
         before,
     )?;
-    let opened = opened_each(alloc, connections.len(), settled.parts.as_slice())?;
+    let opened = opened_each(alloc, connections, settled.parts.as_slice())?;
     let found = gathered(found, settled.parts)?;
     Ok(AfterStreams {
         found,

@@ -1,5 +1,5 @@
 -- A connection made ready for the rounds.
-use Rattle.std.specs.Prelude.{◌≡◌, ◌++◌, List}
+use Rattle.std.specs.Prelude.{◌≡◌, ◌++◌, Bool, List}
 use Rattle.audit_terms.specs.declared.findings.Finding.{Finding}
 use Rattle.audit_terms.specs.runs.Orderly.{IsOrderly}
 use Rattle.audit_terms.specs.runs.LocalFaults.{local_run}
@@ -9,12 +9,12 @@ use Rattle.split_merge.specs.Split.{IsSplit}
 use Rattle.audit_rounds.specs.declared.prepared.Prepared.{Prepared}
 
 -- the frames of a connection, the changes that they bring, and their split
-pub record IsPrepared (prepared : Prepared) : Type 0 where
+pub record IsPrepared (credits_shown : Bool) (prepared : Prepared) : Type 0 where
   pub orderly : IsOrderly prepared.frames.now
   pub changes : prepared.changes.items ≡ changes_of prepared.frames.now
   pub changes_orderly : AreOrderly prepared.changes.items
   pub acknowledged : AreAcknowledged prepared.frames.now prepared.changes.items
-  pub split : IsSplit prepared.frames.now prepared.split
+  pub split : IsSplit credits_shown prepared.changes.items prepared.frames.now prepared.split
 
 -- what is found of a connection before the rounds: its local faults, then its unmatched acknowledgements
 abbrev pub found_before : Prepared → List Finding

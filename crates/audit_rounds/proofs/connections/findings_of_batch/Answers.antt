@@ -9,7 +9,7 @@ use Rattle.audit_rounds.proofs.connections.findings_of_batch.Goals as goal
 
 pub findings_of_prepared-requires-clause-prepared : goal.findings_of_prepared-requires-clause-prepared
 findings_of_prepared-requires-clause-prepared g c κs within =
-    subst (All IsPrepared) (sym c.as_slice-prepared.ensures.value) c.in_ok-made.ensures.prepared
+    subst (All (IsPrepared c.args.credits_shown)) (sym c.as_slice-prepared.ensures.value) c.in_ok-made.ensures.prepared
 
 pub findings_of_prepared-requires-clause-found : goal.findings_of_prepared-requires-clause-found
 findings_of_prepared-requires-clause-found g c κs within =

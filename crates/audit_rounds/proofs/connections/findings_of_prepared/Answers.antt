@@ -4,6 +4,9 @@ use Rattle.audit_rounds.proofs.Fronts.{each-remains, all-settle}
 use Rattle.audit_rounds.proofs.Whole.{if_ok-then}
 use Rattle.audit_rounds.proofs.connections.findings_of_prepared.Goals as goal
 
+pub rest_of_each-requires-clause-frames : goal.rest_of_each-requires-clause-frames
+rest_of_each-requires-clause-frames g c n connection l = (c.requires.prepared n connection l).orderly
+
 pub rounds_over_blocks-requires-clause-each : goal.rounds_over_blocks-requires-clause-each
 rounds_over_blocks-requires-clause-each g c κs within =
     let stops = c.as_slice-stops.ensures.value in

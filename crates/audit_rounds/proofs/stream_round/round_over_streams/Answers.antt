@@ -1,4 +1,4 @@
-use Rattle.std.proofs.Common.{◌<◌, List, length, get_or, All, ℕ, sym, ◌∙◌, subst, arith, Vec, Global}
+use Rattle.std.proofs.Common.{◌<◌, ◌++◌, List, length, get_or, All, ℕ, sym, ◌∙◌, subst, arith, Vec, Global}
 use Rattle.std.proofs.lemmas.Slice.Zip.{AllZip-long}
 use Rattle.audit_terms.specs.declared.findings.Finding.{Finding}
 use Rattle.job_crew.specs.declared.parts.Part.{Part}
@@ -42,5 +42,7 @@ returns g c =
     (let some = c.requires.groups in omega (arith, some)) c.requires.prepared h.of found
     c.in_ok-found.found.items c.in_ok-opened.opened.items c.requires.found h.first c.in_ok-found.ensures.number
     c.in_ok-found.ensures.each c.in_ok-opened.ensures.number
-    (λ n list l. subst (λ parts. IsInOrder (numbers_told n parts) (get_or c.in_ok-opened.opened.items n list).items)
-    c.as_slice.ensures.value (c.in_ok-opened.ensures.each n list l))
+    (λ n list connection l. subst (λ parts. IsInOrder
+    (numbers_told n parts ++ (get_or connections n connection).split.opened.items)
+    (get_or c.in_ok-opened.opened.items n list).items)
+    c.as_slice.ensures.value (c.in_ok-opened.ensures.each n list connection l))

@@ -16,8 +16,8 @@ use Rattle.audit_rounds.proofs.stream_round.settled_over.Goals as goal
 pub settled_streams-requires-clause-places : goal.settled_streams-requires-clause-places
 settled_streams-requires-clause-places g c κs within =
     subst (All IsStop) (sym c.as_slice-stops.ensures.value)
-    (stops-are-places c.args.connections.now c.args.found.now c.in_ok-stops.stops.items c.requires.prepared
-    c.requires.found c.in_ok-stops.ensures)
+    (stops-are-places c.args.credits_shown c.args.connections.now c.args.found.now c.in_ok-stops.stops.items
+    c.requires.prepared c.requires.found c.in_ok-stops.ensures)
 
 pub settled_streams-requires-clause-number : goal.settled_streams-requires-clause-number
 settled_streams-requires-clause-number g c κs within =
@@ -31,13 +31,14 @@ settled_streams-requires-clause-number g c κs within =
 pub settled_streams-requires-clause-ready : goal.settled_streams-requires-clause-ready
 settled_streams-requires-clause-ready g c κs within =
     subst (All IsReady) (sym c.as_slice-streams.ensures.value)
-    (ready-each c.args.connections.now c.in_ok-streams.streams.items c.requires.prepared c.in_ok-streams.ensures)
+    (ready-each c.args.credits_shown c.args.connections.now c.in_ok-streams.streams.items c.requires.prepared
+    c.in_ok-streams.ensures)
 
 pub settled_streams-requires-clause-few : goal.settled_streams-requires-clause-few
 settled_streams-requires-clause-few g c κs within =
     subst RowsAreFew (sym c.as_slice-streams.ensures.value)
-    (few-rows c.args.connections.now c.in_ok-streams.streams.items c.requires.prepared c.in_ok-streams.ensures
-    c.requires.few)
+    (few-rows c.args.credits_shown c.args.connections.now c.in_ok-streams.streams.items c.requires.prepared
+    c.in_ok-streams.ensures c.requires.few)
 
 pub returns : goal.returns
 returns g c =
