@@ -1,6 +1,5 @@
 pub mod PassOrder
 pub mod PassRows
-pub mod PassChanges
 pub mod OrderlyRest
 pub mod Meetings
 pub mod CreditLemmas

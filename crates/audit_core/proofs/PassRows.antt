@@ -1,6 +1,6 @@
--- The rows of the streams beside the state of the pass, and what is said at a frame.
-use Rattle.std.proofs.Common.{◌≡◌, ◌≢◌, ℕ, pos, ◌^◌, ◌<◌, ◌≤◌, ◌%◌, Bool, true, false, not, ◌==◌, ◌&&◌, ◌||◌, List, [], ◌∷◌, ◌++◌, length, map, filter, get_or, Option, is_none, refl, sym, ap, ◌∙◌, subst, append_assoc}
-use Rattle.std.specs.List.{All, flat_map, list_any}
+-- The rows and the changes that a pass keeps, beside its state, and what is said at a frame.
+use Rattle.std.proofs.Common.{◌≡◌, ◌≢◌, ℕ, pos, ◌^◌, ◌<◌, ◌≤◌, ◌%◌, Bool, true, false, not, ◌==◌, ◌&&◌, ◌||◌, List, [], ◌∷◌, ◌++◌, length, map, filter, get_or, Option, is_none, refl, sym, ap, ◌∙◌, subst, append_assoc, ◌+◌, if◌then◌else◌, Some, None, is_some, slice_get, drop, arith}
+use Rattle.std.specs.List.{All, flat_map, list_any, find}
 use Rattle.std.proofs.lemmas.List.Elements.{All-nil, All-cons}
 use Rattle.std.proofs.lemmas.Bool.{and_right}
 use Rattle.std.proofs.lemmas.Simd.{map-map}
@@ -17,17 +17,103 @@ use Rattle.audit_terms.specs.Sides.{side_of}
 use Rattle.audit_terms.specs.Frame.{is_ack, meets, promises}
 use Rattle.audit_terms.specs.Finding.{finding_at, in_order, say}
 use Rattle.audit_terms.specs.LocalFault.{local_said}
-use Rattle.audit_terms.specs.InForce.{change_of}
+use Rattle.audit_terms.specs.InForce.{change_of, InForce, in_force_after, change_taking, taken, settings_said}
 use Rattle.audit_terms.specs.Connection.{connection_said}
 use Rattle.audit_terms.specs.Life.{is_opening}
 use Rattle.audit_terms.specs.Stream.{idle_stream}
-use Rattle.audit_terms.specs.Pass.{PassState, full_from, next, said, streams_of, streams_said, item_of, opens_stream, first_of}
+use Rattle.audit_terms.specs.Pass.{PassState, full_from, next, said, streams_of, streams_said, item_of, opens_stream, first_of, step_of}
 use Rattle.audit_terms.proofs.Bounds.{room-wider}
 use Rattle.audit_core.specs.declared.rows.StreamRow.{StreamRow}
 use Rattle.audit_core.specs.code.StreamRows.{rows_in, idle_rows, row_opens, row_said, row_after, RowFits}
-use Rattle.audit_core.proofs.PassChanges.{settings_said-change}
 use Rattle.audit_core.proofs.PassOrder.{rows_of, AreStreams}
 use Rattle.audit_core.proofs.StreamsMet.{streams_met_lem}
+use Rattle.std.specs.Option.{option_to_list}
+use Rattle.audit_terms.specs.declared.settings.Settings.{Settings}
+use Rattle.audit_terms.specs.Side.{other}
+use Rattle.audit_terms.specs.runs.Changes.{changes_from}
+use Rattle.audit_terms.specs.runs.Orderly.{IsOrderlyFrom}
+use Rattle.audit_terms.specs.runs.Streams.{IsAcknowledged}
+use Rattle.audit_core.proofs.OrderlyRest.{drop-at}
+use Rattle.audit_core.proofs.StreamSteps.{ChangesFrom, changes-later, differ_test, differ_test_back, same_test}
+
+-- ---- the change of a frame, among all changes
+
+-- is it the change of this number?
+abbrev pub is_at : ℕ → Change → Bool
+is_at number change = change.number == number
+
+none-later : (number : ℕ) (changes : List Change) → ChangesFrom (number + 1) changes →
+    find (is_at number) changes ≡ None
+none-later number [] h = refl
+none-later number (change ∷ changes) h =
+    rw (differ_test_back number change.number (omega (arith, h.0))) (none-later number changes h.1)
+
+module _ (now : InForce) (frame : Frame) (later : List Frame) where
+  abbrev rest : List Change
+  rest = changes_from (in_force_after now frame) later
+
+  -- the change at the frame's number is what the frame brings
+  change-here : IsOrderlyFrom (frame.number + 1) later
+      → find (is_at frame.number) (changes_from now (frame ∷ later)) ≡ change_of now frame
+  change-here h = by_taken (taken now frame) where
+    by_taken : (o : Option Settings)
+        → find (is_at frame.number) (option_to_list (change_taking frame o) ++ rest) ≡ change_taking frame o
+    by_taken None =
+        none-later frame.number rest
+        (changes-later (frame.number + 1) (frame.number + 1) (in_force_after now frame) later (omega arith) h)
+    by_taken (Some settings) = rw (same_test frame.number) refl
+
+  -- a change past the frame is one of the later frames
+  pub change-past : (number : ℕ) → frame.number < number
+      → find (is_at number) (changes_from now (frame ∷ later)) ≡ find (is_at number) rest
+  change-past number h = by_taken (taken now frame) where
+    by_taken : (o : Option Settings)
+        → find (is_at number) (option_to_list (change_taking frame o) ++ rest) ≡ find (is_at number) rest
+    by_taken None = refl
+    by_taken (Some settings) = rw (differ_test frame.number number h) refl
+
+-- the same of a frame that was read at its position
+pub change-at : (now : InForce) (low : ℕ) (frames : List Frame) (i : ℕ) (frame : Frame) (changes : List Change)
+    → IsOrderlyFrom low (drop i frames) → frame ≡ get_or frames i frame → i < length frames
+    → ((number : ℕ) → low ≤ number
+    → find (is_at number) changes ≡ find (is_at number) (changes_from now (drop i frames)))
+    → find (is_at frame.number) changes ≡ change_of now frame
+change-at now low frames i frame changes orderly is within same =
+    let left = drop-at frames i frame is within in
+    let ahead : IsOrderlyFrom low (frame ∷ drop (i + 1) frames) = subst (IsOrderlyFrom low) left orderly in
+    same frame.number ahead.0
+    ∙ ap (λ l. find (is_at frame.number) (changes_from now l)) left
+    ∙ change-here now frame (drop (i + 1) frames) ahead.2
+
+-- what `is_none` answers
+pub none-test : (o : Option Change) (answer : Bool) → is_some o ≡ not answer → answer ≡ is_none o
+none-test None true e = refl
+none-test None false e = cc
+none-test (Some change) true e = cc
+none-test (Some change) false e = refl
+
+-- an acknowledgement that brings no change has taken nothing
+pub settings_said-change : (now : InForce) (frame : Frame) →
+    say (is_ack frame.body && is_none (change_of now frame))
+    (finding_at UnmatchedAck frame.number frame.stream frame.side (pos 0)) ≡ settings_said now frame
+settings_said-change now frame = by_taken (taken now frame) where
+  by_taken : (o : Option Settings) → say (is_ack frame.body && is_none (change_taking frame o))
+      (finding_at UnmatchedAck frame.number frame.stream frame.side (pos 0))
+      ≡ say (is_ack frame.body && is_none o) (finding_at UnmatchedAck frame.number frame.stream frame.side (pos 0))
+  by_taken None = refl
+  by_taken (Some settings) = refl
+
+-- a frame that brings a change is an acknowledgement
+pub step_of-acknowledged : (now : InForce) (frame : Frame) (stream : ℕ) → IsAcknowledged (step_of now frame stream)
+step_of-acknowledged now frame stream = λ change e one f.
+    by_tests (is_ack frame.body) refl (meets stream frame)
+    (slice_get (side_of (other frame.side) now.sent) (side_of frame.side now.paired)) change e one f where
+      by_tests : (ack : Bool) → is_ack frame.body ≡ ack → (met : Bool) (o : Option Settings) (change : Change)
+          → change_taking frame (if ack then o else None) ≡ Some change
+          → (one : Frame) → (if met then Some frame else None) ≡ Some one → is_ack one.body ≡ true
+      by_tests true a true o change e one f = let same : frame ≡ one = cc in cc
+      by_tests true a false o change e one f = cc
+      by_tests false a met o change e one f = cc
 
 -- ---- the rows before the first frame
 
@@ -97,7 +183,7 @@ module _ (state : PassState) (frame : Frame) where
   zero-unopened e =
       let even : (frame.stream % 2 == 1) ≡ false = ap (λ q. q % 2 == 1) (eqb-true frame.stream 0 e) in
       let own : promises frame.stream frame ≡ false =
-          rw (eq-eqb frame.stream frame.stream refl) (and_right _ false refl) in
+      rw (eq-eqb frame.stream frame.stream refl) (and_right _ false refl) in
       rw (even, own) (and_right _ false refl)
 
 -- the row of a frame's stream says whether the frame opens it

@@ -5,16 +5,12 @@ use borrow.Author.Tests.{eqb-true, eq-eqb}
 use Rattle.audit_terms.specs.declared.frames.Frame.{Frame}
 use Rattle.audit_terms.specs.Frame.{promised_in, promises, promised_by, meets}
 use Rattle.audit_terms.specs.Pass.{first_of, streams_of}
-use Rattle.audit_core.proofs.NamedStreams.{AreDistinct}
+use Rattle.audit_core.proofs.NamedStreams.{AreDistinct, or_assoc}
 use Rattle.audit_core.specs.ApartLaw.{EachPair}
 use Rattle.audit_core.specs.StreamsLaw.{StreamsAreThoseMet, StreamsAreNamedOnce}
 use Rattle.audit_core.proofs.Meetings.{and-false}
 use Rattle.audit_core.proofs.FrameRows.{all-differ}
 use Rattle.audit_core.proofs.Apart.{distinct-streams_of}
-
-or_assoc : (a b c : Bool) → ((a || b) || c) ≡ (a || (b || c))
-or_assoc true b c = refl
-or_assoc false b c = refl
 
 -- another stream is named still when this one is left out
 named-others : (stream left : ℕ) (streams : List ℕ) → (left == stream) ≡ false

@@ -19,8 +19,8 @@
 //! which parts may change places, so all findings split by machine; and a stream that has no frame and no change at a
 //! number says nothing there. From this the law on parts follows.
 //!
-//! Wrong bodies that the prover refuses: DATA on a reset stream that is not counted, initial windows that count at the
-//! frame that brings them into force, promised streams that are left out. Tested, in `crate_tests`: that `one_pass`
+//! Wrong bodies that the prover refuses: a change that counts before its acknowledgement, promised streams that are
+//! left out, a frame that does not meet the stream which it promises. Tested, in `crate_tests`: that `one_pass`
 //! succeeds where there is memory, and that the rounds show what it does of random frames.
 #![tactic(auto)]
 

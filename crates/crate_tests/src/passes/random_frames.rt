@@ -112,7 +112,7 @@ fn shows_the_pass(
 /// Each script twice, without credits and with them.
 pub fn random_frames(rt: &(impl Sync + Threads), alloc: Global) -> Answer {
     let mut state = 1;
-    for round in 0..200 {
+    for round in 0..120 {
         let frames = script(alloc, &mut state, round)?;
         for credits_shown in [false, true] {
             if !shows_the_pass(rt, alloc, &frames, credits_shown)? {

@@ -16,8 +16,7 @@ use Rattle.audit_terms.proofs.Bounds.{room-wider}
 use Rattle.audit_core.specs.code.StreamRows.{RowFits, row_opens}
 use Rattle.audit_core.proofs.OrderlyRest.{length-orderly, drop-at}
 use Rattle.audit_core.proofs.PassOrder.{streams-streams_of}
-use Rattle.audit_core.proofs.PassChanges.{is_at, change-at, change-past, none-test, step_of-acknowledged}
-use Rattle.audit_core.proofs.PassRows.{idle_rows-fit, fits-wider, opens-frame, same_item, rows-more, said-more, found-more}
+use Rattle.audit_core.proofs.PassRows.{is_at, change-at, change-past, none-test, step_of-acknowledged, idle_rows-fit, fits-wider, opens-frame, same_item, rows-more, said-more, found-more}
 use Rattle.audit_core.proofs.passes.one_pass.Goals.{then-is_ack, else-is_ack}
 use Rattle.audit_core.proofs.passes.one_pass.Goals as goal
 
@@ -58,10 +57,10 @@ meet_all-requires-clause-acknowledged c = λ stream change e.
     let old = c.loop-frame.invariant in
     let frame : Frame = c.frame-item.result in
     let brings : c.change_at-change.result ≡ change_of old.state.in_force frame =
-        c.change_at-change.ensures
-        ∙ ap (find (is_at frame.number)) c.deref.ensures.value
-        ∙ change-at old.state.in_force old.low c.args.frames.now c.loop-frame.frame-index frame _ old.orderly
-        c.frame-item.is c.loop-frame-test.true old.changes in
+    c.change_at-change.ensures
+    ∙ ap (find (is_at frame.number)) c.deref.ensures.value
+    ∙ change-at old.state.in_force old.low c.args.frames.now c.loop-frame.frame-index frame _ old.orderly
+    c.frame-item.is c.loop-frame-test.true old.changes in
     step_of-acknowledged old.state.in_force frame stream change (sym brings ∙ e)
 
 pub meet_all-requires-clause-fits : goal.meet_all-requires-clause-fits
@@ -82,31 +81,31 @@ loop-frame-preserved c =
     let bound = 2 ^ 17 + i * 2 ^ 32 in
     let left = drop-at frames i frame c.frame-item.is c.loop-frame-test.true in
     let ahead : IsOrderlyFrom old.low (frame ∷ drop (i + 1) frames) =
-        subst (IsOrderlyFrom old.low) left old.orderly in
+    subst (IsOrderlyFrom old.low) left old.orderly in
     let brings : c.change_at-change.result ≡ change_of state.in_force frame =
-        c.change_at-change.ensures
-        ∙ ap (find (is_at frame.number)) c.deref.ensures.value
-        ∙ change-at state.in_force old.low frames i frame _ old.orderly c.frame-item.is c.loop-frame-test.true
-        old.changes in
+    c.change_at-change.ensures
+    ∙ ap (find (is_at frame.number)) c.deref.ensures.value
+    ∙ change-at state.in_force old.low frames i frame _ old.orderly c.frame-item.is c.loop-frame-test.true
+    old.changes in
     let opens = c.opens.ensures
-        ∙ ap (list_any (row_opens frame)) (c.deref-in-loop-frame.ensures.value ∙ old.rows)
-        ∙ opens-frame state frames i frame c.frame-item.is c.loop-frame-test.true in
+    ∙ ap (list_any (row_opens frame)) (c.deref-in-loop-frame.ensures.value ∙ old.rows)
+    ∙ opens-frame state frames i frame c.frame-item.is c.loop-frame-test.true in
     let met : Item = record { frame = frame; opens = c.opens.result; change = c.change_at-change.result } in
     let item : met ≡ item_of state frame = same_item state frame (streams_of frames) _ _ opens brings in
     let unmatched : c.if-is_ack.say_if ≡ (is_ack frame.body && is_none c.change_at-change.result) =
-        elim c.if-is_ack.branch [
-          then-is_ack w ↦ w.say_if-is ∙ none-test c.change_at-change.result _ w.is_none.ensures
-              ∙ sym (ap (λ b. b && is_none c.change_at-change.result) (sym c.is_ack.ensures ∙ w.if-is_ack.true))
-        | else-is_ack w ↦ w.say_if-is ∙ w.if-is_ack.false
-              ∙ sym (ap (λ b. b && is_none c.change_at-change.result) (sym c.is_ack.ensures ∙ w.if-is_ack.false))
-        ] in
+    elim c.if-is_ack.branch [
+      | then-is_ack w ↦ w.say_if-is ∙ none-test c.change_at-change.result _ w.is_none.ensures
+          ∙ sym (ap (λ b. b && is_none c.change_at-change.result) (sym c.is_ack.ensures ∙ w.if-is_ack.true))
+      | else-is_ack w ↦ w.say_if-is ∙ w.if-is_ack.false
+          ∙ sym (ap (λ b. b && is_none c.change_at-change.result) (sym c.is_ack.ensures ∙ w.if-is_ack.false))
+    ] in
     let rows = c.deref-in-loop-frame-2.ensures.value ∙ old.rows in
     let said = said-more state frame (streams_of frames) _ _ _ _ _ _ _ _ _
-        (rw old.previous at c.of.ensures)
-        old.initial old.connection item rows
-        (rw c.new-said.ensures.items at c.in_ok-say_local.ensures)
-        (rw (unmatched, c.at-ack.ensures) at c.in_ok-say_if.ensures.ok)
-        c.in_ok-meet.ensures.said c.in_ok-rows-2.ensures.said in
+    (rw old.previous at c.of.ensures)
+    old.initial old.connection item rows
+    (rw c.new-said.ensures.items at c.in_ok-say_local.ensures)
+    (rw (unmatched, c.at-ack.ensures) at c.in_ok-say_if.ensures.ok)
+    c.in_ok-meet.ensures.said c.in_ok-rows-2.ensures.said in
     record {
       state = next state frame;
       low = frame.number + 1;

@@ -5,7 +5,7 @@ use Rattle.audit_terms.specs.runs.Changes.{changes_from}
 use Rattle.audit_terms.specs.runs.Orderly.{IsOrderlyFrom}
 use Rattle.audit_terms.specs.Pass.{PassState, full, full_from, streams_of}
 use Rattle.audit_core.specs.code.StreamRows.{RowFits, rows_in}
-use Rattle.audit_core.proofs.PassChanges.{is_at}
+use Rattle.audit_core.proofs.PassRows.{is_at}
 use Rattle.audit_core.proofs.passes.one_pass.Given as goal
 
 abbrev pub invariant-loop-frame : goal.invariant-loop-frame

@@ -11,7 +11,8 @@ use Rattle.audit_core.specs.declared.rows.StreamRow.{StreamRow}
 use Rattle.audit_core.specs.code.StreamRows.{RowFits, row_said, row_after}
 use Rattle.audit_core.proofs.rows.meet_all.Goals as goal
 
-module _ (initial : Sides ℕ) (item : Item) (rows : List StreamRow) (i : ℕ) (d : StreamRow) (within : i < length rows) where
+module _ (initial : Sides ℕ) (item : Item) (rows : List StreamRow) (i : ℕ) (d : StreamRow)
+    (within : i < length rows) where
   said-more : (start old new : List Finding) → new ≡ old ++ row_said initial item (get_or rows i d)
       → old ≡ start ++ flat_map (row_said initial item) (take i rows)
       → new ≡ start ++ flat_map (row_said initial item) (take (i + 1) rows)
