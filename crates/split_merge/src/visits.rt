@@ -7,6 +7,7 @@ ghost use Rattle.audit_terms.specs.runs.Orderly.{IsOrderly};
 ghost use Rattle.settings_pair.specs.Changes.{AreOrderly, AreAcknowledged};
 ghost use Rattle.stream_credit.specs.code.QuietStream.{IsAheadIfQuiet};
 ghost use Rattle.split_merge.specs.code.Visits.{HasAtMost, IsIndex, IsTableOf, NotAmong, counted, noted, notes_from, streams_in, with_row, with_stream};
+ghost use Rattle.split_merge.specs.code.Loud.{IsKept};
 ghost use Rattle.split_merge.specs.code.Ahead.{AreAhead, AreHushed, IsEnd, IsHushed, IsNext, with_next};
 
 use crate::splits::StreamRow;
@@ -161,6 +162,26 @@ impl Visits {
         self.quiets.push(unmet(credits_shown))?;
         Ok(row as u32)
     }
+
+    /// The index of a stream's row, if it has one.
+    pub fn known_row(&mut self, stream: u32) -> Option<u32>
+        requires index { IsIndex (streams_in self.old.rows.items) self.old.index }
+        requires room { length self.old.rows.items < 2 ^ 31 }
+        ensures row { MatchOption result (NotAmong stream (streams_in self.old.rows.items))
+            (λ row. slice_get (streams_in self.old.rows.items) row ≡ Some stream) }
+        ensures kept { IsKept self.old self.new }
+    {
+        if stream == 0 {
+            return None;
+        }
+        let hint = hint_of(self.hints.as_slice(), self.last, stream);
+        if is_row_of(self.rows.as_slice(), hint, stream) {
+            return Some(hint);
+        }
+        let (row, _) = self.index.get_full(&stream)?;
+        remember(&mut self.hints, stream, row as u32);
+        Some(row as u32)
+    }
 }
 
 /// A stream that no frame has met, and that is not quiet where credits are shown.
@@ -201,30 +222,6 @@ fn end(quiet: &mut QuietStream, stream: u32, credits_shown: bool, changes: &Chan
     if credits_shown {
         quiet.is_quiet = false;
     }
-}
-
-/// The index of a stream's row, if it has one.
-pub fn known_row(
-    rows: &[StreamRow],
-    index: &IndexSet<u32, TableHash>,
-    hints: &mut Vec<u32>,
-    stream: u32,
-) -> Option<u32>
-    requires index { IsIndex (streams_in rows.now) index.now }
-    requires room { length rows.now < 2 ^ 31 }
-    ensures { MatchOption result (NotAmong stream (streams_in rows.now))
-        (λ row. slice_get (streams_in rows.now) row ≡ Some stream) }
-{
-    if stream == 0 {
-        return None;
-    }
-    let hint = hint_of(hints.as_slice(), 0, stream);
-    if is_row_of(rows, hint, stream) {
-        return Some(hint);
-    }
-    let (row, _) = index.get_full(&stream)?;
-    remember(hints, stream, row as u32);
-    Some(row as u32)
 }
 
 /// Room for rows to be remembered: none, where there are few frames.
