@@ -8,7 +8,7 @@ ghost use Rattle.settings_pair.specs.Changes.{AreOrderly, AreAcknowledged};
 ghost use Rattle.stream_credit.specs.code.QuietStream.{IsAheadIfQuiet};
 ghost use Rattle.split_merge.specs.code.Visits.{HasAtMost, IsIndex, IsTableOf, NotAmong, counted, noted, notes_from, streams_in, with_row, with_stream};
 ghost use Rattle.split_merge.specs.code.Loud.{IsKept};
-ghost use Rattle.split_merge.specs.code.Ahead.{AreAhead, AreHushed, IsEnd, IsHushed, IsNext, with_next};
+ghost use Rattle.split_merge.specs.code.Ahead.{AreAhead, AreHushed, IsEnd, IsHushed, MeetsNext, with_next};
 
 use crate::splits::StreamRow;
 use audit_terms::{Finding, Frame};
@@ -94,7 +94,7 @@ impl Visits {
         requires index { IsIndex (streams_in self.old.rows.items) self.old.index }
         requires room { HasAtMost (2 ^ 30) self.old }
         requires streamed { stream < 2 ^ 31 }
-        requires next { IsNext stream changes.now frame.now (streams_in self.old.rows.items) self.old.quiets.items }
+        requires next { MeetsNext stream changes.now frame.now (streams_in self.old.rows.items) self.old.quiets.items }
         ensures named { OnOk result (streams_in self.new.rows.items
             ≡ with_stream stream (streams_in self.old.rows.items)) }
         ensures table { OnOk result ((notes : List (ℕ × ℕ)) (position : ℕ) → IsTableOf notes self.old
@@ -233,13 +233,13 @@ fn hints_for(alloc: Global, frames: usize) -> Result<Vec<u32>, AllocError> {
 }
 
 /// Where the row of a stream is remembered.
-fn place_of(stream: u32) -> usize {
+fn hint_place(stream: u32) -> usize {
     (stream / 2) as usize % HINTS
 }
 
 /// The row that is remembered where that of a stream would be, or else the one that was visited last.
 fn hint_of(hints: &[u32], last: u32, stream: u32) -> u32 {
-    match hints.get(place_of(stream)) {
+    match hints.get(hint_place(stream)) {
         Some(row) => *row,
         None => last,
     }
@@ -247,7 +247,7 @@ fn hint_of(hints: &[u32], last: u32, stream: u32) -> u32 {
 
 /// Remembers the row of a stream.
 fn remember(hints: &mut [u32], stream: u32, row: u32) {
-    if let Some(hint) = hints.get_mut(place_of(stream)) {
+    if let Some(hint) = hints.get_mut(hint_place(stream)) {
         *hint = row;
     }
 }
