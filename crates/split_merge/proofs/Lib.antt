@@ -9,7 +9,7 @@ pub mod NamedStreams
 pub mod Visited
 pub mod Positions
 pub mod LaidOut
-pub mod Noted
+pub mod Placed
 pub mod Ahead
 pub mod LoudStreams
 pub mod SplitIs

@@ -1,17 +1,14 @@
--- The loud streams among all: which they are, where they stand, what they count, and what visits note of them.
+-- The loud streams among all: which they are, where they stand, what they count, and what is noted of them.
 use Rattle.std.proofs.Common.{◌≡◌, ◌≢◌, ℕ, zero, suc, ◌+◌, ◌<◌, ◌≤◌, ◌==◌, not, Bool, true, false, if◌then◌else◌, List, [], ◌∷◌, ◌++◌, length, get_or, slice_get, drop, filter, flat_map, Option, Some, None, MatchOption, option_to_list, refl, sym, ap, ◌∙◌, subst, arith, true≢false, append_assoc}
 use Rattle.std.proofs.lemmas.List.{drop_more, length-append}
 use borrow.Author.Tests.{eqb-true, eq-eqb}
 use Rattle.stream_credit.specs.declared.quiet_streams.QuietStream.{QuietStream}
 use Rattle.stream_credit.specs.code.QuietStream.{opened_of}
 use Rattle.split_merge.specs.declared.splits.StreamRow.{StreamRow}
-use Rattle.split_merge.specs.declared.loud.Visit.{Visit}
-use Rattle.split_merge.specs.code.Visits.{streams_in, noted, notes_of, noted_positions, total_of, is_among, NotAmong, AreDistinct}
-use Rattle.split_merge.specs.code.Loud.{loud_of, places_from, opened_in, quiet_in, ArePlaces, visit_of, AreVisits}
-use Rattle.split_merge.proofs.NamedStreams.{none_among}
-use Rattle.split_merge.proofs.Visited.{append-none, noted_positions-append, noted_positions-one, where_so, noted-one, get-from_slice_get, within-from_slice_get, not_among-at}
-use Rattle.split_merge.proofs.Noted.{known-visit, notes-visit}
-use Rattle.split_merge.proofs.Ahead.{above-at}
+use Rattle.split_merge.specs.code.Visits.{streams_in, noted, noted_positions, total_of, is_among, NotAmong, AreDistinct}
+use Rattle.split_merge.specs.code.Loud.{loud_of, places_from, opened_in, quiet_in, ArePlaces, heard}
+use Rattle.split_merge.proofs.NamedStreams.{none_among, found_among}
+use Rattle.split_merge.proofs.Visited.{noted-one, get-from_slice_get, within-from_slice_get, not_among-at}
 
 -- ---- what holds of all holds of the loud ones
 
@@ -265,63 +262,29 @@ are-places xs quiets n h above = record {
   found = λ r s d is. places-at xs quiets n h [] 0 refl r s d is;
 }
 
--- ---- what visits note of them
+-- ---- what was noted of them
 
-pub no-visits : (loud : List ℕ) → AreVisits loud [] []
-no-visits loud = record {
-  known = λ k d l. absurd (omega (arith, l));
-  told = λ s among. refl;
-}
+pub heard-positions : (loud : List ℕ) (s : ℕ) (notes : List (ℕ × ℕ)) → is_among s loud ≡ true →
+    noted_positions s (heard loud notes) ≡ noted_positions s notes
+heard-positions loud s [] among = refl
+heard-positions loud s (n ∷ notes) among = by_tests _ _ refl refl (heard-positions loud s notes among) where
+  by_tests : (a b : Bool) → is_among n.0 loud ≡ a → (n.0 == s) ≡ b →
+      noted_positions s (heard loud notes) ≡ noted_positions s notes →
+      noted_positions s (heard loud (n ∷ notes)) ≡ noted_positions s (n ∷ notes)
+  by_tests true true e f ih = rw (e, f) (ap (λ l. n.1 ∷ l) ih)
+  by_tests true false e f ih = rw (e, f) ih
+  by_tests false true e f ih =
+      absurd (true≢false (sym among ∙ ap (λ q. is_among q loud) (sym (eqb-true n.0 s f)) ∙ e))
+  by_tests false false e f ih = rw (e, f) ih
 
-pub none-visits : (loud : List ℕ) (notes : List (ℕ × ℕ)) → loud ≡ [] → AreVisits loud notes []
-none-visits loud notes e = record {
-  known = λ k d l. absurd (omega (arith, l));
-  told = λ s among. let f : is_among s loud ≡ false = ap (is_among s) e in absurd (true≢false (sym among ∙ f));
-}
+-- of one note
+pub heard-none : (loud : List ℕ) (stream position : ℕ) → NotAmong stream loud → heard loud (noted stream position) ≡ []
+heard-none loud stream position out = by_zero _ refl where
+  by_zero : (b : Bool) → (stream == 0) ≡ b → heard loud (noted stream position) ≡ []
+  by_zero true e = rw e refl
+  by_zero false e = rw (e, none_among stream loud out) refl
 
-module _ (loud : List ℕ) (above : NotAmong 0 loud) (notes : List (ℕ × ℕ)) (visits : List Visit) (h : AreVisits loud notes visits)
-    (stream position : ℕ) where
-  -- a loud stream is noted, or one that is not
-  apart-note : NotAmong stream loud → (s : ℕ) → is_among s loud ≡ true → noted_positions s (noted stream position) ≡ []
-  apart-note out s among = by_zero _ refl where
-    apart : (stream == s) ≡ false
-    apart = by_test _ refl where
-      by_test : (b : Bool) → (stream == s) ≡ b → (stream == s) ≡ false
-      by_test true e =
-          absurd (true≢false (sym among ∙ ap (λ q. is_among q loud) (sym (eqb-true stream s e)) ∙ none_among stream loud out))
-      by_test false e = e
-
-    by_zero : (b : Bool) → (stream == 0) ≡ b → noted_positions s (noted stream position) ≡ []
-    by_zero true e = rw e refl
-    by_zero false e =
-        let one : noted stream position ≡ (stream, position) ∷ [] = rw e refl in
-        ap (noted_positions s) one ∙ noted_positions-one s stream position ∙ ap (λ b. where_so b position) apart
-
-  one-missed : NotAmong stream loud → AreVisits loud (notes ++ noted stream position) (visits ++ [])
-  one-missed out =
-      subst (AreVisits loud (notes ++ noted stream position)) (sym (append-none visits)) record {
-        known = h.known;
-        told = λ s among.
-            h.told s among ∙ sym (noted_positions-append s notes (noted stream position)
-            ∙ ap (λ l. noted_positions s notes ++ l) (apart-note out s among) ∙ append-none (noted_positions s notes));
-      }
-
-  one-visit : (row : ℕ) → slice_get loud row ≡ Some stream →
-      AreVisits loud (notes ++ noted stream position) (visits ++ record { row = row; position = position } ∷ [])
-  one-visit row at =
-      let visit : Visit = record { row = row; position = position } in
-      let one = noted-one stream position (above-at loud row stream above at) in
-      record {
-        known = known-visit loud visits h.known visit stream at;
-        told = λ s among.
-            ap (noted_positions s) (notes-visit loud visits h.known visit stream at)
-            ∙ noted_positions-append s (notes_of loud visits) ((stream, position) ∷ [])
-            ∙ ap (λ l. l ++ noted_positions s ((stream, position) ∷ [])) (h.told s among)
-            ∙ sym (noted_positions-append s notes ((stream, position) ∷ []))
-            ∙ ap (λ l. noted_positions s (notes ++ l)) (sym one);
-      }
-
-  pub visits-more : (o : Option ℕ) → MatchOption o (NotAmong stream loud) (λ row. slice_get loud row ≡ Some stream) →
-      AreVisits loud (notes ++ noted stream position) (visits ++ visit_of o position)
-  visits-more None out = one-missed out
-  visits-more (Some row) at = one-visit row at
+pub heard-one : (loud : List ℕ) (stream position row : ℕ) → stream ≢ 0 → slice_get loud row ≡ Some stream →
+    heard loud (noted stream position) ≡ (stream, position) ∷ []
+heard-one loud stream position row above at =
+    ap (heard loud) (noted-one stream position above) ∙ rw (found_among stream loud row at) refl

@@ -10,16 +10,15 @@ use Rattle.audit_terms.specs.runs.Streams.{frames_of, stream_run}
 use Rattle.stream_credit.specs.declared.quiet_streams.QuietStream.{QuietStream}
 use Rattle.split_merge.specs.declared.splits.StreamRow.{StreamRow}
 use Rattle.split_merge.specs.declared.splits.SplitFrames.{SplitFrames}
-use Rattle.split_merge.specs.declared.loud.Visit.{Visit}
 use Rattle.split_merge.specs.Split.{positions_of, IsRange, IsPartOf, IsSplit, part_of, opening_of}
-use Rattle.split_merge.specs.code.Visits.{streams_in, notes_from, notes_of, noted_positions, total_of, laid_out, is_among, NotAmong, AreDistinct, IsListed, HasRoomFor}
+use Rattle.split_merge.specs.code.Visits.{streams_in, notes_from, noted_positions, total_of, laid_out, is_among, NotAmong, AreDistinct, IsListed, HasRoomFor}
 use Rattle.split_merge.specs.code.Ahead.{AreHushed}
-use Rattle.split_merge.specs.code.Loud.{loud_of, opened_in, quiet_in, AreVisits, AreCounted, IsLaid}
+use Rattle.split_merge.specs.code.Loud.{loud_of, opened_in, quiet_in, heard, AreCounted, IsLaid}
 use Rattle.split_merge.proofs.NamedStreams.{length-streams_in, found_among}
 use Rattle.split_merge.proofs.Visited.{not_among-at, get-from_slice_get}
 use Rattle.split_merge.proofs.Positions.{noted-positions, frames_at-positions, positions-within}
 use Rattle.split_merge.proofs.LaidOut.{laid-streams, room-laid, filled-streams}
-use Rattle.split_merge.proofs.LoudStreams.{loud-streams, loud-not_among, loud-each, loud-filter, opened-filter, quiet_in-at}
+use Rattle.split_merge.proofs.LoudStreams.{loud-streams, loud-not_among, loud-each, loud-filter, opened-filter, quiet_in-at, heard-positions}
 
 stream-at : (rows : List StreamRow) (k : ℕ) (d : StreamRow) → k < length rows → get_or (streams_in rows) k 0 ≡ (get_or rows k d).stream
 stream-at rows k d l = get_or-map (λ (row : StreamRow). row.stream) rows k d 0 l
@@ -35,34 +34,33 @@ among-at rows k l =
     let n = length-streams_in rows in
     found_among (get_or (streams_in rows) k 0) (streams_in rows) k (slice_get-get_or (streams_in rows) k 0 (omega (arith, l, n)))
 
-module _ (frames : List Frame) (rows : List StreamRow) (quiets : List QuietStream) (visits : List Visit)
-    (listed : IsListed (notes_from 0 frames) rows)
-    (met : AreVisits (streams_in (loud_of rows quiets)) (notes_from 0 frames) visits) where
+module _ (frames : List Frame) (rows : List StreamRow) (quiets : List QuietStream)
+    (listed : IsListed (notes_from 0 frames) rows) where
   -- the loud rows count their own visits
-  pub loud-counted : AreCounted (loud_of rows quiets) (notes_of (streams_in (loud_of rows quiets)) visits)
+  pub loud-counted : AreCounted (loud_of rows quiets) (heard (streams_in (loud_of rows quiets)) (notes_from 0 frames))
   loud-counted = record {
     counts = λ r d l.
         loud-each (λ row. row.to ≡ length (noted_positions row.stream (notes_from 0 frames))) rows quiets
         (λ k e m. listed.counts k e m ∙ ap (λ s. length (noted_positions s (notes_from 0 frames))) (stream-at rows k e m)) r d l
         ∙ ap (λ s. length (noted_positions s (notes_from 0 frames))) (sym (stream-at (loud_of rows quiets) r d l))
-        ∙ ap length (sym (met.told (get_or (streams_in (loud_of rows quiets)) r 0) (among-at (loud_of rows quiets) r l)));
+        ∙ ap length (sym (heard-positions (streams_in (loud_of rows quiets)) (get_or (streams_in (loud_of rows quiets)) r 0) (notes_from 0 frames) (among-at (loud_of rows quiets) r l)));
   }
 
 module _ (credits_shown : Bool) (changes : List Change) (frames : List Frame) (rows : List StreamRow) (quiets : List QuietStream)
-    (visits : List Visit) (split : SplitFrames)
+    (split : SplitFrames)
     (streams : streams_in rows ≡ streams_of frames) (listed : IsListed (notes_from 0 frames) rows)
     (distinct : AreDistinct (streams_in rows)) (above : NotAmong 0 (streams_in rows))
     (hushed : AreHushed credits_shown changes frames (streams_in rows) quiets)
-    (met : AreVisits (streams_in (loud_of rows quiets)) (notes_from 0 frames) visits)
-    (laid : IsLaid (loud_of rows quiets) (opened_in quiets) visits split) where
+    (laid : IsLaid (loud_of rows quiets) (opened_in quiets)
+    (heard (streams_in (loud_of rows quiets)) (notes_from 0 frames)) split) where
   abbrev loud : List StreamRow
   loud = loud_of rows quiets
 
   abbrev notes : List (ℕ × ℕ)
-  notes = notes_of (streams_in (loud_of rows quiets)) visits
+  notes = heard (streams_in (loud_of rows quiets)) (notes_from 0 frames)
 
-  room : HasRoomFor (laid_out 0 (loud_of rows quiets)) (notes_of (streams_in (loud_of rows quiets)) visits) (total_of (loud_of rows quiets))
-  room = room-laid loud notes (loud-counted frames rows quiets visits listed met).counts
+  room : HasRoomFor (laid_out 0 (loud_of rows quiets)) (heard (streams_in (loud_of rows quiets)) (notes_from 0 frames)) (total_of (loud_of rows quiets))
+  room = room-laid loud notes (loud-counted frames rows quiets listed).counts
 
   same-streams : streams_in split.rows.items ≡ streams_in (loud_of rows quiets)
   same-streams = filled-streams (laid_out 0 loud) split.rows.items notes split.positions.items laid.filled ∙ laid-streams 0 loud
@@ -101,7 +99,7 @@ module _ (credits_shown : Bool) (changes : List Change) (frames : List Frame) (r
       let m : k < length (laid_out 0 (loud_of rows quiets)) = omega (arith, l, laid.filled.long) in
       ap (part_of split) (laid.filled.ranges k d m) ∙ laid.filled.filled k d m
       ∙ ap (λ l. noted_positions (get_or l k 0) notes) (laid-streams 0 loud)
-      ∙ met.told (get_or (streams_in loud) k 0) (among-at loud k (within-loud k l))
+      ∙ heard-positions (streams_in loud) (get_or (streams_in loud) k 0) (notes_from 0 frames) (among-at loud k (within-loud k l))
       ∙ noted-positions (get_or (streams_in loud) k 0) (stream-above k l) 0 frames
       ∙ ap (λ s. positions_of s frames) (sym (row-stream k d l))
 

@@ -1,4 +1,5 @@
--- Worked examples: frames by stream, streams that are quiet, groups of what there is, and what a merge of findings ends with.
+-- Worked examples: frames by stream, streams that are quiet, groups of what there is, what a merge of findings ends
+-- with.
 use Rattle.std.specs.Prelude.{◌≡◌, ℕ, ◌*◌, pos, true, false, List, [], ◌∷◌, ◌++◌}
 use Rattle.audit_terms.specs.declared.sides.Side.{Side}
 use Rattle.audit_terms.specs.declared.sides.Side.TheVariants.{Client, Server}

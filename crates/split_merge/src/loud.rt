@@ -1,25 +1,13 @@
 //! The streams of which something may be shown, apart from the quiet ones: the loud ones.
 
-ghost use Rattle.std.specs.Prelude.{◌≡◌, ℕ, ◌^◌, ◌<◌, ◌++◌, ◌∷◌, [], IfOk, MatchOption, OnOk, Some, length, slice_get};
-ghost use Rattle.split_merge.specs.code.Visits.{IsIndex, NotAmong, notes_from, streams_in};
-ghost use Rattle.split_merge.specs.code.Loud.{ArePlaces, AreVisits, loud_of, opened_in, places_from, visit_of};
+ghost use Rattle.std.specs.Prelude.{◌≡◌, ℕ, ◌^◌, ◌<◌, ◌++◌, ◌∷◌, [], List, IfOk, MatchOption, OnOk, Some, length, slice_get};
+ghost use Rattle.split_merge.specs.code.Visits.{IsIndex, NotAmong, streams_in};
+ghost use Rattle.split_merge.specs.code.Loud.{ArePlaces, IsKept, loud_of, opened_in, places_from};
 
 use crate::splits::StreamRow;
-use crate::visits::known_row;
-use audit_terms::Frame;
-use indexmap::IndexSet;
+use crate::visits::Visits;
 use std::alloc::{AllocError, Global};
 use stream_credit::QuietStream;
-use table_hash::TableHash;
-
-/// A frame that a loud stream meets.
-#[derive(Clone, Copy)]
-pub struct Visit {
-    /// The index of the stream's row.
-    pub row: u32,
-    /// Where the frame stands in the list of all frames.
-    pub position: u32,
-}
 
 /// The loud streams among all of a table.
 #[derive(Drop)]
@@ -75,63 +63,17 @@ impl Loud {
         }
         Ok(())
     }
-
-    /// The visits of the loud streams, in order of frames. Where there is none, no frame is looked at.
-    pub fn visits(
-        &self,
-        alloc: Global,
-        rows: &[StreamRow],
-        index: &IndexSet<u32, TableHash>,
-        hints: &mut Vec<u32>,
-        frames: &[Frame],
-    ) -> Result<Vec<Visit>, AllocError>
-        requires length { length frames.now < 2 ^ 28 }
-        requires index { IsIndex (streams_in rows.now) index.now }
-        requires room { length rows.now < 2 ^ 31 }
-        requires places { ArePlaces (streams_in rows.now) self.now.places.items (streams_in self.now.rows.items) }
-        ensures { IfOk result (λ visits.
-            AreVisits (streams_in self.now.rows.items) (notes_from 0 frames.now) visits.items) }
-    {
-        if self.rows.is_empty() {
-            return Ok(Vec::new(alloc));
-        }
-        let mut visits = Vec::with_capacity(alloc, frames.len())?;
-        let mut position = 0;
-        for frame in frames {
-            let own = self.place_of(rows, index, hints, frame.stream);
-            push(&mut visits, own, position)?;
-            let promised = self.place_of(rows, index, hints, frame.promised_by());
-            push(&mut visits, promised, position)?;
-            position += 1;
-        }
-        Ok(visits)
-    }
-
-    /// The index of a stream's row, if it is loud.
-    fn place_of(
-        &self,
-        rows: &[StreamRow],
-        index: &IndexSet<u32, TableHash>,
-        hints: &mut Vec<u32>,
-        stream: u32,
-    ) -> Option<u32>
-        requires index { IsIndex (streams_in rows.now) index.now }
-        requires room { length rows.now < 2 ^ 31 }
-        requires places { ArePlaces (streams_in rows.now) self.now.places.items (streams_in self.now.rows.items) }
-        ensures { MatchOption result (NotAmong stream (streams_in self.now.rows.items))
-            (λ row. slice_get (streams_in self.now.rows.items) row ≡ Some stream) }
-    {
-        let row = known_row(rows, index, hints, stream)?;
-        self.places[row as usize]
-    }
 }
 
-/// Adds a visit, if the stream is loud.
-fn push(visits: &mut Vec<Visit>, row: Option<u32>, position: u32) -> Result<(), AllocError>
-    ensures { OnOk result (visits.new.items ≡ visits.old.items ++ visit_of row position) }
+/// The index of a stream's row among those of the loud ones, if it is one of them.
+pub fn place_of(table: &mut Visits, places: &[Option<u32>], stream: u32) -> Option<u32>
+    requires index { IsIndex (streams_in table.old.rows.items) table.old.index }
+    requires room { length table.old.rows.items < 2 ^ 31 }
+    requires long { length places.now ≡ length table.old.rows.items }
+    ensures place { (loud : List ℕ) → ArePlaces (streams_in table.old.rows.items) places.now loud
+        → MatchOption result (NotAmong stream loud) (λ row. slice_get loud row ≡ Some stream) }
+    ensures kept { IsKept table.old table.new }
 {
-    if let Some(row) = row {
-        visits.push(Visit { row, position })?;
-    }
-    Ok(())
+    let row = table.known_row(stream)?;
+    places[row as usize]
 }

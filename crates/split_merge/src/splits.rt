@@ -2,10 +2,10 @@ ghost use Rattle.std.specs.Prelude.{◌≡◌, ◌^◌, ◌<◌, IfOk, length, s
 ghost use Rattle.audit_terms.specs.runs.Orderly.{IsOrderly};
 ghost use Rattle.settings_pair.specs.Changes.{AreOrderly, AreAcknowledged};
 ghost use Rattle.split_merge.specs.Split.{IsRange, IsSplit, part_of};
-ghost use Rattle.split_merge.specs.code.Loud.{AreCounted, IsLaid};
-ghost use Rattle.split_merge.specs.code.Visits.{AreDistinct, AreOfRows, HasRoomFor, IsFilled, NotAmong, counted, laid_out, notes_of, streams_in, total_of};
+ghost use Rattle.split_merge.specs.code.Loud.{AreCounted, ArePlaces, HasPlace, IsLaid, IsPut, heard};
+ghost use Rattle.split_merge.specs.code.Visits.{AreDistinct, HasRoomFor, IsFilled, IsIndex, counted, laid_out, notes_from, streams_in, total_of};
 
-use crate::loud::{Loud, Visit};
+use crate::loud::{Loud, place_of};
 use crate::visits::{Visits, finish};
 use audit_terms::Frame;
 use std::alloc::{AllocError, Global};
@@ -64,28 +64,36 @@ pub fn split(
         changes,
     );
     let loud = Loud::of(alloc, table.rows.as_slice(), table.quiets.as_slice())?;
-    let visits = loud.visits(
-        alloc,
-        table.rows.as_slice(),
-        &table.index,
-        &mut table.hints,
-        frames,
-    )?;
-    laid(alloc, loud, visits.as_slice())
+    laid(alloc, loud, &mut table, frames)
 }
 
-/// The rows of the loud streams, with the positions that they visit.
-fn laid(alloc: Global, loud: Loud, visits: &[Visit]) -> Result<SplitFrames, AllocError>
-    requires total { total_of loud.rows.items < 2 ^ 32 }
-    requires counts { AreCounted loud.rows.items (notes_of (streams_in loud.rows.items) visits.now) }
+/// The rows of the loud streams, with the positions of the frames that they meet.
+fn laid(
+    alloc: Global,
+    loud: Loud,
+    table: &mut Visits,
+    frames: &[Frame],
+) -> Result<SplitFrames, AllocError>
+    requires length { length frames.now < 2 ^ 28 }
+    requires index { IsIndex (streams_in table.old.rows.items) table.old.index }
+    requires room { length table.old.rows.items < 2 ^ 31 }
+    requires places { ArePlaces (streams_in table.old.rows.items) loud.places.items (streams_in loud.rows.items) }
     requires distinct { AreDistinct (streams_in loud.rows.items) }
-    requires above { NotAmong 0 (streams_in loud.rows.items) }
-    requires known { AreOfRows (streams_in loud.rows.items) visits.now }
-    ensures { IfOk result (IsLaid loud.rows.items loud.opened.items visits.now) }
+    requires total { total_of loud.rows.items < 2 ^ 32 }
+    requires counts { AreCounted loud.rows.items (heard (streams_in loud.rows.items) (notes_from 0 frames.now)) }
+    ensures { IfOk result (IsLaid loud.rows.items loud.opened.items
+        (heard (streams_in loud.rows.items) (notes_from 0 frames.now))) }
 {
     let mut rows = loud.rows;
     let total = lay_out(&mut rows);
-    let positions = place(alloc, &mut rows, visits, total)?;
+    let positions = place(
+        alloc,
+        &mut rows,
+        loud.places.as_slice(),
+        table,
+        frames,
+        total,
+    )?;
     Ok(SplitFrames {
         rows,
         positions,
@@ -110,30 +118,49 @@ fn lay_out(rows: &mut [StreamRow]) -> u32
 }
 
 /// The positions of the frames that the streams of the rows meet, each at the end of its row's range, which grows by
-/// it.
+/// it. Where there is no row, no frame is looked at.
 fn place(
     alloc: Global,
     rows: &mut [StreamRow],
-    visits: &[Visit],
+    places: &[Option<u32>],
+    table: &mut Visits,
+    frames: &[Frame],
     total: u32,
 ) -> Result<Vec<u32>, AllocError>
+    requires length { length frames.now < 2 ^ 28 }
+    requires index { IsIndex (streams_in table.old.rows.items) table.old.index }
+    requires room { length table.old.rows.items < 2 ^ 31 }
+    requires places { ArePlaces (streams_in table.old.rows.items) places.now (streams_in rows.old) }
     requires distinct { AreDistinct (streams_in rows.old) }
-    requires above { NotAmong 0 (streams_in rows.old) }
-    requires known { AreOfRows (streams_in rows.old) visits.now }
-    requires room { HasRoomFor rows.old (notes_of (streams_in rows.old) visits.now) total }
+    requires room_for { HasRoomFor rows.old (heard (streams_in rows.old) (notes_from 0 frames.now)) total }
     ensures long { IfOk result (λ positions. length positions.items ≡ total) }
     ensures filled { IfOk result (λ positions.
-        IsFilled rows.old (notes_of (streams_in rows.old) visits.now) rows.new positions.items) }
+        IsFilled rows.old (heard (streams_in rows.old) (notes_from 0 frames.now)) rows.new positions.items) }
 {
     let mut positions = vec![in alloc; 0; total as usize]?;
-    for visit in visits {
-        put(
-            &mut positions,
-            &mut rows[visit.row as usize],
-            visit.position,
-        );
+    if rows.is_empty() {
+        return Ok(positions);
+    }
+    let mut position = 0;
+    for frame in frames {
+        let own = place_of(table, places, frame.stream);
+        put_visit(&mut positions, rows, own, position);
+        let promised = place_of(table, places, frame.promised_by());
+        put_visit(&mut positions, rows, promised, position);
+        position += 1;
     }
     Ok(positions)
+}
+
+/// Puts a position at the end of a row's range, if it is that of a loud stream.
+fn put_visit(positions: &mut Vec<u32>, rows: &mut [StreamRow], row: Option<u32>, position: u32)
+    requires place { HasPlace row rows.old (length positions.old.items) }
+    requires short { length positions.old.items < 2 ^ 32 }
+    ensures { IsPut row position rows.old positions.old.items rows.new positions.new.items }
+{
+    if let Some(row) = row {
+        put(positions, &mut rows[row as usize], position);
+    }
 }
 
 /// Puts a position at the end of a row's range.

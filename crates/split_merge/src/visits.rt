@@ -7,7 +7,8 @@ ghost use Rattle.audit_terms.specs.runs.Orderly.{IsOrderly};
 ghost use Rattle.settings_pair.specs.Changes.{AreOrderly, AreAcknowledged};
 ghost use Rattle.stream_credit.specs.code.QuietStream.{IsAheadIfQuiet};
 ghost use Rattle.split_merge.specs.code.Visits.{HasAtMost, IsIndex, IsTableOf, NotAmong, counted, noted, notes_from, streams_in, with_row, with_stream};
-ghost use Rattle.split_merge.specs.code.Ahead.{AreAhead, AreHushed, IsEnd, IsHushed, IsNext, with_next};
+ghost use Rattle.split_merge.specs.code.Loud.{IsKept};
+ghost use Rattle.split_merge.specs.code.Ahead.{AreAhead, AreHushed, IsEnd, IsHushed, MeetsNext, with_next};
 
 use crate::splits::StreamRow;
 use audit_terms::{Finding, Frame};
@@ -93,7 +94,7 @@ impl Visits {
         requires index { IsIndex (streams_in self.old.rows.items) self.old.index }
         requires room { HasAtMost (2 ^ 30) self.old }
         requires streamed { stream < 2 ^ 31 }
-        requires next { IsNext stream changes.now frame.now (streams_in self.old.rows.items) self.old.quiets.items }
+        requires next { MeetsNext stream changes.now frame.now (streams_in self.old.rows.items) self.old.quiets.items }
         ensures named { OnOk result (streams_in self.new.rows.items
             ≡ with_stream stream (streams_in self.old.rows.items)) }
         ensures table { OnOk result ((notes : List (ℕ × ℕ)) (position : ℕ) → IsTableOf notes self.old
@@ -161,6 +162,26 @@ impl Visits {
         self.quiets.push(unmet(credits_shown))?;
         Ok(row as u32)
     }
+
+    /// The index of a stream's row, if it has one.
+    pub fn known_row(&mut self, stream: u32) -> Option<u32>
+        requires index { IsIndex (streams_in self.old.rows.items) self.old.index }
+        requires room { length self.old.rows.items < 2 ^ 31 }
+        ensures row { MatchOption result (NotAmong stream (streams_in self.old.rows.items))
+            (λ row. slice_get (streams_in self.old.rows.items) row ≡ Some stream) }
+        ensures kept { IsKept self.old self.new }
+    {
+        if stream == 0 {
+            return None;
+        }
+        let hint = hint_of(self.hints.as_slice(), self.last, stream);
+        if is_row_of(self.rows.as_slice(), hint, stream) {
+            return Some(hint);
+        }
+        let (row, _) = self.index.get_full(&stream)?;
+        remember(&mut self.hints, stream, row as u32);
+        Some(row as u32)
+    }
 }
 
 /// A stream that no frame has met, and that is not quiet where credits are shown.
@@ -203,30 +224,6 @@ fn end(quiet: &mut QuietStream, stream: u32, credits_shown: bool, changes: &Chan
     }
 }
 
-/// The index of a stream's row, if it has one.
-pub fn known_row(
-    rows: &[StreamRow],
-    index: &IndexSet<u32, TableHash>,
-    hints: &mut Vec<u32>,
-    stream: u32,
-) -> Option<u32>
-    requires index { IsIndex (streams_in rows.now) index.now }
-    requires room { length rows.now < 2 ^ 31 }
-    ensures { MatchOption result (NotAmong stream (streams_in rows.now))
-        (λ row. slice_get (streams_in rows.now) row ≡ Some stream) }
-{
-    if stream == 0 {
-        return None;
-    }
-    let hint = hint_of(hints.as_slice(), 0, stream);
-    if is_row_of(rows, hint, stream) {
-        return Some(hint);
-    }
-    let (row, _) = index.get_full(&stream)?;
-    remember(hints, stream, row as u32);
-    Some(row as u32)
-}
-
 /// Room for rows to be remembered: none, where there are few frames.
 fn hints_for(alloc: Global, frames: usize) -> Result<Vec<u32>, AllocError> {
     if frames < MANY {
@@ -236,13 +233,13 @@ fn hints_for(alloc: Global, frames: usize) -> Result<Vec<u32>, AllocError> {
 }
 
 /// Where the row of a stream is remembered.
-fn place_of(stream: u32) -> usize {
+fn hint_place(stream: u32) -> usize {
     (stream / 2) as usize % HINTS
 }
 
 /// The row that is remembered where that of a stream would be, or else the one that was visited last.
 fn hint_of(hints: &[u32], last: u32, stream: u32) -> u32 {
-    match hints.get(place_of(stream)) {
+    match hints.get(hint_place(stream)) {
         Some(row) => *row,
         None => last,
     }
@@ -250,7 +247,7 @@ fn hint_of(hints: &[u32], last: u32, stream: u32) -> u32 {
 
 /// Remembers the row of a stream.
 fn remember(hints: &mut [u32], stream: u32, row: u32) {
-    if let Some(hint) = hints.get_mut(place_of(stream)) {
+    if let Some(hint) = hints.get_mut(hint_place(stream)) {
         *hint = row;
     }
 }

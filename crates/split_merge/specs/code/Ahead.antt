@@ -25,8 +25,8 @@ pub record AreAhead (changes : List Change) (all : List Frame) (rest : ℕ → L
       IsAheadIfQuiet stream changes (frames_of stream all) (rest stream) (get_or quiets r d)
   pub unmet : (stream : ℕ) → stream ≢ 0 → NotAmong stream streams → rest stream ≡ frames_of stream all
 
--- the stream may meet the frame next
-pub record IsNext (stream : ℕ) (changes : List Change) (frame : Frame)
+-- some stream may meet the frame next: this one, unless it is 0
+pub record MeetsNext (stream : ℕ) (changes : List Change) (frame : Frame)
     (streams : List ℕ) (quiets : List QuietStream) : Type 0 where
   pub all : List Frame
   pub rest : ℕ → List Frame
@@ -38,14 +38,14 @@ pub record IsEnd (changes : List Change) (streams : List ℕ) (quiets : List Qui
   pub ahead : AreAhead changes all (λ _. []) streams quiets
 
 -- nothing is shown of a stream that is quiet, and no stream is quiet where credits are shown
-pub record IsSilent (credits_shown : Bool) (changes : List Change) (stream : ℕ) (frames : List Frame)
+pub record IsUnshown (credits_shown : Bool) (changes : List Change) (stream : ℕ) (frames : List Frame)
     (quiet : QuietStream) : Type 0 where
   pub hidden : credits_shown ≡ false
   pub shows : ShowsNothing stream changes frames quiet.opened
 
 abbrev pub IsHushed : (credits_shown : Bool) → List Change → (stream : ℕ) → List Frame → QuietStream → Type 0
 IsHushed credits_shown changes stream frames quiet =
-    quiet.is_quiet ≡ true → IsSilent credits_shown changes stream frames quiet
+    quiet.is_quiet ≡ true → IsUnshown credits_shown changes stream frames quiet
 
 -- the same of each stream
 pub record AreHushed (credits_shown : Bool) (changes : List Change) (all : List Frame)

@@ -1,11 +1,11 @@
 -- The streams that are not quiet, apart from the others: the loud ones.
-use Rattle.std.specs.Prelude.{◌≡◌, ℕ, ◌+◌, ◌<◌, ◌==◌, if◌then◌else◌, Bool, true, List, [], ◌∷◌, ◌++◌, length, get_or, slice_get, Option, Some, None, MatchOption, option_to_list}
+use Rattle.std.specs.Prelude.{◌≡◌, ℕ, ◌+◌, ◌<◌, ◌==◌, if◌then◌else◌, Bool, true, List, [], ◌∷◌, ◌++◌, length, get_or, set, slice_get, filter, Option, Some, None, MatchOption, option_to_list}
 use Rattle.stream_credit.specs.declared.quiet_streams.QuietStream.{QuietStream}
 use Rattle.stream_credit.specs.code.QuietStream.{opened_of}
 use Rattle.split_merge.specs.declared.splits.StreamRow.{StreamRow}
 use Rattle.split_merge.specs.declared.splits.SplitFrames.{SplitFrames}
-use Rattle.split_merge.specs.declared.loud.Visit.{Visit}
-use Rattle.split_merge.specs.code.Visits.{NotAmong, is_among, noted_positions, notes_of, streams_in, row_positions, total_of, laid_out, AreOfRows, IsFilled}
+use Rattle.split_merge.specs.declared.visits.Visits.{Visits}
+use Rattle.split_merge.specs.code.Visits.{NotAmong, is_among, row_positions, counted, total_of, laid_out, IsFilled}
 
 -- those of some items whose streams are not quiet
 abbrev pub loud_of : {X : Type 0} → List X → List QuietStream → List X
@@ -40,23 +40,33 @@ pub record ArePlaces (streams : List ℕ) (places : List (Option ℕ)) (loud : L
   pub found : (r stream : ℕ) (d : Option ℕ) → slice_get streams r ≡ Some stream →
       MatchOption (get_or places r d) (NotAmong stream loud) (λ k. slice_get loud k ≡ Some stream)
 
--- a visit of a stream that is loud
-abbrev pub visit_of : (row : Option ℕ) (position : ℕ) → List Visit
-visit_of None position = []
-visit_of (Some row) position = record { row = row; position = position } ∷ []
+-- what was noted of the loud streams
+abbrev pub heard : (loud : List ℕ) → List (ℕ × ℕ) → List (ℕ × ℕ)
+heard loud notes = filter (λ (n : ℕ × ℕ). is_among n.0 loud) notes
 
--- the visits are those of the loud streams among what was noted
-pub record AreVisits (loud : List ℕ) (notes : List (ℕ × ℕ)) (visits : List Visit) : Type 0 where
-  pub known : AreOfRows loud visits
-  pub told : (stream : ℕ) → is_among stream loud ≡ true →
-      noted_positions stream (notes_of loud visits) ≡ noted_positions stream notes
+-- the rows and the index of a table stay
+pub record IsKept (before after : Visits) : Type 0 where
+  pub rows : after.rows ≡ before.rows
+  pub index : after.index ≡ before.index
+
+-- the end of the row's range, if there is a row, stands in the list
+abbrev pub HasPlace : (row : Option ℕ) → List StreamRow → (total : ℕ) → Type 0
+HasPlace None rows total = Unit {0}
+HasPlace (Some row) rows total = (row < length rows) × ((d : StreamRow) → (get_or rows row d).to < total)
+
+-- the position was put at the end of the row's range, if there is a row
+abbrev pub IsPut : (row : Option ℕ) (position : ℕ) → List StreamRow → List ℕ → List StreamRow → List ℕ → Type 0
+IsPut None position rows positions rows' positions' = (rows' ≡ rows) × (positions' ≡ positions)
+IsPut (Some row) position rows positions rows' positions' =
+    (d : StreamRow) → (rows' ≡ set rows row (counted (get_or rows row d)))
+    × (positions' ≡ set positions (get_or rows row d).to position)
 
 -- the rows count what was noted of their streams
 pub record AreCounted (rows : List StreamRow) (notes : List (ℕ × ℕ)) : Type 0 where
   pub counts : (r : ℕ) (d : StreamRow) → r < length rows → (get_or rows r d).to ≡ length (row_positions r rows notes)
 
--- the rows, laid out, with the positions of the visits
-pub record IsLaid (rows : List StreamRow) (numbers : List ℕ) (visits : List Visit) (split : SplitFrames) : Type 0 where
+-- the rows, laid out, with the positions of what was noted
+pub record IsLaid (rows : List StreamRow) (numbers : List ℕ) (notes : List (ℕ × ℕ)) (split : SplitFrames) : Type 0 where
   pub long : length split.positions.items ≡ total_of rows
-  pub filled : IsFilled (laid_out 0 rows) (notes_of (streams_in rows) visits) split.rows.items split.positions.items
+  pub filled : IsFilled (laid_out 0 rows) notes split.rows.items split.positions.items
   pub opened : split.opened.items ≡ numbers

@@ -1,12 +1,11 @@
 -- What the table of streams says that a split fills as it walks over the frames.
 use Rattle.std.specs.Prelude.{◌≡◌, ◌≢◌, ℕ, ◌+◌, ◌<◌, ◌≤◌, ◌==◌, ◌||◌, if◌then◌else◌, Bool, List, [], ◌∷◌, ◌++◌, map, filter, length, get_or}
-use Rattle.std.specs.List.{All, between, list_any}
+use Rattle.std.specs.List.{between, list_any}
 use Rattle.table_hash.specs.declared.TableHash.{TableHash}
 use Rattle.indexmap.specs.IndexSet.{IndexSet}
 use Rattle.audit_terms.specs.declared.frames.Frame.{Frame}
 use Rattle.audit_terms.specs.Frame.{promised_by}
 use Rattle.split_merge.specs.declared.splits.StreamRow.{StreamRow}
-use Rattle.split_merge.specs.declared.loud.Visit.{Visit}
 use Rattle.split_merge.specs.declared.visits.Visits.{Visits}
 
 -- the streams of the rows
@@ -69,14 +68,6 @@ with_row stream rows =
 -- a row that counts one visit more
 abbrev pub counted : StreamRow → StreamRow
 counted row = record { stream = row.stream; from = row.from; to = row.to + 1 }
-
--- what visits note of the streams of rows
-abbrev pub notes_of : (streams : List ℕ) → List Visit → List (ℕ × ℕ)
-notes_of streams visits = map (λ (visit : Visit). (get_or streams visit.row 0, visit.position)) visits
-
--- each visit's row is that of one of the streams
-abbrev pub AreOfRows : (streams : List ℕ) → List Visit → Type 0
-AreOfRows streams visits = All (λ (visit : Visit). visit.row < length streams) visits
 
 -- rows say what was noted: each counts the visits of its stream from 0
 pub record IsListed (notes : List (ℕ × ℕ)) (rows : List StreamRow) : Type 0 where

@@ -1,76 +1,109 @@
-use Rattle.std.proofs.Common.{◌≢◌, ◌<◌, length, get_or, set, take, ◌+◌, sym, ap, ◌∙◌, subst, arith}
-use Rattle.std.proofs.lemmas.List.{length-set, take_all}
-use Rattle.std.proofs.lemmas.Option.{slice_get-get_or}
-use Rattle.split_merge.specs.declared.splits.StreamRow.{StreamRow}
-use Rattle.split_merge.specs.declared.loud.Visit.{Visit}
-use Rattle.split_merge.specs.code.Visits.{streams_in, notes_of, counted, IsFilled}
-use Rattle.split_merge.proofs.NamedStreams.{length-streams_in}
-use Rattle.split_merge.proofs.Visited.{not_among-at}
-use Rattle.split_merge.proofs.LaidOut.{place-within, placed-more}
-use Rattle.split_merge.proofs.Noted.{came, later, noted-more, noted-parts}
+use Rattle.std.proofs.Common.{take, refl, sym, ◌∙◌, subst, arith}
+use Rattle.audit_terms.specs.declared.frames.Frame.{Frame}
+use Rattle.audit_terms.specs.Frame.{promised_by}
+use Rattle.split_merge.specs.code.Visits.{streams_in, notes_from, IsFilled}
+use Rattle.split_merge.specs.code.Loud.{heard}
+use Rattle.split_merge.proofs.Placed.{kept-places, first-parts, second-parts, heard-more, has-place, put-filled}
 use Rattle.split_merge.proofs.splits.place.Goals as goal
 
-pub bounds-rows-visit : goal.bounds-rows-visit
-bounds-rows-visit c =
+pub put_visit-requires-clause-place : goal.put_visit-requires-clause-place
+put_visit-requires-clause-place c =
     let rows = c.args.rows.now in
-    let streams = streams_in rows in
-    let visits = c.args.visits.now in
-    let i = c.loop-visit.visit-index in
-    let visit : Visit = get_or visits i (record { row = 0; position = 0 }) in
-    let within = c.loop-visit-test.true in
-    let known : visit.row < length streams = c.requires.known i (record { row = 0; position = 0 }) within in
-    let n = length-streams_in rows in
-    omega (arith, known, n, c.loop-visit.auto.rows)
+    let loud = streams_in rows in
+    let frames = c.args.frames.now in
+    let i = c.loop-frame.frame-index in
+    let at = c.loop-frame.position in
+    let frame : Frame = c.frame-item.result in
+    let table = c.loop-frame.table in
+    let seen = c.loop-frame.invariant in
+    let own = c.place_of-own.ensures.place loud
+    (kept-places c.args.table.now table c.args.places.now loud seen.rows_kept c.requires.places) in
+    let parts = first-parts loud frames i at (promised_by frame) frame c.frame-item.is c.loop-frame-test.true seen.position refl in
+    has-place rows (heard loud (notes_from 0 frames)) (heard loud (notes_from 0 (take i frames))) _ c.args.total
+    c.requires.room_for c.requires.distinct c.requires.places.above frame.stream at parts c.loop-frame.rows
+    c.loop-frame.positions.items seen.long seen.filled c.place_of-own.result own
 
-pub put-requires : goal.put-requires
-put-requires c =
+pub put_visit-requires-in-loop-frame-clause-place : goal.put_visit-requires-in-loop-frame-clause-place
+put_visit-requires-in-loop-frame-clause-place c =
     let rows = c.args.rows.now in
-    let streams = streams_in rows in
-    let visits = c.args.visits.now in
-    let i = c.loop-visit.visit-index in
-    let visit : Visit = get_or visits i (record { row = 0; position = 0 }) in
-    let within = c.loop-visit-test.true in
-    let known : visit.row < length streams = c.requires.known i (record { row = 0; position = 0 }) within in
-    let at = slice_get-get_or streams visit.row 0 known in
-    let above : get_or streams visit.row 0 ≢ 0 = not_among-at 0 streams visit.row c.requires.above known in
+    let loud = streams_in rows in
+    let frames = c.args.frames.now in
+    let i = c.loop-frame.frame-index in
+    let at = c.loop-frame.position in
+    let frame : Frame = c.frame-item.result in
+    let table = c.loop-frame.table in
+    let seen = c.loop-frame.invariant in
+    let own = c.place_of-own.ensures.place loud
+    (kept-places c.args.table.now table c.args.places.now loud seen.rows_kept c.requires.places) in
+    let parts = first-parts loud frames i at c.promised_by.result frame c.frame-item.is c.loop-frame-test.true seen.position
+    c.promised_by.ensures in
+    let once = put-filled rows (heard loud (notes_from 0 frames)) (heard loud (notes_from 0 (take i frames))) _ c.args.total
+    c.requires.room_for c.requires.distinct c.requires.places.above frame.stream at parts c.loop-frame.rows
+    c.loop-frame.positions.items seen.long seen.filled c.place_of-own.result own c.put_visit.new.rows
+    c.put_visit.new.positions.items c.put_visit.ensures in
+    let promised = c.place_of-promised.ensures.place loud
+    (kept-places c.args.table.now c.place_of-own.new.table c.args.places.now loud
+    (c.place_of-own.ensures.kept.rows ∙ seen.rows_kept) c.requires.places) in
+    let rest = second-parts loud frames i at c.promised_by.result frame c.frame-item.is c.loop-frame-test.true seen.position
+    c.promised_by.ensures in
+    has-place rows (heard loud (notes_from 0 frames)) _ _ c.args.total c.requires.room_for c.requires.distinct
+    c.requires.places.above c.promised_by.result at rest c.put_visit.new.rows c.put_visit.new.positions.items once.0 once.1
+    c.place_of-promised.result promised
+
+pub put_visit-requires-in-loop-frame-clause-short : goal.put_visit-requires-in-loop-frame-clause-short
+put_visit-requires-in-loop-frame-clause-short c =
+    let rows = c.args.rows.now in
+    let loud = streams_in rows in
+    let frames = c.args.frames.now in
+    let i = c.loop-frame.frame-index in
+    let at = c.loop-frame.position in
+    let frame : Frame = c.frame-item.result in
+    let table = c.loop-frame.table in
+    let seen = c.loop-frame.invariant in
+    let own = c.place_of-own.ensures.place loud
+    (kept-places c.args.table.now table c.args.places.now loud seen.rows_kept c.requires.places) in
+    let parts = first-parts loud frames i at c.promised_by.result frame c.frame-item.is c.loop-frame-test.true seen.position
+    c.promised_by.ensures in
+    let once = put-filled rows (heard loud (notes_from 0 frames)) (heard loud (notes_from 0 (take i frames))) _ c.args.total
+    c.requires.room_for c.requires.distinct c.requires.places.above frame.stream at parts c.loop-frame.rows
+    c.loop-frame.positions.items seen.long seen.filled c.place_of-own.result own c.put_visit.new.rows
+    c.put_visit.new.positions.items c.put_visit.ensures in
+    omega (arith, once.0, c.ranges.total.fits)
+
+pub loop-frame-preserved : goal.loop-frame-preserved
+loop-frame-preserved c =
+    let rows = c.args.rows.now in
+    let loud = streams_in rows in
+    let frames = c.args.frames.now in
+    let i = c.loop-frame.frame-index in
+    let at = c.loop-frame.position in
+    let frame : Frame = c.frame-item.result in
+    let table = c.loop-frame.table in
+    let seen = c.loop-frame.invariant in
+    let own = c.place_of-own.ensures.place loud
+    (kept-places c.args.table.now table c.args.places.now loud seen.rows_kept c.requires.places) in
+    let parts = first-parts loud frames i at c.promised_by.result frame c.frame-item.is c.loop-frame-test.true seen.position
+    c.promised_by.ensures in
+    let once = put-filled rows (heard loud (notes_from 0 frames)) (heard loud (notes_from 0 (take i frames))) _ c.args.total
+    c.requires.room_for c.requires.distinct c.requires.places.above frame.stream at parts c.loop-frame.rows
+    c.loop-frame.positions.items seen.long seen.filled c.place_of-own.result own c.put_visit.new.rows
+    c.put_visit.new.positions.items c.put_visit.ensures in
+    let promised = c.place_of-promised.ensures.place loud
+    (kept-places c.args.table.now c.place_of-own.new.table c.args.places.now loud
+    (c.place_of-own.ensures.kept.rows ∙ seen.rows_kept) c.requires.places) in
+    let rest = second-parts loud frames i at c.promised_by.result frame c.frame-item.is c.loop-frame-test.true seen.position
+    c.promised_by.ensures in
+    let twice = put-filled rows (heard loud (notes_from 0 frames)) _ _ c.args.total c.requires.room_for c.requires.distinct
+    c.requires.places.above c.promised_by.result at rest c.put_visit.new.rows c.put_visit.new.positions.items once.0 once.1
+    c.place_of-promised.result promised c.put_visit-in-loop-frame.new.rows c.put_visit-in-loop-frame.new.positions.items
+    c.put_visit-in-loop-frame.ensures in
+    let more = heard-more loud frames i at c.promised_by.result frame c.frame-item.is c.loop-frame-test.true seen.position
+    c.promised_by.ensures in
     record {
-      within = place-within rows (notes_of streams visits) (came streams visits i within) (later streams visits i within) c.args.total
-          c.requires.room visit.row (get_or streams visit.row 0) visit.position c.requires.distinct at above
-          (noted-parts streams visits i within) c.loop-visit.rows c.loop-visit.positions.items c.loop-visit.invariant.long
-          c.loop-visit.invariant.filled (record { stream = 0; from = 0; to = 0 });
-      short = omega (arith, c.loop-visit.invariant.long, c.ranges.total.fits);
+      position = omega (arith, seen.position);
+      rows_kept = c.place_of-promised.ensures.kept.rows ∙ c.place_of-own.ensures.kept.rows ∙ seen.rows_kept;
+      index_kept = c.place_of-promised.ensures.kept.index ∙ c.place_of-own.ensures.kept.index ∙ seen.index_kept;
+      long = twice.0;
+      filled = subst (λ l. IsFilled rows l c.put_visit-in-loop-frame.new.rows c.put_visit-in-loop-frame.new.positions.items)
+          (sym more) twice.1;
     }
-
-pub loop-visit-preserved : goal.loop-visit-preserved
-loop-visit-preserved c =
-    let rows = c.args.rows.now in
-    let streams = streams_in rows in
-    let visits = c.args.visits.now in
-    let i = c.loop-visit.visit-index in
-    let visit : Visit = get_or visits i (record { row = 0; position = 0 }) in
-    let within = c.loop-visit-test.true in
-    let known : visit.row < length streams = c.requires.known i (record { row = 0; position = 0 }) within in
-    let at = slice_get-get_or streams visit.row 0 known in
-    let above : get_or streams visit.row 0 ≢ 0 = not_among-at 0 streams visit.row c.requires.above known in
-    let row : StreamRow = get_or c.loop-visit.rows visit.row (record { stream = 0; from = 0; to = 0 }) in
-    let more = placed-more rows (notes_of streams visits) (came streams visits i within) (later streams visits i within) c.args.total
-    c.requires.room visit.row (get_or streams visit.row 0) visit.position c.requires.distinct at above
-    (noted-parts streams visits i within) c.loop-visit.rows c.loop-visit.positions.items c.loop-visit.invariant.long
-    c.loop-visit.invariant.filled (record { stream = 0; from = 0; to = 0 }) in
-    record {
-      long = ap length c.put.ensures.positions ∙ length-set c.loop-visit.positions.items row.to visit.position
-          ∙ c.loop-visit.invariant.long;
-      filled = subst (λ p. IsFilled rows (notes_of streams (take (i + 1) visits)) (set c.loop-visit.rows visit.row c.put.new.row) p)
-          (sym c.put.ensures.positions)
-          (subst (λ r. IsFilled rows (notes_of streams (take (i + 1) visits)) (set c.loop-visit.rows visit.row r)
-          (set c.loop-visit.positions.items row.to visit.position)) (sym c.put.ensures.row)
-          (subst (λ n. IsFilled rows n (set c.loop-visit.rows visit.row (counted row))
-          (set c.loop-visit.positions.items row.to visit.position)) (sym (noted-more streams visits i within)) more));
-    }
-
-pub returns : goal.returns
-returns c = record {
-  long = c.loop-visit.invariant.long;
-  filled = subst (λ l. IsFilled c.args.rows.now (notes_of (streams_in c.args.rows.now) l) c.loop-visit.rows c.loop-visit.positions.items)
-      (take_all c.loop-visit.visit-index c.args.visits.now c.loop-visit-test.false) c.loop-visit.invariant.filled;
-}

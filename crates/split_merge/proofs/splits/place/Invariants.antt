@@ -1,9 +1,13 @@
 use Rattle.std.proofs.Common.{◌≡◌, length, take}
-use Rattle.split_merge.specs.code.Visits.{IsFilled, notes_of, streams_in}
+use Rattle.split_merge.specs.code.Visits.{IsFilled, notes_from, streams_in}
+use Rattle.split_merge.specs.code.Loud.{heard}
 use Rattle.split_merge.proofs.splits.place.Given as goal
 
-abbrev pub invariant-loop-visit : goal.invariant-loop-visit
-invariant-loop-visit l = record {
+abbrev pub invariant-loop-frame : goal.invariant-loop-frame
+invariant-loop-frame l = record {
+  position : l.position ≡ l.frame-index;
+  rows_kept : l.table.rows ≡ l.fn.table.rows;
+  index_kept : l.table.index ≡ l.fn.table.index;
   long : length l.positions.items ≡ l.total;
-  filled : IsFilled l.fn.rows (notes_of (streams_in l.fn.rows) (take l.visit-index l.visits)) l.rows l.positions.items;
+  filled : IsFilled l.fn.rows (heard (streams_in l.fn.rows) (notes_from 0 (take l.frame-index l.frames))) l.rows l.positions.items;
 }

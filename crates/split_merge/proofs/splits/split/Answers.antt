@@ -2,15 +2,15 @@ use Rattle.std.proofs.Common.{◌≡◌, [], sym, ap, ◌∙◌, subst, arith}
 use Rattle.std.specs.Prelude.{IfOk, Result, Ok, Err}
 use Rattle.split_merge.specs.declared.splits.SplitFrames.{SplitFrames}
 use Rattle.split_merge.specs.Split.{IsSplit}
-use Rattle.split_merge.specs.code.Visits.{streams_in, notes_from, notes_of, NotAmong, AreDistinct}
+use Rattle.split_merge.specs.code.Visits.{streams_in, notes_from, AreDistinct}
 use Rattle.split_merge.specs.code.Ahead.{AreAhead, AreHushed}
-use Rattle.split_merge.specs.code.Loud.{loud_of, places_from, opened_in, ArePlaces, AreVisits, AreCounted, IsLaid}
-use Rattle.split_merge.proofs.LoudStreams.{loud-streams, loud-total, loud-distinct, loud-not_among, are-places}
+use Rattle.split_merge.specs.code.Loud.{loud_of, places_from, opened_in, heard, ArePlaces, AreCounted, IsLaid}
+use Rattle.split_merge.proofs.LoudStreams.{loud-streams, loud-total, loud-distinct, are-places}
 use Rattle.split_merge.proofs.SplitIs.{loud-counted, split-is}
 use Rattle.split_merge.proofs.splits.split.Goals as goal
 
-pub visits-requires-clause-places : goal.visits-requires-clause-places
-visits-requires-clause-places c =
+pub laid-requires-clause-places : goal.laid-requires-clause-places
+laid-requires-clause-places c =
     let rows = c.in_ok-table.table.rows.items in
     let quiets = c.finish.new.quiets.items in
     let changes = c.args.changes.now in
@@ -26,10 +26,8 @@ visits-requires-clause-places c =
     let places : c.in_ok-loud.loud.places.items ≡ places_from 0 c.finish.new.quiets.items =
     c.in_ok-loud.ensures.places ∙ ap (places_from 0) c.as_slice-3.ensures.value in
     let base = are-places (streams_in rows) quiets hushed.long index.distinct index.above in
-    subst (λ l. ArePlaces (streams_in l) c.in_ok-loud.loud.places.items (streams_in c.in_ok-loud.loud.rows.items))
-    (sym c.as_slice-4.ensures.value)
-    (subst (λ p. ArePlaces (streams_in rows) p (streams_in c.in_ok-loud.loud.rows.items)) (sym places)
-    (subst (λ s. ArePlaces (streams_in rows) (places_from 0 quiets) s) (sym named) base))
+    subst (λ p. ArePlaces (streams_in rows) p (streams_in c.in_ok-loud.loud.rows.items)) (sym places)
+    (subst (λ s. ArePlaces (streams_in rows) (places_from 0 quiets) s) (sym named) base)
 
 pub laid-requires-clause-total : goal.laid-requires-clause-total
 laid-requires-clause-total c =
@@ -52,14 +50,8 @@ laid-requires-clause-counts c =
     let loud : c.in_ok-loud.loud.rows.items ≡ loud_of c.in_ok-table.table.rows.items c.finish.new.quiets.items =
     c.in_ok-loud.ensures.rows ∙ ap (λ l. loud_of l c.as_slice-3.result.now) c.as_slice-2.ensures.value
     ∙ ap (loud_of rows) c.as_slice-3.ensures.value in
-    let visits = c.in_ok-visits.visits.items in
-    let met : AreVisits (streams_in (loud_of c.in_ok-table.table.rows.items c.finish.new.quiets.items))
-    (notes_from 0 c.args.frames.now) c.in_ok-visits.visits.items =
-    subst (λ l. AreVisits (streams_in l) (notes_from 0 frames) visits) loud c.in_ok-visits.ensures in
-    subst (λ v. AreCounted c.in_ok-loud.loud.rows.items (notes_of (streams_in c.in_ok-loud.loud.rows.items) v))
-    (sym c.as_slice-5.ensures.value)
-    (subst (λ l. AreCounted l (notes_of (streams_in l) visits)) (sym loud)
-    (loud-counted frames rows quiets visits c.in_ok-table.ensures.table.listed met))
+    subst (λ l. AreCounted l (heard (streams_in l) (notes_from 0 frames))) (sym loud)
+    (loud-counted frames rows quiets c.in_ok-table.ensures.table.listed)
 
 pub laid-requires-clause-distinct : goal.laid-requires-clause-distinct
 laid-requires-clause-distinct c =
@@ -72,18 +64,6 @@ laid-requires-clause-distinct c =
     ∙ ap (loud_of rows) c.as_slice-3.ensures.value in
     let named = ap streams_in loud ∙ loud-streams rows quiets in
     subst AreDistinct (sym named) (loud-distinct (streams_in rows) quiets c.in_ok-table.ensures.table.index.distinct)
-
-pub laid-requires-clause-above : goal.laid-requires-clause-above
-laid-requires-clause-above c =
-    let rows = c.in_ok-table.table.rows.items in
-    let quiets = c.finish.new.quiets.items in
-    let changes = c.args.changes.now in
-    let frames = c.args.frames.now in
-    let loud : c.in_ok-loud.loud.rows.items ≡ loud_of c.in_ok-table.table.rows.items c.finish.new.quiets.items =
-    c.in_ok-loud.ensures.rows ∙ ap (λ l. loud_of l c.as_slice-3.result.now) c.as_slice-2.ensures.value
-    ∙ ap (loud_of rows) c.as_slice-3.ensures.value in
-    let named = ap streams_in loud ∙ loud-streams rows quiets in
-    subst (NotAmong 0) (sym named) (loud-not_among 0 (streams_in rows) quiets c.in_ok-table.ensures.table.index.above)
 
 if-more : {E : Type 0} (P Q : SplitFrames → Type 0) (r : Result SplitFrames E) → ((x : SplitFrames) → P x → Q x) → IfOk r P → IfOk r Q
 if-more P Q (Ok x) f h = f x h
@@ -101,18 +81,15 @@ returns c =
     let loud : c.in_ok-loud.loud.rows.items ≡ loud_of c.in_ok-table.table.rows.items c.finish.new.quiets.items =
     c.in_ok-loud.ensures.rows ∙ ap (λ l. loud_of l c.as_slice-3.result.now) c.as_slice-2.ensures.value
     ∙ ap (loud_of rows) c.as_slice-3.ensures.value in
-    let visits = c.in_ok-visits.visits.items in
-    let met : AreVisits (streams_in (loud_of c.in_ok-table.table.rows.items c.finish.new.quiets.items))
-    (notes_from 0 c.args.frames.now) c.in_ok-visits.visits.items =
-    subst (λ l. AreVisits (streams_in l) (notes_from 0 frames) visits) loud c.in_ok-visits.ensures in
     let opened : c.in_ok-loud.loud.opened.items ≡ opened_in c.finish.new.quiets.items =
     c.in_ok-loud.ensures.opened ∙ ap opened_in c.as_slice-3.ensures.value in
     let table = c.in_ok-table.ensures.table in
-    if-more (IsLaid c.in_ok-loud.loud.rows.items c.in_ok-loud.loud.opened.items c.as_slice-5.result.now)
+    if-more (IsLaid c.in_ok-loud.loud.rows.items c.in_ok-loud.loud.opened.items
+    (heard (streams_in c.in_ok-loud.loud.rows.items) (notes_from 0 frames)))
     (IsSplit c.args.credits_shown changes frames) c.laid.result
-    (λ split is. split-is c.args.credits_shown changes frames rows quiets visits split c.in_ok-table.ensures.streams table.listed
-    table.index.distinct table.index.above hushed met
-    (subst (λ l. IsLaid l (opened_in quiets) visits split) loud
-    (subst (λ o. IsLaid c.in_ok-loud.loud.rows.items o visits split) opened
-    (subst (λ v. IsLaid c.in_ok-loud.loud.rows.items c.in_ok-loud.loud.opened.items v split) c.as_slice-5.ensures.value is))))
+    (λ split is. split-is c.args.credits_shown changes frames rows quiets split c.in_ok-table.ensures.streams table.listed
+    table.index.distinct table.index.above hushed
+    (subst (λ l. IsLaid l (opened_in quiets) (heard (streams_in l) (notes_from 0 frames)) split) loud
+    (subst (λ o. IsLaid c.in_ok-loud.loud.rows.items o (heard (streams_in c.in_ok-loud.loud.rows.items) (notes_from 0 frames)) split)
+    opened is)))
     c.laid.ensures
