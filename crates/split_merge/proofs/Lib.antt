@@ -10,6 +10,8 @@ pub mod Visited
 pub mod Positions
 pub mod LaidOut
 pub mod Noted
+pub mod Ahead
+pub mod LoudStreams
 pub mod SplitIs
 pub mod GroupRanges
 pub mod ShownMerge

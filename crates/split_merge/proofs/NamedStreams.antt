@@ -173,7 +173,7 @@ pub absent-from_set : (seen : List ℕ) (set : IndexSet ℕ TableHash) → IsInd
 absent-from_set seen set index stream h =
     none-from_test stream seen (ap (is_among stream) (sym index.keys) ∙ h)
 
-slice_get-append : (xs ys : List ℕ) (i x : ℕ) → slice_get xs i ≡ Some x → slice_get (xs ++ ys) i ≡ Some x
+pub slice_get-append : (xs ys : List ℕ) (i x : ℕ) → slice_get xs i ≡ Some x → slice_get (xs ++ ys) i ≡ Some x
 slice_get-append [] ys i x e = cc
 slice_get-append (y ∷ xs) ys zero x e = e
 slice_get-append (y ∷ xs) ys (suc i) x e = slice_get-append xs ys i x e
@@ -182,7 +182,7 @@ pub slice_get-last : (xs : List ℕ) (x : ℕ) → slice_get (xs ++ x ∷ []) (l
 slice_get-last [] x = refl
 slice_get-last (y ∷ xs) x = slice_get-last xs x
 
-not_among-append : (q s : ℕ) (xs : List ℕ) → NotAmong q xs → q ≢ s → NotAmong q (xs ++ s ∷ [])
+pub not_among-append : (q s : ℕ) (xs : List ℕ) → NotAmong q xs → q ≢ s → NotAmong q (xs ++ s ∷ [])
 not_among-append q s [] h n = (n, tt)
 not_among-append q s (x ∷ xs) h n = (h.0, not_among-append q s xs h.1 n)
 

@@ -34,7 +34,7 @@ module _ (stream : ℕ) (above : stream ≢ 0) where
         let n : noted other position ≡ (other, position) ∷ [] = rw e refl in
         ap (noted_positions stream) n ∙ noted_positions-one stream other position
 
-  promised-is : (frame : Frame) → (promised_by frame == stream) ≡ promises stream frame
+  pub promised-is : (frame : Frame) → (promised_by frame == stream) ≡ promises stream frame
   promised-is frame = by_tests _ _ refl refl where
     chosen : (promised : Bool) → promises (promised_in frame.body) frame ≡ promised
         → (promised_by frame == stream) ≡ ((if promised then promised_in frame.body else 0) == stream)
@@ -50,7 +50,7 @@ module _ (stream : ℕ) (above : stream ≢ 0) where
     by_tests false false e f = chosen false f ∙ no-zero ∙ rw (e, and-false (is_server_promise frame)) refl
 
   -- a frame on the stream does not promise it
-  not_both : (frame : Frame) → (frame.stream == stream) ≡ true → promises stream frame ≡ false
+  pub not_both : (frame : Frame) → (frame.stream == stream) ≡ true → promises stream frame ≡ false
   not_both frame e =
       let f : not (frame.stream == stream) ≡ false = ap not e in
       rw f (and-false (is_server_promise frame && (promised_in frame.body == stream) && (stream % 2 == 0)))

@@ -1,67 +1,108 @@
--- The table of all visits, laid out, is the split.
-use Rattle.std.proofs.Common.{◌≡◌, ◌≢◌, ℕ, ◌<◌, Bool, false, not, List, [], ◌∷◌, filter, flat_map, length, get_or, refl, sym, ap, ◌∙◌, subst, arith}
+-- The rows of the loud streams, laid out, are the split.
+use Rattle.std.proofs.Common.{◌≡◌, ◌≢◌, ℕ, ◌<◌, Bool, true, false, not, List, [], ◌∷◌, filter, flat_map, length, get_or, slice_get, Some, option_to_list, refl, sym, ap, ◌∙◌, subst, arith}
 use Rattle.std.proofs.lemmas.List.{get_or-map}
+use Rattle.std.proofs.lemmas.Option.{slice_get-get_or}
 use Rattle.audit_terms.specs.declared.frames.Frame.{Frame}
 use Rattle.audit_terms.specs.declared.items.Change.{Change}
+use Rattle.audit_terms.specs.Finding.{shown}
 use Rattle.audit_terms.specs.Pass.{streams_of}
+use Rattle.audit_terms.specs.runs.Streams.{frames_of, stream_run}
+use Rattle.stream_credit.specs.declared.quiet_streams.QuietStream.{QuietStream}
 use Rattle.split_merge.specs.declared.splits.StreamRow.{StreamRow}
 use Rattle.split_merge.specs.declared.splits.SplitFrames.{SplitFrames}
-use Rattle.split_merge.specs.declared.visits.Visits.{Visits}
+use Rattle.split_merge.specs.declared.loud.Visit.{Visit}
 use Rattle.split_merge.specs.Split.{positions_of, IsRange, IsPartOf, IsSplit, part_of, opening_of}
-use Rattle.split_merge.specs.code.Visits.{streams_in, notes_from, noted_positions, total_of, laid_out, IsTableOf, HasRoomFor, IsFilled}
-use Rattle.split_merge.proofs.NamedStreams.{length-streams_in}
-use Rattle.split_merge.proofs.Visited.{not_among-at}
+use Rattle.split_merge.specs.code.Visits.{streams_in, notes_from, notes_of, noted_positions, row_positions, total_of, laid_out, is_among, NotAmong, AreDistinct, IsListed, HasRoomFor, IsFilled}
+use Rattle.split_merge.specs.code.Ahead.{AreHushed}
+use Rattle.split_merge.specs.code.Loud.{loud_of, opened_in, quiet_in, AreVisits, AreCounted, IsLaid}
+use Rattle.split_merge.proofs.NamedStreams.{length-streams_in, found_among}
+use Rattle.split_merge.proofs.Visited.{not_among-at, get-from_slice_get}
 use Rattle.split_merge.proofs.Positions.{noted-positions, frames_at-positions, positions-within}
 use Rattle.split_merge.proofs.LaidOut.{laid-streams, room-laid, filled-streams}
+use Rattle.split_merge.proofs.LoudStreams.{loud-streams, loud-not_among, loud-each, loud-filter, opened-filter, quiet_in-at}
 
-filter-all : (xs : List ℕ) → filter (λ _. not false) xs ≡ xs
-filter-all [] = refl
-filter-all (x ∷ xs) = ap (λ l. x ∷ l) (filter-all xs)
+stream-at : (rows : List StreamRow) (k : ℕ) (d : StreamRow) → k < length rows → get_or (streams_in rows) k 0 ≡ (get_or rows k d).stream
+stream-at rows k d l = get_or-map (λ (row : StreamRow). row.stream) rows k d 0 l
 
-filter-none : (xs : List ℕ) → filter (λ _. false) xs ≡ []
-filter-none [] = refl
-filter-none (x ∷ xs) = filter-none xs
+pub row-at : (rows : List StreamRow) (k : ℕ) (d : StreamRow) → k < length rows →
+    slice_get (streams_in rows) k ≡ Some (get_or rows k d).stream
+row-at rows k d l =
+    let n = length-streams_in rows in
+    slice_get-get_or (streams_in rows) k 0 (omega (arith, l, n)) ∙ ap Some (stream-at rows k d l)
 
-module _ (credits_shown : Bool) (changes : List Change) (frames : List Frame) (table : Visits) (split : SplitFrames)
-    (streams : streams_in table.rows.items ≡ streams_of frames) (told : IsTableOf (notes_from 0 frames) table)
-    (filled : IsFilled (laid_out 0 table.rows.items) (notes_from 0 frames) split.rows.items split.positions.items)
-    (long : length split.positions.items ≡ total_of table.rows.items) where
-  abbrev empty : List StreamRow
-  empty = laid_out 0 table.rows.items
+among-at : (rows : List StreamRow) (k : ℕ) → k < length rows → is_among (get_or (streams_in rows) k 0) (streams_in rows) ≡ true
+among-at rows k l =
+    let n = length-streams_in rows in
+    found_among (get_or (streams_in rows) k 0) (streams_in rows) k (slice_get-get_or (streams_in rows) k 0 (omega (arith, l, n)))
 
-  room : HasRoomFor (laid_out 0 table.rows.items) (notes_from 0 frames) (total_of table.rows.items)
-  room = room-laid table.rows.items (notes_from 0 frames) told.listed.counts
+module _ (frames : List Frame) (rows : List StreamRow) (quiets : List QuietStream) (visits : List Visit)
+    (listed : IsListed (notes_from 0 frames) rows)
+    (met : AreVisits (streams_in (loud_of rows quiets)) (notes_from 0 frames) visits) where
+  -- the loud rows count their own visits
+  pub loud-counted : AreCounted (loud_of rows quiets) (notes_of (streams_in (loud_of rows quiets)) visits)
+  loud-counted = record {
+    counts = λ r d l.
+        loud-each (λ row. row.to ≡ length (noted_positions row.stream (notes_from 0 frames))) rows quiets
+        (λ k e m. listed.counts k e m ∙ ap (λ s. length (noted_positions s (notes_from 0 frames))) (stream-at rows k e m)) r d l
+        ∙ ap (λ s. length (noted_positions s (notes_from 0 frames))) (sym (stream-at (loud_of rows quiets) r d l))
+        ∙ ap length (sym (met.told (get_or (streams_in (loud_of rows quiets)) r 0) (among-at (loud_of rows quiets) r l)));
+  }
 
-  same-streams : streams_in split.rows.items ≡ streams_in table.rows.items
-  same-streams = filled-streams empty split.rows.items (notes_from 0 frames) split.positions.items filled ∙ laid-streams 0 table.rows.items
+module _ (credits_shown : Bool) (changes : List Change) (frames : List Frame) (rows : List StreamRow) (quiets : List QuietStream)
+    (visits : List Visit) (split : SplitFrames)
+    (streams : streams_in rows ≡ streams_of frames) (listed : IsListed (notes_from 0 frames) rows)
+    (distinct : AreDistinct (streams_in rows)) (above : NotAmong 0 (streams_in rows))
+    (hushed : AreHushed credits_shown changes frames (streams_in rows) quiets)
+    (met : AreVisits (streams_in (loud_of rows quiets)) (notes_from 0 frames) visits)
+    (laid : IsLaid (loud_of rows quiets) (opened_in quiets) visits split) where
+  abbrev loud : List StreamRow
+  loud = loud_of rows quiets
+
+  abbrev notes : List (ℕ × ℕ)
+  notes = notes_of (streams_in (loud_of rows quiets)) visits
+
+  room : HasRoomFor (laid_out 0 (loud_of rows quiets)) (notes_of (streams_in (loud_of rows quiets)) visits) (total_of (loud_of rows quiets))
+  room = room-laid loud notes (loud-counted frames rows quiets visits listed met).counts
+
+  same-streams : streams_in split.rows.items ≡ streams_in (loud_of rows quiets)
+  same-streams = filled-streams (laid_out 0 loud) split.rows.items notes split.positions.items laid.filled ∙ laid-streams 0 loud
 
   range-at : (k : ℕ) (d : StreamRow) → k < length split.rows.items → IsRange split (get_or split.rows.items k d)
   range-at k d l =
-      let m : k < length (laid_out 0 table.rows.items) = omega (arith, l, filled.long) in
+      let m : k < length (laid_out 0 (loud_of rows quiets)) = omega (arith, l, laid.filled.long) in
       let within = room.within k d m in
-      subst (IsRange split) (sym (filled.ranges k d m)) record {
+      subst (IsRange split) (sym (laid.filled.ranges k d m)) record {
         rising = omega arith;
-        within = omega (arith, within, long);
+        within = omega (arith, within, laid.long);
       }
 
   row-stream : (k : ℕ) (d : StreamRow) → k < length split.rows.items →
-      (get_or split.rows.items k d).stream ≡ get_or (streams_in table.rows.items) k 0
-  row-stream k d l =
-      sym (get_or-map (λ (row : StreamRow). row.stream) split.rows.items k d 0 l) ∙ ap (λ s. get_or s k 0) same-streams
+      (get_or split.rows.items k d).stream ≡ get_or (streams_in (loud_of rows quiets)) k 0
+  row-stream k d l = sym (stream-at split.rows.items k d l) ∙ ap (λ s. get_or s k 0) same-streams
 
-  stream-above : (k : ℕ) → k < length split.rows.items → get_or (streams_in table.rows.items) k 0 ≢ 0
-  stream-above k l =
+  within-loud : (k : ℕ) → k < length split.rows.items → k < length (loud_of rows quiets)
+  within-loud k l =
       let n = ap length same-streams in
       let m = length-streams_in split.rows.items in
-      not_among-at 0 (streams_in table.rows.items) k told.index.above (omega (arith, l, n, m))
+      let p = length-streams_in loud in
+      omega (arith, l, n, m, p)
+
+  stream-above : (k : ℕ) → k < length split.rows.items → get_or (streams_in (loud_of rows quiets)) k 0 ≢ 0
+  stream-above k l =
+      let p = length-streams_in loud in
+      let out : NotAmong 0 (streams_in (loud_of rows quiets)) =
+      subst (NotAmong 0) (sym (loud-streams rows quiets)) (loud-not_among 0 (streams_in rows) quiets above) in
+      let m = within-loud k l in
+      not_among-at 0 (streams_in loud) k out (omega (arith, m, p))
 
   part-is : (k : ℕ) (d : StreamRow) → k < length split.rows.items →
       part_of split (get_or split.rows.items k d) ≡ positions_of (get_or split.rows.items k d).stream frames
   part-is k d l =
-      let m : k < length (laid_out 0 table.rows.items) = omega (arith, l, filled.long) in
-      ap (part_of split) (filled.ranges k d m) ∙ filled.filled k d m
-      ∙ ap (λ l. noted_positions (get_or l k 0) (notes_from 0 frames)) (laid-streams 0 table.rows.items)
-      ∙ noted-positions (get_or (streams_in table.rows.items) k 0) (stream-above k l) 0 frames
+      let m : k < length (laid_out 0 (loud_of rows quiets)) = omega (arith, l, laid.filled.long) in
+      ap (part_of split) (laid.filled.ranges k d m) ∙ laid.filled.filled k d m
+      ∙ ap (λ l. noted_positions (get_or l k 0) notes) (laid-streams 0 loud)
+      ∙ met.told (get_or (streams_in loud) k 0) (among-at loud k (within-loud k l))
+      ∙ noted-positions (get_or (streams_in loud) k 0) (stream-above k l) 0 frames
       ∙ ap (λ s. positions_of s frames) (sym (row-stream k d l))
 
   part-at : (k : ℕ) (d : StreamRow) → k < length split.rows.items →
@@ -76,12 +117,38 @@ module _ (credits_shown : Bool) (changes : List Change) (frames : List Frame) (t
         within = positions-within stream frames;
       }
 
-  pub split-is : split.opened.items ≡ [] → IsSplit credits_shown changes frames split
-  split-is none = record {
-    is_quiet = λ _. false;
-    streams = same-streams ∙ streams ∙ sym (filter-all (streams_of frames));
+  nothing-shown : (k d : ℕ) → k < length (streams_of frames) →
+      quiet_in (get_or (streams_of frames) k d) (streams_in rows) quiets ≡ true →
+      shown credits_shown (stream_run (get_or (streams_of frames) k d) (frames_of (get_or (streams_of frames) k d) frames) changes) ≡ []
+  nothing-shown k d l e =
+      let stream = get_or (streams_of frames) k d in
+      let none : QuietStream = record {
+        opened = 0;
+        client = 0;
+        server = 0;
+        met = 0;
+        ended = record { client = false; server = false };
+        is_quiet = false;
+      } in
+      let at : slice_get (streams_in rows) k ≡ Some (get_or (streams_of frames) k d) =
+      ap (λ l. slice_get l k) streams ∙ slice_get-get_or (streams_of frames) k d l in
+      let n : k < length (streams_in rows) = omega (arith, l, ap length streams) in
+      let is = quiet_in-at (streams_in rows) quiets k none distinct n hushed.long in
+      let same = get-from_slice_get (streams_in rows) k stream at in
+      let silent = hushed.hushed k stream none at
+      (sym is ∙ ap (λ s. quiet_in s (streams_in rows) quiets) same ∙ e) in
+      subst (λ b. shown b (stream_run stream (frames_of stream frames) changes) ≡ []) (sym silent.hidden) silent.shows.shown
+
+  pub split-is : IsSplit credits_shown changes frames split
+  split-is = record {
+    is_quiet = λ s. quiet_in s (streams_in rows) quiets;
+    streams = same-streams ∙ loud-streams rows quiets ∙ loud-filter (streams_in rows) quiets distinct hushed.long
+        ∙ ap (filter (λ s. not (quiet_in s (streams_in rows) quiets))) streams;
     ranges = range-at;
     parts = part-at;
-    quiet = λ k d l e. cc;
-    opened = none ∙ sym (ap (flat_map (opening_of frames changes)) (filter-none (streams_of frames)));
+    quiet = nothing-shown;
+    opened = laid.opened
+        ∙ opened-filter (opening_of frames changes) (streams_in rows) quiets distinct hushed.long
+        (λ r s d at q. ap option_to_list (hushed.hushed r s d at q).shows.end)
+        ∙ ap (λ l. flat_map (opening_of frames changes) (filter (λ s. quiet_in s (streams_in rows) quiets) l)) streams;
   }

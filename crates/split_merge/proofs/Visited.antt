@@ -67,7 +67,7 @@ one_index (x ∷ xs) (suc i) zero q h e f n =
     absurd (not_among-at x xs i h.0 (within_from_value xs i q e n) (e ∙ sym f))
 one_index (x ∷ xs) (suc i) (suc j) q h e f n = ap suc (one_index xs i j q h.1 e f n)
 
-not_among-front : (q s : ℕ) (xs : List ℕ) → NotAmong q (xs ++ s ∷ []) → NotAmong q xs × (q ≢ s)
+pub not_among-front : (q s : ℕ) (xs : List ℕ) → NotAmong q (xs ++ s ∷ []) → NotAmong q xs × (q ≢ s)
 not_among-front q s [] h = (tt, h.0)
 not_among-front q s (x ∷ xs) h = let rest = not_among-front q s xs h.1 in ((h.0, rest.0), rest.1)
 

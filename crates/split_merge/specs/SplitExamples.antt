@@ -1,15 +1,16 @@
--- Worked examples: frames by stream, groups of what there is, and what a merge of findings ends with.
-use Rattle.std.specs.Prelude.{◌≡◌, ℕ, ◌*◌, pos, List, [], ◌∷◌, ◌++◌}
+-- Worked examples: frames by stream, streams that are quiet, groups of what there is, and what a merge of findings ends with.
+use Rattle.std.specs.Prelude.{◌≡◌, ℕ, ◌*◌, pos, true, false, List, [], ◌∷◌, ◌++◌}
 use Rattle.audit_terms.specs.declared.sides.Side.{Side}
 use Rattle.audit_terms.specs.declared.sides.Side.TheVariants.{Client, Server}
 use Rattle.audit_terms.specs.declared.frames.Body.{Body}
 use Rattle.audit_terms.specs.declared.frames.Body.TheVariants.{Content, Headers, PushPromise, WindowUpdate}
 use Rattle.audit_terms.specs.declared.frames.Frame.{Frame}
 use Rattle.audit_terms.specs.declared.findings.Finding.{Finding}
-use Rattle.audit_terms.specs.declared.kinds.Kind.TheVariants.{NotOpened, ConnectionOverflow, ConnectionCredit}
-use Rattle.audit_terms.specs.Finding.{finding_at, in_order, upto_stop}
+use Rattle.audit_terms.specs.declared.kinds.Kind.TheVariants.{NotOpened, ConnectionOverflow, ConnectionCredit, StreamCredit}
+use Rattle.audit_terms.specs.Finding.{finding_at, in_order, shown, upto_stop}
 use Rattle.audit_terms.specs.Pass.{streams_of}
-use Rattle.split_merge.specs.Split.{positions_of}
+use Rattle.audit_terms.specs.runs.Streams.{frames_of, stream_run}
+use Rattle.split_merge.specs.Split.{opening_of, positions_of}
 use Rattle.split_merge.specs.Groups.{groups}
 
 abbrev frame : Side → (number code stream : ℕ) → Body → Frame
@@ -42,6 +43,19 @@ pub record SplitsByStream : Type 0 where
   pub own : positions_of 1 promised ≡ 0 ∷ 1 ∷ []
   pub pushed : positions_of 2 promised ≡ 1 ∷ 2 ∷ []
 
+abbrev not_opened : Finding
+not_opened = finding_at NotOpened 7 9 Server (pos 8)
+
+-- nothing is shown of stream 3 but its credits, and a frame opens it; stream 9 has something shown, and is never opened
+pub record TellsQuietStreams : Type 0 where
+  pub quiet : shown false (stream_run 3 (frames_of 3 four_streams) []) ≡ []
+  pub credits : shown true (stream_run 3 (frames_of 3 four_streams) [])
+      ≡ finding_at StreamCredit 6 3 Client (pos 65535) ∷ finding_at StreamCredit 6 3 Server (pos 65535) ∷ []
+  pub opened : opening_of four_streams [] 3 ≡ 6 ∷ []
+  pub pushed : opening_of promised [] 2 ≡ 6 ∷ []
+  pub loud : shown false (stream_run 9 (frames_of 9 four_streams) []) ≡ not_opened ∷ []
+  pub never : opening_of four_streams [] 9 ≡ []
+
 -- as many groups as asked for, or one for each of what there is
 pub record GroupsOfFour : Type 0 where
   pub three : groups 4 3 ≡ (0, 1) ∷ (1, 2) ∷ (2, 4) ∷ []
@@ -50,9 +64,6 @@ pub record GroupsOfFour : Type 0 where
 
 abbrev overflow : Finding
 overflow = finding_at ConnectionOverflow 8 0 Client (pos 2147483648)
-
-abbrev not_opened : Finding
-not_opened = finding_at NotOpened 7 9 Server (pos 8)
 
 abbrev credit : Finding
 credit = finding_at ConnectionCredit 6 0 Client (pos 65000)

@@ -1,2 +1,4 @@
 pub mod Ends
 pub mod Visits
+pub mod Ahead
+pub mod Loud

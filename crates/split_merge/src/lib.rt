@@ -1,9 +1,12 @@
 //! A connection by stream and back (RFC 9113, 5 and 5.2), and the laws of rounds.
 //!
-//! - [`split`] gives each stream its frames, as positions in the list of all frames: one row for each stream, in order
-//!   of first frames, promises of it included. [`groups`] deals the rows out in consecutive ranges. Parts are ranges of
-//!   one list of positions, so no frame is copied, and a stream of three frames costs no list of its own. Each visit's
-//!   row is sought once, as the visits are counted, and kept until its position is put in place.
+//! - [`split`] tells the quiet streams from the others. Nothing is shown of a quiet one, and most are. Each is told in
+//!   one walk over all frames in order (`stream_credit::QuietStream`), and of it only the frame that opens it is
+//!   answered. Where credits are shown, no stream is quiet.
+//! - To each other stream [`split`] gives its frames, as positions in the list of all frames: one row for each, in order
+//!   of first frames, promises of it included. A second walk finds them, where there are such streams. [`groups`] deals
+//!   the rows out in consecutive ranges. Parts are ranges of one list of positions, so no frame is copied, and a stream
+//!   of three frames costs no list of its own.
 //! - [`merge`] puts what was found part by part into one list, up to the least connection error (5.4.1). It asks for
 //!   neither sorted nor distinct findings, since their order is total.
 //! - [`stall_pairs`] and [`frame_at`] say which stalls findings tell of, and which frame each of them is about. The
@@ -25,15 +28,16 @@
 //! They say nothing of progress, and of no thread: `job_crew` promises boards that threads leave. [`worked_examples`]
 //! and [`worked_rounds`] show splits, stalls, two workers with a stop that one sees, and steps that no worker may take.
 //!
-//! Wrong bodies that the prover refuses: a rest of streams left out, positions overwritten, a frame looked up by its
-//! record, a withdrawn end, a cut at the first reported error. Tested by whole reports: that the calls succeed where there
-//! is memory.
+//! Wrong bodies that the prover refuses: a rest of streams left out, positions overwritten, a stream that is called
+//! quiet before its last changes, or where credits are shown, a frame looked up by its record, a withdrawn end, a cut at
+//! the first reported error. Tested by whole reports: that the calls succeed where there is memory.
 #![tactic(auto)]
 
 mod ends;
 mod grouping;
 pub mod laws;
 mod lookup;
+mod loud;
 mod merging;
 mod splits;
 mod stalls;

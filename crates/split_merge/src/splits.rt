@@ -2,9 +2,11 @@ ghost use Rattle.std.specs.Prelude.{◌≡◌, ◌^◌, ◌<◌, IfOk, length, s
 ghost use Rattle.audit_terms.specs.runs.Orderly.{IsOrderly};
 ghost use Rattle.settings_pair.specs.Changes.{AreOrderly, AreAcknowledged};
 ghost use Rattle.split_merge.specs.Split.{IsRange, IsSplit, part_of};
+ghost use Rattle.split_merge.specs.code.Loud.{AreCounted, IsLaid};
 ghost use Rattle.split_merge.specs.code.Visits.{AreDistinct, AreOfRows, HasRoomFor, IsFilled, NotAmong, counted, laid_out, notes_of, streams_in, total_of};
 
-use crate::visits::{Visit, Visits};
+use crate::loud::{Loud, Visit};
+use crate::visits::{Visits, finish};
 use audit_terms::Frame;
 use std::alloc::{AllocError, Global};
 use stream_credit::Changes;
@@ -54,14 +56,40 @@ pub fn split(
     requires acknowledged { AreAcknowledged frames.now changes.now }
     ensures { IfOk result (IsSplit credits_shown changes.now frames.now) }
 {
-    let table = Visits::of(alloc, hash, frames)?;
-    let mut rows = table.rows;
+    let mut table = Visits::of(alloc, hash, credits_shown, changes, frames)?;
+    finish(
+        table.rows.as_slice(),
+        &mut table.quiets,
+        credits_shown,
+        changes,
+    );
+    let loud = Loud::of(alloc, table.rows.as_slice(), table.quiets.as_slice())?;
+    let visits = loud.visits(
+        alloc,
+        table.rows.as_slice(),
+        &table.index,
+        &mut table.hints,
+        frames,
+    )?;
+    laid(alloc, loud, visits.as_slice())
+}
+
+/// The rows of the loud streams, with the positions that they visit.
+fn laid(alloc: Global, loud: Loud, visits: &[Visit]) -> Result<SplitFrames, AllocError>
+    requires total { total_of loud.rows.items < 2 ^ 32 }
+    requires counts { AreCounted loud.rows.items (notes_of (streams_in loud.rows.items) visits.now) }
+    requires distinct { AreDistinct (streams_in loud.rows.items) }
+    requires above { NotAmong 0 (streams_in loud.rows.items) }
+    requires known { AreOfRows (streams_in loud.rows.items) visits.now }
+    ensures { IfOk result (IsLaid loud.rows.items loud.opened.items visits.now) }
+{
+    let mut rows = loud.rows;
     let total = lay_out(&mut rows);
-    let positions = place(alloc, &mut rows, table.visits.as_slice(), total)?;
+    let positions = place(alloc, &mut rows, visits, total)?;
     Ok(SplitFrames {
         rows,
         positions,
-        opened: Vec::new(alloc),
+        opened: loud.opened,
     })
 }
 

@@ -1,12 +1,19 @@
-ghost use Rattle.std.specs.Prelude.{◌≡◌, ◌≢◌, ℕ, ◌*◌, ◌+◌, ◌^◌, ◌<◌, ◌++◌, List, IfOk, OnOk, Some, length, slice_get};
+ghost use Rattle.std.specs.Prelude.{◌≡◌, ◌≢◌, ℕ, ◌*◌, ◌+◌, ◌^◌, ◌<◌, ◌++◌, [], List, IfOk, MatchOption, OnOk, Some, length, slice_get};
 ghost use Rattle.std.specs.Bool.{OnTrue};
+ghost use Rattle.audit_terms.specs.declared.frames.Frame.{Frame as FrameTerm};
+ghost use Rattle.audit_terms.specs.declared.items.Change.{Change as ChangeTerm};
 ghost use Rattle.audit_terms.specs.Pass.{streams_of};
-ghost use Rattle.split_merge.specs.code.Visits.{HasAtMost, IsIndex, IsTableOf, counted, noted, notes_from, streams_in, with_row, with_stream};
+ghost use Rattle.audit_terms.specs.runs.Orderly.{IsOrderly};
+ghost use Rattle.settings_pair.specs.Changes.{AreOrderly, AreAcknowledged};
+ghost use Rattle.stream_credit.specs.code.QuietStream.{IsAheadIfQuiet};
+ghost use Rattle.split_merge.specs.code.Visits.{HasAtMost, IsIndex, IsTableOf, NotAmong, counted, noted, notes_from, streams_in, with_row, with_stream};
+ghost use Rattle.split_merge.specs.code.Ahead.{AreAhead, AreHushed, IsEnd, IsHushed, IsNext, with_next};
 
 use crate::splits::StreamRow;
-use audit_terms::Frame;
+use audit_terms::{Finding, Frame};
 use indexmap::IndexSet;
 use std::alloc::{AllocError, Global};
+use stream_credit::{Changes, QuietStream};
 use table_hash::TableHash;
 
 /// How many rows are remembered, a power of 2.
@@ -15,101 +22,132 @@ const HINTS: usize = 1024;
 /// Of so many frames and more rows are remembered.
 const MANY: usize = 128;
 
-/// A frame that a stream meets.
-#[derive(Clone, Copy)]
-pub struct Visit {
-    /// The index of the stream's row.
-    pub row: u32,
-    /// Where the frame stands in the list of all frames.
-    pub position: u32,
-}
-
 /// The streams that meet the frames seen so far, in order of their first frames.
 #[derive(Drop)]
 pub struct Visits {
     /// A row for each stream, whose range is as long as the stream's visits are many.
     pub rows: Vec<StreamRow>,
+    /// The stream of each row, for as long as nothing is shown of it.
+    pub quiets: Vec<QuietStream>,
     /// The streams of the rows, each at the index of its row.
     pub index: IndexSet<u32, TableHash>,
-    /// All visits, in order of frames.
-    pub visits: Vec<Visit>,
     /// Rows that were sought before, by the last bits of their streams' numbers: the streams of a connection are
     /// numbered one after the other, so that those of one time seldom share a place here.
     pub hints: Vec<u32>,
+    /// The row that was visited last.
+    pub last: u32,
 }
 
 impl Visits {
-    /// The streams that meet some frames.
-    pub fn of(alloc: Global, hash: TableHash, frames: &[Frame]) -> Result<Visits, AllocError>
-        requires { length frames.now < 2 ^ 28 }
+    /// The streams that meet some frames, each after its last one. Where credits are shown, none is quiet.
+    pub fn of(
+        alloc: Global,
+        hash: TableHash,
+        credits_shown: bool,
+        changes: &Changes<'_>,
+        frames: &[Frame],
+    ) -> Result<Visits, AllocError>
+        requires length { length frames.now < 2 ^ 28 }
+        requires frames { IsOrderly frames.now }
+        requires changes { AreOrderly changes.now }
+        requires acknowledged { AreAcknowledged frames.now changes.now }
         ensures streams { IfOk result (λ table. streams_in table.rows.items ≡ streams_of frames.now) }
         ensures table { IfOk result (IsTableOf (notes_from 0 frames.now)) }
         ensures room { IfOk result (HasAtMost (2 * length frames.now)) }
+        ensures ahead { IfOk result (λ table.
+            AreAhead changes.now frames.now (λ _. []) (streams_in table.rows.items) table.quiets.items) }
     {
-        let visits = Vec::with_capacity(alloc, frames.len())?;
+        let rows = Vec::new(alloc);
+        let quiets = Vec::new(alloc);
         let hints = hints_for(alloc, frames.len())?;
+        let mut said = Vec::new(alloc);
         let mut table = Visits {
-            rows: Vec::new(alloc),
+            rows,
+            quiets,
             index: IndexSet::with_hasher(alloc, hash),
-            visits,
             hints,
+            last: 0,
         };
-        let mut position = 0;
         for frame in frames {
-            table.note(frame.stream, position)?;
-            table.note(frame.promised_by(), position)?;
-            position += 1;
+            table.note(&mut said, credits_shown, frame.stream, changes, frame)?;
+            table.note(
+                &mut said,
+                credits_shown,
+                frame.promised_by(),
+                changes,
+                frame,
+            )?;
         }
         Ok(table)
     }
 
-    /// Notes that a stream, unless it is 0, meets the frame at a position.
-    fn note(&mut self, stream: u32, position: u32) -> Result<(), AllocError>
+    /// Notes that a stream, unless it is 0, meets a frame. `said` is room for what it shows.
+    fn note(
+        &mut self,
+        said: &mut Vec<Finding>,
+        credits_shown: bool,
+        stream: u32,
+        changes: &Changes<'_>,
+        frame: &Frame,
+    ) -> Result<(), AllocError>
         requires index { IsIndex (streams_in self.old.rows.items) self.old.index }
         requires room { HasAtMost (2 ^ 30) self.old }
+        requires streamed { stream < 2 ^ 31 }
+        requires next { IsNext stream changes.now frame.now (streams_in self.old.rows.items) self.old.quiets.items }
         ensures named { OnOk result (streams_in self.new.rows.items
             ≡ with_stream stream (streams_in self.old.rows.items)) }
-        ensures table { OnOk result ((notes : List (ℕ × ℕ)) → IsTableOf notes self.old
+        ensures table { OnOk result ((notes : List (ℕ × ℕ)) (position : ℕ) → IsTableOf notes self.old
             → IsTableOf (notes ++ noted stream position) self.new) }
         ensures room { OnOk result ((many : ℕ) → HasAtMost many self.old → HasAtMost (many + 1) self.new) }
+        ensures ahead { OnOk result ((all : List FrameTerm) (rest : ℕ → List FrameTerm)
+            → AreAhead changes.now all (with_next stream frame.now rest) (streams_in self.old.rows.items)
+            self.old.quiets.items
+            → AreAhead changes.now all rest (streams_in self.new.rows.items) self.new.quiets.items) }
     {
         if stream == 0 {
             return Ok(());
         }
-        let row = self.row_of(stream)?;
+        let row = self.row_of(credits_shown, stream)?;
+        self.last = row;
         count(&mut self.rows[row as usize]);
-        self.visits.push(Visit { row, position })?;
+        self.quiets[row as usize].meet(said, stream, changes, frame)?;
         Ok(())
     }
 
     /// The index of a stream's row, which is made where there is none yet.
-    fn row_of(&mut self, stream: u32) -> Result<u32, AllocError>
+    fn row_of(&mut self, credits_shown: bool, stream: u32) -> Result<u32, AllocError>
         requires index { IsIndex (streams_in self.old.rows.items) self.old.index }
         requires room { length self.old.rows.items < 2 ^ 31 }
         requires above { stream ≢ 0 }
+        requires streamed { stream < 2 ^ 31 }
         ensures index { OnOk result (IsIndex (streams_in self.new.rows.items) self.new.index) }
         ensures row { IfOk result (λ row. slice_get (streams_in self.new.rows.items) row ≡ Some stream) }
         ensures rows { OnOk result (self.new.rows.items ≡ with_row stream self.old.rows.items) }
-        ensures visits { OnOk result (self.new.visits ≡ self.old.visits) }
+        ensures ahead { OnOk result ((changes : List ChangeTerm) (all : List FrameTerm) (rest : ℕ → List FrameTerm)
+            → AreAhead changes all rest (streams_in self.old.rows.items) self.old.quiets.items
+            → AreAhead changes all rest (streams_in self.new.rows.items) self.new.quiets.items) }
     {
-        let hint = hint_of(self.hints.as_slice(), self.visits.as_slice(), stream);
+        let hint = hint_of(self.hints.as_slice(), self.last, stream);
         if is_row_of(self.rows.as_slice(), hint, stream) {
             return Ok(hint);
         }
-        let row = self.sought_row(stream)?;
+        let row = self.sought_row(credits_shown, stream)?;
         remember(&mut self.hints, stream, row);
         Ok(row)
     }
 
     /// The same, where no hint leads to the row.
-    fn sought_row(&mut self, stream: u32) -> Result<u32, AllocError>
+    fn sought_row(&mut self, credits_shown: bool, stream: u32) -> Result<u32, AllocError>
         requires index { IsIndex (streams_in self.old.rows.items) self.old.index }
         requires room { length self.old.rows.items < 2 ^ 31 }
         requires above { stream ≢ 0 }
+        requires streamed { stream < 2 ^ 31 }
         ensures index { OnOk result (IsIndex (streams_in self.new.rows.items) self.new.index) }
         ensures row { IfOk result (λ row. slice_get (streams_in self.new.rows.items) row ≡ Some stream) }
         ensures rows { OnOk result (self.new.rows.items ≡ with_row stream self.old.rows.items) }
-        ensures visits { OnOk result (self.new.visits ≡ self.old.visits) }
+        ensures ahead { OnOk result ((changes : List ChangeTerm) (all : List FrameTerm) (rest : ℕ → List FrameTerm)
+            → AreAhead changes all rest (streams_in self.old.rows.items) self.old.quiets.items
+            → AreAhead changes all rest (streams_in self.new.rows.items) self.new.quiets.items) }
     {
         let (row, added) = self.index.insert_full(stream)?;
         if !added {
@@ -120,8 +158,73 @@ impl Visits {
             from: 0,
             to: 0,
         })?;
+        self.quiets.push(unmet(credits_shown))?;
         Ok(row as u32)
     }
+}
+
+/// A stream that no frame has met, and that is not quiet where credits are shown.
+fn unmet(credits_shown: bool) -> QuietStream
+    ensures { (stream : ℕ) (changes : List ChangeTerm) (all : List FrameTerm) → stream < 2 ^ 31 → IsOrderly all
+        → AreOrderly changes → AreAcknowledged all changes → IsAheadIfQuiet stream changes all all result }
+{
+    let mut quiet = QuietStream::idle();
+    if credits_shown {
+        quiet.is_quiet = false;
+    }
+    quiet
+}
+
+/// The streams of the rows after the changes behind their last frames: each that is still quiet shows nothing.
+pub fn finish(
+    rows: &[StreamRow],
+    quiets: &mut Vec<QuietStream>,
+    credits_shown: bool,
+    changes: &Changes<'_>,
+)
+    requires { IsEnd changes.now (streams_in rows.now) quiets.old.items }
+    ensures { (all : List FrameTerm) → AreAhead changes.now all (λ _. []) (streams_in rows.now) quiets.old.items
+        → AreHushed credits_shown changes.now all (streams_in rows.now) quiets.new.items }
+{
+    for row in 0..rows.len() {
+        end(&mut quiets[row], rows[row].stream, credits_shown, changes);
+    }
+}
+
+/// The stream after the changes behind its last frame; where credits are shown, it is not quiet.
+fn end(quiet: &mut QuietStream, stream: u32, credits_shown: bool, changes: &Changes<'_>)
+    requires { (all : List FrameTerm) × IsAheadIfQuiet stream changes.now all [] quiet.old }
+    ensures { (all : List FrameTerm) → IsAheadIfQuiet stream changes.now all [] quiet.old
+        → IsHushed credits_shown changes.now stream all quiet.new }
+{
+    quiet.finish(stream, changes);
+    if credits_shown {
+        quiet.is_quiet = false;
+    }
+}
+
+/// The index of a stream's row, if it has one.
+pub fn known_row(
+    rows: &[StreamRow],
+    index: &IndexSet<u32, TableHash>,
+    hints: &mut Vec<u32>,
+    stream: u32,
+) -> Option<u32>
+    requires index { IsIndex (streams_in rows.now) index.now }
+    requires room { length rows.now < 2 ^ 31 }
+    ensures { MatchOption result (NotAmong stream (streams_in rows.now))
+        (λ row. slice_get (streams_in rows.now) row ≡ Some stream) }
+{
+    if stream == 0 {
+        return None;
+    }
+    let hint = hint_of(hints.as_slice(), 0, stream);
+    if is_row_of(rows, hint, stream) {
+        return Some(hint);
+    }
+    let (row, _) = index.get_full(&stream)?;
+    remember(hints, stream, row as u32);
+    Some(row as u32)
 }
 
 /// Room for rows to be remembered: none, where there are few frames.
@@ -138,13 +241,10 @@ fn place_of(stream: u32) -> usize {
 }
 
 /// The row that is remembered where that of a stream would be, or else the one that was visited last.
-fn hint_of(hints: &[u32], visits: &[Visit], stream: u32) -> u32 {
-    if let Some(row) = hints.get(place_of(stream)) {
-        return *row;
-    }
-    match visits.last() {
-        Some(visit) => visit.row,
-        None => 0,
+fn hint_of(hints: &[u32], last: u32, stream: u32) -> u32 {
+    match hints.get(place_of(stream)) {
+        Some(row) => *row,
+        None => last,
     }
 }
 

@@ -1,6 +1,6 @@
 //! Worked examples of the definitions, by proof: findings with the stalls that they tell of, frames by stream, groups,
 //! findings of several lists. The functions do nothing; each contract is the example.
-ghost use Rattle.split_merge.specs.SplitExamples.{CutsAtFirstReportedError, GroupsOfFour, SplitsByStream};
+ghost use Rattle.split_merge.specs.SplitExamples.{CutsAtFirstReportedError, GroupsOfFour, SplitsByStream, TellsQuietStreams};
 ghost use Rattle.split_merge.specs.StallExamples.{BothSidesStall, ClockGoesBack, FirstEndCounts, StallEndsThenOverrun, StallsStayOpen};
 
 /// A stall of the connection ends and another begins, and that of the stream goes on.
@@ -31,6 +31,11 @@ pub fn clock_goes_back()
 /// Streams stand in order of first frames; a promise stands with the stream that it is on and the one that it promises.
 pub fn split_by_stream()
     ensures { SplitsByStream }
+{}
+
+/// A request is quiet where its credits are not shown; a grant on a stream that was never opened is not.
+pub fn quiet_streams()
+    ensures { TellsQuietStreams }
 {}
 
 /// Groups are as many as asked for, or as what there is.

@@ -6,3 +6,4 @@ pub mod WalkLemmas
 pub mod QuietLemmas
 pub mod FrameLemmas
 pub mod RunLemmas
+pub mod QuietStreams

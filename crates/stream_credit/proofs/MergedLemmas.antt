@@ -17,7 +17,7 @@ use Rattle.stream_credit.specs.code.Merged.{joined_step, frame_with, merged_at, 
 equal_test : (m n : ℕ) → m ≡ n → nat_eq m n ≡ true
 equal_test m n e = grind (arith, nat_tests)
 
-unequal_test : (m n : ℕ) → (m ≡ n → ⊥) → nat_eq m n ≡ false
+pub unequal_test : (m n : ℕ) → (m ≡ n → ⊥) → nat_eq m n ≡ false
 unequal_test m n e = grind (arith, nat_tests)
 
 pub below_test : (m n : ℕ) → m < n → nat_lt m n ≡ true
@@ -43,7 +43,7 @@ with_change-first change (step ∷ steps) h =
     rw (unequal_test step.number change.number (λ e. absurd (omega arith)), below_test change.number step.number h) refl
 
 -- a frame below all changes is the first
-merged_at-first : (frame : Frame) (after : List Change → List Step) (changes : List Change) → AreOrderlyFrom (frame.number + 1) changes
+pub merged_at-first : (frame : Frame) (after : List Change → List Step) (changes : List Change) → AreOrderlyFrom (frame.number + 1) changes
     → merged_at frame after changes ≡ frame_step frame ∷ after changes
 merged_at-first frame after [] h = refl
 merged_at-first frame after (change ∷ changes) h =

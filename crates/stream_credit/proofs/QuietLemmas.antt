@@ -348,7 +348,7 @@ module _ (stream : ℕ) (initial : Sides ℕ) (entry : Stream) (frame : Frame) (
       (unsaid (is_not_opened stream entry.life frame) _ m.opened) (unsaid (is_after_end entry.life frame) _ m.in_time)
       (unsaid (is_zero_grant frame.body && is_some entry.life.opened) _ m.grants)
 
-  quiet-unshown : shown false (in_order (stream_said stream initial entry (alone frame))) ≡ []
+  pub quiet-unshown : shown false (in_order (stream_said stream initial entry (alone frame))) ≡ []
   quiet-unshown =
       none-shown (in_order (stream_said stream initial entry (alone frame)))
       (each-in_order IsUnshown (stream_said stream initial entry (alone frame))
@@ -373,7 +373,7 @@ module _ (stream : ℕ) (initial : Sides ℕ) (entry : Stream) (frame : Frame) (
       each (λ d. window_after d stream initial (alone frame) (side_of d entry.window) ≡ side_of d next) one.side own-after
       (rest-after_by (side_of (other one.side) entry.window) ∙ sym q.rest)
 
-  quiet-after : stream_after stream initial entry (alone frame) ≡ record { life = entry.life; window = next }
+  pub quiet-after : stream_after stream initial entry (alone frame) ≡ record { life = entry.life; window = next }
   quiet-after = rw (m.kept, m.opens, side-after Client, side-after Server) refl
 
   -- ---- its room

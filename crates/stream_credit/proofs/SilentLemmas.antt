@@ -58,7 +58,7 @@ none-shown (x ∷ xs) h = rw (h.0) (none-shown xs h.1)
 abbrev pub change_alone : (number : ℕ) → Option Change → Step
 change_alone number change = record { number = number; frame = None; change = change }
 
-abbrev moved_to : Side → Sides ℕ → Option Change → ℤ → ℤ
+abbrev pub moved_to : Side → Sides ℕ → Option Change → ℤ → ℤ
 moved_to d initial change credit = moved (side_of d initial) (new_initial change d (side_of d initial)) credit
 
 nothing-added : (credit : ℤ) (before after : ℕ) → credit +ℤ ((pos 0 -ℤ pos 0) +ℤ (pos after -ℤ pos before)) ≡ moved before after credit

@@ -154,22 +154,22 @@ past-quiet stop number (step ∷ steps) past h =
 abbrev IsDead : Walk → Type 0
 IsDead walk = is_live walk.entry ≡ false
 
-abbrev gone : StreamLife → Stream
+abbrev pub gone : StreamLife → Stream
 gone life = record { life = life; window = each_side (λ _. None) }
 
-gone-by : (life : StreamLife) (client server : Option ℤ) → (is_some client || is_some server) ≡ false
+pub gone-by : (life : StreamLife) (client server : Option ℤ) → (is_some client || is_some server) ≡ false
     → (let entry : Stream = record { life = life; window = record { client = client; server = server } } in entry ≡ gone life)
 gone-by life None None h = refl
 gone-by life None (Some credit) h = cc
 gone-by life (Some credit) server h = cc
 
-run-passes : (stream : ℕ) (initial : Sides ℕ) (life : StreamLife) (changes : List Change) (rest : List Step)
+pub run-passes : (stream : ℕ) (initial : Sides ℕ) (life : StreamLife) (changes : List Change) (rest : List Step)
     → stream_run_from stream initial (gone life) (map change_step changes ++ rest)
     ≡ stream_run_from stream (after_changes initial changes) (gone life) rest
 run-passes stream initial life [] rest = refl
 run-passes stream initial life (change ∷ changes) rest = run-passes stream (initial_after (Some change) initial) life changes rest
 
-entry-passes : (stream : ℕ) (initial : Sides ℕ) (life : StreamLife) (changes : List Change) (rest : List Step)
+pub entry-passes : (stream : ℕ) (initial : Sides ℕ) (life : StreamLife) (changes : List Change) (rest : List Step)
     → stream_after_all stream initial (gone life) (map change_step changes ++ rest)
     ≡ stream_after_all stream (after_changes initial changes) (gone life) rest
 entry-passes stream initial life [] rest = refl

@@ -1,7 +1,11 @@
-ghost use Rattle.std.specs.Prelude.{◌≡◌, List, IfOk};
+ghost use Rattle.std.specs.Prelude.{◌≡◌, ◌+◌, ◌<◌, ◌≤◌, List, IfOk, Some, None, slice_get, length, drop};
+ghost use Rattle.std.specs.Bool.{OnFalse};
+ghost use Rattle.std.specs.Option.{ForSome};
 ghost use Rattle.audit_terms.specs.declared.items.Change.{Change};
 ghost use Rattle.audit_terms.specs.InForce.{initial_in_force};
-ghost use Rattle.stream_credit.specs.code.Left.{after_each};
+ghost use Rattle.settings_pair.specs.Changes.{AreOrderly};
+ghost use Rattle.stream_credit.specs.code.Left.{after_each, passed};
+ghost use Rattle.stream_credit.specs.code.QuietStream.{AreFrom, initial_at};
 
 use crate::left::Left;
 use audit_terms::{Change, FIRST_WINDOW, Sides, initial_after};
@@ -53,5 +57,48 @@ impl<'a> Changes<'a> {
             changes: self.all,
             in_force: self.in_force.as_slice(),
         }
+    }
+
+    /// The change after so many, if its number is below another.
+    pub(crate) fn before(&self, met: u32, number: u32) -> Option<Change>
+        ensures change { ForSome result (λ change. slice_get self.now met ≡ Some change) }
+        ensures below { ForSome result (λ change. change.number < number) }
+        ensures none { result ≡ None → AreFrom number (drop met self.now) }
+    {
+        match self.all.get(met as usize) {
+            Some(change) if change.number < number => Some(*change),
+            _ => None,
+        }
+    }
+
+    /// Has the change after so many this number?
+    pub(crate) fn is_at(&self, met: u32, number: u32) -> bool
+        ensures { OnFalse result (AreFrom number (drop met self.now) → AreFrom (number + 1) (drop met self.now)) }
+    {
+        match self.all.get(met as usize) {
+            Some(change) => change.number == number,
+            None => false,
+        }
+    }
+
+    /// The initial windows in force after so many changes.
+    pub(crate) fn initial_at(&self, met: u32) -> Sides<u32>
+        requires { met ≤ length self.now }
+        ensures { result ≡ initial_at met self.now }
+    {
+        if met == 0 {
+            return FIRST_WINDOWS;
+        }
+        self.in_force[met as usize - 1]
+    }
+
+    /// How many changes are met, once those before a number are, where so many were met before.
+    pub(crate) fn passed(&self, met: u32, number: u32) -> u32
+        requires orderly { AreOrderly self.now }
+        requires met { met ≤ length self.now }
+        ensures { result ≡ met + length (passed number (drop met self.now)) }
+    {
+        let left = &self.all[met as usize..];
+        met + left.partition_point(|change| change.number < number) as u32
     }
 }

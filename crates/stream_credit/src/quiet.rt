@@ -15,9 +15,9 @@ use audit_terms::{Body, Frame, LARGEST_WINDOW, Side, Sides, StreamLife};
 #[derive(Clone, Copy)]
 pub(crate) struct Move {
     /// Whose window it is.
-    side: Side,
+    pub(crate) side: Side,
     /// What the credit rises by, in bytes: below 0 for content.
-    amount: i64,
+    pub(crate) amount: i64,
 }
 
 /// What a frame moves, if it is DATA, HEADERS or a grant that does nothing else to an open stream.

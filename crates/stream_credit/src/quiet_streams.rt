@@ -1,16 +1,25 @@
 //! Streams of which nothing is shown, where credits are not shown: most are of this kind. Such a stream is told by its
 //! frames in the order of the capture, beside all others, and need not be gone through by itself.
 
-ghost use Rattle.std.specs.Prelude.{◌≡◌, ℕ, ◌^◌, ◌<◌, ◌∷◌, [], List, OnOk};
-ghost use Rattle.std.specs.Bool.{OnTrue};
+ghost use Rattle.std.specs.Prelude.{◌≡◌, ℕ, pos, ◌+◌, ◌^◌, ◌<◌, ◌≤◌, ◌∷◌, [], drop, length, true, false, List, OnOk, IfOk};
+ghost use Rattle.std.specs.Bool.{OnTrue, OnFalse};
+ghost use Rattle.std.specs.Option.{ForSome};
 ghost use Rattle.audit_terms.specs.declared.frames.Frame.{Frame as FrameTerm};
 ghost use Rattle.audit_terms.specs.declared.items.Change.{Change as ChangeTerm};
-ghost use Rattle.audit_terms.specs.runs.Orderly.{IsOrderly};
+ghost use Rattle.audit_terms.specs.declared.sides.Sides.{Sides as SidesTerm};
+ghost use Rattle.audit_terms.specs.runs.Orderly.{IsOrderly, IsInRange};
 ghost use Rattle.settings_pair.specs.Changes.{AreOrderly, AreAcknowledged};
-ghost use Rattle.stream_credit.specs.code.QuietStream.{IsAheadIfQuiet, ShowsNothing, opened_of};
+ghost use Rattle.stream_credit.specs.Looks.{is_live};
+ghost use Rattle.audit_terms.specs.code.Room.{HasRoom};
+ghost use Rattle.stream_credit.specs.code.QuietStream.{AreFrom, IsAhead, IsAheadIfQuiet, IsCreditOf, IsMovedBy, IsNext, IsPassed, ShowsNothing, StartsAt, opened_of, stream_of, window_of};
+ghost use Rattle.stream_credit.specs.code.Quiet.{IsRaised};
 
 use crate::changes::Changes;
-use audit_terms::{Finding, Frame, Sides};
+use crate::quiet::{Move, move_of};
+use audit_terms::{
+    Finding, Frame, LARGEST_WINDOW, Side, Sides, Step, Stream, StreamLife, initial_after,
+    keep_shown,
+};
 use std::alloc::AllocError;
 
 /// A stream between two of its frames, for as long as nothing is shown of it: then each live window has credit.
@@ -30,6 +39,63 @@ pub struct QuietStream {
     pub is_quiet: bool,
 }
 
+/// The window whose credit is in store.
+fn window_of(credit: u32) -> Option<i64>
+    ensures { result ≡ window_of credit }
+{
+    if credit == 0 {
+        None
+    } else {
+        Some(i64::from(credit))
+    }
+}
+
+/// A credit as it is kept, if some is left and it is no more than the largest (RFC 9113, 6.9.1).
+fn kept(credit: i64) -> Option<u32>
+    ensures { ForSome result (IsCreditOf credit) }
+{
+    if credit <= 0 || credit > i64::from(LARGEST_WINDOW) {
+        return None;
+    }
+    Some(credit as u32)
+}
+
+/// A window as it is kept, under the same conditions.
+fn kept_window(window: &Option<i64>) -> Option<u32>
+    ensures { ForSome result (λ credit. (window_of credit ≡ window.now) × (credit < 2 ^ 31)) }
+{
+    match window {
+        Some(credit) => kept(*credit),
+        None => Some(0),
+    }
+}
+
+/// A credit after a change of the initial window, under the same conditions (6.9.2).
+fn moved(credit: u32, before: u32, after: u32) -> Option<u32>
+    requires { credit < 2 ^ 31 }
+    ensures { ForSome result (IsMovedBy before after credit) }
+{
+    if credit == 0 {
+        return Some(0);
+    }
+    kept(i64::from(credit) + i64::from(after) - i64::from(before))
+}
+
+/// A credit after a frame moves it by an amount, if it is live, under the same conditions.
+fn raised(credit: u32, amount: &i64) -> Option<u32>
+    requires amount { HasRoom (2 ^ 32) amount.now }
+    requires within { credit < 2 ^ 31 }
+    ensures raised { ForSome result (λ after. IsRaised (pos credit) amount.now (pos after)) }
+    ensures some { ForSome result (λ after. 0 < after) }
+    ensures within { ForSome result (λ after. after < 2 ^ 31) }
+    ensures live { ForSome result (λ after. 0 < credit) }
+{
+    if credit == 0 {
+        return None;
+    }
+    kept(i64::from(credit) + *amount)
+}
+
 impl QuietStream {
     /// A stream that no frame has met.
     pub fn idle() -> Self
@@ -45,8 +111,209 @@ impl QuietStream {
                 client: false,
                 server: false,
             },
-            is_quiet: false,
+            is_quiet: true,
         }
+    }
+
+    /// The number of the frame that opened it.
+    pub fn opened_at(&self) -> Option<u32>
+        ensures { result ≡ opened_of self.now.opened }
+    {
+        if self.opened == 0 {
+            None
+        } else {
+            Some(self.opened)
+        }
+    }
+
+    /// Its opening and its ends.
+    fn life(&self) -> StreamLife
+        ensures { result ≡ (stream_of self.now).life }
+    {
+        StreamLife {
+            opened: self.opened_at(),
+            ended: self.ended,
+        }
+    }
+
+    /// The stream that it stands for.
+    fn stream(&self) -> Stream
+        ensures { result ≡ stream_of self.now }
+    {
+        Stream {
+            life: self.life(),
+            window: Sides {
+                client: window_of(self.client),
+                server: window_of(self.server),
+            },
+        }
+    }
+
+    /// Does a window of the stream live?
+    fn is_live(&self) -> bool
+        ensures { result ≡ is_live (stream_of self.now) }
+    {
+        self.client != 0 || self.server != 0
+    }
+
+    /// Becomes what stands for a stream, if each live window has credit and no more than the largest.
+    fn becomes(&mut self, entry: &Stream) -> bool
+        ensures stream { OnTrue result (stream_of self.new ≡ entry.now) }
+        ensures met { OnTrue result (self.new.met ≡ self.old.met) }
+        ensures client { OnTrue result (self.new.client < 2 ^ 31) }
+        ensures server { OnTrue result (self.new.server < 2 ^ 31) }
+    {
+        let opened = entry.life.opened.unwrap_or(0);
+        if entry.life.opened.is_some() && opened == 0 {
+            return false;
+        }
+        let (Some(client), Some(server)) = (
+            kept_window(&entry.window.client),
+            kept_window(&entry.window.server),
+        ) else {
+            return false;
+        };
+        self.opened = opened;
+        self.ended = entry.life.ended;
+        self.client = client;
+        self.server = server;
+        true
+    }
+
+    /// Meets a change that moves its windows from one initial window to another, and answers whether nothing of that
+    /// may be shown.
+    fn meet_change(&mut self, before: &Sides<u32>, after: &Sides<u32>) -> bool
+        requires client { self.old.client < 2 ^ 31 }
+        requires server { self.old.server < 2 ^ 31 }
+        requires met { self.old.met < 2 ^ 28 }
+        ensures { OnTrue result (IsPassed before.now after.now self.old self.new) }
+    {
+        let (Some(client), Some(server)) = (
+            moved(self.client, before.client, after.client),
+            moved(self.server, before.server, after.server),
+        ) else {
+            return false;
+        };
+        self.client = client;
+        self.server = server;
+        self.met += 1;
+        true
+    }
+
+    /// Meets the changes before a number while a window lives, one by one, and answers whether nothing of them may be
+    /// shown.
+    fn meet_each(&mut self, changes: &Changes<'_>, number: u32) -> bool
+        requires { (stream : ℕ) × (all rest : List FrameTerm) × StartsAt number rest
+            × IsAhead stream changes.now all rest self.old }
+        ensures ahead { OnTrue result ((stream : ℕ) (all rest : List FrameTerm) → StartsAt number rest
+            → IsAhead stream changes.now all rest self.old → IsAhead stream changes.now all rest self.new) }
+        ensures passed { OnTrue result (AreFrom number (drop self.new.met changes.now)) }
+    {
+        while let Some(change) = changes.before(self.met, number) {
+            let initial = changes.initial_at(self.met);
+            if !self.meet_change(&initial, &initial_after(&Some(change), &initial)) {
+                return false;
+            }
+        }
+        true
+    }
+
+    /// Meets the changes before a number, and answers whether nothing of them may be shown. A change that finds no live
+    /// window is passed over.
+    fn meet_changes(&mut self, changes: &Changes<'_>, number: u32) -> bool
+        requires { (stream : ℕ) × (all rest : List FrameTerm) × StartsAt number rest
+            × IsAhead stream changes.now all rest self.old }
+        ensures ahead { OnTrue result ((stream : ℕ) (all rest : List FrameTerm) → StartsAt number rest
+            → IsAhead stream changes.now all rest self.old → IsAhead stream changes.now all rest self.new) }
+        ensures passed { OnTrue result (AreFrom number (drop self.new.met changes.now)) }
+    {
+        if self.is_live() {
+            return self.meet_each(changes, number);
+        }
+        self.met = changes.passed(self.met, number);
+        true
+    }
+
+    /// Moves a window by what a frame sends or grants, if it does nothing else and nothing of that is shown, and
+    /// answers whether it did.
+    fn moves(&mut self, stream: u32, frame: &Frame) -> bool
+        requires client { self.old.client < 2 ^ 31 }
+        requires server { self.old.server < 2 ^ 31 }
+        ensures moved { OnTrue result ((initial : SidesTerm ℕ) → IsNext stream initial frame.now self.old self.new) }
+        ensures kept { OnFalse result (self.new ≡ self.old) }
+    {
+        let Some(one) = move_of(stream, &self.life(), frame) else {
+            return false;
+        };
+        match one.side {
+            Side::Client => match raised(self.client, &one.amount) {
+                Some(credit) => {
+                    self.client = credit;
+                    true
+                }
+                None => false,
+            },
+            Side::Server => match raised(self.server, &one.amount) {
+                Some(credit) => {
+                    self.server = credit;
+                    true
+                }
+                None => false,
+            },
+        }
+    }
+
+    /// Meets a frame that brings no change, and answers whether nothing of it may be shown.
+    fn meet_step(
+        &mut self,
+        said: &mut Vec<Finding>,
+        stream: u32,
+        initial: &Sides<u32>,
+        frame: &Frame,
+    ) -> Result<bool, AllocError>
+        requires streamed { stream < 2 ^ 31 }
+        requires frame { IsInRange frame.now }
+        requires client { self.old.client < 2 ^ 31 }
+        requires server { self.old.server < 2 ^ 31 }
+        ensures { IfOk result (λ quiet. OnTrue quiet (IsNext stream initial.now frame.now self.old self.new)) }
+    {
+        said.clear();
+        let mut entry = self.stream();
+        let step = Step {
+            number: frame.number,
+            frame: Some(*frame),
+            change: None,
+        };
+        entry.meet(said, stream, initial, &step)?;
+        keep_shown(said, false);
+        if !said.is_empty() {
+            return Ok(false);
+        }
+        Ok(self.becomes(&entry))
+    }
+
+    /// Meets its next frame, behind the changes before it, and answers whether nothing of it may be shown.
+    fn meet_frame(
+        &mut self,
+        said: &mut Vec<Finding>,
+        stream: u32,
+        changes: &Changes<'_>,
+        frame: &Frame,
+    ) -> Result<bool, AllocError>
+        requires ahead { (all rest : List FrameTerm) × IsAhead stream changes.now all (frame.now ∷ rest) self.old }
+        requires passed { AreFrom frame.now.number (drop self.old.met changes.now) }
+        ensures { IfOk result (λ quiet. OnTrue quiet ((all rest : List FrameTerm)
+            → IsAhead stream changes.now all (frame.now ∷ rest) self.old
+            → IsAhead stream changes.now all rest self.new)) }
+    {
+        if changes.is_at(self.met, frame.number) {
+            return Ok(false);
+        }
+        if self.moves(stream, frame) {
+            return Ok(true);
+        }
+        let initial = changes.initial_at(self.met);
+        self.meet_step(said, stream, &initial, frame)
     }
 
     /// The stream after its next frame and the changes before it. `said` is room for what they show.
@@ -62,7 +329,14 @@ impl QuietStream {
             → IsAheadIfQuiet stream changes.now all (frame.now ∷ rest) self.old
             → IsAheadIfQuiet stream changes.now all rest self.new) }
     {
-        self.is_quiet = false;
+        if !self.is_quiet {
+            return Ok(());
+        }
+        if !self.meet_changes(changes, frame.number) {
+            self.is_quiet = false;
+            return Ok(());
+        }
+        self.is_quiet = self.meet_frame(said, stream, changes, frame)?;
         Ok(())
     }
 
@@ -72,17 +346,8 @@ impl QuietStream {
         ensures { (all : List FrameTerm) → IsAheadIfQuiet stream changes.now all [] self.old
             → OnTrue self.new.is_quiet (ShowsNothing stream changes.now all self.new.opened) }
     {
-        self.is_quiet = false;
-    }
-
-    /// The number of the frame that opened it.
-    pub fn opened_at(&self) -> Option<u32>
-        ensures { result ≡ opened_of self.now.opened }
-    {
-        if self.opened == 0 {
-            None
-        } else {
-            Some(self.opened)
+        if self.is_quiet {
+            self.is_quiet = self.meet_changes(changes, u32::MAX);
         }
     }
 }

@@ -6,7 +6,7 @@ use Rattle.indexmap.specs.IndexSet.{IndexSet}
 use Rattle.audit_terms.specs.declared.frames.Frame.{Frame}
 use Rattle.audit_terms.specs.Frame.{promised_by}
 use Rattle.split_merge.specs.declared.splits.StreamRow.{StreamRow}
-use Rattle.split_merge.specs.declared.visits.Visit.{Visit}
+use Rattle.split_merge.specs.declared.loud.Visit.{Visit}
 use Rattle.split_merge.specs.declared.visits.Visits.{Visits}
 
 -- the streams of the rows
@@ -88,8 +88,6 @@ pub record IsListed (notes : List (ℕ × ℕ)) (rows : List StreamRow) : Type 0
 pub record IsTableOf (notes : List (ℕ × ℕ)) (table : Visits) : Type 0 where
   pub index : IsIndex (streams_in table.rows.items) table.index
   pub listed : IsListed notes table.rows.items
-  pub known : AreOfRows (streams_in table.rows.items) table.visits.items
-  pub noted : notes_of (streams_in table.rows.items) table.visits.items ≡ notes
 
 -- the table holds at most so many rows and visits
 pub record HasAtMost (many : ℕ) (table : Visits) : Type 0 where

@@ -1,17 +1,19 @@
 -- A stream of which nothing was shown so far, where credits are not shown.
-use Rattle.std.specs.Prelude.{◌≡◌, ℕ, ℤ, pos, ◌^◌, ◌<◌, ◌≤◌, ◌==◌, if◌then◌else◌, true, false, List, [], take, drop, length, Option, Some, None}
+use Rattle.std.specs.Prelude.{◌≡◌, ℕ, ℤ, pos, ◌+◌, ◌^◌, ◌<◌, ◌≤◌, ◌==◌, if◌then◌else◌, true, false, List, [], ◌∷◌, take, drop, length, Option, Some, None, option_map}
 use Rattle.audit_terms.specs.declared.sides.Sides.{Sides}
 use Rattle.audit_terms.specs.declared.frames.Frame.{Frame}
 use Rattle.audit_terms.specs.declared.items.Change.{Change}
 use Rattle.audit_terms.specs.declared.streams.Stream.{Stream}
 use Rattle.audit_terms.specs.InForce.{initial_in_force}
-use Rattle.audit_terms.specs.Finding.{shown}
+use Rattle.audit_terms.specs.Finding.{in_order, shown}
+use Rattle.audit_terms.specs.Stream.{stream_said, stream_after}
 use Rattle.audit_terms.specs.runs.Orderly.{IsOrderly}
-use Rattle.audit_terms.specs.runs.Streams.{stream_run, stream_run_from, stream_at_end, stream_after_all}
+use Rattle.audit_terms.specs.runs.Streams.{frame_step, stream_run, stream_run_from, stream_at_end, stream_after_all}
 use Rattle.settings_pair.specs.Changes.{AreOrderly}
 use Rattle.stream_credit.specs.declared.quiet_streams.QuietStream.{QuietStream}
 use Rattle.stream_credit.specs.code.Left.{after_changes}
 use Rattle.stream_credit.specs.code.Merged.{merged, Acknowledge}
+use Rattle.stream_credit.specs.code.Silent.{moved, IsSilent}
 
 -- the window whose credit is in store: 0 stands for none, since a credit of 0 would be shown
 abbrev pub window_of : (credit : ℕ) → Option ℤ
@@ -31,6 +33,44 @@ stream_of quiet = record {
 -- the initial windows in force after so many of the changes
 abbrev pub initial_at : (met : ℕ) → List Change → Sides ℕ
 initial_at met changes = after_changes initial_in_force.initial (take met changes)
+
+-- a credit as it is kept: more than 0, and no more than the largest
+pub record IsCreditOf (credit : ℤ) (kept : ℕ) : Type 0 where
+  pub same : pos kept ≡ credit
+  pub some : 0 < kept
+  pub within : kept < 2 ^ 31
+
+-- a credit that is kept, after the initial window in force goes from one value to another: nothing of that is shown
+pub record IsMovedBy (before after credit next : ℕ) : Type 0 where
+  pub moved : window_of next ≡ option_map (moved before after) (window_of credit)
+  pub silent : IsSilent (window_of credit) (window_of next)
+  pub within : next < 2 ^ 31
+
+-- what a change does to it, which takes the initial windows in force from `before` to `after`
+pub record IsPassed (before after : Sides ℕ) (old new : QuietStream) : Type 0 where
+  pub client : IsMovedBy before.client after.client old.client new.client
+  pub server : IsMovedBy before.server after.server old.server new.server
+  pub opened : new.opened ≡ old.opened
+  pub ended : new.ended ≡ old.ended
+  pub met : new.met ≡ old.met + 1
+
+-- what a frame without a change does to it
+pub record IsNext (stream : ℕ) (initial : Sides ℕ) (frame : Frame) (old new : QuietStream) : Type 0 where
+  pub shown : shown false (in_order (stream_said stream initial (stream_of old) (frame_step frame))) ≡ []
+  pub after : stream_of new ≡ stream_after stream initial (stream_of old) (frame_step frame)
+  pub met : new.met ≡ old.met
+  pub client : new.client < 2 ^ 31
+  pub server : new.server < 2 ^ 31
+
+-- the first change, if there is one, is not before the number
+abbrev pub AreFrom : (number : ℕ) → List Change → Type 0
+AreFrom number [] = Unit {0}
+AreFrom number (change ∷ changes) = number ≤ change.number
+
+-- the first frame, if there is one, has the number
+abbrev pub StartsAt : (number : ℕ) → List Frame → Type 0
+StartsAt number [] = Unit {0}
+StartsAt number (frame ∷ frames) = frame.number ≡ number
 
 -- nothing is shown of the stream before the rest of its frames, and what it comes to from there on is what it comes to
 -- in all

@@ -2,7 +2,7 @@ use Rattle.std.proofs.Common.{◌≢◌, ◌<◌, length, get_or, set, take, ◌
 use Rattle.std.proofs.lemmas.List.{length-set, take_all}
 use Rattle.std.proofs.lemmas.Option.{slice_get-get_or}
 use Rattle.split_merge.specs.declared.splits.StreamRow.{StreamRow}
-use Rattle.split_merge.specs.declared.visits.Visit.{Visit}
+use Rattle.split_merge.specs.declared.loud.Visit.{Visit}
 use Rattle.split_merge.specs.code.Visits.{streams_in, notes_of, counted, IsFilled}
 use Rattle.split_merge.proofs.NamedStreams.{length-streams_in}
 use Rattle.split_merge.proofs.Visited.{not_among-at}

@@ -1,81 +1,118 @@
-use Rattle.std.proofs.Common.{◌≡◌, length, sym, ap, ◌∙◌, subst, arith}
-use Rattle.std.specs.Vec.{with_items}
-use Rattle.std.proofs.lemmas.List.{with_items_is}
-use Rattle.split_merge.specs.code.Visits.{streams_in, notes_from, notes_of, laid_out, total_of, NotAmong, AreDistinct, AreOfRows, HasRoomFor, IsFilled}
-use Rattle.split_merge.proofs.LaidOut.{laid-length, laid-streams, room-laid}
-use Rattle.split_merge.proofs.SplitIs.{split-is}
+use Rattle.std.proofs.Common.{◌≡◌, ℕ, ◌<◌, List, [], length, sym, ap, ◌∙◌, subst, arith}
+use Rattle.std.specs.Prelude.{IfOk, Result, Ok, Err}
+use Rattle.split_merge.specs.declared.splits.SplitFrames.{SplitFrames}
+use Rattle.split_merge.specs.Split.{IsSplit}
+use Rattle.split_merge.specs.code.Visits.{streams_in, notes_from, notes_of, NotAmong, AreDistinct}
+use Rattle.split_merge.specs.code.Ahead.{AreAhead, AreHushed}
+use Rattle.split_merge.specs.code.Loud.{loud_of, places_from, opened_in, ArePlaces, AreVisits, AreCounted, IsLaid}
+use Rattle.split_merge.proofs.LoudStreams.{loud-streams, loud-total, loud-distinct, loud-not_among, are-places}
+use Rattle.split_merge.proofs.SplitIs.{loud-counted, split-is}
 use Rattle.split_merge.proofs.splits.split.Goals as goal
 
-pub place-requires-clause-distinct : goal.place-requires-clause-distinct
-place-requires-clause-distinct c =
-    let rows = c.in_ok-table.table.rows in
-    let laid = c.lay_out-total.ensures.rows ∙ ap (laid_out 0) c.deref_mut.ensures.value in
-    let long : length c.lay_out-total.new.rows ≡ c.in_ok-table.table.rows.len =
-    omega (arith, ap length laid ∙ laid-length 0 rows.items, rows.ok.0) in
-    let is = c.deref_mut-2.ensures.value ∙ with_items_is rows c.lay_out-total.new.rows long ∙ laid in
-    let named = ap streams_in is ∙ laid-streams 0 rows.items in
-    subst AreDistinct (sym named) c.in_ok-table.ensures.table.index.distinct
+pub visits-requires-clause-places : goal.visits-requires-clause-places
+visits-requires-clause-places c =
+    let rows = c.in_ok-table.table.rows.items in
+    let quiets = c.finish.new.quiets.items in
+    let changes = c.args.changes.now in
+    let frames = c.args.frames.now in
+    let hushed = subst (λ l. AreHushed c.args.credits_shown changes frames (streams_in l) quiets) c.as_slice.ensures.value
+    (c.finish.ensures frames (subst (λ l. AreAhead changes frames (λ s. []) (streams_in l) c.in_ok-table.table.quiets.items)
+    (sym c.as_slice.ensures.value) c.in_ok-table.ensures.ahead)) in
+    let loud : c.in_ok-loud.loud.rows.items ≡ loud_of c.in_ok-table.table.rows.items c.finish.new.quiets.items =
+    c.in_ok-loud.ensures.rows ∙ ap (λ l. loud_of l c.as_slice-3.result.now) c.as_slice-2.ensures.value
+    ∙ ap (loud_of rows) c.as_slice-3.ensures.value in
+    let named = ap streams_in loud ∙ loud-streams rows quiets in
+    let index = c.in_ok-table.ensures.table.index in
+    let places : c.in_ok-loud.loud.places.items ≡ places_from 0 c.finish.new.quiets.items =
+    c.in_ok-loud.ensures.places ∙ ap (places_from 0) c.as_slice-3.ensures.value in
+    let base = are-places (streams_in rows) quiets hushed.long index.distinct index.above in
+    subst (λ l. ArePlaces (streams_in l) c.in_ok-loud.loud.places.items (streams_in c.in_ok-loud.loud.rows.items))
+    (sym c.as_slice-4.ensures.value)
+    (subst (λ p. ArePlaces (streams_in rows) p (streams_in c.in_ok-loud.loud.rows.items)) (sym places)
+    (subst (λ s. ArePlaces (streams_in rows) (places_from 0 quiets) s) (sym named) base))
 
-pub place-requires-clause-above : goal.place-requires-clause-above
-place-requires-clause-above c =
-    let rows = c.in_ok-table.table.rows in
-    let laid = c.lay_out-total.ensures.rows ∙ ap (laid_out 0) c.deref_mut.ensures.value in
-    let long : length c.lay_out-total.new.rows ≡ c.in_ok-table.table.rows.len =
-    omega (arith, ap length laid ∙ laid-length 0 rows.items, rows.ok.0) in
-    let is = c.deref_mut-2.ensures.value ∙ with_items_is rows c.lay_out-total.new.rows long ∙ laid in
-    let named = ap streams_in is ∙ laid-streams 0 rows.items in
-    subst (NotAmong 0) (sym named) c.in_ok-table.ensures.table.index.above
+pub laid-requires-clause-total : goal.laid-requires-clause-total
+laid-requires-clause-total c =
+    let rows = c.in_ok-table.table.rows.items in
+    let quiets = c.finish.new.quiets.items in
+    let changes = c.args.changes.now in
+    let frames = c.args.frames.now in
+    let loud : c.in_ok-loud.loud.rows.items ≡ loud_of c.in_ok-table.table.rows.items c.finish.new.quiets.items =
+    c.in_ok-loud.ensures.rows ∙ ap (λ l. loud_of l c.as_slice-3.result.now) c.as_slice-2.ensures.value
+    ∙ ap (loud_of rows) c.as_slice-3.ensures.value in
+    let total = loud-total rows quiets in
+    rw loud (omega (arith, total, c.in_ok-table.ensures.room.visits, c.requires.length))
 
-pub place-requires-clause-known : goal.place-requires-clause-known
-place-requires-clause-known c =
-    let rows = c.in_ok-table.table.rows in
-    let laid = c.lay_out-total.ensures.rows ∙ ap (laid_out 0) c.deref_mut.ensures.value in
-    let long : length c.lay_out-total.new.rows ≡ c.in_ok-table.table.rows.len =
-    omega (arith, ap length laid ∙ laid-length 0 rows.items, rows.ok.0) in
-    let is = c.deref_mut-2.ensures.value ∙ with_items_is rows c.lay_out-total.new.rows long ∙ laid in
-    let named = ap streams_in is ∙ laid-streams 0 rows.items in
-    subst (λ s. AreOfRows s c.as_slice.result.now) (sym named)
-    (subst (AreOfRows (streams_in rows.items)) (sym c.as_slice.ensures.value) c.in_ok-table.ensures.table.known)
+pub laid-requires-clause-counts : goal.laid-requires-clause-counts
+laid-requires-clause-counts c =
+    let rows = c.in_ok-table.table.rows.items in
+    let quiets = c.finish.new.quiets.items in
+    let changes = c.args.changes.now in
+    let frames = c.args.frames.now in
+    let loud : c.in_ok-loud.loud.rows.items ≡ loud_of c.in_ok-table.table.rows.items c.finish.new.quiets.items =
+    c.in_ok-loud.ensures.rows ∙ ap (λ l. loud_of l c.as_slice-3.result.now) c.as_slice-2.ensures.value
+    ∙ ap (loud_of rows) c.as_slice-3.ensures.value in
+    let visits = c.in_ok-visits.visits.items in
+    let met : AreVisits (streams_in (loud_of c.in_ok-table.table.rows.items c.finish.new.quiets.items))
+    (notes_from 0 c.args.frames.now) c.in_ok-visits.visits.items =
+    subst (λ l. AreVisits (streams_in l) (notes_from 0 frames) visits) loud c.in_ok-visits.ensures in
+    subst (λ v. AreCounted c.in_ok-loud.loud.rows.items (notes_of (streams_in c.in_ok-loud.loud.rows.items) v))
+    (sym c.as_slice-5.ensures.value)
+    (subst (λ l. AreCounted l (notes_of (streams_in l) visits)) (sym loud)
+    (loud-counted frames rows quiets visits c.in_ok-table.ensures.table.listed met))
 
-pub place-requires-clause-room : goal.place-requires-clause-room
-place-requires-clause-room c =
-    let rows = c.in_ok-table.table.rows in
-    let laid = c.lay_out-total.ensures.rows ∙ ap (laid_out 0) c.deref_mut.ensures.value in
-    let long : length c.lay_out-total.new.rows ≡ c.in_ok-table.table.rows.len =
-    omega (arith, ap length laid ∙ laid-length 0 rows.items, rows.ok.0) in
-    let is = c.deref_mut-2.ensures.value ∙ with_items_is rows c.lay_out-total.new.rows long ∙ laid in
-    let named = ap streams_in is ∙ laid-streams 0 rows.items in
-    let told = ap (λ s. notes_of s c.as_slice.result.now) named
-    ∙ ap (notes_of (streams_in rows.items)) c.as_slice.ensures.value ∙ c.in_ok-table.ensures.table.noted in
-    let total = c.lay_out-total.ensures.total ∙ ap total_of c.deref_mut.ensures.value in
-    subst (λ n. HasRoomFor c.deref_mut-2.result.now n c.lay_out-total.result) (sym told)
-    (rw (is, total) (room-laid rows.items (notes_from 0 c.args.frames.now) c.in_ok-table.ensures.table.listed.counts))
+pub laid-requires-clause-distinct : goal.laid-requires-clause-distinct
+laid-requires-clause-distinct c =
+    let rows = c.in_ok-table.table.rows.items in
+    let quiets = c.finish.new.quiets.items in
+    let changes = c.args.changes.now in
+    let frames = c.args.frames.now in
+    let loud : c.in_ok-loud.loud.rows.items ≡ loud_of c.in_ok-table.table.rows.items c.finish.new.quiets.items =
+    c.in_ok-loud.ensures.rows ∙ ap (λ l. loud_of l c.as_slice-3.result.now) c.as_slice-2.ensures.value
+    ∙ ap (loud_of rows) c.as_slice-3.ensures.value in
+    let named = ap streams_in loud ∙ loud-streams rows quiets in
+    subst AreDistinct (sym named) (loud-distinct (streams_in rows) quiets c.in_ok-table.ensures.table.index.distinct)
+
+pub laid-requires-clause-above : goal.laid-requires-clause-above
+laid-requires-clause-above c =
+    let rows = c.in_ok-table.table.rows.items in
+    let quiets = c.finish.new.quiets.items in
+    let changes = c.args.changes.now in
+    let frames = c.args.frames.now in
+    let loud : c.in_ok-loud.loud.rows.items ≡ loud_of c.in_ok-table.table.rows.items c.finish.new.quiets.items =
+    c.in_ok-loud.ensures.rows ∙ ap (λ l. loud_of l c.as_slice-3.result.now) c.as_slice-2.ensures.value
+    ∙ ap (loud_of rows) c.as_slice-3.ensures.value in
+    let named = ap streams_in loud ∙ loud-streams rows quiets in
+    subst (NotAmong 0) (sym named) (loud-not_among 0 (streams_in rows) quiets c.in_ok-table.ensures.table.index.above)
+
+if-more : {E : Type 0} (P Q : SplitFrames → Type 0) (r : Result SplitFrames E) → ((x : SplitFrames) → P x → Q x) → IfOk r P → IfOk r Q
+if-more P Q (Ok x) f h = f x h
+if-more P Q (Err e) f h = tt
 
 pub returns : goal.returns
 returns c =
-    let table = c.in_ok-table.table in
-    let rows = c.in_ok-table.table.rows in
-    let laid = c.lay_out-total.ensures.rows ∙ ap (laid_out 0) c.deref_mut.ensures.value in
-    let long : length c.lay_out-total.new.rows ≡ c.in_ok-table.table.rows.len =
-    omega (arith, ap length laid ∙ laid-length 0 rows.items, rows.ok.0) in
-    let is = c.deref_mut-2.ensures.value ∙ with_items_is rows c.lay_out-total.new.rows long ∙ laid in
-    let named = ap streams_in is ∙ laid-streams 0 rows.items in
-    let told = ap (λ s. notes_of s c.as_slice.result.now) named
-    ∙ ap (notes_of (streams_in rows.items)) c.as_slice.ensures.value ∙ c.in_ok-table.ensures.table.noted in
-    let total = c.lay_out-total.ensures.total ∙ ap total_of c.deref_mut.ensures.value in
-    let noted = notes_from 0 c.args.frames.now in
-    let filled : IsFilled (laid_out 0 c.in_ok-table.table.rows.items) (notes_from 0 c.args.frames.now) c.place.new.rows
-    c.in_ok-positions.positions.items =
-    subst (λ l. IsFilled l noted c.place.new.rows c.in_ok-positions.positions.items) is
-    (subst (λ n. IsFilled c.deref_mut-2.result.now n c.place.new.rows c.in_ok-positions.positions.items) told
-    c.in_ok-positions.ensures.filled) in
-    let kept : length c.place.new.rows ≡ c.in_ok-table.table.rows.len =
-    omega (arith, filled.long ∙ laid-length 0 rows.items, rows.ok.0) in
-    split-is c.args.credits_shown c.args.changes.now c.args.frames.now table record {
-      rows = with_items (with_items rows c.lay_out-total.new.rows) c.place.new.rows;
-      positions = c.in_ok-positions.positions;
-      opened = c.new-opened.result;
-    } c.in_ok-table.ensures.streams c.in_ok-table.ensures.table
-    (subst (λ l. IsFilled (laid_out 0 rows.items) noted l c.in_ok-positions.positions.items)
-    (sym (with_items_is (with_items rows c.lay_out-total.new.rows) c.place.new.rows kept)) filled)
-    (c.in_ok-positions.ensures.long ∙ total) c.new-opened.ensures
+    let rows = c.in_ok-table.table.rows.items in
+    let quiets = c.finish.new.quiets.items in
+    let changes = c.args.changes.now in
+    let frames = c.args.frames.now in
+    let hushed = subst (λ l. AreHushed c.args.credits_shown changes frames (streams_in l) quiets) c.as_slice.ensures.value
+    (c.finish.ensures frames (subst (λ l. AreAhead changes frames (λ s. []) (streams_in l) c.in_ok-table.table.quiets.items)
+    (sym c.as_slice.ensures.value) c.in_ok-table.ensures.ahead)) in
+    let loud : c.in_ok-loud.loud.rows.items ≡ loud_of c.in_ok-table.table.rows.items c.finish.new.quiets.items =
+    c.in_ok-loud.ensures.rows ∙ ap (λ l. loud_of l c.as_slice-3.result.now) c.as_slice-2.ensures.value
+    ∙ ap (loud_of rows) c.as_slice-3.ensures.value in
+    let visits = c.in_ok-visits.visits.items in
+    let met : AreVisits (streams_in (loud_of c.in_ok-table.table.rows.items c.finish.new.quiets.items))
+    (notes_from 0 c.args.frames.now) c.in_ok-visits.visits.items =
+    subst (λ l. AreVisits (streams_in l) (notes_from 0 frames) visits) loud c.in_ok-visits.ensures in
+    let opened : c.in_ok-loud.loud.opened.items ≡ opened_in c.finish.new.quiets.items =
+    c.in_ok-loud.ensures.opened ∙ ap opened_in c.as_slice-3.ensures.value in
+    let table = c.in_ok-table.ensures.table in
+    if-more (IsLaid c.in_ok-loud.loud.rows.items c.in_ok-loud.loud.opened.items c.as_slice-5.result.now)
+    (IsSplit c.args.credits_shown changes frames) c.laid.result
+    (λ split is. split-is c.args.credits_shown changes frames rows quiets visits split c.in_ok-table.ensures.streams table.listed
+    table.index.distinct table.index.above hushed met
+    (subst (λ l. IsLaid l (opened_in quiets) visits split) loud
+    (subst (λ o. IsLaid c.in_ok-loud.loud.rows.items o visits split) opened
+    (subst (λ v. IsLaid c.in_ok-loud.loud.rows.items c.in_ok-loud.loud.opened.items v split) c.as_slice-5.ensures.value is))))
+    c.laid.ensures

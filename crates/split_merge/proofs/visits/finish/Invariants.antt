@@ -1,0 +1,11 @@
+use Rattle.std.proofs.Common.{List, []}
+use Rattle.audit_terms.specs.declared.frames.Frame.{Frame}
+use Rattle.split_merge.specs.code.Visits.{streams_in}
+use Rattle.split_merge.specs.code.Ahead.{AreAhead}
+use Rattle.split_merge.proofs.Ahead.{IsPartEnded}
+use Rattle.split_merge.proofs.visits.finish.Given as goal
+
+abbrev pub invariant-loop-row : goal.invariant-loop-row
+invariant-loop-row l =
+    (all : List Frame) → AreAhead l.changes all (λ _. []) (streams_in l.rows) l.fn.quiets.items →
+    IsPartEnded l.credits_shown l.changes all (streams_in l.rows) l.quiets.items l.row

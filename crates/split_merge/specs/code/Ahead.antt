@@ -1,0 +1,55 @@
+-- What the table of streams says of each stream that is quiet so far, as a split walks over the frames.
+use Rattle.std.specs.Prelude.{◌≡◌, ◌≢◌, ℕ, ◌==◌, if◌then◌else◌, Bool, true, false, List, [], ◌∷◌, length, get_or, slice_get, Some}
+use Rattle.audit_terms.specs.declared.frames.Frame.{Frame}
+use Rattle.audit_terms.specs.declared.items.Change.{Change}
+use Rattle.audit_terms.specs.runs.Orderly.{IsOrderly}
+use Rattle.audit_terms.specs.runs.Streams.{frames_of}
+use Rattle.settings_pair.specs.Changes.{AreOrderly, AreAcknowledged}
+use Rattle.stream_credit.specs.declared.quiet_streams.QuietStream.{QuietStream}
+use Rattle.stream_credit.specs.code.QuietStream.{IsAheadIfQuiet, ShowsNothing}
+use Rattle.split_merge.specs.code.Visits.{NotAmong}
+
+-- the frames that each stream has still to meet, with one more that one of them meets first
+abbrev pub with_next : (stream : ℕ) → Frame → (rest : ℕ → List Frame) → ℕ → List Frame
+with_next stream frame rest other = if stream == other then frame ∷ rest other else rest other
+
+-- each stream is ahead of the frames that it has still to meet; one that is not among them has met none
+pub record AreAhead (changes : List Change) (all : List Frame) (rest : ℕ → List Frame)
+    (streams : List ℕ) (quiets : List QuietStream) : Type 0 where
+  pub long : length quiets ≡ length streams
+  pub orderly : IsOrderly all
+  pub rise : AreOrderly changes
+  pub acknowledged : AreAcknowledged all changes
+  pub above : NotAmong 0 streams
+  pub ahead : (r stream : ℕ) (d : QuietStream) → slice_get streams r ≡ Some stream →
+      IsAheadIfQuiet stream changes (frames_of stream all) (rest stream) (get_or quiets r d)
+  pub unmet : (stream : ℕ) → stream ≢ 0 → NotAmong stream streams → rest stream ≡ frames_of stream all
+
+-- the stream may meet the frame next
+pub record IsNext (stream : ℕ) (changes : List Change) (frame : Frame)
+    (streams : List ℕ) (quiets : List QuietStream) : Type 0 where
+  pub all : List Frame
+  pub rest : ℕ → List Frame
+  pub ahead : AreAhead changes all (with_next stream frame rest) streams quiets
+
+-- no stream has a frame still to meet
+pub record IsEnd (changes : List Change) (streams : List ℕ) (quiets : List QuietStream) : Type 0 where
+  pub all : List Frame
+  pub ahead : AreAhead changes all (λ _. []) streams quiets
+
+-- nothing is shown of a stream that is quiet, and no stream is quiet where credits are shown
+pub record IsSilent (credits_shown : Bool) (changes : List Change) (stream : ℕ) (frames : List Frame)
+    (quiet : QuietStream) : Type 0 where
+  pub hidden : credits_shown ≡ false
+  pub shows : ShowsNothing stream changes frames quiet.opened
+
+abbrev pub IsHushed : (credits_shown : Bool) → List Change → (stream : ℕ) → List Frame → QuietStream → Type 0
+IsHushed credits_shown changes stream frames quiet =
+    quiet.is_quiet ≡ true → IsSilent credits_shown changes stream frames quiet
+
+-- the same of each stream
+pub record AreHushed (credits_shown : Bool) (changes : List Change) (all : List Frame)
+    (streams : List ℕ) (quiets : List QuietStream) : Type 0 where
+  pub long : length quiets ≡ length streams
+  pub hushed : (r stream : ℕ) (d : QuietStream) → slice_get streams r ≡ Some stream →
+      IsHushed credits_shown changes stream (frames_of stream all) (get_or quiets r d)
