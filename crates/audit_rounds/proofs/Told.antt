@@ -1,5 +1,5 @@
 -- Openings as runs tell them that went up to some place.
-use Rattle.std.proofs.Common.{◌≡◌, ℕ, suc, ◌≤◌, ◌==◌, ◌||◌, Bool, true, false, All, List, [], ◌∷◌, ◌++◌, not, map, filter, flat_map, refl, sym, ap, ◌∙◌, arith, Option, Some, None, le-ltb, ltb-false, true≢false}
+use Rattle.std.proofs.Common.{◌≡◌, ℕ, suc, ◌≤◌, ◌==◌, ◌||◌, Bool, true, false, All, List, [], ◌∷◌, ◌++◌, not, map, filter, refl, sym, ap, ◌∙◌, arith, Option, Some, None, le-ltb, ltb-false, true≢false}
 use Rattle.std.specs.Option.{option_to_list}
 use Rattle.std.specs.List.{list_any}
 use Rattle.std.specs.List.Sorted.{IsPermutation}
