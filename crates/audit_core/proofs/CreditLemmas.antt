@@ -1,5 +1,6 @@
 -- A credit that is carried from frame to frame is the sum over the frames.
-use Rattle.std.proofs.Common.{◌≡◌, ℕ, ℤ, pos, ◌+◌, ◌+ℤ◌, ◌-ℤ◌, ◌<◌, ◌≤◌, Bool, true, false, nat_le, if◌then◌else◌, List, [], ◌∷◌, sum_by, Option, Some, None, refl, sym, ap, ◌∙◌, ◌⊎◌, inl, inr, arith}
+use Rattle.std.proofs.Common.{◌≡◌, ℕ, ℤ, pos, ◌+◌, ◌+ℤ◌, ◌-ℤ◌, ◌<◌, ◌≤◌, Bool, true, false, nat_le, if◌then◌else◌, List}
+use Rattle.std.proofs.Common.{[], ◌∷◌, sum_by, Option, Some, None, refl, sym, ap, ◌∙◌, ◌⊎◌, inl, inr, arith}
 use Rattle.std.specs.Option.{option_map_or}
 use Rattle.std.proofs.lemmas.Int.{ints}
 use Rattle.std.proofs.lemmas.List.Sums.{sum_by-cons}
@@ -12,7 +13,7 @@ use Rattle.audit_terms.specs.declared.items.Step.{Step}
 use Rattle.audit_terms.specs.declared.streams.Stream.{Stream}
 use Rattle.audit_terms.specs.Sides.{side_of}
 use Rattle.audit_terms.specs.Frame.{content_by, grant_to}
-use Rattle.audit_terms.specs.runs.Orderly.{IsOrderlyFrom}
+use Rattle.audit_terms.specs.code.runs.Orderly.{IsOrderlyFrom}
 use Rattle.audit_terms.specs.Life.{is_opening, is_last_of}
 use Rattle.audit_terms.specs.Window.{first_window}
 use Rattle.audit_terms.specs.Change.{new_initial}
@@ -21,10 +22,11 @@ use Rattle.audit_terms.specs.Connection.{credit_after}
 use Rattle.audit_terms.specs.Stream.{step_test, opens, window_after, window_at_opening}
 use Rattle.audit_terms.specs.code.StreamSteps.{counted, window_ends}
 use Rattle.audit_terms.specs.Pass.{PassState, pass_start, step_of, next}
-use Rattle.audit_terms.specs.runs.States.{state_from}
-use Rattle.audit_core.specs.CreditLaws.{ConnectionCreditIsSum, StreamCreditIsSum}
+use Rattle.audit_terms.specs.code.runs.States.{state_from}
+use Rattle.audit_core.specs.laws.Credit.{ConnectionCreditIsSum, StreamCreditIsSum}
 use Rattle.audit_terms.specs.laws.Credit.{content_on, since, stream_credit_sum}
-use Rattle.audit_core.proofs.Meetings.{CountsNothing, no-choice, and-false, step-grant, step-content, step-opening, step-opened}
+use Rattle.audit_core.proofs.Meetings.{CountsNothing, no-choice, and-false, step-grant, step-content, step-opening}
+use Rattle.audit_core.proofs.Meetings.{step-opened}
 
 -- ---- the connection
 

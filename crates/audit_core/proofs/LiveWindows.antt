@@ -1,5 +1,6 @@
 -- A window of a stream is live only while the stream is opened and the window's endpoint has not ended it.
-use Rattle.std.proofs.Common.{◌≡◌, ℕ, ℤ, Bool, true, false, ◌==◌, ◌&&◌, ◌||◌, ◌%◌, if◌then◌else◌, pos, List, [], ◌∷◌, Option, Some, None, is_some, is_none, refl}
+use Rattle.std.proofs.Common.{◌≡◌, ℕ, ℤ, Bool, true, false, ◌==◌, ◌&&◌, ◌||◌, ◌%◌, if◌then◌else◌, pos, List, [], ◌∷◌}
+use Rattle.std.proofs.Common.{Option, Some, None, is_some, is_none, refl}
 use Rattle.std.specs.Prelude.{OnSome}
 use borrow.Author.Tests.{eqb-true}
 use Rattle.audit_terms.specs.declared.sides.Side.{Side}
@@ -17,9 +18,9 @@ use Rattle.audit_terms.specs.Stream.{window_after, window_at_opening, stream_aft
 use Rattle.audit_terms.specs.code.StreamSteps.{counted, is_overflowing_grant}
 use Rattle.audit_terms.specs.InForce.{change_of}
 use Rattle.audit_terms.specs.Pass.{PassState, pass_start, next}
-use Rattle.audit_terms.specs.runs.States.{state_from}
+use Rattle.audit_terms.specs.code.runs.States.{state_from}
 use Rattle.audit_core.proofs.Meetings.{and-right, and-false}
-use Rattle.audit_core.specs.LiveLaw.{LiveWindowsAreOpened, LiveWindowsAreUnended}
+use Rattle.audit_core.specs.laws.LiveWindows.{LiveWindowsAreOpened, LiveWindowsAreUnended}
 
 on_some : {A : Type 0} (o : Option A) (P : Type 0) → P → OnSome o P
 on_some None P p = tt

@@ -1,5 +1,7 @@
 -- The rows and the changes that a pass keeps, beside its state, and what is said at a frame.
-use Rattle.std.proofs.Common.{◌≡◌, ◌≢◌, ℕ, pos, ◌^◌, ◌<◌, ◌≤◌, ◌%◌, Bool, true, false, not, ◌==◌, ◌&&◌, ◌||◌, List, [], ◌∷◌, ◌++◌, length, map, filter, get_or, Option, is_none, refl, sym, ap, ◌∙◌, subst, append_assoc, ◌+◌, if◌then◌else◌, Some, None, is_some, slice_get, drop, arith}
+use Rattle.std.proofs.Common.{◌≡◌, ◌≢◌, ℕ, pos, ◌^◌, ◌<◌, ◌≤◌, ◌%◌, Bool, true, false, not, ◌==◌, ◌&&◌, ◌||◌, List, []}
+use Rattle.std.proofs.Common.{◌∷◌, ◌++◌, length, map, filter, get_or, Option, is_none, refl, sym, ap, ◌∙◌, subst}
+use Rattle.std.proofs.Common.{append_assoc, ◌+◌, if◌then◌else◌, Some, None, is_some, slice_get, drop, arith}
 use Rattle.std.specs.List.{All, flat_map, list_any, find}
 use Rattle.std.proofs.lemmas.List.Elements.{All-nil, All-cons}
 use Rattle.std.proofs.lemmas.Bool.{and_right}
@@ -21,7 +23,8 @@ use Rattle.audit_terms.specs.InForce.{change_of, InForce, in_force_after, change
 use Rattle.audit_terms.specs.Connection.{connection_said}
 use Rattle.audit_terms.specs.Life.{is_opening}
 use Rattle.audit_terms.specs.Stream.{idle_stream}
-use Rattle.audit_terms.specs.Pass.{PassState, full_from, next, said, streams_of, streams_said, item_of, opens_stream, first_of, step_of}
+use Rattle.audit_terms.specs.Pass.{PassState, full_from, next, said, streams_of, streams_said, item_of, opens_stream}
+use Rattle.audit_terms.specs.Pass.{first_of, step_of}
 use Rattle.audit_terms.proofs.Bounds.{room-wider}
 use Rattle.audit_core.specs.declared.rows.StreamRow.{StreamRow}
 use Rattle.audit_core.specs.code.StreamRows.{rows_in, idle_rows, row_opens, row_said, row_after, RowFits}
@@ -30,9 +33,9 @@ use Rattle.audit_core.proofs.StreamsMet.{streams_met_lem}
 use Rattle.std.specs.Option.{option_to_list}
 use Rattle.audit_terms.specs.declared.settings.Settings.{Settings}
 use Rattle.audit_terms.specs.Side.{other}
-use Rattle.audit_terms.specs.runs.Changes.{changes_from}
-use Rattle.audit_terms.specs.runs.Orderly.{IsOrderlyFrom}
-use Rattle.audit_terms.specs.runs.Streams.{IsAcknowledged}
+use Rattle.audit_terms.specs.code.runs.Changes.{changes_from}
+use Rattle.audit_terms.specs.code.runs.Orderly.{IsOrderlyFrom}
+use Rattle.audit_terms.specs.code.runs.Streams.{IsAcknowledged}
 use Rattle.audit_core.proofs.OrderlyRest.{drop-at}
 use Rattle.audit_core.proofs.StreamSteps.{ChangesFrom, changes-later, differ_test, differ_test_back, same_test}
 

@@ -1,5 +1,6 @@
 -- A step without a frame and without a new initial window shows and changes nothing.
-use Rattle.std.proofs.Common.{◌≡◌, ℕ, ℤ, Bool, true, false, not, ◌&&◌, [], ◌++◌, refl, ap, ◌∙◌, arith, Option, Some, None, is_some, int_lt, cond}
+use Rattle.std.proofs.Common.{◌≡◌, ℕ, ℤ, Bool, true, false, not, ◌&&◌, [], ◌++◌, refl, ap, ◌∙◌, arith, Option, Some}
+use Rattle.std.proofs.Common.{None, is_some, int_lt, cond}
 use Rattle.std.specs.declared.cmp.Ordering.TheVariants.{Less, Equal, Greater}
 use Rattle.std.proofs.lemmas.Cmp.{int_cmp_total, tied_itself}
 use Rattle.std.proofs.lemmas.Int.{ints}
@@ -14,9 +15,10 @@ use Rattle.audit_terms.specs.Finding.{say_of}
 use Rattle.audit_terms.specs.Sides.{side_of}
 use Rattle.audit_terms.specs.Change.{new_initial}
 use Rattle.audit_terms.specs.Window.{is_used_up}
-use Rattle.audit_terms.specs.Stream.{window_step, live_window_said, window_after, stream_window_said, stream_said, stream_after}
+use Rattle.audit_terms.specs.Stream.{window_step, live_window_said, window_after, stream_window_said, stream_said}
+use Rattle.audit_terms.specs.Stream.{stream_after}
 use Rattle.audit_terms.specs.code.StreamSteps.{counted}
-use Rattle.audit_terms.specs.runs.Streams.{initial_after}
+use Rattle.audit_terms.specs.code.runs.Streams.{initial_after}
 
 -- a step of a change alone, or of nothing
 abbrev pub bare_step : ℕ → Option Change → Step

@@ -2,7 +2,7 @@
 use Rattle.std.proofs.Common.{◌≡◌, Bool, true, false, List, [], ◌∷◌, refl, ap, ◌⊎◌, inl, inr}
 use Rattle.audit_terms.specs.declared.findings.Finding.{Finding}
 use Rattle.audit_terms.specs.Finding.{stops, upto_stop}
-use Rattle.audit_core.specs.StopLaw.{NoneStops, EndsAt, KeptUptoFirstStop}
+use Rattle.audit_core.specs.laws.Stop.{NoneStops, EndsAt, KeptUptoFirstStop}
 
 abbrev Kept : List Finding → Type 0
 Kept findings =

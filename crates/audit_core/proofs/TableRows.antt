@@ -1,6 +1,7 @@
 -- The table of findings: each row has a number, and what is said at one frame for one stream and one endpoint is said
 -- in rows of different numbers.
-use Rattle.std.proofs.Common.{◌≡◌, ℕ, ℤ, ◌+◌, ◌^◌, ◌<◌, ◌≤◌, Bool, true, false, List, [], ◌∷◌, ◌++◌, get_or, ap, ◌∙◌, arith, Option, Some, None, if◌then◌else◌}
+use Rattle.std.proofs.Common.{◌≡◌, ℕ, ℤ, ◌+◌, ◌^◌, ◌<◌, ◌≤◌, Bool, true, false, List, [], ◌∷◌, ◌++◌, get_or, ap, ◌∙◌}
+use Rattle.std.proofs.Common.{arith, Option, Some, None, if◌then◌else◌}
 use Rattle.std.specs.List.{AllByRecursion}
 use Rattle.audit_terms.specs.declared.sides.Side.{Side}
 use Rattle.audit_terms.specs.declared.sides.Side.TheVariants.{Client, Server}
@@ -8,9 +9,9 @@ use Rattle.audit_terms.specs.declared.kinds.Kind.{Kind}
 use Rattle.audit_terms.specs.declared.findings.Finding.{Finding}
 use Rattle.audit_terms.specs.Kind.{rank_of}
 use Rattle.audit_terms.specs.Place.{place_of, place_stream}
-use Rattle.audit_terms.specs.laws.Places.{place_rank}
+use Rattle.audit_terms.specs.code.Places.{place_rank}
 use Rattle.audit_terms.specs.Finding.{finding_at, say, say_of}
-use Rattle.audit_core.specs.ApartLaw.{AreApart, StandApart}
+use Rattle.audit_core.specs.laws.Apart.{AreApart, StandApart}
 use Rattle.audit_core.proofs.Pairs.{all-append, all-map, across-by, pairs-append}
 use Rattle.audit_terms.proofs.SaidPlaces.{rank-small}
 

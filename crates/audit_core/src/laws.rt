@@ -1,6 +1,6 @@
 //! Laws of the definitions in `specs/`. The functions do nothing; each contract is a law.
 
-ghost use Rattle.audit_core.specs.CreditLaws.{ConnectionCreditIsSum, StreamCreditIsSum};
+ghost use Rattle.audit_core.specs.laws.Credit.{ConnectionCreditIsSum, StreamCreditIsSum};
 
 /// Every credit that the pass carries is the sum of RFC 9113, 6.9: of each side's connection window, and of each live
 /// window of each stream.
@@ -9,7 +9,7 @@ pub fn credit_is_sum()
     ensures stream { StreamCreditIsSum }
 {}
 
-ghost use Rattle.audit_core.specs.LiveLaw.{LiveWindowsAreOpened, LiveWindowsAreUnended};
+ghost use Rattle.audit_core.specs.laws.LiveWindows.{LiveWindowsAreOpened, LiveWindowsAreUnended};
 
 /// A live window of a stream is of one that is opened, and that the window's endpoint has not ended: so the law on the
 /// credit of streams speaks of each live window.
@@ -18,7 +18,7 @@ pub fn live_windows_are_opened()
     ensures unended { LiveWindowsAreUnended }
 {}
 
-ghost use Rattle.audit_core.specs.StepsLaw.{StepsJoinFramesAndChanges, StreamsHaveSteps};
+ghost use Rattle.audit_core.specs.laws.Steps.{StepsJoinFramesAndChanges, StreamsHaveSteps};
 
 /// The steps of a stream rise in number, and have all of its frames and all changes of the connection, each at its own
 /// number, and nothing else.
@@ -27,7 +27,7 @@ pub fn steps_join_frames_and_changes()
     ensures streams { StreamsHaveSteps }
 {}
 
-ghost use Rattle.audit_core.specs.StreamsLaw.{StreamsAreThoseMet, StreamsAreNamedOnce};
+ghost use Rattle.audit_core.specs.laws.Streams.{StreamsAreThoseMet, StreamsAreNamedOnce};
 
 /// The streams that the pass looks at are those other than 0 that its frames meet, each once.
 pub fn streams_are_those_met()
@@ -35,7 +35,7 @@ pub fn streams_are_those_met()
     ensures once { StreamsAreNamedOnce }
 {}
 
-ghost use Rattle.audit_core.specs.PartsLaw.{PartsMakeFull};
+ghost use Rattle.audit_core.specs.laws.Parts.{PartsMakeFull};
 
 /// All findings of a connection's frames are, put in order, the local faults, the unmatched acknowledgements, the
 /// findings of each stream alone and those of each block of frames, however the streams are grouped and the frames cut
@@ -44,7 +44,7 @@ pub fn parts_make_full()
     ensures { PartsMakeFull }
 {}
 
-ghost use Rattle.audit_core.specs.StopLaw.{KeptUptoFirstStop, FindingsStandInOrder};
+ghost use Rattle.audit_core.specs.laws.Stop.{KeptUptoFirstStop, FindingsStandInOrder};
 
 /// What the pass keeps is a front of all findings, in which nothing but its last is an error of the connection; and all
 /// findings stand in order, so that this error is the least.
@@ -53,7 +53,7 @@ pub fn findings_end_at_first_stop()
     ensures in_order { FindingsStandInOrder }
 {}
 
-ghost use Rattle.audit_core.specs.ApartLaw.{FindingsStandApart, ErrorsStandAlone};
+ghost use Rattle.audit_core.specs.laws.Apart.{FindingsStandApart, ErrorsStandAlone};
 
 /// No two of all findings of a connection share place and side: at each place at most one thing is said of an endpoint.
 /// Errors of the connection do not even share a place.

@@ -1,6 +1,6 @@
 ghost use Rattle.std.specs.Prelude.{◌≡◌, ◌==◌, IfOk};
 ghost use Rattle.std.specs.List.{find};
-ghost use Rattle.audit_terms.specs.runs.Orderly.{IsOrderly};
+ghost use Rattle.audit_terms.specs.code.runs.Orderly.{IsOrderly};
 ghost use Rattle.audit_terms.specs.Pass.{pass};
 
 use crate::rows::{idle_rows, meet_all, opens};

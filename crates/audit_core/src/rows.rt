@@ -1,7 +1,7 @@
 ghost use Rattle.std.specs.Prelude.{◌≡◌, ℕ, ◌+◌, ◌-◌, ◌^◌, ◌≤◌, ◌++◌, List, map, All, IfOk, OnOk};
 ghost use Rattle.std.specs.List.{flat_map, list_any};
 ghost use Rattle.audit_terms.specs.Pass.{first_of, streams_of};
-ghost use Rattle.audit_terms.specs.runs.Streams.{IsAcknowledged};
+ghost use Rattle.audit_terms.specs.code.runs.Streams.{IsAcknowledged};
 ghost use Rattle.audit_core.specs.code.StreamRows.{idle_rows, row_opens, step_at, row_said, row_after, RowFits};
 
 use audit_terms::{Finding, Frame, Item, Sides, Step, Stream};

@@ -1,16 +1,43 @@
 //! Worked examples: short scripts of a connection, each with the findings that the definitions give for it, computed
-//! from `pass` of `specs/Pass.antt` by proof. The functions do nothing; each contract is the example.
+//! from `pass` of `audit_terms/specs/Pass.antt` by proof. The functions do nothing; each contract is the example.
 //!
-//! The scripts and the expected findings stand in `specs/`, in the modules named with each group.
-ghost use Rattle.audit_core.specs.Stalls.{PaddedStall, StallPlaces, PaddedStallCredits, PaddingCounts, StallEndsThenOverrun, ConnectionAtLargest, ConnectionOverflows, NegativeWindow, NegativeWindowChanges, SettingOverflows, ZeroGrants, ShortGrant};
-ghost use Rattle.audit_core.specs.StreamUses.{WithdrawnFindings, FindingsPastTheStop, FirstErrorBelowOverflow, AfterEndAndReset, IdentifierOrder, UnmatchedAcknowledgement, TwoOpenings};
-ghost use Rattle.audit_core.specs.SingleFaults.{BadPrefaceFound, BrokenBlockFound, BadPaddingFound, GoodPadding, BadSettingFound, LongFrameFound, TooLongFound, StreamOverflowFound, WrongStreamFound, BadPriorityFound, DataAfterPeerReset, EmptyDataAtZero};
-ghost use Rattle.audit_core.specs.FrameFaults.{ClientBeginsWithPing, FirstFrameAcknowledges, FirstFrameUnreadable, BlockGoesOn, BlockOfThreeFrames, BlockBrokenByData, BlockBrokenByUnknown, NoBlockOpen, BlockOfOtherStream, BlockOfOtherSide, BrokenBlockEnds, WrongStreams, TooLongFrames, TooLongSettingsOnStream, LongFrames, FrameLimits, UnreadableFrames};
-ghost use Rattle.audit_core.specs.WindowUses.{OverrunAboveZero, LastCredit, StallBelowZero, StallOfBothSides, OneInitialWindow, EndUsesUpWindow, OpenedAndEnded, HeadersAfterEnd, HeadersAfterReset, HeadersAfterPeerEnd, ResetOnIdle, ServerHeaders, EvenHeaders, ZeroGrantAfterEnd};
-ghost use Rattle.audit_core.specs.SettingsUses.{InitialWindowStays, FrameLimitStays, PushStaysForbidden, UnmatchedTakesNothing, BadSettingOfClient, ServerEnablesPush};
-ghost use Rattle.audit_core.specs.ServerWindows.{ServerOverrunsStream, ServerOverrunsConnection, ServerOverflowsStream, ServerOverflowsBySetting};
-ghost use Rattle.audit_core.specs.Promises.{Promised, PromisedCredits, PushForbidden, PushForbiddenCredits, PushUntilAcknowledged, PushAllowedAgain, PushOfServer, PromisesFall, OddPromise, OddPromiseCredits, PromiseOfZero, HeadersBelowPromise, HeadersBelowHeaders, PromiseOnIdle, PromiseOnIdleOpens, PromiseOnZero, PromiseOfItself, PromiseOnPromised, ThreeFaults, PromiseAfterReset, PromiseAfterOwnReset, PromisedTwice, PushedStall, PushedStallCredits, PromisedGrant, ClientPromise, ClientPromiseOpensNothing};
-ghost use Rattle.audit_core.specs.KindTable.{KindsAreTabled, ErrorKinds, FaultKinds, StallEndKinds, StallBeginKinds, CreditKinds};
+//! The scripts and the expected findings stand in `specs/examples/`, in the modules named with each group.
+ghost use Rattle.audit_core.specs.examples.Stalls.{PaddedStall, StallPlaces, PaddedStallCredits, PaddingCounts};
+ghost use Rattle.audit_core.specs.examples.Stalls.{StallEndsThenOverrun, ConnectionAtLargest, ConnectionOverflows};
+ghost use Rattle.audit_core.specs.examples.Stalls.{NegativeWindow, NegativeWindowChanges, SettingOverflows, ZeroGrants};
+ghost use Rattle.audit_core.specs.examples.Stalls.{ShortGrant};
+ghost use Rattle.audit_core.specs.examples.StreamUses.{WithdrawnFindings, FindingsPastTheStop, FirstErrorBelowOverflow};
+ghost use Rattle.audit_core.specs.examples.StreamUses.{AfterEndAndReset, IdentifierOrder, UnmatchedAcknowledgement};
+ghost use Rattle.audit_core.specs.examples.StreamUses.{TwoOpenings};
+ghost use Rattle.audit_core.specs.examples.SingleFaults.{BadPrefaceFound, BrokenBlockFound, BadPaddingFound};
+ghost use Rattle.audit_core.specs.examples.SingleFaults.{GoodPadding, BadSettingFound, LongFrameFound, TooLongFound};
+ghost use Rattle.audit_core.specs.examples.SingleFaults.{StreamOverflowFound, WrongStreamFound, BadPriorityFound};
+ghost use Rattle.audit_core.specs.examples.SingleFaults.{DataAfterPeerReset, EmptyDataAtZero};
+ghost use Rattle.audit_core.specs.examples.FrameFaults.{ClientBeginsWithPing, FirstFrameAcknowledges};
+ghost use Rattle.audit_core.specs.examples.FrameFaults.{FirstFrameUnreadable, BlockGoesOn, BlockOfThreeFrames};
+ghost use Rattle.audit_core.specs.examples.FrameFaults.{BlockBrokenByData, BlockBrokenByUnknown, NoBlockOpen};
+ghost use Rattle.audit_core.specs.examples.FrameFaults.{BlockOfOtherStream, BlockOfOtherSide, BrokenBlockEnds};
+ghost use Rattle.audit_core.specs.examples.FrameFaults.{WrongStreams, TooLongFrames, TooLongSettingsOnStream};
+ghost use Rattle.audit_core.specs.examples.FrameFaults.{LongFrames, FrameLimits, UnreadableFrames};
+ghost use Rattle.audit_core.specs.examples.WindowUses.{OverrunAboveZero, LastCredit, StallBelowZero, StallOfBothSides};
+ghost use Rattle.audit_core.specs.examples.WindowUses.{OneInitialWindow, EndUsesUpWindow, OpenedAndEnded};
+ghost use Rattle.audit_core.specs.examples.WindowUses.{HeadersAfterEnd, HeadersAfterReset, HeadersAfterPeerEnd};
+ghost use Rattle.audit_core.specs.examples.WindowUses.{ResetOnIdle, ServerHeaders, EvenHeaders, ZeroGrantAfterEnd};
+ghost use Rattle.audit_core.specs.examples.SettingsUses.{InitialWindowStays, FrameLimitStays, PushStaysForbidden};
+ghost use Rattle.audit_core.specs.examples.SettingsUses.{UnmatchedTakesNothing, BadSettingOfClient, ServerEnablesPush};
+ghost use Rattle.audit_core.specs.examples.ServerWindows.{ServerOverrunsStream, ServerOverrunsConnection};
+ghost use Rattle.audit_core.specs.examples.ServerWindows.{ServerOverflowsStream, ServerOverflowsBySetting};
+ghost use Rattle.audit_core.specs.examples.Promises.{Promised, PromisedCredits, PushForbidden, PushForbiddenCredits};
+ghost use Rattle.audit_core.specs.examples.Promises.{PushUntilAcknowledged, PushAllowedAgain, PushOfServer};
+ghost use Rattle.audit_core.specs.examples.Promises.{PromisesFall, OddPromise, OddPromiseCredits, PromiseOfZero};
+ghost use Rattle.audit_core.specs.examples.Promises.{HeadersBelowPromise, HeadersBelowHeaders, PromiseOnIdle};
+ghost use Rattle.audit_core.specs.examples.Promises.{PromiseOnIdleOpens, PromiseOnZero, PromiseOfItself};
+ghost use Rattle.audit_core.specs.examples.Promises.{PromiseOnPromised, ThreeFaults, PromiseAfterReset};
+ghost use Rattle.audit_core.specs.examples.Promises.{PromiseAfterOwnReset, PromisedTwice, PushedStall};
+ghost use Rattle.audit_core.specs.examples.Promises.{PushedStallCredits, PromisedGrant, ClientPromise};
+ghost use Rattle.audit_core.specs.examples.Promises.{ClientPromiseOpensNothing};
+ghost use Rattle.audit_core.specs.examples.KindTable.{KindsAreTabled, ErrorKinds, FaultKinds, StallEndKinds};
+ghost use Rattle.audit_core.specs.examples.KindTable.{StallBeginKinds, CreditKinds};
 
 /// All credit of the connection and of a stream is sent, padding included (6.9.1).
 pub fn padded_stall()

@@ -1,5 +1,6 @@
 -- Going down the connections and what was found in them, side by side.
-use Rattle.std.proofs.Common.{◌≡◌, ℕ, ◌+◌, ◌<◌, Bool, List, ◌∷◌, ◌++◌, drop, length, get_or, ◌∙◌, ap, sym, append_assoc, refl}
+use Rattle.std.proofs.Common.{◌≡◌, ℕ, ◌+◌, ◌<◌, Bool, List, ◌∷◌, ◌++◌, drop, length, get_or, ◌∙◌, ap, sym, append_assoc}
+use Rattle.std.proofs.Common.{refl}
 use Rattle.std.proofs.lemmas.List.{drop_more}
 use Rattle.audit_report.specs.Section.{connection_text, findings_text, sections_text}
 use Rattle.audit_report.specs.declared.audited.Audited.{Audited}
@@ -11,7 +12,8 @@ from_here : {X : Type 0} (xs : List X) (i : ℕ) (x : X) → i < length xs → x
 from_here xs i x l here = drop_more xs i x l ∙ ap (λ y. y ∷ drop (i + 1) xs) (sym here)
 
 -- the lines from the index of a connection
-pub sections_from_here : (shown : Bool) (k i : ℕ) (connections : List Connection) (audited : List Audited) (c : Connection) (a : Audited)
+pub sections_from_here : (shown : Bool) (k i : ℕ) (connections : List Connection) (audited : List Audited)
+    (c : Connection) (a : Audited)
     → i < length connections → i < length audited → c ≡ get_or connections i c → a ≡ get_or audited i a
     → sections_text shown k (drop i connections) (drop i audited)
     ≡ (connection_text k c a.extents a.cut ++ findings_text shown a.cut a.findings.items)

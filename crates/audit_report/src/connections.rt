@@ -6,7 +6,7 @@ ghost use Rattle.audit_report.specs.ConnectionLine.{contents_text, heading_text,
 ghost use Rattle.audit_report.specs.FlowLine.{extents_of, gap_text, flow_line, tail_of};
 ghost use Rattle.audit_report.specs.Section.{connection_text};
 ghost use Rattle.audit_report.specs.code.Roles.{roles_text};
-ghost use Rattle.tcp_streams.specs.Orderly.{IsOrderly};
+ghost use Rattle.tcp_streams.specs.code.Orderly.{IsOrderly};
 
 use crate::endpoints::push_endpoint;
 use crate::extents::Extent;

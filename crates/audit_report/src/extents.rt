@@ -14,7 +14,7 @@ pub struct Extent {
 
 impl Extent {
     ghost use Rattle.audit_report.specs.FlowLine.{extent_of, extents_of};
-    ghost use Rattle.tcp_streams.specs.Orderly.{IsOrderly};
+    ghost use Rattle.tcp_streams.specs.code.Orderly.{IsOrderly};
 
     /// The extent of one flow.
     fn of(flow: &Flow) -> Extent

@@ -1,6 +1,6 @@
 ghost use Rattle.std.specs.Prelude.{◌≡◌, ◌++◌, OnOk, IfOk};
 ghost use Rattle.std.specs.String.{string_bytes};
-ghost use Rattle.audit_terms.specs.runs.Orderly.{IsOrderly};
+ghost use Rattle.audit_terms.specs.code.runs.Orderly.{IsOrderly};
 ghost use Rattle.split_merge.specs.FrameLookup.{frame_numbered};
 ghost use Rattle.audit_report.specs.FindingLine.{finding_line, shown_line, finding_lines};
 ghost use Rattle.audit_report.specs.code.Findings.{moment_text, said_text};

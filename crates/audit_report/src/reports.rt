@@ -1,7 +1,7 @@
 ghost use Rattle.std.specs.Prelude.{◌≡◌, ◌++◌, ◌+◌, ◌<◌, ◌^◌, OnOk, IfOk, All, length};
 ghost use Rattle.std.specs.String.{string_bytes};
-ghost use Rattle.audit_terms.specs.runs.Orderly.{IsOrderly};
-ghost use Rattle.h2_frames.specs.Orderly.{HasOrderlyFrames};
+ghost use Rattle.audit_terms.specs.code.runs.Orderly.{IsOrderly};
+ghost use Rattle.h2_frames.specs.code.Orderly.{HasOrderlyFrames};
 ghost use Rattle.audit_report.specs.EndLine.{end_line};
 ghost use Rattle.audit_report.specs.FindingLine.{finding_lines};
 ghost use Rattle.audit_report.specs.Section.{connection_text, findings_text, sections_text};

@@ -1,5 +1,7 @@
 -- What is found of connections of which fronts are gone through first.
-use Rattle.std.proofs.Common.{◌≡◌, ℕ, zero, suc, ◌+◌, ◌<◌, ◌≤◌, ◌/◌, Bool, true, false, nat_lt, if◌then◌else◌, List, [], ◌∷◌, ◌++◌, map, take, drop, length, get_or, set, get_or-set_same, get_or-set_other, All, refl, sym, ap, ◌∙◌, subst, ⊎_elim, arith, Bor, Vec, Global}
+use Rattle.std.proofs.Common.{◌≡◌, ℕ, zero, suc, ◌+◌, ◌<◌, ◌≤◌, ◌/◌, Bool, true, false, nat_lt, if◌then◌else◌, List, []}
+use Rattle.std.proofs.Common.{◌∷◌, ◌++◌, map, take, drop, length, get_or, set, get_or-set_same, get_or-set_other, All}
+use Rattle.std.proofs.Common.{refl, sym, ap, ◌∙◌, subst, ⊎_elim, arith, Bor, Vec, Global}
 use Rattle.std.specs.List.{list_any, zip}
 use Rattle.std.proofs.lemmas.Bool.{cases_eq}
 use Rattle.std.proofs.lemmas.List.{map-append, map_more, length-map, get_or-map, get_or_default, take-append-drop}
@@ -8,7 +10,7 @@ use Rattle.std.proofs.lemmas.Simd.{map-map}
 use Rattle.audit_terms.specs.declared.findings.Finding.{Finding}
 use Rattle.audit_terms.specs.declared.frames.Frame.{Frame}
 use Rattle.audit_terms.specs.Finding.{stops, shown}
-use Rattle.audit_terms.specs.runs.Orderly.{IsOrderly}
+use Rattle.audit_terms.specs.code.runs.Orderly.{IsOrderly}
 use Rattle.audit_terms.specs.Pass.{pass}
 use Rattle.audit_rounds.specs.code.EarlyStops.{front_of, has_stopped, later_of, chosen_of}
 use Rattle.audit_rounds.proofs.Cuts.{orderly-take}
@@ -34,10 +36,12 @@ zip-more : {A B : Type 0} (xs : List A) (ys : List B) (at : ℕ) (dx : A) (dy : 
 zip-more [] ys at dx dy l l' = absurd (omega arith)
 zip-more (x ∷ xs) [] at dx dy l l' = absurd (omega arith)
 zip-more (x ∷ xs) (y ∷ ys) zero dx dy l l' = refl
-zip-more (x ∷ xs) (y ∷ ys) (suc at) dx dy l l' = ap (λ l. (x, y) ∷ l) (zip-more xs ys at dx dy (omega arith) (omega arith))
+zip-more (x ∷ xs) (y ∷ ys) (suc at) dx dy l l' = ap (λ l. (x, y) ∷ l)
+    (zip-more xs ys at dx dy (omega arith) (omega arith))
 
 -- one connection more
-pub laters-more : (connections : List (Bor (List Frame))) (early : List (Vec Finding Global)) (made : List (Bor (List Frame)))
+pub laters-more : (connections : List (Bor (List Frame))) (early : List (Vec Finding Global))
+    (made : List (Bor (List Frame)))
     (one : Bor (List Frame)) (at : ℕ) (dx : Bor (List Frame)) (dy : Vec Finding Global) (found : List Finding)
     → at < length connections → at < length early
     → one.now ≡ later_of (get_or connections at dx).now found → found ≡ dy.items → dy ≡ get_or early at dy
@@ -73,7 +77,8 @@ pub chosen-more : (early later fronts now : List (Vec Finding Global)) (i : ℕ)
     → ((n : ℕ) (d e f : Vec Finding Global) → n < i → get_or now n d ≡ chosen_of (get_or early n e, get_or later n f))
     → (n : ℕ) (d e f : Vec Finding Global) → n < i + 1
     → get_or (set now i new) n d ≡ chosen_of (get_or early n e, get_or later n f)
-chosen-more early later fronts now i x y new in-early in-later in-now is isx isy fronts-left left done n d e f l = ⊎_elim
+chosen-more early later fronts now i x y new in-early in-later in-now is isx isy fronts-left left done n d e f
+    l = ⊎_elim
     (λ same.
     let first : x ≡ get_or early i e = isx ∙ fronts-left i x (omega arith) ∙ get_or_default early i x e in-early in
     let second : y ≡ get_or later i f = isy ∙ left i y (omega arith) ∙ get_or_default later i y f in-later in
@@ -104,13 +109,15 @@ module _ (credits_shown : Bool) where
 
   whole : (n : ℕ) (frames : List Frame) → list_any stops (passed (take n frames)) ≡ true →
       passed (take n frames) ≡ passed frames
-  whole n frames h = fronts_settle_lem credits_shown (take n frames) (drop n frames) h ∙ ap passed (take-append-drop n frames)
+  whole n frames h = fronts_settle_lem credits_shown (take n frames) (drop n frames) h
+      ∙ ap passed (take-append-drop n frames)
 
   pub chosen-pass : (connections : List (Bor (List Frame))) (early found : List (Vec Finding Global))
       → map (λ (list : Vec Finding Global). list.items) early
       ≡ map (λ (frames : Bor (List Frame)). passed (front_of frames.now)) connections
       → map (λ (list : Vec Finding Global). list.items) found
-      ≡ map (λ (one : Bor (List Frame) × Vec Finding Global). passed (later_of one.0.now one.1.items)) (zip connections early)
+      ≡ map (λ (one : Bor (List Frame) × Vec Finding Global). passed (later_of one.0.now one.1.items))
+      (zip connections early)
       → map (λ (list : Vec Finding Global). list.items) (map chosen_of (zip early found))
       ≡ map (λ (frames : Bor (List Frame)). passed frames.now) connections
   chosen-pass [] [] found e f = refl
@@ -151,7 +158,8 @@ unmapped : (xs : List (Bor (List Frame))) → All IsOrderly (map (λ (frames : B
     → All (λ (frames : Bor (List Frame)). IsOrderly frames.now) xs
 unmapped xs h n d l =
     let long = length-map xs (λ (frames : Bor (List Frame)). frames.now) in
-    subst IsOrderly (get_or-map (λ (frames : Bor (List Frame)). frames.now) xs n d d.now l) (h n d.now (omega (arith, long, l)))
+    subst IsOrderly (get_or-map (λ (frames : Bor (List Frame)). frames.now) xs n d d.now l)
+    (h n d.now (omega (arith, long, l)))
 
 pub orderly-fronts : (connections fronts : List (Bor (List Frame)))
     → map (λ (front : Bor (List Frame)). front.now) fronts
@@ -165,7 +173,8 @@ orderly-fronts connections fronts e h =
 
 orderly-later : (connections : List (Bor (List Frame))) (early : List (Vec Finding Global))
     → All (λ (frames : Bor (List Frame)). IsOrderly frames.now) connections
-    → (n : ℕ) (d : List Frame) → n < length (laters_of connections early) → IsOrderly (get_or (laters_of connections early) n d)
+    → (n : ℕ) (d : List Frame) → n < length (laters_of connections early)
+    → IsOrderly (get_or (laters_of connections early) n d)
 orderly-later [] early h n d l = absurd (omega arith)
 orderly-later (x ∷ xs) [] h n d l = absurd (omega arith)
 orderly-later (x ∷ xs) (y ∷ ys) h zero d l = by_test _ refl where
@@ -202,10 +211,12 @@ module _ (shows : List Frame → List Finding) (connections : List (Bor (List Fr
   pub shown-laters : (laters : List (Bor (List Frame))) (early : List (Vec Finding Global))
       → map (λ (later : Bor (List Frame)). later.now) laters ≡ laters_of connections early
       → map (λ (later : Bor (List Frame)). shows later.now) laters
-      ≡ map (λ (one : Bor (List Frame) × Vec Finding Global). shows (later_of one.0.now one.1.items)) (zip connections early)
+      ≡ map (λ (one : Bor (List Frame) × Vec Finding Global). shows (later_of one.0.now one.1.items))
+      (zip connections early)
   shown-laters laters early e =
       sym (map-map shows (λ (later : Bor (List Frame)). later.now) laters) ∙ ap (map shows) e
-      ∙ map-map shows (λ (one : Bor (List Frame) × Vec Finding Global). later_of one.0.now one.1.items) (zip connections early)
+      ∙ map-map shows (λ (one : Bor (List Frame) × Vec Finding Global). later_of one.0.now one.1.items)
+      (zip connections early)
 
 -- as many of one as of the other
 pub as-many : {A B C : Type 0} (f : A → C) (g : B → C) (xs : List A) (ys : List B) → map f xs ≡ map g ys

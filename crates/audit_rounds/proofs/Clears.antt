@@ -3,10 +3,10 @@ use Rattle.std.proofs.Common.{◌≡◌, Bool, true, false, not, List, [], sym, 
 use Rattle.std.specs.Bool.{OnFalse}
 use Rattle.audit_terms.specs.declared.connections.ConnectionState.{ConnectionState}
 use Rattle.audit_terms.specs.declared.items.Item.{Item}
-use Rattle.audit_terms.specs.runs.Blocks.{block_run}
+use Rattle.audit_terms.specs.code.runs.Blocks.{block_run}
 use Rattle.audit_terms.specs.Finding.{shown}
-use Rattle.conn_scan.specs.ConnSum.{ConnSum, conn_sum_of}
-use Rattle.conn_scan.specs.Clear.{is_clear}
+use Rattle.conn_scan.specs.code.ConnSum.{ConnSum, conn_sum_of}
+use Rattle.conn_scan.specs.code.Clear.{is_clear}
 use Rattle.conn_scan.proofs.ShownLemmas.{clear_shows_credit}
 
 -- nothing, where credits are not

@@ -1,8 +1,11 @@
 -- Blocks that a connection's frames are cut into.
-use Rattle.std.proofs.Common.{◌≡◌, ℕ, zero, suc, ◌+◌, ◌*◌, ◌^◌, ◌<◌, ◌≤◌, ◌==◌, ◌&&◌, Bool, List, [], ◌∷◌, ◌++◌, append_assoc, map, take, drop, length, length-append, get_or, All, refl, sym, ap, ◌∙◌, subst, ⊎_elim, arith, ℤ, ◌+ℤ◌}
+use Rattle.std.proofs.Common.{◌≡◌, ℕ, zero, suc, ◌+◌, ◌*◌, ◌^◌, ◌<◌, ◌≤◌, ◌==◌, ◌&&◌, Bool, List, [], ◌∷◌, ◌++◌}
+use Rattle.std.proofs.Common.{append_assoc, map, take, drop, length, length-append, get_or, All, refl, sym, ap, ◌∙◌}
+use Rattle.std.proofs.Common.{subst, ⊎_elim, arith, ℤ, ◌+ℤ◌}
 use Rattle.std.proofs.lemmas.Int.{ints}
 use Rattle.std.proofs.lemmas.Bool.{cases_lt, lt-ltb, le-ltb, ne_eqb}
-use Rattle.std.proofs.lemmas.List.{take-append-drop, map-append, get_or-take, get_or-drop, length-take-le, length-map, length-drop}
+use Rattle.std.proofs.lemmas.List.{take-append-drop, map-append, get_or-take, get_or-drop, length-take-le, length-map}
+use Rattle.std.proofs.lemmas.List.{length-drop}
 use Rattle.std.proofs.Math.ListN.{get_or-map}
 use Rattle.std.specs.List.{AllByRecursion, list_any, find}
 use Rattle.audit_terms.specs.declared.connections.ConnectionState.{ConnectionState}
@@ -12,18 +15,18 @@ use Rattle.audit_terms.specs.declared.items.Change.{Change}
 use Rattle.audit_terms.specs.declared.items.Item.{Item}
 use Rattle.audit_terms.specs.declared.sides.Side.TheVariants.{Client, Server}
 use Rattle.audit_terms.specs.Connection.{connection_start, connection_said, connection_after}
-use Rattle.audit_terms.specs.runs.Blocks.{block_run, connection_after_all}
+use Rattle.audit_terms.specs.code.runs.Blocks.{block_run, connection_after_all}
 use Rattle.audit_terms.specs.Finding.{in_order, shown}
 use Rattle.audit_terms.specs.Frame.{is_headers}
-use Rattle.audit_terms.specs.runs.Orderly.{IsOrderly, IsOrderlyFrom}
+use Rattle.audit_terms.specs.code.runs.Orderly.{IsOrderly, IsOrderlyFrom}
 use Rattle.audit_terms.specs.code.Room.{HasRoom}
-use Rattle.settings_pair.specs.Changes.{AreOrderlyFrom}
-use Rattle.block_scan.specs.List.{items_of}
+use Rattle.settings_pair.specs.code.Changes.{AreOrderlyFrom}
+use Rattle.block_scan.specs.code.List.{items_of}
 use Rattle.conn_scan.specs.declared.block_items.Block.{Block}
-use Rattle.conn_scan.specs.Items.{item_with, items_with, items_in, IsBlock, NeverFallFrom}
-use Rattle.conn_scan.specs.Block.{MovesLittle, BlockFits, connections_before}
-use Rattle.conn_scan.specs.ConnSum.{ConnSum, conn_sum_of}
-use Rattle.conn_scan.specs.SideCredit.{change_of}
+use Rattle.conn_scan.specs.code.Items.{item_with, items_with, items_in, IsBlock, NeverFallFrom}
+use Rattle.conn_scan.specs.code.Block.{MovesLittle, BlockFits, connections_before}
+use Rattle.conn_scan.specs.code.ConnSum.{ConnSum, conn_sum_of}
+use Rattle.conn_scan.specs.code.SideCredit.{change_of}
 use Rattle.conn_scan.specs.code.CreditLaws.{room-wider}
 use Rattle.conn_scan.specs.code.Walk.{numbers_from, changes_from}
 use Rattle.conn_scan.proofs.SumLemmas.{little-append}
@@ -44,7 +47,8 @@ any_from low number (n ∷ numbers) le = ⊎_elim
     (λ ge. rw (le-ltb n low ge) refl)
     (cases_lt n low)
 
-rise-from : (start low : ℕ) (numbers : List ℕ) → NeverFallFrom start numbers → NeverFallFrom 0 (numbers_from low numbers)
+rise-from : (start low : ℕ) (numbers : List ℕ) → NeverFallFrom start numbers
+    → NeverFallFrom 0 (numbers_from low numbers)
 rise-from start low [] h = tt
 rise-from start low (n ∷ numbers) h = ⊎_elim
     (λ lt. rw (lt-ltb n low lt) (rise-from n low numbers h.1))
@@ -152,7 +156,8 @@ block-cut rest front next first later n h is fo fc ff go gc gf =
       record { is_block = whole; number = omega arith },
       cut-is opened changes first (drop n frames) next go gc gf h.opened h.changes (orderly-drop 0 n frames h.frames),
       ap (λ l. l ++ items_in next) (items-as front _ _ _ fo fc ff)
-          ∙ ap (λ l. items_with (numbers_from first.number opened) (changes_from first.number changes) (take n frames) ++ l)
+          ∙ ap (λ l. items_with (numbers_from first.number opened) (changes_from first.number changes) (take n frames)
+          ++ l)
           (items-as next _ _ _ go gc gf)
           ∙ items-cut opened changes frames later first n is h.frames,
     )

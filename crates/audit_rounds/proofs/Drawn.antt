@@ -1,5 +1,6 @@
 -- What a loop has taken of a list so far, and what it made of that.
-use Rattle.std.proofs.Common.{◌≡◌, ◌+◌, List, [], ◌∷◌, ◌++◌, map, length, get_or, All, append_assoc, append-nil, sym, ap, ◌∙◌, subst, arith}
+use Rattle.std.proofs.Common.{◌≡◌, ◌+◌, List, [], ◌∷◌, ◌++◌, map, length, get_or, All, append_assoc, append-nil, sym}
+use Rattle.std.proofs.Common.{ap, ◌∙◌, subst, arith}
 use Rattle.std.proofs.lemmas.List.{map-append, length-append, nil_from_length}
 use Rattle.std.proofs.Math.Seq.{get_or-append_seam}
 

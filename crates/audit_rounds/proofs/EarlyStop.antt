@@ -1,5 +1,6 @@
 -- What a pass over a front of the frames shows is what a pass over all of them shows, if it ends there.
-use Rattle.std.proofs.Common.{◌≡◌, ℕ, Bool, true, false, not, ◌==◌, ◌||◌, ◌&&◌, cond, List, [], ◌∷◌, ◌++◌, filter, refl, sym, ap, ◌∙◌, subst, append_assoc, append-nil, true≢false}
+use Rattle.std.proofs.Common.{◌≡◌, ℕ, Bool, true, false, not, ◌==◌, ◌||◌, ◌&&◌, cond, List, [], ◌∷◌, ◌++◌, filter, refl}
+use Rattle.std.proofs.Common.{sym, ap, ◌∙◌, subst, append_assoc, append-nil, true≢false}
 use Rattle.std.specs.List.{AllByRecursion, list_any}
 use Rattle.std.proofs.lemmas.Grind.{flat_map-append}
 use borrow.Author.Tests.{eqb-true, eq-eqb}
@@ -11,13 +12,14 @@ use Rattle.audit_terms.specs.Finding.{in_order, stops, upto_stop, is_shown, show
 use Rattle.audit_terms.specs.Frame.{promised_by, meets}
 use Rattle.audit_terms.specs.InForce.{change_of, settings_said}
 use Rattle.audit_terms.specs.LocalFault.{local_said}
-use Rattle.audit_terms.specs.Pass.{PassState, pass_start, first_of, full_from, item_of, next, pass, said, step_of, streams_of, streams_said}
-use Rattle.audit_terms.specs.runs.States.{state_from}
+use Rattle.audit_terms.specs.Pass.{PassState, pass_start, first_of, full_from, item_of, next, pass, said, step_of}
+use Rattle.audit_terms.specs.Pass.{streams_of, streams_said}
+use Rattle.audit_terms.specs.code.runs.States.{state_from}
 use Rattle.audit_terms.specs.Stream.{idle_stream, stream_said, stream_after}
 use Rattle.audit_core.proofs.NamedStreams.{is_among, with_stream, without, named-more, named-first}
 use Rattle.audit_core.proofs.QuietSteps.{bare_step}
 use Rattle.audit_core.proofs.StreamsMet.{streams_met_lem}
-use Rattle.audit_rounds.specs.EarlyStop.{FrontsSettle}
+use Rattle.audit_rounds.specs.laws.EarlyStop.{FrontsSettle}
 
 first_false : (a b : Bool) → (a || b) ≡ false → a ≡ false
 first_false true b e = e
@@ -29,11 +31,13 @@ second_false false b e = e
 
 -- ---- a stream that no frame has met shows nothing
 
-module _ (stream : ℕ) (state : PassState) (frame : Frame) (idle : state.streams stream ≡ idle_stream) (unmet : meets stream frame ≡ false) where
+module _ (stream : ℕ) (state : PassState) (frame : Frame) (idle : state.streams stream ≡ idle_stream)
+    (unmet : meets stream frame ≡ false) where
   bare : step_of state.in_force frame stream ≡ bare_step frame.number (change_of state.in_force frame)
   bare = rw unmet refl
 
-  said-idle : stream_said stream state.in_force.initial (state.streams stream) (step_of state.in_force frame stream) ≡ []
+  said-idle : stream_said stream state.in_force.initial (state.streams stream) (step_of state.in_force frame stream)
+      ≡ []
   said-idle =
       ap (stream_said stream state.in_force.initial (state.streams stream)) bare
       ∙ ap (λ entry. stream_said stream state.in_force.initial entry
@@ -99,7 +103,8 @@ gather seen [] = seen
 gather seen (frame ∷ frames) = gather (with_stream (promised_by frame) (with_stream frame.stream seen)) frames
 
 gathered : (seen : List ℕ) (front rest : List Frame) →
-    gather seen front ++ without (gather seen front) (streams_of rest) ≡ seen ++ without seen (streams_of (front ++ rest))
+    gather seen front ++ without (gather seen front) (streams_of rest) ≡ seen ++ without seen
+    (streams_of (front ++ rest))
 gathered seen [] rest = refl
 gathered seen (frame ∷ front) rest =
     gathered (with_stream (promised_by frame) (with_stream frame.stream seen)) front rest
@@ -124,7 +129,8 @@ not-named stream [] h = refl
 not-named stream (other ∷ others) h = by_test _ refl (not-named stream others (second_false _ _ h)) where
   by_test : (b : Bool) → (other == stream) ≡ b → list_any (λ x. x == stream) others ≡ false →
       list_any (λ x. x == stream) (other ∷ others) ≡ false
-  by_test true e ih = absurd (true≢false (sym (eq-eqb stream other (sym (eqb-true other stream e))) ∙ first_false _ _ h))
+  by_test true e ih = absurd
+      (true≢false (sym (eq-eqb stream other (sym (eqb-true other stream e))) ∙ first_false _ _ h))
   by_test false e ih = ap (λ b. b || list_any (λ x. x == stream) others) e ∙ ih
 
 unmet-others : (front : List Frame) (streams : List ℕ) → list_any (λ other. other == 0) streams ≡ false →

@@ -1,19 +1,22 @@
 -- A batch has few frames, and so its rounds have few jobs.
-use Rattle.std.proofs.Common.{◌≡◌, ℕ, zero, suc, ◌+◌, ◌*◌, ◌<◌, ◌≤◌, Bool, true, false, not, min, if◌then◌else◌, List, [], ◌∷◌, map, take, drop, length, length-append, get_or, All, sym, ap, ◌∙◌, arith, Option, None, Vec, Global, Bor}
+use Rattle.std.proofs.Common.{◌≡◌, ℕ, zero, suc, ◌+◌, ◌*◌, ◌<◌, ◌≤◌, Bool, true, false, not, min, if◌then◌else◌, List}
+use Rattle.std.proofs.Common.{[], ◌∷◌, map, take, drop, length, length-append, get_or, All, sym, ap, ◌∙◌, arith, Option}
+use Rattle.std.proofs.Common.{None, Vec, Global, Bor}
 use Rattle.std.specs.List.{AllZip, sum_by, zip}
 use Rattle.std.proofs.Math.Nat.{min-le_right}
 use Rattle.std.proofs.lemmas.List.{length-map}
 use Rattle.std.proofs.lemmas.List.Elements.{All-head, All-tail}
 use Rattle.std.proofs.lemmas.List.FromFn.{length-map-range_with_len}
-use Rattle.std.proofs.lemmas.List.Sums.{sum_by-cons, sum_by-take-drop, sum_by-le-sum_by, length-filter, count_by-le-length}
+use Rattle.std.proofs.lemmas.List.Sums.{sum_by-cons, sum_by-take-drop, sum_by-le-sum_by, length-filter}
+use Rattle.std.proofs.lemmas.List.Sums.{count_by-le-length}
 use Rattle.audit_terms.specs.declared.findings.Finding.{Finding}
 use Rattle.audit_terms.specs.declared.frames.Frame.{Frame}
-use Rattle.audit_terms.specs.runs.Look.{is_past}
+use Rattle.audit_terms.specs.code.runs.Look.{is_past}
 use Rattle.conn_scan.specs.declared.block_items.Block.{Block}
 use Rattle.split_merge.specs.declared.splits.SplitFrames.{SplitFrames}
-use Rattle.split_merge.specs.Groups.{groups, group_at}
+use Rattle.split_merge.specs.code.Groups.{groups, group_at}
 use Rattle.stream_groups.specs.declared.streams.Streams.{Streams}
-use Rattle.audit_rounds.specs.Settling.{frames_within}
+use Rattle.audit_rounds.specs.code.Within.{frames_within}
 use Rattle.audit_rounds.specs.declared.prepared.Prepared.{Prepared}
 use Rattle.audit_rounds.specs.code.Connections.{AreRests}
 use Rattle.audit_rounds.specs.code.EarlyStops.{front_of, has_stopped, later_of}
@@ -106,7 +109,8 @@ pub few-ready : (connections : List (Bor (List Frame))) (made : List Prepared)
     → map (λ (one : Prepared). one.frames.now) made ≡ map (λ (frames : Bor (List Frame)). frames.now) connections
     → AreFew connections → PreparedAreFew made
 few-ready connections made e h =
-    let same = sum-same (λ (one : Prepared). one.frames.now) (λ (frames : Bor (List Frame)). frames.now) made connections e in
+    let same = sum-same (λ (one : Prepared). one.frames.now) (λ (frames : Bor (List Frame)). frames.now) made
+    connections e in
     omega (arith, same, h)
 
 -- ---- lists of which each element has no more than that of another list

@@ -1,9 +1,12 @@
 -- What is left to do of connections, and that it makes their passes.
-use Rattle.std.proofs.Common.{◌≡◌, ℕ, zero, suc, ◌+◌, ◌<◌, ◌≤◌, Bool, true, false, not, nat_lt, leb, if◌then◌else◌, List, [], ◌∷◌, ◌++◌, map, filter, take, length, get_or, All, refl, sym, ap, ◌∙◌, subst, arith, Option, None, Vec, Global}
+use Rattle.std.proofs.Common.{◌≡◌, ℕ, zero, suc, ◌+◌, ◌<◌, ◌≤◌, Bool, true, false, not, nat_lt, leb, if◌then◌else◌}
+use Rattle.std.proofs.Common.{List, [], ◌∷◌, ◌++◌, map, filter, take, length, get_or, All, refl, sym, ap, ◌∙◌, subst}
+use Rattle.std.proofs.Common.{arith, Option, None, Vec, Global}
 use Rattle.std.specs.List.Sorted.{IsPartitionPoint, IsPartitionedBy}
 use Rattle.std.proofs.lemmas.Bool.Decides.{leb_tells}
 use Rattle.std.proofs.Common.{⊎_elim, Bor}
-use Rattle.std.proofs.lemmas.List.{length-map, length-append, get_or-map, get_or_default, ext_get_or, map-append, map_more}
+use Rattle.std.proofs.lemmas.List.{length-map, length-append, get_or-map, get_or_default, ext_get_or, map-append}
+use Rattle.std.proofs.lemmas.List.{map_more}
 use Rattle.std.proofs.lemmas.List.Sorted.{IsPartitionedBy-leb}
 use Rattle.std.proofs.lemmas.Bool.{cases_eq}
 use Rattle.std.proofs.lemmas.Simd.{map-map}
@@ -12,17 +15,17 @@ use Rattle.std.proofs.Math.Seq.{get_or-append_seam}
 use Rattle.audit_terms.specs.declared.findings.Finding.{Finding}
 use Rattle.audit_terms.specs.declared.frames.Frame.{Frame}
 use Rattle.audit_terms.specs.Connection.{connection_start}
-use Rattle.audit_terms.specs.runs.Blocks.{block_run}
+use Rattle.audit_terms.specs.code.runs.Blocks.{block_run}
 use Rattle.audit_terms.specs.Finding.{in_order, upto_stop, shown}
-use Rattle.audit_terms.specs.runs.Orderly.{IsOrderly, IsOrderlyFrom}
-use Rattle.audit_terms.specs.runs.Changes.{changes_of}
-use Rattle.audit_terms.specs.runs.Look.{is_past}
+use Rattle.audit_terms.specs.code.runs.Orderly.{IsOrderly, IsOrderlyFrom}
+use Rattle.audit_terms.specs.code.runs.Changes.{changes_of}
+use Rattle.audit_terms.specs.code.runs.Look.{is_past}
 use Rattle.audit_terms.specs.Pass.{pass}
-use Rattle.settings_pair.specs.Changes.{AreOrderly}
-use Rattle.stop_desk.specs.Stop.{IsStop}
+use Rattle.settings_pair.specs.code.Changes.{AreOrderly}
+use Rattle.stop_desk.specs.code.Stop.{IsStop}
 use Rattle.conn_scan.specs.declared.block_items.Block.{Block}
-use Rattle.conn_scan.specs.Items.{items_with, items_in, item_with, NeverFallFrom}
-use Rattle.audit_rounds.specs.Settling.{IsAfterStreams, frames_within}
+use Rattle.conn_scan.specs.code.Items.{items_with, items_in, item_with, NeverFallFrom}
+use Rattle.audit_rounds.specs.code.Within.{IsAfterStreams, frames_within}
 use Rattle.audit_rounds.specs.declared.prepared.Prepared.{Prepared}
 use Rattle.audit_rounds.specs.code.AfterStreams.{AreAfterStreams}
 use Rattle.audit_rounds.specs.code.Connections.{IsRest, AreRests}
@@ -88,7 +91,8 @@ not-above last number = ⊎_elim
 
 -- the frames up to a number stand before the point
 pub within-point : (last i : ℕ) (frames : List Frame) → i ≤ length frames
-    → IsPartitionPoint (λ (frame : Frame). leb frame.number last ≡ true) (λ (frame : Frame). leb frame.number last ≡ false)
+    → IsPartitionPoint (λ (frame : Frame). leb frame.number last ≡ true)
+    (λ (frame : Frame). leb frame.number last ≡ false)
     frames i
     → take i frames ≡ filter (λ (frame : Frame). not (nat_lt last frame.number)) frames
 within-point last i frames l point =
@@ -136,7 +140,8 @@ module _ (credits_shown : Bool) (connection : Prepared) (stop : Option ℕ) (ope
       → upto_stop (in_order last) ≡ shown credits_shown (pass connection.frames.now)
   one-settles last e =
       rounds_settle_lem credits_shown connection.frames.now found last stop opened prepared.orderly after
-      (e ∙ ap (λ items. upto_stop (in_order (found ++ shown credits_shown (block_run connection_start items)))) items-are)
+      (e ∙ ap (λ items. upto_stop (in_order (found ++ shown credits_shown (block_run connection_start items))))
+      items-are)
 
 -- ---- all connections of a batch
 
@@ -217,7 +222,8 @@ ready-more made one all at d l is e =
     ∙ ap (λ f. map (λ (frames : Bor (List Frame)). frames.now) (take at all) ++ f ∷ []) is
     ∙ sym (map_more (λ (frames : Bor (List Frame)). frames.now) all at d l)
 
-pub before-more : (found : List (Vec Finding Global)) (made : List Prepared) (list : Vec Finding Global) (one : Prepared)
+pub before-more : (found : List (Vec Finding Global)) (made : List Prepared) (list : Vec Finding Global)
+    (one : Prepared)
     → list.items ≡ found_before one
     → map (λ (list : Vec Finding Global). list.items) found ≡ map found_before made
     → map (λ (list : Vec Finding Global). list.items) (found ++ list ∷ []) ≡ map found_before (made ++ one ∷ [])
@@ -238,7 +244,8 @@ pub rests-more : (connections : List Prepared) (stops : List (Option ℕ)) (open
     → IsRest (get_or connections n c) (get_or stops n s) (get_or opened n o).items (get_or rests n r))
     → (n : ℕ) (c : Prepared) (s : Option ℕ) (o : Vec ℕ Global) (r : Block) → n < length (rests ++ rest ∷ [])
     → IsRest (get_or connections n c) (get_or stops n s) (get_or opened n o).items (get_or (rests ++ rest ∷ []) n r)
-rests-more connections stops opened rests k connection stop numbers own rest ek lc ls lo isc iss iso is-own is each n c s o r l =
+rests-more connections stops opened rests k connection stop numbers own rest ek lc ls lo isc iss iso is-own is each n c
+    s o r l =
     ⊎_elim
     (λ e.
     let here : n ≡ k = e ∙ sym ek in
@@ -264,6 +271,8 @@ pub passes-same : (credits_shown : Bool) (connections : List Prepared) (all : Li
     → map (λ (one : Prepared). shown credits_shown (pass one.frames.now)) connections
     ≡ map (λ (frames : Bor (List Frame)). shown credits_shown (pass frames.now)) all
 passes-same credits_shown connections all e =
-    sym (map-map (λ (frames : List Frame). shown credits_shown (pass frames)) (λ (one : Prepared). one.frames.now) connections)
+    sym (map-map (λ (frames : List Frame). shown credits_shown (pass frames)) (λ (one : Prepared). one.frames.now)
+    connections)
     ∙ ap (map (λ (frames : List Frame). shown credits_shown (pass frames))) e
-    ∙ map-map (λ (frames : List Frame). shown credits_shown (pass frames)) (λ (frames : Bor (List Frame)). frames.now) all
+    ∙ map-map (λ (frames : List Frame). shown credits_shown (pass frames)) (λ (frames : Bor (List Frame)). frames.now)
+    all

@@ -1,5 +1,6 @@
 -- The items of the pass, each found by its frame's number.
-use Rattle.std.proofs.Common.{◌≡◌, ℕ, ◌+◌, ◌<◌, ◌≤◌, ◌==◌, Bool, false, ◌&&◌, List, [], ◌∷◌, ◌++◌, map, Option, Some, None, refl, sym, ap, ◌∙◌, arith, append_assoc}
+use Rattle.std.proofs.Common.{◌≡◌, ℕ, ◌+◌, ◌<◌, ◌≤◌, ◌==◌, Bool, false, ◌&&◌, List, [], ◌∷◌, ◌++◌, map, Option, Some}
+use Rattle.std.proofs.Common.{None, refl, sym, ap, ◌∙◌, arith, append_assoc}
 use Rattle.std.specs.Option.{option_to_list}
 use Rattle.std.specs.List.Sorted.{IsPermutation}
 use Rattle.std.proofs.lemmas.Bool.Decides.{nat_tests}
@@ -10,13 +11,13 @@ use Rattle.audit_terms.specs.declared.frames.Frame.{Frame}
 use Rattle.audit_terms.specs.declared.items.Change.{Change}
 use Rattle.audit_terms.specs.declared.items.Item.{Item}
 use Rattle.audit_terms.specs.Frame.{is_headers}
-use Rattle.audit_terms.specs.runs.Orderly.{IsOrderlyFrom}
+use Rattle.audit_terms.specs.code.runs.Orderly.{IsOrderlyFrom}
 use Rattle.audit_terms.specs.InForce.{InForce, in_force_after, change_of, change_taking, taken}
-use Rattle.audit_terms.specs.runs.Changes.{changes_from, changes_of}
+use Rattle.audit_terms.specs.code.runs.Changes.{changes_from, changes_of}
 use Rattle.audit_terms.specs.Pass.{PassState, pass_start, next}
-use Rattle.audit_terms.specs.runs.States.{items_of, items_from}
-use Rattle.conn_scan.specs.Items.{is_marked, change_at}
-use Rattle.audit_rounds.specs.Items.{ItemsAreFound}
+use Rattle.audit_terms.specs.code.runs.States.{items_of, items_from}
+use Rattle.conn_scan.specs.code.Items.{is_marked, change_at}
+use Rattle.audit_rounds.specs.laws.Items.{ItemsAreFound}
 use Rattle.audit_rounds.proofs.Openings.{openings_are_found_lem}
 
 -- ---- changes

@@ -1,5 +1,7 @@
 -- The jobs of the rounds over blocks.
-use Rattle.std.proofs.Common.{◌≡◌, ℕ, zero, suc, ◌+◌, Bool, true, false, if◌then◌else◌, List, [], ◌∷◌, map, length, get_or, All, Contains, Option, Some, None, slice_get, ◌⊎◌, inl, inr, ⊎_elim, refl, sym, ap, ◌∙◌, subst, arith}
+use Rattle.std.proofs.Common.{◌≡◌, ℕ, zero, suc, ◌+◌, Bool, true, false, if◌then◌else◌, List, [], ◌∷◌, map, length}
+use Rattle.std.proofs.Common.{get_or, All, Contains, Option, Some, None, slice_get, ◌⊎◌, inl, inr, ⊎_elim, refl, sym}
+use Rattle.std.proofs.Common.{ap, ◌∙◌, subst, arith}
 use Rattle.std.proofs.lemmas.List.{length-map, get_or-map}
 use Rattle.std.proofs.lemmas.Option.{slice_get_within, get_or_from_slice_get}
 use Rattle.std.specs.List.{list_any}
@@ -8,19 +10,20 @@ use Rattle.audit_terms.specs.declared.findings.Finding.{Finding}
 use Rattle.audit_terms.specs.declared.frames.Frame.{Frame}
 use Rattle.audit_terms.specs.declared.items.Change.{Change}
 use Rattle.audit_terms.specs.Connection.{connection_said, connection_after}
-use Rattle.audit_terms.specs.runs.Blocks.{block_run}
+use Rattle.audit_terms.specs.code.runs.Blocks.{block_run}
 use Rattle.audit_terms.specs.Finding.{in_order, shown, comes_after}
-use Rattle.audit_terms.specs.runs.Orderly.{IsOrderlyFrom}
-use Rattle.audit_terms.specs.runs.Look.{Asked, last_answer, is_past, upto_of, up_to, IsRun}
+use Rattle.audit_terms.specs.code.runs.Orderly.{IsOrderlyFrom}
+use Rattle.audit_terms.specs.code.runs.Look.{Asked, last_answer, is_past, upto_of, up_to, IsRun}
 use Rattle.audit_terms.proofs.FindingOrder.{comes_after_is}
 use Rattle.audit_terms.proofs.OrderedLists.{IsInOrder, ordered-in_order, in_order-append, in_order-ordered}
-use Rattle.audit_terms.proofs.SaidPlaces.{AreFrom, at-connection, at-in_order, from-at, from-from, from-append, precedes-at}
+use Rattle.audit_terms.proofs.SaidPlaces.{AreFrom, at-connection, at-in_order, from-at, from-from, from-append}
+use Rattle.audit_terms.proofs.SaidPlaces.{precedes-at}
 use Rattle.conn_scan.specs.declared.block_items.Block.{Block}
-use Rattle.conn_scan.specs.Items.{item_with, items_with, items_in, IsBlock}
-use Rattle.split_merge.specs.Board.{Job, IsCut}
+use Rattle.conn_scan.specs.code.Items.{item_with, items_with, items_in, IsBlock}
+use Rattle.split_merge.specs.code.Board.{Job, IsCut}
 use Rattle.split_merge.proofs.RoundCuts.{front_is_cut_lem, whole_is_cut_lem}
 use Rattle.split_merge.proofs.ShownMerge.{in_order-shown}
-use Rattle.job_crew.specs.Heeding.{Heeds, RunLooks}
+use Rattle.job_crew.specs.code.Heeding.{Heeds, RunLooks}
 use Rattle.audit_rounds.specs.declared.blocks.ConnectionBlock.{ConnectionBlock}
 use Rattle.audit_rounds.specs.code.Plans.{sum_job}
 

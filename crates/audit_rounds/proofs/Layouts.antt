@@ -1,13 +1,14 @@
 -- Blocks that are laid out one connection after the other.
-use Rattle.std.proofs.Common.{◌≡◌, ℕ, zero, suc, ◌+◌, ◌-◌, ◌<◌, ◌≤◌, List, [], ◌∷◌, ◌++◌, append_assoc, append-nil, map, take, drop, length, get_or, All, refl, sym, ap, ◌∙◌, subst, arith}
+use Rattle.std.proofs.Common.{◌≡◌, ℕ, zero, suc, ◌+◌, ◌-◌, ◌<◌, ◌≤◌, List, [], ◌∷◌, ◌++◌, append_assoc, append-nil, map}
+use Rattle.std.proofs.Common.{take, drop, length, get_or, All, refl, sym, ap, ◌∙◌, subst, arith}
 use Rattle.std.proofs.lemmas.List.{length-append, length-map, map-append, take_more, get_or-map}
 use Rattle.std.proofs.lemmas.List.Elements.{All-append}
 use Rattle.std.proofs.Math.Seq.{take-append_seam, drop-append_seam}
 use Rattle.audit_terms.specs.declared.items.Item.{Item}
 use Rattle.audit_core.proofs.OrderlyRest.{drop-next}
-use Rattle.block_scan.specs.List.{items_of}
+use Rattle.block_scan.specs.code.List.{items_of}
 use Rattle.conn_scan.specs.declared.block_items.Block.{Block}
-use Rattle.conn_scan.specs.Items.{items_in}
+use Rattle.conn_scan.specs.code.Items.{items_in}
 use Rattle.audit_rounds.specs.declared.blocks.ConnectionBlock.{ConnectionBlock}
 use Rattle.audit_rounds.specs.code.Blocks.{blocks_in, blocks_of_connection, laid_out, wholes, AreCut, AddsBlocks}
 
@@ -57,7 +58,8 @@ cut-more done counts blocks new whole connection count own h adds is =
 
 -- those of the next one of all connections
 pub cut-next : (all : List Block) (at : ℕ) (d : Block) (counts : List ℕ) (blocks new : List ConnectionBlock)
-    (connection count : ℕ) → at < length all → connection ≡ length counts → AreCut 0 (take at (wholes all)) counts blocks
+    (connection count : ℕ) → at < length all → connection ≡ length counts
+    → AreCut 0 (take at (wholes all)) counts blocks
     → AddsBlocks connection (get_or all at d) blocks new → count ≡ length new - length blocks
     → AreCut 0 (take (at + 1) (wholes all)) (counts ++ count ∷ []) new
 cut-next all at d counts blocks new connection count inside own h adds is =
@@ -139,7 +141,8 @@ turn wholes counts read all start at whole e l h =
     (drop-next wholes at [] within)
     (subst (λ k. AreCut at (drop at wholes) k (drop start all)) (drop-next counts at 0 (omega arith)) h)) in (
       within,
-      next-cut at (get_or wholes at []) (drop (at + 1) wholes) (get_or read at 0) (drop (at + 1) counts) (drop start all)
+      next-cut at (get_or wholes at []) (drop (at + 1) wholes) (get_or read at 0) (drop (at + 1) counts)
+          (drop start all)
           next,
     )
 

@@ -1,12 +1,15 @@
 -- Two runs in order, merged, are all their elements in order.
-use Rattle.std.proofs.Common.{◌≡◌, ℕ, ◌+◌, ◌<◌, Bool, true, false, not, List, [], ◌∷◌, ◌++◌, map, length, get_or, refl, append-nil, sym, ap, ◌∙◌, arith, true≢false, Vec, Global}
+use Rattle.std.proofs.Common.{◌≡◌, ℕ, ◌+◌, ◌<◌, Bool, true, false, not, List, [], ◌∷◌, ◌++◌, map, length, get_or, refl}
+use Rattle.std.proofs.Common.{append-nil, sym, ap, ◌∙◌, arith, true≢false, Vec, Global}
 use Rattle.std.proofs.lemmas.List.{length-map, length-append, get_or-map, nil_from_length}
 use Rattle.itertools.specs.List.{merge_by}
 use Rattle.audit_terms.specs.Order.{put_by, ordered_by}
 use Rattle.audit_terms.specs.declared.findings.Finding.{Finding}
 use Rattle.audit_terms.specs.Finding.{comes_after, in_order}
-use Rattle.audit_terms.proofs.OrderedLists.{IsAfter, NoneBefore, IsInOrder, ordered-in_order, ordered-append_comm, in_order-ordered}
-use Rattle.audit_terms.proofs.FindingOrder.{comes_after_is, in_order-append_left, in_order-append_right, in_order-append_both}
+use Rattle.audit_terms.proofs.OrderedLists.{IsAfter, NoneBefore, IsInOrder, ordered-in_order, ordered-append_comm}
+use Rattle.audit_terms.proofs.OrderedLists.{in_order-ordered}
+use Rattle.audit_terms.proofs.FindingOrder.{comes_after_is, in_order-append_left, in_order-append_right}
+use Rattle.audit_terms.proofs.FindingOrder.{in_order-append_both}
 
 module _ {X : Type 0} (after : X → X → Bool) (o : IsAfter after) where
   -- does x go first of the two?

@@ -1,14 +1,16 @@
 -- What the round over streams begins from, connection after connection and finding after finding.
-use Rattle.std.proofs.Common.{◌≡◌, ℕ, zero, suc, ◌+◌, ◌<◌, ◌≤◌, ◌⊎◌, inl, inr, min, nat_le, leb-true, leb-false, Bool, true, false, true≢false, List, [], ◌∷◌, ◌++◌, length, get_or, take, Contains, Option, Some, None, refl, sym, ap, subst, ◌∙◌, arith}
+use Rattle.std.proofs.Common.{◌≡◌, ℕ, zero, suc, ◌+◌, ◌<◌, ◌≤◌, ◌⊎◌, inl, inr, min, nat_le, leb-true, leb-false, Bool}
+use Rattle.std.proofs.Common.{true, false, true≢false, List, [], ◌∷◌, ◌++◌, length, get_or, take, Contains, Option}
+use Rattle.std.proofs.Common.{Some, None, refl, sym, ap, subst, ◌∙◌, arith}
 use Rattle.std.specs.List.{AllZip}
 use Rattle.std.proofs.Math.Seq.{take-add}
 use Rattle.std.proofs.lemmas.List.Elements.{Contains-append_left, Contains-append_cases, Contains-push}
 use Rattle.audit_core.proofs.OrderlyRest.{drop-next}
 use Rattle.audit_terms.specs.declared.findings.Finding.{Finding}
 use Rattle.audit_terms.specs.Finding.{stops}
-use Rattle.split_merge.specs.Board.{StopsAt}
+use Rattle.split_merge.specs.code.Board.{StopsAt}
 use Rattle.split_merge.proofs.RoundMembers.{contains-none, contains-cases}
-use Rattle.stream_groups.specs.Streams.{lesser}
+use Rattle.stream_groups.specs.code.Streams.{lesser}
 use Rattle.audit_terms.specs.declared.items.Change.{Change}
 use Rattle.audit_rounds.specs.declared.prepared.Prepared.{Prepared}
 use Rattle.audit_rounds.specs.code.StreamRound.{IsFirstStop, changes_in}

@@ -1,9 +1,11 @@
 -- What parts add to the lists of their connections.
-use Rattle.std.proofs.Common.{◌≡◌, ◌≢◌, ℕ, ◌<◌, ◌==◌, if◌then◌else◌, List, [], ◌∷◌, ◌++◌, refl, append_assoc, append-nil, length, get_or, set, sym, ap, ◌∙◌, ⊎_elim, arith, get_or-set_same, get_or-set_other, Vec, Global}
+use Rattle.std.proofs.Common.{◌≡◌, ◌≢◌, ℕ, ◌<◌, ◌==◌, if◌then◌else◌, List, [], ◌∷◌, ◌++◌, refl, append_assoc}
+use Rattle.std.proofs.Common.{append-nil, length, get_or, set, sym, ap, ◌∙◌, ⊎_elim, arith, get_or-set_same}
+use Rattle.std.proofs.Common.{get_or-set_other, Vec, Global}
 use Rattle.std.proofs.lemmas.Bool.{cases_eq, eq-eqb, ne_eqb}
 use Rattle.std.proofs.lemmas.Grind.{flat_map-append}
 use Rattle.audit_terms.specs.declared.findings.Finding.{Finding}
-use Rattle.split_merge.specs.Board.{Part, findings_of_parts}
+use Rattle.split_merge.specs.code.Board.{Part, findings_of_parts}
 
 -- a part of the connection more
 own-more : (n : ℕ) (part : Part) (parts : List Part) → part.connection ≡ n
@@ -21,7 +23,8 @@ other-more n part parts e =
     ∙ append-nil (findings_of_parts n parts)
 
 -- a part's findings are appended to the list of its connection
-pub gathered-more : (found all : List (Vec Finding Global)) (n : ℕ) (list list' d new : Vec Finding Global) (part : Part)
+pub gathered-more : (found all : List (Vec Finding Global)) (n : ℕ) (list list' d new : Vec Finding Global)
+    (part : Part)
     (parts : List Part) → length all ≡ length found → n < length found → part.connection < length found
     → new.items ≡ (get_or all part.connection d).items ++ part.findings
     → (get_or all n list).items ≡ (get_or found n list').items ++ findings_of_parts n parts

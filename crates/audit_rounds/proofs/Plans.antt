@@ -1,5 +1,6 @@
 -- What the jobs of a plan find.
-use Rattle.std.proofs.Common.{◌≡◌, ℕ, zero, suc, ◌+◌, ◌<◌, ◌≤◌, ◌==◌, Bool, true, false, if◌then◌else◌, List, [], ◌∷◌, ◌++◌, append_assoc, append-nil, map, take, length, get_or, refl, sym, ap, ◌∙◌, arith}
+use Rattle.std.proofs.Common.{◌≡◌, ℕ, zero, suc, ◌+◌, ◌<◌, ◌≤◌, ◌==◌, Bool, true, false, if◌then◌else◌, List, [], ◌∷◌}
+use Rattle.std.proofs.Common.{◌++◌, append_assoc, append-nil, map, take, length, get_or, refl, sym, ap, ◌∙◌, arith}
 use Rattle.std.proofs.lemmas.List.{map-append, take_more, take_all, length-take-le}
 use Rattle.std.proofs.lemmas.List.Elements.{All-push}
 use Rattle.std.proofs.lemmas.Grind.{flat_map-append}
@@ -7,8 +8,8 @@ use Rattle.std.proofs.lemmas.Bool.{eq-eqb, ne_eqb}
 use Rattle.audit_terms.specs.declared.findings.Finding.{Finding}
 use Rattle.audit_terms.specs.declared.items.Item.{Item}
 use Rattle.audit_terms.specs.Connection.{connection_start}
-use Rattle.block_scan.specs.List.{items_of}
-use Rattle.split_merge.specs.Board.{Job, findings_of_jobs}
+use Rattle.block_scan.specs.code.List.{items_of}
+use Rattle.split_merge.specs.code.Board.{Job, findings_of_jobs}
 use Rattle.audit_rounds.specs.declared.block_plans.ReadyBlock.{ReadyBlock}
 use Rattle.audit_rounds.specs.code.Blocks.{IsReady}
 use Rattle.audit_rounds.specs.code.Plans.{block_job, where_of, whole_shown, shown_at, IsPlan}
@@ -134,7 +135,8 @@ shown-push c connection (first ∷ done) items n =
     ∙ ap (λ k. (own ++ shown_at c (connection + 1) done n) ++ where_of k n (whole_shown c items)) e
 
 -- one connection more
-pub plan-next : (c : Bool) (connections at : ℕ) (wholes : List (List Item)) (plan : List ReadyBlock) → at < length wholes
+pub plan-next : (c : Bool) (connections at : ℕ) (wholes : List (List Item)) (plan : List ReadyBlock)
+    → at < length wholes
     → IsPlan c connections
     (λ n. shown_at c 0 (take at wholes) n ++ where_of at n (whole_shown c (get_or wholes at []))) plan
     → IsPlan c connections (shown_at c 0 (take (at + 1) wholes)) plan

@@ -1,21 +1,22 @@
 -- What settled rounds over blocks give.
-use Rattle.std.proofs.Common.{◌≡◌, ℕ, ◌+◌, ◌<◌, Bool, List, ◌++◌, map, length, get_or, All, Option, Some, None, slice_get, sym, ap, ◌∙◌, subst, arith, Vec, Global}
+use Rattle.std.proofs.Common.{◌≡◌, ℕ, ◌+◌, ◌<◌, Bool, List, ◌++◌, map, length, get_or, All, Option, Some, None}
+use Rattle.std.proofs.Common.{slice_get, sym, ap, ◌∙◌, subst, arith, Vec, Global}
 use Rattle.std.proofs.lemmas.List.{length-map, get_or-map}
 use Rattle.std.proofs.lemmas.Option.{slice_get_within, get_or_from_slice_get, slice_get-get_or}
 use Rattle.audit_terms.specs.declared.findings.Finding.{Finding}
 use Rattle.audit_terms.specs.Finding.{in_order, upto_stop}
 use Rattle.audit_terms.specs.Connection.{connection_start}
 use Rattle.conn_scan.specs.declared.block_items.Block.{Block}
-use Rattle.conn_scan.specs.Items.{items_in, IsBlock}
-use Rattle.conn_scan.specs.Block.{BlockFits}
-use Rattle.conn_scan.specs.ConnSum.{ConnSum}
-use Rattle.stop_desk.specs.Stop.{IsStop}
-use Rattle.split_merge.specs.Board.{Job, IsLeast, StopsAt, findings_of_parts}
+use Rattle.conn_scan.specs.code.Items.{items_in, IsBlock}
+use Rattle.conn_scan.specs.code.Block.{BlockFits}
+use Rattle.conn_scan.specs.code.ConnSum.{ConnSum}
+use Rattle.stop_desk.specs.code.Stop.{IsStop}
+use Rattle.split_merge.specs.code.Board.{Job, IsLeast, StopsAt, findings_of_parts}
 use Rattle.split_merge.proofs.RoundMerge.{board_merges_lem}
 use Rattle.job_crew.specs.declared.parts.Part.{Part}
 use Rattle.job_crew.specs.declared.settling.Settled.{Settled}
-use Rattle.job_crew.specs.Laid.{part_of}
-use Rattle.job_crew.specs.Settling.{HasSettled}
+use Rattle.job_crew.specs.code.Laid.{part_of}
+use Rattle.job_crew.specs.code.Settling.{HasSettled}
 use Rattle.audit_rounds.specs.declared.blocks.ConnectionBlock.{ConnectionBlock}
 use Rattle.audit_rounds.specs.declared.block_plans.ReadyBlock.{ReadyBlock}
 use Rattle.audit_rounds.specs.code.Blocks.{IsSum, AreSums, wholes}

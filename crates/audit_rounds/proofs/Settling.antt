@@ -1,5 +1,7 @@
 -- The round over blocks need not go past the stop.
-use Rattle.std.proofs.Common.{◌≡◌, ℕ, ◌+◌, ◌*◌, ◌^◌, ◌<◌, ◌≤◌, ◌&&◌, Bool, true, false, nat_lt, List, [], ◌∷◌, ◌++◌, filter, refl, sym, ap, subst, ◌∙◌, arith, append_assoc, append-nil, ◌⊎◌, inl, inr, Contains, Option, Some, None, lt-ltb, ltb-true}
+use Rattle.std.proofs.Common.{◌≡◌, ℕ, ◌+◌, ◌*◌, ◌^◌, ◌<◌, ◌≤◌, ◌&&◌, Bool, true, false, nat_lt, List, [], ◌∷◌, ◌++◌}
+use Rattle.std.proofs.Common.{filter, refl, sym, ap, subst, ◌∙◌, arith, append_assoc, append-nil, ◌⊎◌, inl, inr}
+use Rattle.std.proofs.Common.{Contains, Option, Some, None, lt-ltb, ltb-true}
 use Rattle.std.proofs.lemmas.List.{map-append}
 use Rattle.std.proofs.lemmas.List.Sorted.{IsPermutation-refl}
 use Rattle.audit_terms.specs.declared.connections.ConnectionState.{ConnectionState}
@@ -8,28 +10,29 @@ use Rattle.audit_terms.specs.declared.frames.Frame.{Frame}
 use Rattle.audit_terms.specs.declared.items.Change.{Change}
 use Rattle.audit_terms.specs.declared.items.Item.{Item}
 use Rattle.audit_terms.specs.Connection.{connection_start, connection_said, connection_after}
-use Rattle.audit_terms.specs.runs.Blocks.{connection_after_all, block_run}
+use Rattle.audit_terms.specs.code.runs.Blocks.{connection_after_all, block_run}
 use Rattle.audit_terms.specs.Finding.{in_order, upto_stop, is_shown, shown}
 use Rattle.audit_terms.specs.Frame.{is_headers}
-use Rattle.audit_terms.specs.runs.Orderly.{IsOrderly, IsOrderlyFrom}
-use Rattle.audit_terms.specs.runs.Changes.{settings_run, changes_of}
-use Rattle.audit_terms.specs.runs.LocalFaults.{local_run}
-use Rattle.audit_terms.specs.runs.Look.{is_past}
+use Rattle.audit_terms.specs.code.runs.Orderly.{IsOrderly, IsOrderlyFrom}
+use Rattle.audit_terms.specs.code.runs.Changes.{settings_run, changes_of}
+use Rattle.audit_terms.specs.code.runs.LocalFaults.{local_run}
+use Rattle.audit_terms.specs.code.runs.Look.{is_past}
 use Rattle.audit_terms.specs.Pass.{pass, streams_of}
-use Rattle.audit_terms.specs.runs.States.{items_of}
+use Rattle.audit_terms.specs.code.runs.States.{items_of}
 use Rattle.audit_terms.specs.Place.{place_number}
 use Rattle.audit_terms.proofs.FindingOrder.{in_order-append_comm, in_order-alike}
-use Rattle.audit_core.specs.PartsLaw.{joined}
+use Rattle.audit_core.specs.laws.Parts.{joined}
 use Rattle.audit_terms.proofs.SaidPlaces.{AreFrom, at-connection, at-in_order, from-at, from-from, from-append}
-use Rattle.conn_scan.specs.Items.{item_with, items_with, change_at}
-use Rattle.split_merge.specs.Board.{StopsAt, IsLeast, IsPast}
+use Rattle.conn_scan.specs.code.Items.{item_with, items_with, change_at}
+use Rattle.split_merge.specs.code.Board.{StopsAt, IsLeast, IsPast}
 use Rattle.split_merge.proofs.RoundCuts.{stops_join_lem}
 use Rattle.split_merge.proofs.RoundMembers.{contains-none, contains-cases}
 use Rattle.split_merge.proofs.RoundMerge.{cut-all}
 use Rattle.split_merge.proofs.ShownMerge.{shown-append}
-use Rattle.audit_rounds.specs.Openings.{openings_of}
-use Rattle.audit_rounds.specs.Rounds.{streams_shown, blocks_shown}
-use Rattle.audit_rounds.specs.Settling.{AgreeWithin, IsAfterStreams, frames_within, blocks_within, RoundsSettle}
+use Rattle.audit_rounds.specs.code.Openings.{openings_of}
+use Rattle.audit_rounds.specs.code.Shown.{streams_shown, blocks_shown}
+use Rattle.audit_rounds.specs.laws.Settling.{blocks_within, RoundsSettle}
+use Rattle.audit_rounds.specs.code.Within.{AgreeWithin, IsAfterStreams, frames_within}
 use Rattle.audit_rounds.proofs.Items.{items_are_found_lem}
 use Rattle.audit_rounds.proofs.Parts.{orderly-filter}
 use Rattle.audit_rounds.proofs.Rounds.{rounds_make_pass_lem}
@@ -167,7 +170,8 @@ same-items xs ys changes stop (frame ∷ frames) h = by_test _ refl (same-items 
 
 -- ---- the law
 
-module _ (c : Bool) (frames : List Frame) (found : List Finding) (stop : Option ℕ) (opened : List ℕ) (h : IsOrderly frames) (after : IsAfterStreams c frames found stop opened) where
+module _ (c : Bool) (frames : List Frame) (found : List Finding) (stop : Option ℕ) (opened : List ℕ)
+    (h : IsOrderly frames) (after : IsAfterStreams c frames found stop opened) where
   abbrev openings : List ℕ
   openings = openings_of frames (streams_of frames)
 

@@ -1,15 +1,16 @@
 -- What a job of the round over streams has to find and to tell.
-use Rattle.std.proofs.Common.{◌≡◌, ℕ, ◌-◌, ◌<◌, Bool, List, [], take, drop, length, map, get_or, All, Option, Some, slice_get, sym, ap, ◌∙◌, subst}
+use Rattle.std.proofs.Common.{◌≡◌, ℕ, ◌-◌, ◌<◌, Bool, List, [], take, drop, length, map, get_or, All, Option, Some}
+use Rattle.std.proofs.Common.{slice_get, sym, ap, ◌∙◌, subst}
 use Rattle.std.proofs.lemmas.Option.{slice_get-get_or, get_or_from_slice_get}
 use Rattle.std.proofs.lemmas.List.Elements.{All-take, All-drop}
 use Rattle.std.specs.Option.{option_map_or}
 use Rattle.audit_terms.specs.declared.findings.Finding.{Finding}
-use Rattle.audit_terms.specs.runs.Look.{Asked}
+use Rattle.audit_terms.specs.code.runs.Look.{Asked}
 use Rattle.split_merge.specs.declared.splits.StreamRow.{StreamRow}
-use Rattle.split_merge.specs.Board.{Job, IsCut}
+use Rattle.split_merge.specs.code.Board.{Job, IsCut}
 use Rattle.stream_groups.specs.declared.streams.Streams.{Streams}
 use Rattle.audit_rounds.specs.declared.stream_plan.StreamJob.{StreamJob}
-use Rattle.stream_groups.specs.Streams.{IsRow, AreOpenedUpTo, RowsLook, rows_shown, rows_opened}
+use Rattle.stream_groups.specs.code.Streams.{IsRow, AreOpenedUpTo, RowsLook, rows_shown, rows_opened}
 use Rattle.audit_rounds.specs.code.StreamJobs.{IsReady, JobLooks, Makes, job_of, of_rows}
 use Rattle.audit_rounds.proofs.Jobs.{job-is}
 
@@ -65,7 +66,8 @@ module _ (connections : List Streams) (plan : List StreamJob) (number : ℕ) (d 
       get_or_from_slice_get connections (get_or plan number d).connection mine streams at in
       subst (λ (one : StreamJob). RowsLook credits_shown mine (rows_in one mine.split.now.rows.items) asked upto)
       (sym same_job)
-      (subst (λ (s : Streams). RowsLook credits_shown s (rows_in (get_or plan number d) s.split.now.rows.items) asked upto)
+      (subst (λ (s : Streams). RowsLook credits_shown s (rows_in (get_or plan number d) s.split.now.rows.items) asked
+      upto)
       same_streams
       (subst (λ (rows : List StreamRow). RowsLook credits_shown
       (get_or connections (get_or plan number d).connection streams) (rows_in (get_or plan number d) rows) asked upto)

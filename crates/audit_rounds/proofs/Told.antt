@@ -1,5 +1,6 @@
 -- Openings as runs tell them that went up to some place.
-use Rattle.std.proofs.Common.{◌≡◌, ℕ, suc, ◌≤◌, ◌==◌, ◌||◌, Bool, true, false, All, List, [], ◌∷◌, ◌++◌, not, map, filter, refl, sym, ap, ◌∙◌, arith, Option, Some, None, le-ltb, ltb-false, true≢false}
+use Rattle.std.proofs.Common.{◌≡◌, ℕ, suc, ◌≤◌, ◌==◌, ◌||◌, Bool, true, false, All, List, [], ◌∷◌, ◌++◌, not, map}
+use Rattle.std.proofs.Common.{filter, refl, sym, ap, ◌∙◌, arith, Option, Some, None, le-ltb, ltb-false, true≢false}
 use Rattle.std.specs.Option.{option_to_list}
 use Rattle.std.specs.List.{list_any}
 use Rattle.std.specs.List.Sorted.{IsPermutation}
@@ -8,14 +9,15 @@ use Rattle.std.proofs.lemmas.List.Folds.{list_any-append}
 use Rattle.std.proofs.lemmas.List.Sorted.{list_any-IsPermutation, IsPermutation-filter_both}
 use borrow.Author.Tests.{eqb-true}
 use Rattle.audit_terms.specs.declared.frames.Frame.{Frame}
-use Rattle.audit_terms.specs.runs.Changes.{changes_of}
-use Rattle.audit_terms.specs.runs.Look.{is_past}
+use Rattle.audit_terms.specs.code.runs.Changes.{changes_of}
+use Rattle.audit_terms.specs.code.runs.Look.{is_past}
 use Rattle.audit_terms.specs.Pass.{streams_of}
 use Rattle.audit_terms.specs.Place.{place_number}
-use Rattle.audit_terms.specs.runs.Streams.{frames_of, stream_at_end}
-use Rattle.stream_credit.specs.Looks.{opened_up_to}
-use Rattle.audit_rounds.specs.Openings.{opening_of, openings_of}
-use Rattle.audit_rounds.specs.Settling.{AgreeWithin, RunUpto, openings_told, Reaches, OpeningsAreTold}
+use Rattle.audit_terms.specs.code.runs.Streams.{frames_of, stream_at_end}
+use Rattle.stream_credit.specs.code.Looks.{opened_up_to}
+use Rattle.audit_rounds.specs.code.Openings.{opening_of, openings_of}
+use Rattle.audit_rounds.specs.laws.Settling.{RunUpto, openings_told, Reaches, OpeningsAreTold}
+use Rattle.audit_rounds.specs.code.Within.{AgreeWithin}
 
 -- ---- lists that agree
 

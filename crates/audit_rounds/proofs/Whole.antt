@@ -1,5 +1,6 @@
 -- One connection, from its parts.
-use Rattle.std.proofs.Common.{◌≡◌, ℕ, suc, pos, ◌+◌, ◌*◌, ◌-◌, ◌^◌, ◌<◌, ◌≤◌, List, [], ◌∷◌, ◌++◌, map, flat_map, length, refl, sym, ap, ◌∙◌, subst, arith, Bool, true, false, nat_lt, true≢false}
+use Rattle.std.proofs.Common.{◌≡◌, ℕ, suc, pos, ◌+◌, ◌*◌, ◌-◌, ◌^◌, ◌<◌, ◌≤◌, List, [], ◌∷◌, ◌++◌, map, flat_map}
+use Rattle.std.proofs.Common.{length, refl, sym, ap, ◌∙◌, subst, arith, Bool, true, false, nat_lt, true≢false}
 use Rattle.std.specs.Prelude.{Result, Ok, Err, IfOk}
 use Rattle.std.specs.declared.cmp.Ordering.TheVariants.{Less}
 use Rattle.std.specs.Ordering.{nat_cmp, is_lt}
@@ -12,10 +13,10 @@ use Rattle.audit_terms.specs.declared.frames.Frame.{Frame}
 use Rattle.audit_terms.specs.declared.items.Item.{Item}
 use Rattle.audit_terms.specs.code.Room.{HasRoom}
 use Rattle.audit_terms.specs.Connection.{connection_start}
-use Rattle.audit_terms.specs.runs.Orderly.{IsOrderly}
+use Rattle.audit_terms.specs.code.runs.Orderly.{IsOrderly}
 use Rattle.audit_core.proofs.OrderlyRest.{length-orderly}
-use Rattle.conn_scan.specs.Block.{BlockFits}
-use Rattle.conn_scan.specs.Items.{NeverFallFrom}
+use Rattle.conn_scan.specs.code.Block.{BlockFits}
+use Rattle.conn_scan.specs.code.Items.{NeverFallFrom}
 
 start-room : (n : ℕ) → n < 2 ^ 28 → HasRoom (2 ^ 60 - 2 ^ 32 * n) (pos 65535)
 start-room n l = (omega (arith, ints), omega (arith, ints))

@@ -1,6 +1,2 @@
-pub mod Openings
-pub mod Items
-pub mod Rounds
-pub mod Settling
-pub mod EarlyStop
+pub mod laws
 pub mod code

@@ -3,14 +3,14 @@
 
 ghost use Rattle.std.specs.Prelude.{◌≡◌, ℕ, ◌++◌, ◌^◌, ◌<◌, All, IfOk, map, length, slice_index_or};
 ghost use Rattle.audit_terms.specs.Connection.{connection_start};
-ghost use Rattle.audit_terms.specs.runs.Blocks.{block_run};
+ghost use Rattle.audit_terms.specs.code.runs.Blocks.{block_run};
 ghost use Rattle.audit_terms.specs.Finding.{in_order, upto_stop, shown};
-ghost use Rattle.stop_desk.specs.Stop.{IsStop};
-ghost use Rattle.split_merge.specs.Board.{Job};
-ghost use Rattle.job_crew.specs.Settling.{HasSettled};
-ghost use Rattle.conn_scan.specs.ConnSum.{ConnSum as ConnSumTerm};
-ghost use Rattle.conn_scan.specs.Items.{items_in, IsBlock};
-ghost use Rattle.conn_scan.specs.Block.{BlockFits};
+ghost use Rattle.stop_desk.specs.code.Stop.{IsStop};
+ghost use Rattle.split_merge.specs.code.Board.{Job};
+ghost use Rattle.job_crew.specs.code.Settling.{HasSettled};
+ghost use Rattle.conn_scan.specs.code.ConnSum.{ConnSum as ConnSumTerm};
+ghost use Rattle.conn_scan.specs.code.Items.{items_in, IsBlock};
+ghost use Rattle.conn_scan.specs.code.Block.{BlockFits};
 ghost use Rattle.job_crew.specs.declared.parts.Part.{Part as PartTerm};
 ghost use Rattle.audit_rounds.specs.declared.blocks.ConnectionBlock.{ConnectionBlock as BlockTerm};
 ghost use Rattle.audit_rounds.specs.code.Blocks.{AreShort, AreSums, wholes};

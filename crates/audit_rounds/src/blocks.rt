@@ -1,7 +1,7 @@
 //! The blocks that the frames of connections are cut into.
 
 ghost use Rattle.std.specs.Prelude.{◌≡◌, ◌^◌, ◌<◌, All, IfOk, OnOk, length};
-ghost use Rattle.conn_scan.specs.Items.{IsBlock};
+ghost use Rattle.conn_scan.specs.code.Items.{IsBlock};
 ghost use Rattle.audit_rounds.specs.code.Blocks.{AddsBlocks, AreCut, AreShort, wholes};
 ghost use Rattle.audit_rounds.specs.code.Few.{RestsAreFew};
 

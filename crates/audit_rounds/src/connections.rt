@@ -3,10 +3,10 @@
 
 ghost use Rattle.std.specs.Prelude.{◌≡◌, ◌<◌, ◌≤◌, [], ◌∷◌, ◌++◌, All, IfOk, OnOk, length, map};
 ghost use Rattle.std.specs.Thread.{IsSync};
-ghost use Rattle.audit_terms.specs.runs.Orderly.{IsOrderly};
+ghost use Rattle.audit_terms.specs.code.runs.Orderly.{IsOrderly};
 ghost use Rattle.audit_terms.specs.Finding.{in_order, upto_stop, shown};
 ghost use Rattle.audit_terms.specs.Pass.{pass};
-ghost use Rattle.audit_rounds.specs.Settling.{frames_within};
+ghost use Rattle.audit_rounds.specs.code.Within.{frames_within};
 ghost use Rattle.audit_rounds.specs.code.MadeReady.{AreMadeReady};
 ghost use Rattle.audit_rounds.specs.code.Prepared.{IsPrepared, found_before};
 ghost use Rattle.audit_rounds.specs.code.Connections.{IsRest, AreRests};

@@ -4,7 +4,7 @@
 ghost use Rattle.std.specs.Prelude.{◌≡◌, ◌<◌, All, IfOk, length, map};
 ghost use Rattle.std.specs.List.{zip};
 ghost use Rattle.audit_terms.specs.declared.findings.Finding.{Finding as FindingTerm};
-ghost use Rattle.audit_terms.specs.runs.Orderly.{IsOrderly};
+ghost use Rattle.audit_terms.specs.code.runs.Orderly.{IsOrderly};
 ghost use Rattle.audit_terms.specs.Finding.{shown};
 ghost use Rattle.audit_terms.specs.Pass.{pass};
 ghost use Rattle.audit_rounds.specs.code.EarlyStops.{chosen_of, front_of, has_stopped, later_of};

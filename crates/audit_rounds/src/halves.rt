@@ -3,7 +3,7 @@
 
 ghost use Rattle.std.specs.Prelude.{◌≡◌, ◌<◌, ◌≤◌, ◌++◌, All, IfOk, length, map};
 ghost use Rattle.std.specs.Thread.{IsSync};
-ghost use Rattle.audit_terms.specs.runs.Orderly.{IsOrderly};
+ghost use Rattle.audit_terms.specs.code.runs.Orderly.{IsOrderly};
 ghost use Rattle.audit_terms.specs.Finding.{shown};
 ghost use Rattle.audit_terms.specs.Pass.{pass};
 ghost use Rattle.audit_rounds.specs.code.Few.{AreFew};

@@ -1,10 +1,10 @@
 //! Laws of the definitions in `specs/`. The functions do nothing; each contract is a law.
 
-ghost use Rattle.audit_rounds.specs.Openings.{OpeningsAreFound};
-ghost use Rattle.audit_rounds.specs.Items.{ItemsAreFound};
-ghost use Rattle.audit_rounds.specs.Rounds.{RoundsMakePass};
-ghost use Rattle.audit_rounds.specs.EarlyStop.{FrontsSettle};
-ghost use Rattle.audit_rounds.specs.Settling.{RoundsSettle, OpeningsAreTold};
+ghost use Rattle.audit_rounds.specs.laws.Openings.{OpeningsAreFound};
+ghost use Rattle.audit_rounds.specs.laws.Items.{ItemsAreFound};
+ghost use Rattle.audit_rounds.specs.laws.Rounds.{RoundsMakePass};
+ghost use Rattle.audit_rounds.specs.laws.EarlyStop.{FrontsSettle};
+ghost use Rattle.audit_rounds.specs.laws.Settling.{RoundsSettle, OpeningsAreTold};
 
 /// What the rounds of a divided audit show makes what is shown of the pass, however the frames are cut into blocks.
 pub fn rounds_make_the_pass()

@@ -2,10 +2,10 @@
 
 ghost use Rattle.std.specs.Prelude.{◌≡◌, ◌<◌, ◌^◌, IfOk, length};
 ghost use Rattle.std.specs.Thread.{IsSync};
-ghost use Rattle.audit_terms.specs.runs.Orderly.{IsOrderly};
-ghost use Rattle.audit_terms.specs.runs.LocalFaults.{local_run};
-ghost use Rattle.settings_pair.specs.Changes.{AreOrderly, AreAcknowledged};
-ghost use Rattle.split_merge.specs.Split.{IsSplit};
+ghost use Rattle.audit_terms.specs.code.runs.Orderly.{IsOrderly};
+ghost use Rattle.audit_terms.specs.code.runs.LocalFaults.{local_run};
+ghost use Rattle.settings_pair.specs.code.Changes.{AreOrderly, AreAcknowledged};
+ghost use Rattle.split_merge.specs.code.Split.{IsSplit};
 ghost use Rattle.audit_rounds.specs.code.Prepared.{IsPrepared, found_before};
 
 use audit_terms::{Change, Finding, Frame};

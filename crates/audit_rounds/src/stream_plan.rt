@@ -1,7 +1,7 @@
 //! Which groups of streams the round over streams goes through.
 
 ghost use Rattle.std.specs.Prelude.{◌≡◌, ◌++◌, ◌^◌, ◌<◌, ◌≤◌, All, IfOk, OnOk, length, map};
-ghost use Rattle.split_merge.specs.Groups.{groups};
+ghost use Rattle.split_merge.specs.code.Groups.{groups};
 ghost use Rattle.audit_rounds.specs.code.Few.{RowsAreFew};
 ghost use Rattle.audit_rounds.specs.code.StreamJobs.{IsReady, job_at, plan_from};
 

@@ -1,7 +1,7 @@
 //! The round over streams: each job is a group of the streams of one connection.
 
 ghost use Rattle.std.specs.Prelude.{◌≡◌, ◌<◌, All, IfOk, length, map};
-ghost use Rattle.stop_desk.specs.Stop.{IsStop};
+ghost use Rattle.stop_desk.specs.code.Stop.{IsStop};
 ghost use Rattle.audit_rounds.specs.code.Prepared.{IsPrepared, found_before};
 ghost use Rattle.audit_rounds.specs.code.StreamJobs.{IsReady};
 ghost use Rattle.audit_rounds.specs.code.Few.{PreparedAreFew, RowsAreFew};

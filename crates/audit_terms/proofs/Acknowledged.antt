@@ -3,13 +3,15 @@ use Rattle.std.proofs.Common.{◌≡◌, ℕ, Bool, true, false, ◌&&◌, Optio
 use Rattle.std.specs.Option.{ForSome, option_map_or}
 use Rattle.audit_terms.specs.declared.sides.Side.{Side}
 use Rattle.audit_terms.specs.declared.frames.Body.{Body}
-use Rattle.audit_terms.specs.declared.frames.Body.TheVariants.{Content, Headers, Priority, RstStream, Settings, SettingsAck, PushPromise, Ping, GoAway, WindowUpdate, Continuation, Unknown, Unreadable}
+use Rattle.audit_terms.specs.declared.frames.Body.TheVariants.{Content, Headers, Priority, RstStream, Settings}
+use Rattle.audit_terms.specs.declared.frames.Body.TheVariants.{SettingsAck, PushPromise, Ping, GoAway, WindowUpdate}
+use Rattle.audit_terms.specs.declared.frames.Body.TheVariants.{Continuation, Unknown, Unreadable}
 use Rattle.audit_terms.specs.declared.frames.Frame.{Frame}
 use Rattle.audit_terms.specs.declared.items.Change.{Change}
 use Rattle.audit_terms.specs.declared.items.Step.{Step}
 use Rattle.audit_terms.specs.Frame.{is_ack, is_content, increment, content_by, grant_to}
 use Rattle.audit_terms.specs.Change.{new_initial}
-use Rattle.audit_terms.specs.runs.Streams.{IsAcknowledged}
+use Rattle.audit_terms.specs.code.runs.Streams.{IsAcknowledged}
 
 ack-only : (body : Body) → is_ack body ≡ true → (increment body ≡ 0) × (is_content body ≡ false)
 ack-only SettingsAck e = (refl, refl)
@@ -39,7 +41,8 @@ abbrev pub MovesNothing : Side → (stream : ℕ) → Option Frame → Type 0
 MovesNothing d stream frame =
     (option_map_or (grant_to d stream) frame 0 ≡ 0) × (option_map_or (content_by d) frame 0 ≡ 0)
 
-ack-moves_nothing : (d : Side) (stream : ℕ) (frame : Option Frame) → ForSome frame (λ one. is_ack one.body ≡ true) → MovesNothing d stream frame
+ack-moves_nothing : (d : Side) (stream : ℕ) (frame : Option Frame) → ForSome frame (λ one. is_ack one.body ≡ true)
+    → MovesNothing d stream frame
 ack-moves_nothing d stream None e = (refl, refl)
 ack-moves_nothing d stream (Some frame) e = (
   rw (ack-only frame.body (e frame refl)).0 (no_choice _ 0),

@@ -1,5 +1,6 @@
 -- The order of findings tells all findings apart, so the lemmas on lists in order hold of findings.
-use Rattle.std.proofs.Common.{◌≡◌, ℕ, suc, ℤ, ◌+◌, true, false, List, [], ◌∷◌, ◌++◌, refl, sym, ap, ◌∙◌, arith, slice_get, Some}
+use Rattle.std.proofs.Common.{◌≡◌, ℕ, suc, ℤ, ◌+◌, true, false, List, [], ◌∷◌, ◌++◌, refl, sym, ap, ◌∙◌, arith}
+use Rattle.std.proofs.Common.{slice_get, Some}
 use Rattle.std.specs.declared.cmp.Ordering.{Ordering}
 use Rattle.std.specs.declared.cmp.Ordering.TheVariants.{Less, Equal, Greater}
 use Rattle.std.specs.Ordering.{nat_cmp, int_cmp, ordering_then, ordering_reverse, is_gt, is_lt}
@@ -9,12 +10,21 @@ use Rattle.std.proofs.lemmas.Cmp.{nat_cmp_total, int_cmp_total, on_total, then_t
 use Rattle.audit_terms.specs.declared.sides.Side.{Side}
 use Rattle.audit_terms.specs.declared.sides.Side.TheVariants.{Client, Server}
 use Rattle.audit_terms.specs.declared.kinds.Kind.{Kind}
-use Rattle.audit_terms.specs.declared.kinds.Kind.TheVariants.{BadPreface, BrokenBlock, TooLong, WrongStream, WrongSize, BadPadding, BadSetting, Push, NotOpened, IdNotGreater, ZeroConnectionGrant, ConnectionOverflow, SettingOverflow, LongFrame, AfterEnd, ConnectionOverrun, StreamOverrun, ZeroStreamGrant, StreamOverflow, UnmatchedAck, BadPriority, ConnectionStallEnd, ConnectionStallBegin, StreamStallEnd, StreamStallBegin, ConnectionCredit, StreamCredit}
+use Rattle.audit_terms.specs.declared.kinds.Kind.TheVariants.{BadPreface, BrokenBlock, TooLong, WrongStream, WrongSize}
+use Rattle.audit_terms.specs.declared.kinds.Kind.TheVariants.{BadPadding, BadSetting, Push, NotOpened, IdNotGreater}
+use Rattle.audit_terms.specs.declared.kinds.Kind.TheVariants.{ZeroConnectionGrant, ConnectionOverflow, SettingOverflow}
+use Rattle.audit_terms.specs.declared.kinds.Kind.TheVariants.{LongFrame, AfterEnd, ConnectionOverrun, StreamOverrun}
+use Rattle.audit_terms.specs.declared.kinds.Kind.TheVariants.{ZeroStreamGrant, StreamOverflow, UnmatchedAck}
+use Rattle.audit_terms.specs.declared.kinds.Kind.TheVariants.{BadPriority, ConnectionStallEnd, ConnectionStallBegin}
+use Rattle.audit_terms.specs.declared.kinds.Kind.TheVariants.{StreamStallEnd, StreamStallBegin, ConnectionCredit}
+use Rattle.audit_terms.specs.declared.kinds.Kind.TheVariants.{StreamCredit}
 use Rattle.audit_terms.specs.declared.findings.Finding.{Finding}
 use Rattle.audit_terms.specs.Side.{side_order}
 use Rattle.audit_terms.specs.Kind.{rank_of}
 use Rattle.audit_terms.specs.Finding.{finding_cmp, comes_after, in_order}
-use Rattle.audit_terms.proofs.OrderedLists.{IsAfter, IsRising, ordered-left, ordered-right, ordered-both, ordered-append_comm, ordered-alike, ordered-ordered, ordered-permutation, ordered-in_order, in_order-rising}
+use Rattle.audit_terms.proofs.OrderedLists.{IsAfter, IsRising, ordered-left, ordered-right, ordered-both}
+use Rattle.audit_terms.proofs.OrderedLists.{ordered-append_comm, ordered-alike, ordered-ordered, ordered-permutation}
+use Rattle.audit_terms.proofs.OrderedLists.{ordered-in_order, in_order-rising}
 
 pub finding_total : IsTotalOrder finding_cmp
 finding_total =
@@ -48,8 +58,10 @@ side_level Server Server e = refl
 kinds_in_order : List Kind
 kinds_in_order =
     BadPreface ∷ BrokenBlock ∷ TooLong ∷ WrongStream ∷ WrongSize ∷ BadPadding ∷ BadSetting ∷ Push ∷ NotOpened
-    ∷ IdNotGreater ∷ ZeroConnectionGrant ∷ ConnectionOverflow ∷ SettingOverflow ∷ LongFrame ∷ AfterEnd ∷ ConnectionOverrun
-    ∷ StreamOverrun ∷ ZeroStreamGrant ∷ StreamOverflow ∷ UnmatchedAck ∷ BadPriority ∷ ConnectionStallEnd ∷ ConnectionStallBegin
+    ∷ IdNotGreater ∷ ZeroConnectionGrant ∷ ConnectionOverflow ∷ SettingOverflow ∷ LongFrame
+    ∷ AfterEnd ∷ ConnectionOverrun
+    ∷ StreamOverrun ∷ ZeroStreamGrant ∷ StreamOverflow ∷ UnmatchedAck ∷ BadPriority
+    ∷ ConnectionStallEnd ∷ ConnectionStallBegin
     ∷ StreamStallEnd ∷ StreamStallBegin ∷ ConnectionCredit ∷ StreamCredit ∷ []
 
 kind_at : (kind : Kind) → slice_get kinds_in_order (rank_of kind) ≡ Some kind
@@ -124,7 +136,8 @@ both_not a Greater e p q = cc
 self_not : (a : Ordering) → a ≡ Equal → is_gt a ≡ false
 self_not a e = rw e refl
 
-above_by : (x y z : Finding) (a b : Ordering) → finding_cmp x z ≡ a → finding_cmp y z ≡ b → is_gt a ≡ true → is_gt b ≡ false →
+above_by : (x y z : Finding) (a b : Ordering) → finding_cmp x z ≡ a → finding_cmp y z ≡ b → is_gt a ≡ true
+    → is_gt b ≡ false →
     is_gt (finding_cmp x y) ≡ true
 above_by x y z Less b p q h k = cc
 above_by x y z Equal b p q h k = cc
@@ -133,7 +146,8 @@ above_by x y z Greater Less p q h k =
     let yx : finding_cmp y x ≡ Less = finding_total.trans y z x q zx in
     ap is_gt (finding_total.antisymm x y ∙ ap ordering_reverse yx)
 above_by x y z Greater Equal p q h k =
-    let yx : finding_cmp y x ≡ Less = finding_total.congr y z x q ∙ finding_total.antisymm z x ∙ ap ordering_reverse p in
+    let yx : finding_cmp y x ≡ Less = finding_total.congr y z x q ∙ finding_total.antisymm z x
+    ∙ ap ordering_reverse p in
     ap is_gt (finding_total.antisymm x y ∙ ap ordering_reverse yx)
 above_by x y z Greater Greater p q h k = cc
 
@@ -174,7 +188,8 @@ not_less a Less e h = cc
 not_less a Equal e h = rw e refl
 not_less a Greater e h = rw e refl
 
-rising-from_sorted : (xs : List Finding) → IsSortedBy (λ x y. is_lt (finding_cmp x y)) xs → IsRising comes_after comes_after_is xs
+rising-from_sorted : (xs : List Finding) → IsSortedBy (λ x y. is_lt (finding_cmp x y)) xs
+    → IsRising comes_after comes_after_is xs
 rising-from_sorted [] h = tt
 rising-from_sorted (x ∷ []) h = tt
 rising-from_sorted (x ∷ y ∷ ys) h = (
@@ -183,7 +198,8 @@ rising-from_sorted (x ∷ y ∷ ys) h = (
       let e : suc k + 1 ≡ suc (k + 1) = omega arith in rw e at (h (suc k) d (omega arith) (omega arith))),
 )
 
-pub in_order-sorted : (old new : List Finding) → IsPermutation old new → IsSortedBy (λ x y. is_lt (finding_cmp x y)) new →
+pub in_order-sorted : (old new : List Finding) → IsPermutation old new
+    → IsSortedBy (λ x y. is_lt (finding_cmp x y)) new →
     new ≡ in_order old
 in_order-sorted old new p h =
     sym (ordered-in_order comes_after comes_after_is new

@@ -1,6 +1,7 @@
 -- Lists put in order by a total order that tells all elements apart: what putting in order keeps, and where it is the
 -- same for two lists.
-use Rattle.std.proofs.Common.{◌≡◌, ℕ, ◌<◌, zero, suc, Bool, true, false, List, [], ◌∷◌, ◌++◌, length, get_or, set, refl, sym, ap, ◌∙◌, arith, true≢false}
+use Rattle.std.proofs.Common.{◌≡◌, ℕ, ◌<◌, zero, suc, Bool, true, false, List, [], ◌∷◌, ◌++◌, length, get_or, set, refl}
+use Rattle.std.proofs.Common.{sym, ap, ◌∙◌, arith, true≢false}
 use Rattle.std.specs.List.{swap}
 use Rattle.std.specs.List.Sorted.{IsPermutation}
 use Rattle.std.proofs.lemmas.List.{get_or-set_same, get_or-set_other, length-set}
@@ -32,7 +33,8 @@ module _ {X : Type 0} (after : X → X → Bool) (o : IsAfter after) where
   level-front : (x y : X) (l : List X) → x ≡ y → x ∷ y ∷ l ≡ y ∷ x ∷ l
   level-front x y l e = cc
 
-  put-put-cons : (x y z : X) (zs : List X) (a b c d : Bool) → after x z ≡ a → after y z ≡ b → after x y ≡ c → after y x ≡ d →
+  put-put-cons : (x y z : X) (zs : List X) (a b c d : Bool) → after x z ≡ a → after y z ≡ b → after x y ≡ c
+      → after y x ≡ d →
       put_by after x (put_by after y zs) ≡ put_by after y (put_by after x zs) →
       put_by after x (put_by after y (z ∷ zs)) ≡ put_by after y (put_by after x (z ∷ zs))
   put-put-cons x y z zs true true c d p q r s ih = simp (p, q) (ap (λ l. z ∷ l) ih)
@@ -42,20 +44,23 @@ module _ {X : Type 0} (after : X → X → Bool) (o : IsAfter after) where
       let t : after y x ≡ true = o.above y x z q p in simp (p, q, t)
   put-put-cons x y z zs false false true d p q r s ih = let t = o.one_way x y r in simp (p, q, r, t)
   put-put-cons x y z zs false false false true p q r s ih = simp (p, q, r, s)
-  put-put-cons x y z zs false false false false p q r s ih = simp (p, q, r, s) (level-front x y (z ∷ zs) (o.level x y r s))
+  put-put-cons x y z zs false false false false p q r s ih = simp (p, q, r, s)
+      (level-front x y (z ∷ zs) (o.level x y r s))
 
   -- the order in which two elements go in makes no difference
   pub put-put : (x y : X) (zs : List X) → put_by after x (put_by after y zs) ≡ put_by after y (put_by after x zs)
   put-put x y [] = put-put-nil x y _ _ refl refl
   put-put x y (z ∷ zs) = put-put-cons x y z zs _ _ _ _ refl refl refl refl (put-put x y zs)
 
-  pub put_all-put : (xs : List X) (y : X) (zs : List X) → put_all xs (put_by after y zs) ≡ put_by after y (put_all xs zs)
+  pub put_all-put : (xs : List X) (y : X) (zs : List X) → put_all xs (put_by after y zs) ≡ put_by after y
+      (put_all xs zs)
   put_all-put [] y zs = refl
   put_all-put (x ∷ xs) y zs = ap (put_by after x) (put_all-put xs y zs) ∙ put-put x y (put_all xs zs)
 
   pub put_all-put_all : (xs ys zs : List X) → put_all xs (put_all ys zs) ≡ put_all ys (put_all xs zs)
   put_all-put_all [] ys zs = refl
-  put_all-put_all (x ∷ xs) ys zs = ap (put_by after x) (put_all-put_all xs ys zs) ∙ sym (put_all-put ys x (put_all xs zs))
+  put_all-put_all (x ∷ xs) ys zs = ap (put_by after x) (put_all-put_all xs ys zs)
+      ∙ sym (put_all-put ys x (put_all xs zs))
 
   put_all-put_in-step : (x y : X) (ys zs : List X) (b : Bool) → after x y ≡ b →
       put_all (put_by after x ys) zs ≡ put_by after x (put_all ys zs) →
@@ -103,7 +108,8 @@ module _ {X : Type 0} (after : X → X → Bool) (o : IsAfter after) where
       ∙ ap (put_all ys) (sym (ordered-put_all xs)) ∙ sym (ordered-append ys xs)
 
   -- two lists that are alike in order may stand for each other in a longer one
-  pub ordered-alike : (xs ys us vs : List X) → ordered_by after xs ≡ ordered_by after ys → ordered_by after us ≡ ordered_by after vs →
+  pub ordered-alike : (xs ys us vs : List X) → ordered_by after xs ≡ ordered_by after ys
+      → ordered_by after us ≡ ordered_by after vs →
       ordered_by after (xs ++ us) ≡ ordered_by after (ys ++ vs)
   ordered-alike xs ys us vs p q =
       sym (ordered-both xs us) ∙ ap (λ l. ordered_by after (l ++ ordered_by after us)) p
@@ -158,7 +164,8 @@ module _ {X : Type 0} (after : X → X → Bool) (o : IsAfter after) where
       put-put (get_or xs i d) x (ordered_by after (set xs i v))
       ∙ ap (put_by after x) (put-set xs i d v k) ∙ put-put x v (ordered_by after xs)
 
-  ordered-swap : (xs : List X) (i j : ℕ) → i < length xs → j < length xs → ordered_by after (swap xs i j) ≡ ordered_by after xs
+  ordered-swap : (xs : List X) (i j : ℕ) → i < length xs → j < length xs
+      → ordered_by after (swap xs i j) ≡ ordered_by after xs
   ordered-swap [] i j p q = refl
   ordered-swap (d ∷ ys) i j p q =
       let b = get_or (d ∷ ys) j d in

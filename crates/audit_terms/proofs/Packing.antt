@@ -1,5 +1,6 @@
 -- Settings are the same after they were kept in words.
-use Rattle.std.proofs.Common.{◌≡◌, ℕ, suc, ◌+◌, ◌*◌, ◌/◌, ◌%◌, ◌≤◌, Option, None, Some, refl, ap, sym, subst, ◌∙◌, arith}
+use Rattle.std.proofs.Common.{◌≡◌, ℕ, suc, ◌+◌, ◌*◌, ◌/◌, ◌%◌, ◌≤◌, Option, None, Some, refl, ap, sym, subst, ◌∙◌}
+use Rattle.std.proofs.Common.{arith}
 use Rattle.std.specs.Prelude.{unwrap_or}
 use Rattle.audit_terms.specs.declared.settings.Settings.{Settings}
 use Rattle.audit_terms.specs.declared.settings.PackedSettings.TheInside.{Inside}
@@ -44,15 +45,18 @@ packing_keeps settings =
     (ap (λ m. marked m (unwrap_or settings.max_frame 0)) long_is ∙ kept settings.max_frame)
     (ap one_less bad_is ∙ back settings.bad)
 
-fields : {marks push initial max_frame marks' push' initial' max_frame' : ℕ} → marks ≡ marks' → push ≡ push' → initial ≡ initial' →
+fields : {marks push initial max_frame marks' push' initial' max_frame' : ℕ} → marks ≡ marks' → push ≡ push'
+    → initial ≡ initial' →
     max_frame ≡ max_frame' →
     (let left : Inside = record { marks = marks; push = push; initial = initial; max_frame = max_frame } in
-    let right : Inside = record { marks = marks'; push = push'; initial = initial'; max_frame = max_frame' } in left ≡ right)
+    let right : Inside = record { marks = marks'; push = push'; initial = initial'; max_frame = max_frame' } in left
+    ≡ right)
 fields p q r s = cc
 
 -- fields that were made as `packed` makes them
 pub packed_fields : (settings : Settings) {bad push initial max_frame : ℕ} {push-word initial-word max_frame-word : ℕ}
-    → bad ≡ one_more settings.bad → max_frame ≡ mark settings.max_frame → initial ≡ mark settings.initial → push ≡ mark settings.push
+    → bad ≡ one_more settings.bad → max_frame ≡ mark settings.max_frame → initial ≡ mark settings.initial
+    → push ≡ mark settings.push
     → push-word ≡ unwrap_or settings.push 0 → initial-word ≡ unwrap_or settings.initial 0
     → max_frame-word ≡ unwrap_or settings.max_frame 0
     → (let made : Inside = record {

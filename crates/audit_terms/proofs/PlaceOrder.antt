@@ -7,7 +7,8 @@ use Rattle.std.specs.Cmp.{ranked, nat_cmp_is}
 use Rattle.audit_terms.specs.Place.{place_of}
 use Rattle.audit_terms.specs.laws.Places.{IsPlaceable, PlacesAreInOrder}
 
-module _ (number rank stream number' rank' stream' : ℕ) (here : IsPlaceable number rank stream) (there : IsPlaceable number' rank' stream') where
+module _ (number rank stream number' rank' stream' : ℕ) (here : IsPlaceable number rank stream)
+    (there : IsPlaceable number' rank' stream') where
   by_parts : (a b c : Ordering) →
       MatchOrdering a (number < number') (number ≡ number') (number' < number) →
       MatchOrdering b (rank < rank') (rank ≡ rank') (rank' < rank) →

@@ -1,5 +1,6 @@
 -- What is said at a frame has the frame's number, and what has a lower number stands before.
-use Rattle.std.proofs.Common.{◌≡◌, ℕ, ℤ, pos, ◌+◌, ◌*◌, ◌^◌, ◌<◌, ◌≤◌, Bool, true, false, List, [], ◌∷◌, ◌++◌, refl, sym, ap, arith, lt-ltb, le-ltb, Option, Some, None, lit≤, if◌then◌else◌}
+use Rattle.std.proofs.Common.{◌≡◌, ℕ, ℤ, pos, ◌+◌, ◌*◌, ◌^◌, ◌<◌, ◌≤◌, Bool, true, false, List, [], ◌∷◌, ◌++◌, refl}
+use Rattle.std.proofs.Common.{sym, ap, arith, lt-ltb, le-ltb, Option, Some, None, lit≤, if◌then◌else◌}
 use Rattle.std.specs.declared.cmp.Ordering.TheVariants.{Less}
 use Rattle.std.specs.Cmp.{nat_cmp_is}
 use Rattle.std.specs.List.{AllByRecursion}
@@ -7,7 +8,14 @@ use Rattle.audit_terms.specs.declared.sides.Side.{Side}
 use Rattle.audit_terms.specs.declared.sides.Side.TheVariants.{Client, Server}
 use Rattle.audit_terms.specs.declared.sides.Sides.{Sides}
 use Rattle.audit_terms.specs.declared.kinds.Kind.{Kind}
-use Rattle.audit_terms.specs.declared.kinds.Kind.TheVariants.{BadPreface, BrokenBlock, TooLong, WrongStream, WrongSize, BadPadding, BadSetting, Push, NotOpened, IdNotGreater, ZeroConnectionGrant, ConnectionOverflow, SettingOverflow, LongFrame, AfterEnd, ConnectionOverrun, StreamOverrun, ZeroStreamGrant, StreamOverflow, UnmatchedAck, BadPriority, ConnectionStallEnd, ConnectionStallBegin, StreamStallEnd, StreamStallBegin, ConnectionCredit, StreamCredit}
+use Rattle.audit_terms.specs.declared.kinds.Kind.TheVariants.{BadPreface, BrokenBlock, TooLong, WrongStream, WrongSize}
+use Rattle.audit_terms.specs.declared.kinds.Kind.TheVariants.{BadPadding, BadSetting, Push, NotOpened, IdNotGreater}
+use Rattle.audit_terms.specs.declared.kinds.Kind.TheVariants.{ZeroConnectionGrant, ConnectionOverflow, SettingOverflow}
+use Rattle.audit_terms.specs.declared.kinds.Kind.TheVariants.{LongFrame, AfterEnd, ConnectionOverrun, StreamOverrun}
+use Rattle.audit_terms.specs.declared.kinds.Kind.TheVariants.{ZeroStreamGrant, StreamOverflow, UnmatchedAck}
+use Rattle.audit_terms.specs.declared.kinds.Kind.TheVariants.{BadPriority, ConnectionStallEnd, ConnectionStallBegin}
+use Rattle.audit_terms.specs.declared.kinds.Kind.TheVariants.{StreamStallEnd, StreamStallBegin, ConnectionCredit}
+use Rattle.audit_terms.specs.declared.kinds.Kind.TheVariants.{StreamCredit}
 use Rattle.audit_terms.specs.declared.frames.Body.{Body}
 use Rattle.audit_terms.specs.declared.frames.Body.TheVariants.{Settings as SettingsBody, Unreadable}
 use Rattle.audit_terms.specs.declared.frames.Frame.{Frame}
@@ -19,13 +27,14 @@ use Rattle.audit_terms.specs.declared.findings.Finding.{Finding}
 use Rattle.audit_terms.specs.Kind.{rank_of}
 use Rattle.audit_terms.specs.Order.{put_by}
 use Rattle.audit_terms.specs.Finding.{finding_at, say, say_of, comes_after, in_order}
-use Rattle.audit_terms.specs.runs.Orderly.{IsInRange}
+use Rattle.audit_terms.specs.code.runs.Orderly.{IsInRange}
 use Rattle.audit_terms.specs.LocalFault.{local_said, fault, body_said, reading_fault}
 use Rattle.audit_terms.specs.InForce.{InForce, settings_said}
 use Rattle.audit_terms.specs.Connection.{connection_said, connection_windows_said, connection_window_said}
-use Rattle.audit_terms.specs.Stream.{WindowStep, stream_said, frame_said, stream_window_said, live_window_said, opened_window_said}
+use Rattle.audit_terms.specs.Stream.{WindowStep, stream_said, frame_said, stream_window_said, live_window_said}
+use Rattle.audit_terms.specs.Stream.{opened_window_said}
 use Rattle.audit_terms.specs.Place.{place_number}
-use Rattle.audit_terms.specs.runs.Look.{found_before}
+use Rattle.audit_terms.specs.code.runs.Look.{found_before}
 use Rattle.audit_terms.proofs.OrderedLists.{NoneBefore, Precedes}
 use Rattle.audit_terms.proofs.FindingOrder.{comes_after_is}
 

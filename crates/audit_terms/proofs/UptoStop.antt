@@ -1,5 +1,6 @@
 -- Where the findings end: `upto_stop` is the front of the list up to the first finding that stops.
-use Rattle.std.proofs.Common.{◌≡◌, ℕ, suc, ◌+◌, ◌≤◌, Bool, true, false, cond, List, [], ◌∷◌, length, take, refl, sym, ap, ◌∙◌, arith, Some, None, nat_lt, take_all}
+use Rattle.std.proofs.Common.{◌≡◌, ℕ, suc, ◌+◌, ◌≤◌, Bool, true, false, cond, List, [], ◌∷◌, length, take, refl, sym}
+use Rattle.std.proofs.Common.{ap, ◌∙◌, arith, Some, None, nat_lt, take_all}
 use Rattle.std.specs.List.{position, position_or_len}
 use borrow.Author.Tests.{ltb-false}
 use Rattle.audit_terms.specs.declared.findings.Finding.{Finding}

@@ -1,15 +1,19 @@
 -- How a watch goes from step to step.
-use Rattle.std.proofs.Common.{◌≡◌, ℕ, zero, suc, ◌+◌, ◌-◌, ◌*◌, ◌<◌, ◌≤◌, Bool, true, false, ◌||◌, nat_lt, nat_le, List, [], ◌∷◌, ◌++◌, length, filter, slice_get, Option, Some, None, refl, sym, ap, ◌∙◌, subst, arith, lt-ltb, le-ltb, ltb-true, ltb-false, leb-true, length-append, append_assoc}
+use Rattle.std.proofs.Common.{◌≡◌, ℕ, zero, suc, ◌+◌, ◌-◌, ◌*◌, ◌<◌, ◌≤◌, Bool, true, false, ◌||◌, nat_lt, nat_le, List}
+use Rattle.std.proofs.Common.{[], ◌∷◌, ◌++◌, length, filter, slice_get, Option, Some, None, refl, sym, ap, ◌∙◌, subst}
+use Rattle.std.proofs.Common.{arith, lt-ltb, le-ltb, ltb-true, ltb-false, leb-true, length-append, append_assoc}
 use Rattle.std.specs.List.{list_any}
 use Rattle.std.proofs.lemmas.List.Folds.{list_any-append}
 use Rattle.audit_terms.specs.declared.findings.Finding.{Finding}
 use Rattle.audit_terms.specs.declared.looks.Watch.{Watch}
 use Rattle.audit_terms.specs.Place.{place_number}
-use Rattle.audit_terms.specs.runs.Look.{Asked, Looked, last_answer, is_past, found_before, up_to, steps_between, LooksOn, LooksInTime, IsRun}
+use Rattle.audit_terms.specs.code.runs.Look.{Asked, Looked, last_answer, is_past, found_before, up_to, steps_between}
+use Rattle.audit_terms.specs.code.runs.Look.{LooksOn, LooksInTime, IsRun}
 use Rattle.audit_terms.specs.code.Watch.{Watches, IsStopped, NeverFallFrom}
 
 looked-on : {L : Type 0} (answers : L → List Finding → Option ℕ → L → Type 0) (a b d : L) (asked : List Asked)
-    (one : Asked) → Looked answers a asked b → answers b one.handed one.answer d → Looked answers a (asked ++ one ∷ []) d
+    (one : Asked) → Looked answers a asked b → answers b one.handed one.answer d
+    → Looked answers a (asked ++ one ∷ []) d
 looked-on answers a b d [] one is step = (d, subst (λ s. answers s one.handed one.answer d) (sym is) step, refl)
 looked-on answers a b d (x ∷ xs) one (m, first, rest) step = (m, first, looked-on answers m b d xs one rest step)
 
@@ -43,7 +47,8 @@ fall-at : (low number : ℕ) (numbers : List ℕ) (n : ℕ) → NeverFallFrom lo
     → low ≤ number
 fall-at low number [] n fall is = cc
 fall-at low number (x ∷ xs) zero fall is = let same : x ≡ number = cc in subst (λ m. low ≤ m) same fall.0
-fall-at low number (x ∷ xs) (suc n) fall is = let order = fall-at x number xs n fall.1 is in let first = fall.0 in omega arith
+fall-at low number (x ∷ xs) (suc n) fall is = let order = fall-at x number xs n fall.1 is in let first = fall.0 in omega
+    arith
 
 past-lower : (stop : Option ℕ) (lower number : ℕ) → lower ≤ number → is_past stop number ≡ false
     → is_past stop lower ≡ false
@@ -164,7 +169,8 @@ module _ {L : Type 0} (answers : L → List Finding → Option ℕ → L → Typ
         due = omega arith;
         rise = w.rise;
         within = (none-past stop 0 met number left w.rise goes).1;
-        in_time = λ rest on. subst (LooksInTime (met ++ number ∷ left) whole) (sym (append_assoc w.asked (one ∷ []) rest))
+        in_time = λ rest on. subst (LooksInTime (met ++ number ∷ left) whole)
+            (sym (append_assoc w.asked (one ∷ []) rest))
             (w.in_time (one ∷ rest) (
               number,
               subst (λ n. slice_get (met ++ number ∷ left) n ≡ Some number) at

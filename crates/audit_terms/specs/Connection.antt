@@ -1,11 +1,15 @@
 -- The connection: each side's connection window, the order of opened streams, the length of frames
 -- (RFC 9113, 4.2, 5.1.1, 6.9).
-use Rattle.std.specs.Prelude.{ℕ, ℤ, pos, ◌%◌, ◌+ℤ◌, ◌-ℤ◌, max, Bool, ◌==◌, ◌&&◌, ◌||◌, not, nat_lt, nat_le, if◌then◌else◌, List, ◌++◌}
+use Rattle.std.specs.Prelude.{ℕ, ℤ, pos, ◌%◌, ◌+ℤ◌, ◌-ℤ◌, max, Bool, ◌==◌, ◌&&◌, ◌||◌, not, nat_lt, nat_le}
+use Rattle.std.specs.Prelude.{if◌then◌else◌, List, ◌++◌}
 use Rattle.std.specs.Ordering.{int_eq}
 use Rattle.audit_terms.specs.declared.sides.Side.{Side}
 use Rattle.audit_terms.specs.declared.sides.Side.TheVariants.{Client, Server}
 use Rattle.audit_terms.specs.declared.sides.Sides.{Sides}
-use Rattle.audit_terms.specs.declared.kinds.Kind.TheVariants.{TooLong, Push, IdNotGreater, ZeroConnectionGrant, ConnectionOverflow, LongFrame, ConnectionOverrun, ConnectionStallEnd, ConnectionStallBegin, ConnectionCredit}
+use Rattle.audit_terms.specs.declared.kinds.Kind.TheVariants.{TooLong, Push, IdNotGreater, ZeroConnectionGrant}
+use Rattle.audit_terms.specs.declared.kinds.Kind.TheVariants.{ConnectionOverflow, LongFrame, ConnectionOverrun}
+use Rattle.audit_terms.specs.declared.kinds.Kind.TheVariants.{ConnectionStallEnd, ConnectionStallBegin}
+use Rattle.audit_terms.specs.declared.kinds.Kind.TheVariants.{ConnectionCredit}
 use Rattle.audit_terms.specs.declared.frames.Frame.{Frame}
 use Rattle.audit_terms.specs.declared.items.Item.{Item}
 use Rattle.audit_terms.specs.declared.connections.ConnectionState.{ConnectionState}
@@ -32,7 +36,8 @@ connection_start = record {
   limit = each_side (λ _. first_limit);
 }
 
--- what a frame moves the connection credit of side d by: the other side's grants on stream 0, less its own content, whatever
+-- what a frame moves the connection credit of side d by: the other side's grants on stream 0, less its own content,
+-- whatever
 -- the stream (6.9, 6.9.1)
 abbrev pub credit_moved : Side → Frame → ℤ
 credit_moved d frame = pos (grant_to d 0 frame) -ℤ pos (content_by d frame)

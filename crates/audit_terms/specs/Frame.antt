@@ -5,7 +5,8 @@ use Rattle.audit_terms.specs.declared.sides.Side.{Side}
 use Rattle.audit_terms.specs.declared.sides.Side.TheVariants.{Client, Server}
 use Rattle.audit_terms.specs.declared.settings.Settings.{Settings}
 use Rattle.audit_terms.specs.declared.frames.Body.{Body}
-use Rattle.audit_terms.specs.declared.frames.Body.TheVariants.{Content, Headers, RstStream, Settings as SettingsBody, SettingsAck, PushPromise, WindowUpdate}
+use Rattle.audit_terms.specs.declared.frames.Body.TheVariants.{Content, Headers, RstStream, Settings as SettingsBody}
+use Rattle.audit_terms.specs.declared.frames.Body.TheVariants.{SettingsAck, PushPromise, WindowUpdate}
 use Rattle.audit_terms.specs.declared.frames.Frame.{Frame}
 use Rattle.audit_terms.specs.Side.{other, is_side}
 use Rattle.audit_terms.specs.FrameType.{has_flag, end_stream_flag}

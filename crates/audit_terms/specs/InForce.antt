@@ -1,5 +1,7 @@
--- Settings in force (RFC 9113, 6.5.3): the acknowledgements of one side answer the SETTINGS of the other in their order.
-use Rattle.std.specs.Prelude.{ℕ, pos, ◌+◌, ◌&&◌, if◌then◌else◌, List, [], ◌++◌, slice_get, Option, Some, None, is_some, is_none}
+-- Settings in force (RFC 9113, 6.5.3): the acknowledgements of one side answer the SETTINGS of the other in their
+-- order.
+use Rattle.std.specs.Prelude.{ℕ, pos, ◌+◌, ◌&&◌, if◌then◌else◌, List, [], ◌++◌, slice_get, Option, Some, None, is_some}
+use Rattle.std.specs.Prelude.{is_none}
 use Rattle.audit_terms.specs.declared.sides.Sides.{Sides}
 use Rattle.audit_terms.specs.declared.kinds.Kind.TheVariants.{UnmatchedAck}
 use Rattle.audit_terms.specs.declared.settings.Settings.{Settings}

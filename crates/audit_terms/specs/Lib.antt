@@ -5,7 +5,6 @@ pub mod Place
 pub mod Order
 pub mod Finding
 pub mod FrameType
-pub mod Settings
 pub mod Frame
 pub mod Life
 pub mod Window
@@ -16,5 +15,4 @@ pub mod Connection
 pub mod Stream
 pub mod Pass
 pub mod laws
-pub mod runs
 pub mod code

@@ -1,4 +1,5 @@
--- The life of a stream by its frames (RFC 9113, 5.1, 5.1.1, 6.6): its opening, its ends, and the frames that stand outside.
+-- The life of a stream by its frames (RFC 9113, 5.1, 5.1.1, 6.6): its opening, its ends, and the frames that stand
+-- outside.
 use Rattle.std.specs.Prelude.{ℕ, ◌%◌, Bool, false, ◌==◌, ◌&&◌, ◌||◌, not, if◌then◌else◌, Some, None, is_some, is_none}
 use Rattle.audit_terms.specs.declared.sides.Side.{Side}
 use Rattle.audit_terms.specs.declared.sides.Side.TheVariants.{Client, Server}
@@ -6,19 +7,22 @@ use Rattle.audit_terms.specs.declared.frames.Frame.{Frame}
 use Rattle.audit_terms.specs.declared.lives.StreamLife.{StreamLife}
 use Rattle.audit_terms.specs.Side.{is_side}
 use Rattle.audit_terms.specs.Sides.{side_of, each_side}
-use Rattle.audit_terms.specs.Frame.{is_content, is_headers, is_reset, is_client_headers, is_server_promise, promises, needs_opening, sends_end, sends_reset}
+use Rattle.audit_terms.specs.Frame.{is_content, is_headers, is_reset, is_client_headers, is_server_promise, promises}
+use Rattle.audit_terms.specs.Frame.{needs_opening, sends_end, sends_reset}
 
 -- a stream that no frame has met (5.1, idle)
 abbrev pub idle_life : StreamLife
 idle_life = record { opened = None; ended = each_side (λ _. false) }
 
--- a stream is opened by the first HEADERS of the client, where its identifier is odd, or by the first promise of the server,
+-- a stream is opened by the first HEADERS of the client, where its identifier is odd, or by the first promise of the
+-- server,
 -- where it is even (5.1.1)
 abbrev pub is_opening : (stream : ℕ) → StreamLife → Frame → Bool
 is_opening stream life frame =
     is_none life.opened && (((stream % 2 == 1) && is_client_headers frame) || promises stream frame)
 
--- endpoint d sends nothing more on the stream: its END_STREAM or RST_STREAM (6.1, 6.2, 6.4), and of a promised stream the
+-- endpoint d sends nothing more on the stream: its END_STREAM or RST_STREAM (6.1, 6.2, 6.4), and of a promised stream
+-- the
 -- client never sends (5.1, reserved)
 abbrev pub is_last_of : Side → (stream : ℕ) → Frame → Bool
 is_last_of d stream frame = sends_end d frame || sends_reset d frame || (is_side Client d && promises stream frame)
@@ -36,7 +40,8 @@ life_after stream life frame =
       ended = each_side (λ d. side_of d life.ended || ((opening || is_some life.opened) && is_last_of d stream frame));
     }
 
--- a promise of the server on a stream on which it can promise nothing: one of its own, one that is not opened, or one that it
+-- a promise of the server on a stream on which it can promise nothing: one of its own, one that is not opened, or one
+-- that it
 -- has ended (6.6)
 abbrev pub is_misplaced_promise : (stream : ℕ) → StreamLife → Frame → Bool
 is_misplaced_promise stream life frame =

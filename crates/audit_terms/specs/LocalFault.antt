@@ -1,17 +1,21 @@
 -- What a frame and the frame of its side just before it show by themselves (RFC 9113, 3.4, 4.3, 6). These rules go by
 -- the type byte, the flags and the stream; only what cannot be read goes by the body.
-use Rattle.std.specs.Prelude.{ℕ, pos, Bool, ◌==◌, ◌&&◌, ◌||◌, not, if◌then◌else◌, List, [], ◌∷◌, ◌++◌, Option, Some, None, is_none}
+use Rattle.std.specs.Prelude.{ℕ, pos, Bool, ◌==◌, ◌&&◌, ◌||◌, not, if◌then◌else◌, List, [], ◌∷◌, ◌++◌, Option, Some}
+use Rattle.std.specs.Prelude.{None, is_none}
 use Rattle.audit_terms.specs.declared.sides.Side.TheVariants.{Client}
 use Rattle.audit_terms.specs.declared.sides.Sides.{Sides}
 use Rattle.audit_terms.specs.declared.kinds.Kind.{Kind}
-use Rattle.audit_terms.specs.declared.kinds.Kind.TheVariants.{BadPreface, BrokenBlock, WrongStream, WrongSize, BadPadding, BadSetting, Push, BadPriority}
+use Rattle.audit_terms.specs.declared.kinds.Kind.TheVariants.{BadPreface, BrokenBlock, WrongStream, WrongSize}
+use Rattle.audit_terms.specs.declared.kinds.Kind.TheVariants.{BadPadding, BadSetting, Push, BadPriority}
 use Rattle.audit_terms.specs.declared.frames.Body.{Body}
 use Rattle.audit_terms.specs.declared.frames.Body.TheVariants.{Settings as SettingsBody, Unreadable}
 use Rattle.audit_terms.specs.declared.frames.Frame.{Frame}
 use Rattle.audit_terms.specs.declared.findings.Finding.{Finding}
 use Rattle.audit_terms.specs.Side.{is_side}
 use Rattle.audit_terms.specs.Sides.{side_of, each_side}
-use Rattle.audit_terms.specs.FrameType.{data_type, headers_type, priority_type, rst_stream_type, settings_type, push_promise_type, ping_type, goaway_type, continuation_type, ack_flag, end_headers_flag, has_flag}
+use Rattle.audit_terms.specs.FrameType.{data_type, headers_type, priority_type, rst_stream_type, settings_type}
+use Rattle.audit_terms.specs.FrameType.{push_promise_type, ping_type, goaway_type, continuation_type, ack_flag}
+use Rattle.audit_terms.specs.FrameType.{end_headers_flag, has_flag}
 use Rattle.audit_terms.specs.Finding.{finding_at, say, say_of}
 
 -- a SETTINGS frame that is no acknowledgement, as each side's first frame is to be (3.4)
@@ -24,7 +28,8 @@ leaves_block_open frame =
     ((frame.code == headers_type) || (frame.code == push_promise_type) || (frame.code == continuation_type))
     && not (has_flag frame.flags end_headers_flag)
 
--- an open block goes on with a CONTINUATION on its stream and nothing else, and no block goes on unless it is open (4.3, 6.10)
+-- an open block goes on with a CONTINUATION on its stream and nothing else, and no block goes on unless it is open
+-- (4.3, 6.10)
 abbrev pub breaks_block : Option Frame → Frame → Bool
 breaks_block None frame = frame.code == continuation_type
 breaks_block (Some previous) frame =

@@ -1,12 +1,15 @@
 -- One stream: its opening, its ends and the windows of both sides on it (RFC 9113, 5.1, 6.1, 6.4, 6.9, 6.9.1, 6.9.2).
-use Rattle.std.specs.Prelude.{ℕ, ℤ, pos, ◌+ℤ◌, ◌-ℤ◌, Bool, false, ◌&&◌, ◌||◌, not, nat_lt, if◌then◌else◌, List, [], ◌∷◌, ◌++◌, Option, Some, None, is_some}
+use Rattle.std.specs.Prelude.{ℕ, ℤ, pos, ◌+ℤ◌, ◌-ℤ◌, Bool, false, ◌&&◌, ◌||◌, not, nat_lt, if◌then◌else◌, List, [], ◌∷◌}
+use Rattle.std.specs.Prelude.{◌++◌, Option, Some, None, is_some}
 use Rattle.std.specs.Option.{option_map_or}
 use Rattle.std.specs.Ordering.{int_eq}
 use Rattle.audit_terms.specs.declared.sides.Side.{Side}
 use Rattle.audit_terms.specs.declared.sides.Side.TheVariants.{Client, Server}
 use Rattle.audit_terms.specs.declared.sides.Sides.{Sides}
 use Rattle.audit_terms.specs.declared.kinds.Kind.{Kind}
-use Rattle.audit_terms.specs.declared.kinds.Kind.TheVariants.{NotOpened, SettingOverflow, AfterEnd, StreamOverrun, ZeroStreamGrant, StreamOverflow, StreamStallEnd, StreamStallBegin, StreamCredit}
+use Rattle.audit_terms.specs.declared.kinds.Kind.TheVariants.{NotOpened, SettingOverflow, AfterEnd, StreamOverrun}
+use Rattle.audit_terms.specs.declared.kinds.Kind.TheVariants.{ZeroStreamGrant, StreamOverflow, StreamStallEnd}
+use Rattle.audit_terms.specs.declared.kinds.Kind.TheVariants.{StreamStallBegin, StreamCredit}
 use Rattle.audit_terms.specs.declared.frames.Frame.{Frame}
 use Rattle.audit_terms.specs.declared.items.Step.{Step}
 use Rattle.audit_terms.specs.declared.lives.StreamLife.{StreamLife}
@@ -14,7 +17,8 @@ use Rattle.audit_terms.specs.declared.streams.Stream.{Stream}
 use Rattle.audit_terms.specs.declared.findings.Finding.{Finding}
 use Rattle.audit_terms.specs.Sides.{side_of, each_side}
 use Rattle.audit_terms.specs.Frame.{is_zero_grant, content_by, grant_to}
-use Rattle.audit_terms.specs.Life.{idle_life, is_opening, life_after, is_last_of, ends_window, is_not_opened, is_after_end}
+use Rattle.audit_terms.specs.Life.{idle_life, is_opening, life_after, is_last_of, ends_window, is_not_opened}
+use Rattle.audit_terms.specs.Life.{is_after_end}
 use Rattle.audit_terms.specs.Window.{is_used_up, overflows, overruns}
 use Rattle.audit_terms.specs.Change.{new_initial}
 use Rattle.audit_terms.specs.Finding.{finding_at, say, say_of}
@@ -51,8 +55,10 @@ pub record WindowStep : Type 0 where
   pub last : ℤ  -- the last credit that is known
   pub after : Option ℤ  -- the credit after the step, where the window lives on
 
--- the window of side d at the step, from its credit before it. The step moves it by what is granted to it, less what is sent
--- through it (6.9, 6.9.1), and by the new initial window minus the old (6.9.2). A grant that would bring it above the largest
+-- the window of side d at the step, from its credit before it. The step moves it by what is granted to it, less what is
+-- sent
+-- through it (6.9, 6.9.1), and by the new initial window minus the old (6.9.2). A grant that would bring it above the
+-- largest
 -- is not added, and ends it (6.9.1), as does a frame that ends it
 abbrev pub window_step : Side → (stream : ℕ) → Sides ℕ → Step → (before : ℤ) → WindowStep
 window_step d stream initial step before =

@@ -3,3 +3,6 @@ pub mod Room
 pub mod StreamSteps
 pub mod Watch
 pub mod Widths
+pub mod Settings
+pub mod Places
+pub mod runs

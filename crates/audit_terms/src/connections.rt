@@ -30,7 +30,7 @@ pub struct ConnectionState {
 impl ConnectionState {
     ghost use Rattle.audit_terms.specs.Sides.{side_of, each_side};
     ghost use Rattle.audit_terms.specs.Frame.{content_by};
-    ghost use Rattle.audit_terms.specs.runs.Orderly.{IsInRange};
+    ghost use Rattle.audit_terms.specs.code.runs.Orderly.{IsInRange};
     ghost use Rattle.audit_terms.specs.code.Room.{HasRoom};
     ghost use Rattle.audit_terms.specs.Connection.{connection_start, credit_after, connection_window_said, connection_windows_said};
 
@@ -200,7 +200,7 @@ impl ConnectionState {
 
 ghost use Rattle.std.specs.Prelude.{max, if◌then◌else◌};
 ghost use Rattle.audit_terms.specs.Frame.{promised_in};
-ghost use Rattle.audit_terms.specs.runs.Orderly.{IsInRange};
+ghost use Rattle.audit_terms.specs.code.runs.Orderly.{IsInRange};
 ghost use Rattle.audit_terms.specs.Sides.{side_of, each_side};
 ghost use Rattle.audit_terms.specs.Change.{new_limit, new_push};
 ghost use Rattle.audit_terms.specs.Connection.{is_length_fatal, length_said, push_said, opening_order_said, promise_order_said, is_opened_by_headers};

@@ -61,7 +61,7 @@ impl Finding {
 }
 
 ghost use Rattle.audit_terms.specs.Finding.{finding_at, say, stops, in_order, upto_stop, is_shown, shown};
-ghost use Rattle.audit_terms.specs.runs.Look.{up_to};
+ghost use Rattle.audit_terms.specs.code.runs.Look.{up_to};
 ghost use Rattle.std.specs.Prelude.{position};
 
 /// Adds a finding where a test holds.

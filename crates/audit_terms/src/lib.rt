@@ -3,9 +3,9 @@
 //!
 //! `specs/` holds the rules, each beside its section of the RFC: what a frame shows by itself (`LocalFault`), settings in
 //! force (`InForce`, 6.5.3), the life of a stream (`Life`, 5.1), both sides' windows (`Connection` and `Stream`, 6.9), and
-//! the pass over all frames of a connection and where it ends (`Pass`, 5.4.1). `specs/runs/` has what parts of a pass show
-//! by themselves, and when a run looks for the stop of its connection; `specs/laws/` what laws say, as credit in closed
-//! form. The contracts of the program's calls rest on neither of the two.
+//! the pass over all frames of a connection and where it ends (`Pass`, 5.4.1). `specs/code/runs/` has what parts of a
+//! pass show by themselves, and when a run looks for the stop of its connection; `specs/laws/` what laws say, as credit
+//! in closed form. The contracts of the program's calls rest on neither of the two.
 //!
 //! - [`Frame`], [`Change`], [`Item`] and [`Step`] are what an audit reads: frames, and what they bring.
 //! - [`Stream`], [`StreamLife`] and [`ConnectionState`] are a stream and a connection between two frames, and their

@@ -3,7 +3,7 @@
 ghost use Rattle.std.specs.Prelude.{◌≡◌, ℕ, ◌+◌, ◌*◌, ◌≤◌, List, [], ◌∷◌, ◌++◌, Option};
 ghost use Rattle.std.specs.Bool.{OnTrue, OnFalse};
 ghost use Rattle.audit_terms.specs.declared.findings.Finding.{Finding as FindingTerm};
-ghost use Rattle.audit_terms.specs.runs.Look.{is_past, steps_between, found_before};
+ghost use Rattle.audit_terms.specs.code.runs.Look.{is_past, steps_between, found_before};
 ghost use Rattle.audit_terms.specs.code.Watch.{Watches, IsStopped, NeverFallFrom};
 
 use crate::findings::Finding;

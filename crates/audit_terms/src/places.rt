@@ -1,6 +1,6 @@
 ghost use Rattle.std.specs.Prelude.{◌≡◌, ℕ, ◌+◌, ◌-◌, ◌*◌, ◌^◌, ◌<◌, ◌≤◌};
 ghost use Rattle.audit_terms.specs.Place.{place_of, place_number, place_stream};
-ghost use Rattle.audit_terms.specs.laws.Places.{place_rank, no_place};
+ghost use Rattle.audit_terms.specs.code.Places.{place_rank, no_place};
 
 use std::marker::Model;
 

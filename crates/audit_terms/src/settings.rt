@@ -1,6 +1,6 @@
 ghost use Rattle.std.specs.Prelude.{◌≡◌, ℕ, ◌≤◌};
 ghost use Rattle.std.specs.Option.{ForSome};
-ghost use Rattle.audit_terms.specs.Settings.{no_settings};
+ghost use Rattle.audit_terms.specs.code.Settings.{no_settings};
 
 use crate::widths::Word;
 use std::marker::Model;

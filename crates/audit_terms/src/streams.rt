@@ -22,7 +22,7 @@ impl Stream {
     ghost use Rattle.audit_terms.specs.code.Room.{WindowHasRoom};
     ghost use Rattle.audit_terms.specs.Finding.{say_of};
     ghost use Rattle.audit_terms.specs.Stream.{idle_stream, opens, frame_said, stream_said, stream_after, life_at};
-    ghost use Rattle.audit_terms.specs.runs.Streams.{IsAcknowledged};
+    ghost use Rattle.audit_terms.specs.code.runs.Streams.{IsAcknowledged};
 
     /// A stream that is not opened.
     pub fn idle() -> Self

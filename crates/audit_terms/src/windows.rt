@@ -5,7 +5,7 @@ ghost use Rattle.audit_terms.specs.Change.{new_initial};
 ghost use Rattle.audit_terms.specs.Finding.{say_of};
 ghost use Rattle.audit_terms.specs.Frame.{content_by};
 ghost use Rattle.audit_terms.specs.Stream.{step_amount, window_after, window_at_opening, window_step, live_window_said, opened_window_said};
-ghost use Rattle.audit_terms.specs.runs.Streams.{IsAcknowledged, initial_after};
+ghost use Rattle.audit_terms.specs.code.runs.Streams.{IsAcknowledged, initial_after};
 ghost use Rattle.audit_terms.specs.code.StreamSteps.{counted, is_overflowing_grant, window_ends};
 ghost use Rattle.audit_terms.specs.code.Room.{HasRoom, WindowHasRoom};
 ghost use Rattle.audit_terms.specs.Window.{is_used_up};

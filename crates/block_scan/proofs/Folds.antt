@@ -1,10 +1,12 @@
 -- The plain fold over two lists, one after the other, and over blocks.
-use Rattle.std.proofs.Common.{◌≡◌, ◌+◌, ◌-◌, ◌<◌, ℕ, suc, List, [], ◌∷◌, ◌++◌, map, length, get_or, take, drop, drop-cons, drop-drop, get_or-drop, take-append-drop, Option, Some, None, Bor, refl, sym, ap, ◌∙◌, append_assoc, arith}
+use Rattle.std.proofs.Common.{◌≡◌, ◌+◌, ◌-◌, ◌<◌, ℕ, suc, List, [], ◌∷◌, ◌++◌, map, length, get_or, take, drop}
+use Rattle.std.proofs.Common.{drop-cons, drop-drop, get_or-drop, take-append-drop, Option, Some, None, Bor, refl, sym}
+use Rattle.std.proofs.Common.{ap, ◌∙◌, append_assoc, arith}
 use Rattle.std.specs.Prelude.{slice_get, unwrap_or, Result, Ok, Err, IfOk, MatchResult, Contains}
 use Rattle.std.specs.List.{AllZip, range_with_len}
 use Rattle.std.specs.Option.{option_copied}
 use Rattle.block_scan.specs.code.Shown.{append_nil}
-use Rattle.block_scan.specs.List.{items_of, state_after, states_after, states_before}
+use Rattle.block_scan.specs.code.List.{items_of, state_after, states_after, states_before}
 
 module _ {State Item : Type 0} (step : State → Item → State) where
   pub states_after-append : (s : State) (a b : List Item)

@@ -1,4 +1,1 @@
-pub mod List
-pub mod Laws
-pub mod Both
 pub mod code

@@ -1,3 +1,6 @@
 pub mod Carried
 pub mod Shown
 pub mod BothLaws
+pub mod List
+pub mod Summary
+pub mod Both

@@ -1,5 +1,5 @@
 ghost use Rattle.std.specs.Prelude.{◌≡◌, ◌<◌, map, IfOk};
-ghost use Rattle.block_scan.specs.List.{items_of};
+ghost use Rattle.block_scan.specs.code.List.{items_of};
 
 use std::alloc::{AllocError, Global};
 

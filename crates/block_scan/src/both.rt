@@ -8,7 +8,7 @@ pub struct Both<A, B> {
 }
 
 impl<A: Summary, B: Summary<Item = A::Item>> Summary for Both<A, B> {
-    ghost use Rattle.block_scan.specs.Both.{pair, join_both, advance_both, step_both, FitBoth};
+    ghost use Rattle.block_scan.specs.code.Both.{pair, join_both, advance_both, step_both, FitBoth};
     ghost use Rattle.block_scan.specs.code.BothLaws.{both_laws};
 
     type Item = A::Item;

@@ -1,6 +1,6 @@
 //! Promises about the definitions alone: functions that do nothing, and whose contracts are the laws.
-ghost use Rattle.block_scan.specs.Laws.{SummaryLaws};
-ghost use Rattle.block_scan.specs.Both.{pair, join_both, advance_both, step_both, FitBoth};
+ghost use Rattle.block_scan.specs.code.Summary.{SummaryLaws};
+ghost use Rattle.block_scan.specs.code.Both.{pair, join_both, advance_both, step_both, FitBoth};
 
 use crate::summaries::Summary;
 

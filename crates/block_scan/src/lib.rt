@@ -1,10 +1,11 @@
 //! A parallel prefix scan under laws. It knows no frames.
 //!
 //! A [`Summary`] says what some items do to a state, in a form that can be joined: blocks of a list are summed apart,
-//! on any thread, and a state is then moved past whole blocks. Each instance proves the laws of `specs/Laws.antt` as a
-//! ghost member: joining has a unit and is associative, the summary of two lists is their summaries joined, and to
-//! advance by none, by one item and twice is what the steps do. So the scan is proved once, for every summary. The laws
-//! are asked of states and items that fit, as the instance says: credits of 64 bits add up only within bounds.
+//! on any thread, and a state is then moved past whole blocks. Each instance proves the laws of
+//! `specs/code/Summary.antt` as a ghost member: joining has a unit and is associative, the summary of two lists is
+//! their summaries joined, and to advance by none, by one item and twice is what the steps do. So the scan is proved
+//! once, for every summary. The laws are asked of states and items that fit, as the instance says: credits of 64 bits
+//! add up only within bounds.
 //!
 //! - [`sum_of`] is the summary of a list, [`sums`] those of many blocks, in parallel.
 //! - [`carries`] is the state before each block. It takes one step a block, on one thread, and so needs no tree.

@@ -1,6 +1,6 @@
 ghost use Rattle.std.specs.Prelude.{◌≡◌, ◌<◌, List, map, length, slice_index_or, IfOk};
-ghost use Rattle.block_scan.specs.Laws.{summary_of};
-ghost use Rattle.block_scan.specs.List.{items_of, states_after, states_before};
+ghost use Rattle.block_scan.specs.code.Summary.{summary_of};
+ghost use Rattle.block_scan.specs.code.List.{items_of, states_after, states_before};
 
 use crate::blocks::cut;
 use crate::summaries::Summary;

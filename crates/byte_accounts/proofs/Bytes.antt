@@ -1,5 +1,6 @@
 -- What stands in the parts of a capture's bytes.
-use Rattle.std.proofs.Common.{◌≡◌, ◌∙◌, ℕ, ◌+◌, ◌*◌, ◌≤◌, List, [], ◌∷◌, ◌++◌, length, take, drop, map, length-append, sym, ap, arith, vec_len, slice_index_or}
+use Rattle.std.proofs.Common.{◌≡◌, ◌∙◌, ℕ, ◌+◌, ◌*◌, ◌≤◌, List, [], ◌∷◌, ◌++◌, length, take, drop, map, length-append}
+use Rattle.std.proofs.Common.{sym, ap, arith, vec_len, slice_index_or}
 use Rattle.std.specs.List.{All}
 use Rattle.std.specs.declared.vec.Vec.{Vec}
 use Rattle.std.specs.declared.alloc.Global.{Global}
@@ -19,15 +20,22 @@ full_size full all =
 
 pub kept_size : (full : List (Vec ℕ Global)) (last : List ℕ) (filled : ℕ)
     → All (λ (part : Vec ℕ Global). vec_len part ≡ 1048576) full → filled ≤ length last
-    → length (joined (map (λ (part : Vec ℕ Global). part.items) full) ++ take filled last) ≡ length full * 1048576 + filled
+    → length (joined (map (λ (part : Vec ℕ Global). part.items) full) ++ take filled last)
+    ≡ length full * 1048576 + filled
 kept_size full last filled all within =
     let items = λ (part : Vec ℕ Global). part.items in
-    omega (arith, full_size full all, length-append (joined (map items full)) (take filled last), length-take-le filled last within)
+    omega (
+      arith,
+      full_size full all,
+      length-append (joined (map items full)) (take filled last),
+      length-take-le filled last within,
+    )
 
 -- and in one full part more
 pub pushed_size : (full : List (Vec ℕ Global)) (last : Vec ℕ Global)
     → All (λ (part : Vec ℕ Global). vec_len part ≡ 1048576) full → vec_len last ≡ 1048576
-    → length (joined (map (λ (part : Vec ℕ Global). part.items) (full ++ last ∷ [])) ++ []) ≡ length full * 1048576 + 1048576
+    → length (joined (map (λ (part : Vec ℕ Global). part.items) (full ++ last ∷ [])) ++ [])
+    ≡ length full * 1048576 + 1048576
 pushed_size full last all whole =
     let items = λ (part : Vec ℕ Global). part.items in
     let is : length (joined (map items (full ++ last ∷ [])) ++ []) ≡ length (joined (map items full) ++ last.items) =

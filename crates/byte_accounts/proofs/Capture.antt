@@ -1,5 +1,6 @@
 -- What is read of a capture, read by read.
-use Rattle.std.proofs.Common.{◌≡◌, ◌∙◌, ℕ, ◌^◌, ◌<◌, ◌≤◌, List, [], ◌++◌, length, take, Option, Some, None, IfSome, inl, inr, refl, sym, ap, subst, arith}
+use Rattle.std.proofs.Common.{◌≡◌, ◌∙◌, ℕ, ◌^◌, ◌<◌, ◌≤◌, List, [], ◌++◌, length, take, Option, Some, None, IfSome, inl}
+use Rattle.std.proofs.Common.{inr, refl, sym, ap, subst, arith}
 use Rattle.std.specs.Io.KnownBytes.{Consumes, IsAtEnd}
 use Rattle.std.proofs.Math.Seq.{take-append_seam}
 use Rattle.std.proofs.lemmas.Bool.{cases_lt}
@@ -21,6 +22,7 @@ front_read (Some all) (Some rest) read given fits ends = elim (cases_lt (length 
       sym (ap (take (2 ^ 31)) whole ∙ take_all (2 ^ 31) read fits)
   | inr long ↦
       let size : length read ≡ 2 ^ 31 = omega (arith, long, fits) in
-      let seam : take (2 ^ 31) (read ++ rest) ≡ read = subst (λ (n : ℕ). take n (read ++ rest) ≡ read) size (take-append_seam read rest) in
+      let seam : take (2 ^ 31) (read ++ rest) ≡ read = subst (λ (n : ℕ). take n (read ++ rest) ≡ read) size
+      (take-append_seam read rest) in
       sym (ap (take (2 ^ 31)) given ∙ seam)
 ]

@@ -1,5 +1,6 @@
 -- What is kept of a capture, read by read.
-use Rattle.std.proofs.Common.{◌≡◌, ◌∙◌, ℕ, ◌+◌, ◌^◌, ◌<◌, ◌≤◌, List, [], ◌++◌, length, take, drop, length-append, take-append-drop, Option, Some, None, IfSome, sym, ap, subst, arith}
+use Rattle.std.proofs.Common.{◌≡◌, ◌∙◌, ℕ, ◌+◌, ◌^◌, ◌<◌, ◌≤◌, List, [], ◌++◌, length, take, drop, length-append}
+use Rattle.std.proofs.Common.{take-append-drop, Option, Some, None, IfSome, sym, ap, subst, arith}
 use Rattle.std.specs.Io.KnownBytes.{Consumes, IsAtEnd}
 use Rattle.std.proofs.KnownBytes.{Consumes-trans}
 use Rattle.std.proofs.lemmas.List.{append-nil, append_assoc, length-take-le, nil_from_length, take-take}
@@ -60,7 +61,8 @@ module _ {R : Type 0} where
       → HasConsumed a (left old.reader) old → HasConsumed a (left new.reader) new
   consumed_read left a old roomy new room same none passed front now before =
       let none_roomy : roomy.passed ≡ 0 = ap (λ (r : CaptureReader R). r.passed) room ∙ none in
-      let made = consumed_same a (left old.reader) old roomy same (ap (λ (r : CaptureReader R). r.passed) room) before in
+      let made = consumed_same a (left old.reader) old roomy same (ap (λ (r : CaptureReader R). r.passed) room)
+      before in
       consumed_more a (left roomy.reader) (left new.reader) roomy new none_roomy (passed ∙ none_roomy) front now
       (subst (λ (r : R). HasConsumed a (left r) roomy) (sym (ap (λ (r : CaptureReader R). r.reader) room)) made)
 
@@ -90,7 +92,8 @@ module _ {R : Type 0} where
       → HasConsumed a b reader → IfSome a (λ all. HaveGiven reader (take (2 ^ 31) all))
   gave_front a b reader limit ends read =
       let long = given_size reader read.0 read.1 in
-      let front = front_read a b read.0 read.2 (omega (arith, long, limit)) (λ short. ends (omega (arith, long, short))) in
+      let front = front_read a b read.0 read.2 (omega (arith, long, limit))
+      (λ short. ends (omega (arith, long, short))) in
       front_given a reader read.0 front read.1
 
   -- and as many
@@ -108,7 +111,8 @@ module _ {R : Type 0} where
       ∙ before
 
 -- a walk over what was kept stays one over what is kept, where that stands in front
-pub walk_stays : (first new : List ℕ) (walk : RecordWalk) → take (length first) new ≡ first → IsWalkIn first walk → IsWalkIn new walk
+pub walk_stays : (first new : List ℕ) (walk : RecordWalk) → take (length first) new ≡ first → IsWalkIn first walk
+    → IsWalkIn new walk
 walk_stays first new walk front is =
     let whole : first ++ drop (length first) new ≡ new =
     ap (λ (l : List ℕ). l ++ drop (length first) new) (sym front) ∙ take-append-drop (length first) new in

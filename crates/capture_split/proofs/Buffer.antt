@@ -29,8 +29,10 @@ moved_to_front d f old order within =
 
 -- a front and what is behind it
 pub two_parts : (d f : ℕ) (old : List ℕ) → d ≤ f → take f old ≡ take d old ++ take (f - d) (drop d old)
-two_parts d f old order = ap (λ (k : ℕ). take k old) (let e : f ≡ d + (f - d) = omega (arith, order) in e) ∙ take-add d (f - d) old
+two_parts d f old order = ap (λ (k : ℕ). take k old) (let e : f ≡ d + (f - d) = omega (arith, order) in e)
+    ∙ take-add d (f - d) old
 
 -- and what is behind it alone
 pub back_part : (d f : ℕ) (old : List ℕ) → d ≤ f → drop d (take f old) ≡ take (f - d) (drop d old)
-back_part d f old order = ap (λ (k : ℕ). drop d (take k old)) (let e : f ≡ d + (f - d) = omega (arith, order) in e) ∙ drop-take d (f - d) old
+back_part d f old order = ap (λ (k : ℕ). drop d (take k old)) (let e : f ≡ d + (f - d) = omega (arith, order) in e)
+    ∙ drop-take d (f - d) old

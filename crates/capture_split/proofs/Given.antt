@@ -1,7 +1,10 @@
 -- What parts get of records, one after the other.
-use Rattle.std.proofs.Common.{◌≡◌, ℕ, ◌+◌, ◌-◌, ◌<◌, ◌≤◌, ◌==◌, ◌∙◌, Bool, true, false, if◌then◌else◌, min, List, [], ◌∷◌, ◌++◌, length, take, drop, refl, sym, ap, arith, append_assoc, append-nil, length-append, length-drop, inl, inr}
+use Rattle.std.proofs.Common.{◌≡◌, ℕ, ◌+◌, ◌-◌, ◌<◌, ◌≤◌, ◌==◌, ◌∙◌, Bool, true, false, if◌then◌else◌, min, List, []}
+use Rattle.std.proofs.Common.{◌∷◌, ◌++◌, length, take, drop, refl, sym, ap, arith, append_assoc, append-nil}
+use Rattle.std.proofs.Common.{length-append, length-drop, inl, inr}
 use Rattle.std.proofs.lemmas.Bool.{cases_lt, cond-false, ne_eqb}
-use Rattle.std.proofs.lemmas.List.{drop-append-le, drop-take, length-take, nil_from_length, take-append-le, take-take, take_all, take_min}
+use Rattle.std.proofs.lemmas.List.{drop-append-le, drop-take, length-take, nil_from_length, take-append-le, take-take}
+use Rattle.std.proofs.lemmas.List.{take_all, take_min}
 use Rattle.byteorder.specs.Endian.{big_bytes}
 use Rattle.capture_split.specs.Dealt.{given, given_from, part_at, part_bytes, part_numbers}
 use Rattle.capture_split.specs.Pair.{front_of, pair_of, part_of}
@@ -9,13 +12,15 @@ use Rattle.capture_split.specs.Pair.{front_of, pair_of, part_of}
 module _ (link parts : ℕ) where
   -- one record more behind others
   pub given_from-snoc : (taken : ℕ → List ℕ → List ℕ) (i n : ℕ) (rs : List (List ℕ)) (r : List ℕ)
-      → given_from link parts taken i n (rs ++ r ∷ []) ≡ given_from link parts taken i n rs ++ given link parts taken i (n + length rs) r
+      → given_from link parts taken i n (rs ++ r ∷ []) ≡ given_from link parts taken i n rs ++ given link parts taken i
+      (n + length rs) r
   given_from-snoc taken i n [] r =
       append-nil (given link parts taken i n r) ∙ ap (λ (m : ℕ). given link parts taken i m r) (omega arith)
   given_from-snoc taken i n (x ∷ rs) r =
       let rest = given_from-snoc taken i (n + 1) rs r in
       let at : n + 1 + length rs ≡ n + length (x ∷ rs) = omega arith in
-      ap (λ (l : List ℕ). given link parts taken i n x ++ l) (rest ∙ ap (λ (m : ℕ). given_from link parts taken i (n + 1) rs ++ given link parts taken i m r) at)
+      ap (λ (l : List ℕ). given link parts taken i n x ++ l)
+      (rest ∙ ap (λ (m : ℕ). given_from link parts taken i (n + 1) rs ++ given link parts taken i m r) at)
       ∙ sym (append_assoc (given link parts taken i n x) _ _)
 
   -- no bytes are given to no part
@@ -35,13 +40,15 @@ module _ (link parts : ℕ) where
   given_from-empty taken i n rs = given_from-snoc taken i n rs [] ∙ append-nil (given_from link parts taken i n rs)
 
   -- the front of a packet does not change as more of it comes
-  pub front-more : (front more : List ℕ) → 98 ≤ length front → front_of (drop 16 (front ++ more)) ≡ front_of (drop 16 front)
+  pub front-more : (front more : List ℕ) → 98 ≤ length front → front_of (drop 16 (front ++ more)) ≡ front_of
+      (drop 16 front)
   front-more front more long =
       let long16 : 16 ≤ length front = omega (arith, long) in
       let enough : 82 ≤ length (drop 16 front) = omega (arith, length-drop 16 front, long) in
       ap front_of (drop-append-le 16 front more long16) ∙ take-append-le 82 (drop 16 front) more enough
 
-  pub part_at-more : (n : ℕ) (front more : List ℕ) → 98 ≤ length front → part_at link parts n (front ++ more) ≡ part_at link parts n front
+  pub part_at-more : (n : ℕ) (front more : List ℕ) → 98 ≤ length front → part_at link parts n (front ++ more)
+      ≡ part_at link parts n front
   part_at-more n front more long = ap (λ (f : List ℕ). part_of parts n (pair_of link f)) (front-more front more long)
 
 cond-append : (b : Bool) (x y : List ℕ) → (if b then x else []) ++ (if b then y else []) ≡ (if b then x ++ y else [])
@@ -111,7 +118,8 @@ module _ (link parts i : ℕ) (records : List (List ℕ)) where
       let T : ℕ → List ℕ → List ℕ = λ n bytes. bytes in
       let G : List ℕ = given_from link parts T i 1 records in
       let b : Bool = part_at link parts m bytes == i in
-      ap (λ (l : List ℕ). (l ++ (if b then [] else [])) ++ (if b then bytes else [])) (given_from-empty link parts T i 1 records)
+      ap (λ (l : List ℕ). (l ++ (if b then [] else [])) ++ (if b then bytes else []))
+      (given_from-empty link parts T i 1 records)
       ∙ append_assoc G (if b then [] else []) (if b then bytes else [])
       ∙ ap (λ (l : List ℕ). G ++ l) (cond-first b bytes)
       ∙ sym (split-last T bytes m some is)
@@ -124,7 +132,8 @@ module _ (link parts i : ℕ) (records : List (List ℕ)) where
       let T : ℕ → List ℕ → List ℕ = λ n bytes. big_bytes 8 n in
       let G : List ℕ = given_from link parts T i 1 records in
       let b : Bool = part_at link parts m bytes == i in
-      ap (λ (l : List ℕ). (l ++ (if b then big_bytes 8 m else [])) ++ (if b then [] else [])) (given_from-empty link parts T i 1 records)
+      ap (λ (l : List ℕ). (l ++ (if b then big_bytes 8 m else [])) ++ (if b then [] else []))
+      (given_from-empty link parts T i 1 records)
       ∙ append_assoc G (if b then big_bytes 8 m else []) (if b then [] else [])
       ∙ ap (λ (l : List ℕ). G ++ l) (cond-last b (big_bytes 8 m))
       ∙ sym (split-last T bytes m some is)
@@ -142,7 +151,8 @@ take-min a b q = elim (cases_lt b a) [
 ]
 
 -- the front of a record's packet stands in what is dealt of it first
-pub front-first : (captured n : ℕ) (unread : List ℕ) → 16 + min 82 captured ≤ length unread → n ≡ min (16 + captured) (length unread)
+pub front-first : (captured n : ℕ) (unread : List ℕ) → 16 + min 82 captured ≤ length unread
+    → n ≡ min (16 + captured) (length unread)
     → front_of (take captured (drop 16 unread)) ≡ front_of (drop 16 (take n unread))
 front-first captured n unread enough count =
     let rest : ℕ = n - 16 in

@@ -1,5 +1,7 @@
 -- How parts grow, step by step.
-use Rattle.std.proofs.Common.{◌≡◌, ℕ, ◌+◌, ◌≤◌, ◌^◌, ◌==◌, ◌∙◌, Bool, true, false, if◌then◌else◌, Option, List, [], ◌++◌, length, get_or, refl, sym, subst, arith, append-nil, length-append, inl, inr, is_some}
+use Rattle.std.proofs.Common.{◌≡◌, ℕ, ◌+◌, ◌≤◌, ◌^◌, ◌==◌, ◌∙◌, Bool, true, false, if◌then◌else◌, Option, List, []}
+use Rattle.std.proofs.Common.{◌++◌, length, get_or, refl, sym, subst, arith, append-nil, length-append, inl, inr}
+use Rattle.std.proofs.Common.{is_some}
 use Rattle.std.specs.Prelude.{IsNone, IsSome}
 use Rattle.std.proofs.KnownBytes.{Appends-trans, Appends-nil}
 use Rattle.std.proofs.lemmas.Bool.{eq-eqb, ne_eqb, cases_eq, cases_Bool, both_ways}
@@ -19,8 +21,10 @@ module _ {W : Type 0} (contents : W → Option (List ℕ)) where
   pub Grows-trans : (a b c : Part W) (x y m n : List ℕ) → Grows contents a b x m → Grows contents b c y n
       → Grows contents a c (x ++ y) (m ++ n)
   Grows-trans a b c x y m n p q = record {
-    packets = λ h. Appends-trans (contents a.packets) (contents b.packets) (contents c.packets) x y (p.packets (q.stood h)) (q.packets h);
-    numbering = λ h. Appends-trans (contents a.numbers) (contents b.numbers) (contents c.numbers) m n (p.numbering (q.stood h)) (q.numbering h);
+    packets = λ h. Appends-trans (contents a.packets) (contents b.packets) (contents c.packets) x y
+        (p.packets (q.stood h)) (q.packets h);
+    numbering = λ h. Appends-trans (contents a.numbers) (contents b.numbers) (contents c.numbers) m n
+        (p.numbering (q.stood h)) (q.numbering h);
     size = λ h. omega (arith, p.size (q.stood h), q.size h, length-append x y);
     stood = λ h. p.stood (q.stood h);
     full = full_later a b c x y m n p q;
@@ -38,7 +42,8 @@ module _ {W : Type 0} (contents : W → Option (List ℕ)) where
   -- all parts have grown by what they got so far, and now one grows
   pub AllGrow-one : (first old new : List (Part W)) (p : ℕ) (bytes numbers : ℕ → List ℕ) (more more_numbers : List ℕ)
       → AllGrow contents first old bytes numbers → OneGrows contents old new p more more_numbers
-      → AllGrow contents first new (λ i. bytes i ++ (if p == i then more else [])) (λ i. numbers i ++ (if p == i then more_numbers else []))
+      → AllGrow contents first new (λ i. bytes i ++ (if p == i then more else []))
+      (λ i. numbers i ++ (if p == i then more_numbers else []))
   AllGrow-one first old new p bytes numbers more more_numbers all one = record {
     count = one.count ∙ all.count;
     each = λ i d small. elim (cases_eq p i) [
@@ -46,17 +51,23 @@ module _ {W : Type 0} (contents : W → Option (List ℕ)) where
           let at : (p == i) ≡ true = eq-eqb p i same in
           let step : Grows contents (get_or old i d) (get_or new i d) more more_numbers =
           subst (λ (k : ℕ). Grows contents (get_or old k d) (get_or new k d) more more_numbers) same (one.one d) in
-          subst (λ (b : Bool). Grows contents (get_or first i d) (get_or new i d) (bytes i ++ (if b then more else [])) (numbers i ++ (if b then more_numbers else [])))
-          (sym at) (Grows-trans (get_or first i d) (get_or old i d) (get_or new i d) (bytes i) more (numbers i) more_numbers (all.each i d small) step)
+          subst (λ (b : Bool). Grows contents (get_or first i d) (get_or new i d) (bytes i ++ (if b then more else []))
+          (numbers i ++ (if b then more_numbers else [])))
+          (sym at) (Grows-trans (get_or first i d) (get_or old i d) (get_or new i d) (bytes i) more
+          (numbers i) more_numbers (all.each i d small) step)
       | inr other ↦
           let at : (p == i) ≡ false = ne_eqb p i other in
           let stays : get_or new i d ≡ get_or old i d = one.others i d (λ e. other (sym e)) in
           let step : Grows contents (get_or first i d) (get_or new i d) (bytes i) (numbers i) =
-          subst (λ (x : Part W). Grows contents (get_or first i d) x (bytes i) (numbers i)) (sym stays) (all.each i d small) in
-          subst (λ (b : Bool). Grows contents (get_or first i d) (get_or new i d) (bytes i ++ (if b then more else [])) (numbers i ++ (if b then more_numbers else [])))
+          subst (λ (x : Part W). Grows contents (get_or first i d) x (bytes i) (numbers i)) (sym stays)
+          (all.each i d small) in
+          subst (λ (b : Bool). Grows contents (get_or first i d) (get_or new i d) (bytes i ++ (if b then more else []))
+          (numbers i ++ (if b then more_numbers else [])))
           (sym at)
-          (subst (λ (x : List ℕ). Grows contents (get_or first i d) (get_or new i d) x (numbers i ++ [])) (sym (append-nil (bytes i)))
-          (subst (λ (x : List ℕ). Grows contents (get_or first i d) (get_or new i d) (bytes i) x) (sym (append-nil (numbers i))) step))
+          (subst (λ (x : List ℕ). Grows contents (get_or first i d) (get_or new i d) x (numbers i ++ []))
+          (sym (append-nil (bytes i)))
+          (subst (λ (x : List ℕ). Grows contents (get_or first i d) (get_or new i d) (bytes i) x)
+          (sym (append-nil (numbers i))) step))
     ];
   }
 
@@ -68,7 +79,8 @@ module _ {W : Type 0} (contents : W → Option (List ℕ)) where
     count = all.count;
     each = λ i d small.
         subst (λ (x : List ℕ). Grows contents (get_or first i d) (get_or new i d) x (named_numbers i)) (same i)
-        (subst (λ (x : List ℕ). Grows contents (get_or first i d) (get_or new i d) (bytes i) x) (same_numbers i) (all.each i d small));
+        (subst (λ (x : List ℕ). Grows contents (get_or first i d) (get_or new i d) (bytes i) x) (same_numbers i)
+        (all.each i d small));
   }
 
   pub AllGrow-none : (parts : List (Part W)) → AllGrow contents parts parts (λ i. []) (λ i. [])

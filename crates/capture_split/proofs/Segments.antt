@@ -1,5 +1,7 @@
 -- A packet that holds a segment names its endpoints in its front.
-use Rattle.std.proofs.Common.{◌≡◌, ◌+◌, ◌-◌, ◌*◌, ◌/◌, ◌%◌, ◌^◌, ◌<◌, ◌≤◌, ◌==◌, ◌∙◌, ◌&&◌, ◌||◌, nat_lt, ℕ, not, find, Bool, true, false, if◌then◌else◌, Some, None, List, [], ◌∷◌, ◌++◌, length, take, drop, slice_index, refl, sym, ap, subst, arith, length-drop}
+use Rattle.std.proofs.Common.{◌≡◌, ◌+◌, ◌-◌, ◌*◌, ◌/◌, ◌%◌, ◌^◌, ◌<◌, ◌≤◌, ◌==◌, ◌∙◌, ◌&&◌, ◌||◌, nat_lt, ℕ, not, find}
+use Rattle.std.proofs.Common.{Bool, true, false, if◌then◌else◌, Some, None, List, [], ◌∷◌, ◌++◌, length, take, drop}
+use Rattle.std.proofs.Common.{slice_index, refl, sym, ap, subst, arith, length-drop}
 use Rattle.std.specs.Option.{option_map_or}
 use Rattle.std.proofs.Math.Nat.{mod-lt}
 use Rattle.std.proofs.lemmas.Bool.{and_from, cond-true, le-ltb, ltb-false, not-false}
@@ -17,16 +19,20 @@ use Rattle.packet_heads.specs.declared.packets.Packet.{Packet}
 use Rattle.packet_heads.specs.declared.packets.Packet.TheVariants as packets
 use Rattle.packet_heads.specs.declared.packets.Segment.{Segment}
 use Rattle.packet_heads.specs.declared.packets.Skip.TheVariants.{NotIpv4, Fragment, NotTcp}
-use Rattle.packet_heads.specs.declared.packets.Refusal.TheVariants.{ShortEthernet, ShortIpv4, BadVersion, BadHeaderLength, BadTotalLength, PastEnd, ShortTcp, BadDataOffset}
-use Rattle.capture_split.specs.Laws.{SegmentsName}
+use Rattle.packet_heads.specs.declared.packets.Refusal.TheVariants.{ShortEthernet, ShortIpv4, BadVersion}
+use Rattle.packet_heads.specs.declared.packets.Refusal.TheVariants.{BadHeaderLength, BadTotalLength, PastEnd, ShortTcp}
+use Rattle.packet_heads.specs.declared.packets.Refusal.TheVariants.{BadDataOffset}
+use Rattle.capture_split.specs.laws.Parts.{SegmentsName}
 use Rattle.capture_split.specs.Pair.{front_of, names_endpoints, pair_in}
 use Rattle.capture_split.specs.declared.pair.Pair.{Pair}
 
 -- ---- the lines of the packet decision, of the link, of IPv4 and of TCP
 
 abbrev link_lines : Bool → List ℕ → List (Bool × Packet)
-link_lines raw packet =
-    (if raw then length packet == 0 else nat_lt (length packet) (header_length packet), packets.Refused (if raw then ShortIpv4 else ShortEthernet))
+link_lines raw packet = (
+  if raw then length packet == 0 else nat_lt (length packet) (header_length packet),
+  packets.Refused (if raw then ShortIpv4 else ShortEthernet),
+)
     ∷ (if raw then ipv4.version packet == 6 else not (ether_type packet == 0x0800), packets.Skipped NotIpv4)
     ∷ []
 
@@ -34,8 +40,14 @@ abbrev ipv4_lines : Bool → List ℕ → List (Bool × Packet)
 ipv4_lines partial datagram =
     (nat_lt (length datagram) 20, packets.Refused ShortIpv4)
     ∷ (not (ipv4.version datagram == 4), packets.Refused BadVersion)
-    ∷ (nat_lt (ipv4.header_words datagram) 5 || nat_lt (length datagram) (ipv4.header_length datagram), packets.Refused BadHeaderLength)
-    ∷ (not (ipv4.total_length datagram == 0) && nat_lt (ipv4.total_length datagram) (ipv4.header_length datagram), packets.Refused BadTotalLength)
+    ∷ (
+      nat_lt (ipv4.header_words datagram) 5 || nat_lt (length datagram) (ipv4.header_length datagram),
+      packets.Refused BadHeaderLength,
+    )
+    ∷ (
+      not (ipv4.total_length datagram == 0) && nat_lt (ipv4.total_length datagram) (ipv4.header_length datagram),
+      packets.Refused BadTotalLength,
+    )
     ∷ (nat_lt (length datagram) (ipv4.total_length datagram) && not partial, packets.Refused PastEnd)
     ∷ (ipv4.is_fragment datagram, packets.Skipped Fragment)
     ∷ (not (ipv4.protocol datagram == 6), packets.Skipped NotTcp)
@@ -44,11 +56,15 @@ ipv4_lines partial datagram =
 abbrev tcp_lines : List ℕ → List (Bool × Packet)
 tcp_lines segment =
     (nat_lt (length segment) 20, packets.Refused ShortTcp)
-    ∷ (nat_lt (tcp.data_offset segment) 5 || nat_lt (length segment) (tcp.header_length segment), packets.Refused BadDataOffset)
+    ∷ (
+      nat_lt (tcp.data_offset segment) 5 || nat_lt (length segment) (tcp.header_length segment),
+      packets.Refused BadDataOffset,
+    )
     ∷ []
 
 all_lines : (raw partial : Bool) (packet datagram segment : List ℕ)
-    → decision_lines raw partial packet datagram segment ≡ (link_lines raw packet ++ ipv4_lines partial datagram) ++ tcp_lines segment
+    → decision_lines raw partial packet datagram segment ≡ (link_lines raw packet ++ ipv4_lines partial datagram)
+    ++ tcp_lines segment
 all_lines raw partial packet datagram segment = refl
 
 -- ---- a table of which every line passes a packet over
@@ -84,7 +100,8 @@ same_segment x s e = ap (λ (p : Packet). segment_or p x) e
 
 -- a segment is answered where no line applies
 none_applies : (lines : List (Bool × Packet)) → AllOver lines → (x s : Segment)
-    → option_map_or (λ (line : Bool × Packet). line.1) (find (λ (line : Bool × Packet). line.0) lines) (packets.Segment x)
+    → option_map_or (λ (line : Bool × Packet). line.1) (find (λ (line : Bool × Packet). line.0) lines)
+    (packets.Segment x)
     ≡ packets.Segment s → AllFalse lines × (x ≡ s)
 none_applies [] over x s e = (tt, same_segment x s e)
 none_applies ((true, a) ∷ later) over x s e = absurd (subst IsPassedOver e over.0)
@@ -104,7 +121,8 @@ number_in_front n m i xs fits =
 start_in_front : (link : ℕ) (packet : List ℕ) → datagram_start link (front_of packet) ≡ datagram_start link packet
 unfolding header_length is_tagged
 start_in_front link packet =
-    ap (λ (n : ℕ). if link == raw_ip then 0 else (if n == 0x8100 then 18 else 14)) (number_in_front 2 82 12 packet (omega arith))
+    ap (λ (n : ℕ). if link == raw_ip then 0 else (if n == 0x8100 then 18 else 14))
+    (number_in_front 2 82 12 packet (omega arith))
 
 at_most : (b c : Bool) → (if b then 0 else (if c then 18 else 14)) ≤ 18
 at_most true c = omega arith
@@ -145,9 +163,11 @@ module _ (k : ℕ) (d : List ℕ) (many : 64 ≤ k) where
 -- ports that stand in two fronts of the same bytes
 source_ports : (a b : ℕ) (s : List ℕ) → 4 ≤ a → 4 ≤ b → tcp.source_port (take a s) ≡ tcp.source_port (take b s)
 unfolding tcp.source_port
-source_ports a b s fits fits_too = big_from-take 0 2 a s (omega (arith, fits)) ∙ sym (big_from-take 0 2 b s (omega (arith, fits_too)))
+source_ports a b s fits fits_too = big_from-take 0 2 a s (omega (arith, fits))
+    ∙ sym (big_from-take 0 2 b s (omega (arith, fits_too)))
 
-destination_ports : (a b : ℕ) (s : List ℕ) → 4 ≤ a → 4 ≤ b → tcp.destination_port (take a s) ≡ tcp.destination_port (take b s)
+destination_ports : (a b : ℕ) (s : List ℕ) → 4 ≤ a → 4 ≤ b → tcp.destination_port (take a s) ≡ tcp.destination_port
+    (take b s)
 unfolding tcp.destination_port
 destination_ports a b s fits fits_too =
     number_in_front 2 a 2 s (omega (arith, fits)) ∙ sym (number_in_front 2 b 2 s (omega (arith, fits_too)))
@@ -184,7 +204,8 @@ module _ (k : ℕ) (d : List ℕ) (many : 64 ≤ k) (partial : Bool) (ip : AllFa
   named =
       let size = length-take k d in
       let enough : 20 ≤ length (take k d) = omega (arith, size, long, many) in
-      let ports : ipv4.header_length (take k d) + 4 ≤ length (take k d) = omega (arith, size, same_h, h_small, behind.1, many) in
+      let ports : ipv4.header_length (take k d) + 4 ≤ length (take k d) = omega
+      (arith, size, same_h, h_small, behind.1, many) in
       let version : (ipv4.version (take k d) == 4) ≡ true =
       ap (λ (n : ℕ). n == 4) (version_in_front k d many) ∙ not-false (ipv4.version d == 4) ip.1.0 in
       let protocol : (ipv4.protocol (take k d) == 6) ≡ true =
@@ -205,14 +226,18 @@ module _ (k : ℕ) (d : List ℕ) (many : 64 ≤ k) (partial : Bool) (ip : AllFa
       let few : 4 ≤ rest = omega (arith, h_small, many) in
       let few_too : 4 ≤ ipv4.datagram_end d - h = omega (arith, behind.0) in
       let source = ap tcp.source_port front ∙ source_ports rest (ipv4.datagram_end d - h) (drop h d) few few_too in
-      let destination = ap tcp.destination_port front ∙ destination_ports rest (ipv4.datagram_end d - h) (drop h d) few few_too in
+      let destination = ap tcp.destination_port front ∙ destination_ports rest (ipv4.datagram_end d - h)
+      (drop h d) few few_too in
       let make : ℕ → ℕ → ℕ → ℕ → Pair =
       λ a p b q. record { from = record { address = a; port = p }; to = record { address = b; port = q } } in
       let seen = drop (ipv4.header_length (take k d)) (take k d) in
-      ap (λ (x : ℕ). make x (tcp.source_port seen) (ipv4.destination_address (take k d)) (tcp.destination_port seen)) (source_in_front k d many)
-      ∙ ap (λ (x : ℕ). make (ipv4.source_address d) (tcp.source_port seen) x (tcp.destination_port seen)) (destination_in_front k d many)
+      ap (λ (x : ℕ). make x (tcp.source_port seen) (ipv4.destination_address (take k d)) (tcp.destination_port seen))
+      (source_in_front k d many)
+      ∙ ap (λ (x : ℕ). make (ipv4.source_address d) (tcp.source_port seen) x (tcp.destination_port seen))
+      (destination_in_front k d many)
       ∙ ap (λ (x : ℕ). make (ipv4.source_address d) x (ipv4.destination_address d) (tcp.destination_port seen)) source
-      ∙ ap (λ (x : ℕ). make (ipv4.source_address d) (tcp.source_port (ipv4.segment_bytes d)) (ipv4.destination_address d) x) destination
+      ∙ ap (λ (x : ℕ). make (ipv4.source_address d) (tcp.source_port (ipv4.segment_bytes d))
+      (ipv4.destination_address d) x) destination
 
 -- ---- from the decision to the front
 
@@ -220,7 +245,8 @@ lines_over : (raw : Bool) (packet d segment : List ℕ) (partial : Bool)
     → AllOver ((link_lines raw packet ++ ipv4_lines partial d) ++ tcp_lines segment)
 lines_over raw packet d segment partial =
     over-append (link_lines raw packet ++ ipv4_lines partial d) (tcp_lines segment)
-    (over-append (link_lines raw packet) (ipv4_lines partial d) (tt, (tt, tt)) (tt, (tt, (tt, (tt, (tt, (tt, (tt, tt))))))))
+    (over-append (link_lines raw packet) (ipv4_lines partial d) (tt, (tt, tt))
+    (tt, (tt, (tt, (tt, (tt, (tt, (tt, tt))))))))
     (tt, (tt, tt))
 
 pub segments_name_lem : SegmentsName
@@ -245,4 +271,5 @@ segments_name_lem link number row packet s e =
     ∙ drop-take start k packet in
     ap (λ (x : List ℕ). if names_endpoints x then Some (pair_in x) else None) seen
     ∙ cond-true (names_endpoints (take k d)) _ _ (named k d many partial ip segment)
-    ∙ ap Some (pair_is k d many partial ip segment ∙ ap (λ (y : Segment). let p : Pair = record { from = y.from; to = y.to } in p) none.1)
+    ∙ ap Some (pair_is k d many partial ip segment
+    ∙ ap (λ (y : Segment). let p : Pair = record { from = y.from; to = y.to } in p) none.1)

@@ -1,5 +1,7 @@
 -- From one place of a dealer in a capture to the next.
-use Rattle.std.proofs.Common.{◌≡◌, ℕ, ◌+◌, ◌-◌, ◌<◌, ◌≤◌, ◌==◌, ◌∙◌, min, Bool, true, false, if◌then◌else◌, Option, List, [], ◌∷◌, ◌++◌, length, drop, take, take-append-drop, refl, sym, ap, subst, arith, append_assoc, append-nil, length-append, inl, inr}
+use Rattle.std.proofs.Common.{◌≡◌, ℕ, ◌+◌, ◌-◌, ◌<◌, ◌≤◌, ◌==◌, ◌∙◌, min, Bool, true, false, if◌then◌else◌, Option}
+use Rattle.std.proofs.Common.{List, [], ◌∷◌, ◌++◌, length, drop, take, take-append-drop, refl, sym, ap, subst, arith}
+use Rattle.std.proofs.Common.{append_assoc, append-nil, length-append, inl, inr}
 use Rattle.std.specs.List.{AllByRecursion, concat}
 use Rattle.std.proofs.lemmas.Bool.{cases_eq}
 use Rattle.std.proofs.lemmas.List.{length-take-le}
@@ -15,7 +17,8 @@ use Rattle.capture_split.specs.code.Dealing.{OneGrows}
 use Rattle.capture_split.specs.declared.dealer.Dealer.{Dealer}
 use Rattle.capture_split.specs.declared.part.Part.{Part}
 use Rattle.capture_split.specs.Pair.{front_of, pair_of, part_of}
-use Rattle.capture_split.proofs.Given.{bytes-first, bytes-more, front-first, given_from-empty, numbers-first, numbers-more, part_at-more}
+use Rattle.capture_split.proofs.Given.{bytes-first, bytes-more, front-first, given_from-empty, numbers-first}
+use Rattle.capture_split.proofs.Given.{numbers-more, part_at-more}
 use Rattle.capture_split.proofs.Growth.{AllGrow-named, AllGrow-none, AllGrow-one}
 
 -- numbers are read from their own bytes
@@ -26,10 +29,12 @@ reads_first false n xs ys h = big_from-append n xs ys h
 -- a record's captured length does not change as more of it comes
 pub captured-more : (little : Bool) (front more : List ℕ) → 16 ≤ length front
     → captured_length (order_of little) (front ++ more) ≡ captured_length (order_of little) front
-captured-more little front more long = in_front (order_of little) (reads_first little) 8 front more (omega (arith, long))
+captured-more little front more long = in_front (order_of little) (reads_first little) 8 front more
+    (omega (arith, long))
 
 -- one record more
-pub all-snoc : {X : Type 0} (P : X → Type 0) (xs : List X) (x : X) → AllByRecursion P xs → P x → AllByRecursion P (xs ++ x ∷ [])
+pub all-snoc : {X : Type 0} (P : X → Type 0) (xs : List X) (x : X) → AllByRecursion P xs → P x
+    → AllByRecursion P (xs ++ x ∷ [])
 all-snoc P [] x all one = (one, tt)
 all-snoc P (y ∷ ys) x all one = (all.0, all-snoc P ys x all.1 one)
 
@@ -53,9 +58,11 @@ module _ {W : Type 0} (contents : W → Option (List ℕ)) where
     | inl done ↦ record {
       records = records ++ x ∷ [];
       front = [];
-      are = are ∙ sym (append-nil (concat records ++ x) ∙ refl) ∙ ap (λ (l : List ℕ). l ++ []) (sym (concat-snoc records x));
+      are = are ∙ sym (append-nil (concat records ++ x) ∙ refl)
+          ∙ ap (λ (l : List ℕ). l ++ []) (sym (concat-snoc records x));
       stands = record {
-        whole = all-snoc (IsRecord (order_of d.is_little)) records x whole ((header, omega (arith, left, done)), omega (arith, left, done));
+        whole = all-snoc (IsRecord (order_of d.is_little)) records x whole
+            ((header, omega (arith, left, done)), omega (arith, left, done));
         between = λ _. (refl, number ∙ sym (length-append records (x ∷ [])));
         within = λ some. absurd (omega (arith, some, done));
       };
@@ -81,13 +88,15 @@ module _ {W : Type 0} (contents : W → Option (List ℕ)) where
   -- more of a record was dealt
   pub dealt_more : (d : Dealer) (first old new : List (Part W)) (bytes unread : List ℕ) (n : ℕ) → 0 < d.left
       → n ≡ min d.left (length unread) → OneGrows contents old new d.part (take n unread) []
-      → IsDealt contents d first old bytes → IsDealt contents (record d { left = d.left - n }) first new (bytes ++ take n unread)
+      → IsDealt contents d first old bytes → IsDealt contents (record d { left = d.left - n }) first new
+      (bytes ++ take n unread)
   dealt_more d first old new bytes unread n some count one was =
       let w = was.stands.within some in
       let chunk : List ℕ = take n unread in
       let x : List ℕ = was.front ++ chunk in
       let size : length chunk ≡ n = length-take-le n unread (omega (arith, count)) in
-      let sum : length x ≡ length was.front + n = length-append was.front chunk ∙ ap (λ (k : ℕ). length was.front + k) size in
+      let sum : length x ≡ length was.front + n = length-append was.front chunk
+      ∙ ap (λ (k : ℕ). length was.front + k) size in
       let same_part : part_at d.link (length first) d.number x ≡ part_at d.link (length first) d.number was.front =
       part_at-more d.link (length first) d.number was.front chunk w.enough in
       let grown : AllGrow contents first new
@@ -101,9 +110,11 @@ module _ {W : Type 0} (contents : W → Option (List ℕ)) where
       (let captured = captured-more d.is_little was.front chunk (omega (arith, w.enough)) in
       omega (arith, sum, w.left, captured, count))
       (AllGrow-named contents first new _ _ _ _
-      (λ i. ap (λ (p : ℕ). part_bytes d.link (length first) i was.records was.front ++ (if p == i then chunk else [])) w.part
+      (λ i. ap (λ (p : ℕ). part_bytes d.link (length first) i was.records was.front
+      ++ (if p == i then chunk else [])) w.part
       ∙ bytes-more d.link (length first) i was.records was.front chunk d.number w.enough w.number)
-      (λ i. ap (λ (p : ℕ). part_numbers d.link (length first) i was.records was.front ++ (if p == i then [] else [])) w.part
+      (λ i. ap (λ (p : ℕ). part_numbers d.link (length first) i was.records was.front
+      ++ (if p == i then [] else [])) w.part
       ∙ numbers-more d.link (length first) i was.records was.front chunk d.number w.enough w.number)
       grown)
 
@@ -111,13 +122,15 @@ module _ {W : Type 0} (contents : W → Option (List ℕ)) where
   pub dealt_first : (d e : Dealer) (first old mid new : List (Part W)) (bytes unread : List ℕ) (n : ℕ) → d.left ≡ 0
       → (e.link ≡ d.link) × (e.is_little ≡ d.is_little)
       → e.number ≡ d.number + 1
-      → e.part ≡ part_of (length mid) e.number (pair_of e.link (front_of (take (captured_length (order_of d.is_little) unread) (drop 16 unread))))
+      → e.part ≡ part_of (length mid) e.number
+      (pair_of e.link (front_of (take (captured_length (order_of d.is_little) unread) (drop 16 unread))))
       → e.left ≡ 16 + captured_length (order_of d.is_little) unread
       → 16 + min 82 (captured_length (order_of d.is_little) unread) ≤ length unread
       → n ≡ min e.left (length unread)
       → OneGrows contents old mid e.part [] (big_bytes 8 e.number)
       → OneGrows contents mid new e.part (take n unread) []
-      → IsDealt contents d first old bytes → IsDealt contents (record e { left = e.left - n }) first new (bytes ++ take n unread)
+      → IsDealt contents d first old bytes → IsDealt contents (record e { left = e.left - n }) first new
+      (bytes ++ take n unread)
   dealt_first d e first old mid new bytes unread n none same number part left enough count begun one was =
       let w = was.stands.between none in
       let captured : ℕ = captured_length (order_of d.is_little) unread in
@@ -148,15 +161,18 @@ module _ {W : Type 0} (contents : W → Option (List ℕ)) where
       let grown = AllGrow-one contents first mid new e.part _ _ chunk []
       (AllGrow-one contents first old mid e.part _ _ [] (big_bytes 8 e.number) of_link begun) one in
       settled (record e { left = e.left - n }) first new was.records chunk (bytes ++ chunk)
-      (ap (λ (l : List ℕ). l ++ chunk) (was.are ∙ ap (λ (l : List ℕ). concat was.records ++ l) w.0 ∙ append-nil (concat was.records)))
+      (ap (λ (l : List ℕ). l ++ chunk) (was.are ∙ ap (λ (l : List ℕ). concat was.records ++ l) w.0
+      ∙ append-nil (concat was.records)))
       (subst (λ (b : Bool). AllByRecursion (IsRecord (order_of b)) was.records) (sym same.1) was.stands.whole)
       next at
       (λ more. omega (arith, more, size, count, left, enough)) long
       (omega (arith, size, count, left, captured_same))
       (AllGrow-named contents first new _ _ _ _
-      (λ i. ap (λ (p : ℕ). (part_bytes e.link (length first) i was.records [] ++ (if p == i then [] else [])) ++ (if p == i then chunk else [])) at
+      (λ i. ap (λ (p : ℕ). (part_bytes e.link (length first) i was.records [] ++ (if p == i then [] else []))
+      ++ (if p == i then chunk else [])) at
       ∙ bytes-first e.link (length first) i was.records chunk e.number some next)
-      (λ i. ap (λ (p : ℕ). (part_numbers e.link (length first) i was.records [] ++ (if p == i then big_bytes 8 e.number else [])) ++ (if p == i then [] else [])) at
+      (λ i. ap (λ (p : ℕ). (part_numbers e.link (length first) i was.records []
+      ++ (if p == i then big_bytes 8 e.number else [])) ++ (if p == i then [] else [])) at
       ∙ numbers-first e.link (length first) i was.records chunk e.number some next)
       grown)
 
@@ -205,14 +221,17 @@ module _ {W : Type 0} (contents : W → Option (List ℕ)) where
         records = was.records;
         rest = rest;
         reading = record {
-          are = ap (λ (l : List ℕ). l ++ rest) (was.are ∙ ap (λ (l : List ℕ). concat was.records ++ l) w.0 ∙ append-nil (concat was.records));
+          are = ap (λ (l : List ℕ). l ++ rest) (was.are ∙ ap (λ (l : List ℕ). concat was.records ++ l) w.0
+              ∙ append-nil (concat was.records));
           whole = was.stands.whole;
           none_left = cut;
         };
         parts = AllGrow-named contents first new _ _ _ _
-            (λ i. ap (λ (p : ℕ). (part_bytes d.link (length first) i was.records [] ++ (if p == i then [] else [])) ++ (if p == i then rest else [])) at
+            (λ i. ap (λ (p : ℕ). (part_bytes d.link (length first) i was.records [] ++ (if p == i then [] else []))
+            ++ (if p == i then rest else [])) at
             ∙ bytes-first d.link (length first) i was.records rest e.number some next)
-            (λ i. ap (λ (p : ℕ). (part_numbers d.link (length first) i was.records [] ++ (if p == i then big_bytes 8 e.number else [])) ++ (if p == i then [] else [])) at
+            (λ i. ap (λ (p : ℕ). (part_numbers d.link (length first) i was.records []
+            ++ (if p == i then big_bytes 8 e.number else [])) ++ (if p == i then [] else [])) at
             ∙ numbers-first d.link (length first) i was.records rest e.number some next)
             grown;
       }

@@ -1,5 +1,6 @@
 -- Reads of a file, one after the other, and what was dealt of them.
-use Rattle.std.proofs.Common.{◌≡◌, ◌<◌, ◌∙◌, ℕ, Option, List, [], ◌++◌, length, sym, ap, subst, arith, append_assoc, append-nil}
+use Rattle.std.proofs.Common.{◌≡◌, ◌<◌, ◌∙◌, ℕ, Option, List, [], ◌++◌, length, sym, ap, subst, arith, append_assoc}
+use Rattle.std.proofs.Common.{append-nil}
 use Rattle.std.specs.Io.KnownBytes.{Consumes}
 use Rattle.std.proofs.KnownBytes.{Consumes-nil, Consumes-trans}
 use Rattle.pcap_records.specs.Record.{BeginsWithRecord}
@@ -10,7 +11,8 @@ use Rattle.capture_split.specs.declared.part.Part.{Part}
 
 module _ {W R : Type 0} (contents : W → Option (List ℕ)) (left : R → Option (List ℕ)) where
   -- before the first read
-  pub no_turn : (d : Dealer) (parts : List (Part W)) (reader : R) → HasTurned contents left d d parts parts reader reader []
+  pub no_turn : (d : Dealer) (parts : List (Part W)) (reader : R)
+      → HasTurned contents left d d parts parts reader reader []
   no_turn d parts reader = record {
     given = [];
     consumed = Consumes-nil (left reader);
@@ -31,17 +33,20 @@ module _ {W R : Type 0} (contents : W → Option (List ℕ)) (left : R → Optio
   }
 
   -- one read more, of which some was dealt together with what was unread
-  pub next_turn : (d e f : Dealer) (old mid new : List (Part W)) (before now after : R) (unread more dealt rest : List ℕ)
+  pub next_turn : (d e f : Dealer) (old mid new : List (Part W)) (before now after : R)
+      (unread more dealt rest : List ℕ)
       → Consumes (left now) (left after) more
       → unread ++ more ≡ dealt ++ rest
       → (0 < length rest → (f.left ≡ 0) × ¬ BeginsWithRecord (order_of f.is_little) rest)
-      → ((first : List (Part W)) (bytes : List ℕ) → IsDealt contents e first mid bytes → IsDealt contents f first new (bytes ++ dealt))
+      → ((first : List (Part W)) (bytes : List ℕ) → IsDealt contents e first mid bytes
+      → IsDealt contents f first new (bytes ++ dealt))
       → HasTurned contents left d e old mid before now unread
       → HasTurned contents left d f old new before after rest
   next_turn d e f old mid new before now after unread more dealt rest read same cut step was = record {
     given = was.given ++ dealt;
     consumed = subst (Consumes (left before) (left after))
-        (append_assoc was.given unread more ∙ ap (λ (l : List ℕ). was.given ++ l) same ∙ sym (append_assoc was.given dealt rest))
+        (append_assoc was.given unread more ∙ ap (λ (l : List ℕ). was.given ++ l) same
+        ∙ sym (append_assoc was.given dealt rest))
         (Consumes-trans (left before) (left now) (left after) (was.given ++ unread) more was.consumed read);
     none_whole = cut;
     dealt = λ first bytes is. subst (IsDealt contents f first new) (append_assoc bytes was.given dealt)

@@ -1,6 +1,6 @@
 pub mod Dealt
 pub mod Files
-pub mod Laws
 pub mod Pair
 pub mod Parts
+pub mod laws
 pub mod code

@@ -1,5 +1,6 @@
 -- The endpoints that the front of a packet names (RFC 791, 3.1; RFC 9293, 3.1), and the part that a record goes to.
-use Rattle.std.specs.Prelude.{ℕ, ◌+◌, ◌*◌, ◌/◌, ◌%◌, ◌^◌, ◌==◌, ◌&&◌, Bool, not, nat_lt, if◌then◌else◌, Option, Some, None, List, length, drop, take}
+use Rattle.std.specs.Prelude.{ℕ, ◌+◌, ◌*◌, ◌/◌, ◌%◌, ◌^◌, ◌==◌, ◌&&◌, Bool, not, nat_lt, if◌then◌else◌, Option, Some}
+use Rattle.std.specs.Prelude.{None, List, length, drop, take}
 use Rattle.packet_heads.specs.Ipv4 as ipv4
 use Rattle.packet_heads.specs.Link.{datagram_start}
 use Rattle.packet_heads.specs.Tcp as tcp

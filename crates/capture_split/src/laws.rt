@@ -1,6 +1,6 @@
 //! Laws of the definitions. The functions do nothing; their contracts are the laws.
 
-ghost use Rattle.capture_split.specs.Laws.{EitherOrder, OnePart, SameRecords, SegmentsName};
+ghost use Rattle.capture_split.specs.laws.Parts.{EitherOrder, OnePart, SameRecords, SegmentsName};
 
 /// A record goes to one part, whole.
 pub fn one_part()

@@ -1,5 +1,6 @@
 -- The program's numbers in clap's matches: each has its default at least, and is in its range.
-use Rattle.std.proofs.Common.{ℕ, zero, suc, ◌≡◌, ◌∙◌, ◌<◌, ◌≤◌, ◌&&◌, ap, sym, subst, refl, Bool, true, false, not, List, [], ◌∷◌, length, map, is_some, Some, None, inl, inr, arith, codes, option_map}
+use Rattle.std.proofs.Common.{ℕ, zero, suc, ◌≡◌, ◌∙◌, ◌<◌, ◌≤◌, ◌&&◌, ap, sym, subst, refl, Bool, true, false, not}
+use Rattle.std.proofs.Common.{List, [], ◌∷◌, length, map, is_some, Some, None, inl, inr, arith, codes, option_map}
 use Rattle.std.specs.Prelude.{find, pos, slice_get}
 use Rattle.std.specs.List.{All, slice_index_or}
 use Rattle.std.specs.Str.{bytes_eq}
@@ -7,9 +8,11 @@ use Rattle.std.specs.Borrow.{Bor}
 use Rattle.std.proofs.lemmas.Bool.{eqb-true}
 use Rattle.std.proofs.lemmas.List.{nil_from_length, get_or-map, length-map}
 use Rattle.std.proofs.lemmas.Slice.Eq.{bytes_eq-Decides}
-use Rattle.clap.specs.Words.{Rule, Text, app_of, found_of, matched_of, one_text, read_as, reading_of, rule_of, without_minus, Accepts, IsSignedIn, App}
+use Rattle.clap.specs.Words.{Rule, Text, app_of, found_of, matched_of, one_text, read_as, reading_of, rule_of}
+use Rattle.clap.specs.Words.{without_minus, Accepts, IsSignedIn, App}
 use Rattle.clap.specs.Walk.{is_empty, is_simple_arg, is_free_arg}
-use Rattle.clap.specs.Facts.{Entry, EntryPasses, HasId, PassesArg, WantsDefault, args_of, groups_of, least_values, parser_of, parser_of_value}
+use Rattle.clap.specs.Facts.{Entry, EntryPasses, HasId, PassesArg, WantsDefault, args_of, groups_of, least_values}
+use Rattle.clap.specs.Facts.{parser_of, parser_of_value}
 use Rattle.clap.specs.Built.{IsAuto, IsParsedFrom, IsPlain, IsPlainArg, SameRules}
 use Rattle.clap.specs.Texts.{items_of}
 use Rattle.clap.specs.declared.builder.action.ArgAction.TheVariants.{Set, Count}
@@ -186,7 +189,8 @@ fits c e most numbers ungrouped pass = λ k d lt. elim pass.0 [
 first_number : (vs : List (Bor Text)) (how : Reading) (most : ℕ) → 0 < length vs
     → how ≡ reading_of (value.Signed (pos 1) (pos most))
     → All (λ v. IsSignedIn (pos 1) (pos most) v.now) vs
-    → (t : Text) × (option_map (λ s. read_as how s.now) (slice_get vs 0) ≡ Some (without_minus t)) × IsSignedIn (pos 1) (pos most) t
+    → (t : Text) × (option_map (λ s. read_as how s.now) (slice_get vs 0) ≡ Some (without_minus t)) × IsSignedIn (pos 1)
+    (pos most) t
 first_number [] how most some is all = absurd (omega arith)
 first_number (v ∷ vs) how most some is all = (v.now, rw is refl, all 0 v (omega arith))
 
@@ -202,8 +206,13 @@ found_number c f name most no_groups named numbers values has =
     let ungrouped = no_group c got.0 no_groups (λ empty. named (sym key ∙ empty)) got.3 in
     let first = first_number got.0.1.vals.items got.0.1.reading most (has_values c got.0 most its ungrouped got.3)
     (reads c got.0 most its ungrouped got.3) (fits c got.0 most its ungrouped got.3) in
-    let same : got.0.1 ≡ x.0 = got.1 in
-    (first.0, text x.0 first.0 (subst (λ (y : MatchedArg). option_map (λ s. read_as y.reading s.now) (slice_get y.vals.items 0) ≡ Some (without_minus first.0)) same first.1) x.1, first.2)
+    let same : got.0.1 ≡ x.0 = got.1 in (
+      first.0,
+      text x.0 first.0
+          (subst (λ (y : MatchedArg). option_map (λ s. read_as y.reading s.now) (slice_get y.vals.items 0) ≡ Some
+          (without_minus first.0)) same first.1) x.1,
+      first.2,
+    )
   where
     text : (y : MatchedArg) (t : Text)
         → option_map (λ s. read_as y.reading s.now) (slice_get y.vals.items 0) ≡ Some (without_minus t)

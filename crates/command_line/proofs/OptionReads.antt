@@ -1,5 +1,6 @@
 -- What the getters of clap's matches read for the program's options.
-use Rattle.std.proofs.Common.{ℕ, ◌≡◌, ◌∙◌, ◌<◌, ◌≤◌, ◌^◌, ap, sym, subst, refl, Bool, true, false, List, Option, Some, None, Result, codes, option_map}
+use Rattle.std.proofs.Common.{ℕ, ◌≡◌, ◌∙◌, ◌<◌, ◌≤◌, ◌^◌, ap, sym, subst, refl, Bool, true, false, List, Option, Some}
+use Rattle.std.proofs.Common.{None, Result, codes, option_map}
 use Rattle.std.specs.Prelude.{unwrap_or, SomeIff, IsSome}
 use Rattle.std.specs.Bool.{Decides}
 use Rattle.std.specs.Str.Parse.{ParsesBool, ParsesUnsigned, ExplainsUnsignedError, HasUnsignedDigitsIfOk}
@@ -10,7 +11,7 @@ use Rattle.clap.proofs.CallerReads.{signed_reads}
 use Rattle.clap.proofs.WalkLemmas.{one_text-rows}
 use Rattle.command_line.specs.declared.options.Options.{Options}
 use Rattle.command_line.specs.Asked.{IsFound, IsNumberOf}
-use Rattle.command_line.specs.Choices.{Choices, choices}
+use Rattle.command_line.specs.code.Choices.{Choices, choices}
 use Rattle.command_line.specs.code.Numbers.{HasNumber}
 
 -- what `u32` reads in a text
@@ -54,7 +55,10 @@ flag_read E f name r none reads = rw (sym (one_text-rows f name)) (go (one_text 
         → Decides (unwrap_or o false) (Some t ≡ Some (codes "true"))
     at_text t (Some true) is = (λ _. ap Some is, λ _. refl)
     at_text t (Some false) is = (λ e. let bad : false ≡ true = e in cc, λ e. cc)
-    at_text t None is = (λ e. let bad : false ≡ true = e in cc, λ e. absurd (is.1.0 (ap (λ (o : Option Text). unwrap_or o t) e)))
+    at_text t None is = (
+      λ e. let bad : false ≡ true = e in cc,
+      λ e. absurd (is.1.0 (ap (λ (o : Option Text). unwrap_or o t) e)),
+    )
 
     go : (o : Option Text) → one_text f name ≡ o → Decides (unwrap_or r false) (o ≡ Some (codes "true"))
     go None e = rw (none e) (λ h. let bad : false ≡ true = h in cc, λ h. cc)

@@ -1,5 +1,3 @@
-pub mod Options
-pub mod Choices
 pub mod Words
 pub mod Asked
 pub mod laws

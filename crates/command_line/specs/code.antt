@@ -1,2 +1,4 @@
 pub mod Arguments
 pub mod Numbers
+pub mod Options
+pub mod Choices

@@ -1,5 +1,5 @@
 ghost use Rattle.std.specs.Prelude.{◌≡◌, ◌<◌, SomeIff, option_map};
-ghost use Rattle.command_line.specs.Options.{AreInRange};
+ghost use Rattle.command_line.specs.code.Options.{AreInRange};
 
 /// How a capture is audited and what its report shows.
 ///
@@ -14,7 +14,7 @@ pub struct Options {
 }
 
 impl Options {
-    ghost use Rattle.command_line.specs.Choices.{choices};
+    ghost use Rattle.command_line.specs.code.Choices.{choices};
 
     /// The greatest number of worker threads.
     pub const MOST_WORKERS: u32 = 64;

@@ -1,15 +1,16 @@
 -- The run of a block, item by item.
-use Rattle.std.proofs.Common.{◌≡◌, ℕ, ◌^◌, ◌+◌, Bool, true, false, cond, List, [], ◌∷◌, ◌++◌, append_assoc, sym, ap, ◌∙◌, refl, arith}
+use Rattle.std.proofs.Common.{◌≡◌, ℕ, ◌^◌, ◌+◌, Bool, true, false, cond, List, [], ◌∷◌, ◌++◌, append_assoc, sym, ap}
+use Rattle.std.proofs.Common.{◌∙◌, refl, arith}
 use Rattle.audit_terms.specs.declared.connections.ConnectionState.{ConnectionState}
 use Rattle.audit_terms.specs.declared.items.Item.{Item}
 use Rattle.audit_terms.specs.declared.findings.Finding.{Finding}
 use Rattle.audit_terms.specs.Finding.{in_order, is_shown, shown}
 use Rattle.audit_terms.specs.Connection.{connection_said, connection_after}
-use Rattle.audit_terms.specs.runs.Blocks.{block_run}
+use Rattle.audit_terms.specs.code.runs.Blocks.{block_run}
 use Rattle.audit_terms.specs.code.Room.{HasRoom}
 use Rattle.conn_scan.specs.declared.block_items.Block.{Block}
-use Rattle.conn_scan.specs.Block.{BlockFits}
-use Rattle.conn_scan.specs.Items.{items_in, IsBlock}
+use Rattle.conn_scan.specs.code.Block.{BlockFits}
+use Rattle.conn_scan.specs.code.Items.{items_in, IsBlock}
 use Rattle.conn_scan.specs.code.Walk.{walked}
 use Rattle.conn_scan.specs.code.CreditLaws.{room-wider}
 use Rattle.conn_scan.proofs.WalkLemmas.{walked-items_with}

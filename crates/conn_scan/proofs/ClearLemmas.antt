@@ -1,5 +1,7 @@
 -- What the summary of a block tells is what its items do.
-use Rattle.std.proofs.Common.{◌≡◌, ℕ, min, max, ◌%◌, ℤ, pos, neg_ℤ, ◌+ℤ◌, ◌-ℤ◌, Bool, true, false, ◌&&◌, ◌||◌, not, ◌==◌, nat_lt, nat_le, ◌<ℤ◌, ◌≤ℤ◌, int_lt, int_le, if◌then◌else◌, List, [], ◌∷◌, map, Option, Some, None, refl, sym, ap, ◌∙◌, ⊎_elim, arith}
+use Rattle.std.proofs.Common.{◌≡◌, ℕ, min, max, ◌%◌, ℤ, pos, neg_ℤ, ◌+ℤ◌, ◌-ℤ◌, Bool, true, false, ◌&&◌, ◌||◌, not}
+use Rattle.std.proofs.Common.{◌==◌, nat_lt, nat_le, ◌<ℤ◌, ◌≤ℤ◌, int_lt, int_le, if◌then◌else◌, List, [], ◌∷◌, map}
+use Rattle.std.proofs.Common.{Option, Some, None, refl, sym, ap, ◌∙◌, ⊎_elim, arith}
 use Rattle.std.specs.Prelude.{unwrap_or, is_none}
 use Rattle.std.specs.List.{list_all}
 use Rattle.std.specs.Int.{int_max, int_min}
@@ -12,13 +14,16 @@ use Rattle.audit_terms.specs.declared.items.Item.{Item}
 use Rattle.audit_terms.specs.Frame.{is_server_promise, promised_in}
 use Rattle.audit_terms.specs.Window.{largest_window}
 use Rattle.audit_terms.specs.Connection.{is_opened_by_headers, connection_after}
-use Rattle.conn_scan.specs.Credit.{credit_of}
-use Rattle.conn_scan.specs.SideCredit.{change_of}
-use Rattle.conn_scan.specs.Rising.{least_of, rise, present, rising_of}
-use Rattle.conn_scan.specs.Ids.{opened_in, promised_by}
-use Rattle.conn_scan.specs.Latest.{limit_in, push_in, is_zero, lesser, least_limit, longest_by, grants_zero, some_zero_grant, some_odd_promise, some_early_promise, some_barred_promise, latest_of}
-use Rattle.conn_scan.specs.ConnSum.{conn_sum_of}
-use Rattle.conn_scan.specs.Clear.{connections, is_usable, keeps_credit, grants_something, openings_rise, promises_allowed, promises_rise, is_clear}
+use Rattle.conn_scan.specs.code.Credit.{credit_of}
+use Rattle.conn_scan.specs.code.SideCredit.{change_of}
+use Rattle.conn_scan.specs.code.Rising.{least_of, rise, present, rising_of}
+use Rattle.conn_scan.specs.code.Ids.{opened_in, promised_by}
+use Rattle.conn_scan.specs.code.Latest.{limit_in, push_in, is_zero, lesser, least_limit, longest_by, grants_zero}
+use Rattle.conn_scan.specs.code.Latest.{some_zero_grant, some_odd_promise, some_early_promise, some_barred_promise}
+use Rattle.conn_scan.specs.code.Latest.{latest_of}
+use Rattle.conn_scan.specs.code.ConnSum.{conn_sum_of}
+use Rattle.conn_scan.specs.code.Clear.{connections, is_usable, keeps_credit, grants_something, openings_rise}
+use Rattle.conn_scan.specs.code.Clear.{promises_allowed, promises_rise, is_clear}
 use Rattle.conn_scan.specs.code.CreditLaws.{high, low, high-next, low-next}
 use Rattle.conn_scan.specs.code.LatestLaws.{limit_is, push_is}
 use Rattle.conn_scan.specs.code.Cleared.{credit_clear, ids_clear, push_clear, is_within, length_clear, sum_clear}

@@ -6,9 +6,9 @@ use Rattle.audit_terms.specs.declared.findings.Finding.{Finding}
 use Rattle.audit_terms.specs.declared.frames.Frame.{Frame}
 use Rattle.audit_terms.specs.declared.items.Item.{Item}
 use Rattle.audit_terms.specs.Connection.{connection_said, connection_after}
-use Rattle.audit_terms.specs.runs.Blocks.{block_run}
+use Rattle.audit_terms.specs.code.runs.Blocks.{block_run}
 use Rattle.audit_terms.specs.Finding.{in_order}
-use Rattle.audit_terms.specs.runs.Orderly.{IsInRange, IsOrderlyFrom}
+use Rattle.audit_terms.specs.code.runs.Orderly.{IsInRange, IsOrderlyFrom}
 use Rattle.audit_terms.specs.Place.{place_number}
 use Rattle.audit_terms.proofs.FindingLists.{each-append, each-in_order, each-weaker}
 use Rattle.audit_terms.proofs.SaidPlaces.{IsBelow, IsFrom, at-connection, numbered-at}

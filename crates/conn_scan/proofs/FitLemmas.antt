@@ -6,11 +6,12 @@ use Rattle.audit_terms.specs.declared.sides.Side.TheVariants.{Client, Server}
 use Rattle.audit_terms.specs.declared.connections.ConnectionState.{ConnectionState}
 use Rattle.audit_terms.specs.declared.items.Item.{Item}
 use Rattle.audit_terms.specs.Connection.{connection_after}
-use Rattle.audit_terms.specs.runs.Blocks.{connection_after_all}
+use Rattle.audit_terms.specs.code.runs.Blocks.{connection_after_all}
 use Rattle.audit_terms.specs.code.Room.{HasRoom}
-use Rattle.block_scan.specs.List.{items_of}
-use Rattle.conn_scan.specs.SideCredit.{change_of}
-use Rattle.conn_scan.specs.Block.{MovesLittle, BlocksFit}
+use Rattle.block_scan.specs.code.List.{items_of}
+use Rattle.conn_scan.specs.code.SideCredit.{change_of}
+use Rattle.conn_scan.specs.code.Block.{MovesLittle}
+use Rattle.conn_scan.specs.laws.Blocks.{BlocksFit}
 use Rattle.conn_scan.specs.code.CreditLaws.{room-wider}
 
 moved_room : (n : ℕ) (credit change : ℤ) → HasRoom n credit → HasRoom (2 ^ 32) change

@@ -1,5 +1,6 @@
 -- A block's run between two items, and how it goes on.
-use Rattle.std.proofs.Common.{◌≡◌, ℕ, ◌+◌, ◌-◌, ◌*◌, ◌^◌, ◌≤◌, Bool, List, [], ◌∷◌, ◌++◌, append_assoc, length, map, All, Option, Some, None, refl, sym, ap, ◌∙◌, subst, arith, length-append}
+use Rattle.std.proofs.Common.{◌≡◌, ℕ, ◌+◌, ◌-◌, ◌*◌, ◌^◌, ◌≤◌, Bool, List, [], ◌∷◌, ◌++◌, append_assoc, length, map}
+use Rattle.std.proofs.Common.{All, Option, Some, None, refl, sym, ap, ◌∙◌, subst, arith, length-append}
 use Rattle.std.specs.List.{AllByRecursion}
 use Rattle.std.proofs.lemmas.List.Elements.{All-from_recursion}
 use Rattle.audit_terms.specs.declared.connections.ConnectionState.{ConnectionState}
@@ -9,16 +10,16 @@ use Rattle.audit_terms.specs.declared.items.Change.{Change}
 use Rattle.audit_terms.specs.declared.items.Item.{Item}
 use Rattle.audit_terms.specs.declared.looks.Watch.{Watch}
 use Rattle.audit_terms.specs.Connection.{connection_said, connection_after}
-use Rattle.audit_terms.specs.runs.Blocks.{block_run}
+use Rattle.audit_terms.specs.code.runs.Blocks.{block_run}
 use Rattle.audit_terms.specs.Finding.{in_order, is_shown, shown}
-use Rattle.audit_terms.specs.runs.Orderly.{IsOrderlyFrom}
-use Rattle.audit_terms.specs.runs.Look.{found_before, up_to, steps_between, IsRun}
+use Rattle.audit_terms.specs.code.runs.Orderly.{IsOrderlyFrom}
+use Rattle.audit_terms.specs.code.runs.Look.{found_before, up_to, steps_between, IsRun}
 use Rattle.audit_terms.specs.Place.{place_number}
 use Rattle.audit_terms.specs.code.Watch.{Watches, IsStopped, NeverFallFrom}
 use Rattle.audit_terms.proofs.Watching.{ends, is-cut}
 use Rattle.block_scan.specs.code.Shown.{append_nil}
 use Rattle.conn_scan.specs.declared.block_items.Block.{Block}
-use Rattle.conn_scan.specs.Items.{items_with, items_in, IsBlock}
+use Rattle.conn_scan.specs.code.Items.{items_with, items_in, IsBlock}
 use Rattle.conn_scan.proofs.BlockLemmas.{shown_next}
 use Rattle.audit_terms.proofs.FindingLists.{each-append, each-filter, each-weaker}
 use Rattle.audit_terms.proofs.SaidPlaces.{IsBelow, before-front}
@@ -57,7 +58,8 @@ numbered : (low : ℕ) (found : List Finding) → low ≤ 2 ^ 28 - 1 → AllByRe
     → All (λ (one : Finding). place_number one.place ≤ 2 ^ 28 - 2) found
 numbered low found narrow below =
     All-from_recursion (λ (one : Finding). place_number one.place ≤ 2 ^ 28 - 2) found
-    (each-weaker (IsBelow low) (λ (one : Finding). place_number one.place ≤ 2 ^ 28 - 2) (λ one lt. omega arith) found below)
+    (each-weaker (IsBelow low) (λ (one : Finding). place_number one.place ≤ 2 ^ 28 - 2) (λ one lt. omega arith) found
+    below)
 
 -- the run of a whole block, before its first item
 pub begins : {L : Type 0} (answers : L → List Finding → Option ℕ → L → Type 0) (before : L) (credits : Bool)
@@ -136,13 +138,15 @@ module _ {L : Type 0} (answers : L → List Finding → Option ℕ → L → Typ
         → IsRun answers before after numbers whole kept then.stop then.stop then.looks
     stops after kept then on cut =
         subst (λ at. IsRun answers before after at whole kept then.stop then.stop then.looks) h.all
-        (is-cut answers before whole after (h.met ++ item.frame.number ∷ numbers_of (frames_of left)) item.frame.number then
+        (is-cut answers before whole after (h.met ++ item.frame.number ∷ numbers_of (frames_of left))
+        item.frame.number then
         kept (on before whole h.met (numbers_of (frames_of left)) is-found h.watches)
         (cut ∙ ap (up_to then.stop) is-found))
 
     pub stops-numbered : (kept : List Finding) (stop : Option ℕ) → kept ≡ up_to stop found
         → All (λ (one : Finding). place_number one.place ≤ 2 ^ 28 - 2) kept
-    stops-numbered kept stop cut = numbered h.low kept h.narrow (subst (AllByRecursion (IsBelow h.low)) (sym cut) (up stop))
+    stops-numbered kept stop cut = numbered h.low kept h.narrow
+        (subst (AllByRecursion (IsBelow h.low)) (sym cut) (up stop))
       where
         up : (stop : Option ℕ) → AllByRecursion (IsBelow h.low) (up_to stop found)
         up None = h.below

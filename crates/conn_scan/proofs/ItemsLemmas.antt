@@ -1,5 +1,6 @@
 -- The items of a connection's frames are those of the pass, and those of consecutive blocks join.
-use Rattle.std.proofs.Common.{◌≡◌, ℕ, ◌+◌, ◌<◌, ◌≤◌, ◌==◌, Bool, true, false, ◌||◌, ◌&&◌, cond, List, [], ◌∷◌, ◌++◌, append_assoc, Option, Some, None, refl, sym, ap, ◌∙◌, arith}
+use Rattle.std.proofs.Common.{◌≡◌, ℕ, ◌+◌, ◌<◌, ◌≤◌, ◌==◌, Bool, true, false, ◌||◌, ◌&&◌, cond, List, [], ◌∷◌, ◌++◌}
+use Rattle.std.proofs.Common.{append_assoc, Option, Some, None, refl, sym, ap, ◌∙◌, arith}
 use Rattle.std.specs.List.{AllByRecursion, list_any}
 use Rattle.std.specs.Option.{option_to_list}
 use Rattle.std.proofs.lemmas.Bool.{eq-eqb, ne_eqb}
@@ -8,13 +9,13 @@ use Rattle.audit_terms.specs.declared.settings.Settings.{Settings}
 use Rattle.audit_terms.specs.declared.items.Change.{Change}
 use Rattle.audit_terms.specs.declared.items.Item.{Item}
 use Rattle.audit_terms.specs.Frame.{is_headers}
-use Rattle.audit_terms.specs.runs.Orderly.{IsOrderlyFrom}
+use Rattle.audit_terms.specs.code.runs.Orderly.{IsOrderlyFrom}
 use Rattle.audit_terms.specs.InForce.{InForce, taken, change_taking, change_of, in_force_after}
-use Rattle.audit_terms.specs.runs.Changes.{changes_from}
+use Rattle.audit_terms.specs.code.runs.Changes.{changes_from}
 use Rattle.audit_terms.specs.Pass.{PassState, pass_start, item_of, next}
-use Rattle.audit_terms.specs.runs.States.{items_from}
-use Rattle.conn_scan.specs.Items.{is_marked, change_at, item_with, items_with}
-use Rattle.conn_scan.specs.ItemsLaw.{ItemsAreThePass, AreSplit, ItemsOfBlocksJoin}
+use Rattle.audit_terms.specs.code.runs.States.{items_from}
+use Rattle.conn_scan.specs.code.Items.{is_marked, change_at, item_with, items_with}
+use Rattle.conn_scan.specs.laws.Items.{ItemsAreThePass, AreSplit, ItemsOfBlocksJoin}
 
 -- ---- the changes of the pass
 
@@ -22,7 +23,8 @@ use Rattle.conn_scan.specs.ItemsLaw.{ItemsAreThePass, AreSplit, ItemsOfBlocksJoi
 abbrev LacksNumber : ℕ → List Change → Type 0
 LacksNumber number changes = AllByRecursion (λ (change : Change). change.number ≡ number → ⊥) changes
 
-find-lacking : (frame : Frame) (changes : List Change) → LacksNumber frame.number changes → change_at changes frame ≡ None
+find-lacking : (frame : Frame) (changes : List Change) → LacksNumber frame.number changes
+    → change_at changes frame ≡ None
 find-lacking frame [] h = refl
 find-lacking frame (change ∷ changes) h =
     rw (ne_eqb change.number frame.number h.0) (find-lacking frame changes h.1)
@@ -153,7 +155,8 @@ changes_above number n [] h lt = tt
 changes_above number n (x ∷ a) h lt = ((λ e. absurd (omega (arith, h.0, e))), changes_above number n a h.1 lt)
 
 module _ (number : ℕ) (opened opened' : List ℕ) (changes changes' : List Change)
-    (o : AreSplit number (λ n. n) opened opened') (c : AreSplit number (λ (x : Change). x.number) changes changes') where
+    (o : AreSplit number (λ n. n) opened opened')
+    (c : AreSplit number (λ (x : Change). x.number) changes changes') where
   item-first : (frame : Frame) → frame.number < number
       → item_with (opened ++ opened') (changes ++ changes') frame ≡ item_with opened changes frame
   item-first frame lt =
@@ -186,7 +189,8 @@ module _ (number : ℕ) (opened opened' : List ℕ) (changes changes' : List Cha
       ≡ items_with opened changes frames ++ items_with opened' changes' frames'
   items-both [] frames' h k = items-later frames' k
   items-both (frame ∷ frames) frames' h k =
-      ap (λ item. item ∷ items_with (opened ++ opened') (changes ++ changes') (frames ++ frames')) (item-first frame h.0)
+      ap (λ item. item ∷ items_with (opened ++ opened') (changes ++ changes') (frames ++ frames'))
+      (item-first frame h.0)
       ∙ ap (λ items. item_with opened changes frame ∷ items) (items-both frames frames' h.1 k)
 
 pub items_of_blocks_join : ItemsOfBlocksJoin

@@ -1,5 +1,7 @@
 -- A clear block shows connection credit alone.
-use Rattle.std.proofs.Common.{◌≡◌, ℕ, ◌<◌, ◌≤◌, ℤ, pos, ◌+ℤ◌, ◌-ℤ◌, ◌<ℤ◌, ◌≤ℤ◌, int_lt, int_le, nat_lt, nat_le, Bool, true, false, ◌&&◌, ◌||◌, not, cond, if◌then◌else◌, List, [], ◌∷◌, ◌++◌, refl, ap, ◌∙◌, arith, true≢false, ⊎_elim}
+use Rattle.std.proofs.Common.{◌≡◌, ℕ, ◌<◌, ◌≤◌, ℤ, pos, ◌+ℤ◌, ◌-ℤ◌, ◌<ℤ◌, ◌≤ℤ◌, int_lt, int_le, nat_lt, nat_le, Bool}
+use Rattle.std.proofs.Common.{true, false, ◌&&◌, ◌||◌, not, cond, if◌then◌else◌, List, [], ◌∷◌, ◌++◌, refl, ap, ◌∙◌}
+use Rattle.std.proofs.Common.{arith, true≢false, ⊎_elim}
 use Rattle.std.specs.List.{AllByRecursion, list_all}
 use Rattle.std.proofs.lemmas.Int.{ints}
 use Rattle.std.proofs.lemmas.Bool.{and_parts, not-true, le-ltb, leb-true, cases_lt, and_left, and_right}
@@ -18,11 +20,14 @@ use Rattle.audit_terms.specs.Frame.{is_content, content_by, grant_to, grants_not
 use Rattle.audit_terms.specs.Window.{largest_window, is_used_up, overflows, overruns, stall_ends, stall_begins}
 use Rattle.audit_terms.specs.Change.{new_limit}
 use Rattle.audit_terms.specs.Finding.{say, in_order, shown}
-use Rattle.audit_terms.specs.Connection.{credit_after, length_said, connection_window_said, connection_said, connection_after}
-use Rattle.audit_terms.specs.runs.Blocks.{block_run}
+use Rattle.audit_terms.specs.Connection.{credit_after, length_said, connection_window_said, connection_said}
+use Rattle.audit_terms.specs.Connection.{connection_after}
+use Rattle.audit_terms.specs.code.runs.Blocks.{block_run}
 use Rattle.audit_terms.proofs.FindingLists.{each-append, each-in_order, each-said}
-use Rattle.conn_scan.specs.Latest.{length_by, longest_by}
-use Rattle.conn_scan.specs.Clear.{connections, is_usable, keeps_credit, grants_something, openings_rise, promises_allowed, promises_rise, ClearShowsCredit}
+use Rattle.conn_scan.specs.code.Latest.{length_by, longest_by}
+use Rattle.conn_scan.specs.code.Clear.{connections, is_usable, keeps_credit, grants_something, openings_rise}
+use Rattle.conn_scan.specs.code.Clear.{promises_allowed, promises_rise}
+use Rattle.conn_scan.specs.laws.Clear.{ClearShowsCredit}
 
 abbrev IsCredit : Finding → Type 0
 IsCredit found = found.kind ≡ ConnectionCredit

@@ -1,5 +1,6 @@
 -- Items that each move a credit by at most 2^32 fit the summaries.
-use Rattle.std.proofs.Common.{◌≡◌, ℕ, ℤ, pos, ◌-◌, ◌*◌, ◌^◌, ◌≤◌, List, [], ◌∷◌, ◌++◌, length, length-append, map, arith, refl, sym, ap}
+use Rattle.std.proofs.Common.{◌≡◌, ℕ, ℤ, pos, ◌-◌, ◌*◌, ◌^◌, ◌≤◌, List, [], ◌∷◌, ◌++◌, length, length-append, map}
+use Rattle.std.proofs.Common.{arith, refl, sym, ap}
 use Rattle.std.proofs.lemmas.Int.{ints}
 use Rattle.std.specs.List.{AllByRecursion}
 use Rattle.audit_terms.specs.declared.sides.Side.TheVariants.{Client, Server}
@@ -7,12 +8,12 @@ use Rattle.audit_terms.specs.declared.connections.ConnectionState.{ConnectionSta
 use Rattle.audit_terms.specs.declared.items.Item.{Item}
 use Rattle.audit_terms.specs.Connection.{connection_start}
 use Rattle.audit_terms.specs.code.Room.{HasRoom}
-use Rattle.conn_scan.specs.Credit.{AreSmall}
-use Rattle.conn_scan.specs.SideCredit.{change_of}
-use Rattle.block_scan.specs.Laws.{summary_of}
-use Rattle.block_scan.specs.List.{state_after}
-use Rattle.conn_scan.specs.ConnSum.{parts_of, parts_step}
-use Rattle.conn_scan.specs.Block.{MovesLittle, BlockFits}
+use Rattle.conn_scan.specs.code.Credit.{AreSmall}
+use Rattle.conn_scan.specs.code.SideCredit.{change_of}
+use Rattle.block_scan.specs.code.Summary.{summary_of}
+use Rattle.block_scan.specs.code.List.{state_after}
+use Rattle.conn_scan.specs.code.ConnSum.{parts_of, parts_step}
+use Rattle.conn_scan.specs.code.Block.{MovesLittle, BlockFits}
 use Rattle.conn_scan.specs.code.CreditLaws.{room-wider}
 use Rattle.conn_scan.specs.code.ConnSumLaws.{conn_none, conn_one, conn_join, ConnFits, conn_laws}
 

@@ -1,13 +1,3 @@
-pub mod Credit
-pub mod SideCredit
-pub mod Rising
-pub mod Ids
-pub mod Latest
-pub mod ConnSum
-pub mod Items
-pub mod ItemsLaw
-pub mod Block
-pub mod Clear
-pub mod StallInBlocks
-pub mod ScanSums
+pub mod laws
+pub mod examples
 pub mod code

@@ -7,3 +7,12 @@ pub mod LatestLaws
 pub mod ConnSumLaws
 pub mod Walk
 pub mod Cleared
+pub mod Credit
+pub mod SideCredit
+pub mod Rising
+pub mod Ids
+pub mod Latest
+pub mod ConnSum
+pub mod Items
+pub mod Block
+pub mod Clear

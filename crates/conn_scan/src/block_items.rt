@@ -1,8 +1,8 @@
 ghost use Rattle.std.specs.Prelude.{◌≡◌, IfOk};
 ghost use Rattle.std.specs.Iterator.{YieldsFirst, item_count};
-ghost use Rattle.conn_scan.specs.Items.{items_with, items_in, NeverFallFrom, IsBlock};
-ghost use Rattle.audit_terms.specs.runs.Orderly.{IsOrderly};
-ghost use Rattle.settings_pair.specs.Changes.{AreOrderly};
+ghost use Rattle.conn_scan.specs.code.Items.{items_with, items_in, NeverFallFrom, IsBlock};
+ghost use Rattle.audit_terms.specs.code.runs.Orderly.{IsOrderly};
+ghost use Rattle.settings_pair.specs.code.Changes.{AreOrderly};
 ghost use Rattle.conn_scan.specs.code.Walk.{numbers_from, changes_from, is_first, first_change, item_at, walked};
 
 use audit_terms::{Change, Frame, Item};

@@ -3,15 +3,15 @@ ghost use Rattle.std.specs.Bool.{OnTrue, OnFalse};
 ghost use Rattle.audit_terms.specs.declared.findings.Finding.{Finding as FindingTerm};
 ghost use Rattle.audit_terms.specs.declared.frames.Frame.{Frame as FrameTerm};
 ghost use Rattle.audit_terms.specs.Place.{place_number};
-ghost use Rattle.audit_terms.specs.runs.Look.{IsRun, up_to, found_before, steps_between};
+ghost use Rattle.audit_terms.specs.code.runs.Look.{IsRun, up_to, found_before, steps_between};
 ghost use Rattle.audit_terms.specs.code.Watch.{Watches, IsStopped};
-ghost use Rattle.audit_terms.specs.runs.Orderly.{IsInRange};
+ghost use Rattle.audit_terms.specs.code.runs.Orderly.{IsInRange};
 ghost use Rattle.audit_terms.specs.Connection.{connection_said, connection_after};
-ghost use Rattle.audit_terms.specs.runs.Blocks.{block_run};
+ghost use Rattle.audit_terms.specs.code.runs.Blocks.{block_run};
 ghost use Rattle.audit_terms.specs.Finding.{in_order, shown};
 ghost use Rattle.audit_terms.specs.code.Room.{HasRoom};
-ghost use Rattle.conn_scan.specs.Items.{items_in, IsBlock};
-ghost use Rattle.conn_scan.specs.Block.{BlockFits};
+ghost use Rattle.conn_scan.specs.code.Items.{items_in, IsBlock};
+ghost use Rattle.conn_scan.specs.code.Block.{BlockFits};
 
 use crate::block_items::Block;
 use audit_terms::{

@@ -1,9 +1,9 @@
 ghost use Rattle.std.specs.Prelude.{◌≡◌, List, map, IfOk};
 ghost use Rattle.std.specs.List.{AllByRecursion};
 ghost use Rattle.audit_terms.specs.declared.items.Item.{Item};
-ghost use Rattle.block_scan.specs.List.{items_of};
-ghost use Rattle.conn_scan.specs.ConnSum.{conn_sum_of, parts_of};
-ghost use Rattle.conn_scan.specs.Block.{MovesLittle, BlockFits, connections_before};
+ghost use Rattle.block_scan.specs.code.List.{items_of};
+ghost use Rattle.conn_scan.specs.code.ConnSum.{conn_sum_of, parts_of};
+ghost use Rattle.conn_scan.specs.code.Block.{MovesLittle, BlockFits, connections_before};
 ghost use Rattle.conn_scan.specs.code.ConnSumLaws.{state_of};
 
 use crate::latest::InForce;

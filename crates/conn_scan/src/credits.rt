@@ -28,7 +28,7 @@ impl Credit {
 }
 
 impl Summary for Credit {
-    ghost use Rattle.conn_scan.specs.Credit.{no_change, one_change, credit_join, credit_advance, ChangesFit};
+    ghost use Rattle.conn_scan.specs.code.Credit.{no_change, one_change, credit_join, credit_advance, ChangesFit};
     ghost use Rattle.conn_scan.specs.code.CreditLaws.{credit_laws};
 
     type Item = i64;

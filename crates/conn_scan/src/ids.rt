@@ -1,5 +1,5 @@
 ghost use Rattle.std.specs.Prelude.{◌≡◌};
-ghost use Rattle.conn_scan.specs.Ids.{opened_in, promised_by};
+ghost use Rattle.conn_scan.specs.code.Ids.{opened_in, promised_by};
 
 use crate::rising::Rising;
 use audit_terms::Item;
@@ -38,8 +38,9 @@ pub struct OpenedIds {
 }
 
 impl Summary for OpenedIds {
-    ghost use Rattle.conn_scan.specs.Rising.{no_identifier, one_identifier, rising_join, greatest_after, greatest_advance};
-    ghost use Rattle.conn_scan.specs.Ids.{opened_ids, opened_in, AnyFit};
+    ghost use Rattle.conn_scan.specs.code.Rising.{no_identifier, one_identifier, rising_join, greatest_after};
+    ghost use Rattle.conn_scan.specs.code.Rising.{greatest_advance};
+    ghost use Rattle.conn_scan.specs.code.Ids.{opened_ids, opened_in, AnyFit};
     ghost use Rattle.conn_scan.specs.code.IdsLaws.{opened_laws};
 
     type Item = Item;
@@ -90,8 +91,9 @@ pub struct PromisedIds {
 }
 
 impl Summary for PromisedIds {
-    ghost use Rattle.conn_scan.specs.Rising.{no_identifier, one_identifier, rising_join, greatest_after, greatest_advance};
-    ghost use Rattle.conn_scan.specs.Ids.{promised_ids, promised_by, AnyFit};
+    ghost use Rattle.conn_scan.specs.code.Rising.{no_identifier, one_identifier, rising_join, greatest_after};
+    ghost use Rattle.conn_scan.specs.code.Rising.{greatest_advance};
+    ghost use Rattle.conn_scan.specs.code.Ids.{promised_ids, promised_by, AnyFit};
     ghost use Rattle.conn_scan.specs.code.IdsLaws.{promised_laws};
 
     type Item = Item;

@@ -1,5 +1,6 @@
 ghost use Rattle.std.specs.Prelude.{◌≡◌};
-ghost use Rattle.conn_scan.specs.Latest.{limit_in, push_in, length_by, grants_zero, promises_odd, is_zero, newer, lesser};
+ghost use Rattle.conn_scan.specs.code.Latest.{limit_in, push_in, length_by, grants_zero, promises_odd, is_zero, newer};
+ghost use Rattle.conn_scan.specs.code.Latest.{lesser};
 
 use audit_terms::{Change, Item, Side, Sides};
 use block_scan::Summary;
@@ -112,7 +113,8 @@ fn lesser(a: Option<u32>, b: Option<u32>) -> Option<u32>
 }
 
 impl Summary for Latest {
-    ghost use Rattle.conn_scan.specs.Latest.{no_item, one_item, latest_join, latest_advance, in_force_after, SettingsFit};
+    ghost use Rattle.conn_scan.specs.code.Latest.{no_item, one_item, latest_join, latest_advance, in_force_after};
+    ghost use Rattle.conn_scan.specs.code.Latest.{SettingsFit};
     ghost use Rattle.conn_scan.specs.code.LatestLaws.{latest_laws};
 
     type Item = Item;

@@ -1,10 +1,11 @@
 //! Promises about the definitions alone: functions that do nothing, and whose contracts are the laws.
-ghost use Rattle.conn_scan.specs.Block.{BlocksFit};
-ghost use Rattle.conn_scan.specs.Clear.{ClearShowsCredit};
-ghost use Rattle.conn_scan.specs.ConnSum.{PartsFollow};
-ghost use Rattle.conn_scan.specs.ItemsLaw.{ItemsAreThePass, ItemsOfBlocksJoin};
-ghost use Rattle.conn_scan.specs.StallInBlocks.{StallItemsFound, StallByOne, StallByTwo, StallAtOnce, ClearFrames};
-ghost use Rattle.conn_scan.specs.ScanSums.{StatesFound, FirstSumFound, LastSumFound, CarriesFound};
+ghost use Rattle.conn_scan.specs.laws.Blocks.{BlocksFit};
+ghost use Rattle.conn_scan.specs.laws.Clear.{ClearShowsCredit};
+ghost use Rattle.conn_scan.specs.code.ConnSum.{PartsFollow};
+ghost use Rattle.conn_scan.specs.laws.Items.{ItemsAreThePass, ItemsOfBlocksJoin};
+ghost use Rattle.conn_scan.specs.examples.StallInBlocks.{StallItemsFound, StallByOne, StallByTwo, StallAtOnce};
+ghost use Rattle.conn_scan.specs.examples.StallInBlocks.{ClearFrames};
+ghost use Rattle.conn_scan.specs.examples.ScanSums.{StatesFound, FirstSumFound, LastSumFound, CarriesFound};
 
 /// A window of 65,535 bytes is used up, 1 byte is granted, 1 byte is sent: the credit after each change, the summaries
 /// of the first two changes and of the last one, and the credit before each of these blocks.

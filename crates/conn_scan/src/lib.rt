@@ -13,7 +13,7 @@
 //! - [`carries_of`] is the connection before each block. [`block_findings`] is what a block shows from there, up to the
 //!   place at which its look has it end, with the looks made in time (`IsRun` of `audit_terms`).
 //! - [`clear`] tells by a summary that a block shows nothing but connection credit ([`laws::clear_shows_credit`]). It
-//!   is exact for `is_clear` of `specs/Clear.antt`, both ways.
+//!   is exact for `is_clear` of `specs/code/Clear.antt`, both ways.
 //!
 //! [`laws`] say too that the items of a connection are those of the pass and that those of consecutive blocks join, and
 //! that each block fits where all blocks fit the first connection: `block_findings` asks for credits that its items

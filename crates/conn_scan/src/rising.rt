@@ -14,7 +14,8 @@ pub struct Rising {
 }
 
 impl Summary for Rising {
-    ghost use Rattle.conn_scan.specs.Rising.{no_identifier, one_identifier, rising_join, greatest_after, greatest_advance};
+    ghost use Rattle.conn_scan.specs.code.Rising.{no_identifier, one_identifier, rising_join, greatest_after};
+    ghost use Rattle.conn_scan.specs.code.Rising.{greatest_advance};
     ghost use Rattle.conn_scan.specs.code.RisingLaws.{Fit, rising_laws};
 
     type Item = Option<u32>;

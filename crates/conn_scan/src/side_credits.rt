@@ -1,6 +1,6 @@
 ghost use Rattle.std.specs.Prelude.{◌≡◌, ◌^◌};
 ghost use Rattle.audit_terms.specs.code.Room.{HasRoom};
-ghost use Rattle.conn_scan.specs.SideCredit.{change_of};
+ghost use Rattle.conn_scan.specs.code.SideCredit.{change_of};
 
 use crate::credits::Credit;
 use audit_terms::{Item, Side};
@@ -23,8 +23,8 @@ pub struct ClientCredit {
 impl Summary for ClientCredit {
     ghost use Rattle.audit_terms.specs.declared.sides.Side.TheVariants.{Client};
     ghost use Rattle.audit_terms.specs.Connection.{credit_after};
-    ghost use Rattle.conn_scan.specs.Credit.{no_change, one_change, credit_join, credit_advance};
-    ghost use Rattle.conn_scan.specs.SideCredit.{client_credit, change_of, ItemsFit};
+    ghost use Rattle.conn_scan.specs.code.Credit.{no_change, one_change, credit_join, credit_advance};
+    ghost use Rattle.conn_scan.specs.code.SideCredit.{client_credit, change_of, ItemsFit};
     ghost use Rattle.conn_scan.specs.code.SideCreditLaws.{client_laws};
 
     type Item = Item;
@@ -77,8 +77,8 @@ pub struct ServerCredit {
 impl Summary for ServerCredit {
     ghost use Rattle.audit_terms.specs.declared.sides.Side.TheVariants.{Server};
     ghost use Rattle.audit_terms.specs.Connection.{credit_after};
-    ghost use Rattle.conn_scan.specs.Credit.{no_change, one_change, credit_join, credit_advance};
-    ghost use Rattle.conn_scan.specs.SideCredit.{server_credit, change_of, ItemsFit};
+    ghost use Rattle.conn_scan.specs.code.Credit.{no_change, one_change, credit_join, credit_advance};
+    ghost use Rattle.conn_scan.specs.code.SideCredit.{server_credit, change_of, ItemsFit};
     ghost use Rattle.conn_scan.specs.code.SideCreditLaws.{server_laws};
 
     type Item = Item;

@@ -1,8 +1,8 @@
 ghost use Rattle.std.specs.Prelude.{◌≡◌, ◌≤◌, ◌^◌, length};
 ghost use Rattle.std.specs.List.{AllByRecursion};
-ghost use Rattle.conn_scan.specs.Items.{items_in, IsBlock};
-ghost use Rattle.conn_scan.specs.Block.{MovesLittle};
-ghost use Rattle.conn_scan.specs.ConnSum.{conn_sum_of};
+ghost use Rattle.conn_scan.specs.code.Items.{items_in, IsBlock};
+ghost use Rattle.conn_scan.specs.code.Block.{MovesLittle};
+ghost use Rattle.conn_scan.specs.code.ConnSum.{conn_sum_of};
 ghost use Rattle.conn_scan.specs.code.ConnSumLaws.{conn_one};
 
 use crate::block_items::Block;

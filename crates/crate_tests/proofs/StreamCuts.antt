@@ -1,17 +1,18 @@
 -- What the run of a stream keeps is a cut of what its job has to find.
-use Rattle.std.proofs.Common.{◌≡◌, ℕ, zero, suc, ◌-◌, ◌^◌, ◌≤◌, true, [], ◌∷◌, List, All, slice_get, Option, Some, None, refl, sym, ap, ◌∙◌, subst, arith}
+use Rattle.std.proofs.Common.{◌≡◌, ℕ, zero, suc, ◌-◌, ◌^◌, ◌≤◌, true, [], ◌∷◌, List, All, slice_get, Option, Some, None}
+use Rattle.std.proofs.Common.{refl, sym, ap, ◌∙◌, subst, arith}
 use Rattle.audit_terms.specs.declared.findings.Finding.{Finding}
 use Rattle.audit_terms.specs.declared.items.Change.{Change}
 use Rattle.audit_terms.specs.Finding.{shown}
-use Rattle.audit_terms.specs.runs.Look.{IsRun}
+use Rattle.audit_terms.specs.code.runs.Look.{IsRun}
 use Rattle.audit_terms.specs.Place.{place_number}
-use Rattle.audit_terms.specs.runs.Streams.{stream_run}
-use Rattle.split_merge.specs.Board.{Job, IsCut}
+use Rattle.audit_terms.specs.code.runs.Streams.{stream_run}
+use Rattle.split_merge.specs.code.Board.{Job, IsCut}
 use Rattle.stream_credit.specs.declared.parts.StreamPart.{StreamPart}
-use Rattle.stream_credit.specs.Part.{part_frames, IsPart}
+use Rattle.stream_credit.specs.code.Part.{part_frames, IsPart}
 use Rattle.stream_groups.proofs.StreamOrder.{shown-ordered}
 use Rattle.stream_groups.proofs.StreamWork.{work-of_run}
-use Rattle.crate_tests.specs.StreamJobs.{job_of}
+use Rattle.crate_tests.specs.code.StreamJobs.{job_of}
 
 pub stream-cut : {L : Type 0} (answers : L → List Finding → Option ℕ → L → Type 0) (before after : L)
     (numbers : List ℕ) (part : StreamPart) (changes : List Change) (one : Job) (kept : List Finding)

@@ -1,6 +1,2 @@
-pub mod Captured
-pub mod Connections
-pub mod Offsets
-pub mod Bodies
-pub mod Frames
-pub mod StreamJobs
+pub mod examples
+pub mod code

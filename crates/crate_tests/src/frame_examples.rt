@@ -1,8 +1,14 @@
-//! Worked examples of frames, which stand with their answers in `specs/Bodies.antt` and `specs/Frames.antt`. The
-//! functions do nothing; each contract is the example.
+//! Worked examples of frames, which stand with their answers in `specs/examples/Bodies.antt` and
+//! `specs/examples/Frames.antt`. The functions do nothing; each contract is the example.
 
-ghost use Rattle.crate_tests.specs.Bodies.{Continuations, Data, FirstPairOutOfRange, GoAwayLengths, HeadersPadded, HeadersPlain, HeadersWithBoth, HeadersWithPriority, Increments, InitialWindowRange, LastValueOutOfRange, LaterPairOutOfRange, MaxFrameSizeRange, OtherSettings, PaddedData, PaddedPushPromises, PingLengths, PriorityLengths, PushPromises, PushRange, RstStreamLengths, SettingsAckLengths, SettingsLengths, UnknownTypes, WindowUpdateLengths};
-ghost use Rattle.crate_tests.specs.Frames.{FrameHeaders, FramesInOrder, LastByteArrives, PrefaceOctets};
+ghost use Rattle.crate_tests.specs.examples.Bodies.{Continuations, Data, FirstPairOutOfRange, GoAwayLengths};
+ghost use Rattle.crate_tests.specs.examples.Bodies.{HeadersPadded, HeadersPlain, HeadersWithBoth, HeadersWithPriority};
+ghost use Rattle.crate_tests.specs.examples.Bodies.{Increments, InitialWindowRange, LastValueOutOfRange};
+ghost use Rattle.crate_tests.specs.examples.Bodies.{LaterPairOutOfRange, MaxFrameSizeRange, OtherSettings, PaddedData};
+ghost use Rattle.crate_tests.specs.examples.Bodies.{PaddedPushPromises, PingLengths, PriorityLengths, PushPromises};
+ghost use Rattle.crate_tests.specs.examples.Bodies.{PushRange, RstStreamLengths, SettingsAckLengths, SettingsLengths};
+ghost use Rattle.crate_tests.specs.examples.Bodies.{UnknownTypes, WindowUpdateLengths};
+ghost use Rattle.crate_tests.specs.examples.Frames.{FrameHeaders, FramesInOrder, LastByteArrives, PrefaceOctets};
 
 /// The connection preface of a client (RFC 9113, 3.4).
 pub fn connection_preface()

@@ -1,8 +1,11 @@
-//! Worked examples of connections and of offsets, which stand with their answers in `specs/Connections.antt` and
-//! `specs/Offsets.antt`. The functions do nothing; each contract is the example.
+//! Worked examples of connections and of offsets, which stand with their answers in `specs/examples/Connections.antt`
+//! and `specs/examples/Offsets.antt`. The functions do nothing; each contract is the example.
 
-ghost use Rattle.crate_tests.specs.Connections.{FirstSynAckOfTheServer, OneEndpoint, OpenedAfterStrays, OpenedTwice, PortsTellApart, RepeatedSyn, StraysOfTwoPairs, SynFromTheOtherEnd};
-ghost use Rattle.crate_tests.specs.Offsets.{BelowOffsetZero, FirstRecordWins, LastOffset, PayloadOfSyn, WrappedArrivals, WrappedSources};
+ghost use Rattle.crate_tests.specs.examples.Connections.{FirstSynAckOfTheServer, OneEndpoint, OpenedAfterStrays};
+ghost use Rattle.crate_tests.specs.examples.Connections.{OpenedTwice, PortsTellApart, RepeatedSyn, StraysOfTwoPairs};
+ghost use Rattle.crate_tests.specs.examples.Connections.{SynFromTheOtherEnd};
+ghost use Rattle.crate_tests.specs.examples.Offsets.{BelowOffsetZero, FirstRecordWins, LastOffset, PayloadOfSyn};
+ghost use Rattle.crate_tests.specs.examples.Offsets.{WrappedArrivals, WrappedSources};
 
 /// Which connection a segment belongs to (RFC 9293, 3.5 and 4).
 pub fn openings_and_members()

@@ -1,5 +1,7 @@
 -- Frames in pieces.
-use Rattle.std.proofs.Common.{◌≡◌, ℕ, zero, suc, ◌+◌, ◌-◌, ◌*◌, ◌<◌, ◌≤◌, true, false, if◌then◌else◌, List, [], ◌∷◌, ◌++◌, All, Option, Some, length, get_or, take, drop, map, flat_map, refl, sym, ap, ◌∙◌, append_assoc, arith}
+use Rattle.std.proofs.Common.{◌≡◌, ℕ, zero, suc, ◌+◌, ◌-◌, ◌*◌, ◌<◌, ◌≤◌, true, false, if◌then◌else◌, List, [], ◌∷◌}
+use Rattle.std.proofs.Common.{◌++◌, All, Option, Some, length, get_or, take, drop, map, flat_map, refl, sym, ap, ◌∙◌}
+use Rattle.std.proofs.Common.{append_assoc, arith}
 use Rattle.std.specs.Prelude.{Result, Ok, IfOk}
 use Rattle.std.specs.List.{AllZip, AllByRecursion, range_with_len}
 use Rattle.std.specs.Fork.{slice_chunk}
@@ -15,10 +17,10 @@ use Rattle.audit_terms.specs.declared.frames.Frame.{Frame}
 use Rattle.audit_terms.specs.declared.findings.Finding.{Finding}
 use Rattle.audit_terms.specs.Side.{is_side}
 use Rattle.audit_terms.specs.Sides.{side_of}
-use Rattle.audit_terms.specs.runs.Orderly.{IsInRange, IsOrderlyFrom}
+use Rattle.audit_terms.specs.code.runs.Orderly.{IsInRange, IsOrderlyFrom}
 use Rattle.audit_terms.specs.Finding.{in_order}
 use Rattle.audit_terms.specs.LocalFault.{local_said, previous_after, no_previous}
-use Rattle.audit_terms.specs.runs.LocalFaults.{local_run_from, local_run}
+use Rattle.audit_terms.specs.code.runs.LocalFaults.{local_run_from, local_run}
 use Rattle.fault_rules.specs.code.Pieces.{previous_after_all, last_from, before_piece, piece_run}
 
 -- the local faults of two lists of frames, one after the other
@@ -80,7 +82,8 @@ last_from-own side before frames back d l e =
     ∙ ap (λ i. Some (get_or frames i d)) (sym place)
 
 -- one more of those before the pieces
-pub befores-push : (size : ℕ) (frames : List Frame) (befores : List (Sides (Option Frame))) (next : Sides (Option Frame)) (n : ℕ)
+pub befores-push : (size : ℕ) (frames : List Frame) (befores : List (Sides (Option Frame)))
+    (next : Sides (Option Frame)) (n : ℕ)
     → length befores ≡ n → next ≡ before_piece size frames n
     → ((k : ℕ) (d : Sides (Option Frame)) → k < length befores → get_or befores k d ≡ before_piece size frames k)
     → (k : ℕ) (d : Sides (Option Frame)) → k < length (befores ++ next ∷ [])

@@ -2,10 +2,10 @@
 
 ghost use Rattle.std.specs.Prelude.{◌≡◌, ◌*◌, ◌<◌, ◌++◌, length, All, IfOk, OnOk, flat_map};
 ghost use Rattle.std.specs.Fork.{slice_chunk};
-ghost use Rattle.audit_terms.specs.runs.Orderly.{IsInRange, IsOrderly};
+ghost use Rattle.audit_terms.specs.code.runs.Orderly.{IsInRange, IsOrderly};
 ghost use Rattle.audit_terms.specs.Finding.{in_order};
 ghost use Rattle.audit_terms.specs.LocalFault.{local_said, no_previous};
-ghost use Rattle.audit_terms.specs.runs.LocalFaults.{local_run_from, local_run};
+ghost use Rattle.audit_terms.specs.code.runs.LocalFaults.{local_run_from, local_run};
 ghost use Rattle.fault_rules.specs.code.Pieces.{piece_run, AreBefores};
 
 use crate::previous::{meet, previous_after_all};

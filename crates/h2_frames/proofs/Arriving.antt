@@ -1,5 +1,6 @@
 -- Going on in a flow's arrivals.
-use Rattle.std.proofs.Common.{◌≡◌, ℕ, ◌+◌, ◌-◌, ◌^◌, ◌<◌, ◌≤◌, Bool, true, false, cond, List, [], ◌∷◌, length, get_or, refl, ap₂, arith}
+use Rattle.std.proofs.Common.{◌≡◌, ℕ, ◌+◌, ◌-◌, ◌^◌, ◌<◌, ◌≤◌, Bool, true, false, cond, List, [], ◌∷◌, length, get_or}
+use Rattle.std.proofs.Common.{refl, ap₂, arith}
 use Rattle.std.specs.Prelude.{nat_lt}
 use Rattle.std.specs.List.{AllByRecursion}
 use Rattle.std.proofs.lemmas.Bool.Decides.{nat_tests}
@@ -18,7 +19,8 @@ past : (m k : ℕ) → nat_lt m k ≡ false → k ≤ m
 past m k e = grind (arith, nat_tests)
 
 -- a later byte arrives as it did
-byte_arrival-from : (o p : ℕ) (arrivals : List Arrival) → o ≤ p → byte_arrival (arrivals_from o arrivals) p ≡ byte_arrival arrivals p
+byte_arrival-from : (o p : ℕ) (arrivals : List Arrival) → o ≤ p → byte_arrival (arrivals_from o arrivals) p
+    ≡ byte_arrival arrivals p
 byte_arrival-from o p [] h = refl
 byte_arrival-from o p (a ∷ later) h = by (nat_lt o a.upto) refl (byte_arrival-from o p later h)
   where
@@ -28,8 +30,10 @@ byte_arrival-from o p (a ∷ later) h = by (nat_lt o a.upto) refl (byte_arrival-
     by false e same = let over = below_later o p a.upto e h in rw over same
 
 -- so do later frames
-pub captured_from-from : (side : Side) (arrivals : List Arrival) (o number offset : ℕ) (spelled : List Spelled) → o ≤ offset →
-    captured_from side (arrivals_from o arrivals) number offset spelled ≡ captured_from side arrivals number offset spelled
+pub captured_from-from : (side : Side) (arrivals : List Arrival) (o number offset : ℕ) (spelled : List Spelled)
+    → o ≤ offset →
+    captured_from side (arrivals_from o arrivals) number offset spelled ≡ captured_from side arrivals number offset
+    spelled
 captured_from-from side arrivals o number offset [] h = refl
 captured_from-from side arrivals o number offset (s ∷ later) h =
     let upto = offset + (9 + s.header.length) in
@@ -51,7 +55,8 @@ get_or-arrivals_from o (a ∷ later) d h = by (nat_lt o a.upto) refl (get_or-arr
     by false e rest h = rw e (rest h)
 
 -- each byte of the flow arrives
-pub arrivals_from-not_empty : (low rec high o : ℕ) (arrivals : List Arrival) → Rises low rec arrivals high → low ≤ o → o < high →
+pub arrivals_from-not_empty : (low rec high o : ℕ) (arrivals : List Arrival) → Rises low rec arrivals high → low ≤ o
+    → o < high →
     0 < length (arrivals_from o arrivals)
 arrivals_from-not_empty low rec high o [] rises h k = absurd (omega arith)
 arrivals_from-not_empty low rec high o (a ∷ later) rises h k =
@@ -78,7 +83,8 @@ arrivals_from-rise low rec high o (a ∷ later) rises h =
     by false e rest = rest (past o a.upto e)
 
 -- and come at times of the capture
-pub arrivals_from-timely : (o : ℕ) (arrivals : List Arrival) → AllByRecursion (λ (a : Arrival). a.nanos < 2 ^ 63) arrivals →
+pub arrivals_from-timely : (o : ℕ) (arrivals : List Arrival)
+    → AllByRecursion (λ (a : Arrival). a.nanos < 2 ^ 63) arrivals →
     AllByRecursion (λ (a : Arrival). a.nanos < 2 ^ 63) (arrivals_from o arrivals)
 arrivals_from-timely o [] all = all
 arrivals_from-timely o (a ∷ later) all = by (nat_lt o a.upto) (arrivals_from-timely o later all.1)
@@ -88,7 +94,8 @@ arrivals_from-timely o (a ∷ later) all = by (nat_lt o a.upto) (arrivals_from-t
     by true rest = all
     by false rest = rest
 
-pub first_timely : (arrivals : List Arrival) (d : Arrival) → AllByRecursion (λ (a : Arrival). a.nanos < 2 ^ 63) arrivals →
+pub first_timely : (arrivals : List Arrival) (d : Arrival)
+    → AllByRecursion (λ (a : Arrival). a.nanos < 2 ^ 63) arrivals →
     0 < length arrivals → (get_or arrivals 0 d).nanos < 2 ^ 63
 first_timely [] d all h = absurd (omega arith)
 first_timely (a ∷ later) d all h = all.0

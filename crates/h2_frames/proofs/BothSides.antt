@@ -2,7 +2,7 @@
 use Rattle.std.proofs.Common.{◌≡◌, ℕ, ◌+◌, List, length, ap, ap₂, ◌∙◌, arith, length-append}
 use Rattle.tcp_streams.specs.declared.streams.Flow.{Flow}
 use Rattle.tcp_streams.specs.Bytes.{bytes_of}
-use Rattle.tcp_streams.specs.Orderly.{IsOrderly}
+use Rattle.tcp_streams.specs.code.Orderly.{IsOrderly}
 use Rattle.audit_terms.specs.declared.sides.Side.TheVariants.{Client, Server}
 use Rattle.audit_terms.specs.declared.sides.Sides.{Sides}
 use Rattle.audit_terms.specs.declared.frames.Frame.{Frame}
@@ -27,8 +27,10 @@ pub http2-is : (client server : Flow) (rest : List ℕ) (sent answered all frame
 http2-is client server rest sent answered all frames sent_tail answered_tail sent_length answered_length
     begins client_flow server_flow first second all_are frames_are sent_size answered_size =
     let size : length (bytes_of client) ≡ 24 + length rest = ap length begins ∙ length-append preface rest in
-    let sent_order = captured-in_order Client client.arrivals.items (length (bytes_of client)) client_flow.rises 24 first.0 rest sent_tail first.1 (omega arith) in
-    let answered_order = captured-in_order Server server.arrivals.items (length (bytes_of server)) server_flow.rises 0 second.0 (bytes_of server) answered_tail second.1 (omega arith) in
+    let sent_order = captured-in_order Client client.arrivals.items (length (bytes_of client)) client_flow.rises 24
+    first.0 rest sent_tail first.1 (omega arith) in
+    let answered_order = captured-in_order Server server.arrivals.items (length (bytes_of server)) server_flow.rises 0
+    second.0 (bytes_of server) answered_tail second.1 (omega arith) in
     record {
       after_preface = rest;
       client_frames = first.0;

@@ -1,5 +1,6 @@
 -- Going on in bytes that lie in pieces.
-use Rattle.std.proofs.Common.{◌≡◌, ℕ, zero, suc, ◌+◌, ◌-◌, ◌<◌, ◌≤◌, List, [], ◌∷◌, ◌++◌, length, get_or, take, drop, refl, ap, sym, ◌∙◌, arith, append_assoc, add-one, length-append, length-drop, drop-cons}
+use Rattle.std.proofs.Common.{◌≡◌, ℕ, zero, suc, ◌+◌, ◌-◌, ◌<◌, ◌≤◌, List, [], ◌∷◌, ◌++◌, length, get_or, take, drop}
+use Rattle.std.proofs.Common.{refl, ap, sym, ◌∙◌, arith, append_assoc, add-one, length-append, length-drop, drop-cons}
 use Rattle.std.proofs.Math.Seq.{take-length}
 use Rattle.std.specs.Borrow.{Bor}
 use Rattle.h2_frames.specs.declared.pieces.Pieces.{Pieces}
@@ -26,12 +27,14 @@ joined-over (p ∷ ps) zero h = absurd (omega arith)
 joined-over (p ∷ ps) (suc i) h = joined-over ps i (omega arith)
 
 -- past a piece that is over the bytes are the same
-pub gone_on : (first : List ℕ) (later rest : List (Bor (List ℕ))) (d : Bor (List ℕ)) → length first ≡ 0 → 0 < length later →
+pub gone_on : (first : List ℕ) (later rest : List (Bor (List ℕ))) (d : Bor (List ℕ)) → length first ≡ 0
+    → 0 < length later →
     rest ≡ take (length later - 1) (drop 1 later) → (get_or later 0 d).now ++ joined rest ≡ first ++ joined later
 gone_on first later rest d over more rest_is =
     let from = joined-from later 0 d more in
     let size : length later - 1 ≡ length (drop 1 later) = sym (length-drop 1 later) in
-    let whole : rest ≡ drop 1 later = rest_is ∙ ap (λ (n : ℕ). take n (drop 1 later)) size ∙ take-length (drop 1 later) in
+    let whole : rest ≡ drop 1 later = rest_is ∙ ap (λ (n : ℕ). take n (drop 1 later)) size
+    ∙ take-length (drop 1 later) in
     rw whole (sym from ∙ sym (none_before first (joined later) over))
 
 -- some of the bytes were taken, and so many are still wanted
@@ -43,7 +46,8 @@ pub record IsPartlyTaken (count wanted : ℕ) (old new : Pieces) : Type 0 where
   pub there : wanted ≤ length (bytes_of new)
 
 -- one part more
-abbrev pub partly_taken-turn : (count wanted : ℕ) (old now next : Pieces) (part : List ℕ) → IsPartlyTaken count wanted old now →
+abbrev pub partly_taken-turn : (count wanted : ℕ) (old now next : Pieces) (part : List ℕ)
+    → IsPartlyTaken count wanted old now →
     bytes_of now ≡ part ++ bytes_of next → length part ≤ wanted → IsCounted next →
     IsPartlyTaken count (wanted - length part) old next
 partly_taken-turn count wanted old now next part taken part_is fits counted =

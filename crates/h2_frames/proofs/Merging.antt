@@ -1,5 +1,6 @@
 -- Frames that stand in order are merged into order.
-use Rattle.std.proofs.Common.{◌≡◌, ℕ, suc, ◌+◌, ◌-◌, ◌^◌, ◌<◌, ◌≤◌, Bool, true, false, cond, List, [], ◌∷◌, ◌++◌, length, refl, ap, sym, ◌∙◌, arith, length-append}
+use Rattle.std.proofs.Common.{◌≡◌, ℕ, suc, ◌+◌, ◌-◌, ◌^◌, ◌<◌, ◌≤◌, Bool, true, false, cond, List, [], ◌∷◌, ◌++◌}
+use Rattle.std.proofs.Common.{length, refl, ap, sym, ◌∙◌, arith, length-append}
 use Rattle.std.specs.Prelude.{nat_lt, ◌==◌, ◌&&◌, ◌||◌}
 use Rattle.std.specs.List.{AllByRecursion}
 use Rattle.std.proofs.lemmas.Bool.Decides.{nat_tests}
@@ -9,7 +10,7 @@ use Rattle.audit_terms.specs.declared.sides.Side.{Side}
 use Rattle.audit_terms.specs.declared.frames.Frame.{Frame}
 use Rattle.audit_terms.specs.Order.{put_by, ordered_by}
 use Rattle.audit_terms.specs.Side.{side_order}
-use Rattle.audit_terms.specs.runs.Orderly.{IsOrderlyFrom}
+use Rattle.audit_terms.specs.code.runs.Orderly.{IsOrderlyFrom}
 use Rattle.h2_frames.specs.code.Merge.{merged, merged_with}
 use Rattle.h2_frames.specs.code.Steps.{IsReadable}
 use Rattle.h2_frames.specs.declared.spelling.Spelled.{Spelled}
@@ -20,14 +21,16 @@ use Rattle.h2_frames.specs.CaptureOrder.{byte_arrival, captured, captured_from, 
 is_above : (a b c x y z : ℕ) → Bool
 is_above a b c x y z = nat_lt x a || ((a == x) && (nat_lt y b || ((b == y) && nat_lt z c)))
 
-above_trans : (a b c x y z p q r : ℕ) → is_above a b c x y z ≡ false → is_above a b c p q r ≡ true → is_above x y z p q r ≡ true
+above_trans : (a b c x y z p q r : ℕ) → is_above a b c x y z ≡ false → is_above a b c p q r ≡ true
+    → is_above x y z p q r ≡ true
 unfolding is_above
 above_trans a b c x y z p q r h k = grind (arith, nat_tests)
 
 -- what comes after a frame comes before those that the frame does not come after
 after_trans : (x y z : Frame) → comes_after x y ≡ false → comes_after x z ≡ true → comes_after y z ≡ true
 unfolding is_above
-after_trans x y z h k = above_trans x.rec x.number (side_order x.side) y.rec y.number (side_order y.side) z.rec z.number (side_order z.side) h k
+after_trans x y z h k = above_trans x.rec x.number (side_order x.side) y.rec y.number (side_order y.side) z.rec z.number
+    (side_order z.side) h k
 
 -- no frame comes after the next, and x not after the first
 abbrev pub IsAscendingFrom : Frame → List Frame → Type 0
@@ -68,7 +71,8 @@ put-merge x (c ∷ xs) (y ∷ ys) h = by (comes_after x y) refl (put-merge x (c 
   where
     by : (test : Bool) → comes_after x y ≡ test →
         put_by comes_after x (merged (c ∷ xs) ys) ≡ merged (x ∷ c ∷ xs) ys →
-        put_by comes_after x (merged (c ∷ xs) (y ∷ ys)) ≡ cond test (y ∷ merged (x ∷ c ∷ xs) ys) (x ∷ merged (c ∷ xs) (y ∷ ys))
+        put_by comes_after x (merged (c ∷ xs) (y ∷ ys)) ≡ cond test (y ∷ merged (x ∷ c ∷ xs) ys)
+        (x ∷ merged (c ∷ xs) (y ∷ ys))
     by true e rest = let past = after_trans x c y h.0 e in rw (past, e) (ap (λ (zs : List Frame). y ∷ zs) rest)
     by false e rest = both (comes_after c y)
       where
@@ -93,14 +97,16 @@ rec_above low rec high o [] rises h k = absurd (omega arith)
 rec_above low rec high o (a ∷ later) rises h k =
     by (nat_lt o a.upto) refl (λ past. rec_above a.upto a.rec high o later rises.2 past k)
   where
-    by : (test : Bool) → nat_lt o a.upto ≡ test → (a.upto ≤ o → a.rec ≤ (byte_arrival later o).rec) → rec ≤ (byte_arrival (a ∷ later) o).rec
+    by : (test : Bool) → nat_lt o a.upto ≡ test → (a.upto ≤ o → a.rec ≤ (byte_arrival later o).rec)
+        → rec ≤ (byte_arrival (a ∷ later) o).rec
     by true e rest = let above : rec < a.rec = rises.1 in rw e (omega arith)
     by false e rest =
         let above : rec < a.rec = rises.1 in
         let past : a.rec ≤ (byte_arrival later o).rec = rest (grind (arith, nat_tests)) in
         rw e (omega arith)
 
-pub rec_rises : (low rec high o p : ℕ) (arrivals : List Arrival) → Rises low rec arrivals high → low ≤ o → o ≤ p → p < high →
+pub rec_rises : (low rec high o p : ℕ) (arrivals : List Arrival) → Rises low rec arrivals high → low ≤ o → o ≤ p
+    → p < high →
     (byte_arrival arrivals o).rec ≤ (byte_arrival arrivals p).rec
 rec_rises low rec high o p [] rises h k l = absurd (omega arith)
 rec_rises low rec high o p (a ∷ later) rises h k l =
@@ -122,14 +128,16 @@ later_number x y h k = grind (arith, nat_tests)
 
 -- a side's frames stand in order
 captured-ascending : (side : Side) (arrivals : List Arrival) (high : ℕ) → Rises 0 0 arrivals high →
-    (number offset : ℕ) (spelled : List Spelled) (bytes tail : List ℕ) → Spells bytes spelled tail → offset + length bytes ≤ high →
+    (number offset : ℕ) (spelled : List Spelled) (bytes tail : List ℕ) → Spells bytes spelled tail
+    → offset + length bytes ≤ high →
     (x : Frame) (last : ℕ) → x.number < number → last ≤ offset → x.rec ≡ (byte_arrival arrivals last).rec →
     IsAscendingFrom x (captured_from side arrivals number offset spelled)
 captured-ascending side arrivals high rises number offset [] bytes tail spells within x last h k e = tt
 captured-ascending side arrivals high rises number offset (s ∷ later) bytes tail spells within x last h k e =
     let header = spells.0 in let payload = spells.1 in let rest = spells.2 in
     let makes = spells.4 in
-    let size : length bytes ≡ (length header + length payload) + length rest = simp length-append at (ap length spells.3) in
+    let size : length bytes ≡ (length header + length payload) + length rest = simp length-append at
+    (ap length spells.3) in
     let nine : length header ≡ 9 = makes.nine in
     let whole : length payload ≡ s.header.length = makes.whole in
     let upto = offset + (9 + s.header.length) in
@@ -141,13 +149,15 @@ captured-ascending side arrivals high rises number offset (s ∷ later) bytes ta
     )
 
 pub captured-in_order : (side : Side) (arrivals : List Arrival) (high : ℕ) → Rises 0 0 arrivals high →
-    (offset : ℕ) (spelled : List Spelled) (bytes tail : List ℕ) → Spells bytes spelled tail → offset + length bytes ≤ high →
+    (offset : ℕ) (spelled : List Spelled) (bytes tail : List ℕ) → Spells bytes spelled tail
+    → offset + length bytes ≤ high →
     IsAscending (captured_from side arrivals 1 offset spelled)
 captured-in_order side arrivals high rises offset [] bytes tail spells within = tt
 captured-in_order side arrivals high rises offset (s ∷ later) bytes tail spells within =
     let header = spells.0 in let payload = spells.1 in let rest = spells.2 in
     let makes = spells.4 in
-    let size : length bytes ≡ (length header + length payload) + length rest = simp length-append at (ap length spells.3) in
+    let size : length bytes ≡ (length header + length payload) + length rest = simp length-append at
+    (ap length spells.3) in
     let nine : length header ≡ 9 = makes.nine in
     let whole : length payload ≡ s.header.length = makes.whole in
     let upto = offset + (9 + s.header.length) in
@@ -160,13 +170,20 @@ pub merged-capture_order : (client server : List Frame) → IsAscending client �
 merged-capture_order client server h k = ap (numbered 1) (sym (ordered-merge client server h k))
 
 -- frames in range, numbered upwards, are orderly
-pub numbered-orderly : (low number : ℕ) (frames : List Frame) → AllByRecursion IsReadable (numbered number frames) → low ≤ number →
+pub numbered-orderly : (low number : ℕ) (frames : List Frame) → AllByRecursion IsReadable (numbered number frames)
+    → low ≤ number →
     number + length frames < 2 ^ 28 → IsOrderlyFrom low (numbered number frames)
 numbered-orderly low number [] all h k = tt
 numbered-orderly low number (f ∷ frames) all h k =
     let readable : IsReadable (record f { number = number }) = all.0 in (
       h,
-      record { number = omega arith; stream = readable.stream; promised = readable.promised; length = readable.length; nanos = readable.nanos },
+      record {
+        number = omega arith;
+        stream = readable.stream;
+        promised = readable.promised;
+        length = readable.length;
+        nanos = readable.nanos;
+      },
       numbered-orderly (number + 1) (number + 1) frames all.1 (omega arith) (omega arith),
     )
 

@@ -1,5 +1,6 @@
 -- One frame is read of what is ahead.
-use Rattle.std.proofs.Common.{◌≡◌, ℕ, ◌+◌, ◌-◌, ◌^◌, ◌<◌, ◌≤◌, List, ◌∷◌, ◌++◌, length, get_or, ap, ap₂, ◌∙◌, arith, length-append}
+use Rattle.std.proofs.Common.{◌≡◌, ℕ, ◌+◌, ◌-◌, ◌^◌, ◌<◌, ◌≤◌, List, ◌∷◌, ◌++◌, length, get_or, ap, ap₂, ◌∙◌, arith}
+use Rattle.std.proofs.Common.{length-append}
 use Rattle.std.specs.List.{AllByRecursion}
 use Rattle.tcp_streams.specs.declared.streams.Arrival.{Arrival}
 use Rattle.audit_terms.specs.declared.sides.Side.{Side}
@@ -12,20 +13,24 @@ use Rattle.h2_frames.specs.CaptureOrder.{byte_arrival, captured, captured_from}
 use Rattle.h2_frames.specs.code.Pieces.{bytes_of, IsCounted}
 use Rattle.h2_frames.specs.code.Steps.{arrivals_from, IsReadable}
 use Rattle.h2_frames.specs.code.Unread.{AreAhead, IsPlaced}
-use Rattle.h2_frames.proofs.Arriving.{captured_from-from, get_or-arrivals_from, arrivals_from-not_empty, arrivals_from-rise, arrivals_from-timely, first_timely}
+use Rattle.h2_frames.proofs.Arriving.{captured_from-from, get_or-arrivals_from, arrivals_from-not_empty}
+use Rattle.h2_frames.proofs.Arriving.{arrivals_from-rise, arrivals_from-timely, first_timely}
 
 -- the parts of the bytes make up their length
-split_length : (bytes header payload later : List ℕ) (s : Spelled) → bytes ≡ header ++ payload ++ later → Makes header payload s →
+split_length : (bytes header payload later : List ℕ) (s : Spelled) → bytes ≡ header ++ payload ++ later
+    → Makes header payload s →
     length bytes ≡ 9 + s.header.length + length later
 split_length bytes header payload later s split makes =
-    let size : length bytes ≡ (length header + length payload) + length later = simp length-append at (ap length split) in
+    let size : length bytes ≡ (length header + length payload) + length later = simp length-append at
+    (ap length split) in
     let nine : length header ≡ 9 = makes.nine in
     let whole : length payload ≡ s.header.length = makes.whole in
     omega arith
 
 -- the first whole frame ahead has an arrival
 pub frame_arrives : (unread : Unread) → IsPlaced unread →
-    (s : Spelled) (header payload later : List ℕ) → bytes_of unread.bytes ≡ header ++ payload ++ later → Makes header payload s →
+    (s : Spelled) (header payload later : List ℕ) → bytes_of unread.bytes ≡ header ++ payload ++ later
+    → Makes header payload s →
     (last : ℕ) → last ≡ unread.offset + (9 + s.header.length) - 1 → 0 < length (arrivals_from last unread.arrivals.now)
 frame_arrives unread placed s header payload later split makes last last_is =
     let size = split_length (bytes_of unread.bytes) header payload later s split makes in
@@ -34,7 +39,8 @@ frame_arrives unread placed s header payload later split makes last last_is =
 
 -- past that frame
 pub placed_after : (unread after : Unread) → IsPlaced unread →
-    (s : Spelled) (header payload later : List ℕ) → bytes_of unread.bytes ≡ header ++ payload ++ later → Makes header payload s →
+    (s : Spelled) (header payload later : List ℕ) → bytes_of unread.bytes ≡ header ++ payload ++ later
+    → Makes header payload s →
     bytes_of after.bytes ≡ later → IsCounted after.bytes → after.offset ≡ unread.offset + (9 + s.header.length) →
     after.arrivals.now ≡ arrivals_from (after.offset - 1) unread.arrivals.now → IsPlaced after
 placed_after unread after placed s header payload later split makes bytes_are counted offset_is arrivals_are =
@@ -42,10 +48,12 @@ placed_after unread after placed s header payload later split makes bytes_are co
     let rest : length (bytes_of after.bytes) ≡ length later = ap length bytes_are in
     let before = placed.before in
     let short = placed.short in
-    let rise = arrivals_from-rise placed.low placed.rec (unread.offset + length (bytes_of unread.bytes)) (after.offset - 1)
+    let rise = arrivals_from-rise placed.low placed.rec (unread.offset + length (bytes_of unread.bytes))
+    (after.offset - 1)
     unread.arrivals.now placed.rises (omega arith) in
     let low_before : rise.0 ≤ after.offset - 1 = rise.2 in
-    let high : unread.offset + length (bytes_of unread.bytes) ≡ after.offset + length (bytes_of after.bytes) = omega arith in
+    let high : unread.offset + length (bytes_of unread.bytes) ≡ after.offset + length (bytes_of after.bytes) = omega
+    arith in
     record {
       counted = counted;
       low = rise.0;
@@ -57,12 +65,15 @@ placed_after unread after placed s header payload later split makes bytes_are co
     }
 
 -- it is in range
-pub frame_readable : (frame : Frame) (side : Side) (number last : ℕ) (arrivals to_come : List Arrival) (d : Arrival) (s : Spelled) →
+pub frame_readable : (frame : Frame) (side : Side) (number last : ℕ) (arrivals to_come : List Arrival) (d : Arrival)
+    (s : Spelled) →
     frame ≡ captured side number (get_or to_come 0 d) s → to_come ≡ arrivals_from last arrivals →
     AllByRecursion (λ (a : Arrival). a.nanos < 2 ^ 63) arrivals → 0 < length to_come →
     s.header.length < 2 ^ 24 → s.header.stream < 2 ^ 31 → promised_in s.body < 2 ^ 31 → IsReadable frame
-frame_readable frame side number last arrivals to_come d s frame_is to_come_is timely there length_fits stream_fits promised_fits =
-    let all : AllByRecursion (λ (a : Arrival). a.nanos < 2 ^ 63) to_come = rw to_come_is (arrivals_from-timely last arrivals timely) in
+frame_readable frame side number last arrivals to_come d s frame_is to_come_is timely there length_fits stream_fits
+    promised_fits =
+    let all : AllByRecursion (λ (a : Arrival). a.nanos < 2 ^ 63) to_come = rw to_come_is
+    (arrivals_from-timely last arrivals timely) in
     let on_time = first_timely to_come d all there in
     rw frame_is (record { stream = stream_fits; promised = promised_fits; length = length_fits; nanos = on_time })
 
@@ -70,10 +81,13 @@ frame_readable frame side number last arrivals to_come d s frame_is to_come_is t
 pub ahead_before : (side : Side) (arrivals to_come : List Arrival) (number offset upto : ℕ) (bytes : List ℕ)
     (s : Spelled) (header payload later : List ℕ) → bytes ≡ header ++ payload ++ later → Makes header payload s →
     upto ≡ offset + (9 + s.header.length) → to_come ≡ arrivals_from (upto - 1) arrivals →
-    0 < length (arrivals_from (upto - 1) arrivals) → (d : Arrival) (frame : Frame) → frame ≡ captured side number (get_or to_come 0 d) s →
+    0 < length (arrivals_from (upto - 1) arrivals) → (d : Arrival) (frame : Frame)
+    → frame ≡ captured side number (get_or to_come 0 d) s →
     (frames later_frames : List Frame) (tail : List ℕ) → frames ≡ frame ∷ later_frames →
-    AreAhead side to_come (frame.number + 1) upto later later_frames tail → AreAhead side arrivals number offset bytes frames tail
-ahead_before side arrivals to_come number offset upto bytes s header payload later split makes upto_is to_come_is there d frame frame_is
+    AreAhead side to_come (frame.number + 1) upto later later_frames tail
+    → AreAhead side arrivals number offset bytes frames tail
+ahead_before side arrivals to_come number offset upto bytes s header payload later split makes upto_is to_come_is there
+    d frame frame_is
     frames later_frames tail frames_are ahead =
     let first = ap (λ (xs : List Arrival). get_or xs 0 d) to_come_is
     ∙ get_or-arrivals_from (upto - 1) arrivals d there

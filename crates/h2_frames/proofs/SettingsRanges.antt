@@ -1,5 +1,6 @@
 -- The identifier out of range of a payload is one whose values have a range.
-use Rattle.std.proofs.Common.{◌≡◌, ℕ, ◌≤◌, Bool, true, false, not, ◌==◌, if◌then◌else◌, List, [], ◌∷◌, Some, refl, sym, subst, ◌∙◌, arith, true≢false}
+use Rattle.std.proofs.Common.{◌≡◌, ℕ, ◌≤◌, Bool, true, false, not, ◌==◌, if◌then◌else◌, List, [], ◌∷◌, Some, refl, sym}
+use Rattle.std.proofs.Common.{subst, ◌∙◌, arith, true≢false}
 use Rattle.std.specs.Option.{ForSome}
 use borrow.Author.Tests.{eqb-true}
 use Rattle.h2_frames.specs.declared.settings.Setting.{Setting}
@@ -11,7 +12,8 @@ some-value x y P h e = let same : x ≡ y = cc in subst P same h
 
 bad-range : (s : Setting) → is_in_range s ≡ false → s.identifier ≤ 5
 bad-range s f = by_tests _ _ _ refl refl refl where
-  by_tests : (a b c : Bool) → (s.identifier == 2) ≡ a → (s.identifier == 4) ≡ b → (s.identifier == 5) ≡ c → s.identifier ≤ 5
+  by_tests : (a b c : Bool) → (s.identifier == 2) ≡ a → (s.identifier == 4) ≡ b → (s.identifier == 5) ≡ c
+      → s.identifier ≤ 5
   by_tests true b c e g h = let i = eqb-true s.identifier 2 e in omega (arith, i)
   by_tests false true c e g h = let i = eqb-true s.identifier 4 g in omega (arith, i)
   by_tests false false true e g h = let i = eqb-true s.identifier 5 h in omega (arith, i)

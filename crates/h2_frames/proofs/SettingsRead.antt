@@ -1,5 +1,6 @@
 -- Reading the settings of a payload one after the other.
-use Rattle.std.proofs.Common.{◌≡◌, ℕ, ◌≤◌, ◌+◌, Bool, true, false, cond, not, ◌&&◌, List, [], ◌∷◌, length, take, drop, Option, None, Some, refl, ap, arith, sym, ◌∙◌}
+use Rattle.std.proofs.Common.{◌≡◌, ℕ, ◌≤◌, ◌+◌, Bool, true, false, cond, not, ◌&&◌, List, [], ◌∷◌, length, take, drop}
+use Rattle.std.proofs.Common.{Option, None, Some, refl, ap, arith, sym, ◌∙◌}
 use Rattle.std.specs.Prelude.{option_map, find, is_none, if◌then◌else◌, ◌==◌}
 use Rattle.std.specs.Option.{option_or}
 use Rattle.audit_terms.specs.declared.settings.Settings.{Settings}
@@ -17,7 +18,8 @@ with_later settings later = record {
 }
 
 value_step : (later : Option ℕ) (test : Bool) (value : ℕ) (before : Option ℕ) →
-    option_or later (if test then Some value else before) ≡ option_or (option_or later (if test then Some value else None)) before
+    option_or later (if test then Some value else before) ≡ option_or
+    (option_or later (if test then Some value else None)) before
 value_step None true value before = refl
 value_step None false value before = refl
 value_step (Some x) test value before = refl
@@ -35,7 +37,8 @@ pub bad_cons : (s : Setting) (later : List Setting) →
 bad_cons s later = by (is_in_range s)
   where
     by : (fine : Bool) →
-        option_map (λ (t : Setting). t.identifier) (cond (not fine) (Some s) (find (λ (t : Setting). not (is_in_range t)) later))
+        option_map (λ (t : Setting). t.identifier)
+        (cond (not fine) (Some s) (find (λ (t : Setting). not (is_in_range t)) later))
         ≡ (if not fine then Some s.identifier else first_bad later)
     by true = refl
     by false = refl

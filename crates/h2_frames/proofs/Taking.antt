@@ -1,5 +1,6 @@
 -- The first frame of both sides is taken, one after the other.
-use Rattle.std.proofs.Common.{◌≡◌, ℕ, ◌+◌, ◌*◌, ◌^◌, ◌<◌, ◌≤◌, true, false, List, [], ◌∷◌, ◌++◌, length, refl, ap, sym, ◌∙◌, arith, append_assoc, Option, Some, None}
+use Rattle.std.proofs.Common.{◌≡◌, ℕ, ◌+◌, ◌*◌, ◌^◌, ◌<◌, ◌≤◌, true, false, List, [], ◌∷◌, ◌++◌, length, refl, ap, sym}
+use Rattle.std.proofs.Common.{◌∙◌, arith, append_assoc, Option, Some, None}
 use Rattle.std.specs.List.{AllByRecursion}
 use Rattle.std.proofs.lemmas.List.{append-nil, length_push}
 use Rattle.audit_terms.specs.declared.frames.Frame.{Frame}
@@ -9,7 +10,7 @@ use Rattle.h2_frames.specs.code.Merge.{is_server_first, merged}
 use Rattle.h2_frames.specs.code.Pieces.{bytes_of}
 use Rattle.h2_frames.specs.code.Steps.{IsReadable}
 use Rattle.h2_frames.proofs.Merging.{length-numbered, numbered-orderly}
-use Rattle.audit_terms.specs.runs.Orderly.{IsOrderly}
+use Rattle.audit_terms.specs.code.runs.Orderly.{IsOrderly}
 use Rattle.h2_frames.specs.code.Unread.{AreAhead, AreLeft, AreLeftAfter, AreMerged, IsNext, IsReady, weight}
 
 client_first : (f : Frame) (next : Option Frame) (server : Unread) (xs ys : List Frame) (tail : List ℕ) →
@@ -50,7 +51,8 @@ server_taken f client server server' frames tail other next first left all = rec
       ∙ server_first f client.next client _ _ tail (rw next at first) all.client_left;
 }
 
-nothing_left : (next : Option Frame) (unread : Unread) → next ≡ None → IsNext next unread → AreLeftAfter next unread [] (bytes_of unread.bytes)
+nothing_left : (next : Option Frame) (unread : Unread) → next ≡ None → IsNext next unread
+    → AreLeftAfter next unread [] (bytes_of unread.bytes)
 nothing_left None unread e none = (refl, (refl, none))
 nothing_left (Some f) unread e none = absurd (cc)
 
@@ -84,11 +86,13 @@ pub record IsPartlyMerged (client server client_now server_now : Unread) (frames
   pub client_ready : IsReady client_now
   pub server_ready : IsReady server_now
   pub whole : (later : List Frame) (tail other : List ℕ) → AreMerged client_now server_now later tail other →
-      (all : List Frame) × (frames ++ numbered (length frames + 1) later ≡ numbered 1 all) × AreMerged client server all tail other
+      (all : List Frame) × (frames ++ numbered (length frames + 1) later ≡ numbered 1 all)
+      × AreMerged client server all tail other
   pub readable : AllByRecursion IsReadable frames
   pub few : weight client_now + weight server_now + 9 * length frames ≤ weight client + weight server
 
-all_push : {A : Type 0} (P : A → Type 0) (xs : List A) (x : A) → AllByRecursion P xs → P x → AllByRecursion P (xs ++ x ∷ [])
+all_push : {A : Type 0} (P : A → Type 0) (xs : List A) (x : A) → AllByRecursion P xs → P x
+    → AllByRecursion P (xs ++ x ∷ [])
 all_push P [] x all p = (p, tt)
 all_push P (y ∷ ys) x all p = (all.0, all_push P ys x all.1 p)
 
@@ -97,17 +101,21 @@ numbered_push : (frames frames' later : List Frame) (f : Frame) →
     frames' ++ numbered (length frames' + 1) later ≡ frames ++ numbered (length frames + 1) (f ∷ later)
 numbered_push frames frames' later f frames_are =
     let size : length frames' ≡ length frames + 1 = ap length frames_are ∙ length_push frames _ in
-    rw (size, frames_are) (append_assoc frames (record f { number = length frames + 1 } ∷ []) (numbered ((length frames + 1) + 1) later))
+    rw (size, frames_are)
+    (append_assoc frames (record f { number = length frames + 1 } ∷ []) (numbered ((length frames + 1) + 1) later))
 
 -- one frame more
-pub partly_merged-turn : (client server client_now server_now client_next server_next : Unread) (frames frames' : List Frame) (f : Frame) →
+pub partly_merged-turn : (client server client_now server_now client_next server_next : Unread)
+    (frames frames' : List Frame) (f : Frame) →
     IsPartlyMerged client server client_now server_now frames →
     IsReady client_next → IsReady server_next → IsReadable f →
-    ((later : List Frame) (tail other : List ℕ) → AreMerged client_next server_next later tail other → AreMerged client_now server_now (f ∷ later) tail other) →
+    ((later : List Frame) (tail other : List ℕ) → AreMerged client_next server_next later tail other
+    → AreMerged client_now server_now (f ∷ later) tail other) →
     weight client_next + weight server_next + 9 ≤ weight client_now + weight server_now →
     frames' ≡ frames ++ record f { number = length frames + 1 } ∷ [] →
     IsPartlyMerged client server client_next server_next frames'
-partly_merged-turn client server client_now server_now client_next server_next frames frames' f partly client_ready server_ready readable first lighter frames_are =
+partly_merged-turn client server client_now server_now client_next server_next frames frames' f partly client_ready
+    server_ready readable first lighter frames_are =
     let size : length frames' ≡ length frames + 1 = ap length frames_are ∙ length_push frames _ in
     let few = partly.few in
     record {
@@ -118,7 +126,12 @@ partly_merged-turn client server client_now server_now client_next server_next f
           (all.0, numbered_push frames frames' later f frames_are ∙ all.1, all.2);
       readable =
           let one : IsReadable (record f { number = length frames + 1 }) =
-          record { stream = readable.stream; promised = readable.promised; length = readable.length; nanos = readable.nanos } in
+          record {
+            stream = readable.stream;
+            promised = readable.promised;
+            length = readable.length;
+            nanos = readable.nanos;
+          } in
           rw frames_are (all_push IsReadable frames _ partly.readable one);
       few = omega arith;
     }

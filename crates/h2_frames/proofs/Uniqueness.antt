@@ -2,7 +2,8 @@
 use Rattle.std.specs.Prelude.{Result, Ok, Err, IfOk, IsTrue}
 use Rattle.std.specs.declared.alloc.AllocError.{AllocError}
 use Rattle.h2_frames.specs.declared.connections.Cut.{Cut}
-use Rattle.std.proofs.Common.{◌≡◌, ℕ, ◌+◌, ◌<◌, List, [], ◌∷◌, ◌++◌, length, take, drop, refl, ap, ap₂, sym, ◌∙◌, subst, arith, length-append, append_assoc, inl, inr}
+use Rattle.std.proofs.Common.{◌≡◌, ℕ, ◌+◌, ◌<◌, List, [], ◌∷◌, ◌++◌, length, take, drop, refl, ap, ap₂, sym, ◌∙◌, subst}
+use Rattle.std.proofs.Common.{arith, length-append, append_assoc, inl, inr}
 use Rattle.std.proofs.lemmas.Bool.{false≢true}
 use Rattle.std.proofs.lemmas.List.{append_cancel_left, take_at, drop_at}
 use Rattle.tcp_streams.specs.declared.streams.Arrival.{Arrival}
@@ -22,7 +23,8 @@ use Rattle.h2_frames.specs.CaptureOrder.{captured_from, capture_order}
 use Rattle.h2_frames.specs.Preface.{preface, IsPrefaceCutShort, BeginsWithPreface}
 use Rattle.h2_frames.specs.Cut.{IsCut, IsHttp2}
 use Rattle.h2_frames.specs.code.Steps.{IsHttp2Cut}
-use Rattle.h2_frames.specs.Law.{SpellingIsUnique, IsSameCut, IsSameFlow, CutIsUnique}
+use Rattle.h2_frames.specs.laws.Unique.{SpellingIsUnique, IsSameFlow, CutIsUnique}
+use Rattle.h2_frames.specs.code.SameCut.{IsSameCut}
 
 -- two fronts of one length are one front, and so are the rests
 same_parts : (a b x y : List ℕ) → a ++ x ≡ b ++ y → length a ≡ length b → (a ≡ b) × (x ≡ y)
@@ -46,16 +48,19 @@ header_of-append (a ∷ b ∷ c ∷ d ∷ e ∷ f ∷ g ∷ h ∷ i ∷ []) late
 header_of-append (a ∷ b ∷ c ∷ d ∷ e ∷ f ∷ g ∷ h ∷ i ∷ j ∷ more) later nine = absurd (omega arith)
 
 -- the header that the bytes of a frame begin with is the frame's
-header_is : (bytes header payload rest : List ℕ) (frame : Spelled) → bytes ≡ header ++ payload ++ rest → Makes header payload frame →
+header_is : (bytes header payload rest : List ℕ) (frame : Spelled) → bytes ≡ header ++ payload ++ rest
+    → Makes header payload frame →
     header_of bytes ≡ frame.header
 header_is bytes header payload rest frame split makes =
-    ap header_of (split ∙ append_assoc header payload rest) ∙ header_of-append header (payload ++ rest) makes.nine ∙ sym makes.header_is
+    ap header_of (split ∙ append_assoc header payload rest) ∙ header_of-append header (payload ++ rest) makes.nine
+    ∙ sym makes.header_is
 
 -- bytes that hold no whole frame begin with none
 holds_none : (bytes header payload rest : List ℕ) (frame : Spelled) → HoldsNoFrame bytes →
     bytes ≡ header ++ payload ++ rest → Makes header payload frame → ⊥
 holds_none bytes header payload rest frame holds split makes =
-    let size : length bytes ≡ (length header + length payload) + length rest = simp length-append at (ap length split) in
+    let size : length bytes ≡ (length header + length payload) + length rest = simp length-append at
+    (ap length split) in
     let nine : length header ≡ 9 = makes.nine in
     let whole : length payload ≡ frame.header.length = makes.whole in
     let same : (header_of bytes).length ≡ frame.header.length =
@@ -72,7 +77,8 @@ cons_same f g frames others h k = ap (λ (x : Spelled). x ∷ frames) h ∙ ap (
 -- two frames that one list of bytes begins with are one, and so is what follows them
 same_first : (bytes header payload rest other_header other_payload other_rest : List ℕ) (f g : Spelled) →
     bytes ≡ header ++ payload ++ rest → Makes header payload f →
-    bytes ≡ other_header ++ other_payload ++ other_rest → Makes other_header other_payload g → (f ≡ g) × (rest ≡ other_rest)
+    bytes ≡ other_header ++ other_payload ++ other_rest → Makes other_header other_payload g
+    → (f ≡ g) × (rest ≡ other_rest)
 same_first bytes header payload rest other_header other_payload other_rest f g split makes other_split other_makes =
     let headers : f.header ≡ g.header =
     sym (header_is bytes header payload rest f split makes)
@@ -96,7 +102,8 @@ spelling-unique bytes [] (f ∷ others) tail other_tail first second =
 spelling-unique bytes (f ∷ frames) [] tail other_tail first second =
     absurd (holds_none bytes first.0 first.1 first.2 f second.1 first.3 first.4)
 spelling-unique bytes (f ∷ frames) (g ∷ others) tail other_tail first second =
-    let same = same_first bytes first.0 first.1 first.2 second.0 second.1 second.2 f g first.3 first.4 second.3 second.4 in
+    let same = same_first bytes first.0 first.1 first.2 second.0 second.1 second.2 f g first.3 first.4 second.3
+    second.4 in
     let later = spelling-unique first.2 frames others tail other_tail first.5
     (subst (λ (r : List ℕ). Spells r others other_tail) (sym same.1) second.5) in
     (cons_same f g frames others same.0 later.0, later.1)
@@ -112,22 +119,34 @@ not_both bytes rest short begins =
 short_along : (bytes others : List ℕ) → bytes ≡ others → IsPrefaceCutShort bytes → IsPrefaceCutShort others
 short_along bytes others e short = (short.0, short.1, ap (λ (b : List ℕ). b ++ short.0) (sym e) ∙ short.2)
 
-same_http2 : (client server other_client other_server : Flow) (frames others : List Frame) (tails other_tails : Sides ℕ) →
+same_http2 : (client server other_client other_server : Flow) (frames others : List Frame)
+    (tails other_tails : Sides ℕ) →
     IsSameFlow client other_client → IsSameFlow server other_server →
     IsHttp2 client server frames tails → IsHttp2 other_client other_server others other_tails →
     (frames ≡ others) × (tails ≡ other_tails)
-same_http2 client server other_client other_server frames others tails other_tails same_client same_server first second =
+same_http2 client server other_client other_server frames others tails other_tails same_client same_server first
+    second =
     let rests : first.after_preface ≡ second.after_preface =
     append_cancel_left preface _ _ (sym first.client_begins ∙ same_client.bytes ∙ second.client_begins) in
-    let clients = spelling-unique first.after_preface first.client_frames second.client_frames first.client_tail second.client_tail
-    first.client_spells (subst (λ (r : List ℕ). Spells r second.client_frames second.client_tail) (sym rests) second.client_spells) in
-    let servers = spelling-unique (bytes_of server) first.server_frames second.server_frames first.server_tail second.server_tail
-    first.server_spells (subst (λ (r : List ℕ). Spells r second.server_frames second.server_tail) (sym same_server.bytes) second.server_spells) in (
+    let clients = spelling-unique first.after_preface first.client_frames second.client_frames first.client_tail
+    second.client_tail
+    first.client_spells (subst (λ (r : List ℕ). Spells r second.client_frames second.client_tail)
+    (sym rests) second.client_spells) in
+    let servers = spelling-unique (bytes_of server) first.server_frames second.server_frames first.server_tail
+    second.server_tail
+    first.server_spells (subst (λ (r : List ℕ). Spells r second.server_frames second.server_tail)
+    (sym same_server.bytes) second.server_spells) in (
       first.in_order
-          ∙ ap (λ (fs : List Spelled). capture_order (captured_from Client client.arrivals.items 1 24 fs) (captured_from Server server.arrivals.items 1 0 first.server_frames)) clients.0
-          ∙ ap (λ (fs : List Spelled). capture_order (captured_from Client client.arrivals.items 1 24 second.client_frames) (captured_from Server server.arrivals.items 1 0 fs)) servers.0
-          ∙ ap (λ (xs : List Arrival). capture_order (captured_from Client xs 1 24 second.client_frames) (captured_from Server server.arrivals.items 1 0 second.server_frames)) same_client.arrivals
-          ∙ ap (λ (xs : List Arrival). capture_order (captured_from Client other_client.arrivals.items 1 24 second.client_frames) (captured_from Server xs 1 0 second.server_frames)) same_server.arrivals
+          ∙ ap (λ (fs : List Spelled). capture_order (captured_from Client client.arrivals.items 1 24 fs)
+          (captured_from Server server.arrivals.items 1 0 first.server_frames)) clients.0
+          ∙ ap (λ (fs : List Spelled). capture_order
+          (captured_from Client client.arrivals.items 1 24 second.client_frames)
+          (captured_from Server server.arrivals.items 1 0 fs)) servers.0
+          ∙ ap (λ (xs : List Arrival). capture_order (captured_from Client xs 1 24 second.client_frames)
+          (captured_from Server server.arrivals.items 1 0 second.server_frames)) same_client.arrivals
+          ∙ ap (λ (xs : List Arrival). capture_order
+          (captured_from Client other_client.arrivals.items 1 24 second.client_frames)
+          (captured_from Server xs 1 0 second.server_frames)) same_server.arrivals
           ∙ sym second.in_order,
       first.tails_are
           ∙ ap₂ (λ (c s : List ℕ). record { client = length c; server = length s }) clients.1 servers.1
@@ -136,31 +155,40 @@ same_http2 client server other_client other_server frames others tails other_tai
 
 pub cut-unique : CutIsUnique
 cut-unique client server other_client other_server NoHandshake NoHandshake c s first second = tt
-cut-unique client server other_client other_server NoHandshake NoPreface c s first second = absurd (false≢true (sym first ∙ s.started ∙ second.0))
-cut-unique client server other_client other_server NoHandshake NotHttp2 c s first second = absurd (false≢true (sym first ∙ s.started ∙ second.0))
-cut-unique client server other_client other_server NoHandshake (Http2 frames tails) c s first second = absurd (false≢true (sym first ∙ s.started ∙ second.0))
-cut-unique client server other_client other_server NoPreface NoHandshake c s first second = absurd (false≢true (sym second ∙ sym s.started ∙ first.0))
-cut-unique client server other_client other_server NotHttp2 NoHandshake c s first second = absurd (false≢true (sym second ∙ sym s.started ∙ first.0))
-cut-unique client server other_client other_server (Http2 frames tails) NoHandshake c s first second = absurd (false≢true (sym second ∙ sym s.started ∙ first.0))
+cut-unique client server other_client other_server NoHandshake NoPreface c s first second = absurd
+    (false≢true (sym first ∙ s.started ∙ second.0))
+cut-unique client server other_client other_server NoHandshake NotHttp2 c s first second = absurd
+    (false≢true (sym first ∙ s.started ∙ second.0))
+cut-unique client server other_client other_server NoHandshake (Http2 frames tails) c s first second = absurd
+    (false≢true (sym first ∙ s.started ∙ second.0))
+cut-unique client server other_client other_server NoPreface NoHandshake c s first second = absurd
+    (false≢true (sym second ∙ sym s.started ∙ first.0))
+cut-unique client server other_client other_server NotHttp2 NoHandshake c s first second = absurd
+    (false≢true (sym second ∙ sym s.started ∙ first.0))
+cut-unique client server other_client other_server (Http2 frames tails) NoHandshake c s first second = absurd
+    (false≢true (sym second ∙ sym s.started ∙ first.0))
 cut-unique client server other_client other_server NoPreface NoPreface c s first second = tt
 cut-unique client server other_client other_server NoPreface NotHttp2 c s first second =
     absurd (second.1 (short_along _ _ c.bytes first.1))
 cut-unique client server other_client other_server NoPreface (Http2 frames tails) c s first second =
-    absurd (not_both (bytes_of other_client) second.1.after_preface (short_along _ _ c.bytes first.1) second.1.client_begins)
+    absurd (not_both (bytes_of other_client) second.1.after_preface (short_along _ _ c.bytes first.1)
+    second.1.client_begins)
 cut-unique client server other_client other_server NotHttp2 NoPreface c s first second =
     absurd (first.1 (short_along _ _ (sym c.bytes) second.1))
 cut-unique client server other_client other_server NotHttp2 NotHttp2 c s first second = tt
 cut-unique client server other_client other_server NotHttp2 (Http2 frames tails) c s first second =
     absurd (first.2 second.1.after_preface (c.bytes ∙ second.1.client_begins))
 cut-unique client server other_client other_server (Http2 frames tails) NoPreface c s first second =
-    absurd (not_both (bytes_of client) first.1.after_preface (short_along _ _ (sym c.bytes) second.1) first.1.client_begins)
+    absurd (not_both (bytes_of client) first.1.after_preface (short_along _ _ (sym c.bytes) second.1)
+    first.1.client_begins)
 cut-unique client server other_client other_server (Http2 frames tails) NotHttp2 c s first second =
     absurd (second.2 first.1.after_preface (sym c.bytes ∙ first.1.client_begins))
 cut-unique client server other_client other_server (Http2 frames tails) (Http2 others other_tails) c s first second =
     same_http2 client server other_client other_server frames.items others.items tails other_tails c s first.1 second.1
 
 -- two flows have no other cut
-pub only-cut : (client server : Flow) (cut other : Cut) → IsCut client server cut → IsCut client server other → IsSameCut cut other
+pub only-cut : (client server : Flow) (cut other : Cut) → IsCut client server cut → IsCut client server other
+    → IsSameCut cut other
 only-cut client server cut other first second =
     cut-unique client server client server cut other (same client) (same server) first second
   where
@@ -168,9 +196,11 @@ only-cut client server cut other first second =
     same flow = record { started = refl; bytes = refl; arrivals = refl }
 
 -- the same of a cut into frames, where there is one
-pub only-http2 : (client server : Flow) (result : Result Cut AllocError) → IsTrue server.started → IfOk result (IsHttp2Cut client server) →
+pub only-http2 : (client server : Flow) (result : Result Cut AllocError) → IsTrue server.started
+    → IfOk result (IsHttp2Cut client server) →
     IfOk result (λ found. (other : Cut) → IsCut client server other → IsSameCut found other)
-only-http2 client server (Ok (Http2 frames tails)) started is = λ other second. only-cut client server (Http2 frames tails) other (started, is) second
+only-http2 client server (Ok (Http2 frames tails)) started is = λ other second. only-cut client server
+    (Http2 frames tails) other (started, is) second
 only-http2 client server (Ok NotHttp2) started is = absurd is
 only-http2 client server (Ok NoPreface) started is = absurd is
 only-http2 client server (Ok NoHandshake) started is = absurd is

@@ -1,10 +1,15 @@
 -- What a frame carries, by its type, its flags and its payload (RFC 9113, 6.1 to 6.10). Where a payload has several
 -- faults, the first line of its definition that applies names the one.
-use Rattle.std.specs.Prelude.{ℕ, ◌+◌, ◌-◌, ◌%◌, Bool, ◌&&◌, ◌==◌, nat_lt, if◌then◌else◌, List, length, drop, slice_index}
+use Rattle.std.specs.Prelude.{ℕ, ◌+◌, ◌-◌, ◌%◌, Bool, ◌&&◌, ◌==◌, nat_lt, if◌then◌else◌, List, length, drop}
+use Rattle.std.specs.Prelude.{slice_index}
 use Rattle.audit_terms.specs.declared.frames.Body.{Body}
-use Rattle.audit_terms.specs.declared.frames.Body.TheVariants.{Content, Headers, Priority, RstStream, Settings, SettingsAck, PushPromise, Ping, GoAway, WindowUpdate, Continuation, Unknown, Unreadable}
+use Rattle.audit_terms.specs.declared.frames.Body.TheVariants.{Content, Headers, Priority, RstStream, Settings}
+use Rattle.audit_terms.specs.declared.frames.Body.TheVariants.{SettingsAck, PushPromise, Ping, GoAway, WindowUpdate}
+use Rattle.audit_terms.specs.declared.frames.Body.TheVariants.{Continuation, Unknown, Unreadable}
 use Rattle.audit_terms.specs.declared.kinds.Kind.TheVariants.{WrongSize, BadPadding, BadPriority}
-use Rattle.audit_terms.specs.FrameType.{has_flag, ack_flag, padded_flag, data_type, headers_type, priority_type, rst_stream_type, settings_type, push_promise_type, ping_type, goaway_type, window_update_type, continuation_type}
+use Rattle.audit_terms.specs.FrameType.{has_flag, ack_flag, padded_flag, data_type, headers_type, priority_type}
+use Rattle.audit_terms.specs.FrameType.{rst_stream_type, settings_type, push_promise_type, ping_type, goaway_type}
+use Rattle.audit_terms.specs.FrameType.{window_update_type, continuation_type}
 use Rattle.h2_frames.specs.Header.{number_of_31_bits}
 use Rattle.h2_frames.specs.Settings.{settings_of}
 
@@ -28,7 +33,8 @@ wrong_size payload = Unreadable WrongSize (length payload)
 abbrev pub of_length : ℕ → List ℕ → Body → Body
 of_length n payload body = if length payload == n then body else wrong_size payload
 
--- what must be there stands behind the length of the padding, where there is padding, and is this long at least (DATA 6.1,
+-- what must be there stands behind the length of the padding, where there is padding, and is this long at least (DATA
+-- 6.1,
 -- HEADERS 6.2, PUSH_PROMISE 6.6); padding longer than what is left is an error
 abbrev pub padded_body : ℕ → List ℕ → ℕ → Body → Body
 padded_body flags payload fields body =
@@ -45,8 +51,10 @@ settings_body flags payload =
     else wrong_size payload
 
 -- by the type byte: DATA 6.1; HEADERS 6.2, where five bytes on the stream's priority follow with the flag PRIORITY;
--- PRIORITY 6.3; RST_STREAM 6.4; PUSH_PROMISE 6.6, which begins with the promised stream; PING 6.7; GOAWAY 6.8: a stream, an
--- error code, and debug data of any length; WINDOW_UPDATE 6.9: the increment behind a reserved bit; CONTINUATION 6.10; an
+-- PRIORITY 6.3; RST_STREAM 6.4; PUSH_PROMISE 6.6, which begins with the promised stream; PING 6.7; GOAWAY 6.8: a
+-- stream, an
+-- error code, and debug data of any length; WINDOW_UPDATE 6.9: the increment behind a reserved bit; CONTINUATION 6.10;
+-- an
 -- unknown type is no error (5.5)
 abbrev pub body_of : ℕ → ℕ → List ℕ → Body
 body_of code flags payload =

@@ -5,6 +5,5 @@ pub mod Spelling
 pub mod CaptureOrder
 pub mod Preface
 pub mod Cut
-pub mod Law
-pub mod Orderly
+pub mod laws
 pub mod code

@@ -3,3 +3,5 @@ pub mod Beginning
 pub mod Steps
 pub mod Merge
 pub mod Unread
+pub mod Orderly
+pub mod SameCut

@@ -1,9 +1,9 @@
 ghost use Rattle.std.specs.Prelude.{◌≡◌, ℕ, ◌+◌, ◌<◌, ◌^◌, List, length, IsTrue, IfOk, OnErr};
-ghost use Rattle.tcp_streams.specs.Orderly.{IsOrderly};
+ghost use Rattle.tcp_streams.specs.code.Orderly.{IsOrderly};
 ghost use Rattle.tcp_streams.specs.Bytes.{bytes_of};
 ghost use Rattle.h2_frames.specs.Cut.{IsCut};
-ghost use Rattle.h2_frames.specs.Law.{IsSameCut};
-ghost use Rattle.h2_frames.specs.Orderly.{HasOrderlyFrames};
+ghost use Rattle.h2_frames.specs.code.SameCut.{IsSameCut};
+ghost use Rattle.h2_frames.specs.code.Orderly.{HasOrderlyFrames};
 ghost use Rattle.h2_frames.specs.code.Steps.{IsHttp2Cut};
 ghost use Rattle.h2_frames.specs.declared.connections.Cut.{Cut};
 ghost use Rattle.h2_frames.specs.Preface.{BeginsWithPreface};

@@ -1,6 +1,6 @@
 //! Laws of the definitions that the contracts of this crate cite. They do nothing at run time.
 
-ghost use Rattle.h2_frames.specs.Law.{CutIsUnique, SpellingIsUnique};
+ghost use Rattle.h2_frames.specs.laws.Unique.{CutIsUnique, SpellingIsUnique};
 
 /// One list of bytes has one spelling: its frames and its tail are determined (RFC 9113, 4.1).
 pub fn spelling_is_unique()

@@ -1,5 +1,5 @@
 ghost use Rattle.std.specs.Prelude.{◌≡◌, ◌+◌, ◌<◌, ◌≤◌, ◌^◌, ℕ, List, [], ◌∷◌, length, IfOk, IfSome, IfNone};
-ghost use Rattle.audit_terms.specs.runs.Orderly.{IsOrderly};
+ghost use Rattle.audit_terms.specs.code.runs.Orderly.{IsOrderly};
 ghost use Rattle.audit_terms.specs.declared.frames.Frame.{Frame};
 ghost use Rattle.h2_frames.specs.CaptureOrder.{comes_after, numbered};
 ghost use Rattle.h2_frames.specs.code.Merge.{is_server_first};

@@ -1,5 +1,5 @@
 ghost use Rattle.std.specs.Prelude.{◌≡◌, ◌+◌, ◌-◌, ◌*◌, ◌<◌, ◌≤◌, ◌^◌, ℕ, List, ◌∷◌, length, IfOk, IfSome, IfNone};
-ghost use Rattle.tcp_streams.specs.Orderly.{AreTimely};
+ghost use Rattle.tcp_streams.specs.code.Orderly.{AreTimely};
 ghost use Rattle.tcp_streams.specs.Arrivals.{Rises};
 ghost use Rattle.audit_terms.specs.declared.frames.Frame.{Frame};
 ghost use Rattle.h2_frames.specs.CaptureOrder.{captured};

@@ -1,23 +1,25 @@
 -- The jobs of the first round.
-use Rattle.std.proofs.Common.{◌≡◌, ℕ, zero, suc, ◌+◌, ◌<◌, ◌≤◌, List, [], ◌∷◌, length, get_or, slice_get, Some, None, All, refl, ap, ◌∙◌, arith}
+use Rattle.std.proofs.Common.{◌≡◌, ℕ, zero, suc, ◌+◌, ◌<◌, ◌≤◌, List, [], ◌∷◌, length, get_or, slice_get, Some, None}
+use Rattle.std.proofs.Common.{All, refl, ap, ◌∙◌, arith}
 use Rattle.std.proofs.Common.{Bool, map, Vec, Global, Bor}
 use Rattle.std.proofs.lemmas.List.Elements.{All-cons, All-head, All-nil, All-tail}
 use Rattle.audit_terms.specs.declared.frames.Frame.{Frame}
 use Rattle.audit_terms.specs.declared.findings.Finding.{Finding}
-use Rattle.audit_terms.specs.runs.Orderly.{IsOrderly}
+use Rattle.audit_terms.specs.code.runs.Orderly.{IsOrderly}
 use Rattle.audit_terms.specs.Finding.{shown}
 use Rattle.audit_terms.specs.Pass.{pass}
 use Rattle.packet_heads.specs.declared.packets.Packet.{Packet}
 use Rattle.h2_frames.specs.declared.connections.Cut.{Cut}
 use Rattle.h2_frames.specs.declared.connections.Cut.TheVariants.{Http2, NotHttp2, NoPreface, NoHandshake}
-use Rattle.h2_frames.specs.Orderly.{HasOrderlyFrames}
+use Rattle.h2_frames.specs.code.Orderly.{HasOrderlyFrames}
 use Rattle.job_crew.specs.declared.parts.Part.{Part}
 use Rattle.audit_report.specs.declared.audited.Audited.{Audited}
 use Rattle.h2audit.specs.declared.flow_round.ConnectionCut.{ConnectionCut}
 use Rattle.h2audit.specs.Audited.{AreAudited, findings_of}
 use Rattle.tcp_streams.specs.declared.members.Connection.{Connection}
-use Rattle.split_merge.specs.Board.{Job, IsCut}
-use Rattle.h2audit.specs.code.Flows.{IsConnectionCut, flow_jobs, AreConnectionCuts, frames_in, frames_each, found_in, audits_of}
+use Rattle.split_merge.specs.code.Board.{Job, IsCut}
+use Rattle.h2audit.specs.code.Flows.{IsConnectionCut, flow_jobs, AreConnectionCuts, frames_in, frames_each, found_in}
+use Rattle.h2audit.specs.code.Flows.{audits_of}
 
 pub flow_jobs-length : (first : ℕ) (connections : List Connection)
     → length (flow_jobs first connections) ≡ length connections
@@ -36,7 +38,14 @@ flow_jobs-at first (c ∷ connections) (suc n) one is =
     (omega arith, rest.1)
 
 pub nothing-cut : (one : Job) → one.findings ≡ [] → IsCut one.findings None []
-nothing-cut one is = rw (is) (record { ordered = refl; left_out = []; together = refl; past = λ found among. let below = among.1 in absurd (omega arith) })
+nothing-cut one is = rw (is)
+    (record {
+      ordered = refl;
+      left_out = [];
+      together = refl;
+      past = λ found among. let below = among.1 in absurd
+          (omega arith);
+    })
 
 pub get-is : {X : Type 0} (xs : List X) (n : ℕ) (x d : X) → slice_get xs n ≡ Some x → get_or xs n d ≡ x
 get-is [] n x d is = cc

@@ -1,5 +1,6 @@
 -- What a run on the front of a reader's bytes leaves is what a run on all of them leaves.
-use Rattle.std.proofs.Common.{◌≡◌, ◌∙◌, ℕ, Bool, ◌<◌, ◌≤◌, min, List, ◌++◌, length, take, Option, Some, None, IfSome, Ok, Err, refl, sym, ap, subst, arith}
+use Rattle.std.proofs.Common.{◌≡◌, ◌∙◌, ℕ, Bool, ◌<◌, ◌≤◌, min, List, ◌++◌, length, take, Option, Some, None, IfSome}
+use Rattle.std.proofs.Common.{Ok, Err, refl, sym, ap, subst, arith}
 use Rattle.std.specs.Prelude.{Result, IfErr, IfOk, MatchResult}
 use Rattle.std.proofs.lemmas.List.{append-nil, length-take, take_all}
 use Rattle.std.specs.Io.KnownBytes.{Appends, Keeps}
@@ -42,7 +43,8 @@ report_of_front all front shown text verdict is report =
     subst (λ (bytes : List ℕ). IsReport bytes shown text verdict) (front_is_whole all front is report.taken) report
 
 -- nothing was appended
-pub keeps_unwritten : (old new : Option (List ℕ)) (n : ℕ) (text : List ℕ) → n ≡ 0 → Appends old new (take n text) → Keeps old new
+pub keeps_unwritten : (old new : Option (List ℕ)) (n : ℕ) (text : List ℕ) → n ≡ 0 → Appends old new (take n text)
+    → Keeps old new
 keeps_unwritten None new n text none appends = tt
 keeps_unwritten (Some xs) None n text none appends = absurd appends
 keeps_unwritten (Some xs) (Some ys) n text none appends =
@@ -84,8 +86,12 @@ module _ {R W : Type 0} where
       (old new : Option (List ℕ)) (answer : Result Verdict AuditFault)
       → (IsReadToEnd reader → HaveGiven reader (take 2147483648 all))
       → Tells reader writer shown answer → Appends old new (written writer) → Leaves all shown old new answer
-  leaves_by_account all reader writer shown old new (Ok verdict) is told appends =
-      (written writer, report_of_front all (take 2147483648 all) shown (written writer) verdict refl (told.1 (take 2147483648 all) (is told.0)), appends)
+  leaves_by_account all reader writer shown old new (Ok verdict) is told appends = (
+    written writer,
+    report_of_front all (take 2147483648 all) shown (written writer) verdict refl
+        (told.1 (take 2147483648 all) (is told.0)),
+    appends,
+  )
   leaves_by_account all reader writer shown old new (Err fault.Write) is told appends = (
     told.2.0,
     told.2.1,

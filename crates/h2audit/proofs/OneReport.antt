@@ -1,5 +1,6 @@
 -- Two reports of one capture are the same.
-use Rattle.std.proofs.Common.{◌≡◌, ◌∙◌, ℕ, Bool, ◌||◌, List, [], ◌∷◌, ◌++◌, filter, length, map, Option, Some, None, refl, sym, ap, ap₂, subst}
+use Rattle.std.proofs.Common.{◌≡◌, ◌∙◌, ℕ, Bool, ◌||◌, List, [], ◌∷◌, ◌++◌, filter, length, map, Option, Some, None}
+use Rattle.std.proofs.Common.{refl, sym, ap, ap₂, subst}
 use Rattle.std.specs.Prelude.{◌+◌, codes, not, if◌then◌else◌}
 use Rattle.std.specs.List.{list_any}
 use Rattle.audit_terms.specs.declared.findings.Finding.{Finding}
@@ -27,7 +28,8 @@ use Rattle.audit_terms.specs.Finding.{shown as shown_of}
 use Rattle.audit_terms.specs.Pass.{pass}
 use Rattle.h2_frames.specs.declared.connections.Cut.{Cut}
 use Rattle.h2_frames.specs.declared.connections.Cut.TheVariants.{Http2, NotHttp2, NoPreface, NoHandshake}
-use Rattle.h2_frames.specs.Law.{IsSameCut, IsSameFlow}
+use Rattle.h2_frames.specs.laws.Unique.{IsSameFlow}
+use Rattle.h2_frames.specs.code.SameCut.{IsSameCut}
 use Rattle.h2_frames.proofs.Uniqueness.{cut-unique}
 use Rattle.packet_heads.specs.declared.packets.Packet.{Packet}
 use Rattle.packet_heads.specs.declared.packets.Segment.{Segment}
@@ -63,7 +65,8 @@ one_flow None capture segments f g h k = record {
   gap = h.3 ∙ sym k.3;
 }
 one_flow (Some isn) capture segments f g h k =
-    let parts = IsFlow-unique capture (source isn segments) (bytes_of f) (bytes_of g) f.arrivals.items g.arrivals.items f.gap g.gap h.1 k.1 in
+    let parts = IsFlow-unique capture (source isn segments) (bytes_of f) (bytes_of g) f.arrivals.items g.arrivals.items
+    f.gap g.gap h.1 k.1 in
     record {
       same = record { started = h.0 ∙ sym k.0; bytes = parts.0; arrivals = parts.1 };
       gap = parts.2;
@@ -208,13 +211,16 @@ record IsOneSection (c d : Connection) (a b : Audited) : Type 0 where
   pub findings : a.findings.items ≡ b.findings.items
 
 one_section : (shown : Bool) (capture : List ℕ) (packets : List Packet) (c d : Connection) (a b : Audited)
-    → membership c ≡ membership d → IsAudited shown capture packets c a → IsAudited shown capture packets d b → IsOneSection c d a b
+    → membership c ≡ membership d → IsAudited shown capture packets c a → IsAudited shown capture packets d b
+    → IsOneSection c d a b
 one_section shown capture packets c d a b m h k =
-    let client = one_flow (Some c.client_isn) capture (clients packets (membership c)) h.flows.client k.flows.client h.client
+    let client = one_flow (Some c.client_isn) capture (clients packets (membership c)) h.flows.client k.flows.client
+    h.client
     (subst (λ (n : Membership). IsClientFlow capture packets n k.flows.client) (sym m) k.client) in
     let server = one_flow c.server_isn capture (servers packets (membership c)) h.flows.server k.flows.server h.server
     (subst (λ (n : Membership). IsServerFlow capture packets n k.flows.server) (sym m) k.server) in
-    let cut = one_cut shown a.cut b.cut (cut-unique h.flows.client h.flows.server k.flows.client k.flows.server a.cut b.cut
+    let cut = one_cut shown a.cut b.cut
+    (cut-unique h.flows.client h.flows.server k.flows.client k.flows.server a.cut b.cut
     client.same server.same h.cut k.cut) in
     let found : a.findings.items ≡ b.findings.items = h.findings ∙ cut.findings ∙ sym k.findings in
     let flows : a.extents ≡ b.extents = h.extents
@@ -235,7 +241,8 @@ record AreOneAudit (cs ds : List Connection) (xs ys : List Audited) : Type 0 whe
   pub faults : list_any has_fault xs ≡ list_any has_fault ys
 
 one_audit : (shown : Bool) (capture : List ℕ) (packets : List Packet) (cs ds : List Connection) (xs ys : List Audited)
-    → map membership cs ≡ map membership ds → AreAudited shown capture packets cs xs → AreAudited shown capture packets ds ys
+    → map membership cs ≡ map membership ds → AreAudited shown capture packets cs xs
+    → AreAudited shown capture packets ds ys
     → AreOneAudit cs ds xs ys
 one_audit shown capture packets [] [] [] [] m h k = record { sections = refl; faults = refl }
 one_audit shown capture packets [] [] [] (b ∷ ys) m h k = absurd k
@@ -251,20 +258,24 @@ one_audit shown capture packets (c ∷ cs) (d ∷ ds) (a ∷ xs) (b ∷ ys) m h 
     let rest = one_audit shown capture packets cs ds xs ys later h.1 k.1 in
     record {
       sections = ap₂ (λ (e : Section) (es : List Section). e ∷ es) first.section_is rest.sections;
-      faults = ap₂ (λ (p q : Bool). p || q) (ap (λ (fs : List Finding). list_any (λ (finding : Finding). is_fault finding.kind) fs) first.findings) rest.faults;
+      faults = ap₂ (λ (p q : Bool). p || q)
+          (ap (λ (fs : List Finding). list_any (λ (finding : Finding). is_fault finding.kind) fs)
+          first.findings) rest.faults;
     }
 
 -- ---- the report
 
 abbrev text_by : Bool → List Record → Option ℕ → List Packet → List Section → List ℕ
 text_by shown rows cut packets sections =
-    (capture_line rows packets ++ record_lines_from 1 packets ++ cut_record_line cut ++ unopened_lines (strays_of packets))
+    (capture_line rows packets ++ record_lines_from 1 packets ++ cut_record_line cut ++ unopened_lines
+    (strays_of packets))
     ++ plain_sections shown 1 sections
 
 -- the same, of connections and what was found in them
 text-is : (shown : Bool) (rows : List Record) (cut : Option ℕ) (packets : List Packet) (connections : List Connection)
     (audited : List Audited)
-    → (capture_line rows packets ++ record_lines_from 1 packets ++ cut_record_line cut ++ unopened_lines (strays_of packets))
+    → (capture_line rows packets ++ record_lines_from 1 packets ++ cut_record_line cut ++ unopened_lines
+    (strays_of packets))
     ++ sections_text shown 1 connections audited
     ≡ text_by shown rows cut packets (sections_of connections audited)
 text-is shown rows cut packets connections audited =
@@ -282,16 +293,23 @@ one_report_lem bytes shown text other verdict judged x y =
     let opened = connections-shown (decide x.found.link x.found.rows.items) x.report.opened x.report.connections
     ∙ ap (λ (p : List Packet). connections_of (past_of p)) packets
     ∙ sym (connections-shown (decide y.found.link y.found.rows.items) y.report.opened y.report.connections) in
-    let audits = subst (λ (p : List Packet). AreAudited shown bytes p y.report.opened y.report.audited) (sym packets) y.report.audits in
-    let same = one_audit shown bytes (decide x.found.link x.found.rows.items) x.report.opened y.report.opened x.report.audited y.report.audited opened x.report.audits audits in
+    let audits = subst (λ (p : List Packet). AreAudited shown bytes p y.report.opened y.report.audited)
+    (sym packets) y.report.audits in
+    let same = one_audit shown bytes (decide x.found.link x.found.rows.items) x.report.opened y.report.opened
+    x.report.audited y.report.audited opened x.report.audits audits in
     let sections = sections_of x.report.opened x.report.audited in (
       x.report.spelled
-          ∙ text-is shown x.found.rows.items x.found.cut (decide x.found.link x.found.rows.items) x.report.opened x.report.audited
-          ∙ ap (λ (rows : List Record). text_by shown rows x.found.cut (decide x.found.link x.found.rows.items) sections) reading.1
-          ∙ ap (λ (cut : Option ℕ). text_by shown y.found.rows.items cut (decide x.found.link x.found.rows.items) sections) reading.2
+          ∙ text-is shown x.found.rows.items x.found.cut (decide x.found.link x.found.rows.items) x.report.opened
+          x.report.audited
+          ∙ ap (λ (rows : List Record). text_by shown rows x.found.cut (decide x.found.link x.found.rows.items)
+          sections) reading.1
+          ∙ ap (λ (cut : Option ℕ). text_by shown y.found.rows.items cut (decide x.found.link x.found.rows.items)
+          sections) reading.2
           ∙ ap (λ (p : List Packet). text_by shown y.found.rows.items y.found.cut p sections) packets
-          ∙ ap (λ (es : List Section). text_by shown y.found.rows.items y.found.cut (decide y.found.link y.found.rows.items) es) same.sections
-          ∙ sym (text-is shown y.found.rows.items y.found.cut (decide y.found.link y.found.rows.items) y.report.opened y.report.audited)
+          ∙ ap (λ (es : List Section). text_by shown y.found.rows.items y.found.cut
+          (decide y.found.link y.found.rows.items) es) same.sections
+          ∙ sym (text-is shown y.found.rows.items y.found.cut (decide y.found.link y.found.rows.items) y.report.opened
+          y.report.audited)
           ∙ sym y.report.spelled,
       x.report.judged ∙ ap verdict_by same.faults ∙ sym y.report.judged,
     )

@@ -20,7 +20,8 @@ openings-few (s ∷ earlier) =
     let rest = openings-few earlier in
     omega arith
 
-past-few : (past : List Segment) (packets : List Packet) → length (past_after past packets) ≤ length past + length packets
+past-few : (past : List Segment) (packets : List Packet)
+    → length (past_after past packets) ≤ length past + length packets
 past-few past [] = omega arith
 past-few past (Carried s ∷ rest) = let later = past-few (s ∷ past) rest in omega arith
 past-few past (Skipped _ ∷ rest) = let later = past-few past rest in omega arith
@@ -29,7 +30,8 @@ past-few past (Refused _ ∷ rest) = let later = past-few past rest in omega ari
 pub opened-few : (packets : List Packet) (opened : List Connection)
     → AreConnections packets opened → length opened ≤ length packets
 opened-few packets opened are =
-    let same : length (map membership opened) ≡ length (connections_of (past_of packets)) = ap length (connections-shown packets opened are) in
+    let same : length (map membership opened) ≡ length (connections_of (past_of packets)) = ap length
+    (connections-shown packets opened are) in
     let mine = length-map opened membership in
     let theirs = length-map (openings (past_of packets)) (connection_of (past_of packets)) in
     let openings = openings-few (past_of packets) in

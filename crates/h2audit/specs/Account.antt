@@ -1,7 +1,9 @@
 -- What the accounts of a run tell of its reads and writes, whatever its reader and its writer are.
-use Rattle.std.specs.Prelude.{◌≡◌, ◌≢◌, ℕ, ◌^◌, ◌≤◌, Bool, false, List, take, Option, None, Some, IfSome, Result, Ok, Err}
+use Rattle.std.specs.Prelude.{◌≡◌, ◌≢◌, ℕ, ◌^◌, ◌≤◌, Bool, false, List, take, Option, None, Some, IfSome, Result, Ok}
+use Rattle.std.specs.Prelude.{Err}
 use Rattle.pcap_records.specs.Refusal.{refusal}
-use Rattle.byte_accounts.specs.Account.{HasReadFailed, HasWriteFailed, HaveGiven, IsFlushed, IsReadToEnd, IsUnwritten, OfGiven, kept, written}
+use Rattle.byte_accounts.specs.Account.{HasReadFailed, HasWriteFailed, HaveGiven, IsFlushed, IsReadToEnd, IsUnwritten}
+use Rattle.byte_accounts.specs.Account.{OfGiven, kept, written}
 use Rattle.byte_accounts.specs.declared.capture_reader.CaptureReader.{CaptureReader}
 use Rattle.byte_accounts.specs.declared.report_writer.ReportWriter.{ReportWriter}
 use Rattle.h2audit.specs.Report.{IsReport}
@@ -20,7 +22,8 @@ module _ {R : Type 0} where
 
 module _ {R W : Type 0} where
   -- the accounts at the end of a run. After a verdict the reads gave a whole capture, and the writes took its report,
-  -- all of it; after a failed write they took a prefix of it. Before any other fault nothing was written: a read failed,
+  -- all of it; after a failed write they took a prefix of it. Before any other fault nothing was written: a read
+  -- failed,
   -- the capture that the reads gave is refused, or memory was wanting, for its bytes or for the audit of a capture that
   -- is not refused
   abbrev pub Tells : CaptureReader R → ReportWriter W → (shown : Bool) → Result Verdict AuditFault → Type 0

@@ -1,6 +1,7 @@
 -- The exit status of the program, where its words parse, and its line on standard error.
 use Rattle.std.specs.Prelude.{ℕ, List, Result, Ok, Err, codes}
-use Rattle.pcap_records.specs.declared.faults.PcapFault.TheVariants.{ShortHeader, BadMagic, BadVersion, LinkType, TooLarge, OutOfMemory}
+use Rattle.pcap_records.specs.declared.faults.PcapFault.TheVariants.{ShortHeader, BadMagic, BadVersion, LinkType}
+use Rattle.pcap_records.specs.declared.faults.PcapFault.TheVariants.{TooLarge, OutOfMemory}
 use Rattle.h2audit.specs.declared.fault.AuditFault.{AuditFault}
 use Rattle.h2audit.specs.declared.fault.AuditFault.TheVariants as fault
 use Rattle.h2audit.specs.declared.verdict.Verdict.{Verdict}

@@ -1,5 +1,6 @@
 -- What the program does, by its words, with what it is lent.
-use Rattle.std.specs.Prelude.{◌≡◌, ◌≢◌, ◌⊎◌, ℕ, List, [], take, map, Option, None, Some, Result, Ok, Err, MatchResult, String, Vec, string_bytes}
+use Rattle.std.specs.Prelude.{◌≡◌, ◌≢◌, ◌⊎◌, ℕ, List, [], take, map, Option, None, Some, Result, Ok, Err, MatchResult}
+use Rattle.std.specs.Prelude.{String, Vec, string_bytes}
 use Rattle.std.specs.Global.{Global}
 use Rattle.std.specs.IoError.{error_kind}
 use Rattle.std.specs.Str.{trim_end}
@@ -37,12 +38,14 @@ IsShown text output (Ok verdict) = (verdict ≡ Clean) × (written output ≡ te
 IsShown text output (Err fault.Write) = HasWriteFailed output × ((n : ℕ) × (written output ≡ take n text))
 IsShown text output (Err _) = ⊥
 
--- `opens` says what opening a name may give, and `says` that a line was said; readers of these types have these bytes left,
+-- `opens` says what opening a name may give, and `says` that a line was said; readers of these types have these bytes
+-- left,
 -- where they are known; `before` and `after` are what is lent, at the begin and at the end
 module _ {O S I F W : Type 0} (opens : O → List ℕ → Result F Error → O → Type 0) (says : S → List ℕ → S → Type 0)
     (input_left : I → Option (List ℕ)) (file_left : F → Option (List ℕ)) (before after : Outside O S I F W) (status : ℕ) where
   -- what the program answers to words that are not refused: a run on FILE, as it was opened by its name, or on standard
-  -- input, with the options that were found; or help or the version on standard output. All else that is lent stays as it was
+  -- input, with the options that were found; or help or the version on standard output. All else that is lent stays as
+  -- it was
   abbrev pub Answers : Parsed → Result Verdict AuditFault → Type 0
   Answers (Run options (Some path)) answer =
       (after ≡ record before { open_file = after.open_file; say = after.say; file = after.file; output = after.output })

@@ -1,6 +1,6 @@
 ghost use Rattle.std.specs.Prelude.{◌≡◌, ◌<◌, ◌^◌, IfOk, IfErr, IsTrue, length};
 ghost use Rattle.pcap_records.specs.LinkType.{is_read};
-ghost use Rattle.pcap_records.specs.Place.{AreTimely, AreWithin};
+ghost use Rattle.pcap_records.specs.code.Place.{AreTimely, AreWithin};
 ghost use Rattle.pcap_records.specs.code.Walk.{IsWalkIn};
 ghost use Rattle.h2audit.specs.Report.{IsNoReport, IsReport, IsReportOn};
 

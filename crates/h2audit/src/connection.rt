@@ -1,11 +1,11 @@
 //! The audits of all connections of a capture: their flows, what these hold, and what is found in the frames.
 
 ghost use Rattle.std.specs.Prelude.{◌≡◌, ◌<◌, ◌^◌, All, IfOk, length, map};
-ghost use Rattle.packet_heads.specs.Order.{AreNumberedFrom, PayloadsRise, TimesFit};
-ghost use Rattle.tcp_streams.specs.Orderly.{AreMembers};
+ghost use Rattle.packet_heads.specs.code.Order.{AreNumberedFrom, PayloadsRise, TimesFit};
+ghost use Rattle.tcp_streams.specs.code.Orderly.{AreMembers};
 ghost use Rattle.tcp_streams.specs.declared.members.Connection.{Connection};
 ghost use Rattle.audit_report.specs.declared.audited.Audited.{Audited};
-ghost use Rattle.h2_frames.specs.Orderly.{HasOrderlyFrames};
+ghost use Rattle.h2_frames.specs.code.Orderly.{HasOrderlyFrames};
 ghost use Rattle.h2audit.specs.Audited.{AreAudited, findings_of, has_fault, verdict_of};
 ghost use Rattle.h2audit.specs.code.Flows.{AreConnectionCuts, frames_in, found_in, audit_with, audits_of};
 ghost use Rattle.audit_terms.specs.declared.findings.Finding.{Finding};

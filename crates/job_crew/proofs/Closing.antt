@@ -1,16 +1,19 @@
 -- The board of a closed desk is settled.
-use Rattle.std.proofs.Common.{◌≡◌, ℕ, ◌+◌, ◌<◌, ◌≤◌, ◌⊎◌, inl, inr, List, length, map, Option, Some, None, refl, sym, subst, ◌∙◌, arith, Contains, slice_get, All}
+use Rattle.std.proofs.Common.{◌≡◌, ℕ, ◌+◌, ◌<◌, ◌≤◌, ◌⊎◌, inl, inr, List, length, map, Option, Some, None, refl, sym}
+use Rattle.std.proofs.Common.{subst, ◌∙◌, arith, Contains, slice_get, All}
 use Rattle.std.proofs.lemmas.Bool.{cases_lt}
-use Rattle.stop_desk.specs.Counts.{marks, once_below}
-use Rattle.stop_desk.specs.Desk.{DeskId, PassView, ClosedView, closed_of, IsConnection, opening_stop, final_stop}
-use Rattle.stop_desk.specs.Calls.{IsAtMost}
-use Rattle.stop_desk.specs.Settled.{IsLeast as IsLeastOnDesk, Settled}
-use Rattle.split_merge.specs.Board.{Job, Round, Part as BoardPart, IsLeast, IsPartOf, parts_of, stop_of, IsGiven, IsSettled}
+use Rattle.stop_desk.specs.code.Counts.{marks, once_below}
+use Rattle.stop_desk.specs.code.Desk.{DeskId, PassView, ClosedView, closed_of, IsConnection, opening_stop, final_stop}
+use Rattle.stop_desk.specs.code.Calls.{IsAtMost}
+use Rattle.stop_desk.specs.code.Settled.{IsLeast as IsLeastOnDesk, Settled}
+use Rattle.split_merge.specs.code.Board.{Job, Round, Part as BoardPart, IsLeast, IsPartOf, parts_of, stop_of, IsGiven}
+use Rattle.split_merge.specs.code.Board.{IsSettled}
 use Rattle.job_crew.specs.declared.parts.Part.{Part}
-use Rattle.job_crew.specs.Laid.{part_of, board_with}
-use Rattle.job_crew.specs.Crew.{opening_stops, last_stops, IsDone}
+use Rattle.job_crew.specs.code.Laid.{part_of, board_with}
+use Rattle.job_crew.specs.code.Crew.{opening_stops, last_stops, IsDone}
 use Rattle.job_crew.specs.code.Worked.{IsAllWorked, IsReal}
-use Rattle.job_crew.proofs.Marked.{contains-marks, marks-contains, map-contains, opening-at, opening-past, final-at, final-past, below-cases}
+use Rattle.job_crew.proofs.Marked.{contains-marks, marks-contains, map-contains, opening-at, opening-past, final-at}
+use Rattle.job_crew.proofs.Marked.{final-past, below-cases}
 
 module _ {M : Type 0} (makes : ℕ → Option ℕ → M → Type 0) (jobs : List Job) (round whole : ℕ) (desk : DeskId)
     (all : All (λ (job : Job). IsConnection desk job.connection) jobs) (parts : List (Part M)) (last : PassView)
@@ -65,7 +68,8 @@ module _ {M : Type 0} (makes : ℕ → Option ℕ → M → Type 0) (jobs : List
     above place (inr k) = l.1 place (contains-marks c place last.lowered k)
 
   real-there : (c p : ℕ) → IsReal jobs c p → IsConnection desk c
-  real-there c p real = subst (IsConnection desk) real.2 (subst (λ (j : Job). IsConnection desk j.connection) real.1.2 (all real.1.0 real.0 real.1.1))
+  real-there c p real = subst (IsConnection desk) real.2
+      (subst (λ (j : Job). IsConnection desk j.connection) real.1.2 (all real.1.0 real.0 real.1.1))
 
   not-past : (c : ℕ) → length desk.opened ≤ c + 1 → (place : ℕ) → IsGiven the_round last.lowered c place → ⊥
   not-past c past place (inl e) = let none = opening-past desk c past in let no = sym none ∙ e in cc

@@ -1,9 +1,10 @@
 -- Different numbers below a bound are at most so many.
-use Rattle.std.proofs.Common.{◌≡◌, ℕ, zero, suc, ◌+◌, ◌<◌, ◌≤◌, ◌⊎◌, inl, inr, List, [], ◌∷◌, length, refl, sym, arith, eq-eqb, ne_eqb}
+use Rattle.std.proofs.Common.{◌≡◌, ℕ, zero, suc, ◌+◌, ◌<◌, ◌≤◌, ◌⊎◌, inl, inr, List, [], ◌∷◌, length, refl, sym, arith}
+use Rattle.std.proofs.Common.{eq-eqb, ne_eqb}
 use Rattle.std.proofs.lemmas.Bool.{cases_lt}
 use mathlib.Core.Logic.{dite}
 use native.Mathlib.Decide.{ℕ_discrete}
-use Rattle.stop_desk.specs.Counts.{is_number, times}
+use Rattle.stop_desk.specs.code.Counts.{is_number, times}
 
 pub number-cases : (x n : ℕ) → (is_number x n ≡ 0) ⊎ ((n ≡ x) × (is_number x n ≡ 1))
 number-cases x n = dite (ℕ_discrete n x)

@@ -1,17 +1,18 @@
 -- What a worker has done after one draw more, and when no job is left.
-use Rattle.std.proofs.Common.{◌≡◌, ℕ, ◌+◌, ◌<◌, ◌≤◌, ◌⊎◌, inl, inr, List, [], ◌∷◌, ◌++◌, length, length-append, map, Option, refl, sym, ap, subst, ◌∙◌, arith, Contains}
+use Rattle.std.proofs.Common.{◌≡◌, ℕ, ◌+◌, ◌<◌, ◌≤◌, ◌⊎◌, inl, inr, List, [], ◌∷◌, ◌++◌, length, length-append, map}
+use Rattle.std.proofs.Common.{Option, refl, sym, ap, subst, ◌∙◌, arith, Contains}
 use Rattle.std.proofs.lemmas.List.Elements.{Contains-append_left, Contains-append_right, Contains-append_cases}
 use Rattle.stop_desk.specs.declared.claims.Claim.{Claim}
 use Rattle.stop_desk.specs.declared.claims.Claim.TheVariants.{Spent, Job, Done}
-use Rattle.stop_desk.specs.Counts.{is_number, times}
-use Rattle.stop_desk.specs.Desk.{DeskId, PassView, pass_of, pass_draws, IsConnection}
-use Rattle.stop_desk.specs.Calls.{Draws, IsClaim}
+use Rattle.stop_desk.specs.code.Counts.{is_number, times}
+use Rattle.stop_desk.specs.code.Desk.{DeskId, PassView, pass_of, pass_draws, IsConnection}
+use Rattle.stop_desk.specs.code.Calls.{Draws, IsClaim}
 use Rattle.stop_desk.proofs.Weights.{weigh-append, weigh-snoc}
-use Rattle.split_merge.specs.Board.{Job as BoardJob, parts_of}
+use Rattle.split_merge.specs.code.Board.{Job as BoardJob, parts_of}
 use Rattle.split_merge.proofs.RoundMembers.{contains-none, contains-cases}
 use Rattle.split_merge.proofs.RoundSteps.{parts_of-cons}
 use Rattle.job_crew.specs.declared.parts.Part.{Part}
-use Rattle.job_crew.specs.Laid.{part_of}
+use Rattle.job_crew.specs.code.Laid.{part_of}
 use Rattle.job_crew.specs.code.Worked.{IsLaid, IsReal, DoesJob, IsWorked, IsAllWorked, DrewJobs}
 use Rattle.job_crew.proofs.Counting.{number-cases, number-here, pigeonhole}
 
@@ -106,7 +107,8 @@ module _ {M : Type 0} (makes : ℕ → Option ℕ → M → Type 0) (jobs : List
       still job lt (inr same) = let e = same.0 in absurd (omega arith)
 
     -- a job was drawn and is done
-    module _ (part : Part M) (after : PassView) (lt : n < length jobs) (does : DoesJob makes jobs round n claimed part after) where
+    module _ (part : Part M) (after : PassView) (lt : n < length jobs)
+        (does : DoesJob makes jobs round n claimed part after) where
       after-drawn : after.drawn ≡ claimed.drawn
       after-drawn = ap (λ (v : PassView). v.drawn) does.1.kept
 
@@ -165,7 +167,8 @@ module _ {M : Type 0} (makes : ℕ → Option ℕ → M → Type 0) (jobs : List
             let one = is.1 in
             omega arith
 
-      pub worked-job : DrewJobs jobs before → IsWorked makes jobs desk round whole (parts ++ part ∷ []) after × DrewJobs jobs after
+      pub worked-job : DrewJobs jobs before → IsWorked makes jobs desk round whole (parts ++ part ∷ []) after
+          × DrewJobs jobs after
       worked-job drew = (worked-more, drew-more drew)
 
   -- no job is left: a worker whose allowance is one more than the jobs never runs out of it

@@ -1,10 +1,11 @@
 -- A job that is done: what its looks and its stops do to the pass.
-use Rattle.std.proofs.Common.{◌≡◌, ℕ, ◌<◌, List, [], ◌++◌, length, refl, sym, ap, subst, ◌∙◌, ◌⊎◌, inl, inr, Option, Some, Contains, slice_get, get_or, All}
+use Rattle.std.proofs.Common.{◌≡◌, ℕ, ◌<◌, List, [], ◌++◌, length, refl, sym, ap, subst, ◌∙◌, ◌⊎◌, inl, inr, Option}
+use Rattle.std.proofs.Common.{Some, Contains, slice_get, get_or, All}
 use Rattle.std.proofs.lemmas.Option.{slice_get-get_or}
 use Rattle.std.proofs.lemmas.List.Elements.{Contains-append_left, Contains-append_right, Contains-append_cases}
-use Rattle.audit_terms.specs.runs.Look.{Asked}
-use Rattle.stop_desk.specs.Desk.{DeskId, PassView, pass_of, IsConnection}
-use Rattle.split_merge.specs.Board.{Job, StopsAt, IsCut}
+use Rattle.audit_terms.specs.code.runs.Look.{Asked}
+use Rattle.stop_desk.specs.code.Desk.{DeskId, PassView, pass_of, IsConnection}
+use Rattle.split_merge.specs.code.Board.{Job, StopsAt, IsCut}
 use Rattle.split_merge.proofs.RoundMembers.{contains-got}
 use Rattle.job_crew.specs.declared.parts.Part.{Part}
 use Rattle.job_crew.specs.code.Worked.{stops_on, IsReal, Goes, DoesJob}
@@ -46,8 +47,10 @@ module _ {M : Type 0} (makes : ℕ → Option ℕ → M → Type 0) (jobs : List
   kept : after ≡ pass_of before.desk before.allowance before.drawn after.seen after.lowered
   kept =
       lowers
-      ∙ ap (λ (v : PassView). pass_of v.desk v.allowance v.drawn watched.seen (watched.lowered ++ stops_on part.connection part.findings.items)) w.kept
-      ∙ ap (λ seen. pass_of before.desk before.allowance before.drawn seen (watched.lowered ++ stops_on part.connection part.findings.items)) same_seen
+      ∙ ap (λ (v : PassView). pass_of v.desk v.allowance v.drawn watched.seen
+      (watched.lowered ++ stops_on part.connection part.findings.items)) w.kept
+      ∙ ap (λ seen. pass_of before.desk before.allowance before.drawn seen
+      (watched.lowered ++ stops_on part.connection part.findings.items)) same_seen
       ∙ ap (λ lowered. pass_of before.desk before.allowance before.drawn after.seen lowered)
       (ap (λ (v : PassView). v.lowered ++ stops_on part.connection part.findings.items) w.kept ∙ sym same_lowered)
 
@@ -59,7 +62,8 @@ module _ {M : Type 0} (makes : ℕ → Option ℕ → M → Type 0) (jobs : List
   seen_there c p (inl k) = inl k
   seen_there c p (inr e) = inr (subst (IsConnection desk) e there)
 
-  lowered_real : (c p : ℕ) → Contains before.lowered (c, p) ⊎ Contains (stops_on part.connection part.findings.items) (c, p) →
+  lowered_real : (c p : ℕ) → Contains before.lowered (c, p) ⊎ Contains (stops_on part.connection part.findings.items)
+      (c, p) →
       Contains before.lowered (c, p) ⊎ IsReal jobs c p
   lowered_real c p (inl k) = inl k
   lowered_real c p (inr k) =

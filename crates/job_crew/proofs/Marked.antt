@@ -1,26 +1,30 @@
 -- Marks counted and marks in a list, and the stops of connections one by one.
-use Rattle.std.proofs.Common.{◌≡◌, ℕ, zero, suc, ◌+◌, ◌<◌, ◌≤◌, ◌⊎◌, inl, inr, List, [], ◌∷◌, length, drop, map, get_or, Option, Some, None, refl, sym, ap, subst, ◌∙◌, arith, Contains, lt-ltb, le-ltb, take, ◌++◌, All, Bool, true, false, nat_lt, if◌then◌else◌, ltb-true}
+use Rattle.std.proofs.Common.{◌≡◌, ℕ, zero, suc, ◌+◌, ◌<◌, ◌≤◌, ◌⊎◌, inl, inr, List, [], ◌∷◌, length, drop, map, get_or}
+use Rattle.std.proofs.Common.{Option, Some, None, refl, sym, ap, subst, ◌∙◌, arith, Contains, lt-ltb, le-ltb, take}
+use Rattle.std.proofs.Common.{◌++◌, All, Bool, true, false, nat_lt, if◌then◌else◌, ltb-true}
 use Rattle.std.proofs.Math.Numerals.{add-one}
 use Rattle.std.proofs.lemmas.Bool.{cases_lt}
-use Rattle.stop_desk.specs.Counts.{marks, is_mark, once_below}
-use Rattle.stop_desk.specs.Stop.{place_at, past_places, IsStop}
-use Rattle.stop_desk.specs.Desk.{DeskId, ClosedView, IsConnection, opening_stop, final_stop}
+use Rattle.stop_desk.specs.code.Counts.{marks, is_mark, once_below}
+use Rattle.stop_desk.specs.code.Stop.{place_at, past_places, IsStop}
+use Rattle.stop_desk.specs.code.Desk.{DeskId, ClosedView, IsConnection, opening_stop, final_stop}
 use Rattle.stop_desk.proofs.Marks.{mark-cases, mark-here}
-use Rattle.split_merge.specs.Board.{stop_of}
+use Rattle.split_merge.specs.code.Board.{stop_of}
 use Rattle.split_merge.proofs.RoundMembers.{pair, contains-none, contains-here, contains-later, contains-cases}
-use Rattle.job_crew.specs.Crew.{opening_stops, last_stops_from, last_stops}
+use Rattle.job_crew.specs.code.Crew.{opening_stops, last_stops_from, last_stops}
 
 pub contains-marks : (c p : ℕ) (ms : List (ℕ × ℕ)) → Contains ms (c, p) → 0 < marks c p ms
 contains-marks c p [] h = absurd (contains-none (pair c p) h)
 contains-marks c p (m ∷ ms) h = by_case (contains-marks c p ms) (contains-cases m ms (c, p) h) where
-  by_case : (Contains ms (c, p) → 0 < marks c p ms) → (m ≡ (c, p)) ⊎ Contains ms (c, p) → 0 < is_mark c p m + marks c p ms
+  by_case : (Contains ms (c, p) → 0 < marks c p ms) → (m ≡ (c, p)) ⊎ Contains ms (c, p)
+      → 0 < is_mark c p m + marks c p ms
   by_case ih (inl same) = let one = mark-here c p in let is = ap (is_mark c p) same in omega arith
   by_case ih (inr k) = let rest = ih k in omega arith
 
 pub marks-contains : (c p : ℕ) (ms : List (ℕ × ℕ)) → 0 < marks c p ms → Contains ms (c, p)
 marks-contains c p [] h = absurd (omega arith)
 marks-contains c p (m ∷ ms) h = by_case (marks-contains c p ms) (mark-cases c p m) where
-  by_case : (0 < marks c p ms → Contains ms (c, p)) → (is_mark c p m ≡ 0) ⊎ ((c ≡ m.0) × (p ≡ m.1)) → Contains (m ∷ ms) (c, p)
+  by_case : (0 < marks c p ms → Contains ms (c, p)) → (is_mark c p m ≡ 0) ⊎ ((c ≡ m.0) × (p ≡ m.1))
+      → Contains (m ∷ ms) (c, p)
   by_case ih (inl none) = contains-later m ms (c, p) (ih (omega arith))
   by_case ih (inr same) =
       let is : m ≡ (c, p) = λ i. (sym same.0 i, sym same.1 i) in
@@ -82,13 +86,15 @@ opening-past desk c past =
     let le = rest-past desk.opened c past in
     past-all (opening_stops desk) c (omega arith)
 
-pub final-at : (closed : ClosedView) (c : ℕ) → IsConnection closed.desk c → stop_of (last_stops closed) c ≡ final_stop closed c
+pub final-at : (closed : ClosedView) (c : ℕ) → IsConnection closed.desk c
+    → stop_of (last_stops closed) c ≡ final_stop closed c
 final-at closed c there =
     let at = rest-at closed.desk.opened c there in
     let e : 0 + c ≡ c = omega arith in
     last-at closed 0 (drop 1 closed.desk.opened) c at.0 ∙ ap (final_stop closed) e
 
-pub final-past : (closed : ClosedView) (c : ℕ) → length closed.desk.opened ≤ c + 1 → stop_of (last_stops closed) c ≡ None
+pub final-past : (closed : ClosedView) (c : ℕ) → length closed.desk.opened ≤ c + 1
+    → stop_of (last_stops closed) c ≡ None
 final-past closed c past =
     let same = length-last_stops_from closed 0 (drop 1 closed.desk.opened) in
     let le = rest-past closed.desk.opened c past in
@@ -128,7 +134,8 @@ is_stop-if true n e = ltb-true n past_places e
 is_stop-if false n e = tt
 
 -- each last stop is none or a place
-pub last_stops-places : (closed : ClosedView) (first : ℕ) (words : List ℕ) → All IsStop (last_stops_from closed first words)
+pub last_stops-places : (closed : ClosedView) (first : ℕ) (words : List ℕ)
+    → All IsStop (last_stops_from closed first words)
 last_stops-places closed first [] k d lt = absurd (omega arith)
 last_stops-places closed first (w ∷ ws) zero d lt =
     is_stop-if (nat_lt (get_or closed.words (first + 1) 0) past_places) (get_or closed.words (first + 1) 0) refl

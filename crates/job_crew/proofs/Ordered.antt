@@ -1,14 +1,15 @@
 -- The parts of a settled board, in the order of their jobs.
-use Rattle.std.proofs.Common.{◌≡◌, ℕ, zero, suc, ◌+◌, ◌<◌, ◌≤◌, ◌⊎◌, inl, inr, if◌then◌else◌, ◌==◌, List, [], ◌∷◌, length, map, Some, refl, ap, subst, ◌∙◌, arith, Contains, slice_get, sum_by, eq-eqb}
+use Rattle.std.proofs.Common.{◌≡◌, ℕ, zero, suc, ◌+◌, ◌<◌, ◌≤◌, ◌⊎◌, inl, inr, if◌then◌else◌, ◌==◌, List, [], ◌∷◌}
+use Rattle.std.proofs.Common.{length, map, Some, refl, ap, subst, ◌∙◌, arith, Contains, slice_get, sum_by, eq-eqb}
 use Rattle.std.specs.List.Sorted.{IsNonDecreasingBy}
 use Rattle.std.proofs.lemmas.List.Sums.{sum_by-cons}
 use mathlib.Core.Logic.{dite}
 use native.Mathlib.Decide.{ℕ_discrete}
-use Rattle.split_merge.specs.Board.{parts_of}
+use Rattle.split_merge.specs.code.Board.{parts_of}
 use Rattle.split_merge.proofs.RoundMembers.{contains-none, contains-here, contains-later, contains-cases}
 use Rattle.split_merge.proofs.RoundSteps.{parts_of-cons}
 use Rattle.job_crew.specs.declared.parts.Part.{Part}
-use Rattle.job_crew.specs.Laid.{part_of}
+use Rattle.job_crew.specs.code.Laid.{part_of}
 use Rattle.job_crew.proofs.Counting.{number-cases}
 
 pub contains-map : {X Y : Type 0} (f : X → Y) (xs : List X) (x : X) → Contains xs x → Contains (map f xs) (f x)
@@ -25,7 +26,8 @@ module _ {M : Type 0} where
   abbrev pub copies : ℕ → List (Part M) → ℕ
   copies n parts = sum_by (one_of n) parts
 
-  copies-cons : (n : ℕ) (part : Part M) (parts : List (Part M)) → copies n (part ∷ parts) ≡ one_of n part + copies n parts
+  copies-cons : (n : ℕ) (part : Part M) (parts : List (Part M))
+      → copies n (part ∷ parts) ≡ one_of n part + copies n parts
   copies-cons n part parts = sum_by-cons (one_of n) part parts
 
   pub parts_of-copies : (n : ℕ) (parts : List (Part M)) → parts_of n (map part_of parts) ≡ copies n parts
@@ -49,16 +51,18 @@ module _ {M : Type 0} where
         (r.0, contains-later part parts r.0 r.1, r.2)
     by_case ih (inr same) = (part, contains-here part parts, same.0)
 
-  contains-copies : (n : ℕ) (parts : List (Part M)) (part : Part M) → Contains parts part → part.job ≡ n → 0 < copies n parts
+  contains-copies : (n : ℕ) (parts : List (Part M)) (part : Part M) → Contains parts part → part.job ≡ n
+      → 0 < copies n parts
   contains-copies n [] part h e = absurd (contains-none part h)
-  contains-copies n (first ∷ parts) part h e = by_case (contains-copies n parts part) (contains-cases first parts part h) where
-    by_case : (Contains parts part → part.job ≡ n → 0 < copies n parts) → (first ≡ part) ⊎ Contains parts part →
-        0 < copies n (first ∷ parts)
-    by_case ih (inl same) =
-        let c = copies-cons n first parts in
-        let one : one_of n first ≡ 1 = rw (eq-eqb first.job n (ap (λ (p : Part M). p.job) same ∙ e)) refl in
-        omega arith
-    by_case ih (inr k) = let c = copies-cons n first parts in let r = ih k e in omega arith
+  contains-copies n (first ∷ parts) part h e = by_case (contains-copies n parts part)
+      (contains-cases first parts part h) where
+        by_case : (Contains parts part → part.job ≡ n → 0 < copies n parts) → (first ≡ part) ⊎ Contains parts part →
+            0 < copies n (first ∷ parts)
+        by_case ih (inl same) =
+            let c = copies-cons n first parts in
+            let one : one_of n first ≡ 1 = rw (eq-eqb first.job n (ap (λ (p : Part M). p.job) same ∙ e)) refl in
+            omega arith
+        by_case ih (inr k) = let c = copies-cons n first parts in let r = ih k e in omega arith
 
   -- parts that do not fall by job, one for each of `count` jobs from `first` on
   pub record Runs (first count : ℕ) (parts : List (Part M)) : Type 0 where
@@ -74,7 +78,8 @@ module _ {M : Type 0} where
   in-turn first zero (part ∷ parts) rise among once =
       let a = among part (contains-here part parts) in let b = a.0 in let c = a.1 in absurd (omega arith)
   in-turn first (suc count) (part ∷ parts) rise among once =
-      joined (in-turn (first + 1) count parts (λ i j d le lt. rise (suc i) (suc j) d (omega arith) (omega arith)) past rest-once) where
+      joined (in-turn (first + 1) count parts (λ i j d le lt. rise (suc i) (suc j) d (omega arith) (omega arith)) past
+      rest-once) where
         among-head : (first ≤ part.job) × (part.job < first + suc count)
         among-head = among part (contains-here part parts)
 
@@ -127,7 +132,8 @@ module _ {M : Type 0} where
               by_case o c h (inl none) = omega arith
               by_case o c h (inr same) = let e = same.0 in absurd (omega arith)
 
-        turn : Runs (first + 1) count parts → (n : ℕ) (p : Part M) → slice_get (part ∷ parts) n ≡ Some p → p.job ≡ first + n
+        turn : Runs (first + 1) count parts → (n : ℕ) (p : Part M) → slice_get (part ∷ parts) n ≡ Some p
+            → p.job ≡ first + n
         turn rest zero p e =
             let same : part ≡ p = cc in let f = ap (λ (q : Part M). q.job) same in let h = head in omega arith
         turn rest (suc n) p e = let r = rest.each n p e in omega arith

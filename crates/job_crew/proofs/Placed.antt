@@ -1,23 +1,26 @@
 -- What is left of a round, its parts put in the order of their jobs.
-use Rattle.std.proofs.Common.{◌≡◌, ℕ, ◌+◌, ◌≤◌, List, length, map, drop, Option, Some, None, refl, sym, ap, subst, ◌∙◌, arith, Contains, slice_get, All}
+use Rattle.std.proofs.Common.{◌≡◌, ℕ, ◌+◌, ◌≤◌, List, length, map, drop, Option, Some, None, refl, sym, ap, subst, ◌∙◌}
+use Rattle.std.proofs.Common.{arith, Contains, slice_get, All}
 use Rattle.std.proofs.lemmas.Option.{slice_get_within}
 use Rattle.std.specs.List.Sorted.{IsPermutation, IsNonDecreasingBy}
 use Rattle.std.proofs.lemmas.List.Sorted.{sum_by-IsPermutation, IsPermutation-sym, Contains-permutation}
-use Rattle.stop_desk.specs.Stop.{IsStop}
-use Rattle.stop_desk.specs.Desk.{DeskId, ClosedView}
-use Rattle.split_merge.specs.Board.{Job, Part as BoardPart, IsLeast, IsPartOf, parts_of, stop_of, IsGiven, IsSettled}
+use Rattle.stop_desk.specs.code.Stop.{IsStop}
+use Rattle.stop_desk.specs.code.Desk.{DeskId, ClosedView}
+use Rattle.split_merge.specs.code.Board.{Job, Part as BoardPart, IsLeast, IsPartOf, parts_of, stop_of, IsGiven}
+use Rattle.split_merge.specs.code.Board.{IsSettled}
 use Rattle.split_merge.proofs.RoundMembers.{contains-got}
 use Rattle.job_crew.specs.declared.parts.Part.{Part}
 use Rattle.job_crew.specs.declared.settling.Settled.{Settled}
-use Rattle.job_crew.specs.Laid.{part_of, board_with}
-use Rattle.job_crew.specs.Crew.{opening_stops, last_stops, IsDone}
-use Rattle.job_crew.specs.Settling.{HasSettled}
+use Rattle.job_crew.specs.code.Laid.{part_of, board_with}
+use Rattle.job_crew.specs.code.Crew.{opening_stops, last_stops, IsDone}
+use Rattle.job_crew.specs.code.Settling.{HasSettled}
 use Rattle.job_crew.proofs.Marked.{map-contains, length-last_stops, last_stops-places}
 use Rattle.job_crew.proofs.Ordered.{one_of, contains-map, parts_of-copies, Runs, in-turn}
 
 module _ {M : Type 0} (jobs : List Job) (opening : List (Option ℕ)) (parts sorted : List (Part M))
     (seen lowered : List (ℕ × ℕ)) (stops : List (Option ℕ)) (same : IsPermutation parts sorted)
-    (board : IsSettled (record { jobs = jobs; opening_stops = opening }) (board_with (map part_of parts) seen lowered stops)) where
+    (board : IsSettled (record { jobs = jobs; opening_stops = opening })
+    (board_with (map part_of parts) seen lowered stops)) where
   from-sorted : (part : BoardPart) → Contains (map part_of sorted) part → Contains (map part_of parts) part
   from-sorted part k =
       let m = map-contains part_of sorted part k in
@@ -29,7 +32,8 @@ module _ {M : Type 0} (jobs : List Job) (opening : List (Option ℕ)) (parts sor
   counted job =
       parts_of-copies job sorted ∙ sum_by-IsPermutation (one_of job) parts sorted same ∙ sym (parts_of-copies job parts)
 
-  pub board-sorted : IsSettled (record { jobs = jobs; opening_stops = opening }) (board_with (map part_of sorted) seen lowered stops)
+  pub board-sorted : IsSettled (record { jobs = jobs; opening_stops = opening })
+      (board_with (map part_of sorted) seen lowered stops)
   board-sorted = record {
     one_part_each = λ job lt. counted job ∙ board.one_part_each job lt;
     parts_of_jobs = λ part k. board.parts_of_jobs part (from-sorted part k);
@@ -40,7 +44,8 @@ module _ {M : Type 0} (jobs : List Job) (opening : List (Option ℕ)) (parts sor
 
 module _ {M : Type 0} (jobs : List Job) (opening : List (Option ℕ)) (parts : List (Part M))
     (seen lowered : List (ℕ × ℕ)) (stops : List (Option ℕ))
-    (board : IsSettled (record { jobs = jobs; opening_stops = opening }) (board_with (map part_of parts) seen lowered stops)) where
+    (board : IsSettled (record { jobs = jobs; opening_stops = opening })
+    (board_with (map part_of parts) seen lowered stops)) where
   of-job : (part : Part M) → Contains parts part →
       (job : Job) × (slice_get jobs part.job ≡ Some job) × IsPartOf seen lowered job (part_of part)
   of-job part k = board.parts_of_jobs (part_of part) (contains-map part_of parts part k)
@@ -73,9 +78,12 @@ pub has-settled : {M : Type 0} (makes : ℕ → Option ℕ → M → Type 0) (jo
 has-settled {M} makes jobs opening desk round parts closed settled done opened same rise stops_are =
     let sorted = settled.parts.items in
     let stops = settled.stops.items in
-    let board : IsSettled (record { jobs = jobs; opening_stops = opening }) (board_with (map part_of parts) closed.seen closed.lowered stops)
-    = subst (λ ss. IsSettled (record { jobs = jobs; opening_stops = opening }) (board_with (map part_of parts) closed.seen closed.lowered ss)) (sym stops_are)
-    (subst (λ os. IsSettled (record { jobs = jobs; opening_stops = os }) (board_with (map part_of parts) closed.seen closed.lowered (last_stops closed))) opened done.board) in
+    let board : IsSettled (record { jobs = jobs; opening_stops = opening })
+    (board_with (map part_of parts) closed.seen closed.lowered stops)
+    = subst (λ ss. IsSettled (record { jobs = jobs; opening_stops = opening })
+    (board_with (map part_of parts) closed.seen closed.lowered ss)) (sym stops_are)
+    (subst (λ os. IsSettled (record { jobs = jobs; opening_stops = os })
+    (board_with (map part_of parts) closed.seen closed.lowered (last_stops closed))) opened done.board) in
     let board' = board-sorted jobs opening parts sorted closed.seen closed.lowered stops same board in
     let run = runs jobs opening sorted closed.seen closed.lowered stops board' rise in record {
       seen = closed.seen;
@@ -85,7 +93,8 @@ has-settled {M} makes jobs opening desk round parts closed settled done opened s
       in_order = λ n part e.
           let zero_more : 0 + n ≡ n = omega arith in
           let is : part.job ≡ n = run.each n part e ∙ zero_more in
-          let was = Contains-permutation sorted parts part (IsPermutation-sym parts sorted same) (contains-got sorted n part e) in
+          let was = Contains-permutation sorted parts part (IsPermutation-sym parts sorted same)
+          (contains-got sorted n part e) in
           (is, subst (λ m. makes m part.upto part.made) is (done.made part was).1);
       connections =
           ap length stops_are ∙ length-last_stops closed

@@ -1,13 +1,15 @@
 -- The places at which findings end a connection, and looks at them.
-use Rattle.std.proofs.Common.{◌≡◌, ℕ, Bool, true, false, List, [], ◌∷◌, ◌++◌, refl, sym, ap, subst, ◌∙◌, ◌⊎◌, inl, inr, Option, Some, None, Contains}
+use Rattle.std.proofs.Common.{◌≡◌, ℕ, Bool, true, false, List, [], ◌∷◌, ◌++◌, refl, sym, ap, subst, ◌∙◌, ◌⊎◌, inl, inr}
+use Rattle.std.proofs.Common.{Option, Some, None, Contains}
 use Rattle.std.proofs.lemmas.List.Elements.{Contains-append_left, Contains-append_right, Contains-append_cases}
 use Rattle.audit_terms.specs.declared.findings.Finding.{Finding}
 use Rattle.audit_terms.specs.Finding.{stops, in_order}
-use Rattle.audit_terms.specs.runs.Look.{Asked, Looked}
-use Rattle.stop_desk.specs.Desk.{PassView, pass_of}
-use Rattle.stop_desk.specs.Calls.{IsLook}
-use Rattle.split_merge.specs.Board.{StopsAt, IsCut}
-use Rattle.split_merge.proofs.RoundMembers.{pair, contains-none, contains-here, contains-later, contains-cases, contains-in_order, in_order-contains}
+use Rattle.audit_terms.specs.code.runs.Look.{Asked, Looked}
+use Rattle.stop_desk.specs.code.Desk.{PassView, pass_of}
+use Rattle.stop_desk.specs.code.Calls.{IsLook}
+use Rattle.split_merge.specs.code.Board.{StopsAt, IsCut}
+use Rattle.split_merge.proofs.RoundMembers.{pair, contains-none, contains-here, contains-later, contains-cases}
+use Rattle.split_merge.proofs.RoundMembers.{contains-in_order, in_order-contains}
 use Rattle.job_crew.specs.code.Worked.{stops_on}
 
 -- an error of the connection is one of the places
@@ -18,12 +20,15 @@ contains-stops_on connection found (first ∷ rest) h s =
     by_test _ refl (contains-stops_on connection found rest) (contains-cases first rest found h) where
       by_test : (b : Bool) → stops first ≡ b →
           (Contains rest found → stops found ≡ true → Contains (stops_on connection rest) (connection, found.place)) →
-          (first ≡ found) ⊎ Contains rest found → Contains (stops_on connection (first ∷ rest)) (connection, found.place)
+          (first ≡ found) ⊎ Contains rest found → Contains (stops_on connection (first ∷ rest))
+          (connection, found.place)
       by_test true e ih (inl same) =
-          rw e (subst (λ (f : Finding). Contains (pair connection first.place ∷ stops_on connection rest) (connection, f.place)) same
+          rw e (subst (λ (f : Finding). Contains (pair connection first.place ∷ stops_on connection rest)
+          (connection, f.place)) same
           (contains-here (pair connection first.place) (stops_on connection rest)))
       by_test true e ih (inr k) =
-          rw e (contains-later (pair connection first.place) (stops_on connection rest) (connection, found.place) (ih k s))
+          rw e (contains-later (pair connection first.place) (stops_on connection rest) (connection, found.place)
+          (ih k s))
       by_test false e ih (inl same) = let t : stops first ≡ true = ap stops same ∙ s in cc
       by_test false e ih (inr k) = rw e (ih k s)
 
@@ -73,7 +78,8 @@ record Sees (c : ℕ) (before after : PassView) (answer : Option ℕ) : Type 0 w
   answered : (p : ℕ) → answer ≡ Some p → Contains after.seen (c, p)
 
 sees-place : (c q : ℕ) (before : PassView) →
-    Sees c before (pass_of before.desk before.allowance before.drawn (before.seen ++ (c, q) ∷ []) before.lowered) (Some q)
+    Sees c before (pass_of before.desk before.allowance before.drawn (before.seen ++ (c, q) ∷ []) before.lowered)
+    (Some q)
 sees-place c q before = record {
   kept = refl;
   seen_kept = λ d p k. Contains-append_left before.seen ((c, q) ∷ []) (d, p) k;
@@ -87,7 +93,8 @@ sees-place c q before = record {
   last d p (inl same) = inr (ap (λ (x : ℕ × ℕ). x.0) same)
   last d p (inr none) = absurd (contains-none (d, p) none)
 
-  from : (d p : ℕ) → Contains before.seen (d, p) ⊎ Contains (pair c q ∷ []) (d, p) → Contains before.seen (d, p) ⊎ (c ≡ d)
+  from : (d p : ℕ) → Contains before.seen (d, p) ⊎ Contains (pair c q ∷ []) (d, p) → Contains before.seen (d, p)
+      ⊎ (c ≡ d)
   from d p (inl k) = inl k
   from d p (inr k) = last d p (contains-cases (c, q) [] (d, p) k)
 

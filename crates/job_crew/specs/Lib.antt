@@ -1,5 +1,1 @@
-pub mod Heeding
-pub mod Laid
-pub mod Crew
-pub mod Settling
 pub mod code

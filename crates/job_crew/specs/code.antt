@@ -1,1 +1,5 @@
 pub mod Worked
+pub mod Heeding
+pub mod Laid
+pub mod Crew
+pub mod Settling

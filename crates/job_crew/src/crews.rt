@@ -2,9 +2,9 @@
 
 ghost use Rattle.std.specs.Prelude.{◌≡◌, ◌+◌, ◌-◌, ◌*◌, ◌<◌, [], ◌++◌, All, IfOk, length};
 ghost use Rattle.std.specs.Thread.{IsSend, IsSync};
-ghost use Rattle.stop_desk.specs.Desk.{pass_of, all_draws, IsConnection};
-ghost use Rattle.split_merge.specs.Board.{Job};
-ghost use Rattle.job_crew.specs.Crew.{IsDone};
+ghost use Rattle.stop_desk.specs.code.Desk.{pass_of, all_draws, IsConnection};
+ghost use Rattle.split_merge.specs.code.Board.{Job};
+ghost use Rattle.job_crew.specs.code.Crew.{IsDone};
 ghost use Rattle.job_crew.specs.code.Worked.{IsAllWorked};
 
 use crate::gate::Gate;

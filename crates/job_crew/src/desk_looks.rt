@@ -1,7 +1,7 @@
 //! The looks of a job at the stop of its connection.
 
 ghost use Rattle.std.specs.Prelude.{◌≡◌};
-ghost use Rattle.stop_desk.specs.Desk.{IsConnection};
+ghost use Rattle.stop_desk.specs.code.Desk.{IsConnection};
 
 use audit_terms::{Finding, Look, Place};
 use stop_desk::{Desk, Pass};
@@ -17,7 +17,7 @@ pub(crate) struct DeskLook<'a> {
 }
 
 impl Look for DeskLook<'_> {
-    ghost use Rattle.stop_desk.specs.Calls.{IsLook};
+    ghost use Rattle.stop_desk.specs.code.Calls.{IsLook};
 
     ghost answers = { λ before found answer after. (after.connection ≡ before.connection)
         × (after.desk.now ≡ before.desk.now) × IsLook before.connection before.pass answer after.pass };

@@ -10,7 +10,7 @@
 //!   each up to a place that was seen; each error of a part was lowered; each stop is the least of its opening stop and
 //!   what was lowered. So nothing is lost before the stop of a connection, and the stop is its least error.
 //! - [`settle`] gives the parts in the order of jobs, with the stops read, and says of each part that it was not cut
-//!   below its connection's stop (`HasSettled` of `specs/Settling.antt`).
+//!   below its connection's stop (`HasSettled` of `specs/code/Settling.antt`).
 //! - [`Gate`] holds workers back before they start a job, for tests. It has no say in the answer.
 //!
 //! Of an implementor's work it asks that it keeps all findings up to a place, which is none or the answer of one of its

@@ -1,10 +1,10 @@
 ghost use Rattle.std.specs.Prelude.{◌≡◌, ◌+◌, ◌<◌, All, Contains, IfOk, length};
 ghost use Rattle.std.specs.List.Sorted.{IsPermutation, IsNonDecreasingBy};
-ghost use Rattle.stop_desk.specs.Stop.{IsStop};
-ghost use Rattle.split_merge.specs.Board.{Job};
+ghost use Rattle.stop_desk.specs.code.Stop.{IsStop};
+ghost use Rattle.split_merge.specs.code.Board.{Job};
 ghost use Rattle.job_crew.specs.declared.parts.Part.{Part as PartTerm};
-ghost use Rattle.job_crew.specs.Crew.{last_stops};
-ghost use Rattle.job_crew.specs.Settling.{HasSettled};
+ghost use Rattle.job_crew.specs.code.Crew.{last_stops};
+ghost use Rattle.job_crew.specs.code.Settling.{HasSettled};
 
 use crate::crews::crew;
 use crate::gate::Gate;

@@ -1,10 +1,12 @@
 -- Packets of rows in two halves, each in parts.
-use Rattle.std.proofs.Common.{◌≡◌, ℕ, ◌+◌, ◌-◌, ◌%◌, ◌<◌, ◌≤◌, List, [], ◌∷◌, ◌++◌, length, map, take, drop, take-append-drop, length-append, append-nil, refl, sym, ap, subst, ◌∙◌, arith}
+use Rattle.std.proofs.Common.{◌≡◌, ℕ, ◌+◌, ◌-◌, ◌%◌, ◌<◌, ◌≤◌, List, [], ◌∷◌, ◌++◌, length, map, take, drop}
+use Rattle.std.proofs.Common.{take-append-drop, length-append, append-nil, refl, sym, ap, subst, ◌∙◌, arith}
 use Rattle.std.specs.List.{enumerate_from}
 use Rattle.std.proofs.lemmas.List.{length-take-le}
 use Rattle.std.proofs.lemmas.Grind.{flat_map-append}
 use Rattle.pcap_records.specs.declared.capture.Record.{Record}
-use Rattle.parted_list.specs.Parts.{ArePartsOf, joined}
+use Rattle.parted_list.specs.Parts.{joined}
+use Rattle.parted_list.specs.code.Sizes.{ArePartsOf}
 use Rattle.packet_heads.specs.declared.packets.Packet.{Packet}
 use Rattle.packet_heads.specs.Decision.{packet_decision}
 use Rattle.packet_heads.proofs.Rows.{AllStand-length}
@@ -23,7 +25,8 @@ decisions-append link number (row ∷ front) back capture =
 
 stand-append : (number : ℕ) (front back : List Record) (some more : List Packet) → AllStand number front some
     → AllStand (number + length front) back more → AllStand number (front ++ back) (some ++ more)
-stand-append number [] back [] more one other = subst (λ n. AllStand n back more) (let e : number + 0 ≡ number = omega arith in e) other
+stand-append number [] back [] more one other = subst (λ n. AllStand n back more)
+    (let e : number + 0 ≡ number = omega arith in e) other
 stand-append number [] back (p ∷ some) more one other = absurd one
 stand-append number (row ∷ front) back [] more one other = absurd one
 stand-append number (row ∷ front) back (p ∷ some) more one other =
@@ -44,8 +47,10 @@ cut-append count rest (part ∷ []) (next ∷ more) some whole left one other =
 cut-append count rest (part ∷ next ∷ parts) more some whole left one other = (
   one.0,
   omega (arith, one.1),
-  subst (λ n. AreCut n (next ∷ parts ++ more)) (let e : count - 8192 + rest ≡ count + rest - 8192 = omega (arith, one.1) in e)
-      (cut-append (count - 8192) rest (next ∷ parts) more (omega (arith, one.1)) (omega (arith, one.1, whole)) left one.2 other),
+  subst (λ n. AreCut n (next ∷ parts ++ more))
+      (let e : count - 8192 + rest ≡ count + rest - 8192 = omega (arith, one.1) in e)
+      (cut-append (count - 8192) rest (next ∷ parts) more (omega (arith, one.1)) (omega (arith, one.1, whole)) left
+      one.2 other),
 )
 
 -- one part
@@ -57,7 +62,8 @@ one_part link number rows capture packets few is = record {
 }
 
 -- the parts of two halves
-pub halves : (link number at : ℕ) (rows front back : List Record) (capture : List ℕ) (parts more all : List (List Packet))
+pub halves : (link number at : ℕ) (rows front back : List Record) (capture : List ℕ)
+    (parts more all : List (List Packet))
     → front ≡ take at rows → back ≡ drop at rows → 0 < at → at < length rows → at % 8192 ≡ 0
     → AreDecidedParts link number front capture parts → AreDecidedParts link (number + at) back capture more
     → all ≡ parts ++ more → AreDecidedParts link number rows capture all
@@ -73,7 +79,8 @@ halves link number at rows front back capture parts more all is_front is_back so
     ∙ ap (λ l. decisions_from link number front capture ++ l) second.exact
     ∙ sym (decisions-append link number front back capture) in
     let stand : AllStand number (front ++ back) (joined all) =
-    subst (AllStand number (front ++ back)) (sym flat) (stand-append number front back (joined parts) (joined more) one.decided.stand second.stand) in
+    subst (AllStand number (front ++ back)) (sym flat)
+    (stand-append number front back (joined parts) (joined more) one.decided.stand second.stand) in
     let cut : AreCut (length front + length back) (parts ++ more) =
     cut-append (length front) (length back) parts more (omega (arith, size, some)) (ap (λ n. n % 8192) size ∙ whole)
     (omega (arith, size, total, fewer)) one.cut other.cut in
@@ -89,7 +96,12 @@ halves link number at rows front back capture parts more all is_front is_back so
 pub cut-parts : (count : ℕ) (parts : List (List Packet)) → AreCut count parts → ArePartsOf 8192 parts
 cut-parts count [] h = absurd h
 cut-parts count (part ∷ []) h = (omega (arith, h.0, h.1), (λ some. absurd (omega (arith, some))), tt)
-cut-parts count (part ∷ next ∷ later) h = (omega (arith, h.0), (λ some. h.0), cut-parts (count - 8192) (next ∷ later) h.2)
+cut-parts count (part ∷ next ∷ later) h = (
+  omega (arith, h.0),
+  (λ some. h.0),
+  cut-parts (count - 8192)
+      (next ∷ later) h.2,
+)
 
 -- the decisions on all records, as the code counts them
 pub decisions-numbered : (link number : ℕ) (rows : List Record) (capture : List ℕ)
@@ -97,4 +109,5 @@ pub decisions-numbered : (link number : ℕ) (rows : List Record) (capture : Lis
     ≡ map (λ (numbered : ℕ × Record). packet_decision link numbered.0 numbered.1 capture) (enumerate_from number rows)
 decisions-numbered link number [] capture = refl
 decisions-numbered link number (row ∷ rows) capture =
-    ap (λ (later : List Packet). packet_decision link number row capture ∷ later) (decisions-numbered link (number + 1) rows capture)
+    ap (λ (later : List Packet). packet_decision link number row capture ∷ later)
+    (decisions-numbered link (number + 1) rows capture)

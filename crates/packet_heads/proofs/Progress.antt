@@ -1,5 +1,6 @@
 -- What completes the packets so far completes all of them.
-use Rattle.std.proofs.Common.{◌≡◌, ℕ, ◌+◌, ◌<◌, List, [], ◌∷◌, ◌++◌, length, drop, get_or, sym, ap, subst, ◌∙◌, append_assoc, append-nil, arith}
+use Rattle.std.proofs.Common.{◌≡◌, ℕ, ◌+◌, ◌<◌, List, [], ◌∷◌, ◌++◌, length, drop, get_or, sym, ap, subst, ◌∙◌}
+use Rattle.std.proofs.Common.{append_assoc, append-nil, arith}
 use Rattle.std.proofs.Math.Seq.{drop-length}
 use Rattle.std.proofs.lemmas.List.{drop_more}
 use Rattle.pcap_records.specs.declared.capture.Record.{Record}
@@ -8,9 +9,12 @@ use Rattle.packet_heads.specs.Decision.{packet_decision}
 use Rattle.packet_heads.specs.code.Standing.{decisions_from, StandsIn, AllStand, AreDecided}
 
 -- the packets of the rows before this index, and the rows from it on, where the first row has this number
-pub record Progress (link first : ℕ) (rows : List Record) (capture : List ℕ) (index : ℕ) (packets : List Packet) : Type 0 where
-  pub exact : packets ++ decisions_from link (first + index) (drop index rows) capture ≡ decisions_from link first rows capture
-  pub stand : (later : List Packet) → AllStand (first + index) (drop index rows) later → AllStand first rows (packets ++ later)
+pub record Progress (link first : ℕ) (rows : List Record) (capture : List ℕ) (index : ℕ) (packets : List Packet) : Type
+    0 where
+  pub exact : packets ++ decisions_from link (first + index) (drop index rows) capture ≡ decisions_from link first rows
+      capture
+  pub stand : (later : List Packet) → AllStand (first + index) (drop index rows) later
+      → AllStand first rows (packets ++ later)
 
 pub none_yet : (link first : ℕ) (rows : List Record) (capture : List ℕ) → Progress link first rows capture 0 []
 none_yet link first rows capture =
@@ -20,7 +24,8 @@ none_yet link first rows capture =
       stand = λ later h. subst (λ n. AllStand n rows later) e h;
     }
 
-pub one_more : (link first : ℕ) (rows : List Record) (capture : List ℕ) (index : ℕ) (packets : List Packet) (d : Record) (p : Packet)
+pub one_more : (link first : ℕ) (rows : List Record) (capture : List ℕ) (index : ℕ) (packets : List Packet) (d : Record)
+    (p : Packet)
     → Progress link first rows capture index packets → index < length rows
     → p ≡ packet_decision link (first + index) (get_or rows index d) capture
     → StandsIn (first + index) (get_or rows index d) p

@@ -3,10 +3,10 @@ use Rattle.std.proofs.Common.{◌≡◌, ℕ, zero, suc, ◌+◌, ◌^◌, ◌<�
 use Rattle.std.specs.Prelude.{All}
 use Rattle.std.specs.List.{AllByRecursion}
 use Rattle.pcap_records.specs.declared.capture.Record.{Record}
-use Rattle.pcap_records.specs.Place.{AreWithin, RiseFrom}
+use Rattle.pcap_records.specs.code.Place.{AreWithin, RiseFrom}
 use Rattle.packet_heads.specs.declared.packets.Packet.{Packet}
 use Rattle.packet_heads.specs.declared.packets.Packet.TheVariants.{Segment, Skipped, Refused}
-use Rattle.packet_heads.specs.Order.{AreNumberedFrom, PayloadsRise, TimesFit}
+use Rattle.packet_heads.specs.code.Order.{AreNumberedFrom, PayloadsRise, TimesFit}
 use Rattle.packet_heads.specs.code.Standing.{AllStand, EndsWithin}
 
 -- rows that rise from a place to the end have it before the end
@@ -17,23 +17,27 @@ RiseFrom-le from size (row ∷ rows) h =
     omega (arith, h.0, rest)
 
 -- each row ends before the end
-pub RiseFrom-at : (from size : ℕ) (rows : List Record) (k : ℕ) (d : Record) → RiseFrom from size rows → k < length rows → (get_or rows k d).start + (get_or rows k d).length ≤ size
+pub RiseFrom-at : (from size : ℕ) (rows : List Record) (k : ℕ) (d : Record) → RiseFrom from size rows → k < length rows
+    → (get_or rows k d).start + (get_or rows k d).length ≤ size
 RiseFrom-at from size [] k d h below = absurd (omega arith)
 RiseFrom-at from size (row ∷ rows) zero d h below = RiseFrom-le (row.start + row.length) size rows h.1
-RiseFrom-at from size (row ∷ rows) (suc k) d h below = RiseFrom-at (row.start + row.length) size rows k d h.1 (omega arith)
+RiseFrom-at from size (row ∷ rows) (suc k) d h below = RiseFrom-at (row.start + row.length) size rows k d h.1
+    (omega arith)
 
 -- the records of a capture end within it
 pub ends-within : (size : ℕ) (rows : List Record) → AreWithin size rows → All (EndsWithin size) rows
 ends-within size rows h k d below = RiseFrom-at 24 size rows k d h.1 below
 
 -- as many packets as rows
-pub AllStand-length : (number : ℕ) (rows : List Record) (packets : List Packet) → AllStand number rows packets → length packets ≡ length rows
+pub AllStand-length : (number : ℕ) (rows : List Record) (packets : List Packet) → AllStand number rows packets
+    → length packets ≡ length rows
 AllStand-length number [] [] h = refl
 AllStand-length number [] (p ∷ packets) h = absurd h
 AllStand-length number (row ∷ rows) [] h = absurd h
 AllStand-length number (row ∷ rows) (p ∷ packets) h = ap suc (AllStand-length (number + 1) rows packets h.1)
 
-pub AllStand-numbered : (number : ℕ) (rows : List Record) (packets : List Packet) → AllStand number rows packets → AreNumberedFrom number packets
+pub AllStand-numbered : (number : ℕ) (rows : List Record) (packets : List Packet) → AllStand number rows packets
+    → AreNumberedFrom number packets
 AllStand-numbered number rows [] h = tt
 AllStand-numbered number [] (p ∷ packets) h = absurd h
 AllStand-numbered number (row ∷ rows) (Segment s ∷ packets) h = (h.0.0, AllStand-numbered (number + 1) rows packets h.1)
@@ -41,11 +45,13 @@ AllStand-numbered number (row ∷ rows) (Skipped s ∷ packets) h = AllStand-num
 AllStand-numbered number (row ∷ rows) (Refused r ∷ packets) h = AllStand-numbered (number + 1) rows packets h.1
 
 -- rows that rise from a place rise from an earlier one
-RiseFrom-earlier : (from before size : ℕ) (rows : List Record) → before ≤ from → RiseFrom from size rows → RiseFrom before size rows
+RiseFrom-earlier : (from before size : ℕ) (rows : List Record) → before ≤ from → RiseFrom from size rows
+    → RiseFrom before size rows
 RiseFrom-earlier from before size [] e h = omega (arith, h)
 RiseFrom-earlier from before size (row ∷ rows) e h = (omega (arith, h.0), h.1)
 
-pub AllStand-rise : (number from before size : ℕ) (rows : List Record) (packets : List Packet) → before ≤ from → RiseFrom from size rows → AllStand number rows packets → PayloadsRise before size packets
+pub AllStand-rise : (number from before size : ℕ) (rows : List Record) (packets : List Packet) → before ≤ from
+    → RiseFrom from size rows → AllStand number rows packets → PayloadsRise before size packets
 AllStand-rise number from before size [] [] e rise h = omega (arith, rise)
 AllStand-rise number from before size (row ∷ rows) [] e rise h = absurd h
 AllStand-rise number from before size [] (p ∷ packets) e rise h = absurd h
@@ -59,7 +65,8 @@ AllStand-rise number from before size (row ∷ rows) (Skipped s ∷ packets) e r
 AllStand-rise number from before size (row ∷ rows) (Refused r ∷ packets) e rise h =
     AllStand-rise (number + 1) (row.start + row.length) before size rows packets (omega (arith, rise.0)) rise.1 h.1
 
-pub AllStand-times : (number : ℕ) (rows : List Record) (packets : List Packet) → AllByRecursion (λ r. r.nanos < 2 ^ 63) rows → AllStand number rows packets → TimesFit packets
+pub AllStand-times : (number : ℕ) (rows : List Record) (packets : List Packet)
+    → AllByRecursion (λ r. r.nanos < 2 ^ 63) rows → AllStand number rows packets → TimesFit packets
 AllStand-times number rows [] times h = tt
 AllStand-times number [] (p ∷ packets) times h = absurd h
 AllStand-times number (row ∷ rows) (Segment s ∷ packets) times h =

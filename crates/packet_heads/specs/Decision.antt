@@ -1,5 +1,6 @@
 -- The packet decision: what a record holds.
-use Rattle.std.specs.Prelude.{ℕ, ◌+◌, ◌==◌, ◌&&◌, ◌||◌, Bool, not, nat_lt, if◌then◌else◌, List, [], ◌∷◌, map, find, length, drop}
+use Rattle.std.specs.Prelude.{ℕ, ◌+◌, ◌==◌, ◌&&◌, ◌||◌, Bool, not, nat_lt, if◌then◌else◌, List, [], ◌∷◌, map, find}
+use Rattle.std.specs.Prelude.{length, drop}
 use Rattle.std.specs.List.{enumerate_from}
 use Rattle.std.specs.Option.{option_map_or}
 use Rattle.pcap_records.specs.LinkType.{raw_ip}
@@ -8,7 +9,9 @@ use Rattle.packet_heads.specs.declared.packets.Segment.{Segment}
 use Rattle.packet_heads.specs.declared.packets.Packet.{Packet}
 use Rattle.packet_heads.specs.declared.packets.Packet.TheVariants.{Segment as Carried, Skipped, Refused}
 use Rattle.packet_heads.specs.declared.packets.Skip.TheVariants.{NotIpv4, Fragment, NotTcp}
-use Rattle.packet_heads.specs.declared.packets.Refusal.TheVariants.{ShortEthernet, ShortIpv4, BadVersion, BadHeaderLength, BadTotalLength, PastEnd, ShortTcp, BadDataOffset}
+use Rattle.packet_heads.specs.declared.packets.Refusal.TheVariants.{ShortEthernet, ShortIpv4, BadVersion}
+use Rattle.packet_heads.specs.declared.packets.Refusal.TheVariants.{BadHeaderLength, BadTotalLength, PastEnd, ShortTcp}
+use Rattle.packet_heads.specs.declared.packets.Refusal.TheVariants.{BadDataOffset}
 use Rattle.packet_heads.specs.Link.{packet_of, datagram_start}
 use Rattle.packet_heads.specs.Ethernet as ethernet
 use Rattle.packet_heads.specs.Ipv4 as ipv4

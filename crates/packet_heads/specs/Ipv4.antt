@@ -1,6 +1,7 @@
 -- An IPv4 datagram as far as it was captured, and what may be captured behind it (RFC 791, 3.1). All
 -- numbers are big-endian.
-use Rattle.std.specs.Prelude.{ℕ, ◌*◌, ◌/◌, ◌%◌, ◌^◌, ◌==◌, ◌&&◌, ◌||◌, Bool, not, nat_lt, min, List, length, drop, slice_index, slice_range, if◌then◌else◌}
+use Rattle.std.specs.Prelude.{ℕ, ◌*◌, ◌/◌, ◌%◌, ◌^◌, ◌==◌, ◌&&◌, ◌||◌, Bool, not, nat_lt, min, List, length, drop}
+use Rattle.std.specs.Prelude.{slice_index, slice_range, if◌then◌else◌}
 use Rattle.byteorder.specs.Endian.{big_number}
 
 -- Version: the high 4 bits of byte 0

@@ -1,9 +1,8 @@
 pub mod Decision
 pub mod Ethernet
-pub mod Example
 pub mod Ipv4
 pub mod Link
-pub mod Order
 pub mod Refusal
 pub mod Tcp
+pub mod examples
 pub mod code

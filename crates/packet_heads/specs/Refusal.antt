@@ -1,7 +1,9 @@
 -- What a report calls a packet that cannot be read.
 use Rattle.std.specs.Prelude.{ℕ, List, codes}
 use Rattle.packet_heads.specs.declared.packets.Refusal.{Refusal}
-use Rattle.packet_heads.specs.declared.packets.Refusal.TheVariants.{ShortEthernet, ShortIpv4, BadVersion, BadHeaderLength, BadTotalLength, PastEnd, ShortTcp, BadDataOffset}
+use Rattle.packet_heads.specs.declared.packets.Refusal.TheVariants.{ShortEthernet, ShortIpv4, BadVersion}
+use Rattle.packet_heads.specs.declared.packets.Refusal.TheVariants.{BadHeaderLength, BadTotalLength, PastEnd, ShortTcp}
+use Rattle.packet_heads.specs.declared.packets.Refusal.TheVariants.{BadDataOffset}
 
 -- the name of a refusal, in bytes
 abbrev pub refusal_name : Refusal → List ℕ

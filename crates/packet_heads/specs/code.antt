@@ -3,3 +3,4 @@ pub mod Lines
 pub mod Link
 pub mod Standing
 pub mod Tcp
+pub mod Order

@@ -2,11 +2,12 @@
 
 ghost use Rattle.std.specs.Prelude.{◌≡◌, ℕ, List, ◌+◌, ◌%◌, ◌^◌, ◌<◌, length, map, All, IfOk, IsTrue};
 ghost use Rattle.std.specs.Thread.{IsSync};
-ghost use Rattle.parted_list.specs.Parts.{ArePartsOf, joined};
+ghost use Rattle.parted_list.specs.Parts.{joined};
+ghost use Rattle.parted_list.specs.code.Sizes.{ArePartsOf};
 ghost use Rattle.pcap_records.specs.LinkType.{is_read};
-ghost use Rattle.pcap_records.specs.Place.{AreWithin, AreTimely};
+ghost use Rattle.pcap_records.specs.code.Place.{AreWithin, AreTimely};
 ghost use Rattle.packet_heads.specs.Decision.{packet_decisions};
-ghost use Rattle.packet_heads.specs.Order.{AreNumberedFrom, PayloadsRise, TimesFit};
+ghost use Rattle.packet_heads.specs.code.Order.{AreNumberedFrom, PayloadsRise, TimesFit};
 ghost use Rattle.packet_heads.specs.code.Standing.{AreDecided, AreDecidedParts, EndsWithin};
 
 use crate::decoding::decode;

@@ -2,7 +2,9 @@
 #![tactic(auto, unfolding(crate::specs::Ethernet::is_tagged, crate::specs::Ethernet::header_length, crate::specs::Ethernet::ether_type, crate::specs::Ipv4::version, crate::specs::Ipv4::header_words, crate::specs::Ipv4::total_length, crate::specs::Ipv4::is_fragment, crate::specs::Ipv4::protocol, crate::specs::Ipv4::source_address, crate::specs::Ipv4::destination_address, crate::specs::Tcp::source_port, crate::specs::Tcp::destination_port, crate::specs::Tcp::sequence_number, crate::specs::Tcp::data_offset, crate::specs::Tcp::syn, crate::specs::Tcp::ack))]
 
 ghost use Rattle.std.specs.Prelude.{◌≡◌, [], ◌∷◌, ◌++◌, true, false, codes, replicate, take};
-ghost use Rattle.packet_heads.specs.Example.{ipv4_header, tcp_header, payload, options, datagram, datagram_with, framed, tagged, double_tagged, whole, of_length, segment, segment_with};
+ghost use Rattle.packet_heads.specs.examples.Datagrams.{ipv4_header, tcp_header, payload, options, datagram};
+ghost use Rattle.packet_heads.specs.examples.Datagrams.{datagram_with, framed, tagged, double_tagged, whole, of_length};
+ghost use Rattle.packet_heads.specs.examples.Datagrams.{segment, segment_with};
 ghost use Rattle.packet_heads.specs.Refusal.{refusal_name};
 ghost use Rattle.packet_heads.specs.declared.packets.Packet.TheVariants.{Skipped, Refused};
 ghost use Rattle.packet_heads.specs.declared.packets.Skip.TheVariants.{NotIpv4, Fragment, NotTcp};

@@ -1,20 +1,25 @@
 -- Where an element of a list in parts stands.
-use Rattle.std.proofs.Common.{◌≡◌, ◌∙◌, ℕ, zero, suc, ◌+◌, ◌-◌, ◌/◌, ◌%◌, ◌<◌, ◌≤◌, List, [], ◌∷◌, ◌++◌, length, take, drop, length-append, slice_get, Some, None, map, get_or, inl, inr, sym, ap, subst, arith, refl, ◌*◌}
+use Rattle.std.proofs.Common.{◌≡◌, ◌∙◌, ℕ, zero, suc, ◌+◌, ◌-◌, ◌/◌, ◌%◌, ◌<◌, ◌≤◌, List, [], ◌∷◌, ◌++◌, length, take}
+use Rattle.std.proofs.Common.{drop, length-append, slice_get, Some, None, map, get_or, inl, inr, sym, ap, subst, arith}
+use Rattle.std.proofs.Common.{refl, ◌*◌}
 use Rattle.std.specs.Prelude.{min}
 use Rattle.std.proofs.Math.Nat.{div-eq-sub-div, div-eq_of_lt, mod-eq-sub-mod, mod-eq_of_lt, suc-mul}
 use Rattle.std.proofs.Math.Seq.{drop-append-add, take-add, take-append_seam}
 use Rattle.std.specs.List.{All, slice_range}
 use Rattle.std.proofs.lemmas.Bool.{cases_lt}
-use Rattle.std.proofs.lemmas.List.{drop-append-le, drop-drop, flat_map_more, length-drop, length-map, length-take, length-take-le, take-take}
+use Rattle.std.proofs.lemmas.List.{drop-append-le, drop-drop, flat_map_more, length-drop, length-map, length-take}
+use Rattle.std.proofs.lemmas.List.{length-take-le, take-take}
 use Rattle.std.proofs.lemmas.Option.{slice_get_within}
-use Rattle.parted_list.specs.Parts.{ArePartsOf, joined}
+use Rattle.parted_list.specs.Parts.{joined}
+use Rattle.parted_list.specs.code.Sizes.{ArePartsOf}
 
 module _ {T : Type 0} where
   -- what stands at an index: a part, and from an offset in it on what the list has there
   pub record StandsIn (size at : ℕ) (parts : List (List T)) (part : List T) : Type 0 where
     pub is : slice_get parts (at / size) ≡ Some part
     pub inside : at % size < length part
-    pub front : drop (at % size) part ≡ take (min (size - at % size) (length (joined parts) - at)) (drop at (joined parts))
+    pub front : drop (at % size) part ≡ take (min (size - at % size) (length (joined parts) - at))
+        (drop at (joined parts))
 
   -- the first of two lists that follow each other
   first_of : (n : ℕ) (xs ys : List T) → length xs ≡ n → xs ≡ take n (xs ++ ys)
@@ -25,7 +30,8 @@ module _ {T : Type 0} where
   stands_in size at [] some are within = absurd (omega (arith, within))
   stands_in size at (part ∷ later) some are within = elim (cases_lt at size) [
     | inl low ↦
-        let all : length (part ++ joined later) ≡ length part + length (joined later) = length-append part (joined later) in
+        let all : length (part ++ joined later) ≡ length part + length (joined later) = length-append part
+        (joined later) in
         let inside : at < length part = elim (cases_lt 0 (length (joined later))) [
           | inl more ↦ omega (arith, are.1 more, low)
           | inr none ↦ omega (arith, none, within, all)
@@ -36,21 +42,25 @@ module _ {T : Type 0} where
           | inl more ↦ omega (arith, are.1 more, low, all, left, inside)
           | inr none ↦ omega (arith, are.0, none, low, all, left, inside)
         ] in
-        let is : drop at part ≡ take (min (size - at) (length (part ++ joined later) - at)) (drop at (part ++ joined later)) =
+        let is : drop at part ≡ take (min (size - at) (length (part ++ joined later) - at))
+        (drop at (part ++ joined later)) =
         first_of (min (size - at) (length (part ++ joined later) - at)) (drop at part) (joined later) count
-        ∙ ap (take (min (size - at) (length (part ++ joined later) - at))) (sym (drop-append-le at part (joined later) (omega (arith, inside)))) in
+        ∙ ap (take (min (size - at) (length (part ++ joined later) - at)))
+        (sym (drop-append-le at part (joined later) (omega (arith, inside)))) in
         let place : at / size ≡ 0 = div-eq_of_lt low in
         let offset : at % size ≡ at = mod-eq_of_lt low in (
           part,
           record {
             is = ap (slice_get (part ∷ later)) place;
             inside = subst (λ (o : ℕ). o < length part) (sym offset) inside;
-            front = subst (λ (o : ℕ). drop o part ≡ take (min (size - o) (length (part ++ joined later) - at)) (drop at (part ++ joined later)))
+            front = subst (λ (o : ℕ). drop o part ≡ take (min (size - o) (length (part ++ joined later) - at))
+                (drop at (part ++ joined later)))
                 (sym offset) is;
           },
         )
     | inr high ↦
-        let all : length (part ++ joined later) ≡ length part + length (joined later) = length-append part (joined later) in
+        let all : length (part ++ joined later) ≡ length part + length (joined later) = length-append part
+        (joined later) in
         let more : 0 < length (joined later) = omega (arith, are.0, high, within, all) in
         let full : length part ≡ size = are.1 more in
         let below : at - size < length (joined later) = omega (arith, full, high, within, all) in
@@ -60,13 +70,15 @@ module _ {T : Type 0} where
         let rest : drop at (part ++ joined later) ≡ drop (at - size) (joined later) =
         ap (λ (n : ℕ). drop n (part ++ joined later)) (omega (arith, full, high))
         ∙ drop-append-add part (joined later) (at - size) in
-        let left : length (part ++ joined later) - at ≡ length (joined later) - (at - size) = omega (arith, all, full, high) in (
+        let left : length (part ++ joined later) - at ≡ length (joined later) - (at - size) = omega
+        (arith, all, full, high) in (
           found.0,
           record {
             is = ap (slice_get (part ∷ later)) place ∙ found.1.is;
             inside = subst (λ (o : ℕ). o < length found.0) (sym offset) found.1.inside;
             front = ap (λ (o : ℕ). drop o found.0) offset ∙ found.1.front
-                ∙ ap (λ (o : ℕ). take (min (size - o) (length (joined later) - (at - size))) (drop (at - size) (joined later))) (sym offset)
+                ∙ ap (λ (o : ℕ). take (min (size - o) (length (joined later) - (at - size)))
+                (drop (at - size) (joined later))) (sym offset)
                 ∙ ap (λ (n : ℕ). take (min (size - at % size) n) (drop (at - size) (joined later))) (sym left)
                 ∙ ap (take (min (size - at % size) (length (part ++ joined later) - at))) (sym rest);
           },

@@ -4,7 +4,10 @@ use Rattle.std.proofs.lemmas.List.{get_or-drop, get_or-take, length-drop, length
 
 module _ {T : Type 0} (all together : List T) (most at : ℕ) (are : together ≡ take most (drop at all)) where
   count : (length together ≤ most) × (length together ≤ length (drop at all))
-  count = (omega (arith, ap length are, length-take most (drop at all)), omega (arith, ap length are, length-take most (drop at all)))
+  count = (
+    omega (arith, ap length are, length-take most (drop at all)),
+    omega (arith, ap length are, length-take most (drop at all)),
+  )
 
   -- it ends where the list does, or before
   pub end_within : at ≤ length all → at + length together ≤ length all

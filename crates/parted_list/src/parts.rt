@@ -1,6 +1,7 @@
 ghost use Rattle.std.specs.Prelude.{◌≡◌, ◌+◌, ◌++◌, ◌-◌, ◌*◌, ◌%◌, ◌<◌, ◌≤◌, ◌^◌, IfOk, IfSome, IfNone, OnOk, Some, drop, length, map, min, slice_get, take, vec_len};
 ghost use Rattle.std.specs.List.{All, slice_range};
-ghost use Rattle.parted_list.specs.Parts.{ArePartsOf, joined};
+ghost use Rattle.parted_list.specs.Parts.{joined};
+ghost use Rattle.parted_list.specs.code.Sizes.{ArePartsOf};
 
 use std::alloc::{AllocError, Global};
 use std::marker::Model;
@@ -14,7 +15,8 @@ pub struct Parts<'a, T, const N: usize> {
 
 impl<'a, T, const N: usize> Model for Parts<'a, T, N> {
     ghost use Rattle.std.specs.Prelude.{◌≡◌, ◌<◌, List, length, map};
-    ghost use Rattle.parted_list.specs.Parts.{ArePartsOf, joined};
+    ghost use Rattle.parted_list.specs.Parts.{joined};
+    ghost use Rattle.parted_list.specs.code.Sizes.{ArePartsOf};
 
     ghost Value = { List T };
 

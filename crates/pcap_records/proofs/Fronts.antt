@@ -1,5 +1,6 @@
 -- A record's header, read from the bytes that lie together at its front.
-use Rattle.std.proofs.Common.{◌≡◌, ◌≤◌, ◌<◌, ◌+◌, ◌-◌, ◌^◌, ℕ, List, ◌++◌, Option, Some, None, length, take, drop, take-append-drop, sym, ap, ◌∙◌, arith, length-drop}
+use Rattle.std.proofs.Common.{◌≡◌, ◌≤◌, ◌<◌, ◌+◌, ◌-◌, ◌^◌, ℕ, List, ◌++◌, Option, Some, None, length, take, drop}
+use Rattle.std.proofs.Common.{take-append-drop, sym, ap, ◌∙◌, arith, length-drop}
 use Rattle.std.proofs.lemmas.List.{drop-append-le}
 use Rattle.std.specs.Prelude.{IfSome, IfNone}
 use Rattle.pcap_records.specs.FileHeader.{ByteOrder}
@@ -29,19 +30,22 @@ same_record number first unit at front later fits =
     cc
 
 -- what a front of 16 bytes or more tells of the next record
-pub next_by_front : (number : ByteOrder) → ReadsFirst number → (unit at size most : ℕ) (front bytes : List ℕ) (found : Option Record)
+pub next_by_front : (number : ByteOrder) → ReadsFirst number → (unit at size most : ℕ) (front bytes : List ℕ)
+    (found : Option Record)
     → 16 ≤ length front → length bytes ≡ size - at → front ≡ take most bytes
     → IfSome found (λ r. (16 + captured_length number front ≤ size - at) × (r ≡ record_at number unit at front))
     → IfSome found (λ r. r.nanos < 2 ^ 63)
     → IfNone found (size - at < 16 + captured_length number front)
     → IsNextRecord number unit at bytes found
 next_by_front number first unit at size most front bytes None long count is some time none =
-    let whole : front ++ drop most bytes ≡ bytes = ap (λ (l : List ℕ). l ++ drop most bytes) is ∙ take-append-drop most bytes in
+    let whole : front ++ drop most bytes ≡ bytes = ap (λ (l : List ℕ). l ++ drop most bytes) is
+    ∙ take-append-drop most bytes in
     let same : captured_length number bytes ≡ captured_length number front =
     ap (captured_length number) (sym whole) ∙ in_front number first 8 front (drop most bytes) (omega (arith, long)) in
     λ begins. omega (arith, begins.1, same, count, none)
 next_by_front number first unit at size most front bytes (Some r) long count is some time none =
-    let whole : front ++ drop most bytes ≡ bytes = ap (λ (l : List ℕ). l ++ drop most bytes) is ∙ take-append-drop most bytes in
+    let whole : front ++ drop most bytes ≡ bytes = ap (λ (l : List ℕ). l ++ drop most bytes) is
+    ∙ take-append-drop most bytes in
     let same : captured_length number bytes ≡ captured_length number front =
     ap (captured_length number) (sym whole) ∙ in_front number first 8 front (drop most bytes) (omega (arith, long)) in
     let record_same : record_at number unit at bytes ≡ record_at number unit at front =

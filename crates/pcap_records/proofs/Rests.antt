@@ -1,5 +1,6 @@
 -- What the end of a capture cuts off, in terms of the offset at which the rest begins.
-use Rattle.std.proofs.Common.{◌≡◌, ◌≤◌, ◌<◌, ◌+◌, ◌-◌, ◌==◌, ℕ, List, length, Some, None, drop, length-drop, true, false, arith}
+use Rattle.std.proofs.Common.{◌≡◌, ◌≤◌, ◌<◌, ◌+◌, ◌-◌, ◌==◌, ℕ, List, length, Some, None, drop, length-drop, true}
+use Rattle.std.proofs.Common.{false, arith}
 use Rattle.pcap_records.specs.declared.capture.Record.{Record}
 use Rattle.std.proofs.lemmas.Bool.{cond-false, cond-true}
 use Rattle.std.proofs.lemmas.Bool.Decides.{nat_tests}

@@ -1,10 +1,11 @@
 -- What the refusal knows of the length.
-use Rattle.std.proofs.Common.{◌≡◌, ◌≤◌, ◌-◌, ◌^◌, ℕ, List, Bool, true, ◌++◌, Option, Some, None, length, take, subst, not, nat_lt, if◌then◌else◌, refl, sym, ap, ◌∙◌, arith, inl, inr}
+use Rattle.std.proofs.Common.{◌≡◌, ◌≤◌, ◌-◌, ◌^◌, ℕ, List, Bool, true, ◌++◌, Option, Some, None, length, take, subst}
+use Rattle.std.proofs.Common.{not, nat_lt, if◌then◌else◌, refl, sym, ap, ◌∙◌, arith, inl, inr}
 use Rattle.std.proofs.lemmas.Bool.{cases_lt, cond-false, le-ltb, lt-ltb}
 use Rattle.std.proofs.lemmas.List.{length-take-le, take-take, take_all, length-append}
 use Rattle.std.proofs.Math.Seq.{take-append_seam}
 use Rattle.pcap_records.specs.FileHeader.{ByteOrder, number_of, header_of, format_of, is_version, link_of}
-use Rattle.pcap_records.specs.Laws.{FrontDecides, AllowedIsShort, HeaderRefuses, LargestIsTaken}
+use Rattle.pcap_records.specs.laws.Readings.{FrontDecides, AllowedIsShort, HeaderRefuses, LargestIsTaken}
 use Rattle.pcap_records.specs.LinkType.{is_read}
 use Rattle.pcap_records.specs.Refusal.{refusal, refusal_in, refusal_by}
 use Rattle.pcap_records.specs.declared.faults.PcapFault.{PcapFault}
@@ -12,7 +13,8 @@ use Rattle.pcap_records.specs.declared.faults.PcapFault.TheVariants.{BadVersion,
 use Rattle.pcap_records.specs.declared.format.Format.{Format}
 
 -- any two sizes above the limit are refused alike
-refusal_in-large : (number : ByteOrder) (header : List ℕ) (a b : ℕ) → 2 ^ 31 ≤ a → 2 ^ 31 ≤ b → refusal_in number header a ≡ refusal_in number header b
+refusal_in-large : (number : ByteOrder) (header : List ℕ) (a b : ℕ) → 2 ^ 31 ≤ a → 2 ^ 31 ≤ b
+    → refusal_in number header a ≡ refusal_in number header b
 refusal_in-large number header a b large_a large_b =
     let By : Bool → Option PcapFault = λ large.
     if not (is_version number header) then Some BadVersion else
@@ -21,7 +23,8 @@ refusal_in-large number header a b large_a large_b =
     ap By (lt-ltb (2 ^ 31 - 1) a (omega arith) ∙ sym (lt-ltb (2 ^ 31 - 1) b (omega arith)))
 
 -- the same whatever the magic told
-refusal_by-large : (told : Option Format) (header : List ℕ) (a b : ℕ) → 2 ^ 31 ≤ a → 2 ^ 31 ≤ b → refusal_by told header a ≡ refusal_by told header b
+refusal_by-large : (told : Option Format) (header : List ℕ) (a b : ℕ) → 2 ^ 31 ≤ a → 2 ^ 31 ≤ b
+    → refusal_by told header a ≡ refusal_by told header b
 refusal_by-large None header a b large_a large_b = refl
 refusal_by-large (Some f) header a b large_a large_b = refusal_in-large (number_of f.endian) header a b large_a large_b
 
@@ -40,18 +43,21 @@ front_decides_lem capture = elim (cases_lt (length capture) (2 ^ 31)) [
       let header : header_of front ≡ header_of capture = take-take 24 (2 ^ 31) capture (omega arith) in
       refusal-long front (omega arith)
       ∙ ap (λ (h : List ℕ). refusal_by (format_of h) h (length front)) header
-      ∙ refusal_by-large (format_of (header_of capture)) (header_of capture) (length front) (length capture) (omega arith) long
+      ∙ refusal_by-large (format_of (header_of capture)) (header_of capture) (length front) (length capture)
+      (omega arith) long
       ∙ sym (refusal-long capture (omega (arith, long)))
 ]
 
 -- a size above the limit is refused, by this or by an earlier refusal
-refusal_in-some : (number : ByteOrder) (header : List ℕ) (size : ℕ) → 2 ^ 31 ≤ size → refusal_in number header size ≡ None → ⊥
+refusal_in-some : (number : ByteOrder) (header : List ℕ) (size : ℕ) → 2 ^ 31 ≤ size
+    → refusal_in number header size ≡ None → ⊥
 refusal_in-some number header size large none =
     let limit : nat_lt (2 ^ 31 - 1) size ≡ true = lt-ltb (2 ^ 31 - 1) size (omega arith) in
     grind (arith, limit)
 
 -- the same whatever the magic told
-refusal_by-some : (told : Option Format) (header : List ℕ) (size : ℕ) → 2 ^ 31 ≤ size → refusal_by told header size ≡ None → ⊥
+refusal_by-some : (told : Option Format) (header : List ℕ) (size : ℕ) → 2 ^ 31 ≤ size
+    → refusal_by told header size ≡ None → ⊥
 refusal_by-some None header size large none = cc
 refusal_by-some (Some f) header size large none = refusal_in-some (number_of f.endian) header size large none
 
@@ -80,11 +86,13 @@ largest_is_taken_lem capture size large =
     ∙ sym (refusal-long capture (omega (arith, size))) ∙ large)
 
 -- what is refused without being too large is refused at every size
-refusal_in-header : (number : ByteOrder) (header : List ℕ) (size : ℕ) (e : PcapFault) → refusal_in number header 24 ≡ Some e → refusal_in number header size ≡ Some e
+refusal_in-header : (number : ByteOrder) (header : List ℕ) (size : ℕ) (e : PcapFault)
+    → refusal_in number header 24 ≡ Some e → refusal_in number header size ≡ Some e
 refusal_in-header number header size e refused = grind (arith, refused)
 
 -- the same whatever the magic told
-refusal_by-header : (told : Option Format) (header : List ℕ) (size : ℕ) (e : PcapFault) → refusal_by told header 24 ≡ Some e → refusal_by told header size ≡ Some e
+refusal_by-header : (told : Option Format) (header : List ℕ) (size : ℕ) (e : PcapFault)
+    → refusal_by told header 24 ≡ Some e → refusal_by told header size ≡ Some e
 refusal_by-header None header size e refused = refused
 refusal_by-header (Some f) header size e refused = refusal_in-header (number_of f.endian) header size e refused
 
@@ -93,7 +101,8 @@ pub header_refuses_lem : HeaderRefuses
 header_refuses_lem header rest e size refused =
     let whole : List ℕ = header ++ rest in
     let alone : header_of header ≡ header = take_all 24 header (omega (arith, size)) in
-    let front : header_of whole ≡ header = subst (λ (n : ℕ). take n (header ++ rest) ≡ header) size (take-append_seam header rest) in
+    let front : header_of whole ≡ header = subst (λ (n : ℕ). take n (header ++ rest) ≡ header) size
+    (take-append_seam header rest) in
     let long : 24 ≤ length whole = omega (arith, size, length-append header rest) in
     let judged : refusal_by (format_of header) header 24 ≡ Some e =
     sym (refusal-long header (omega (arith, size))

@@ -1,24 +1,32 @@
 -- What the loop over the records keeps.
-use Rattle.std.proofs.Common.{◌≡◌, ◌≤◌, ◌<◌, ◌+◌, ◌-◌, ◌*◌, ◌^◌, ℕ, List, [], ◌∷◌, ◌++◌, length, drop, refl, sym, ap, subst, ◌∙◌, arith, length-append, length-drop, append_assoc, append-nil}
+use Rattle.std.proofs.Common.{◌≡◌, ◌≤◌, ◌<◌, ◌+◌, ◌-◌, ◌*◌, ◌^◌, ℕ, List, [], ◌∷◌, ◌++◌, length, drop, refl, sym, ap}
+use Rattle.std.proofs.Common.{subst, ◌∙◌, arith, length-append, length-drop, append_assoc, append-nil}
 use Rattle.std.proofs.lemmas.List.{drop-append-le, take-append-le}
 use Rattle.std.proofs.Math.Seq.{drop-drop}
 use Rattle.pcap_records.specs.FileHeader.{ByteOrder, format_of, number_of}
-use Rattle.pcap_records.specs.Laws.{MoreBytesKeepAWalk}
-use Rattle.pcap_records.specs.Place.{AreTimely, RiseFrom}
+use Rattle.pcap_records.specs.laws.Readings.{MoreBytesKeepAWalk}
+use Rattle.pcap_records.specs.code.Place.{AreTimely, RiseFrom}
 use Rattle.pcap_records.specs.Record.{AreRecords, BeginsWithRecord, captured_length, record_at}
 use Rattle.pcap_records.specs.code.Walk.{AreRead, Completes}
 use Rattle.pcap_records.proofs.Fronts.{ReadsFirst, in_front, same_record}
 use Rattle.pcap_records.specs.declared.capture.Record.{Record}
 
 -- one more record that begins at the end
-RiseFrom-push : (from end : ℕ) (rows : List Record) (r : Record) → RiseFrom from end rows → end ≤ r.start → RiseFrom from (r.start + r.length) (rows ++ r ∷ [])
+RiseFrom-push : (from end : ℕ) (rows : List Record) (r : Record) → RiseFrom from end rows → end ≤ r.start
+    → RiseFrom from (r.start + r.length) (rows ++ r ∷ [])
 RiseFrom-push from end [] r placed behind = (omega (arith, placed, behind), omega arith)
-RiseFrom-push from end (x ∷ rows) r placed behind = (placed.0, RiseFrom-push (x.start + x.length) end rows r placed.1 behind)
+RiseFrom-push from end (x ∷ rows) r placed behind = (
+  placed.0,
+  RiseFrom-push (x.start + x.length) end rows r placed.1
+      behind,
+)
 
 -- what stands before `end` stands before a later end
-pub RiseFrom-widen : (from end size : ℕ) (rows : List Record) → RiseFrom from end rows → end ≤ size → RiseFrom from size rows
+pub RiseFrom-widen : (from end size : ℕ) (rows : List Record) → RiseFrom from end rows → end ≤ size
+    → RiseFrom from size rows
 RiseFrom-widen from end size [] placed more = omega (arith, placed, more)
-RiseFrom-widen from end size (x ∷ rows) placed more = (placed.0, RiseFrom-widen (x.start + x.length) end size rows placed.1 more)
+RiseFrom-widen from end size
+    (x ∷ rows) placed more = (placed.0, RiseFrom-widen (x.start + x.length) end size rows placed.1 more)
 
 -- one more record in time
 AreTimely-push : (rows : List Record) (r : Record) → AreTimely rows → r.nanos < 2 ^ 63 → AreTimely (rows ++ r ∷ [])
@@ -26,11 +34,13 @@ AreTimely-push [] r timely soon = (soon, tt)
 AreTimely-push (x ∷ rows) r timely soon = (timely.0, AreTimely-push rows r timely.1 soon)
 
 -- where the next record begins, whichever way it is counted
-pub after_record : (number : ByteOrder) (unit at : ℕ) (bytes : List ℕ) (r : Record) → r ≡ record_at number unit at bytes → r.start + r.length ≡ at + 16 + captured_length number bytes
+pub after_record : (number : ByteOrder) (unit at : ℕ) (bytes : List ℕ) (r : Record) → r ≡ record_at number unit at bytes
+    → r.start + r.length ≡ at + 16 + captured_length number bytes
 after_record number unit at bytes r is = ap (λ (x : Record). x.start + x.length) is
 
 -- a record that begins where the rows end completes them by one, whatever bytes follow
-completes-push : (number : ByteOrder) → ReadsFirst number → (unit : ℕ) (front : List ℕ) (rows : List Record) (at : ℕ) (r : Record)
+completes-push : (number : ByteOrder) → ReadsFirst number → (unit : ℕ) (front : List ℕ) (rows : List Record) (at : ℕ)
+    (r : Record)
     → AreRead number unit front rows at
     → BeginsWithRecord number (drop at front)
     → r ≡ record_at number unit at (drop at front)
@@ -62,7 +72,8 @@ completes-push number first unit front rows at r read begins is more rs rest oth
     (read.completes more (r ∷ rs) rest (whole, same, subst In dropped (subst At after others)))
 
 -- and is one more row
-pub AreRead-push : (number : ByteOrder) → ReadsFirst number → (unit : ℕ) (front : List ℕ) (rows : List Record) (at : ℕ) (r : Record)
+pub AreRead-push : (number : ByteOrder) → ReadsFirst number → (unit : ℕ) (front : List ℕ) (rows : List Record) (at : ℕ)
+    (r : Record)
     → AreRead number unit front rows at
     → BeginsWithRecord number (drop at front)
     → r ≡ record_at number unit at (drop at front)
@@ -93,13 +104,15 @@ pub AreRead-end : (number : ByteOrder) (unit : ℕ) (capture : List ℕ) (rows :
 AreRead-end number unit capture rows at read none =
     let whole : capture ++ [] ≡ capture = append-nil capture in
     let Last : List ℕ → Type 0 = λ bytes. AreRecords number unit at (drop at bytes) [] (drop at capture) in
-    let All : List ℕ → List Record → Type 0 = λ bytes l. AreRecords number unit 24 (drop 24 bytes) l (drop at capture) in
+    let All : List ℕ → List Record → Type 0 = λ bytes l. AreRecords number unit 24 (drop 24 bytes) l
+    (drop at capture) in
     subst (All capture) (append-nil rows)
     (subst (λ (bytes : List ℕ). All bytes (rows ++ [])) whole
     (read.completes [] [] (drop at capture) (subst Last (sym whole) (refl, none))))
 
 -- behind the file header nothing was read yet
-pub AreRead-none : (number : ByteOrder) (unit : ℕ) (front : List ℕ) → 24 ≤ length front → AreRead number unit front [] 24
+pub AreRead-none : (number : ByteOrder) (unit : ℕ) (front : List ℕ) → 24 ≤ length front
+    → AreRead number unit front [] 24
 AreRead-none number unit front long = record {
   completes = λ more rs rest others. others;
   high = long;

@@ -1,9 +1,8 @@
-pub mod Example
 pub mod FileHeader
-pub mod Laws
 pub mod LinkType
-pub mod Place
 pub mod Reading
 pub mod Record
 pub mod Refusal
+pub mod laws
+pub mod examples
 pub mod code

@@ -4,7 +4,8 @@ use Rattle.pcap_records.specs.FileHeader.{ByteOrder, number_of, header_of, forma
 use Rattle.pcap_records.specs.LinkType.{is_read}
 use Rattle.pcap_records.specs.declared.format.Format.{Format}
 use Rattle.pcap_records.specs.declared.faults.PcapFault.{PcapFault}
-use Rattle.pcap_records.specs.declared.faults.PcapFault.TheVariants.{ShortHeader, BadMagic, BadVersion, LinkType, TooLarge}
+use Rattle.pcap_records.specs.declared.faults.PcapFault.TheVariants.{ShortHeader, BadMagic, BadVersion, LinkType}
+use Rattle.pcap_records.specs.declared.faults.PcapFault.TheVariants.{TooLarge}
 
 -- what refuses a capture of this size that has this header, once the order of bytes is known
 abbrev pub refusal_in : ByteOrder → List ℕ → ℕ → Option PcapFault

@@ -1,6 +1,7 @@
 //! Laws of the definitions. The functions do nothing; their contracts are the laws.
 
-ghost use Rattle.pcap_records.specs.Laws.{OneReading, FrontDecides, AllowedIsShort, HeaderRefuses, LargestIsTaken, MoreBytesKeepAWalk};
+ghost use Rattle.pcap_records.specs.laws.Readings.{OneReading, FrontDecides, AllowedIsShort, HeaderRefuses};
+ghost use Rattle.pcap_records.specs.laws.Readings.{LargestIsTaken, MoreBytesKeepAWalk};
 
 /// A capture has one reading: link type, records and cut record are the same in any two.
 pub fn one_reading()

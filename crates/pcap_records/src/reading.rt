@@ -1,6 +1,6 @@
 ghost use Rattle.std.specs.Prelude.{◌≡◌, ◌<◌, ◌^◌, ◌⊎◌, IfOk, IfErr, IfSome, IsTrue, None, OnOk, Some, length};
 ghost use Rattle.pcap_records.specs.LinkType.{is_read};
-ghost use Rattle.pcap_records.specs.Place.{AreWithin, AreTimely};
+ghost use Rattle.pcap_records.specs.code.Place.{AreWithin, AreTimely};
 ghost use Rattle.pcap_records.specs.Reading.{IsReading};
 ghost use Rattle.pcap_records.specs.Refusal.{refusal};
 

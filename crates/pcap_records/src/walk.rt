@@ -3,7 +3,7 @@
 ghost use Rattle.std.specs.Prelude.{◌≡◌, ◌<◌, ◌≤◌, ◌^◌, ◌⊎◌, [], IfErr, IfOk, IfSome, IsTrue, None, OnOk, Some, length};
 ghost use Rattle.pcap_records.specs.FileHeader.{format_of, header_of, link_of, number_of};
 ghost use Rattle.pcap_records.specs.LinkType.{is_read};
-ghost use Rattle.pcap_records.specs.Place.{AreTimely, AreWithin};
+ghost use Rattle.pcap_records.specs.code.Place.{AreTimely, AreWithin};
 ghost use Rattle.pcap_records.specs.Reading.{IsReading};
 ghost use Rattle.pcap_records.specs.Refusal.{refusal};
 ghost use Rattle.pcap_records.specs.code.Walk.{IsThrough, IsWalkIn};

@@ -1,7 +1,9 @@
 //! Worked examples of the definitions, computed by proof. The functions do nothing; each clause is an example.
 
 ghost use Rattle.std.specs.Prelude.{◌≡◌, [], ◌∷◌, ◌++◌, Some, None, take};
-ghost use Rattle.pcap_records.specs.Example.{pcapng, big_nanoseconds, little_microseconds, version_2_4, ethernet, cooked, file_header, little_header, big_record, little_record, row};
+ghost use Rattle.pcap_records.specs.examples.Records.{pcapng, big_nanoseconds, little_microseconds, version_2_4};
+ghost use Rattle.pcap_records.specs.examples.Records.{ethernet, cooked, file_header, little_header, big_record};
+ghost use Rattle.pcap_records.specs.examples.Records.{little_record, row};
 ghost use Rattle.pcap_records.specs.FileHeader.{number_of, format_of};
 ghost use Rattle.pcap_records.specs.Reading.{cut_after};
 ghost use Rattle.pcap_records.specs.Record.{AreRecords, record_at};

@@ -1,5 +1,6 @@
 -- A loop over frames: the next frame leaves the rest, and joins those seen.
-use Rattle.std.proofs.Common.{◌≡◌, ℕ, zero, suc, ◌+◌, ◌<◌, List, [], ◌∷◌, ◌++◌, length, take, drop, get_or, refl, sym, ap, ◌∙◌, arith}
+use Rattle.std.proofs.Common.{◌≡◌, ℕ, zero, suc, ◌+◌, ◌<◌, List, [], ◌∷◌, ◌++◌, length, take, drop, get_or, refl, sym}
+use Rattle.std.proofs.Common.{ap, ◌∙◌, arith}
 
 drop-next : {X : Type 0} (xs : List X) (i : ℕ) (d : X) → i < length xs → drop i xs ≡ get_or xs i d ∷ drop (i + 1) xs
 drop-next [] i d l = absurd (omega arith)
@@ -9,7 +10,8 @@ drop-next (x ∷ xs) (suc i) d l =
     let k : i < length xs = omega arith in
     rw e (drop-next xs i d k)
 
-take-next : {X : Type 0} (xs : List X) (i : ℕ) (d : X) → i < length xs → take (i + 1) xs ≡ take i xs ++ get_or xs i d ∷ []
+take-next : {X : Type 0} (xs : List X) (i : ℕ) (d : X) → i < length xs
+    → take (i + 1) xs ≡ take i xs ++ get_or xs i d ∷ []
 take-next [] i d l = absurd (omega arith)
 take-next (x ∷ xs) zero d l = refl
 take-next (x ∷ xs) (suc i) d l =
@@ -18,8 +20,10 @@ take-next (x ∷ xs) (suc i) d l =
     rw (e, take-next xs i d k) refl
 
 -- the same of what was read at the position
-pub drop-at : {X : Type 0} (xs : List X) (i : ℕ) (x : X) → x ≡ get_or xs i x → i < length xs → drop i xs ≡ x ∷ drop (i + 1) xs
+pub drop-at : {X : Type 0} (xs : List X) (i : ℕ) (x : X) → x ≡ get_or xs i x → i < length xs
+    → drop i xs ≡ x ∷ drop (i + 1) xs
 drop-at xs i x is l = drop-next xs i x l ∙ ap (λ y. y ∷ drop (i + 1) xs) (sym is)
 
-pub take-at : {X : Type 0} (xs : List X) (i : ℕ) (x : X) → x ≡ get_or xs i x → i < length xs → take (i + 1) xs ≡ take i xs ++ x ∷ []
+pub take-at : {X : Type 0} (xs : List X) (i : ℕ) (x : X) → x ≡ get_or xs i x → i < length xs
+    → take (i + 1) xs ≡ take i xs ++ x ∷ []
 take-at xs i x is l = take-next xs i x l ∙ ap (λ y. take i xs ++ y ∷ []) (sym is)

@@ -1,5 +1,6 @@
 -- The changes of orderly frames are orderly, and each is that of an acknowledgement.
-use Rattle.std.proofs.Common.{◌≡◌, ℕ, ◌+◌, ◌≤◌, Bool, true, false, if◌then◌else◌, List, [], ◌∷◌, ◌++◌, All, Option, Some, None, length, drop, refl, sym, ap, ◌∙◌, subst, arith}
+use Rattle.std.proofs.Common.{◌≡◌, ℕ, ◌+◌, ◌≤◌, Bool, true, false, if◌then◌else◌, List, [], ◌∷◌, ◌++◌, All, Option}
+use Rattle.std.proofs.Common.{Some, None, length, drop, refl, sym, ap, ◌∙◌, subst, arith}
 use Rattle.std.specs.Option.{option_to_list}
 use Rattle.std.specs.List.{AllByRecursion}
 use Rattle.std.proofs.lemmas.List.{append-nil, drop_all}
@@ -8,16 +9,18 @@ use Rattle.audit_terms.specs.declared.settings.Settings.{Settings}
 use Rattle.audit_terms.specs.declared.frames.Frame.{Frame}
 use Rattle.audit_terms.specs.declared.items.Change.{Change}
 use Rattle.audit_terms.specs.Frame.{is_ack}
-use Rattle.audit_terms.specs.runs.Orderly.{IsInRange, IsOrderlyFrom, IsOrderly}
+use Rattle.audit_terms.specs.code.runs.Orderly.{IsInRange, IsOrderlyFrom, IsOrderly}
 use Rattle.audit_terms.specs.InForce.{InForce, initial_in_force, taken, change_taking, in_force_after}
-use Rattle.audit_terms.specs.runs.Changes.{changes_of, changes_from}
-use Rattle.settings_pair.specs.Changes.{AreOrderlyFrom, AreOrderly, AreAcknowledged}
+use Rattle.audit_terms.specs.code.runs.Changes.{changes_of, changes_from}
+use Rattle.settings_pair.specs.code.Changes.{AreOrderlyFrom, AreOrderly, AreAcknowledged}
 
-orderly-lower : (low lower : ℕ) (changes : List Change) → lower ≤ low → AreOrderlyFrom low changes → AreOrderlyFrom lower changes
+orderly-lower : (low lower : ℕ) (changes : List Change) → lower ≤ low → AreOrderlyFrom low changes
+    → AreOrderlyFrom lower changes
 orderly-lower low lower [] below h = h
 orderly-lower low lower (change ∷ changes) below h = (omega arith, h.1, h.2)
 
-orderly-taking : (low : ℕ) (frame : Frame) (t : Option Settings) (changes : List Change) → low ≤ frame.number → IsInRange frame
+orderly-taking : (low : ℕ) (frame : Frame) (t : Option Settings) (changes : List Change) → low ≤ frame.number
+    → IsInRange frame
     → AreOrderlyFrom (frame.number + 1) changes → AreOrderlyFrom low (option_to_list (change_taking frame t) ++ changes)
 orderly-taking low frame None changes above fits h = orderly-lower (frame.number + 1) low changes (omega arith) h
 orderly-taking low frame (Some settings) changes above fits h = (above, fits.number, h)
@@ -30,10 +33,12 @@ changes_from-orderly low now (frame ∷ frames) h =
     (changes_from-orderly (frame.number + 1) (in_force_after now frame) frames h.2)
 
 -- what a loop over all of the frames found
-pub found-orderly : (now : InForce) (found : List Change) (frames : List Frame) (i : ℕ) → IsOrderly frames → length frames ≤ i
+pub found-orderly : (now : InForce) (found : List Change) (frames : List Frame) (i : ℕ) → IsOrderly frames
+    → length frames ≤ i
     → found ++ changes_from now (drop i frames) ≡ changes_of frames → AreOrderly found
 found-orderly now found frames i h past e =
-    let all : found ≡ changes_of frames = sym (append-nil found) ∙ ap (λ rest. found ++ changes_from now rest) (sym (drop_all i frames past)) ∙ e in
+    let all : found ≡ changes_of frames = sym (append-nil found) ∙ ap (λ rest. found ++ changes_from now rest)
+    (sym (drop_all i frames past)) ∙ e in
     subst AreOrderly (sym all) (changes_from-orderly 0 initial_in_force frames h)
 
 -- ---- the frame of a change is an acknowledgement
@@ -62,8 +67,10 @@ own-change frame true (Some settings) changes e h = (λ _. e, h)
 own-change frame false t changes e h = h
 
 -- frames above the one that takes settings
-later-frames : (frame : Frame) (t : Option Settings) (low : ℕ) (frames : List Frame) (changes : List Change) → frame.number + 1 ≤ low
-    → IsOrderlyFrom low frames → Acknowledge frames changes → Acknowledge frames (option_to_list (change_taking frame t) ++ changes)
+later-frames : (frame : Frame) (t : Option Settings) (low : ℕ) (frames : List Frame) (changes : List Change)
+    → frame.number + 1 ≤ low
+    → IsOrderlyFrom low frames → Acknowledge frames changes
+    → Acknowledge frames (option_to_list (change_taking frame t) ++ changes)
 later-frames frame None low frames changes above orderly h = h
 later-frames frame (Some settings) low [] changes above orderly h = tt
 later-frames frame (Some settings) low (next ∷ frames) changes above orderly h = (
@@ -76,21 +83,28 @@ changes_from-acknowledge : (low : ℕ) (now : InForce) (frames : List Frame) →
 changes_from-acknowledge low now [] h = tt
 changes_from-acknowledge low now (frame ∷ frames) h = (
   own-change frame (is_ack frame.body) _ (changes_from (in_force_after now frame) frames) refl
-      (below-all frame (frame.number + 1) _ (omega arith) (changes_from-orderly (frame.number + 1) (in_force_after now frame) frames h.2)),
-  later-frames frame (taken now frame) (frame.number + 1) frames (changes_from (in_force_after now frame) frames) (omega arith) h.2
+      (below-all frame (frame.number + 1) _ (omega arith)
+      (changes_from-orderly (frame.number + 1) (in_force_after now frame) frames h.2)),
+  later-frames frame (taken now frame) (frame.number + 1) frames (changes_from (in_force_after now frame) frames)
+      (omega arith) h.2
       (changes_from-acknowledge (frame.number + 1) (in_force_after now frame) frames h.2),
 )
 
-all-acknowledged : (frames : List Frame) (changes : List Change) → Acknowledge frames changes → AreAcknowledged frames changes
+all-acknowledged : (frames : List Frame) (changes : List Change) → Acknowledge frames changes
+    → AreAcknowledged frames changes
 all-acknowledged frames changes h =
     All-from_recursion (λ (frame : Frame). All (AcknowledgesAt frame) changes) frames (by_frame frames h) where
-      by_frame : (fs : List Frame) → Acknowledge fs changes → AllByRecursion (λ frame. All (AcknowledgesAt frame) changes) fs
+      by_frame : (fs : List Frame) → Acknowledge fs changes
+          → AllByRecursion (λ frame. All (AcknowledgesAt frame) changes) fs
       by_frame [] k = tt
       by_frame (f ∷ fs) k = (All-from_recursion (AcknowledgesAt f) changes k.0, by_frame fs k.1)
 
 -- what a loop over all of the frames found
-pub found-acknowledged : (now : InForce) (found : List Change) (frames : List Frame) (i : ℕ) → IsOrderly frames → length frames ≤ i
+pub found-acknowledged : (now : InForce) (found : List Change) (frames : List Frame) (i : ℕ) → IsOrderly frames
+    → length frames ≤ i
     → found ++ changes_from now (drop i frames) ≡ changes_of frames → AreAcknowledged frames found
 found-acknowledged now found frames i h past e =
-    let all : found ≡ changes_of frames = sym (append-nil found) ∙ ap (λ rest. found ++ changes_from now rest) (sym (drop_all i frames past)) ∙ e in
-    subst (AreAcknowledged frames) (sym all) (all-acknowledged frames (changes_of frames) (changes_from-acknowledge 0 initial_in_force frames h))
+    let all : found ≡ changes_of frames = sym (append-nil found) ∙ ap (λ rest. found ++ changes_from now rest)
+    (sym (drop_all i frames past)) ∙ e in
+    subst (AreAcknowledged frames) (sym all)
+    (all-acknowledged frames (changes_of frames) (changes_from-acknowledge 0 initial_in_force frames h))

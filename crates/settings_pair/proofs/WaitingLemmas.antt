@@ -1,5 +1,7 @@
 -- What an acknowledgement takes from the queues is what it takes by position.
-use Rattle.std.proofs.Common.{◌≡◌, ℕ, suc, zero, ◌+◌, ◌<◌, ◌≤◌, Bool, true, false, ◌&&◌, if◌then◌else◌, List, [], ◌∷◌, ◌++◌, length, drop, slice_get, get_or, append_assoc, Option, Some, None, is_some, is_none, pos, refl, sym, ap, ◌∙◌, add-zero, length-append, arith}
+use Rattle.std.proofs.Common.{◌≡◌, ℕ, suc, zero, ◌+◌, ◌<◌, ◌≤◌, Bool, true, false, ◌&&◌, if◌then◌else◌, List, [], ◌∷◌}
+use Rattle.std.proofs.Common.{◌++◌, length, drop, slice_get, get_or, append_assoc, Option, Some, None, is_some, is_none}
+use Rattle.std.proofs.Common.{pos, refl, sym, ap, ◌∙◌, add-zero, length-append, arith}
 use Rattle.std.specs.Option.{option_to_list}
 use Rattle.std.proofs.lemmas.List.{append-nil, drop-drop, drop_all, drop-append-le, at_drop_more}
 use Rattle.std.proofs.lemmas.Option.{slice_get_within}
@@ -7,14 +9,17 @@ use Rattle.audit_terms.specs.declared.sides.Side.{Side}
 use Rattle.audit_terms.specs.declared.sides.Side.TheVariants.{Client, Server}
 use Rattle.audit_terms.specs.declared.settings.Settings.{Settings}
 use Rattle.audit_terms.specs.declared.frames.Body.{Body}
-use Rattle.audit_terms.specs.declared.frames.Body.TheVariants.{Settings as SettingsBody, SettingsAck, Content, Headers, Priority, RstStream, PushPromise, Ping, GoAway, WindowUpdate, Continuation, Unknown, Unreadable}
+use Rattle.audit_terms.specs.declared.frames.Body.TheVariants.{Settings as SettingsBody, SettingsAck, Content, Headers}
+use Rattle.audit_terms.specs.declared.frames.Body.TheVariants.{Priority, RstStream, PushPromise, Ping, GoAway}
+use Rattle.audit_terms.specs.declared.frames.Body.TheVariants.{WindowUpdate, Continuation, Unknown, Unreadable}
 use Rattle.audit_terms.specs.declared.frames.Frame.{Frame}
 use Rattle.audit_terms.specs.Side.{other, is_side}
 use Rattle.audit_terms.specs.Sides.{side_of}
 use Rattle.audit_terms.specs.Frame.{is_ack, settings_in}
 use Rattle.audit_terms.specs.declared.kinds.Kind.TheVariants.{UnmatchedAck}
 use Rattle.audit_terms.specs.Finding.{finding_at, say}
-use Rattle.audit_terms.specs.InForce.{InForce, initial_in_force, taken, change_taking, change_of, in_force_after, settings_said}
+use Rattle.audit_terms.specs.InForce.{InForce, initial_in_force, taken, change_taking, change_of, in_force_after}
+use Rattle.audit_terms.specs.InForce.{settings_said}
 use Rattle.settings_pair.specs.declared.waiting.Waiting.{Waiting}
 use Rattle.settings_pair.specs.code.Waiting.{sent_of, sent_by, waiting_of, IsWaiting}
 
@@ -23,9 +28,11 @@ use Rattle.settings_pair.specs.code.Waiting.{sent_of, sent_by, waiting_of, IsWai
 pub sent-at : (d : Side) (seen : List Frame) (at : ℕ) (frame : Frame) → at < length seen → frame ≡ get_or seen at frame
     → sent_by d (drop at seen) ≡ sent_of d frame ++ sent_by d (drop (at + 1) seen)
 sent-at d seen at frame within is =
-    at_drop_more (sent_by d) seen at frame within ∙ ap (λ (one : Frame). sent_of d one ++ sent_by d (drop (at + 1) seen)) (sym is)
+    at_drop_more (sent_by d) seen at frame within
+    ∙ ap (λ (one : Frame). sent_of d one ++ sent_by d (drop (at + 1) seen)) (sym is)
 
-module _ (d : Side) (seen : List Frame) (from at : ℕ) (frame : Frame) (sent : Option Settings) (within : at < length seen)
+module _ (d : Side) (seen : List Frame) (from at : ℕ) (frame : Frame) (sent : Option Settings)
+    (within : at < length seen)
     (is : frame ≡ get_or seen at frame) (e : option_to_list sent ≡ sent_of d frame)
     (left : sent_by d (drop at seen) ≡ sent_by d (drop from seen)) where
   from-here : option_to_list sent ++ sent_by d (drop (at + 1) seen) ≡ sent_by d (drop from seen)
@@ -55,7 +62,8 @@ module _ (d : Side) (seen : List Frame) (from at : ℕ) (frame : Frame) (sent : 
     by_sent None h k = k
     by_sent (Some settings) h k = cc
 
-none-left_by : (d : Side) (seen : List Frame) (from at : ℕ) → sent_by d (drop at seen) ≡ sent_by d (drop from seen) → length seen ≤ at
+none-left_by : (d : Side) (seen : List Frame) (from at : ℕ) → sent_by d (drop at seen) ≡ sent_by d (drop from seen)
+    → length seen ≤ at
     → sent_by d (drop from seen) ≡ []
 none-left_by d seen from at left past = sym left ∙ ap (sent_by d) (drop_all at seen past)
 
@@ -97,7 +105,8 @@ is_side-other Server Client = refl
 is_side-other Server Server = refl
 
 sent-after : (now : InForce) (frame : Frame) (d : Side)
-    → side_of d (in_force_after now frame).sent ≡ side_of d now.sent ++ (if is_side d frame.side then settings_in frame.body else [])
+    → side_of d (in_force_after now frame).sent ≡ side_of d now.sent
+    ++ (if is_side d frame.side then settings_in frame.body else [])
 sent-after now frame Client = refl
 sent-after now frame Server = refl
 
@@ -125,7 +134,8 @@ none-left (x ∷ xs) zero e = cc
 none-left (x ∷ xs) (suc k) e = rw add-zero (none-left xs k e ∙ rw add-zero refl)
 
 -- a queue from place k on, after one more of it is taken, or not
-queue-after : (b : Bool) (xs : List Settings) (k : ℕ) (t : Option Settings) → k ≤ length xs → (b ≡ true → t ≡ slice_get xs k)
+queue-after : (b : Bool) (xs : List Settings) (k : ℕ) (t : Option Settings) → k ≤ length xs
+    → (b ≡ true → t ≡ slice_get xs k)
     → (k + (if b && is_some t then 1 else 0) ≤ length xs)
     × ((if b then drop 1 (drop k xs) else drop k xs) ≡ drop (k + (if b && is_some t then 1 else 0)) xs)
 queue-after false xs k t low h = (omega arith, rw add-zero refl)
@@ -149,30 +159,37 @@ ack-sends (Unreadable kind value) e = refl
 
 -- ---- an acknowledgement
 
-module _ (now : InForce) (seen : List Frame) (frame : Frame) (old : Waiting) (ack : is_ack frame.body ≡ true) (h : IsWaiting now seen old) where
+module _ (now : InForce) (seen : List Frame) (frame : Frame) (old : Waiting) (ack : is_ack frame.body ≡ true)
+    (h : IsWaiting now seen old) where
   sends-nothing : (d : Side) → sent_of d frame ≡ []
   sends-nothing d = nothing_chosen (is_side d frame.side) (settings_in frame.body) (ack-sends frame.body ack)
 
   -- what it takes is the first that waits of the other side
   taken-ack : taken now frame ≡ slice_get (waiting_of (other frame.side) seen old) 0
   taken-ack =
-      rw (ack, h.queued (other frame.side), other-other) (sym (slice_get-drop (side_of frame.side now.paired) (side_of (other frame.side) now.sent)))
+      rw (ack, h.queued (other frame.side), other-other)
+      (sym (slice_get-drop (side_of frame.side now.paired) (side_of (other frame.side) now.sent)))
 
   module _ (new : Waiting) (of : Side) (s : of ≡ other frame.side)
-      (takes : (d : Side) → waiting_of d seen new ≡ (if is_side d of then drop 1 (waiting_of d seen old) else waiting_of d seen old))
+      (takes : (d : Side) → waiting_of d seen new
+      ≡ (if is_side d of then drop 1 (waiting_of d seen old) else waiting_of d seen old))
       (fits : (d : Side) → side_of d old.taken ≤ length seen → side_of d new.taken ≤ length seen) where
     -- for one side
     queue-after_ack : (d : Side)
         → (side_of (other d) (in_force_after now frame).paired ≤ length (side_of d (in_force_after now frame).sent))
-        × (waiting_of d seen new ≡ drop (side_of (other d) (in_force_after now frame).paired) (side_of d (in_force_after now frame).sent))
+        × (waiting_of d seen new ≡ drop (side_of (other d) (in_force_after now frame).paired)
+        (side_of d (in_force_after now frame).sent))
     queue-after_ack d =
-        let chosen : is_side (other d) frame.side ≡ true → taken now frame ≡ slice_get (side_of d now.sent) (side_of (other d) now.paired) =
+        let chosen : is_side (other d) frame.side ≡ true → taken now frame ≡ slice_get (side_of d now.sent)
+        (side_of (other d) now.paired) =
         λ same. let at : other d ≡ frame.side = is_side-same (other d) frame.side same in
         rw (ack, ← at, other-other) refl in
-        let after = queue-after (is_side (other d) frame.side) (side_of d now.sent) (side_of (other d) now.paired) (taken now frame) (h.taken d) chosen in
+        let after = queue-after (is_side (other d) frame.side) (side_of d now.sent) (side_of (other d) now.paired)
+        (taken now frame) (h.taken d) chosen in
         let sent : side_of d (in_force_after now frame).sent ≡ side_of d now.sent =
         sent-after now frame d ∙ ap (λ added. side_of d now.sent ++ added) (sends-nothing d) ∙ append-nil _ in
-        rw (sent, paired-after now frame (other d)) (after.0, rw (takes d, s, is_side-other d frame.side, h.queued d) after.1)
+        rw (sent, paired-after now frame (other d))
+        (after.0, rw (takes d, s, is_side-other d frame.side, h.queued d) after.1)
 
     pub waiting-after_ack : IsWaiting (in_force_after now frame) (seen ++ frame ∷ []) new
     waiting-after_ack =
@@ -185,19 +202,22 @@ module _ (now : InForce) (seen : List Frame) (frame : Frame) (old : Waiting) (ac
         }
 
   -- what it brings and shows, by what it took
-  module _ (t : Option Settings) (of : Side) (s : of ≡ other frame.side) (o : t ≡ slice_get (waiting_of of seen old) 0) where
+  module _ (t : Option Settings) (of : Side) (s : of ≡ other frame.side)
+      (o : t ≡ slice_get (waiting_of of seen old) 0) where
     took : taken now frame ≡ t
     took = taken-ack ∙ rw (o, s) refl
 
     pub change_of-ack : change_of now frame ≡ change_taking frame t
     change_of-ack = ap (change_taking frame) took
 
-    pub settings_said-ack : settings_said now frame ≡ say (is_none t) (finding_at UnmatchedAck frame.number frame.stream frame.side (pos 0))
+    pub settings_said-ack : settings_said now frame ≡ say (is_none t)
+        (finding_at UnmatchedAck frame.number frame.stream frame.side (pos 0))
     settings_said-ack = rw (took, ack) refl
 
 -- ---- any other frame
 
-module _ (now : InForce) (seen : List Frame) (frame : Frame) (waiting : Waiting) (other_frame : is_ack frame.body ≡ false)
+module _ (now : InForce) (seen : List Frame) (frame : Frame) (waiting : Waiting)
+    (other_frame : is_ack frame.body ≡ false)
     (h : IsWaiting now seen waiting) where
   takes-nothing : taken now frame ≡ None
   takes-nothing = rw (other_frame) refl
@@ -205,7 +225,8 @@ module _ (now : InForce) (seen : List Frame) (frame : Frame) (waiting : Waiting)
   still-paired : (d : Side) → side_of d (in_force_after now frame).paired ≡ side_of d now.paired
   still-paired d =
       paired-after now frame d
-      ∙ ap (λ (t : Option Settings). side_of d now.paired + (if is_side d frame.side && is_some t then 1 else 0)) takes-nothing
+      ∙ ap (λ (t : Option Settings). side_of d now.paired + (if is_side d frame.side && is_some t then 1 else 0))
+      takes-nothing
       ∙ none-added (is_side d frame.side) (side_of d now.paired)
     where
       none-added : (b : Bool) (n : ℕ) → n + (if b && false then 1 else 0) ≡ n
@@ -216,7 +237,8 @@ module _ (now : InForce) (seen : List Frame) (frame : Frame) (waiting : Waiting)
   waiting-after = record {
     taken = λ d.
         let low = h.taken d in
-        let sent : length (side_of d (in_force_after now frame).sent) ≡ length (side_of d now.sent) + length (sent_of d frame) =
+        let sent : length (side_of d (in_force_after now frame).sent) ≡ length (side_of d now.sent) + length
+        (sent_of d frame) =
         ap length (sent-after now frame d) ∙ length-append (side_of d now.sent) (sent_of d frame) in
         let same = still-paired (other d) in
         omega arith;
@@ -235,7 +257,8 @@ module _ (now : InForce) (seen : List Frame) (frame : Frame) (waiting : Waiting)
   pub settings_said-other : settings_said now frame ≡ []
   settings_said-other = rw (other_frame) refl
 
-pub waiting-at_start : (waiting : Waiting) → ((d : Side) → side_of d waiting.taken ≡ 0) → IsWaiting initial_in_force [] waiting
+pub waiting-at_start : (waiting : Waiting) → ((d : Side) → side_of d waiting.taken ≡ 0)
+    → IsWaiting initial_in_force [] waiting
 waiting-at_start waiting none = record {
   taken = at_start_taken;
   queued = at_start_queued;
@@ -245,6 +268,7 @@ waiting-at_start waiting none = record {
   at_start_taken Client = omega arith
   at_start_taken Server = omega arith
 
-  at_start_queued : (d : Side) → waiting_of d [] waiting ≡ drop (side_of (other d) initial_in_force.paired) (side_of d initial_in_force.sent)
+  at_start_queued : (d : Side) → waiting_of d [] waiting ≡ drop (side_of (other d) initial_in_force.paired)
+      (side_of d initial_in_force.sent)
   at_start_queued Client = ap (λ n. sent_by Client (drop n [])) (none Client)
   at_start_queued Server = ap (λ n. sent_by Server (drop n [])) (none Server)

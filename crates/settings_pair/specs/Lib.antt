@@ -1,3 +1,2 @@
-pub mod Changes
-pub mod PairExamples
+pub mod examples
 pub mod code

@@ -1,11 +1,11 @@
 ghost use Rattle.std.specs.Prelude.{◌≡◌, [], ◌∷◌, ◌++◌, pos, IfOk, OnOk};
 ghost use Rattle.std.specs.Option.{option_to_list};
-ghost use Rattle.audit_terms.specs.runs.Orderly.{IsInRange, IsOrderly};
+ghost use Rattle.audit_terms.specs.code.runs.Orderly.{IsInRange, IsOrderly};
 ghost use Rattle.audit_terms.specs.Change.{change_by};
 ghost use Rattle.audit_terms.specs.InForce.{InForce, in_force_after, change_of, settings_said};
-ghost use Rattle.audit_terms.specs.runs.Changes.{changes_of, settings_run};
+ghost use Rattle.audit_terms.specs.code.runs.Changes.{changes_of, settings_run};
 ghost use Rattle.audit_terms.specs.Finding.{finding_at};
-ghost use Rattle.settings_pair.specs.Changes.{AreOrderly, AreAcknowledged};
+ghost use Rattle.settings_pair.specs.code.Changes.{AreOrderly, AreAcknowledged};
 ghost use Rattle.settings_pair.specs.code.Waiting.{IsWaiting};
 
 use crate::waiting::Waiting;

@@ -1,27 +1,32 @@
 -- What is known of quiet streams as rows are added, as streams meet frames, and after the last one.
-use Rattle.std.proofs.Common.{◌≡◌, ◌≢◌, ℕ, ◌+◌, ◌<◌, ◌≤◌, ◌^◌, ◌==◌, ◌||◌, ◌⊎◌, inl, inr, Bool, true, false, if◌then◌else◌, List, [], ◌∷◌, ◌++◌, length, get_or, slice_get, set, drop, filter, Some, refl, sym, ap, ◌∙◌, subst, arith, true≢false}
+use Rattle.std.proofs.Common.{◌≡◌, ◌≢◌, ℕ, ◌+◌, ◌<◌, ◌≤◌, ◌^◌, ◌==◌, ◌||◌, ◌⊎◌, inl, inr, Bool, true, false}
+use Rattle.std.proofs.Common.{if◌then◌else◌, List, [], ◌∷◌, ◌++◌, length, get_or, slice_get, set, drop, filter, Some}
+use Rattle.std.proofs.Common.{refl, sym, ap, ◌∙◌, subst, arith, true≢false}
 use Rattle.std.specs.List.{All}
-use Rattle.std.proofs.lemmas.List.{drop_more, length-append, length-set, get_or-set_same, get_or-set_other, get_or_append_left, get_or_at}
+use Rattle.std.proofs.lemmas.List.{drop_more, length-append, length-set, get_or-set_same, get_or-set_other}
+use Rattle.std.proofs.lemmas.List.{get_or_append_left, get_or_at}
 use Rattle.std.proofs.lemmas.List.Elements.{All-filter}
 use Rattle.std.proofs.lemmas.Option.{slice_get-get_or}
 use borrow.Author.Tests.{eqb-true, eq-eqb}
 use Rattle.audit_terms.specs.declared.frames.Frame.{Frame}
 use Rattle.audit_terms.specs.declared.items.Change.{Change}
 use Rattle.audit_terms.specs.Frame.{is_ack, promised_in, promises, promised_by, meets}
-use Rattle.audit_terms.specs.runs.Orderly.{IsInRange, IsOrderly, IsOrderlyFrom}
-use Rattle.audit_terms.specs.runs.Streams.{frames_of}
-use Rattle.settings_pair.specs.Changes.{AreOrderly, AreAcknowledged}
+use Rattle.audit_terms.specs.code.runs.Orderly.{IsInRange, IsOrderly, IsOrderlyFrom}
+use Rattle.audit_terms.specs.code.runs.Streams.{frames_of}
+use Rattle.settings_pair.specs.code.Changes.{AreOrderly, AreAcknowledged}
 use Rattle.stream_credit.specs.declared.quiet_streams.QuietStream.{QuietStream}
 use Rattle.stream_credit.specs.code.QuietStream.{IsAheadIfQuiet}
 use Rattle.split_merge.specs.code.Visits.{NotAmong, AreDistinct}
 use Rattle.split_merge.specs.code.Ahead.{with_next, AreAhead, IsHushed, AreHushed}
-use Rattle.split_merge.proofs.Visited.{get-from_slice_get, within-from_slice_get, not_among-at, not_among-front, one_index, two}
+use Rattle.split_merge.proofs.Visited.{get-from_slice_get, within-from_slice_get, not_among-at, not_among-front}
+use Rattle.split_merge.proofs.Visited.{one_index, two}
 use Rattle.split_merge.proofs.NamedStreams.{not_among-append}
 use Rattle.split_merge.proofs.Positions.{promised-is, not_both}
 
 -- ---- the frames of one stream
 
-orderly-earlier : (low high : ℕ) (frames : List Frame) → low ≤ high → IsOrderlyFrom high frames → IsOrderlyFrom low frames
+orderly-earlier : (low high : ℕ) (frames : List Frame) → low ≤ high → IsOrderlyFrom high frames
+    → IsOrderlyFrom low frames
 orderly-earlier low high [] l h = tt
 orderly-earlier low high (frame ∷ frames) l h = (omega (arith, h.0), h.1, h.2)
 
@@ -74,7 +79,8 @@ slice_get-left streams x r s l at =
     slice_get-get_or streams r 0 l
     ∙ ap Some (sym (get_or_append_left streams (x ∷ []) 0 r l) ∙ get-from_slice_get (streams ++ x ∷ []) r s at)
 
-pub ahead-alike : (changes : List Change) (all : List Frame) (f g : ℕ → List Frame) (streams : List ℕ) (quiets : List QuietStream) →
+pub ahead-alike : (changes : List Change) (all : List Frame) (f g : ℕ → List Frame) (streams : List ℕ)
+    (quiets : List QuietStream) →
     ((s : ℕ) → s ≢ 0 → f s ≡ g s) → AreAhead changes all f streams quiets → AreAhead changes all g streams quiets
 ahead-alike changes all f g streams quiets same h = record {
   long = h.long;
@@ -83,7 +89,8 @@ ahead-alike changes all f g streams quiets same h = record {
   acknowledged = h.acknowledged;
   above = h.above;
   ahead = λ r s d at.
-      subst (λ l. IsAheadIfQuiet s changes (frames_of s all) l (get_or quiets r d)) (same s (above-at streams r s h.above at))
+      subst (λ l. IsAheadIfQuiet s changes (frames_of s all) l (get_or quiets r d))
+      (same s (above-at streams r s h.above at))
       (h.ahead r s d at);
   unmet = λ s n out. sym (same s n) ∙ h.unmet s n out;
 }
@@ -99,8 +106,10 @@ ahead-zero changes all frame rest stream streams quiets z h =
       by_test s n false e = rw e refl
 
 -- no stream has met a frame
-pub ahead-none : (changes : List Change) (all : List Frame) (streams : List ℕ) (quiets : List QuietStream) → streams ≡ [] → quiets ≡ [] →
-    IsOrderly all → AreOrderly changes → AreAcknowledged all changes → AreAhead changes all (λ s. frames_of s all) streams quiets
+pub ahead-none : (changes : List Change) (all : List Frame) (streams : List ℕ) (quiets : List QuietStream)
+    → streams ≡ [] → quiets ≡ [] →
+    IsOrderly all → AreOrderly changes → AreAcknowledged all changes
+    → AreAhead changes all (λ s. frames_of s all) streams quiets
 ahead-none changes all streams quiets e f orderly rise acknowledged = record {
   long = ap length f ∙ sym (ap length e);
   orderly = orderly;
@@ -114,14 +123,17 @@ ahead-none changes all streams quiets e f orderly rise acknowledged = record {
   none r s at = cc
 
 -- the streams of a frame meet it next
-pub ahead-frame : (changes : List Change) (all : List Frame) (i : ℕ) (frame : Frame) (streams : List ℕ) (quiets : List QuietStream) →
+pub ahead-frame : (changes : List Change) (all : List Frame) (i : ℕ) (frame : Frame) (streams : List ℕ)
+    (quiets : List QuietStream) →
     i < length all → frame ≡ get_or all i frame → AreAhead changes all (λ s. frames_of s (drop i all)) streams quiets →
-    AreAhead changes all (with_next frame.stream frame (with_next (promised_by frame) frame (λ s. frames_of s (drop (i + 1) all))))
+    AreAhead changes all (with_next frame.stream frame
+    (with_next (promised_by frame) frame (λ s. frames_of s (drop (i + 1) all))))
     streams quiets
 ahead-frame changes all i frame streams quiets l is h =
     let first = drop_more all i frame l ∙ ap (λ (one : Frame). one ∷ drop (i + 1) all) (sym is) in
     ahead-alike changes all (λ s. frames_of s (drop i all))
-    (with_next frame.stream frame (with_next (promised_by frame) frame (λ s. frames_of s (drop (i + 1) all)))) streams quiets
+    (with_next frame.stream frame (with_next (promised_by frame) frame (λ s. frames_of s (drop (i + 1) all)))) streams
+    quiets
     (λ s n. ap (frames_of s) first ∙ next-frame frame (drop (i + 1) all) s n) h
 
 pub promised-small : (frame : Frame) → IsInRange frame → promised_by frame < 2 ^ 31
@@ -137,7 +149,8 @@ IsIdle quiet =
     AreAcknowledged all changes → IsAheadIfQuiet stream changes all all quiet
 
 -- one more stream
-module _ (changes : List Change) (all : List Frame) (rest : ℕ → List Frame) (streams : List ℕ) (quiets : List QuietStream)
+module _ (changes : List Change) (all : List Frame) (rest : ℕ → List Frame) (streams : List ℕ)
+    (quiets : List QuietStream)
     (h : AreAhead changes all rest streams quiets) (stream : ℕ) (n : stream ≢ 0) (small : stream < 2 ^ 31)
     (new : NotAmong stream streams) (quiet : QuietStream) (idle : IsIdle quiet) where
   idle-now : IsAheadIfQuiet stream changes (frames_of stream all) (rest stream) quiet
@@ -159,7 +172,8 @@ module _ (changes : List Change) (all : List Frame) (rest : ℕ → List Frame) 
       let e : length streams ≡ r = omega (arith, l, w, m) in
       let same : s ≡ stream =
       sym (get-from_slice_get (streams ++ stream ∷ []) r s at) ∙ get_or_at streams stream [] 0 r e in
-      subst (λ q. IsAheadIfQuiet s changes (frames_of s all) (rest s) q) (sym (get_or_at quiets quiet [] d r (h.long ∙ e)))
+      subst (λ q. IsAheadIfQuiet s changes (frames_of s all) (rest s) q)
+      (sym (get_or_at quiets quiet [] d r (h.long ∙ e)))
       (subst (λ s. IsAheadIfQuiet s changes (frames_of s all) (rest s) quiet) (sym same) idle-now)
 
   pub ahead-new : AreAhead changes all rest (streams ++ stream ∷ []) (quiets ++ quiet ∷ [])
@@ -193,11 +207,14 @@ module _ (changes : List Change) (all : List Frame) (frame : Frame) (rest : ℕ 
     by_test false e = rw e refl
 
   -- what is known of it before
-  pub ahead-next : (d : QuietStream) → IsAheadIfQuiet stream changes (frames_of stream all) (frame ∷ rest stream) (get_or quiets row d)
+  pub ahead-next : (d : QuietStream) → IsAheadIfQuiet stream changes (frames_of stream all) (frame ∷ rest stream)
+      (get_or quiets row d)
   ahead-next d =
-      subst (λ l. IsAheadIfQuiet stream changes (frames_of stream all) l (get_or quiets row d)) here (h.ahead row stream d at)
+      subst (λ l. IsAheadIfQuiet stream changes (frames_of stream all) l (get_or quiets row d)) here
+      (h.ahead row stream d at)
 
-  module _ (quiet : QuietStream) (after : IsAheadIfQuiet stream changes (frames_of stream all) (rest stream) quiet) where
+  module _ (quiet : QuietStream)
+      (after : IsAheadIfQuiet stream changes (frames_of stream all) (rest stream) quiet) where
     met-at : (r s : ℕ) (d : QuietStream) → slice_get streams r ≡ Some s →
         IsAheadIfQuiet s changes (frames_of s all) (rest s) (get_or (set quiets row quiet) r d)
     met-at r s d on = by_test _ refl where
@@ -206,9 +223,11 @@ module _ (changes : List Change) (all : List Frame) (frame : Frame) (rest : ℕ 
       by_test true t =
           let same : row ≡ r = eqb-true row r t in
           let one : stream ≡ s =
-          sym (get-from_slice_get streams row stream at) ∙ ap (λ i. get_or streams i 0) same ∙ get-from_slice_get streams r s on in
+          sym (get-from_slice_get streams row stream at) ∙ ap (λ i. get_or streams i 0) same
+          ∙ get-from_slice_get streams r s on in
           subst (λ i. IsAheadIfQuiet s changes (frames_of s all) (rest s) (get_or (set quiets row quiet) i d)) same
-          (subst (λ q. IsAheadIfQuiet s changes (frames_of s all) (rest s) q) (sym (get_or-set_same quiets row quiet d within))
+          (subst (λ q. IsAheadIfQuiet s changes (frames_of s all) (rest s) q)
+          (sym (get_or-set_same quiets row quiet d within))
           (subst (λ s. IsAheadIfQuiet s changes (frames_of s all) (rest s) quiet) one after))
       by_test false t =
           let apart : r ≢ row = λ p. true≢false (sym (eq-eqb row r (sym p)) ∙ t) in
@@ -216,7 +235,8 @@ module _ (changes : List Change) (all : List Frame) (frame : Frame) (rest : ℕ 
           (get-from_slice_get streams row stream at ∙ p) (above-at streams r s h.above on)) in
           subst (λ q. IsAheadIfQuiet s changes (frames_of s all) (rest s) q)
           (sym (get_or-set_other quiets row r quiet d apart))
-          (subst (λ l. IsAheadIfQuiet s changes (frames_of s all) l (get_or quiets r d)) (there s other) (h.ahead r s d on))
+          (subst (λ l. IsAheadIfQuiet s changes (frames_of s all) l (get_or quiets r d)) (there s other)
+          (h.ahead r s d on))
 
     pub ahead-met : AreAhead changes all rest streams (set quiets row quiet)
     ahead-met = record {
@@ -243,8 +263,10 @@ pub record IsPartEnded (credits_shown : Bool) (changes : List Change) (all : Lis
   pub ahead : (r s : ℕ) (d : QuietStream) → many ≤ r → slice_get streams r ≡ Some s →
       IsAheadIfQuiet s changes (frames_of s all) [] (get_or quiets r d)
 
-module _ (credits_shown : Bool) (changes : List Change) (all : List Frame) (streams : List ℕ) (quiets : List QuietStream) where
-  pub ended-none : AreAhead changes all (λ _. []) streams quiets → IsPartEnded credits_shown changes all streams quiets 0
+module _ (credits_shown : Bool) (changes : List Change) (all : List Frame) (streams : List ℕ)
+    (quiets : List QuietStream) where
+  pub ended-none : AreAhead changes all (λ _. []) streams quiets
+      → IsPartEnded credits_shown changes all streams quiets 0
   ended-none h = record {
     long = h.long;
     hushed = λ r s d l. absurd (omega arith);
@@ -252,14 +274,16 @@ module _ (credits_shown : Bool) (changes : List Change) (all : List Frame) (stre
   }
 
   pub ended-more : (many s : ℕ) (quiet : QuietStream) → slice_get streams many ≡ Some s →
-      IsPartEnded credits_shown changes all streams quiets many → IsHushed credits_shown changes s (frames_of s all) quiet →
+      IsPartEnded credits_shown changes all streams quiets many → IsHushed credits_shown changes s
+      (frames_of s all) quiet →
       IsPartEnded credits_shown changes all streams (set quiets many quiet) (many + 1)
   ended-more many s quiet at h done = record {
     long = length-set quiets many quiet ∙ h.long;
     hushed = λ r q d l on. by_test r q d l on _ refl;
     ahead = λ r q d l on.
         let apart : r ≢ many = omega (arith, l) in
-        subst (λ x. IsAheadIfQuiet q changes (frames_of q all) [] x) (sym (get_or-set_other quiets many r quiet d apart))
+        subst (λ x. IsAheadIfQuiet q changes (frames_of q all) [] x)
+        (sym (get_or-set_other quiets many r quiet d apart))
         (h.ahead r q d (omega (arith, l)) on);
   } where
     by_test : (r q : ℕ) (d : QuietStream) → r < many + 1 → slice_get streams r ≡ Some q → (b : Bool) → (many == r) ≡ b →
@@ -268,14 +292,16 @@ module _ (credits_shown : Bool) (changes : List Change) (all : List Frame) (stre
         let same : many ≡ r = eqb-true many r t in
         let w = within-from_slice_get streams many s at in
         let one : s ≡ q =
-        sym (get-from_slice_get streams many s at) ∙ ap (λ i. get_or streams i 0) same ∙ get-from_slice_get streams r q on in
+        sym (get-from_slice_get streams many s at) ∙ ap (λ i. get_or streams i 0) same
+        ∙ get-from_slice_get streams r q on in
         subst (λ i. IsHushed credits_shown changes q (frames_of q all) (get_or (set quiets many quiet) i d)) same
         (subst (λ x. IsHushed credits_shown changes q (frames_of q all) x)
         (sym (get_or-set_same quiets many quiet d (omega (arith, w, h.long))))
         (subst (λ q. IsHushed credits_shown changes q (frames_of q all) quiet) one done))
     by_test r q d l on false t =
         let apart : r ≢ many = λ p. true≢false (sym (eq-eqb many r (sym p)) ∙ t) in
-        subst (λ x. IsHushed credits_shown changes q (frames_of q all) x) (sym (get_or-set_other quiets many r quiet d apart))
+        subst (λ x. IsHushed credits_shown changes q (frames_of q all) x)
+        (sym (get_or-set_other quiets many r quiet d apart))
         (h.hushed r q d (omega (arith, l, apart)) on)
 
   pub ended-all : (many : ℕ) → length streams ≤ many → IsPartEnded credits_shown changes all streams quiets many →

@@ -1,11 +1,12 @@
 -- Groups are consecutive, so what they hold, joined, is all there is.
-use Rattle.std.proofs.Common.{◌≡◌, ℕ, zero, suc, ◌+◌, ◌*◌, ◌/◌, ◌<◌, ◌≤◌, min, List, [], ◌∷◌, ◌++◌, length, map, drop, refl, sym, ap, ◌∙◌, subst, arith}
+use Rattle.std.proofs.Common.{◌≡◌, ℕ, zero, suc, ◌+◌, ◌*◌, ◌/◌, ◌<◌, ◌≤◌, min, List, [], ◌∷◌, ◌++◌, length, map, drop}
+use Rattle.std.proofs.Common.{refl, sym, ap, ◌∙◌, subst, arith}
 use Rattle.std.specs.List.{range_with_len, between, flat_map}
 use Rattle.std.proofs.lemmas.List.{drop_all}
 use Rattle.std.proofs.lemmas.List.Folds.{drop_split}
 use Rattle.std.proofs.lemmas.Nat.{div-mul-add, div-add-mod', le-div, mul-le}
 use Rattle.std.proofs.Math.Nat.{mul_comm}
-use Rattle.split_merge.specs.Groups.{group_at, groups, AreConsecutive}
+use Rattle.split_merge.specs.code.Groups.{group_at, groups, AreConsecutive}
 
 whole : (count k : ℕ) → 0 < k → k * count / k ≡ count
 whole count k h =
@@ -31,7 +32,8 @@ consecutive-from count k g zero h e =
 consecutive-from count k g (suc m) h e =
     (refl, rising count k g h, consecutive-from count k (g + 1) m h (omega (arith, e)))
 
-consecutive-by : (count n k : ℕ) → min n count ≡ k → 1 ≤ n → AreConsecutive 0 count (map (group_at count k) (range_with_len 0 k))
+consecutive-by : (count n k : ℕ) → min n count ≡ k → 1 ≤ n
+    → AreConsecutive 0 count (map (group_at count k) (range_with_len 0 k))
 consecutive-by count n zero e h =
     let none : 0 ≡ count = omega (arith, e, h) in none
 consecutive-by count n (suc k) e h =
@@ -43,7 +45,8 @@ pub groups-consecutive : (count n : ℕ) → 1 ≤ n → AreConsecutive 0 count 
 groups-consecutive count n h = consecutive-by count n (min n count) refl h
 
 -- what consecutive ranges of a list hold, joined
-pub ranges-joined : {X : Type 0} (xs : List X) (from : ℕ) (ranges : List (ℕ × ℕ)) → AreConsecutive from (length xs) ranges →
+pub ranges-joined : {X : Type 0} (xs : List X) (from : ℕ) (ranges : List (ℕ × ℕ))
+    → AreConsecutive from (length xs) ranges →
     flat_map (λ (range : ℕ × ℕ). between range.0 range.1 xs) ranges ≡ drop from xs
 ranges-joined xs from [] h = sym (drop_all from xs (omega (arith, h)))
 ranges-joined xs from (range ∷ ranges) h =

@@ -1,12 +1,16 @@
 -- The ranges of rows, one after the other, and what they hold as positions come in.
-use Rattle.std.proofs.Common.{◌≡◌, ◌≢◌, ℕ, zero, suc, ◌+◌, ◌-◌, ◌<◌, ◌≤◌, ◌==◌, ◌⊎◌, inl, inr, Bool, true, false, List, [], ◌∷◌, ◌++◌, length, get_or, slice_get, set, take, drop, Some, refl, sym, ap, ◌∙◌, subst, arith, true≢false}
+use Rattle.std.proofs.Common.{◌≡◌, ◌≢◌, ℕ, zero, suc, ◌+◌, ◌-◌, ◌<◌, ◌≤◌, ◌==◌, ◌⊎◌, inl, inr, Bool, true, false, List}
+use Rattle.std.proofs.Common.{[], ◌∷◌, ◌++◌, length, get_or, slice_get, set, take, drop, Some, refl, sym, ap, ◌∙◌}
+use Rattle.std.proofs.Common.{subst, arith, true≢false}
 use Rattle.std.specs.List.{between}
-use Rattle.std.proofs.lemmas.List.{length-append, length-set, get_or-set_same, get_or-set_other, drop-set-lt, take-set-le, take-set, get_or_default, get_or-map, same_lists}
+use Rattle.std.proofs.lemmas.List.{length-append, length-set, get_or-set_same, get_or-set_other, drop-set-lt}
+use Rattle.std.proofs.lemmas.List.{take-set-le, take-set, get_or_default, get_or-map, same_lists}
 use Rattle.std.proofs.lemmas.List.Edits.{between_more, between_none}
 use Rattle.std.proofs.lemmas.Slice.{between_is}
 use borrow.Author.Tests.{eqb-true, eq-eqb}
 use Rattle.split_merge.specs.declared.splits.StreamRow.{StreamRow}
-use Rattle.split_merge.specs.code.Visits.{streams_in, row_positions, noted_positions, total_of, counted, laid_out, grown, AreDistinct, HasRoomFor, IsFilled}
+use Rattle.split_merge.specs.code.Visits.{streams_in, row_positions, noted_positions, total_of, counted, laid_out}
+use Rattle.split_merge.specs.code.Visits.{grown, AreDistinct, HasRoomFor, IsFilled}
 use Rattle.split_merge.proofs.NamedStreams.{length-streams_in}
 use Rattle.split_merge.proofs.Visited.{noted_positions-append, three, row-within, positions-here, positions-there}
 
@@ -20,7 +24,8 @@ pub laid-streams : (at : ℕ) (rows : List StreamRow) → streams_in (laid_out a
 laid-streams at [] = refl
 laid-streams at (row ∷ rows) = ap (λ l. row.stream ∷ l) (laid-streams (at + row.to) rows)
 
-laid-from : (at : ℕ) (rows : List StreamRow) (r : ℕ) (d : StreamRow) → r < length rows → at ≤ (get_or (laid_out at rows) r d).from
+laid-from : (at : ℕ) (rows : List StreamRow) (r : ℕ) (d : StreamRow) → r < length rows
+    → at ≤ (get_or (laid_out at rows) r d).from
 laid-from at [] r d l = absurd (omega arith)
 laid-from at (row ∷ rows) zero d l = omega arith
 laid-from at (row ∷ rows) (suc r) d l = let h = laid-from (at + row.to) rows r d (omega arith) in omega (arith, h)
@@ -78,11 +83,14 @@ between-put xs from at position h l =
     ∙ ap (λ l. l ++ position ∷ [])
     (between_is (set xs at position) from at ∙ ap (drop from) (take-set xs at position) ∙ sym (between_is xs from at))
 
-between-below : (xs : List ℕ) (from to at position : ℕ) → to ≤ at → between from to (set xs at position) ≡ between from to xs
+between-below : (xs : List ℕ) (from to at position : ℕ) → to ≤ at → between from to (set xs at position)
+    ≡ between from to xs
 between-below xs from to at position h =
-    between_is (set xs at position) from to ∙ ap (drop from) (take-set-le to xs at position h) ∙ sym (between_is xs from to)
+    between_is (set xs at position) from to ∙ ap (drop from) (take-set-le to xs at position h)
+    ∙ sym (between_is xs from to)
 
-between-above : (xs : List ℕ) (from to at position : ℕ) → at < from → between from to (set xs at position) ≡ between from to xs
+between-above : (xs : List ℕ) (from to at position : ℕ) → at < from → between from to (set xs at position)
+    ≡ between from to xs
 between-above xs from to at position h = ap (take (to - from)) (drop-set-lt from xs at position h)
 
 module _ (empty : List StreamRow) (all came later : List (ℕ × ℕ)) (total : ℕ) (room : HasRoomFor empty all total)
@@ -165,7 +173,8 @@ module _ (empty : List StreamRow) (all came later : List (ℕ × ℕ)) (total : 
       ∙ ap (λ l. l ++ position ∷ []) was ∙ sym more-here
 
   others-stay : (r : ℕ) → r < length empty → (r < index) ⊎ ((r ≡ index) ⊎ (index < r)) → (index == r) ≡ false →
-      between (get_or empty r e).from ((get_or empty r e).from + length (row_positions r empty came)) (set positions row.to position)
+      between (get_or empty r e).from ((get_or empty r e).from + length (row_positions r empty came))
+      (set positions row.to position)
       ≡ between (get_or empty r e).from ((get_or empty r e).from + length (row_positions r empty came)) positions
   others-stay r l (inl p) t =
       let a = room.apart r index e p known in
@@ -189,7 +198,8 @@ module _ (empty : List StreamRow) (all came later : List (ℕ × ℕ)) (total : 
         subst (λ r. between (get_or empty r e).from ((get_or empty r e).from + length (row_positions r empty noted_now))
         (set positions row.to position) ≡ row_positions r empty noted_now) (eqb-true index r t) filled-here
     by_test false t =
-        ap (λ p. between (get_or empty r e).from ((get_or empty r e).from + length p) (set positions row.to position)) (more-there r t)
+        ap (λ p. between (get_or empty r e).from ((get_or empty r e).from + length p) (set positions row.to position))
+        (more-there r t)
         ∙ others-stay r l (three r index) t ∙ filled.filled r e l ∙ sym (more-there r t)
 
   pub placed-more : IsFilled empty noted_now (set rows index (counted row)) (set positions row.to position)
@@ -211,7 +221,8 @@ same-row row e =
     ap (made row.stream row.from) z
 
 -- no position is there yet
-pub placed-none : (empty : List StreamRow) (all : List (ℕ × ℕ)) (total : ℕ) (positions : List ℕ) → HasRoomFor empty all total →
+pub placed-none : (empty : List StreamRow) (all : List (ℕ × ℕ)) (total : ℕ) (positions : List ℕ)
+    → HasRoomFor empty all total →
     IsFilled empty [] empty positions
 placed-none empty all total positions room = record {
   long = refl;
@@ -221,7 +232,8 @@ placed-none empty all total positions room = record {
       ap (λ n. between (get_or empty r d).from n positions) z ∙ between_none positions (get_or empty r d).from;
 }
 
-pub filled-streams : (empty rows : List StreamRow) (notes : List (ℕ × ℕ)) (positions : List ℕ) → IsFilled empty notes rows positions →
+pub filled-streams : (empty rows : List StreamRow) (notes : List (ℕ × ℕ)) (positions : List ℕ)
+    → IsFilled empty notes rows positions →
     streams_in rows ≡ streams_in empty
 filled-streams empty rows notes positions filled =
     same_lists (streams_in rows) (streams_in empty)

@@ -1,5 +1,7 @@
 -- The loud streams among all: which they are, where they stand, what they count, and what is noted of them.
-use Rattle.std.proofs.Common.{◌≡◌, ◌≢◌, ℕ, zero, suc, ◌+◌, ◌<◌, ◌≤◌, ◌==◌, not, Bool, true, false, if◌then◌else◌, List, [], ◌∷◌, ◌++◌, length, get_or, slice_get, drop, filter, flat_map, Option, Some, None, MatchOption, option_to_list, refl, sym, ap, ◌∙◌, subst, arith, true≢false, append_assoc}
+use Rattle.std.proofs.Common.{◌≡◌, ◌≢◌, ℕ, zero, suc, ◌+◌, ◌<◌, ◌≤◌, ◌==◌, not, Bool, true, false, if◌then◌else◌, List}
+use Rattle.std.proofs.Common.{[], ◌∷◌, ◌++◌, length, get_or, slice_get, drop, filter, flat_map, Option, Some, None}
+use Rattle.std.proofs.Common.{MatchOption, option_to_list, refl, sym, ap, ◌∙◌, subst, arith, true≢false, append_assoc}
 use Rattle.std.proofs.lemmas.List.{drop_more, length-append}
 use borrow.Author.Tests.{eqb-true, eq-eqb}
 use Rattle.stream_credit.specs.declared.quiet_streams.QuietStream.{QuietStream}
@@ -12,7 +14,8 @@ use Rattle.split_merge.proofs.Visited.{noted-one, get-from_slice_get, within-fro
 
 -- ---- what holds of all holds of the loud ones
 
-pub loud-streams : (rows : List StreamRow) (quiets : List QuietStream) → streams_in (loud_of rows quiets) ≡ loud_of (streams_in rows) quiets
+pub loud-streams : (rows : List StreamRow) (quiets : List QuietStream) → streams_in (loud_of rows quiets) ≡ loud_of
+    (streams_in rows) quiets
 loud-streams [] quiets = refl
 loud-streams (row ∷ rows) [] = refl
 loud-streams (row ∷ rows) (quiet ∷ quiets) = by_test quiet.is_quiet (loud-streams rows quiets) where
@@ -26,7 +29,8 @@ pub loud-not_among : (s : ℕ) (xs : List ℕ) (quiets : List QuietStream) → N
 loud-not_among s [] quiets n = tt
 loud-not_among s (x ∷ xs) [] n = tt
 loud-not_among s (x ∷ xs) (quiet ∷ quiets) n = by_test quiet.is_quiet (loud-not_among s xs quiets n.1) where
-  by_test : (b : Bool) → NotAmong s (loud_of xs quiets) → NotAmong s (if b then loud_of xs quiets else x ∷ loud_of xs quiets)
+  by_test : (b : Bool) → NotAmong s (loud_of xs quiets)
+      → NotAmong s (if b then loud_of xs quiets else x ∷ loud_of xs quiets)
   by_test true ih = ih
   by_test false ih = (n.0, ih)
 
@@ -34,7 +38,8 @@ pub loud-distinct : (xs : List ℕ) (quiets : List QuietStream) → AreDistinct 
 loud-distinct [] quiets h = tt
 loud-distinct (x ∷ xs) [] h = tt
 loud-distinct (x ∷ xs) (quiet ∷ quiets) h = by_test quiet.is_quiet (loud-distinct xs quiets h.1) where
-  by_test : (b : Bool) → AreDistinct (loud_of xs quiets) → AreDistinct (if b then loud_of xs quiets else x ∷ loud_of xs quiets)
+  by_test : (b : Bool) → AreDistinct (loud_of xs quiets)
+      → AreDistinct (if b then loud_of xs quiets else x ∷ loud_of xs quiets)
   by_test true ih = ih
   by_test false ih = (loud-not_among x xs quiets h.0, ih)
 
@@ -60,7 +65,8 @@ loud-each P [] quiets h = λ k d l. absurd (omega (arith, l))
 loud-each P (row ∷ rows) [] h = λ k d l. absurd (omega (arith, l))
 loud-each P (row ∷ rows) (quiet ∷ quiets) h =
     by_test quiet.is_quiet (loud-each P rows quiets (λ k d l. h (suc k) d (omega (arith, l)))) where
-      by_test : (b : Bool) → ((k : ℕ) (d : StreamRow) → k < length (loud_of rows quiets) → P (get_or (loud_of rows quiets) k d)) →
+      by_test : (b : Bool) → ((k : ℕ) (d : StreamRow) → k < length (loud_of rows quiets)
+          → P (get_or (loud_of rows quiets) k d)) →
           (k : ℕ) (d : StreamRow) → k < length (if b then loud_of rows quiets else row ∷ loud_of rows quiets) →
           P (get_or (if b then loud_of rows quiets else row ∷ loud_of rows quiets) k d)
       by_test true ih = ih
@@ -71,7 +77,8 @@ loud-each P (row ∷ rows) (quiet ∷ quiets) h =
 loud-first : (x : StreamRow) (xs : List StreamRow) (quiet : QuietStream) (quiets : List QuietStream) →
     loud_of (x ∷ xs) (quiet ∷ quiets) ≡ loud_of (x ∷ []) (quiet ∷ []) ++ loud_of xs quiets
 loud-first x xs quiet quiets = by_test quiet.is_quiet where
-  by_test : (b : Bool) → (if b then loud_of xs quiets else x ∷ loud_of xs quiets) ≡ (if b then [] else x ∷ []) ++ loud_of xs quiets
+  by_test : (b : Bool) → (if b then loud_of xs quiets else x ∷ loud_of xs quiets) ≡ (if b then [] else x ∷ [])
+      ++ loud_of xs quiets
   by_test true = refl
   by_test false = refl
 
@@ -101,7 +108,8 @@ module _ (rows : List StreamRow) (quiets : List QuietStream) (i : ℕ) (l : i < 
   abbrev quiet : QuietStream
   quiet = get_or quiets i e
 
-  pub rows-more : (before after : List StreamRow) → before ++ loud_of (drop i rows) (drop i quiets) ≡ loud_of rows quiets →
+  pub rows-more : (before after : List StreamRow) → before ++ loud_of (drop i rows) (drop i quiets)
+      ≡ loud_of rows quiets →
       after ≡ before ++ loud_of (get_or rows i d ∷ []) (get_or quiets i e ∷ []) →
       after ++ loud_of (drop (i + 1) rows) (drop (i + 1) quiets) ≡ loud_of rows quiets
   rows-more before after h is =
@@ -174,7 +182,8 @@ opened-kept : (f : ℕ → List ℕ) (b : Bool) (number l m : List ℕ) (x : ℕ
 opened-kept f true number l m x h e = ap (λ a. a ++ l) (sym (h refl)) ∙ ap (λ l. f x ++ l) e
 opened-kept f false number l m x h e = e
 
-pub opened-filter : (f : ℕ → List ℕ) (xs : List ℕ) (quiets : List QuietStream) → AreDistinct xs → length quiets ≡ length xs →
+pub opened-filter : (f : ℕ → List ℕ) (xs : List ℕ) (quiets : List QuietStream) → AreDistinct xs
+    → length quiets ≡ length xs →
     ((r s : ℕ) (d : QuietStream) → slice_get xs r ≡ Some s → (get_or quiets r d).is_quiet ≡ true →
     f s ≡ option_to_list (opened_of (get_or quiets r d).opened)) →
     opened_in quiets ≡ flat_map f (filter (λ s. quiet_in s xs quiets) xs)
@@ -185,7 +194,8 @@ opened-filter f (x ∷ xs) (quiet ∷ quiets) h e told =
     let ih = opened-filter f xs quiets h.1 (omega (arith, e)) (λ r s d at. told (suc r) s d at) in
     let past = filter-past x quiet.is_quiet (λ s. quiet_in s xs quiets) (λ b. b) xs h.0 in
     rw (eq-eqb x x refl) (opened-kept f quiet.is_quiet (option_to_list (opened_of quiet.opened)) (opened_in quiets)
-    (filter (λ s. quiet_in s (x ∷ xs) (quiet ∷ quiets)) xs) x (told zero x quiet refl) (ih ∙ ap (flat_map f) (sym past)))
+    (filter (λ s. quiet_in s (x ∷ xs) (quiet ∷ quiets)) xs) x (told zero x quiet refl)
+    (ih ∙ ap (flat_map f) (sym past)))
 
 pub quiet_in-at : (xs : List ℕ) (quiets : List QuietStream) (k : ℕ) (d : QuietStream) → AreDistinct xs → k < length xs →
     length quiets ≡ length xs → quiet_in (get_or xs k 0) xs quiets ≡ (get_or quiets k d).is_quiet
@@ -194,8 +204,10 @@ quiet_in-at (x ∷ xs) [] k d h l e = absurd (omega (arith, e))
 quiet_in-at (x ∷ xs) (quiet ∷ quiets) zero d h l e = rw (eq-eqb x x refl) refl
 quiet_in-at (x ∷ xs) (quiet ∷ quiets) (suc k) d h l e =
     by_test _ refl (quiet_in-at xs quiets k d h.1 (omega (arith, l)) (omega (arith, e))) where
-      by_test : (b : Bool) → (x == get_or xs k 0) ≡ b → quiet_in (get_or xs k 0) xs quiets ≡ (get_or quiets k d).is_quiet →
-          (if x == get_or xs k 0 then quiet.is_quiet else quiet_in (get_or xs k 0) xs quiets) ≡ (get_or quiets k d).is_quiet
+      by_test : (b : Bool) → (x == get_or xs k 0) ≡ b → quiet_in (get_or xs k 0) xs quiets
+          ≡ (get_or quiets k d).is_quiet →
+          (if x == get_or xs k 0 then quiet.is_quiet else quiet_in (get_or xs k 0) xs quiets)
+          ≡ (get_or quiets k d).is_quiet
       by_test true t ih = absurd (not_among-at x xs k h.0 (omega (arith, l)) (sym (eqb-true x (get_or xs k 0) t)))
       by_test false t ih = rw t ih
 
@@ -203,11 +215,13 @@ quiet_in-at (x ∷ xs) (quiet ∷ quiets) (suc k) d h l e =
 
 pub places-length : (at : ℕ) (quiets : List QuietStream) → length (places_from at quiets) ≡ length quiets
 places-length at [] = refl
-places-length at (quiet ∷ quiets) = by_test quiet.is_quiet (places-length at quiets) (places-length (at + 1) quiets) where
-  by_test : (b : Bool) → length (places_from at quiets) ≡ length quiets → length (places_from (at + 1) quiets) ≡ length quiets →
-      length (if b then None ∷ places_from at quiets else Some at ∷ places_from (at + 1) quiets) ≡ suc (length quiets)
-  by_test true e f = ap suc e
-  by_test false e f = ap suc f
+places-length at (quiet ∷ quiets) = by_test quiet.is_quiet (places-length at quiets)
+    (places-length (at + 1) quiets) where
+      by_test : (b : Bool) → length (places_from at quiets) ≡ length quiets → length (places_from (at + 1) quiets)
+          ≡ length quiets →
+          length (if b then None ∷ places_from at quiets else Some at ∷ places_from (at + 1) quiets) ≡ suc (length quiets)
+      by_test true e f = ap suc e
+      by_test false e f = ap suc f
 
 slice_get-at : (front : List ℕ) (x : ℕ) (rest : List ℕ) (at : ℕ) → length front ≡ at →
     slice_get (front ++ x ∷ rest) at ≡ Some x
@@ -217,7 +231,8 @@ slice_get-at (y ∷ front) x rest at e = rw (sym e) (slice_get-at front x rest (
 length-more : (front : List ℕ) (x at : ℕ) → length front ≡ at → length (front ++ x ∷ []) ≡ at + 1
 length-more front x at e = let n = length-append front (x ∷ []) in omega (arith, n, e)
 
-other-one : {A B : Type 0} (P Q : ℕ → Type 0) (o : Option ℕ) → (A → B) → ((k : ℕ) → P k → Q k) → MatchOption o A P → MatchOption o B Q
+other-one : {A B : Type 0} (P Q : ℕ → Type 0) (o : Option ℕ) → (A → B) → ((k : ℕ) → P k → Q k) → MatchOption o A P
+    → MatchOption o B Q
 other-one P Q None f g h = f h
 other-one P Q (Some k) f g h = g k h
 
@@ -232,7 +247,8 @@ places-at (x ∷ xs) (quiet ∷ quiets) n h = λ front at e r s d is.
       by_test : ((front : List ℕ) (at : ℕ) → length front ≡ at → (r s : ℕ) (d : Option ℕ) → slice_get xs r ≡ Some s →
           MatchOption (get_or (places_from at quiets) r d) (NotAmong s (loud_of xs quiets))
           (λ k. slice_get (front ++ loud_of xs quiets) k ≡ Some s)) →
-          (b : Bool) (front : List ℕ) (at : ℕ) → length front ≡ at → (r s : ℕ) (d : Option ℕ) → slice_get (x ∷ xs) r ≡ Some s →
+          (b : Bool) (front : List ℕ) (at : ℕ) → length front ≡ at → (r s : ℕ) (d : Option ℕ)
+          → slice_get (x ∷ xs) r ≡ Some s →
           MatchOption (get_or (if b then None ∷ places_from at quiets else Some at ∷ places_from (at + 1) quiets) r d)
           (NotAmong s (if b then loud_of xs quiets else x ∷ loud_of xs quiets))
           (λ k. slice_get (front ++ (if b then loud_of xs quiets else x ∷ loud_of xs quiets)) k ≡ Some s)
@@ -253,7 +269,8 @@ places-at (x ∷ xs) (quiet ∷ quiets) n h = λ front at e r s d is.
           (λ k on. ap (λ l. slice_get l k) (sym (append_assoc front (x ∷ []) (loud_of xs quiets))) ∙ on)
           (ih (front ++ x ∷ []) (at + 1) long r s d is)
 
-pub are-places : (xs : List ℕ) (quiets : List QuietStream) → length quiets ≡ length xs → AreDistinct xs → NotAmong 0 xs →
+pub are-places : (xs : List ℕ) (quiets : List QuietStream) → length quiets ≡ length xs → AreDistinct xs
+    → NotAmong 0 xs →
     ArePlaces xs (places_from 0 quiets) (loud_of xs quiets)
 are-places xs quiets n h above = record {
   long = places-length 0 quiets ∙ n;

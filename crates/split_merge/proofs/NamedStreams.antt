@@ -1,5 +1,6 @@
 -- The streams that frames name, gathered one by one.
-use Rattle.std.proofs.Common.{◌≡◌, ◌≢◌, ℕ, zero, suc, Bool, true, false, not, ◌==◌, ◌||◌, ◌&&◌, List, [], ◌∷◌, ◌++◌, length, slice_get, filter, refl, sym, ap, ◌∙◌, subst, Some, append_assoc, true≢false}
+use Rattle.std.proofs.Common.{◌≡◌, ◌≢◌, ℕ, zero, suc, Bool, true, false, not, ◌==◌, ◌||◌, ◌&&◌, List, [], ◌∷◌, ◌++◌}
+use Rattle.std.proofs.Common.{length, slice_get, filter, refl, sym, ap, ◌∙◌, subst, Some, append_assoc, true≢false}
 use Rattle.std.specs.List.{find, list_any}
 use Rattle.table_hash.specs.declared.TableHash.{TableHash}
 use Rattle.indexmap.specs.IndexSet.{IndexSet, insert_key, IsEmpty}
@@ -192,7 +193,8 @@ distinct-append s (x ∷ xs) n h = (not_among-append x s xs h.0 (λ e. n.0 (sym 
 
 -- one more stream
 pub index-more : (seen : List ℕ) (before after : IndexSet ℕ TableHash) (stream : ℕ) → stream ≢ 0 → IsIndex seen before →
-    NotAmong stream seen → after.keys ≡ insert_key (λ a b. a == b) before.keys stream → IsIndex (seen ++ stream ∷ []) after
+    NotAmong stream seen → after.keys ≡ insert_key (λ a b. a == b) before.keys stream
+    → IsIndex (seen ++ stream ∷ []) after
 index-more seen before after stream above index new keys = record {
   distinct = distinct-append stream seen new index.distinct;
   above = not_among-append 0 stream seen index.above (λ e. above (sym e));

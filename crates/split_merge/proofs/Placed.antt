@@ -1,11 +1,13 @@
 -- The positions of one frame are put behind those of the frames before it.
-use Rattle.std.proofs.Common.{◌≡◌, ℕ, ◌+◌, ◌<◌, List, [], ◌∷◌, ◌++◌, length, get_or, slice_get, set, take, drop, Option, Some, None, MatchOption, sym, ap, ◌∙◌, subst, arith}
+use Rattle.std.proofs.Common.{◌≡◌, ℕ, ◌+◌, ◌<◌, List, [], ◌∷◌, ◌++◌, length, get_or, slice_get, set, take, drop, Option}
+use Rattle.std.proofs.Common.{Some, None, MatchOption, sym, ap, ◌∙◌, subst, arith}
 use Rattle.std.proofs.lemmas.List.{append_assoc, take_more, length-take-le, length-set, take-append-drop}
 use Rattle.audit_terms.specs.declared.frames.Frame.{Frame}
 use Rattle.audit_terms.specs.Frame.{promised_by}
 use Rattle.split_merge.specs.declared.splits.StreamRow.{StreamRow}
 use Rattle.split_merge.specs.declared.visits.Visits.{Visits}
-use Rattle.split_merge.specs.code.Visits.{streams_in, noted, notes_from, counted, is_among, NotAmong, AreDistinct, IsIndex, HasRoomFor, IsFilled}
+use Rattle.split_merge.specs.code.Visits.{streams_in, noted, notes_from, counted, is_among, NotAmong, AreDistinct}
+use Rattle.split_merge.specs.code.Visits.{IsIndex, HasRoomFor, IsFilled}
 use Rattle.split_merge.specs.code.Loud.{heard, ArePlaces, HasPlace, IsPut}
 use Rattle.split_merge.proofs.Visited.{filter-append, append-none, row-within}
 use Rattle.split_merge.proofs.Positions.{notes-push}
@@ -60,9 +62,14 @@ module _ (loud : List ℕ) (frames : List Frame) (i at p : ℕ) (frame : Frame) 
 
   pub heard-more : heard loud (notes_from 0 (take (i + 1) frames)) ≡ (came ++ own) ++ pushed
   heard-more =
-      let long : 0 + length (take i frames) ≡ at = omega (arith, length-take-le i frames (omega (arith, within)), at_is) in
+      let long : 0 + length (take i frames) ≡ at = omega (
+        arith,
+        length-take-le i frames (omega (arith, within)),
+        at_is,
+      ) in
       let notes = notes_from 0 (take i frames) in
-      ap (λ l. heard loud (notes_from 0 l)) (take_more frames i frame within ∙ ap (λ one. take i frames ++ one ∷ []) (sym is))
+      ap (λ l. heard loud (notes_from 0 l)) (take_more frames i frame within ∙ ap (λ one. take i frames ++ one ∷ [])
+      (sym is))
       ∙ ap (heard loud) (notes-push 0 at (take i frames) frame long
       ∙ ap (λ q. (notes ++ noted frame.stream at) ++ noted q at) (sym p_is))
       ∙ heard-append loud (notes ++ noted frame.stream at) (noted p at)
@@ -71,7 +78,8 @@ module _ (loud : List ℕ) (frames : List Frame) (i at p : ℕ) (frame : Frame) 
   pub second-parts : ((came ++ own) ++ pushed) ++ later ≡ heard loud (notes_from 0 frames)
   second-parts =
       ap (λ l. l ++ later) (sym heard-more)
-      ∙ sym (heard-append loud (notes_from 0 (take (i + 1) frames)) (notes_from (0 + length (take (i + 1) frames)) (drop (i + 1) frames)))
+      ∙ sym (heard-append loud (notes_from 0 (take (i + 1) frames))
+      (notes_from (0 + length (take (i + 1) frames)) (drop (i + 1) frames)))
       ∙ ap (heard loud) (sym (notes-append 0 (take (i + 1) frames) (drop (i + 1) frames))
       ∙ ap (notes_from 0) (take-append-drop (i + 1) frames))
 
@@ -98,7 +106,8 @@ module _ (empty : List StreamRow) (all came later : List (ℕ × ℕ)) (total : 
       let above = above-at (streams_in empty) r stream zero at in
       let l = row-within empty r stream distinct at above in (
         omega (arith, l, filled.long),
-        λ d. place-within empty all came later total room r stream position distinct at above (one-part r at) rows positions
+        λ d. place-within empty all came later total room r stream position distinct at above
+            (one-part r at) rows positions
             long filled d,
       )
 
@@ -118,10 +127,13 @@ module _ (empty : List StreamRow) (all came later : List (ℕ × ℕ)) (total : 
       let d : StreamRow = record { stream = 0; from = 0; to = 0 } in
       let above = above-at (streams_in empty) r stream zero at in
       let same = put d in
-      let one = placed-more empty all came later total room r stream position distinct at above (one-part r at) rows positions
+      let one = placed-more empty all came later total room r stream position distinct at above
+      (one-part r at) rows positions
       long filled d in (
         ap length same.1 ∙ length-set positions (get_or rows r d).to position ∙ long,
-        subst (λ l. IsFilled empty (came ++ l) rows' positions') (sym (heard-one (streams_in empty) stream position r above at))
+        subst (λ l. IsFilled empty (came ++ l) rows' positions')
+            (sym (heard-one (streams_in empty) stream position r above at))
             (subst (λ r. IsFilled empty (came ++ (stream, position) ∷ []) r positions') (sym same.0)
-            (subst (λ p. IsFilled empty (came ++ (stream, position) ∷ []) (set rows r (counted (get_or rows r d))) p) (sym same.1) one)),
+            (subst (λ p. IsFilled empty (came ++ (stream, position) ∷ []) (set rows r (counted (get_or rows r d))) p)
+            (sym same.1) one)),
       )

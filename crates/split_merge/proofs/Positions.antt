@@ -1,12 +1,13 @@
 -- What is noted frame by frame is where the frames stand that each stream meets.
-use Rattle.std.proofs.Common.{◌≡◌, ◌≢◌, ℕ, zero, suc, ◌+◌, ◌<◌, ◌≤◌, ◌%◌, ◌==◌, ◌&&◌, ◌||◌, not, Bool, true, false, if◌then◌else◌, List, [], ◌∷◌, ◌++◌, length, slice_get, Some, refl, sym, ap, ◌∙◌, arith}
+use Rattle.std.proofs.Common.{◌≡◌, ◌≢◌, ℕ, zero, suc, ◌+◌, ◌<◌, ◌≤◌, ◌%◌, ◌==◌, ◌&&◌, ◌||◌, not, Bool, true, false}
+use Rattle.std.proofs.Common.{if◌then◌else◌, List, [], ◌∷◌, ◌++◌, length, slice_get, Some, refl, sym, ap, ◌∙◌, arith}
 use Rattle.std.specs.List.{All}
 use Rattle.std.proofs.lemmas.List.{append_assoc, length-append}
 use borrow.Author.Tests.{eqb-true}
 use Rattle.audit_terms.specs.declared.frames.Frame.{Frame}
 use Rattle.audit_terms.specs.Frame.{is_server_promise, promised_in, promises, promised_by, meets}
-use Rattle.audit_terms.specs.runs.Streams.{frames_of}
-use Rattle.split_merge.specs.Split.{positions_from, positions_of, frames_at}
+use Rattle.audit_terms.specs.code.runs.Streams.{frames_of}
+use Rattle.split_merge.specs.code.Split.{positions_from, positions_of, frames_at}
 use Rattle.split_merge.specs.code.Visits.{noted, notes_from, noted_positions}
 use Rattle.split_merge.proofs.Visited.{where_so, noted_positions-append, noted_positions-one, append-none}
 
@@ -55,12 +56,14 @@ module _ (stream : ℕ) (above : stream ≢ 0) where
       let f : not (frame.stream == stream) ≡ false = ap not e in
       rw f (and-false (is_server_promise frame && (promised_in frame.body == stream) && (stream % 2 == 0)))
 
-  once : (a b : Bool) (position : ℕ) → (a ≡ true → b ≡ false) → where_so a position ++ where_so b position ≡ where_so (a || b) position
+  once : (a b : Bool) (position : ℕ) → (a ≡ true → b ≡ false) → where_so a position ++ where_so b position ≡ where_so
+      (a || b) position
   once true b position h = rw (h refl) refl
   once false b position h = refl
 
   noted-frame : (frame : Frame) (position : ℕ) →
-      noted_positions stream (noted frame.stream position) ++ noted_positions stream (noted (promised_by frame) position)
+      noted_positions stream (noted frame.stream position) ++ noted_positions stream
+      (noted (promised_by frame) position)
       ≡ where_so (meets stream frame) position
   noted-frame frame position =
       ap (λ l. l ++ noted_positions stream (noted (promised_by frame) position)) (noted-is frame.stream position)
@@ -68,7 +71,8 @@ module _ (stream : ℕ) (above : stream ≢ 0) where
       (noted-is (promised_by frame) position ∙ ap (λ b. where_so b position) (promised-is frame))
       ∙ once (frame.stream == stream) (promises stream frame) position (not_both frame)
 
-  from-where : (b : Bool) (position : ℕ) (rest : List ℕ) → where_so b position ++ rest ≡ (if b then position ∷ rest else rest)
+  from-where : (b : Bool) (position : ℕ) (rest : List ℕ)
+      → where_so b position ++ rest ≡ (if b then position ∷ rest else rest)
   from-where true position rest = refl
   from-where false position rest = refl
 
@@ -88,19 +92,22 @@ module _ (stream : ℕ) (above : stream ≢ 0) where
 
 -- ---- the frames at the positions
 
-slice_get-at : {X : Type 0} (front : List X) (x : X) (rest : List X) → slice_get (front ++ x ∷ rest) (length front) ≡ Some x
+slice_get-at : {X : Type 0} (front : List X) (x : X) (rest : List X) → slice_get (front ++ x ∷ rest) (length front)
+    ≡ Some x
 slice_get-at [] x rest = refl
 slice_get-at (y ∷ front) x rest = slice_get-at front x rest
 
 frames-step : (stream : ℕ) (front frames : List Frame) (frame : Frame) (position : ℕ) → length front ≡ position →
     frames_at (front ++ frame ∷ frames) (positions_from (position + 1) stream frames) ≡ frames_of stream frames →
-    frames_at (front ++ frame ∷ frames) (positions_from position stream (frame ∷ frames)) ≡ frames_of stream (frame ∷ frames)
+    frames_at (front ++ frame ∷ frames) (positions_from position stream (frame ∷ frames)) ≡ frames_of stream
+    (frame ∷ frames)
 frames-step stream front frames frame position e later = by_test _ refl where
   here : slice_get (front ++ frame ∷ frames) position ≡ Some frame
   here = ap (slice_get (front ++ frame ∷ frames)) (sym e) ∙ slice_get-at front frame frames
 
   by_test : (b : Bool) → meets stream frame ≡ b →
-      frames_at (front ++ frame ∷ frames) (positions_from position stream (frame ∷ frames)) ≡ frames_of stream (frame ∷ frames)
+      frames_at (front ++ frame ∷ frames) (positions_from position stream (frame ∷ frames)) ≡ frames_of stream
+      (frame ∷ frames)
   by_test true t = rw (t, here) (ap (λ l. frame ∷ l) later)
   by_test false t = rw t later
 
@@ -114,7 +121,8 @@ frames-from stream front (frame ∷ frames) position e =
     ∙ frames-from stream (front ++ frame ∷ []) frames (position + 1) long)
 
 -- the frames at the positions of a stream are those that it meets
-pub frames_at-positions : (stream : ℕ) (frames : List Frame) → frames_at frames (positions_of stream frames) ≡ frames_of stream frames
+pub frames_at-positions : (stream : ℕ) (frames : List Frame) → frames_at frames (positions_of stream frames)
+    ≡ frames_of stream frames
 frames_at-positions stream frames = frames-from stream [] frames 0 refl
 
 abbrev AreBelow : (bound : ℕ) → List ℕ → Type 0
@@ -129,15 +137,18 @@ below-all bound (x ∷ xs) h (suc k) d l = below-all bound xs h.1 k d (omega ari
 below-from : (bound position stream : ℕ) (frames : List Frame) → position + length frames ≤ bound →
     AreBelow bound (positions_from position stream frames)
 below-from bound position stream [] h = tt
-below-from bound position stream (frame ∷ frames) h = by_test _ refl (below-from bound (position + 1) stream frames (omega arith)) where
-  by_test : (b : Bool) → meets stream frame ≡ b → AreBelow bound (positions_from (position + 1) stream frames) →
-      AreBelow bound (positions_from position stream (frame ∷ frames))
-  by_test true t ih = rw t (omega arith, ih)
-  by_test false t ih = rw t ih
+below-from bound position stream (frame ∷ frames) h = by_test _ refl
+    (below-from bound (position + 1) stream frames (omega arith)) where
+      by_test : (b : Bool) → meets stream frame ≡ b → AreBelow bound (positions_from (position + 1) stream frames) →
+          AreBelow bound (positions_from position stream (frame ∷ frames))
+      by_test true t ih = rw t (omega arith, ih)
+      by_test false t ih = rw t ih
 
 -- and stand in the list
-pub positions-within : (stream : ℕ) (frames : List Frame) → All (λ position. position < length frames) (positions_of stream frames)
-positions-within stream frames = below-all (length frames) (positions_of stream frames) (below-from (length frames) 0 stream frames (omega arith))
+pub positions-within : (stream : ℕ) (frames : List Frame) → All (λ position. position < length frames)
+    (positions_of stream frames)
+positions-within stream frames = below-all (length frames) (positions_of stream frames)
+    (below-from (length frames) 0 stream frames (omega arith))
 
 -- ---- one more frame
 

@@ -1,13 +1,14 @@
 -- Cuts of lists in order, cuts put together, and what joins findings that are cut at their stop.
-use Rattle.std.proofs.Common.{◌≡◌, Bool, true, false, nat_le, List, [], ◌∷◌, ◌++◌, refl, sym, ap, subst, ◌∙◌, append-nil, ◌⊎◌, inl, inr, Contains, filter, not, leb-false}
+use Rattle.std.proofs.Common.{◌≡◌, Bool, true, false, nat_le, List, [], ◌∷◌, ◌++◌, refl, sym, ap, subst, ◌∙◌}
+use Rattle.std.proofs.Common.{append-nil, ◌⊎◌, inl, inr, Contains, filter, not, leb-false}
 use Rattle.std.proofs.lemmas.List.Elements.{Contains-append_cases}
 use Rattle.audit_terms.specs.declared.findings.Finding.{Finding}
 use Rattle.audit_terms.specs.Order.{put_by}
 use Rattle.audit_terms.specs.Finding.{stops, comes_after, in_order, upto_stop}
 use Rattle.audit_terms.proofs.OrderedLists.{NoneBefore, IsInOrder, ordered-in_order, in_order-ordered}
 use Rattle.audit_terms.proofs.FindingOrder.{comes_after_is, in_order-append_comm, in_order-alike, in_order-in_order}
-use Rattle.split_merge.specs.Board.{IsPast}
-use Rattle.split_merge.specs.CutLaws.{FrontIsCut, WholeIsCut, CutsJoin, StopsJoin}
+use Rattle.split_merge.specs.code.Board.{IsPast}
+use Rattle.split_merge.specs.laws.Cuts.{FrontIsCut, WholeIsCut, CutsJoin, StopsJoin}
 use Rattle.split_merge.proofs.RoundMembers.{contains-none, contains-cases}
 use Rattle.split_merge.proofs.RoundParts.{swap-middle}
 

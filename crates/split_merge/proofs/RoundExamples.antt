@@ -1,12 +1,16 @@
 -- The worked examples of a round of two workers.
-use Rattle.std.proofs.Common.{◌≡◌, ℕ, zero, suc, ◌<◌, false, List, [], ◌∷◌, refl, sym, ap, subst, ◌∙◌, arith, true≢false, append-nil, ◌⊎◌, inl, inr, Contains, Some, None, slice_get}
+use Rattle.std.proofs.Common.{◌≡◌, ℕ, zero, suc, ◌<◌, false, List, [], ◌∷◌, refl, sym, ap, subst, ◌∙◌, arith}
+use Rattle.std.proofs.Common.{true≢false, append-nil, ◌⊎◌, inl, inr, Contains, Some, None, slice_get}
 use Rattle.audit_terms.specs.declared.findings.Finding.{Finding}
 use Rattle.audit_terms.specs.Finding.{stops, in_order}
-use Rattle.split_merge.specs.Board.{Job, StopsAt, IsCut, IsPartOf}
-use Rattle.split_merge.specs.Machine.{round_start, after_events, AreAllowed, IsFinished}
-use Rattle.split_merge.specs.RoundLaws.{HasConnections}
-use Rattle.split_merge.specs.RoundExamples.{overrun, error, job, part, example, example_events, TwoWorkersFinish, TwoWorkersSettle, DrawnTwice, LookInvents, CutUnseen, AllSkipped, OverrunLowered, ErrorNotLowered}
-use Rattle.split_merge.proofs.RoundMembers.{pair, contains-none, contains-here, contains-cases, contains-in_order, in_order-contains}
+use Rattle.split_merge.specs.code.Board.{Job, StopsAt, IsCut, IsPartOf}
+use Rattle.split_merge.specs.laws.Machine.{round_start, after_events, AreAllowed, IsFinished}
+use Rattle.split_merge.specs.laws.Rounds.{HasConnections}
+use Rattle.split_merge.specs.examples.Rounds.{overrun, error, job, part, example, example_events, TwoWorkersFinish}
+use Rattle.split_merge.specs.examples.Rounds.{TwoWorkersSettle, DrawnTwice, LookInvents, CutUnseen, AllSkipped}
+use Rattle.split_merge.specs.examples.Rounds.{OverrunLowered, ErrorNotLowered}
+use Rattle.split_merge.proofs.RoundMembers.{pair, contains-none, contains-here, contains-cases, contains-in_order}
+use Rattle.split_merge.proofs.RoundMembers.{in_order-contains}
 use Rattle.split_merge.proofs.RoundSteps.{run_settles_lem}
 
 abbrev job_0 : Job

@@ -1,10 +1,12 @@
 -- Membership in lists, in what one worker or all did, and in lists put in order.
-use Rattle.std.proofs.Common.{◌≡◌, ℕ, zero, suc, ◌<◌, Bool, true, false, List, [], ◌∷◌, ◌++◌, length, refl, sym, ap, subst, ◌∙◌, arith, ◌⊎◌, inl, inr, Contains, Some, slice_get, slice_index_or, eqb-true, if◌then◌else◌, ◌==◌, flat_map}
+use Rattle.std.proofs.Common.{◌≡◌, ℕ, zero, suc, ◌<◌, Bool, true, false, List, [], ◌∷◌, ◌++◌, length, refl, sym, ap}
+use Rattle.std.proofs.Common.{subst, ◌∙◌, arith, ◌⊎◌, inl, inr, Contains, Some, slice_get, slice_index_or, eqb-true}
+use Rattle.std.proofs.Common.{if◌then◌else◌, ◌==◌, flat_map}
 use Rattle.std.proofs.lemmas.List.Elements.{Contains-append_left, Contains-append_right, Contains-append_cases}
 use Rattle.audit_terms.specs.declared.findings.Finding.{Finding}
 use Rattle.audit_terms.specs.Finding.{comes_after, in_order}
 use Rattle.audit_terms.specs.Order.{put_by}
-use Rattle.split_merge.specs.Machine.{by_worker, by_all}
+use Rattle.split_merge.specs.laws.Machine.{by_worker, by_all}
 
 -- a pair, where its type is not known
 abbrev pub pair : {X Y : Type 0} → X → Y → X × Y

@@ -1,6 +1,8 @@
 -- A settled board gives, up to the stop, what the whole jobs give: each place seen is a real error, so none lies below
 -- the least; each part has everything up to the least; so the least is kept and was lowered.
-use Rattle.std.proofs.Common.{◌≡◌, ℕ, zero, suc, ◌+◌, ◌<◌, ◌≤◌, Bool, true, false, List, [], ◌∷◌, ◌++◌, length, refl, sym, ap, subst, ◌∙◌, arith, append_assoc, ◌⊎◌, inl, inr, Contains, Option, Some, None, eqb-true, eq-eqb, if◌then◌else◌, ◌==◌}
+use Rattle.std.proofs.Common.{◌≡◌, ℕ, zero, suc, ◌+◌, ◌<◌, ◌≤◌, Bool, true, false, List, [], ◌∷◌, ◌++◌, length, refl}
+use Rattle.std.proofs.Common.{sym, ap, subst, ◌∙◌, arith, append_assoc, ◌⊎◌, inl, inr, Contains, Option, Some, None}
+use Rattle.std.proofs.Common.{eqb-true, eq-eqb, if◌then◌else◌, ◌==◌}
 use Rattle.std.proofs.lemmas.List.Elements.{Contains-append_left, Contains-append_right, Contains-append_cases}
 use Rattle.std.specs.declared.cmp.Ordering.{Ordering}
 use Rattle.std.specs.declared.cmp.Ordering.TheVariants.{Greater}
@@ -13,9 +15,11 @@ use Rattle.audit_terms.specs.Order.{put_by}
 use Rattle.audit_terms.specs.Finding.{stops, comes_after, in_order, upto_stop}
 use Rattle.audit_terms.proofs.OrderedLists.{NoneBefore, IsInOrder, in_order-ordered}
 use Rattle.audit_terms.proofs.FindingOrder.{comes_after_is, in_order-append_comm, in_order-alike}
-use Rattle.split_merge.specs.Board.{Job, Round, Part, Board, stop_of, StopsAt, IsLeast, IsGiven, JobStopsAt, IsSettled, parts_of, findings_of_jobs, findings_of_parts}
-use Rattle.split_merge.specs.RoundLaws.{Merges, BoardMerges}
-use Rattle.split_merge.proofs.RoundMembers.{contains-none, contains-here, contains-later, contains-cases, contains-flat_map, flat_map-contains, contains-in_order, in_order-contains}
+use Rattle.split_merge.specs.code.Board.{Job, Round, Part, Board, stop_of, StopsAt, IsLeast, IsGiven, JobStopsAt}
+use Rattle.split_merge.specs.code.Board.{IsSettled, parts_of, findings_of_jobs, findings_of_parts}
+use Rattle.split_merge.specs.laws.Rounds.{Merges, BoardMerges}
+use Rattle.split_merge.proofs.RoundMembers.{contains-none, contains-here, contains-later, contains-cases}
+use Rattle.split_merge.proofs.RoundMembers.{contains-flat_map, flat_map-contains, contains-in_order, in_order-contains}
 use Rattle.split_merge.proofs.RoundParts.{IsWholeWith, IsOneOf, whole-parts}
 
 -- what stands at a later place comes after

@@ -1,10 +1,12 @@
 -- The parts of a settled board, taken job by job: with what they leave out, they hold the findings of all jobs.
-use Rattle.std.proofs.Common.{◌≡◌, ℕ, zero, suc, ◌+◌, ◌<◌, Bool, true, false, List, [], ◌∷◌, ◌++◌, length, refl, sym, ap, subst, ◌∙◌, arith, append_assoc, ◌⊎◌, inl, inr, Contains, Option, Some, None, slice_get, eqb-true, eq-eqb, if◌then◌else◌, ◌==◌}
+use Rattle.std.proofs.Common.{◌≡◌, ℕ, zero, suc, ◌+◌, ◌<◌, Bool, true, false, List, [], ◌∷◌, ◌++◌, length, refl, sym}
+use Rattle.std.proofs.Common.{ap, subst, ◌∙◌, arith, append_assoc, ◌⊎◌, inl, inr, Contains, Option, Some, None}
+use Rattle.std.proofs.Common.{slice_get, eqb-true, eq-eqb, if◌then◌else◌, ◌==◌}
 use Rattle.std.proofs.lemmas.List.Elements.{Contains-append_cases}
 use Rattle.audit_terms.specs.declared.findings.Finding.{Finding}
 use Rattle.audit_terms.specs.Finding.{in_order}
 use Rattle.audit_terms.proofs.FindingOrder.{in_order-append_comm, in_order-alike}
-use Rattle.split_merge.specs.Board.{Job, Part, IsPast, IsPartOf, parts_of, findings_of_jobs, findings_of_parts}
+use Rattle.split_merge.specs.code.Board.{Job, Part, IsPast, IsPartOf, parts_of, findings_of_jobs, findings_of_parts}
 use Rattle.split_merge.proofs.RoundMembers.{contains-none, contains-here, contains-later, contains-cases}
 use Rattle.split_merge.proofs.RoundSteps.{parts_of-cons, parts_of-true, parts_of-false}
 

@@ -33,7 +33,8 @@ NoneComesBefore x ys = NoneBefore comes_after comes_after_is x ys
 abbrev StandInOrder : List Finding → Type 0
 StandInOrder xs = IsInOrder comes_after comes_after_is xs
 
-none-shown : (credits_shown : Bool) (x : Finding) (ys : List Finding) → NoneComesBefore x ys → NoneComesBefore x (shown credits_shown ys)
+none-shown : (credits_shown : Bool) (x : Finding) (ys : List Finding) → NoneComesBefore x ys
+    → NoneComesBefore x (shown credits_shown ys)
 none-shown credits_shown x [] h = tt
 none-shown credits_shown x (y ∷ ys) h = by_test _ refl (none-shown credits_shown x ys h.1) where
   by_test : (b : Bool) → is_shown credits_shown y ≡ b → NoneComesBefore x (shown credits_shown ys) →
@@ -41,7 +42,8 @@ none-shown credits_shown x (y ∷ ys) h = by_test _ refl (none-shown credits_sho
   by_test true e ih = rw e (h.0, ih)
   by_test false e ih = rw e ih
 
-not-after : (x y z : Finding) (b : Bool) → comes_after x z ≡ b → comes_after x y ≡ false → comes_after y z ≡ false → comes_after x z ≡ false
+not-after : (x y z : Finding) (b : Bool) → comes_after x z ≡ b → comes_after x y ≡ false → comes_after y z ≡ false
+    → comes_after x z ≡ false
 not-after x y z false e p q = e
 not-after x y z true e p q = absurd (true≢false (sym (comes_after_is.above x y z e q) ∙ p))
 
@@ -62,7 +64,8 @@ hidden-put credits_shown x (y ∷ ys) h = by_test _ refl (hidden-put credits_sho
     by_other false f = rw (e, f) ih
   by_test false e ih = rw (e, h) refl
 
-shown-put : (credits_shown : Bool) (x : Finding) (ys : List Finding) → is_shown credits_shown x ≡ true → StandInOrder ys →
+shown-put : (credits_shown : Bool) (x : Finding) (ys : List Finding) → is_shown credits_shown x ≡ true
+    → StandInOrder ys →
     shown credits_shown (put_by comes_after x ys) ≡ put_by comes_after x (shown credits_shown ys)
 shown-put credits_shown x [] h o = rw h refl
 shown-put credits_shown x (y ∷ ys) h o = by_test _ refl (shown-put credits_shown x ys h o.1) where
@@ -75,7 +78,8 @@ shown-put credits_shown x (y ∷ ys) h o = by_test _ refl (shown-put credits_sho
     by_other true f = simp (e, f) (ap (λ l. y ∷ l) ih)
     by_other false f = simp (e, f) ih
   by_test false e ih =
-      let first : shown credits_shown (put_by comes_after x (y ∷ ys)) ≡ x ∷ shown credits_shown (y ∷ ys) = rw (e, h) refl in
+      let first : shown credits_shown (put_by comes_after x (y ∷ ys)) ≡ x ∷ shown credits_shown (y ∷ ys) = rw
+      (e, h) refl in
       first ∙ sym (put-front comes_after comes_after_is x (shown credits_shown (y ∷ ys))
       (none-shown credits_shown x (y ∷ ys) (e, none-below x y ys e o.0)))
 
@@ -84,10 +88,12 @@ pub in_order-shown : (credits_shown : Bool) (xs : List Finding) →
     in_order (shown credits_shown xs) ≡ shown credits_shown (in_order xs)
 in_order-shown credits_shown [] = refl
 in_order-shown credits_shown (x ∷ xs) = by_test _ refl (in_order-shown credits_shown xs) where
-  by_test : (b : Bool) → is_shown credits_shown x ≡ b → in_order (shown credits_shown xs) ≡ shown credits_shown (in_order xs) →
+  by_test : (b : Bool) → is_shown credits_shown x ≡ b → in_order (shown credits_shown xs) ≡ shown credits_shown
+      (in_order xs) →
       in_order (shown credits_shown (x ∷ xs)) ≡ shown credits_shown (in_order (x ∷ xs))
   by_test true e ih =
-      let first : in_order (shown credits_shown (x ∷ xs)) ≡ put_by comes_after x (in_order (shown credits_shown xs)) = rw e refl in
+      let first : in_order (shown credits_shown (x ∷ xs)) ≡ put_by comes_after x
+      (in_order (shown credits_shown xs)) = rw e refl in
       first ∙ ap (put_by comes_after x) ih
       ∙ sym (shown-put credits_shown x (in_order xs) e (in_order-ordered comes_after comes_after_is xs))
   by_test false e ih =

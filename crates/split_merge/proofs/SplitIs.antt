@@ -1,26 +1,30 @@
 -- The rows of the loud streams, laid out, are the split.
-use Rattle.std.proofs.Common.{◌≡◌, ◌≢◌, ℕ, ◌<◌, Bool, true, false, not, List, [], filter, flat_map, length, get_or, slice_get, Some, option_to_list, refl, sym, ap, ◌∙◌, subst, arith}
+use Rattle.std.proofs.Common.{◌≡◌, ◌≢◌, ℕ, ◌<◌, Bool, true, false, not, List, [], filter, flat_map, length, get_or}
+use Rattle.std.proofs.Common.{slice_get, Some, option_to_list, refl, sym, ap, ◌∙◌, subst, arith}
 use Rattle.std.proofs.lemmas.List.{get_or-map}
 use Rattle.std.proofs.lemmas.Option.{slice_get-get_or}
 use Rattle.audit_terms.specs.declared.frames.Frame.{Frame}
 use Rattle.audit_terms.specs.declared.items.Change.{Change}
 use Rattle.audit_terms.specs.Finding.{shown}
 use Rattle.audit_terms.specs.Pass.{streams_of}
-use Rattle.audit_terms.specs.runs.Streams.{frames_of, stream_run}
+use Rattle.audit_terms.specs.code.runs.Streams.{frames_of, stream_run}
 use Rattle.stream_credit.specs.declared.quiet_streams.QuietStream.{QuietStream}
 use Rattle.split_merge.specs.declared.splits.StreamRow.{StreamRow}
 use Rattle.split_merge.specs.declared.splits.SplitFrames.{SplitFrames}
-use Rattle.split_merge.specs.Split.{positions_of, IsRange, IsPartOf, IsSplit, part_of, opening_of}
-use Rattle.split_merge.specs.code.Visits.{streams_in, notes_from, noted_positions, total_of, laid_out, is_among, NotAmong, AreDistinct, IsListed, HasRoomFor}
+use Rattle.split_merge.specs.code.Split.{positions_of, IsRange, IsPartOf, IsSplit, part_of, opening_of}
+use Rattle.split_merge.specs.code.Visits.{streams_in, notes_from, noted_positions, total_of, laid_out, is_among}
+use Rattle.split_merge.specs.code.Visits.{NotAmong, AreDistinct, IsListed, HasRoomFor}
 use Rattle.split_merge.specs.code.Ahead.{AreHushed}
 use Rattle.split_merge.specs.code.Loud.{loud_of, opened_in, quiet_in, heard, AreCounted, IsLaid}
 use Rattle.split_merge.proofs.NamedStreams.{length-streams_in, found_among}
 use Rattle.split_merge.proofs.Visited.{not_among-at, get-from_slice_get}
 use Rattle.split_merge.proofs.Positions.{noted-positions, frames_at-positions, positions-within}
 use Rattle.split_merge.proofs.LaidOut.{laid-streams, room-laid, filled-streams}
-use Rattle.split_merge.proofs.LoudStreams.{loud-streams, loud-not_among, loud-each, loud-filter, opened-filter, quiet_in-at, heard-positions}
+use Rattle.split_merge.proofs.LoudStreams.{loud-streams, loud-not_among, loud-each, loud-filter, opened-filter}
+use Rattle.split_merge.proofs.LoudStreams.{quiet_in-at, heard-positions}
 
-stream-at : (rows : List StreamRow) (k : ℕ) (d : StreamRow) → k < length rows → get_or (streams_in rows) k 0 ≡ (get_or rows k d).stream
+stream-at : (rows : List StreamRow) (k : ℕ) (d : StreamRow) → k < length rows
+    → get_or (streams_in rows) k 0 ≡ (get_or rows k d).stream
 stream-at rows k d l = get_or-map (λ (row : StreamRow). row.stream) rows k d 0 l
 
 pub row-at : (rows : List StreamRow) (k : ℕ) (d : StreamRow) → k < length rows →
@@ -29,10 +33,12 @@ row-at rows k d l =
     let n = length-streams_in rows in
     slice_get-get_or (streams_in rows) k 0 (omega (arith, l, n)) ∙ ap Some (stream-at rows k d l)
 
-among-at : (rows : List StreamRow) (k : ℕ) → k < length rows → is_among (get_or (streams_in rows) k 0) (streams_in rows) ≡ true
+among-at : (rows : List StreamRow) (k : ℕ) → k < length rows → is_among (get_or (streams_in rows) k 0) (streams_in rows)
+    ≡ true
 among-at rows k l =
     let n = length-streams_in rows in
-    found_among (get_or (streams_in rows) k 0) (streams_in rows) k (slice_get-get_or (streams_in rows) k 0 (omega (arith, l, n)))
+    found_among (get_or (streams_in rows) k 0) (streams_in rows) k
+    (slice_get-get_or (streams_in rows) k 0 (omega (arith, l, n)))
 
 module _ (frames : List Frame) (rows : List StreamRow) (quiets : List QuietStream)
     (listed : IsListed (notes_from 0 frames) rows) where
@@ -41,12 +47,15 @@ module _ (frames : List Frame) (rows : List StreamRow) (quiets : List QuietStrea
   loud-counted = record {
     counts = λ r d l.
         loud-each (λ row. row.to ≡ length (noted_positions row.stream (notes_from 0 frames))) rows quiets
-        (λ k e m. listed.counts k e m ∙ ap (λ s. length (noted_positions s (notes_from 0 frames))) (stream-at rows k e m)) r d l
+        (λ k e m. listed.counts k e m ∙ ap (λ s. length (noted_positions s (notes_from 0 frames)))
+        (stream-at rows k e m)) r d l
         ∙ ap (λ s. length (noted_positions s (notes_from 0 frames))) (sym (stream-at (loud_of rows quiets) r d l))
-        ∙ ap length (sym (heard-positions (streams_in (loud_of rows quiets)) (get_or (streams_in (loud_of rows quiets)) r 0) (notes_from 0 frames) (among-at (loud_of rows quiets) r l)));
+        ∙ ap length (sym (heard-positions (streams_in (loud_of rows quiets))
+        (get_or (streams_in (loud_of rows quiets)) r 0) (notes_from 0 frames) (among-at (loud_of rows quiets) r l)));
   }
 
-module _ (credits_shown : Bool) (changes : List Change) (frames : List Frame) (rows : List StreamRow) (quiets : List QuietStream)
+module _ (credits_shown : Bool) (changes : List Change) (frames : List Frame) (rows : List StreamRow)
+    (quiets : List QuietStream)
     (split : SplitFrames)
     (streams : streams_in rows ≡ streams_of frames) (listed : IsListed (notes_from 0 frames) rows)
     (distinct : AreDistinct (streams_in rows)) (above : NotAmong 0 (streams_in rows))
@@ -59,11 +68,13 @@ module _ (credits_shown : Bool) (changes : List Change) (frames : List Frame) (r
   abbrev notes : List (ℕ × ℕ)
   notes = heard (streams_in (loud_of rows quiets)) (notes_from 0 frames)
 
-  room : HasRoomFor (laid_out 0 (loud_of rows quiets)) (heard (streams_in (loud_of rows quiets)) (notes_from 0 frames)) (total_of (loud_of rows quiets))
+  room : HasRoomFor (laid_out 0 (loud_of rows quiets)) (heard (streams_in (loud_of rows quiets)) (notes_from 0 frames))
+      (total_of (loud_of rows quiets))
   room = room-laid loud notes (loud-counted frames rows quiets listed).counts
 
   same-streams : streams_in split.rows.items ≡ streams_in (loud_of rows quiets)
-  same-streams = filled-streams (laid_out 0 loud) split.rows.items notes split.positions.items laid.filled ∙ laid-streams 0 loud
+  same-streams = filled-streams (laid_out 0 loud) split.rows.items notes split.positions.items laid.filled
+      ∙ laid-streams 0 loud
 
   range-at : (k : ℕ) (d : StreamRow) → k < length split.rows.items → IsRange split (get_or split.rows.items k d)
   range-at k d l =
@@ -99,7 +110,8 @@ module _ (credits_shown : Bool) (changes : List Change) (frames : List Frame) (r
       let m : k < length (laid_out 0 (loud_of rows quiets)) = omega (arith, l, laid.filled.long) in
       ap (part_of split) (laid.filled.ranges k d m) ∙ laid.filled.filled k d m
       ∙ ap (λ l. noted_positions (get_or l k 0) notes) (laid-streams 0 loud)
-      ∙ heard-positions (streams_in loud) (get_or (streams_in loud) k 0) (notes_from 0 frames) (among-at loud k (within-loud k l))
+      ∙ heard-positions (streams_in loud) (get_or (streams_in loud) k 0) (notes_from 0 frames)
+      (among-at loud k (within-loud k l))
       ∙ noted-positions (get_or (streams_in loud) k 0) (stream-above k l) 0 frames
       ∙ ap (λ s. positions_of s frames) (sym (row-stream k d l))
 
@@ -117,7 +129,8 @@ module _ (credits_shown : Bool) (changes : List Change) (frames : List Frame) (r
 
   nothing-shown : (k d : ℕ) → k < length (streams_of frames) →
       quiet_in (get_or (streams_of frames) k d) (streams_in rows) quiets ≡ true →
-      shown credits_shown (stream_run (get_or (streams_of frames) k d) (frames_of (get_or (streams_of frames) k d) frames) changes) ≡ []
+      shown credits_shown (stream_run (get_or (streams_of frames) k d)
+      (frames_of (get_or (streams_of frames) k d) frames) changes) ≡ []
   nothing-shown k d l e =
       let stream = get_or (streams_of frames) k d in
       let none : QuietStream = record {
@@ -135,7 +148,8 @@ module _ (credits_shown : Bool) (changes : List Change) (frames : List Frame) (r
       let same = get-from_slice_get (streams_in rows) k stream at in
       let silent = hushed.hushed k stream none at
       (sym is ∙ ap (λ s. quiet_in s (streams_in rows) quiets) same ∙ e) in
-      subst (λ b. shown b (stream_run stream (frames_of stream frames) changes) ≡ []) (sym silent.hidden) silent.shows.shown
+      subst (λ b. shown b (stream_run stream (frames_of stream frames) changes) ≡ [])
+      (sym silent.hidden) silent.shows.shown
 
   pub split-is : IsSplit credits_shown changes frames split
   split-is = record {

@@ -1,5 +1,6 @@
 -- The sweep from the back meets the stalls in reverse.
-use Rattle.std.proofs.Common.{◌≡◌, ℕ, ◌+◌, ◌-◌, ◌<◌, ◌≤◌, Bool, true, false, if◌then◌else◌, List, [], ◌∷◌, ◌++◌, reverse, drop, length, get_or, ap, subst, sym, ◌∙◌, arith, Option, Some}
+use Rattle.std.proofs.Common.{◌≡◌, ℕ, ◌+◌, ◌-◌, ◌<◌, ◌≤◌, Bool, true, false, if◌then◌else◌, List, [], ◌∷◌, ◌++◌}
+use Rattle.std.proofs.Common.{reverse, drop, length, get_or, ap, subst, sym, ◌∙◌, arith, Option, Some}
 use Rattle.std.proofs.lemmas.List.{reverse-append, drop_more}
 use Rattle.audit_terms.specs.declared.sides.Side.{Side}
 use Rattle.audit_terms.specs.declared.findings.Finding.{Finding}
@@ -28,13 +29,21 @@ put_before false stall met rest e = e
 -- one more finding
 pub swept_more : (frames : List Frame) (found : Finding) (later : List Finding) (ends ends' : Ends) (met : List Stall)
     → HasSweptTo frames later ends met
-    → ((side : Side) (stream : ℕ) → end_in ends' side stream ≡ (if is_end_of side stream found then Some found else end_in ends side stream))
+    → ((side : Side) (stream : ℕ)
+    → end_in ends' side stream ≡ (if is_end_of side stream found then Some found else end_in ends side stream))
     → HasSweptTo frames (found ∷ later) ends' (met ++ begun_by frames ends found)
 swept_more frames found later ends ends' met swept ended = record {
-  first = record { at = λ side stream. ended side stream ∙ ap (λ (o : Option Finding). if is_end_of side stream found then Some found else o) (swept.first.at side stream) };
+  first = record {
+    at = λ side stream. ended side stream
+        ∙ ap (λ (o : Option Finding). if is_end_of side stream found then Some found else o)
+        (swept.first.at side stream);
+  };
   reversed = reverse-append met (begun_by frames ends found)
-      ∙ ap (λ (o : Option Finding). reverse (if begins_stall found.kind then stall_of frames found o ∷ [] else []) ++ reverse met) (swept.first.at found.side (place_stream found.place))
-      ∙ put_before (begins_stall found.kind) (stall_of frames found (first_end found.side (place_stream found.place) later)) met (stalls frames later) swept.reversed;
+      ∙ ap (λ (o : Option Finding). reverse (if begins_stall found.kind then stall_of frames found o ∷ [] else [])
+      ++ reverse met) (swept.first.at found.side (place_stream found.place))
+      ∙ put_before (begins_stall found.kind)
+      (stall_of frames found (first_end found.side (place_stream found.place) later)) met
+      (stalls frames later) swept.reversed;
 }
 
 -- what is left of a list from one place before
@@ -48,10 +57,12 @@ drop_one_less findings left found positive within here =
     ∙ ap (λ (f : Finding). f ∷ drop left findings) (sym here)
 
 -- one step down the list
-pub swept_down : (frames : List Frame) (findings : List Finding) (left : ℕ) (found : Finding) (ends ends' : Ends) (met met' : List Stall)
+pub swept_down : (frames : List Frame) (findings : List Finding) (left : ℕ) (found : Finding) (ends ends' : Ends)
+    (met met' : List Stall)
     → 0 < left → left ≤ length findings → found ≡ get_or findings (left - 1) found
     → HasSweptTo frames (drop left findings) ends met
-    → ((side : Side) (stream : ℕ) → end_in ends' side stream ≡ (if is_end_of side stream found then Some found else end_in ends side stream))
+    → ((side : Side) (stream : ℕ)
+    → end_in ends' side stream ≡ (if is_end_of side stream found then Some found else end_in ends side stream))
     → met' ≡ met ++ begun_by frames ends found
     → HasSweptTo frames (drop (left - 1) findings) ends' met'
 swept_down frames findings left found ends ends' met met' positive within here swept ended begun =

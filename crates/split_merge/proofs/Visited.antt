@@ -1,10 +1,14 @@
 -- What the table of streams says after one more visit.
-use Rattle.std.proofs.Common.{◌≡◌, ◌≢◌, ℕ, zero, suc, ◌+◌, ◌<◌, ◌≤◌, ◌==◌, ◌⊎◌, inl, inr, Bool, true, false, if◌then◌else◌, List, [], ◌∷◌, ◌++◌, length, get_or, set, map, filter, slice_get, Some, refl, sym, ap, ◌∙◌, subst, arith, true≢false, ltb}
+use Rattle.std.proofs.Common.{◌≡◌, ◌≢◌, ℕ, zero, suc, ◌+◌, ◌<◌, ◌≤◌, ◌==◌, ◌⊎◌, inl, inr, Bool, true, false}
+use Rattle.std.proofs.Common.{if◌then◌else◌, List, [], ◌∷◌, ◌++◌, length, get_or, set, map, filter, slice_get, Some}
+use Rattle.std.proofs.Common.{refl, sym, ap, ◌∙◌, subst, arith, true≢false, ltb}
 use borrow.Author.Tests.{ltb-true, ltb-false}
-use Rattle.std.proofs.lemmas.List.{map-append, length-append, length-set, get_or-set_same, get_or-set_other, get_or_append_left, get_or_at}
+use Rattle.std.proofs.lemmas.List.{map-append, length-append, length-set, get_or-set_same, get_or-set_other}
+use Rattle.std.proofs.lemmas.List.{get_or_append_left, get_or_at}
 use borrow.Author.Tests.{eqb-true, eq-eqb}
 use Rattle.split_merge.specs.declared.splits.StreamRow.{StreamRow}
-use Rattle.split_merge.specs.code.Visits.{streams_in, row_positions, noted_positions, total_of, counted, with_row, with_stream, noted, NotAmong, AreDistinct, is_among, IsListed}
+use Rattle.split_merge.specs.code.Visits.{streams_in, row_positions, noted_positions, total_of, counted, with_row}
+use Rattle.split_merge.specs.code.Visits.{with_stream, noted, NotAmong, AreDistinct, is_among, IsListed}
 use Rattle.split_merge.proofs.NamedStreams.{streams_in-push, length-streams_in, none-from_test, none_among}
 
 pub filter-append : {X : Type 0} (p : X → Bool) (xs ys : List X) → filter p (xs ++ ys) ≡ filter p xs ++ filter p ys
@@ -92,7 +96,8 @@ module _ (notes : List (ℕ × ℕ)) (rows : List StreamRow) (listed : IsListed 
   abbrev new_row : StreamRow
   new_row = record { stream = stream; from = 0; to = 0 }
 
-  stream-front : (r : ℕ) → r < length rows → get_or (streams_in (rows ++ new_row ∷ [])) r 0 ≡ get_or (streams_in rows) r 0
+  stream-front : (r : ℕ) → r < length rows → get_or (streams_in (rows ++ new_row ∷ [])) r 0 ≡ get_or
+      (streams_in rows) r 0
   stream-front r l =
       let n = length-streams_in rows in
       ap (λ l. get_or l r 0) (streams_in-push rows new_row)
@@ -130,7 +135,8 @@ module _ (notes : List (ℕ × ℕ)) (rows : List StreamRow) (listed : IsListed 
     by_test true e = rw e listed
     by_test false e = rw e (listed-new (none-from_test stream (streams_in rows) e))
 
-pub with_row-seen : (stream : ℕ) (rows : List StreamRow) → is_among stream (streams_in rows) ≡ true → rows ≡ with_row stream rows
+pub with_row-seen : (stream : ℕ) (rows : List StreamRow) → is_among stream (streams_in rows) ≡ true
+    → rows ≡ with_row stream rows
 with_row-seen stream rows e = rw e refl
 
 pub with_row-new : (stream : ℕ) (rows : List StreamRow) → NotAmong stream (streams_in rows) →
@@ -139,7 +145,8 @@ with_row-new stream rows h = rw (none_among stream (streams_in rows) h) refl
 
 -- ---- one more visit
 
-pub streams-counted : (rows : List StreamRow) (i : ℕ) (d : StreamRow) → streams_in (set rows i (counted (get_or rows i d))) ≡ streams_in rows
+pub streams-counted : (rows : List StreamRow) (i : ℕ) (d : StreamRow)
+    → streams_in (set rows i (counted (get_or rows i d))) ≡ streams_in rows
 streams-counted [] i d = refl
 streams-counted (x ∷ rows) zero d = refl
 streams-counted (x ∷ rows) (suc i) d = ap (λ l. x.stream ∷ l) (streams-counted rows i d)
@@ -157,7 +164,8 @@ module _ (rows : List StreamRow) (row stream : ℕ) (distinct : AreDistinct (str
         (stream == get_or (streams_in rows) r 0) ≡ (row == r)
     by_tests true b e f =
         let g : get_or (streams_in rows) r 0 ≡ stream =
-        ap (λ i. get_or (streams_in rows) i 0) (sym (eqb-true row r e)) ∙ get-from_slice_get (streams_in rows) row stream at in
+        ap (λ i. get_or (streams_in rows) i 0) (sym (eqb-true row r e))
+        ∙ get-from_slice_get (streams_in rows) row stream at in
         eq-eqb stream (get_or (streams_in rows) r 0) (sym g) ∙ sym e
     by_tests false true e f =
         let same : row ≡ r = one_index (streams_in rows) row r stream distinct
@@ -167,7 +175,8 @@ module _ (rows : List StreamRow) (row stream : ℕ) (distinct : AreDistinct (str
 
   -- one more is noted
   pub positions-push : (notes : List (ℕ × ℕ)) (position r : ℕ) →
-      row_positions r rows (notes ++ (stream, position) ∷ []) ≡ row_positions r rows notes ++ where_so (row == r) position
+      row_positions r rows (notes ++ (stream, position) ∷ []) ≡ row_positions r rows notes ++ where_so
+      (row == r) position
   positions-push notes position r =
       let s = get_or (streams_in rows) r 0 in
       noted_positions-append s notes ((stream, position) ∷ [])
@@ -205,7 +214,8 @@ module _ (notes : List (ℕ × ℕ)) (rows : List StreamRow) (listed : IsListed 
     by_test true t =
         let same = eqb-true row r t in
         let inside = row-within rows row stream distinct at above in
-        let here : get_or after row e ≡ counted (get_or rows row d) = get_or-set_same rows row (counted (get_or rows row d)) e inside in
+        let here : get_or after row e ≡ counted (get_or rows row d) = get_or-set_same rows row
+        (counted (get_or rows row d)) e inside in
         let count = listed.counts row d inside in
         let long = ap length (positions-here rows row stream distinct at above notes position)
         ∙ length-append (row_positions row rows notes) (position ∷ []) in
@@ -218,7 +228,8 @@ module _ (notes : List (ℕ × ℕ)) (rows : List StreamRow) (listed : IsListed 
         ap (λ (x : StreamRow). x.to) (get_or-set_other rows row r (counted (get_or rows row d)) e apart)
         ∙ listed.counts r e m ∙ ap length (sym (positions-there rows row stream distinct at above notes position r t))
 
-  visit-counts : (r : ℕ) (e : StreamRow) → r < length after → (get_or after r e).to ≡ length (row_positions r after more)
+  visit-counts : (r : ℕ) (e : StreamRow) → r < length after
+      → (get_or after r e).to ≡ length (row_positions r after more)
   visit-counts r e l =
       counts-now r e l ∙ ap (λ l. length (noted_positions (get_or l r 0) more)) (sym (streams-counted rows row d))
 
@@ -264,7 +275,8 @@ total-counted [] i d l = absurd (omega arith)
 total-counted (x ∷ rows) zero d l = omega arith
 total-counted (x ∷ rows) (suc i) d l = let e = total-counted rows i d (omega arith) in omega (arith, e)
 
-pub count-total : (rows : List StreamRow) (i : ℕ) (d : StreamRow) → i < length rows → (get_or rows i d).to ≤ total_of rows
+pub count-total : (rows : List StreamRow) (i : ℕ) (d : StreamRow) → i < length rows
+    → (get_or rows i d).to ≤ total_of rows
 count-total [] i d l = absurd (omega arith)
 count-total (x ∷ rows) zero d l = omega arith
 count-total (x ∷ rows) (suc i) d l = let e = count-total rows i d (omega arith) in omega (arith, e)
@@ -308,7 +320,8 @@ pub noted-listed : (notes : List (ℕ × ℕ)) (rows rows' : List StreamRow) (st
     IsListed (notes ++ noted stream position) (set rows' row (counted (get_or rows' row d)))
 noted-listed notes rows rows' stream position row d n listed e distinct at =
     let before : IsListed notes rows' = subst (λ l. IsListed notes l) (sym e) (listed-row notes rows listed stream) in
-    subst (λ l. IsListed (notes ++ l) (set rows' row (counted (get_or rows' row d)))) (sym (noted-one stream position n))
+    subst (λ l. IsListed (notes ++ l) (set rows' row (counted (get_or rows' row d))))
+    (sym (noted-one stream position n))
     (listed-visit notes rows' before row stream position d distinct at n)
 
 -- nothing is noted yet

@@ -1,12 +1,5 @@
 pub mod FrameLookup
-pub mod Groups
 pub mod Stalls
-pub mod StallExamples
-pub mod Board
-pub mod Machine
-pub mod RoundLaws
-pub mod CutLaws
-pub mod RoundExamples
-pub mod SplitExamples
+pub mod laws
+pub mod examples
 pub mod code
-pub mod Split

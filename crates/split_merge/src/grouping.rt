@@ -1,5 +1,5 @@
 ghost use Rattle.std.specs.Prelude.{◌≡◌, ◌*◌, ◌+◌, ◌/◌, ◌^◌, ◌<◌, ◌≤◌, IfOk};
-ghost use Rattle.split_merge.specs.Groups.{AreConsecutive, groups};
+ghost use Rattle.split_merge.specs.code.Groups.{AreConsecutive, groups};
 
 use std::alloc::{AllocError, Global};
 

@@ -13,12 +13,12 @@
 //!   definition (`specs/Stalls.antt`) looks forward from each beginning for the first end of the same side and stream;
 //!   the code goes over the list once, from the back, with the nearest end of each window in a table.
 //!
-//! [`laws`] are about workers, and need no code. `specs/Machine.antt` is a machine in which workers draw jobs, look at
-//! stops, lower them and finish parts, an event each: a run is any list of allowed events, so any interleaving. An
-//! event carries its answer, and an answer that could not be is not allowed.
+//! [`laws`] are about workers, and need no code. `specs/laws/Machine.antt` is a machine in which workers draw jobs,
+//! look at stops, lower them and finish parts, an event each: a run is any list of allowed events, so any interleaving.
+//! An event carries its answer, and an answer that could not be is not allowed.
 //!
-//! - [`laws::run_settles`]: once every job is finished, the board is settled (`IsSettled` of `specs/Board.antt`): one
-//!   part a job, each stop the least of what it began with and what was lowered, each place seen real.
+//! - [`laws::run_settles`]: once every job is finished, the board is settled (`IsSettled` of `specs/code/Board.antt`):
+//!   one part a job, each stop the least of what it began with and what was lowered, each place seen real.
 //! - [`laws::board_merges`]: of each connection, the parts of a settled board give up to its stop what the whole jobs
 //!   would, and the stop is the least error of all. The reason: each place seen is that of a real error, so none lies
 //!   below the least; each part has everything up to the place that it saw; so the least error is found, lowered and

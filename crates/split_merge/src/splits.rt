@@ -1,7 +1,7 @@
 ghost use Rattle.std.specs.Prelude.{◌≡◌, ◌^◌, ◌<◌, IfOk, length, set};
-ghost use Rattle.audit_terms.specs.runs.Orderly.{IsOrderly};
-ghost use Rattle.settings_pair.specs.Changes.{AreOrderly, AreAcknowledged};
-ghost use Rattle.split_merge.specs.Split.{IsRange, IsSplit, part_of};
+ghost use Rattle.audit_terms.specs.code.runs.Orderly.{IsOrderly};
+ghost use Rattle.settings_pair.specs.code.Changes.{AreOrderly, AreAcknowledged};
+ghost use Rattle.split_merge.specs.code.Split.{IsRange, IsSplit, part_of};
 ghost use Rattle.split_merge.specs.code.Loud.{AreCounted, ArePlaces, HasPlace, IsLaid, IsPut, heard};
 ghost use Rattle.split_merge.specs.code.Visits.{AreDistinct, HasRoomFor, IsFilled, IsIndex, counted, laid_out, notes_from, streams_in, total_of};
 

@@ -1,5 +1,5 @@
 ghost use Rattle.std.specs.Prelude.{◌≡◌, ℕ, ◌++◌, if◌then◌else◌, IfOk, OnOk, pos, Some};
-ghost use Rattle.audit_terms.specs.runs.Orderly.{IsOrderly};
+ghost use Rattle.audit_terms.specs.code.runs.Orderly.{IsOrderly};
 ghost use Rattle.audit_terms.specs.Place.{place_stream};
 ghost use Rattle.split_merge.specs.FrameLookup.{nanos_at};
 ghost use Rattle.split_merge.specs.Stalls.{is_end_of, stall_of, stalls};

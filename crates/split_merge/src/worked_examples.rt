@@ -1,7 +1,9 @@
 //! Worked examples of the definitions, by proof: findings with the stalls that they tell of, frames by stream, groups,
 //! findings of several lists. The functions do nothing; each contract is the example.
-ghost use Rattle.split_merge.specs.SplitExamples.{CutsAtFirstReportedError, GroupsOfFour, SplitsByStream, TellsQuietStreams};
-ghost use Rattle.split_merge.specs.StallExamples.{BothSidesStall, ClockGoesBack, FirstEndCounts, StallEndsThenOverrun, StallsStayOpen};
+ghost use Rattle.split_merge.specs.examples.Split.{CutsAtFirstReportedError, GroupsOfFour, SplitsByStream};
+ghost use Rattle.split_merge.specs.examples.Split.{TellsQuietStreams};
+ghost use Rattle.split_merge.specs.examples.Stalls.{BothSidesStall, ClockGoesBack, FirstEndCounts};
+ghost use Rattle.split_merge.specs.examples.Stalls.{StallEndsThenOverrun, StallsStayOpen};
 
 /// A stall of the connection ends and another begins, and that of the stream goes on.
 pub fn stall_ends_then_overrun()

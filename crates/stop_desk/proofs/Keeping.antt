@@ -1,12 +1,14 @@
 -- How the parts of the rule go over a step.
-use Rattle.std.proofs.Common.{◌≡◌, ℕ, ◌+◌, ◌<◌, ◌≤◌, ◌⊎◌, List, [], ◌∷◌, ◌++◌, length, get_or, set, subst, sym, ap, ◌∙◌, inl, inr, ⊎_elim, arith, length-append}
+use Rattle.std.proofs.Common.{◌≡◌, ℕ, ◌+◌, ◌<◌, ◌≤◌, ◌⊎◌, List, [], ◌∷◌, ◌++◌, length, get_or, set, subst, sym, ap, ◌∙◌}
+use Rattle.std.proofs.Common.{inl, inr, ⊎_elim, arith, length-append}
 use mathlib.Core.Option.{some}
 use lib.ListN.{get_elem?}
 use Rattle.atomic_table.proofs.Lists.{at_set, at_snoc}
 use Rattle.stop_desk.specs.declared.rule.Knows.{Knows}
-use Rattle.stop_desk.specs.Counts.{weigh, times, is_number, once_below}
-use Rattle.stop_desk.specs.Stop.{past_places}
-use Rattle.stop_desk.specs.code.Rule.{allowance_in, draws_in, drawn_in, seen_in, lowered_in, Dealt, Stops, IsGiven, Fits}
+use Rattle.stop_desk.specs.code.Counts.{weigh, times, is_number, once_below}
+use Rattle.stop_desk.specs.code.Stop.{past_places}
+use Rattle.stop_desk.specs.code.Rule.{allowance_in, draws_in, drawn_in, seen_in, lowered_in, Dealt, Stops, IsGiven}
+use Rattle.stop_desk.specs.code.Rule.{Fits}
 use Rattle.stop_desk.proofs.Weights.{weigh-set, weigh-snoc}
 use Rattle.stop_desk.proofs.Marks.{once_below-next}
 
@@ -25,7 +27,8 @@ dealt-kept whole words words' views views' wide same allowances draws drawn d = 
 }
 
 -- one more draw
-pub dealt-more : (whole : ℕ) (words words' : List ℕ) (views : List Knows) (id : ℕ) (v w : Knows) → get_elem? views id ≡ some v
+pub dealt-more : (whole : ℕ) (words words' : List ℕ) (views : List Knows) (id : ℕ) (v w : Knows)
+    → get_elem? views id ≡ some v
     → length words' ≡ length words → get_or words' 0 0 ≡ get_or words 0 0 + 1
     → v.allowance ≡ w.allowance + 1 → w.drawn ≡ v.drawn ++ get_or words 0 0 ∷ []
     → Dealt whole words views → Dealt whole words' (set views id w)
@@ -40,7 +43,8 @@ dealt-more whole words words' views id v w at wide next paid more d =
       each_once = λ x.
           let h = d.each_once x in
           let sum = weigh-set (drawn_in x) views id v w at in
-          let one : times x w.drawn ≡ times x v.drawn + is_number x n = ap (times x) more ∙ weigh-snoc (is_number x) v.drawn n in
+          let one : times x w.drawn ≡ times x v.drawn + is_number x n = ap (times x) more
+          ∙ weigh-snoc (is_number x) v.drawn n in
           let once = once_below-next x n in
           let all : weigh (drawn_in x) (set views id w) ≡ once_below x (n + 1) = omega arith in
           all ∙ ap (once_below x) (sym next);
@@ -60,7 +64,8 @@ pub stops-step : (opened words words' : List ℕ) (views views' : List Knows)
     → (0 < weigh (lowered_in c p) views) ⊎ ((get_or words' (c + 1) 0 ≤ p) × (p < past_places)))
     → ((c p : ℕ) → 0 < weigh (seen_in c p) views'
     → (0 < weigh (seen_in c p) views) ⊎ ((get_or words' (c + 1) 0 ≤ p) × (p < past_places) × IsGiven opened views' c p))
-    → ((c : ℕ) → (get_or words' (c + 1) 0 ≡ get_or words (c + 1) 0) ⊎ (0 < weigh (lowered_in c (get_or words' (c + 1) 0)) views'))
+    → ((c : ℕ) → (get_or words' (c + 1) 0 ≡ get_or words (c + 1) 0)
+    ⊎ (0 < weigh (lowered_in c (get_or words' (c + 1) 0)) views'))
     → Stops opened words views → Stops opened words' views'
 stops-step opened words words' views views' wide falls more lowered seen reached s = record {
   wide = wide ∙ s.wide;

@@ -1,10 +1,11 @@
 -- Numbers and marks in lists, by cases.
-use Rattle.std.proofs.Common.{◌≡◌, ℕ, ◌+◌, ◌<◌, ◌⊎◌, Bool, true, false, if◌then◌else◌, nat_lt, List, [], ◌∷◌, ◌++◌, refl, sym, inl, inr, ⊎_elim, arith, eq-eqb, ne_eqb}
+use Rattle.std.proofs.Common.{◌≡◌, ℕ, ◌+◌, ◌<◌, ◌⊎◌, Bool, true, false, if◌then◌else◌, nat_lt, List, [], ◌∷◌, ◌++◌}
+use Rattle.std.proofs.Common.{refl, sym, inl, inr, ⊎_elim, arith, eq-eqb, ne_eqb}
 use Rattle.std.proofs.lemmas.Bool.Decides.{nat_tests}
 use mathlib.Core.Logic.{dite}
 use native.Mathlib.Decide.{ℕ_discrete}
-use Rattle.stop_desk.specs.Counts.{is_number, once_below, is_mark, marks}
-use Rattle.stop_desk.specs.Stop.{past_places}
+use Rattle.stop_desk.specs.code.Counts.{is_number, once_below, is_mark, marks}
+use Rattle.stop_desk.specs.code.Stop.{past_places}
 use Rattle.stop_desk.proofs.Weights.{weigh-snoc}
 
 pub once_below-next : (x n : ℕ) → once_below x (n + 1) ≡ once_below x n + is_number x n

@@ -1,10 +1,11 @@
 -- Which desk a pass is of, and how what the fields hold is what a caller sees.
-use Rattle.std.proofs.Common.{◌≡◌, ℕ, zero, suc, ◌-◌, ◌^◌, ◌<◌, ◌≤◌, Option, Some, None, List, [], ◌∷◌, map, get_or, All, arith, sym, refl, ap, ◌∙◌}
+use Rattle.std.proofs.Common.{◌≡◌, ℕ, zero, suc, ◌-◌, ◌^◌, ◌<◌, ◌≤◌, Option, Some, None, List, [], ◌∷◌, map, get_or}
+use Rattle.std.proofs.Common.{All, arith, sym, refl, ap, ◌∙◌}
 use mathlib.Core.Option.{some, some-injective, some-ne-none}
 use lib.ListN.{get_elem?}
-use Rattle.stop_desk.specs.Stop.{IsPlace, IsStop, place_at, stop_word}
+use Rattle.stop_desk.specs.code.Stop.{IsPlace, IsStop, place_at, stop_word}
 use Rattle.audit_terms.specs.Place.{place_of}
-use Rattle.stop_desk.specs.Desk.{DeskView, PassView, all_draws, pass_draws}
+use Rattle.stop_desk.specs.code.Desk.{DeskView, PassView, all_draws, pass_draws}
 use Rattle.stop_desk.proofs.Settling.{place_at-place}
 
 -- p and d are what the fields show of the pass q and the desk e
@@ -28,5 +29,6 @@ stops-of_words (Some p ∷ rest) places = λ i.
     place_at-place p (places 0 None (omega arith)) i ∷ stops-of_words rest (λ c d low. places (suc c) d (omega arith)) i
 
 -- the place of a frame's number, a rank and a stream in their ranges
-pub place_of-fits : (number rank stream : ℕ) → number ≤ 2 ^ 28 - 2 → rank ≤ 31 → stream < 2 ^ 31 → IsPlace (place_of number rank stream)
+pub place_of-fits : (number rank stream : ℕ) → number ≤ 2 ^ 28 - 2 → rank ≤ 31 → stream < 2 ^ 31
+    → IsPlace (place_of number rank stream)
 place_of-fits number rank stream numbered ranked streamed = omega arith

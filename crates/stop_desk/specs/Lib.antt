@@ -1,6 +1,1 @@
-pub mod Counts
-pub mod Stop
-pub mod Desk
-pub mod Calls
-pub mod Settled
 pub mod code

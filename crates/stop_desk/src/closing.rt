@@ -1,5 +1,5 @@
 ghost use Rattle.std.specs.Prelude.{◌≡◌, length};
-ghost use Rattle.stop_desk.specs.Desk.{IsConnection, final_stop};
+ghost use Rattle.stop_desk.specs.code.Desk.{IsConnection, final_stop};
 
 use crate::passes::Pass;
 use crate::stops::stop_in;
@@ -19,7 +19,7 @@ pub struct Closed {
 impl Model for Closed {
     ghost use Rattle.std.specs.Prelude.{◌≡◌, ◌<◌, length, slice_index};
     ghost use Rattle.std.specs.Slots.{slots_items, slots_len, IsFull};
-    ghost use Rattle.stop_desk.specs.Desk.{ClosedView, closed_of};
+    ghost use Rattle.stop_desk.specs.code.Desk.{ClosedView, closed_of};
 
     ghost Value = { ClosedView };
 

@@ -1,7 +1,7 @@
 ghost use Rattle.std.specs.Prelude.{◌≡◌, ◌<◌, [], ◌∷◌, map, drop, All, IfOk};
-ghost use Rattle.stop_desk.specs.Stop.{IsStop, place_at, stop_word};
-ghost use Rattle.stop_desk.specs.Desk.{desk_of, pass_of, closed_of, all_draws, pass_draws};
-ghost use Rattle.stop_desk.specs.Settled.{Settled};
+ghost use Rattle.stop_desk.specs.code.Stop.{IsStop, place_at, stop_word};
+ghost use Rattle.stop_desk.specs.code.Desk.{desk_of, pass_of, closed_of, all_draws, pass_draws};
+ghost use Rattle.stop_desk.specs.code.Settled.{Settled};
 
 use crate::closing::Closed;
 use crate::passes::Pass;
@@ -25,7 +25,7 @@ pub struct Desk {
 
 impl Model for Desk {
     ghost use Rattle.std.specs.Prelude.{◌≡◌, ◌+◌, ◌*◌, ◌<◌, length};
-    ghost use Rattle.stop_desk.specs.Desk.{DeskView, desk_of};
+    ghost use Rattle.stop_desk.specs.code.Desk.{DeskView, desk_of};
 
     ghost Value = { DeskView };
 

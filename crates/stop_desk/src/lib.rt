@@ -7,7 +7,8 @@
 //! - [`Pass::lower`] gives a place for a connection, and [`Pass::look`] answers a place that is at most each that this
 //!   pass gave or saw there before, and that the desk was opened with or some pass gave.
 //! - [`Pass::join`] makes two passes one again. [`Desk::close`] takes the last pass, and the [`Closed`] desk tells how
-//!   many numbers were drawn, each once, and the least place of each connection (`Settled` of `specs/Settled.antt`).
+//!   many numbers were drawn, each once, and the least place of each connection (`Settled` of
+//!   `specs/code/Settled.antt`).
 //!
 //! The desk is one row of words: word 0 is the next number, and word c + 1 the stop of connection c, all ones where
 //! there is none. No call waits or takes a lock, and none but [`Desk::make`] allocates. What a pass drew, saw and

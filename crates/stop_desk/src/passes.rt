@@ -1,7 +1,7 @@
 ghost use Rattle.std.specs.Prelude.{◌≡◌, ◌+◌, ◌-◌, ◌<◌, [], ◌∷◌, ◌++◌};
-ghost use Rattle.stop_desk.specs.Stop.{IsPlace};
-ghost use Rattle.stop_desk.specs.Desk.{pass_of, pass_draws, IsConnection};
-ghost use Rattle.stop_desk.specs.Calls.{IsClaim, IsLook};
+ghost use Rattle.stop_desk.specs.code.Stop.{IsPlace};
+ghost use Rattle.stop_desk.specs.code.Desk.{pass_of, pass_draws, IsConnection};
+ghost use Rattle.stop_desk.specs.code.Calls.{IsClaim, IsLook};
 ghost use Rattle.stop_desk.specs.code.Plays.{kept_part, given_part};
 
 use crate::claims::Claim;
@@ -24,7 +24,7 @@ pub struct Pass {
 
 impl Model for Pass {
     ghost use Rattle.std.specs.Prelude.{◌≡◌, ◌<◌, []};
-    ghost use Rattle.stop_desk.specs.Desk.{PassView, pass_of};
+    ghost use Rattle.stop_desk.specs.code.Desk.{PassView, pass_of};
     ghost use Rattle.stop_desk.specs.code.Rule.{share};
 
     ghost Value = { PassView };

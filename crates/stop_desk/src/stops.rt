@@ -1,5 +1,5 @@
 ghost use Rattle.std.specs.Prelude.{◌≡◌};
-ghost use Rattle.stop_desk.specs.Stop.{place_at, stop_word};
+ghost use Rattle.stop_desk.specs.code.Stop.{place_at, stop_word};
 
 use audit_terms::Place;
 

@@ -1,5 +1,7 @@
 -- A walk meets a frame and the changes before it, and all frames and changes of a part.
-use Rattle.std.proofs.Common.{◌≡◌, ℕ, ◌+◌, ◌^◌, ◌<◌, Bool, true, false, List, [], ◌∷◌, ◌++◌, map, take, length, slice_get, slice_index_or, Option, Some, Result, Ok, Err, IfOk, sym, ap, ◌∙◌, subst, arith}
+use Rattle.std.proofs.Common.{◌≡◌, ℕ, ◌+◌, ◌^◌, ◌<◌, Bool, true, false, List, [], ◌∷◌, ◌++◌, map, take, length}
+use Rattle.std.proofs.Common.{slice_get, slice_index_or, Option, Some, Result, Ok, Err, IfOk, sym, ap, ◌∙◌, subst}
+use Rattle.std.proofs.Common.{arith}
 use Rattle.std.specs.Bool.{OnTrue, OnFalse}
 use Rattle.std.specs.Option.{ForSome, option_to_list}
 use Rattle.std.proofs.lemmas.Grind.{flat_map-append}
@@ -11,18 +13,19 @@ use Rattle.audit_terms.specs.declared.items.Change.{Change}
 use Rattle.audit_terms.specs.declared.items.Step.{Step}
 use Rattle.audit_terms.specs.declared.findings.Finding.{Finding}
 use Rattle.audit_terms.specs.Frame.{is_ack}
-use Rattle.audit_terms.specs.runs.Streams.{change_step}
-use Rattle.audit_terms.specs.runs.Streams.{initial_after}
+use Rattle.audit_terms.specs.code.runs.Streams.{change_step}
+use Rattle.audit_terms.specs.code.runs.Streams.{initial_after}
 use Rattle.audit_terms.specs.code.Watch.{NeverFallFrom}
-use Rattle.settings_pair.specs.Changes.{AreOrderlyFrom}
+use Rattle.settings_pair.specs.code.Changes.{AreOrderlyFrom}
 use Rattle.stream_credit.specs.declared.left.Left.{Left}
 use Rattle.stream_credit.specs.declared.walks.Walk.{Walk}
-use Rattle.stream_credit.specs.Part.{frames_at}
+use Rattle.stream_credit.specs.code.Part.{frames_at}
 use Rattle.stream_credit.specs.code.Left.{after_changes, passed, left_from, change_at, left_after, IsInForce}
 use Rattle.stream_credit.specs.code.Merged.{merged, frame_with}
 use Rattle.stream_credit.specs.code.Walk.{numbers_of, WholeRun, IsAt, IsAtChanges, IsSound}
 use Rattle.stream_credit.proofs.MergedLemmas.{merged_at-passed, merged_at-own}
-use Rattle.stream_credit.proofs.LeftLemmas.{passed-before, orderly-before, orderly-left_from, orderly-left_after, acknowledge-left_from, acknowledge-left_after, own-acknowledged}
+use Rattle.stream_credit.proofs.LeftLemmas.{passed-before, orderly-before, orderly-left_from, orderly-left_after}
+use Rattle.stream_credit.proofs.LeftLemmas.{acknowledge-left_from, acknowledge-left_after, own-acknowledged}
 use Rattle.stream_credit.proofs.WalkLemmas.{fall-from, change_numbers, numbers-changes}
 
 -- ---- a last call that answers whether the run goes on
@@ -33,7 +36,8 @@ goes-tail (Ok true) A B f h = f h
 goes-tail (Ok false) A B f h = tt
 goes-tail (Err e) A B f h = tt
 
-pub goes-tail_both : {E : Type 0} (r : Result Bool E) (A B C : Type 0) → (A → B → C) → IfOk r (λ goes_on. OnTrue goes_on A)
+pub goes-tail_both : {E : Type 0} (r : Result Bool E) (A B C : Type 0) → (A → B → C)
+    → IfOk r (λ goes_on. OnTrue goes_on A)
     → IfOk r (λ goes_on. OnTrue goes_on B) → IfOk r (λ goes_on. OnTrue goes_on C)
 goes-tail_both (Ok true) A B C f h k = f h k
 goes-tail_both (Ok false) A B C f h k = tt
@@ -61,7 +65,8 @@ frame-steps : (low : ℕ) (frame : Frame) (frames : List Frame) (changes : List 
 frame-steps low frame frames changes h =
     merged_at-passed frame (merged frames) changes
     ∙ ap (λ (steps : List Step). map change_step (passed frame.number changes) ++ steps)
-    (merged_at-own frame (merged frames) (left_from frame.number changes) (orderly-left_from low frame.number changes h))
+    (merged_at-own frame (merged frames) (left_from frame.number changes)
+    (orderly-left_from low frame.number changes h))
 
 pub frame-in_force : (first second third : Sides ℕ) (changes : List Change) (change : Option Change) (after : Left)
     → second ≡ after_changes first changes → third ≡ initial_after change second
@@ -69,15 +74,18 @@ pub frame-in_force : (first second third : Sides ℕ) (changes : List Change) (c
 frame-in_force first second third changes change after s t h =
     subst (λ (now : Sides ℕ). IsInForce now after) (sym (t ∙ ap (initial_after change) s)) h
 
-module _ {L : Type 0} (answers : L → List Finding → Option ℕ → L → Type 0) (run : WholeRun L) (now : L) (walk : Walk) (left : Left)
+module _ {L : Type 0} (answers : L → List Finding → Option ℕ → L → Type 0) (run : WholeRun L) (now : L) (walk : Walk)
+    (left : Left)
     (frame : Frame) (frames : List Frame) (h : IsSound answers run now walk left (frame ∷ frames)) where
   abbrev pub rest_after : List Step
-  rest_after = frame_with frame (own_change frame left.changes.now) ∷ merged frames (later_changes frame left.changes.now)
+  rest_after = frame_with frame (own_change frame left.changes.now) ∷ merged frames
+      (later_changes frame left.changes.now)
 
   pub frame-changes : (ps : List Change) → ps ≡ passed frame.number left.changes.now
       → IsAtChanges answers run now walk frame.number ps rest_after
   frame-changes ps e =
-      let at = subst (IsAt answers run now walk h.low) (frame-steps h.low frame frames left.changes.now h.changes) h.at in
+      let at = subst (IsAt answers run now walk h.low) (frame-steps h.low frame frames left.changes.now h.changes)
+      h.at in
       subst (λ (cs : List Change). IsAtChanges answers run now walk frame.number cs rest_after) (sym e)
       (record {
         low = h.low;
@@ -100,21 +108,26 @@ module _ {L : Type 0} (answers : L → List Finding → Option ℕ → L → Typ
       rw (e, m) (own-acknowledged frame (left_from frame.number left.changes.now)
       (acknowledge-left_from frame.number (frame ∷ []) left.changes.now (h.acknowledged.0, tt)).0)
 
-  pub frame-at : (later : L) (walked : Walk) (mid : List Change) (change : Option Change) → mid ≡ left_from frame.number left.changes.now
+  pub frame-at : (later : L) (walked : Walk) (mid : List Change) (change : Option Change)
+      → mid ≡ left_from frame.number left.changes.now
       → change ≡ change_at frame.number mid → IsAt answers run later walked frame.number rest_after
-      → IsAt answers run later walked frame.number (frame_with frame change ∷ merged frames (later_changes frame left.changes.now))
+      → IsAt answers run later walked frame.number
+      (frame_with frame change ∷ merged frames (later_changes frame left.changes.now))
   frame-at later walked mid change m e at =
       subst (λ (one : Option Change). IsAt answers run later walked frame.number
       (frame_with frame one ∷ merged frames (later_changes frame left.changes.now)))
       (sym (e ∙ ap (change_at frame.number) m)) at
 
-  pub frame-meets : (later : L) (walked : Walk) (mid : List Change) (change : Option Change) → mid ≡ left_from frame.number left.changes.now
+  pub frame-meets : (later : L) (walked : Walk) (mid : List Change) (change : Option Change)
+      → mid ≡ left_from frame.number left.changes.now
       → change ≡ change_at frame.number mid → IsAt answers run later walked frame.number rest_after
-      → (one : WholeRun L) × (rest : List Step) × IsAt answers one later walked frame.number (frame_with frame change ∷ rest)
+      → (one : WholeRun L) × (rest : List Step) × IsAt answers one later walked frame.number
+      (frame_with frame change ∷ rest)
   frame-meets later walked mid change m e at =
       (run, merged frames (later_changes frame left.changes.now), frame-at later walked mid change m e at)
 
-  pub frame-sound : (later : L) (walked : Walk) (new : Left) (mid : List Change) → mid ≡ left_from frame.number left.changes.now
+  pub frame-sound : (later : L) (walked : Walk) (new : Left) (mid : List Change)
+      → mid ≡ left_from frame.number left.changes.now
       → new.changes.now ≡ left_after frame.number mid → IsInForce walked.initial new
       → IsAt answers run later walked (frame.number + 1) (merged frames (later_changes frame left.changes.now))
       → IsSound answers run later walked new frames
@@ -138,7 +151,8 @@ pub frames-more : (frames : List Frame) (positions : List ℕ) (i d : ℕ) (e : 
     ≡ frames_at frames (take i positions) ++ slice_index_or frames (slice_index_or positions i d) e ∷ []
 frames-more frames positions i d e within inside =
     ap (frames_at frames) (take_more positions i d within)
-    ∙ flat_map-append (λ position. option_to_list (slice_get frames position)) (take i positions) (slice_index_or positions i d ∷ [])
+    ∙ flat_map-append (λ position. option_to_list (slice_get frames position)) (take i positions)
+    (slice_index_or positions i d ∷ [])
     ∙ ap (λ (one : Option Frame). frames_at frames (take i positions) ++ (option_to_list one ++ []))
     (slice_get-get_or frames (slice_index_or positions i d) e inside)
 
@@ -149,7 +163,8 @@ frames-parts frames some later all near e n =
     ∙ flat_map-append (λ position. option_to_list (slice_get frames position)) some later
     ∙ ap (λ l. l ++ frames_at frames later) (sym n)
 
-module _ {L : Type 0} (answers : L → List Finding → Option ℕ → L → Type 0) (run : WholeRun L) (now : L) (walk : Walk) (left : Left)
+module _ {L : Type 0} (answers : L → List Finding → Option ℕ → L → Type 0) (run : WholeRun L) (now : L) (walk : Walk)
+    (left : Left)
     (frames : List Frame) (none : frames ≡ []) (h : IsSound answers run now walk left frames) where
   pub last-changes : IsAtChanges answers run now walk (h.low + 2 ^ 28) left.changes.now []
   last-changes = record {
@@ -158,17 +173,20 @@ module _ {L : Type 0} (answers : L → List Finding → Option ℕ → L → Typ
     before = orderly-before h.low (h.low + 2 ^ 28) left.changes.now (omega arith) h.changes;
     later = tt;
     at = subst (IsAt answers run now walk h.low)
-        (ap (λ (fs : List Frame). merged fs left.changes.now) none ∙ sym (append-nil (map change_step left.changes.now))) h.at;
+        (ap (λ (fs : List Frame). merged fs left.changes.now) none
+        ∙ sym (append-nil (map change_step left.changes.now))) h.at;
   }
 
 -- a walk before some frames comes to be before those that are left
-abbrev pub MeetsFrames : {L : Type 0} → (L → List Finding → Option ℕ → L → Type 0) → (before : L) → Walk → Left → List Frame
+abbrev pub MeetsFrames : {L : Type 0} → (L → List Finding → Option ℕ → L → Type 0) → (before : L) → Walk → Left
+    → List Frame
     → (now : L) → Walk → Left → List Frame → Type 0
 MeetsFrames {L} answers before old old_left frames now walk left rest =
     (run : WholeRun L) → IsSound answers run before old old_left frames → IsSound answers run now walk left rest
 
 -- the same of a walk that has more frames to come
-abbrev pub MeetsSome : {L : Type 0} → (L → List Finding → Option ℕ → L → Type 0) → (before : L) → Walk → Left → List Frame
+abbrev pub MeetsSome : {L : Type 0} → (L → List Finding → Option ℕ → L → Type 0) → (before : L) → Walk → Left
+    → List Frame
     → (now : L) → Walk → Left → List Frame → Type 0
 MeetsSome {L} answers before old old_left frames now walk left some =
     (run : WholeRun L) (rest : List Frame) → IsSound answers run before old old_left (frames ++ rest)

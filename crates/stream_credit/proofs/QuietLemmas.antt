@@ -1,5 +1,7 @@
 -- A frame that moves one window of a stream and shows nothing where credits are not shown.
-use Rattle.std.proofs.Common.{◌≡◌, ℕ, ℤ, pos, ◌+◌, ◌*◌, ◌^◌, ◌<◌, ◌+ℤ◌, ◌-ℤ◌, int_lt, nat_lt, ◌==◌, if◌then◌else◌, Bool, true, false, ◌&&◌, ◌||◌, not, List, [], ◌++◌, Option, Some, None, is_some, refl, sym, ap, ◌∙◌, subst, arith}
+use Rattle.std.proofs.Common.{◌≡◌, ℕ, ℤ, pos, ◌+◌, ◌*◌, ◌^◌, ◌<◌, ◌+ℤ◌, ◌-ℤ◌, int_lt, nat_lt, ◌==◌, if◌then◌else◌, Bool}
+use Rattle.std.proofs.Common.{true, false, ◌&&◌, ◌||◌, not, List, [], ◌++◌, Option, Some, None, is_some, refl, sym, ap}
+use Rattle.std.proofs.Common.{◌∙◌, subst, arith}
 use Rattle.std.proofs.lemmas.Bool.Decides.{nat_tests}
 use Rattle.std.proofs.lemmas.Int.{ints}
 use Rattle.std.proofs.lemmas.List.{append-nil}
@@ -7,7 +9,9 @@ use Rattle.std.specs.Ordering.{int_eq}
 use Rattle.audit_terms.specs.declared.sides.Side.{Side}
 use Rattle.audit_terms.specs.declared.sides.Side.TheVariants.{Client, Server}
 use Rattle.audit_terms.specs.declared.sides.Sides.{Sides}
-use Rattle.audit_terms.specs.declared.kinds.Kind.TheVariants.{NotOpened, AfterEnd, ZeroStreamGrant, SettingOverflow, StreamOverrun, StreamOverflow, StreamStallEnd, StreamStallBegin, StreamCredit}
+use Rattle.audit_terms.specs.declared.kinds.Kind.TheVariants.{NotOpened, AfterEnd, ZeroStreamGrant, SettingOverflow}
+use Rattle.audit_terms.specs.declared.kinds.Kind.TheVariants.{StreamOverrun, StreamOverflow, StreamStallEnd}
+use Rattle.audit_terms.specs.declared.kinds.Kind.TheVariants.{StreamStallBegin, StreamCredit}
 use Rattle.audit_terms.specs.declared.frames.Body.{Body}
 use Rattle.audit_terms.specs.declared.frames.Body.TheVariants.{Content, Headers, WindowUpdate}
 use Rattle.audit_terms.specs.declared.frames.Frame.{Frame}
@@ -22,7 +26,8 @@ use Rattle.audit_terms.specs.Frame.{is_zero_grant, content_by, grant_to, sends_e
 use Rattle.audit_terms.specs.Life.{ends_window, is_not_opened, is_after_end}
 use Rattle.audit_terms.specs.Window.{is_used_up, overflows, overruns}
 use Rattle.audit_terms.specs.Finding.{say, say_of, in_order, shown}
-use Rattle.audit_terms.specs.Stream.{stream_finding, frame_said, window_step, window_after, live_window_said, stream_window_said, stream_said, stream_after, is_stalled}
+use Rattle.audit_terms.specs.Stream.{stream_finding, frame_said, window_step, window_after, live_window_said}
+use Rattle.audit_terms.specs.Stream.{stream_window_said, stream_said, stream_after, is_stalled}
 use Rattle.audit_terms.specs.code.StreamSteps.{counted, is_overflowing_grant}
 use Rattle.audit_terms.specs.code.Room.{HasRoom, WindowHasRoom}
 use Rattle.audit_terms.proofs.FindingLists.{each-in_order}
@@ -31,7 +36,8 @@ use Rattle.stream_credit.specs.declared.walks.Walk.{Walk}
 use Rattle.stream_credit.specs.code.Merged.{frame_with}
 use Rattle.stream_credit.specs.code.Quiet.{sent, granted, IsMove, IsQuiet}
 use Rattle.stream_credit.specs.code.Walk.{IsCounted, HasRoomAt}
-use Rattle.stream_credit.proofs.SilentLemmas.{IsUnshown, AreUnshown, both, parts, unsaid, said-unshown, none-shown, never-both, never-other, and-false}
+use Rattle.stream_credit.proofs.SilentLemmas.{IsUnshown, AreUnshown, both, parts, unsaid, said-unshown, none-shown}
+use Rattle.stream_credit.proofs.SilentLemmas.{never-both, never-other, and-false}
 use Rattle.stream_credit.proofs.WalkLemmas.{HasRoomAt-next}
 
 -- ---- the frames that move one window
@@ -61,7 +67,8 @@ same-stream a b e = grind (arith, nat_tests)
 above-zero : (n : ℕ) → 0 < n → ((n == 0) && true) ≡ false
 above-zero n h = let e : (n == 0) ≡ false = grind (arith, nat_tests) in rw e refl
 
-no-overrun : (before : ℤ) (length : ℕ) → is_used_up (before +ℤ (pos 0 -ℤ pos length)) ≡ false → overruns before length ≡ false
+no-overrun : (before : ℤ) (length : ℕ) → is_used_up (before +ℤ (pos 0 -ℤ pos length)) ≡ false
+    → overruns before length ≡ false
 no-overrun before length left =
     let enough : int_lt before (pos length) ≡ false = grind (arith, ints) in
     and-false (nat_lt 0 length) (int_lt before (pos length)) enough
@@ -81,7 +88,8 @@ module _ (stream : ℕ) (frame : Frame) where
 
   content-moves : (side : Side) (opened : Option ℕ) (client server : Bool) → is_some opened ≡ true
       → is_after_end (life_of opened client server) (content side) ≡ false → sends_end side (content side) ≡ false
-      → HasRoom (2 ^ 32) (sent (content side)).amount → IsMove stream (life_of opened client server) (content side) (sent (content side))
+      → HasRoom (2 ^ 32) (sent (content side)).amount → IsMove stream (life_of opened client server) (content side)
+      (sent (content side))
   content-moves side None client server some late end small = cc
   content-moves Client (Some n) client server some late end small = record {
     opens = refl;
@@ -121,7 +129,8 @@ module _ (stream : ℕ) (frame : Frame) where
 
   headers-moves : (side : Side) (opened : Option ℕ) (client server : Bool) → is_some opened ≡ true
       → is_after_end (life_of opened client server) (headers side) ≡ false → sends_end side (headers side) ≡ false
-      → HasRoom (2 ^ 32) (sent (headers side)).amount → IsMove stream (life_of opened client server) (headers side) (sent (headers side))
+      → HasRoom (2 ^ 32) (sent (headers side)).amount → IsMove stream (life_of opened client server) (headers side)
+      (sent (headers side))
   headers-moves side None client server some late end small = cc
   headers-moves Client (Some n) client server some late end small = record {
     opens = refl;
@@ -193,7 +202,8 @@ module _ (stream : ℕ) (frame : Frame) where
   }
 
 pub content-move : (stream : ℕ) (life : StreamLife) (frame : Frame) (one : Move) → frame.body ≡ Content
-    → is_some life.opened ≡ true → is_after_end life frame ≡ false → sends_end frame.side frame ≡ false → one ≡ sent frame
+    → is_some life.opened ≡ true → is_after_end life frame ≡ false → sends_end frame.side frame ≡ false
+    → one ≡ sent frame
     → HasRoom (2 ^ 32) one.amount → IsMove stream life frame one
 content-move stream life frame one b some late end is small =
     let same : frame ≡ record frame { body = Content } = ap (λ (body : Body). record frame { body = body }) b in
@@ -206,7 +216,8 @@ content-move stream life frame one b some late end is small =
     (subst (λ (m : Move). HasRoom (2 ^ 32) m.amount) is small))))
 
 pub headers-move : (stream : ℕ) (life : StreamLife) (frame : Frame) (one : Move) → frame.body ≡ Headers
-    → is_some life.opened ≡ true → is_after_end life frame ≡ false → sends_end frame.side frame ≡ false → one ≡ sent frame
+    → is_some life.opened ≡ true → is_after_end life frame ≡ false → sends_end frame.side frame ≡ false
+    → one ≡ sent frame
     → HasRoom (2 ^ 32) one.amount → IsMove stream life frame one
 headers-move stream life frame one b some late end is small =
     let same : frame ≡ record frame { body = Headers } = ap (λ (body : Body). record frame { body = body }) b in
@@ -218,11 +229,13 @@ headers-move stream life frame one b some late end is small =
     (subst (λ (f : Frame). HasRoom (2 ^ 32) (sent f).amount) same
     (subst (λ (m : Move). HasRoom (2 ^ 32) m.amount) is small))))
 
-pub update-move : (stream : ℕ) (life : StreamLife) (frame : Frame) (one : Move) (increment : ℕ) → frame.body ≡ WindowUpdate increment
+pub update-move : (stream : ℕ) (life : StreamLife) (frame : Frame) (one : Move) (increment : ℕ)
+    → frame.body ≡ WindowUpdate increment
     → is_some life.opened ≡ true → frame.stream ≡ stream → 0 < increment → one ≡ granted frame increment
     → HasRoom (2 ^ 32) one.amount → IsMove stream life frame one
 update-move stream life frame one increment b some own above is small =
-    let same : frame ≡ record frame { body = WindowUpdate increment } = ap (λ (body : Body). record frame { body = body }) b in
+    let same : frame ≡ record frame { body = WindowUpdate increment } = ap
+    (λ (body : Body). record frame { body = body }) b in
     subst (IsMove stream life frame) (sym is)
     (subst (λ (f : Frame). IsMove stream life f (granted f increment)) (sym same)
     (update-moves stream frame increment frame.side life.opened life.ended.client life.ended.server some own above
@@ -270,14 +283,18 @@ module _ (d : Side) (stream : ℕ) (initial : Sides ℕ) (frame : Frame) (before
       parts (say false (stream_finding SettingOverflow stream step d now))
       (say (overruns before (content_by d frame)) (stream_finding StreamOverrun stream step d now))
       (say (is_overflowing_grant d stream initial step before) (stream_finding StreamOverflow stream step d now))
-      (say (is_used_up before && not (is_stalled window.after)) (stream_finding StreamStallEnd stream step d window.last))
-      (say (not (is_used_up before) && is_stalled window.after) (stream_finding StreamStallBegin stream step d window.last))
+      (say (is_used_up before && not (is_stalled window.after))
+      (stream_finding StreamStallEnd stream step d window.last))
+      (say (not (is_used_up before) && is_stalled window.after)
+      (stream_finding StreamStallBegin stream step d window.last))
       (say (not (int_eq before window.last)) (stream_finding StreamCredit stream step d window.last))
       tt
       (unsaid (overruns before (content_by d frame)) _ overrun)
       (unsaid (is_overflowing_grant d stream initial step before) _ no-overflow)
-      (unsaid (is_used_up before && not (is_stalled window.after)) _ (never-both (is_used_up before) (is_stalled window.after) still))
-      (unsaid (not (is_used_up before) && is_stalled window.after) _ (never-other (is_used_up before) (is_stalled window.after) still))
+      (unsaid (is_used_up before && not (is_stalled window.after)) _
+      (never-both (is_used_up before) (is_stalled window.after) still))
+      (unsaid (not (is_used_up before) && is_stalled window.after) _
+      (never-other (is_used_up before) (is_stalled window.after) still))
       (said-unshown (not (int_eq before window.last)) _ refl)
 
 added : (before x amount : ℤ) (i : ℕ) → x ≡ amount → before +ℤ (x +ℤ (pos i -ℤ pos i)) ≡ before +ℤ amount
@@ -315,23 +332,28 @@ module _ (stream : ℕ) (initial : Sides ℕ) (entry : Stream) (frame : Frame) (
 
   rest-counted : (before : ℤ) → counted (other one.side) stream initial (alone frame) before ≡ before
   rest-counted before =
-      unmoved before (grant_to (other one.side) stream frame) (content_by (other one.side) frame) (side_of (other one.side) initial)
+      unmoved before (grant_to (other one.side) stream frame) (content_by (other one.side) frame)
+      (side_of (other one.side) initial)
       m.other_grant m.other_content
 
   abbrev live_said : Side → Option ℤ → List Finding
   live_said d window =
-      say_of (λ before. live_window_said d stream (alone frame) (window_step d stream initial (alone frame) before)) window
+      say_of (λ before. live_window_said d stream (alone frame) (window_step d stream initial (alone frame) before))
+      window
 
   own-unshown : AreUnshown (live_said one.side (side_of one.side entry.window))
   own-unshown =
       subst (λ (window : Option ℤ). AreUnshown (live_said one.side window)) (sym q.credit.live)
-      (window-unshown one.side stream initial frame credit-before q.after own-counted (m.goes_on one.side) q.credit.raised.fits
-      (m.within credit-before (ap is_used_up (sym q.credit.raised.moved) ∙ q.credit.raised.left)) (q.credit.raised.some ∙ sym q.credit.raised.left))
+      (window-unshown one.side stream initial frame credit-before q.after own-counted
+      (m.goes_on one.side) q.credit.raised.fits
+      (m.within credit-before (ap is_used_up (sym q.credit.raised.moved) ∙ q.credit.raised.left))
+      (q.credit.raised.some ∙ sym q.credit.raised.left))
 
   rest-by : (window : Option ℤ) → AreUnshown (live_said (other one.side) window)
   rest-by None = tt
   rest-by (Some before) =
-      window-unshown (other one.side) stream initial frame before before (rest-counted before) (m.goes_on (other one.side))
+      window-unshown (other one.side) stream initial frame before before (rest-counted before)
+      (m.goes_on (other one.side))
       (none-rises before) (none-overrun before (content_by (other one.side) frame) m.other_content) refl
 
   side-unshown : (d : Side) → AreUnshown (stream_window_said d stream initial entry (alone frame))
@@ -341,7 +363,8 @@ module _ (stream : ℕ) (initial : Sides ℕ) (entry : Stream) (frame : Frame) (
 
   frame-unshown : AreUnshown (frame_said stream entry (alone frame) frame)
   frame-unshown =
-      three (say (is_not_opened stream entry.life frame) (stream_finding NotOpened stream (alone frame) frame.side (pos frame.code)))
+      three (say (is_not_opened stream entry.life frame)
+      (stream_finding NotOpened stream (alone frame) frame.side (pos frame.code)))
       (say (is_after_end entry.life frame) (stream_finding AfterEnd stream (alone frame) frame.side (pos frame.code)))
       (say (is_zero_grant frame.body && is_some entry.life.opened)
       (stream_finding ZeroStreamGrant stream (alone frame) frame.side (pos 0)))
@@ -352,15 +375,18 @@ module _ (stream : ℕ) (initial : Sides ℕ) (entry : Stream) (frame : Frame) (
   quiet-unshown =
       none-shown (in_order (stream_said stream initial entry (alone frame)))
       (each-in_order IsUnshown (stream_said stream initial entry (alone frame))
-      (three (frame_said stream entry (alone frame) frame) (stream_window_said Client stream initial entry (alone frame))
-      (stream_window_said Server stream initial entry (alone frame)) frame-unshown (side-unshown Client) (side-unshown Server)))
+      (three (frame_said stream entry (alone frame) frame)
+      (stream_window_said Client stream initial entry (alone frame))
+      (stream_window_said Server stream initial entry (alone frame)) frame-unshown (side-unshown Client)
+      (side-unshown Server)))
 
   -- ---- the stream after it
 
   own-after : window_after one.side stream initial (alone frame) (side_of one.side entry.window) ≡ side_of one.side next
   own-after =
       ap (window_after one.side stream initial (alone frame)) q.credit.live
-      ∙ lives-moved one.side stream initial frame credit-before q.after own-counted (m.goes_on one.side) q.credit.raised.fits ∙ sym q.own
+      ∙ lives-moved one.side stream initial frame credit-before q.after own-counted
+      (m.goes_on one.side) q.credit.raised.fits ∙ sym q.own
 
   rest-after_by : (window : Option ℤ) → window_after (other one.side) stream initial (alone frame) window ≡ window
   rest-after_by None = refl
@@ -370,7 +396,8 @@ module _ (stream : ℕ) (initial : Sides ℕ) (entry : Stream) (frame : Frame) (
 
   side-after : (d : Side) → window_after d stream initial (alone frame) (side_of d entry.window) ≡ side_of d next
   side-after =
-      each (λ d. window_after d stream initial (alone frame) (side_of d entry.window) ≡ side_of d next) one.side own-after
+      each (λ d. window_after d stream initial (alone frame) (side_of d entry.window) ≡ side_of d next) one.side
+      own-after
       (rest-after_by (side_of (other one.side) entry.window) ∙ sym q.rest)
 
   pub quiet-after : stream_after stream initial entry (alone frame) ≡ record { life = entry.life; window = next }
@@ -387,8 +414,10 @@ module _ (stream : ℕ) (initial : Sides ℕ) (entry : Stream) (frame : Frame) (
           let was = room one.side credit-before q.credit.live in
           let same : q.after ≡ x = some-one q.after x (sym q.own ∙ e) in
           let moved = q.credit.raised.moved in
-          let small = m.small in
-          (omega (arith, ints, was.0, was.1, small.0, small.1, moved, same), omega (arith, ints, was.0, was.1, small.0, small.1, moved, same))
+          let small = m.small in (
+            omega (arith, ints, was.0, was.1, small.0, small.1, moved, same),
+            omega (arith, ints, was.0, was.1, small.0, small.1, moved, same),
+          )
 
       rest-room : (x : ℤ) → side_of (other one.side) next ≡ Some x → HasRoom (frame.number * 2 ^ 32 + 2 ^ 32) x
       rest-room x e =
@@ -396,7 +425,8 @@ module _ (stream : ℕ) (initial : Sides ℕ) (entry : Stream) (frame : Frame) (
           (omega (arith, ints, was.0), omega (arith, ints, was.1))
 
       side-room : (d : Side) → WindowHasRoom (frame.number * 2 ^ 32 + 2 ^ 32) (side_of d next)
-      side-room = each (λ d. WindowHasRoom (frame.number * 2 ^ 32 + 2 ^ 32) (side_of d next)) one.side own-room rest-room
+      side-room = each (λ d. WindowHasRoom (frame.number * 2 ^ 32 + 2 ^ 32) (side_of d next)) one.side own-room
+          rest-room
 
 -- ---- the walk that moves the window has counted the frame
 
@@ -414,7 +444,8 @@ quiet-counted old frame change one next hidden none m q =
     (record {
       stream = refl;
       credits_shown = refl;
-      found = rw (hidden, quiet-unshown old.stream old.initial old.entry frame one next m q) (sym (append-nil old.found.items));
+      found = rw (hidden, quiet-unshown old.stream old.initial old.entry frame one next m q)
+          (sym (append-nil old.found.items));
       entry = sym (quiet-after old.stream old.initial old.entry frame one next m q);
       initial = refl;
       watch = refl;

@@ -1,5 +1,7 @@
 -- A stream of which nothing is shown, from one of its frames to the next.
-use Rattle.std.proofs.Common.{◌≡◌, ℕ, zero, suc, ℤ, pos, ◌+◌, ◌-◌, ◌^◌, ◌<◌, ◌≤◌, Bool, true, false, ◌||◌, ◌==◌, nat_lt, if◌then◌else◌, List, [], ◌∷◌, ◌++◌, map, take, drop, length, slice_get, slice_index_or, Option, Some, None, is_some, option_map, refl, sym, ap, ◌∙◌, subst, arith}
+use Rattle.std.proofs.Common.{◌≡◌, ℕ, zero, suc, ℤ, pos, ◌+◌, ◌-◌, ◌^◌, ◌<◌, ◌≤◌, Bool, true, false, ◌||◌, ◌==◌, nat_lt}
+use Rattle.std.proofs.Common.{if◌then◌else◌, List, [], ◌∷◌, ◌++◌, map, take, drop, length, slice_get, slice_index_or}
+use Rattle.std.proofs.Common.{Option, Some, None, is_some, option_map, refl, sym, ap, ◌∙◌, subst, arith}
 use Rattle.std.specs.Bool.{OnTrue}
 use Rattle.std.proofs.lemmas.Bool.Decides.{nat_tests}
 use Rattle.std.proofs.lemmas.List.{append-nil, drop-drop, take_all}
@@ -17,20 +19,23 @@ use Rattle.audit_terms.specs.declared.findings.Finding.{Finding}
 use Rattle.audit_terms.specs.InForce.{initial_in_force}
 use Rattle.audit_terms.specs.Finding.{in_order, is_shown, shown}
 use Rattle.audit_terms.specs.Stream.{idle_stream, stream_said, stream_after}
-use Rattle.audit_terms.specs.runs.Orderly.{IsOrderlyFrom, IsOrderly}
-use Rattle.audit_terms.specs.runs.Streams.{frame_step, change_step, initial_after, stream_run, stream_run_from, stream_at_end, stream_after_all}
+use Rattle.audit_terms.specs.code.runs.Orderly.{IsOrderlyFrom, IsOrderly}
+use Rattle.audit_terms.specs.code.runs.Streams.{frame_step, change_step, initial_after, stream_run, stream_run_from}
+use Rattle.audit_terms.specs.code.runs.Streams.{stream_at_end, stream_after_all}
 use Rattle.audit_terms.proofs.FindingLists.{each-in_order}
-use Rattle.settings_pair.specs.Changes.{AreOrderlyFrom, AreOrderly, AreAcknowledged}
+use Rattle.settings_pair.specs.code.Changes.{AreOrderlyFrom, AreOrderly, AreAcknowledged}
 use Rattle.stream_credit.specs.declared.quiet_streams.QuietStream.{QuietStream}
-use Rattle.stream_credit.specs.Looks.{is_live}
+use Rattle.stream_credit.specs.code.Looks.{is_live}
 use Rattle.stream_credit.specs.code.Left.{after_changes, after_each, passed, left_from}
 use Rattle.stream_credit.specs.code.Merged.{merged, Acknowledge}
-use Rattle.stream_credit.specs.code.QuietStream.{window_of, opened_of, stream_of, initial_at, IsMovedBy, IsPassed, IsNext, AreFrom, StartsAt, IsAhead, IsAheadIfQuiet, ShowsNothing}
+use Rattle.stream_credit.specs.code.QuietStream.{window_of, opened_of, stream_of, initial_at, IsMovedBy, IsPassed}
+use Rattle.stream_credit.specs.code.QuietStream.{IsNext, AreFrom, StartsAt, IsAhead, IsAheadIfQuiet, ShowsNothing}
 use Rattle.stream_credit.specs.declared.quiet.Move.{Move}
 use Rattle.stream_credit.specs.code.Quiet.{IsMove, IsRaised, IsQuiet}
 use Rattle.stream_credit.specs.code.Silent.{moved, IsSilent}
 use Rattle.stream_credit.proofs.QuietLemmas.{quiet-unshown, quiet-after}
-use Rattle.stream_credit.proofs.MergedLemmas.{steps_of-merged, acknowledge-all, merged_at-first, merged_at-passed, below_test, below_from_test, unequal_test}
+use Rattle.stream_credit.proofs.MergedLemmas.{steps_of-merged, acknowledge-all, merged_at-first, merged_at-passed}
+use Rattle.stream_credit.proofs.MergedLemmas.{below_test, below_from_test, unequal_test}
 use Rattle.stream_credit.proofs.SilentLemmas.{IsUnshown, AreUnshown, none-shown, silent-unshown, silent-after, moved_to}
 use Rattle.stream_credit.proofs.WalkLemmas.{gone, gone-by, run-passes, entry-passes}
 
@@ -56,7 +61,8 @@ ahead-idle stream changes all s o k a = λ _. record {
   orderly = o;
   rise = k;
   acknowledged = acknowledge-all all changes a;
-  shown = ap (λ steps. shown false (stream_run_from stream initial_in_force.initial idle_stream steps)) (steps_of-merged 0 all changes k);
+  shown = ap (λ steps. shown false (stream_run_from stream initial_in_force.initial idle_stream steps))
+      (steps_of-merged 0 all changes k);
   end = ap (stream_after_all stream initial_in_force.initial idle_stream) (steps_of-merged 0 all changes k);
 }
 
@@ -76,16 +82,20 @@ drop-none (suc met) [] e = refl
 drop-none zero (one ∷ changes) e = absurd (none-some one (sym e))
 drop-none (suc met) (one ∷ changes) e = drop-none met changes e
 
-pub initial-next : (now : Sides ℕ) (met : ℕ) (changes : List Change) (change : Change) → slice_get changes met ≡ Some change
+pub initial-next : (now : Sides ℕ) (met : ℕ) (changes : List Change) (change : Change)
+    → slice_get changes met ≡ Some change
     → after_changes now (take (met + 1) changes) ≡ initial_after (Some change) (after_changes now (take met changes))
 initial-next now met [] change e = absurd (none-some change e)
-initial-next now zero (one ∷ changes) change e = ap (λ (c : Change). initial_after (Some c) now) (same_Some one change e)
+initial-next now zero (one ∷ changes) change e = ap (λ (c : Change). initial_after (Some c) now)
+    (same_Some one change e)
 initial-next now (suc met) (one ∷ changes) change e =
     let on : suc met + 1 ≡ suc (met + 1) = omega arith in
-    ap (λ n. after_changes now (take n (one ∷ changes))) on ∙ initial-next (initial_after (Some one) now) met changes change e
+    ap (λ n. after_changes now (take n (one ∷ changes))) on
+    ∙ initial-next (initial_after (Some one) now) met changes change e
 
 pub initial-more : (now : Sides ℕ) (met more : ℕ) (changes : List Change)
-    → after_changes now (take (met + more) changes) ≡ after_changes (after_changes now (take met changes)) (take more (drop met changes))
+    → after_changes now (take (met + more) changes) ≡ after_changes (after_changes now (take met changes))
+    (take more (drop met changes))
 initial-more now zero more changes =
     let on : zero + more ≡ more = omega arith in ap (λ n. after_changes now (take n changes)) on
 initial-more now (suc met) more [] =
@@ -100,9 +110,11 @@ initial-more now (suc met) more [] =
     initial-none cs e = rw e refl
 initial-more now (suc met) more (one ∷ changes) =
     let on : suc met + more ≡ suc (met + more) = omega arith in
-    ap (λ n. after_changes now (take n (one ∷ changes))) on ∙ initial-more (initial_after (Some one) now) met more changes
+    ap (λ n. after_changes now (take n (one ∷ changes))) on
+    ∙ initial-more (initial_after (Some one) now) met more changes
 
-take-passed : (number : ℕ) (changes : List Change) → take (length (passed number changes)) changes ≡ passed number changes
+take-passed : (number : ℕ) (changes : List Change) → take (length (passed number changes)) changes
+    ≡ passed number changes
 take-passed number [] = refl
 take-passed number (change ∷ changes) = by_test (nat_lt change.number number) (take-passed number changes) where
   by_test : (below : Bool) → take (length (passed number changes)) changes ≡ passed number changes
@@ -111,7 +123,8 @@ take-passed number (change ∷ changes) = by_test (nat_lt change.number number) 
   by_test true h = ap (λ cs. change ∷ cs) h
   by_test false h = refl
 
-drop-passed : (number : ℕ) (changes : List Change) → drop (length (passed number changes)) changes ≡ left_from number changes
+drop-passed : (number : ℕ) (changes : List Change) → drop (length (passed number changes)) changes
+    ≡ left_from number changes
 drop-passed number [] = refl
 drop-passed number (change ∷ changes) = by_test (nat_lt change.number number) (drop-passed number changes) where
   by_test : (below : Bool) → drop (length (passed number changes)) changes ≡ left_from number changes
@@ -131,7 +144,8 @@ length-passed number (change ∷ changes) = by_test (nat_lt change.number number
 drop-more : (met more : ℕ) (changes : List Change) → drop (met + more) changes ≡ drop more (drop met changes)
 drop-more met more changes = sym (drop-drop more met changes)
 
-pub length-drop_le : (met : ℕ) (changes : List Change) → met ≤ length changes → met + length (drop met changes) ≡ length changes
+pub length-drop_le : (met : ℕ) (changes : List Change) → met ≤ length changes
+    → met + length (drop met changes) ≡ length changes
 length-drop_le zero changes h = omega arith
 length-drop_le (suc met) [] h = absurd (omega (arith, h))
 length-drop_le (suc met) (change ∷ changes) h =
@@ -168,40 +182,48 @@ initial-is zero changes all windows now d some h w v e = absurd (some refl)
 initial-is (suc met) changes all windows now d some h w v e =
     let less : suc met - 1 ≡ met = omega arith in
     let more : met + 1 ≡ suc met = omega arith in
-    e ∙ ap (λ n. slice_index_or windows n d) less ∙ ap (λ l. slice_index_or l met d) w ∙ ap (λ cs. slice_index_or (after_each initial_in_force.initial cs) met d) v
+    e ∙ ap (λ n. slice_index_or windows n d) less ∙ ap (λ l. slice_index_or l met d) w
+    ∙ ap (λ cs. slice_index_or (after_each initial_in_force.initial cs) met d) v
     ∙ at-each initial_in_force.initial all met d (omega (arith, h)) ∙ ap (λ n. initial_at n all) more
 
 -- ---- changes in order
 
-lower : (low least : ℕ) (changes : List Change) → least ≤ low → AreOrderlyFrom low changes → AreOrderlyFrom least changes
+lower : (low least : ℕ) (changes : List Change) → least ≤ low → AreOrderlyFrom low changes
+    → AreOrderlyFrom least changes
 lower low least [] h k = tt
 lower low least (change ∷ changes) h k = (omega (arith, h, k.0), k.1, k.2)
 
-pub orderly-drop : (low met : ℕ) (changes : List Change) → AreOrderlyFrom low changes → AreOrderlyFrom low (drop met changes)
+pub orderly-drop : (low met : ℕ) (changes : List Change) → AreOrderlyFrom low changes
+    → AreOrderlyFrom low (drop met changes)
 orderly-drop low zero changes h = h
 orderly-drop low (suc met) [] h = tt
 orderly-drop low (suc met) (change ∷ changes) h =
-    lower (change.number + 1) low (drop met changes) (omega (arith, h.0)) (orderly-drop (change.number + 1) met changes h.2)
+    lower (change.number + 1) low (drop met changes) (omega (arith, h.0))
+    (orderly-drop (change.number + 1) met changes h.2)
 
 orderly-from : (low number : ℕ) (changes : List Change) → AreOrderlyFrom low changes → AreFrom number changes
     → AreOrderlyFrom number changes
 orderly-from low number [] h f = tt
 orderly-from low number (change ∷ changes) h f = (f, h.1, h.2)
 
-few : (low : ℕ) (changes : List Change) → low ≤ 2 ^ 28 - 1 → AreOrderlyFrom low changes → low + length changes ≤ 2 ^ 28 - 1
+few : (low : ℕ) (changes : List Change) → low ≤ 2 ^ 28 - 1 → AreOrderlyFrom low changes
+    → low + length changes ≤ 2 ^ 28 - 1
 few low [] b h = omega (arith, b)
 few low (change ∷ changes) b h =
-    let more : change.number + 1 + length changes ≤ 2 ^ 28 - 1 = few (change.number + 1) changes (omega (arith, h.1)) h.2 in
+    let more : change.number + 1 + length changes ≤ 2 ^ 28 - 1 = few (change.number + 1) changes
+    (omega (arith, h.1)) h.2 in
     omega (arith, more, h.0)
 
 pub few-changes : (changes : List Change) → AreOrderly changes → length changes < 2 ^ 28
 few-changes changes h = let all : 0 + length changes ≤ 2 ^ 28 - 1 = few 0 changes (omega arith) h in omega (arith, all)
 
-pub none-left : (low : ℕ) (changes : List Change) → AreOrderlyFrom low changes → AreFrom (2 ^ 32 - 1) changes → changes ≡ []
+pub none-left : (low : ℕ) (changes : List Change) → AreOrderlyFrom low changes → AreFrom (2 ^ 32 - 1) changes
+    → changes ≡ []
 none-left low [] h f = refl
 none-left low (change ∷ changes) h f = absurd (omega (arith, h.1, f))
 
-orderly-lower : (low least : ℕ) (frames : List Frame) → least ≤ low → IsOrderlyFrom low frames → IsOrderlyFrom least frames
+orderly-lower : (low least : ℕ) (frames : List Frame) → least ≤ low → IsOrderlyFrom low frames
+    → IsOrderlyFrom least frames
 orderly-lower low least [] h o = tt
 orderly-lower low least (frame ∷ frames) h o = (omega (arith, h, o.0), o.1, o.2)
 
@@ -210,7 +232,8 @@ orderly-lower low least (frame ∷ frames) h o = (omega (arith, h, o.0), o.1, o.
 run-next : (stream : ℕ) (initial : Sides ℕ) (entry : Stream) (step : Step) (steps : List Step)
     → shown false (in_order (stream_said stream initial entry step)) ≡ []
     → shown false (stream_run_from stream initial entry (step ∷ steps))
-    ≡ shown false (stream_run_from stream (initial_after step.change initial) (stream_after stream initial entry step) steps)
+    ≡ shown false (stream_run_from stream (initial_after step.change initial) (stream_after stream initial entry step)
+    steps)
 run-next stream initial entry step steps h =
     filter-append (is_shown false) (in_order (stream_said stream initial entry step))
     (stream_run_from stream (initial_after step.change initial) (stream_after stream initial entry step) steps)
@@ -258,10 +281,13 @@ module _ (stream : ℕ) (initial after : Sides ℕ) (change : Change) (old new :
   change-after : stream_of new ≡ stream_after stream initial (stream_of old) (change_step change)
   change-after =
       rw (p.opened, p.ended, client-moved, server-moved)
-      (sym (silent-after stream initial (stream_of old) change.number (Some change) (window_of old.client) (window_of old.server) refl))
+      (sym (silent-after stream initial (stream_of old) change.number (Some change) (window_of old.client)
+      (window_of old.server) refl))
 
-pub ahead-change : (stream number : ℕ) (changes : List Change) (all rest : List Frame) (old new : QuietStream) (change : Change)
-    (after : Sides ℕ) → IsAhead stream changes all rest old → StartsAt number rest → slice_get changes old.met ≡ Some change
+pub ahead-change : (stream number : ℕ) (changes : List Change) (all rest : List Frame) (old new : QuietStream)
+    (change : Change)
+    (after : Sides ℕ) → IsAhead stream changes all rest old → StartsAt number rest
+    → slice_get changes old.met ≡ Some change
     → change.number < number → after ≡ initial_after (Some change) (initial_at old.met changes)
     → IsPassed (initial_at old.met changes) after old new → IsAhead stream changes all rest new
 ahead-change stream number changes all rest old new change after h s e below a p =
@@ -285,14 +311,16 @@ ahead-change stream number changes all rest old new change after h s e below a p
           ∙ run-next stream initial (stream_of old) (change_step change) (merged rest (drop (old.met + 1) changes))
           (change-said stream initial after change old new a p)
           ∙ ap (λ (now : Sides ℕ). shown false (stream_run_from stream now
-          (stream_after stream initial (stream_of old) (change_step change)) (merged rest (drop (old.met + 1) changes)))) windows
+          (stream_after stream initial (stream_of old) (change_step change))
+          (merged rest (drop (old.met + 1) changes)))) windows
           ∙ ap (λ (now : Stream). shown false (stream_run_from stream (initial_at new.met changes) now
           (merged rest (drop (old.met + 1) changes)))) (sym entry)
           ∙ ap (λ n. shown false (stream_run_from stream (initial_at new.met changes) (stream_of new)
           (merged rest (drop n changes)))) (sym p.met);
       end = h.end ∙ ap (stream_after_all stream initial (stream_of old)) steps
           ∙ ap (λ (now : Sides ℕ). stream_after_all stream now
-          (stream_after stream initial (stream_of old) (change_step change)) (merged rest (drop (old.met + 1) changes))) windows
+          (stream_after stream initial (stream_of old) (change_step change)) (merged rest (drop (old.met + 1) changes)))
+          windows
           ∙ ap (λ (now : Stream). stream_after_all stream (initial_at new.met changes) now
           (merged rest (drop (old.met + 1) changes))) (sym entry)
           ∙ ap (λ n. stream_after_all stream (initial_at new.met changes) (stream_of new)
@@ -302,7 +330,8 @@ ahead-change stream number changes all rest old new change after h s e below a p
     next-within : (met : ℕ) (cs : List Change) (c : Change) → slice_get cs met ≡ Some c → met + 1 ≤ length cs
     next-within met [] c e = absurd (none-some c e)
     next-within zero (one ∷ cs) c e = omega arith
-    next-within (suc met) (one ∷ cs) c e = let more : met + 1 ≤ length cs = next-within met cs c e in omega (arith, more)
+    next-within (suc met) (one ∷ cs) c e = let more : met + 1 ≤ length cs = next-within met cs c e in omega
+        (arith, more)
 
 -- ---- changes that find no live window
 
@@ -310,12 +339,15 @@ ahead-change stream number changes all rest old new change after h s e below a p
 merged-passed : (number : ℕ) (rest : List Frame) (changes : List Change) → StartsAt number rest
     → merged rest changes ≡ map change_step (passed number changes) ++ merged rest (left_from number changes)
 merged-passed number [] changes h = all changes where
-  all : (cs : List Change) → map change_step cs ≡ map change_step (passed number cs) ++ map change_step (left_from number cs)
+  all : (cs : List Change) → map change_step cs ≡ map change_step (passed number cs) ++ map change_step
+      (left_from number cs)
   all [] = refl
   all (c ∷ cs) = by_test (nat_lt c.number number) (all cs) where
-    by_test : (below : Bool) → map change_step cs ≡ map change_step (passed number cs) ++ map change_step (left_from number cs)
+    by_test : (below : Bool) → map change_step cs ≡ map change_step (passed number cs) ++ map change_step
+        (left_from number cs)
         → map change_step (c ∷ cs)
-        ≡ map change_step (if below then c ∷ passed number cs else []) ++ map change_step (if below then left_from number cs else c ∷ cs)
+        ≡ map change_step (if below then c ∷ passed number cs else []) ++ map change_step
+        (if below then left_from number cs else c ∷ cs)
     by_test true k = ap (λ l. change_step c ∷ l) k
     by_test false k = refl
 merged-passed number (frame ∷ frames) changes h =
@@ -325,7 +357,8 @@ merged-passed number (frame ∷ frames) changes h =
 
 pub ahead-passed : (stream number : ℕ) (changes : List Change) (all rest : List Frame) (old : QuietStream) (met : ℕ)
     → IsAhead stream changes all rest old → StartsAt number rest → is_live (stream_of old) ≡ false
-    → met ≡ old.met + length (passed number (drop old.met changes)) → IsAhead stream changes all rest (record old { met = met })
+    → met ≡ old.met + length (passed number (drop old.met changes))
+    → IsAhead stream changes all rest (record old { met = met })
 ahead-passed stream number changes all rest old met h s dead m =
     let initial = initial_at old.met changes in
     let left = drop old.met changes in
@@ -355,23 +388,28 @@ ahead-passed stream number changes all rest old met h s dead m =
           ∙ ap (shown false) (run-passes stream initial life (passed number left) (merged rest (left_from number left)))
           ∙ ap (λ (now : Stream). shown false (stream_run_from stream (after_changes initial (passed number left)) now
           (merged rest (left_from number left)))) (sym gone_by)
-          ∙ ap (λ (now : Sides ℕ). shown false (stream_run_from stream now (stream_of old) (merged rest (left_from number left)))) windows
-          ∙ ap (λ (cs : List Change). shown false (stream_run_from stream (initial_at met changes) (stream_of old) (merged rest cs))) later;
+          ∙ ap (λ (now : Sides ℕ). shown false
+          (stream_run_from stream now (stream_of old) (merged rest (left_from number left)))) windows
+          ∙ ap (λ (cs : List Change). shown false
+          (stream_run_from stream (initial_at met changes) (stream_of old) (merged rest cs))) later;
       end = h.end ∙ ap (stream_after_all stream initial (stream_of old)) steps
           ∙ ap (λ (now : Stream). stream_after_all stream initial now
           (map change_step (passed number left) ++ merged rest (left_from number left))) gone_by
           ∙ entry-passes stream initial life (passed number left) (merged rest (left_from number left))
           ∙ ap (λ (now : Stream). stream_after_all stream (after_changes initial (passed number left)) now
           (merged rest (left_from number left))) (sym gone_by)
-          ∙ ap (λ (now : Sides ℕ). stream_after_all stream now (stream_of old) (merged rest (left_from number left))) windows
-          ∙ ap (λ (cs : List Change). stream_after_all stream (initial_at met changes) (stream_of old) (merged rest cs)) later;
+          ∙ ap (λ (now : Sides ℕ). stream_after_all stream now (stream_of old) (merged rest (left_from number left)))
+          windows
+          ∙ ap (λ (cs : List Change). stream_after_all stream (initial_at met changes) (stream_of old)
+          (merged rest cs)) later;
     }
 
 pub from-passed : (number met : ℕ) (changes : List Change) (more : ℕ)
     → more ≡ met + length (passed number (drop met changes)) → AreFrom number (drop more changes)
 from-passed number met changes more m =
     subst (AreFrom number)
-    (sym (drop-passed number (drop met changes)) ∙ sym (drop-more met (length (passed number (drop met changes))) changes)
+    (sym (drop-passed number (drop met changes))
+    ∙ sym (drop-more met (length (passed number (drop met changes))) changes)
     ∙ ap (λ n. drop n changes) (sym m))
     (left-from number (drop met changes))
 
@@ -397,10 +435,12 @@ ahead-frame stream changes all rest frame old new h f n =
       shown = h.shown ∙ ap (λ l. shown false (stream_run_from stream initial (stream_of old) l)) steps
           ∙ run-next stream initial (stream_of old) (frame_step frame) (merged rest left) n.shown
           ∙ ap (λ (now : Stream). shown false (stream_run_from stream initial now (merged rest left))) (sym n.after)
-          ∙ ap (λ m. shown false (stream_run_from stream (initial_at m changes) (stream_of new) (merged rest (drop m changes)))) (sym n.met);
+          ∙ ap (λ m. shown false
+          (stream_run_from stream (initial_at m changes) (stream_of new) (merged rest (drop m changes)))) (sym n.met);
       end = h.end ∙ ap (stream_after_all stream initial (stream_of old)) steps
           ∙ ap (λ (now : Stream). stream_after_all stream initial now (merged rest left)) (sym n.after)
-          ∙ ap (λ m. stream_after_all stream (initial_at m changes) (stream_of new) (merged rest (drop m changes))) (sym n.met);
+          ∙ ap (λ m. stream_after_all stream (initial_at m changes) (stream_of new) (merged rest (drop m changes)))
+          (sym n.met);
     }
 
 -- ---- the end
@@ -409,12 +449,15 @@ pub shows-nothing : (stream : ℕ) (changes : List Change) (all : List Frame) (q
     → IsAhead stream changes all [] quiet → AreFrom (2 ^ 32 - 1) (drop quiet.met changes)
     → ShowsNothing stream changes all quiet.opened
 shows-nothing stream changes all quiet h f =
-    let over : drop quiet.met changes ≡ [] = none-left 0 (drop quiet.met changes) (orderly-drop 0 quiet.met changes h.rise) f in
+    let over : drop quiet.met changes ≡ [] = none-left 0 (drop quiet.met changes)
+    (orderly-drop 0 quiet.met changes h.rise) f in
     record {
       shown = h.shown
-          ∙ ap (λ (cs : List Change). shown false (stream_run_from stream (initial_at quiet.met changes) (stream_of quiet) (merged [] cs))) over;
+          ∙ ap (λ (cs : List Change). shown false
+          (stream_run_from stream (initial_at quiet.met changes) (stream_of quiet) (merged [] cs))) over;
       end = ap (λ (entry : Stream). entry.life.opened) (h.end
-          ∙ ap (λ (cs : List Change). stream_after_all stream (initial_at quiet.met changes) (stream_of quiet) (merged [] cs)) over);
+          ∙ ap (λ (cs : List Change). stream_after_all stream (initial_at quiet.met changes) (stream_of quiet)
+          (merged [] cs)) over);
     }
 
 -- ---- a frame that moves one window
@@ -484,7 +527,8 @@ same-move one side e = ap (λ s. move_by s one.amount) e
 
 pub next-client : (stream : ℕ) (frame : Frame) (old : QuietStream) (life : StreamLife) (one : Move) (credit : ℕ)
     → life ≡ (stream_of old).life → IsMove stream life frame one → one.side ≡ Client
-    → IsRaised (pos old.client) one.amount (pos credit) → 0 < old.client → 0 < credit → credit < 2 ^ 31 → old.server < 2 ^ 31
+    → IsRaised (pos old.client) one.amount (pos credit) → 0 < old.client → 0 < credit → credit < 2 ^ 31
+    → old.server < 2 ^ 31
     → (initial : Sides ℕ) → IsNext stream initial frame old (record old { client = credit })
 next-client stream frame old life one credit l m e r was some within other initial =
     client-next stream initial frame old one.amount credit
@@ -493,7 +537,8 @@ next-client stream frame old life one credit l m e r was some within other initi
 
 pub next-server : (stream : ℕ) (frame : Frame) (old : QuietStream) (life : StreamLife) (one : Move) (credit : ℕ)
     → life ≡ (stream_of old).life → IsMove stream life frame one → one.side ≡ Server
-    → IsRaised (pos old.server) one.amount (pos credit) → 0 < old.server → 0 < credit → credit < 2 ^ 31 → old.client < 2 ^ 31
+    → IsRaised (pos old.server) one.amount (pos credit) → 0 < old.server → 0 < credit → credit < 2 ^ 31
+    → old.client < 2 ^ 31
     → (initial : Sides ℕ) → IsNext stream initial frame old (record old { server = credit })
 next-server stream frame old life one credit l m e r was some within other initial =
     server-next stream initial frame old one.amount credit
@@ -502,7 +547,8 @@ next-server stream frame old life one credit l m e r was some within other initi
 
 -- ---- the tails of calls
 
-pub frame-tail : (stream : ℕ) (changes : List Change) (all rest : List Frame) (frame : Frame) (old mid new : QuietStream)
+pub frame-tail : (stream : ℕ) (changes : List Change) (all rest : List Frame) (frame : Frame)
+    (old mid new : QuietStream)
     (initial : Sides ℕ) → mid ≡ old → initial ≡ initial_at mid.met changes
     → AreFrom (frame.number + 1) (drop old.met changes) → IsNext stream initial frame mid new
     → IsAhead stream changes all (frame ∷ rest) old → IsAhead stream changes all rest new
@@ -521,7 +567,8 @@ finish-tail true stream changes old new a f all h = shows-nothing stream changes
 finish-tail false stream changes old new a f all h = tt
 
 pub step-tail : (b : Bool) (stream : ℕ) (initial : Sides ℕ) (frame : Frame) (old new : QuietStream) (entry : Stream)
-    (found : List Finding) → OnTrue b (stream_of new ≡ entry) → OnTrue b (new.met ≡ old.met) → OnTrue b (new.client < 2 ^ 31)
+    (found : List Finding) → OnTrue b (stream_of new ≡ entry) → OnTrue b (new.met ≡ old.met)
+    → OnTrue b (new.client < 2 ^ 31)
     → OnTrue b (new.server < 2 ^ 31) → found ≡ stream_said stream initial (stream_of old) (frame_step frame)
     → entry ≡ stream_after stream initial (stream_of old) (frame_step frame) → shown false found ≡ []
     → OnTrue b (IsNext stream initial frame old new)

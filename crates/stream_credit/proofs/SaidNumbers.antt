@@ -7,9 +7,9 @@ use Rattle.audit_terms.specs.declared.streams.Stream.{Stream}
 use Rattle.audit_terms.specs.declared.findings.Finding.{Finding}
 use Rattle.audit_terms.specs.Place.{place_number}
 use Rattle.audit_terms.specs.Finding.{in_order, is_shown, shown}
-use Rattle.audit_terms.specs.runs.Look.{found_before}
+use Rattle.audit_terms.specs.code.runs.Look.{found_before}
 use Rattle.audit_terms.specs.Stream.{stream_said, stream_after}
-use Rattle.audit_terms.specs.runs.Streams.{initial_after, stream_run_from}
+use Rattle.audit_terms.specs.code.runs.Streams.{initial_after, stream_run_from}
 use Rattle.audit_terms.proofs.FindingLists.{each-append, each-filter, each-in_order, each-weaker}
 use Rattle.audit_terms.proofs.SaidPlaces.{at-stream, before-front, numbered-at}
 use Rattle.stream_credit.specs.code.Walk.{numbers_of}
@@ -18,15 +18,18 @@ use Rattle.stream_credit.specs.code.Walk.{numbers_of}
 abbrev pub AreNumbered : (ℕ → Type 0) → List Finding → Type 0
 AreNumbered P found = AllByRecursion (λ (one : Finding). P (place_number one.place)) found
 
-pub numbered-append : (P : ℕ → Type 0) (xs ys : List Finding) → AreNumbered P xs → AreNumbered P ys → AreNumbered P (xs ++ ys)
+pub numbered-append : (P : ℕ → Type 0) (xs ys : List Finding) → AreNumbered P xs → AreNumbered P ys
+    → AreNumbered P (xs ++ ys)
 numbered-append P xs ys p q = each-append (λ (one : Finding). P (place_number one.place)) xs ys p q
 
-pub numbered-more : (P Q : ℕ → Type 0) → ((n : ℕ) → P n → Q n) → (xs : List Finding) → AreNumbered P xs → AreNumbered Q xs
+pub numbered-more : (P Q : ℕ → Type 0) → ((n : ℕ) → P n → Q n) → (xs : List Finding) → AreNumbered P xs
+    → AreNumbered Q xs
 numbered-more P Q f xs h =
     each-weaker (λ (one : Finding). P (place_number one.place)) (λ (one : Finding). Q (place_number one.place))
     (λ one. f (place_number one.place)) xs h
 
-pub numbered-filter : (P : ℕ → Type 0) (test : Finding → Bool) (xs : List Finding) → AreNumbered P xs → AreNumbered P (filter test xs)
+pub numbered-filter : (P : ℕ → Type 0) (test : Finding → Bool) (xs : List Finding) → AreNumbered P xs
+    → AreNumbered P (filter test xs)
 numbered-filter P test xs h = each-filter (λ (one : Finding). P (place_number one.place)) test xs h
 
 pub said-numbered : (stream : ℕ) (initial : Sides ℕ) (entry : Stream) (step : Step) → stream < 2 ^ 31
@@ -38,7 +41,8 @@ said-numbered stream initial entry step h P p =
 
 -- ---- all steps
 
-pub run-numbered : (P : ℕ → Type 0) (stream : ℕ) (initial : Sides ℕ) (entry : Stream) (steps : List Step) → stream < 2 ^ 31
+pub run-numbered : (P : ℕ → Type 0) (stream : ℕ) (initial : Sides ℕ) (entry : Stream) (steps : List Step)
+    → stream < 2 ^ 31
     → AllByRecursion P (numbers_of steps) → AreNumbered P (stream_run_from stream initial entry steps)
 run-numbered P stream initial entry [] h all = tt
 run-numbered P stream initial entry (step ∷ steps) h all =

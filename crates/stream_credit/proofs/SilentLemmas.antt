@@ -1,5 +1,6 @@
 -- A change that shows nothing of a stream where credits are not shown.
-use Rattle.std.proofs.Common.{◌≡◌, ℕ, ℤ, pos, ◌+ℤ◌, ◌-ℤ◌, Bool, true, false, ◌&&◌, not, List, [], ◌∷◌, ◌++◌, Option, Some, None, is_some, option_map, refl, sym, ap, ◌∙◌, subst, arith}
+use Rattle.std.proofs.Common.{◌≡◌, ℕ, ℤ, pos, ◌+ℤ◌, ◌-ℤ◌, Bool, true, false, ◌&&◌, not, List, [], ◌∷◌, ◌++◌, Option}
+use Rattle.std.proofs.Common.{Some, None, is_some, option_map, refl, sym, ap, ◌∙◌, subst, arith}
 use Rattle.std.specs.List.{AllByRecursion}
 use Rattle.std.proofs.lemmas.Int.{ints}
 use Rattle.std.proofs.lemmas.List.{append-nil}
@@ -13,12 +14,13 @@ use Rattle.audit_terms.specs.declared.findings.Finding.{Finding}
 use Rattle.audit_terms.specs.Sides.{side_of}
 use Rattle.audit_terms.specs.Change.{new_initial}
 use Rattle.std.specs.Ordering.{int_eq}
-use Rattle.audit_terms.specs.declared.kinds.Kind.TheVariants.{SettingOverflow, StreamOverrun, StreamOverflow, StreamStallEnd, StreamStallBegin, StreamCredit}
+use Rattle.audit_terms.specs.declared.kinds.Kind.TheVariants.{SettingOverflow, StreamOverrun, StreamOverflow}
+use Rattle.audit_terms.specs.declared.kinds.Kind.TheVariants.{StreamStallEnd, StreamStallBegin, StreamCredit}
 use Rattle.audit_terms.specs.Window.{is_used_up, overflows, overruns}
 use Rattle.audit_terms.specs.Finding.{say, say_of, in_order, is_shown, shown}
 use Rattle.audit_terms.specs.Stream.{stream_finding, window_step, live_window_said, stream_said, stream_after}
 use Rattle.audit_terms.specs.code.StreamSteps.{counted}
-use Rattle.audit_terms.specs.runs.Streams.{initial_after}
+use Rattle.audit_terms.specs.code.runs.Streams.{initial_after}
 use Rattle.audit_terms.proofs.FindingLists.{each-append, each-in_order}
 use Rattle.audit_terms.specs.declared.frames.Frame.{Frame}
 use Rattle.stream_credit.specs.declared.walks.Walk.{Walk}
@@ -36,10 +38,12 @@ AreUnshown found = AllByRecursion IsUnshown found
 pub both : (xs ys : List Finding) → AreUnshown xs → AreUnshown ys → AreUnshown (xs ++ ys)
 both xs ys p q = each-append IsUnshown xs ys p q
 
-pub parts : (a b c d e f : List Finding) → AreUnshown a → AreUnshown b → AreUnshown c → AreUnshown d → AreUnshown e → AreUnshown f
+pub parts : (a b c d e f : List Finding) → AreUnshown a → AreUnshown b → AreUnshown c → AreUnshown d → AreUnshown e
+    → AreUnshown f
     → AreUnshown (((((a ++ b) ++ c) ++ d) ++ e) ++ f)
 parts a b c d e f pa pb pc pd pe pf =
-    both ((((a ++ b) ++ c) ++ d) ++ e) f (both (((a ++ b) ++ c) ++ d) e (both ((a ++ b) ++ c) d (both (a ++ b) c (both a b pa pb) pc) pd) pe) pf
+    both ((((a ++ b) ++ c) ++ d) ++ e) f
+    (both (((a ++ b) ++ c) ++ d) e (both ((a ++ b) ++ c) d (both (a ++ b) c (both a b pa pb) pc) pd) pe) pf
 
 pub unsaid : (holds : Bool) (found : Finding) → holds ≡ false → AreUnshown (say holds found)
 unsaid true found h = cc
@@ -61,7 +65,8 @@ change_alone number change = record { number = number; frame = None; change = ch
 abbrev pub moved_to : Side → Sides ℕ → Option Change → ℤ → ℤ
 moved_to d initial change credit = moved (side_of d initial) (new_initial change d (side_of d initial)) credit
 
-nothing-added : (credit : ℤ) (before after : ℕ) → credit +ℤ ((pos 0 -ℤ pos 0) +ℤ (pos after -ℤ pos before)) ≡ moved before after credit
+nothing-added : (credit : ℤ) (before after : ℕ) → credit +ℤ ((pos 0 -ℤ pos 0) +ℤ (pos after -ℤ pos before))
+    ≡ moved before after credit
 nothing-added credit before after = omega (arith, ints)
 
 pub never-both : (a b : Bool) → a ≡ b → (a && not b) ≡ false
@@ -79,8 +84,10 @@ and-false true b e = e
 and-false false b e = refl
 
 window-unshown : (d : Side) (stream : ℕ) (initial : Sides ℕ) (number : ℕ) (change : Option Change) (before : ℤ)
-    → is_used_up before ≡ is_used_up (moved_to d initial change before) → overflows before (moved_to d initial change before) ≡ false
-    → AreUnshown (live_window_said d stream (change_alone number change) (window_step d stream initial (change_alone number change) before))
+    → is_used_up before ≡ is_used_up (moved_to d initial change before)
+    → overflows before (moved_to d initial change before) ≡ false
+    → AreUnshown (live_window_said d stream (change_alone number change)
+    (window_step d stream initial (change_alone number change) before))
 window-unshown d stream initial number change before used over =
     let after = counted d stream initial (change_alone number change) before in
     let same : after ≡ moved_to d initial change before =
@@ -93,7 +100,8 @@ window-unshown d stream initial number change before used over =
     (say (is_used_up before && not (is_used_up after)) (stream_finding StreamStallEnd stream step d after))
     (say (not (is_used_up before) && is_used_up after) (stream_finding StreamStallBegin stream step d after))
     (say (not (int_eq before after)) (stream_finding StreamCredit stream step d after))
-    (unsaid (is_some change && overflows before after) _ (and-false (is_some change) _ (ap (overflows before) same ∙ over)))
+    (unsaid (is_some change && overflows before after) _
+    (and-false (is_some change) _ (ap (overflows before) same ∙ over)))
     tt
     tt
     (unsaid (is_used_up before && not (is_used_up after)) _ (never-both (is_used_up before) (is_used_up after) still))
@@ -112,7 +120,8 @@ module _ (stream : ℕ) (initial : Sides ℕ) (entry : Stream) (number : ℕ) (c
       let one = h credit refl (moved_to d initial change credit) refl in
       window-unshown d stream initial number change credit one.0 one.1
 
-  pub silent-unshown : IsSilent entry.window.client (window_moved_to Client) → IsSilent entry.window.server (window_moved_to Server)
+  pub silent-unshown : IsSilent entry.window.client (window_moved_to Client)
+      → IsSilent entry.window.server (window_moved_to Server)
       → shown false (in_order (stream_said stream initial entry (change_alone number change))) ≡ []
   silent-unshown client server =
       none-shown (in_order (stream_said stream initial entry (change_alone number change)))
@@ -123,9 +132,11 @@ module _ (stream : ℕ) (initial : Sides ℕ) (entry : Stream) (number : ℕ) (c
   window_after_of d None = None
   window_after_of d (Some credit) = Some (counted d stream initial (change_alone number change) credit)
 
-  same-window : (d : Side) (window : Option ℤ) → window_after_of d window ≡ option_map (moved_to d initial change) window
+  same-window : (d : Side) (window : Option ℤ) → window_after_of d window ≡ option_map (moved_to d initial change)
+      window
   same-window d None = refl
-  same-window d (Some credit) = ap Some (nothing-added credit (side_of d initial) (new_initial change d (side_of d initial)))
+  same-window d (Some credit) = ap Some
+      (nothing-added credit (side_of d initial) (new_initial change d (side_of d initial)))
 
   pub silent-after : (client server : Option ℤ) → entry.window ≡ record { client = client; server = server }
       → stream_after stream initial entry (change_alone number change)
@@ -139,7 +150,8 @@ module _ (stream : ℕ) (initial : Sides ℕ) (entry : Stream) (number : ℕ) (c
   silent-after None None e = rw (e) refl
   silent-after None (Some credit) e = rw (e, ← same-window Server (Some credit)) refl
   silent-after (Some credit) None e = rw (e, ← same-window Client (Some credit)) refl
-  silent-after (Some one) (Some other) e = rw (e, ← same-window Client (Some one), ← same-window Server (Some other)) refl
+  silent-after (Some one) (Some other) e = rw (e, ← same-window Client (Some one), ← same-window Server (Some other))
+      refl
 
 -- ---- the walk that moves its windows has counted the change
 
@@ -166,11 +178,13 @@ alone old number change initial client server hidden i c s p q =
       found = rw (
         hidden,
         silent-unshown old.stream old.initial old.entry number change
-            (subst (IsSilent old.entry.window.client) to_client p) (subst (IsSilent old.entry.window.server) to_server q),
+            (subst (IsSilent old.entry.window.client) to_client p)
+            (subst (IsSilent old.entry.window.server) to_server q),
       )
           (sym (append-nil old.found.items));
       entry = rw (to_client, to_server)
-          (sym (silent-after old.stream old.initial old.entry number change old.entry.window.client old.entry.window.server refl));
+          (sym (silent-after old.stream old.initial old.entry number change old.entry.window.client
+          old.entry.window.server refl));
       initial = i;
       watch = refl;
     }
@@ -182,7 +196,8 @@ pub silent-counted : (old : Walk) (step : Step) (initial : Sides ℕ) (client se
     → IsSilent old.entry.window.client client → IsSilent old.entry.window.server server
     → IsCounted old step (moved_walk old initial client server)
 silent-counted old step initial client server hidden none i c s p q =
-    subst (λ (frame : Option Frame). IsCounted old (record { number = step.number; frame = frame; change = step.change })
+    subst (λ (frame : Option Frame). IsCounted old
+    (record { number = step.number; frame = frame; change = step.change })
     (moved_walk old initial client server)) (sym (no-frame step.frame none))
     (alone old step.number step.change initial client server hidden i c s p q)
   where

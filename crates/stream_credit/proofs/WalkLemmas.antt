@@ -1,5 +1,7 @@
 -- A walk meets steps as the definition does, looks between them, and stops before one that lies past.
-use Rattle.std.proofs.Common.{◌≡◌, ℕ, ℤ, ◌+◌, ◌-◌, ◌*◌, ◌^◌, ◌<◌, ◌≤◌, ◌⊎◌, inl, inr, Bool, true, false, ◌==◌, ◌&&◌, ◌||◌, if◌then◌else◌, List, [], ◌∷◌, ◌++◌, append_assoc, length-append, map, drop, length, slice_index_or, Option, Some, None, is_some, is_none, refl, sym, ap, ◌∙◌, subst, arith}
+use Rattle.std.proofs.Common.{◌≡◌, ℕ, ℤ, ◌+◌, ◌-◌, ◌*◌, ◌^◌, ◌<◌, ◌≤◌, ◌⊎◌, inl, inr, Bool, true, false, ◌==◌, ◌&&◌}
+use Rattle.std.proofs.Common.{◌||◌, if◌then◌else◌, List, [], ◌∷◌, ◌++◌, append_assoc, length-append, map, drop, length}
+use Rattle.std.proofs.Common.{slice_index_or, Option, Some, None, is_some, is_none, refl, sym, ap, ◌∙◌, subst, arith}
 use Rattle.std.specs.List.{AllByRecursion}
 use Rattle.std.specs.Option.{option_map_or}
 use Rattle.std.proofs.lemmas.Bool.{eqb-true}
@@ -18,27 +20,32 @@ use Rattle.audit_terms.specs.declared.findings.Finding.{Finding}
 use Rattle.audit_terms.specs.Sides.{side_of, each_side}
 use Rattle.audit_terms.specs.Life.{life_after}
 use Rattle.audit_terms.specs.Finding.{in_order, is_shown, shown}
-use Rattle.audit_terms.specs.runs.Look.{is_past, found_before}
-use Rattle.audit_terms.specs.runs.Streams.{change_step}
+use Rattle.audit_terms.specs.code.runs.Look.{is_past, found_before}
+use Rattle.audit_terms.specs.code.runs.Streams.{change_step}
 use Rattle.audit_terms.specs.Stream.{stream_after, stream_said}
-use Rattle.audit_terms.specs.runs.Streams.{initial_after, stream_run_from, stream_after_all}
+use Rattle.audit_terms.specs.code.runs.Streams.{initial_after, stream_run_from, stream_after_all}
 use Rattle.audit_terms.specs.code.Room.{WindowHasRoom}
 use Rattle.audit_terms.specs.code.Watch.{Watches, IsStopped, NeverFallFrom}
 use Rattle.stream_credit.specs.declared.walks.Walk.{Walk}
-use Rattle.stream_credit.specs.Looks.{is_live, is_met, met_from, opened_up_to}
+use Rattle.stream_credit.specs.code.Looks.{is_live, is_met, met_from, opened_up_to}
 use Rattle.stream_credit.specs.code.Left.{after_changes}
-use Rattle.stream_credit.specs.code.Walk.{found_with, entry_after, met_by, numbers_of, IsNumbered, IsCounted, HasRoomAt, WholeRun, IsAt, IsAtChanges, HasStopped}
-use Rattle.stream_credit.proofs.SaidNumbers.{AreNumbered, numbered-append, numbered-more, said-numbered, run-numbered, shown-numbered, before-parts}
+use Rattle.stream_credit.specs.code.Walk.{found_with, entry_after, met_by, numbers_of, IsNumbered, IsCounted, HasRoomAt}
+use Rattle.stream_credit.specs.code.Walk.{WholeRun, IsAt, IsAtChanges, HasStopped}
+use Rattle.stream_credit.proofs.SaidNumbers.{AreNumbered, numbered-append, numbered-more, said-numbered, run-numbered}
+use Rattle.stream_credit.proofs.SaidNumbers.{shown-numbered, before-parts}
 
 -- ---- room
 
-pub room-wide : (number : ℕ) (window : Option ℤ) → number < 2 ^ 28 - 1 → WindowHasRoom (number * 2 ^ 32) window → WindowHasRoom (2 ^ 60) window
+pub room-wide : (number : ℕ) (window : Option ℤ) → number < 2 ^ 28 - 1 → WindowHasRoom (number * 2 ^ 32) window
+    → WindowHasRoom (2 ^ 60) window
 room-wide number window low room = λ x e. (omega (arith, ints, (room x e).0), omega (arith, ints, (room x e).1))
 
-room-next : (number : ℕ) (window : Option ℤ) → WindowHasRoom (number * 2 ^ 32 + 2 ^ 32) window → WindowHasRoom ((number + 1) * 2 ^ 32) window
+room-next : (number : ℕ) (window : Option ℤ) → WindowHasRoom (number * 2 ^ 32 + 2 ^ 32) window
+    → WindowHasRoom ((number + 1) * 2 ^ 32) window
 room-next number window room = λ x e. (omega (arith, ints, (room x e).0), omega (arith, ints, (room x e).1))
 
-room-later : (low number : ℕ) (window : Option ℤ) → low ≤ number → WindowHasRoom (low * 2 ^ 32) window → WindowHasRoom (number * 2 ^ 32) window
+room-later : (low number : ℕ) (window : Option ℤ) → low ≤ number → WindowHasRoom (low * 2 ^ 32) window
+    → WindowHasRoom (number * 2 ^ 32) window
 room-later low number window h room = λ x e. (omega (arith, ints, (room x e).0), omega (arith, ints, (room x e).1))
 
 pub HasRoomAt-next : (number : ℕ) (entry : Stream) → WindowHasRoom (number * 2 ^ 32 + 2 ^ 32) entry.window.client
@@ -49,18 +56,21 @@ HasRoomAt-next number entry client server Server = room-next number entry.window
 HasRoomAt-later : (low number : ℕ) (entry : Stream) → low ≤ number → HasRoomAt low entry → HasRoomAt number entry
 HasRoomAt-later low number entry h room = λ d. room-later low number (side_of d entry.window) h (room d)
 
-pub room-kept : (number : ℕ) (old asked : Walk) → asked ≡ record old { watch = asked.watch } → HasRoomAt number old.entry
+pub room-kept : (number : ℕ) (old asked : Walk) → asked ≡ record old { watch = asked.watch }
+    → HasRoomAt number old.entry
     → HasRoomAt number asked.entry
 room-kept number old asked kept room = subst (λ (walk : Walk). HasRoomAt number walk.entry) (sym kept) room
 
 -- ---- one step
 
-counted-found : (old new : Walk) (step : Step) (rest : List Step) → IsCounted old step new → found_with new rest ≡ found_with old (step ∷ rest)
+counted-found : (old new : Walk) (step : Step) (rest : List Step) → IsCounted old step new
+    → found_with new rest ≡ found_with old (step ∷ rest)
 counted-found old new step rest h =
     rw (h.stream, h.credits_shown, h.found, h.entry, h.initial) (append_assoc old.found.items _ _
     ∙ ap (λ later. old.found.items ++ later) (sym (filter-append (is_shown old.credits_shown) _ _)))
 
-counted-entry : (old new : Walk) (step : Step) (rest : List Step) → IsCounted old step new → entry_after new rest ≡ entry_after old (step ∷ rest)
+counted-entry : (old new : Walk) (step : Step) (rest : List Step) → IsCounted old step new
+    → entry_after new rest ≡ entry_after old (step ∷ rest)
 counted-entry old new step rest h = rw (h.stream, h.entry, h.initial) refl
 
 counted-met : (old new : Walk) (step : Step) (rest : List Step) → IsCounted old step new → is_met old.entry step ≡ true
@@ -92,7 +102,8 @@ fall-after low [] left h = h
 fall-after low (n ∷ ns) left h = fall-lower n low left h.0 (fall-after n ns left h.1)
 
 -- of numbers that never fall some are met
-pub fall-met : (low stream : ℕ) (initial : Sides ℕ) (entry : Stream) (steps : List Step) → NeverFallFrom low (numbers_of steps)
+pub fall-met : (low stream : ℕ) (initial : Sides ℕ) (entry : Stream) (steps : List Step)
+    → NeverFallFrom low (numbers_of steps)
     → NeverFallFrom low (met_from stream initial entry steps)
 fall-met low stream initial entry [] h = tt
 fall-met low stream initial entry (step ∷ steps) h =
@@ -100,9 +111,11 @@ fall-met low stream initial entry (step ∷ steps) h =
     (fall-met step.number stream (initial_after step.change initial) (stream_after stream initial entry step) steps h.1)
   where
     by_test : (met : Bool)
-        → NeverFallFrom step.number (met_from stream (initial_after step.change initial) (stream_after stream initial entry step) steps)
+        → NeverFallFrom step.number
+        (met_from stream (initial_after step.change initial) (stream_after stream initial entry step) steps)
         → NeverFallFrom low (if met
-        then step.number ∷ met_from stream (initial_after step.change initial) (stream_after stream initial entry step) steps
+        then step.number ∷ met_from stream (initial_after step.change initial) (stream_after stream initial entry step)
+        steps
         else met_from stream (initial_after step.change initial) (stream_after stream initial entry step) steps)
     by_test true later = (h.0, later)
     by_test false later = fall-lower step.number low _ h.0 later
@@ -113,7 +126,8 @@ fall-from low (x ∷ xs) n ns h = fall-from x xs n ns h.1
 
 -- ---- an opening
 
-past-higher : (stop : Option ℕ) (number higher : ℕ) → number ≤ higher → is_past stop number ≡ true → is_past stop higher ≡ true
+past-higher : (stop : Option ℕ) (number higher : ℕ) → number ≤ higher → is_past stop number ≡ true
+    → is_past stop higher ≡ true
 past-higher None number higher order e = cc
 past-higher (Some place) number higher order e = grind (arith, nat_tests)
 
@@ -121,7 +135,8 @@ past-higher (Some place) number higher order e = grind (arith, nat_tests)
 abbrev IsQuiet : (stop : Option ℕ) → Step → Type 0
 IsQuiet stop step = (step.frame ≡ None) ⊎ (is_past stop step.number ≡ true)
 
-opened-frame : (stop : Option ℕ) (number stream : ℕ) (life : StreamLife) (frame : Option Frame) → IsNumbered number frame
+opened-frame : (stop : Option ℕ) (number stream : ℕ) (life : StreamLife) (frame : Option Frame)
+    → IsNumbered number frame
     → (frame ≡ None) ⊎ (is_past stop number ≡ true)
     → opened_up_to stop (option_map_or (life_after stream life) frame life).opened ≡ opened_up_to stop life.opened
 opened-frame stop number stream life None own quiet = refl
@@ -140,10 +155,12 @@ opened-later : (stop : Option ℕ) (stream : ℕ) (initial : Sides ℕ) (entry :
     → opened_up_to stop (stream_after_all stream initial entry steps).life.opened ≡ opened_up_to stop entry.life.opened
 opened-later stop stream initial entry [] own quiet = refl
 opened-later stop stream initial entry (step ∷ steps) own quiet =
-    opened-later stop stream (initial_after step.change initial) (stream_after stream initial entry step) steps own.1 quiet.1
+    opened-later stop stream (initial_after step.change initial) (stream_after stream initial entry step) steps own.1
+    quiet.1
     ∙ opened-frame stop step.number stream entry.life step.frame own.0 quiet.0
 
-past-quiet : (stop : Option ℕ) (number : ℕ) (steps : List Step) → is_past stop number ≡ true → From number (numbers_of steps)
+past-quiet : (stop : Option ℕ) (number : ℕ) (steps : List Step) → is_past stop number ≡ true
+    → From number (numbers_of steps)
     → AllByRecursion (IsQuiet stop) steps
 past-quiet stop number [] past h = tt
 past-quiet stop number (step ∷ steps) past h =
@@ -158,7 +175,8 @@ abbrev pub gone : StreamLife → Stream
 gone life = record { life = life; window = each_side (λ _. None) }
 
 pub gone-by : (life : StreamLife) (client server : Option ℤ) → (is_some client || is_some server) ≡ false
-    → (let entry : Stream = record { life = life; window = record { client = client; server = server } } in entry ≡ gone life)
+    → (let entry : Stream = record { life = life; window = record { client = client; server = server } } in entry
+    ≡ gone life)
 gone-by life None None h = refl
 gone-by life None (Some credit) h = cc
 gone-by life (Some credit) server h = cc
@@ -167,19 +185,22 @@ pub run-passes : (stream : ℕ) (initial : Sides ℕ) (life : StreamLife) (chang
     → stream_run_from stream initial (gone life) (map change_step changes ++ rest)
     ≡ stream_run_from stream (after_changes initial changes) (gone life) rest
 run-passes stream initial life [] rest = refl
-run-passes stream initial life (change ∷ changes) rest = run-passes stream (initial_after (Some change) initial) life changes rest
+run-passes stream initial life (change ∷ changes) rest = run-passes stream (initial_after (Some change) initial) life
+    changes rest
 
 pub entry-passes : (stream : ℕ) (initial : Sides ℕ) (life : StreamLife) (changes : List Change) (rest : List Step)
     → stream_after_all stream initial (gone life) (map change_step changes ++ rest)
     ≡ stream_after_all stream (after_changes initial changes) (gone life) rest
 entry-passes stream initial life [] rest = refl
-entry-passes stream initial life (change ∷ changes) rest = entry-passes stream (initial_after (Some change) initial) life changes rest
+entry-passes stream initial life (change ∷ changes) rest = entry-passes stream (initial_after (Some change) initial)
+    life changes rest
 
 met-passes : (stream : ℕ) (initial : Sides ℕ) (life : StreamLife) (changes : List Change) (rest : List Step)
     → met_from stream initial (gone life) (map change_step changes ++ rest)
     ≡ met_from stream (after_changes initial changes) (gone life) rest
 met-passes stream initial life [] rest = refl
-met-passes stream initial life (change ∷ changes) rest = met-passes stream (initial_after (Some change) initial) life changes rest
+met-passes stream initial life (change ∷ changes) rest = met-passes stream (initial_after (Some change) initial) life
+    changes rest
 
 module _ (walk : Walk) (changes : List Change) (dead : IsDead walk) (rest : List Step) where
   at-gone : walk.entry ≡ gone walk.entry.life
@@ -211,7 +232,8 @@ pub live-on : (stream : ℕ) (initial : Sides ℕ) (entry : Stream) (change : Ch
     → is_live (stream_after stream initial entry (change_step change)) ≡ is_live entry
 live-on stream initial entry change = by_windows entry.window.client entry.window.server where
   by_windows : (client server : Option ℤ)
-      → is_live (stream_after stream initial (record { life = entry.life; window = record { client = client; server = server } })
+      → is_live (stream_after stream initial
+      (record { life = entry.life; window = record { client = client; server = server } })
       (change_step change))
       ≡ is_live (record { life = entry.life; window = record { client = client; server = server } })
   by_windows None None = refl
@@ -231,7 +253,8 @@ own-after [] rest h = h
 own-after (change ∷ changes) rest h = own-after changes rest h.1
 
 module _ {L : Type 0} (answers : L → List Finding → Option ℕ → L → Type 0) (run : WholeRun L) where
-  at-later : (now : L) (walk : Walk) (low number : ℕ) (steps : List Step) → low ≤ number → IsAt answers run now walk low steps
+  at-later : (now : L) (walk : Walk) (low number : ℕ) (steps : List Step) → low ≤ number
+      → IsAt answers run now walk low steps
       → IsAt answers run now walk number steps
   at-later now walk low number steps order h = let count = h.count in record {
     streamed = h.streamed;
@@ -258,7 +281,8 @@ module _ {L : Type 0} (answers : L → List Finding → Option ℕ → L → Typ
       (run-numbered (λ n. number ≤ n) walk.stream walk.initial walk.entry steps h.streamed later))
       ∙ ap (found_before number) h.found
 
-  at-next : (now : L) (walk : Walk) (step : Step) (rest : List Step) → IsAt answers run now walk step.number (step ∷ rest)
+  at-next : (now : L) (walk : Walk) (step : Step) (rest : List Step) → IsAt answers run now walk step.number
+      (step ∷ rest)
       → walk.found.items ≡ found_before step.number run.found
   at-next now walk step rest h =
       so-far now walk step.number (step ∷ rest) h step.number (omega arith)
@@ -266,7 +290,8 @@ module _ {L : Type 0} (answers : L → List Finding → Option ℕ → L → Typ
 
   -- ---- a step
 
-  pub step-fits : (now : L) (walk : Walk) (step : Step) (rest : List Step) → IsAt answers run now walk step.number (step ∷ rest)
+  pub step-fits : (now : L) (walk : Walk) (step : Step) (rest : List Step) → IsAt answers run now walk step.number
+      (step ∷ rest)
       → (count : ℕ) × (count ≤ step.number) × (count + walk.watch.left ≡ 256 * walk.watch.looks)
   step-fits now walk step rest h = (length h.met, h.count, h.watches.due)
 
@@ -275,7 +300,8 @@ module _ {L : Type 0} (answers : L → List Finding → Option ℕ → L → Typ
       → Watches answers start before whole met (step.number ∷ left) old.watch
       → Watches answers start now whole (met ++ step.number ∷ []) left asked.watch)
       → IsCounted asked step new → HasRoomAt (step.number + 1) new.entry → is_met old.entry step ≡ true
-      → (rest : List Step) → IsAt answers run before old step.number (step ∷ rest) → IsAt answers run now new (step.number + 1) rest
+      → (rest : List Step) → IsAt answers run before old step.number (step ∷ rest)
+      → IsAt answers run now new (step.number + 1) rest
   step-on before now old asked new step kept goes counts room met rest h =
       let counted = subst (λ (walk : Walk). IsCounted walk step new) kept counts in
       let met_on = counted-met (record old { watch = asked.watch }) new step rest counted met in
@@ -287,17 +313,21 @@ module _ {L : Type 0} (answers : L → List Finding → Option ℕ → L → Typ
         below = subst (AreNumbered (λ n. n < step.number + 1)) (sym counted.found)
             (numbered-append (λ n. n < step.number + 1) old.found.items
             (shown old.credits_shown (in_order (stream_said old.stream old.initial old.entry step)))
-            (numbered-more (λ n. n < step.number) (λ n. n < step.number + 1) (λ n p. omega arith) old.found.items h.below)
-            (shown-numbered (λ n. n < step.number + 1) old.credits_shown (in_order (stream_said old.stream old.initial old.entry step))
+            (numbered-more (λ n. n < step.number) (λ n. n < step.number + 1) (λ n p. omega arith) old.found.items
+            h.below)
+            (shown-numbered (λ n. n < step.number + 1) old.credits_shown
+            (in_order (stream_said old.stream old.initial old.entry step))
             (said-numbered old.stream old.initial old.entry step h.streamed (λ n. n < step.number + 1) (omega arith))));
         found = counted-found (record old { watch = asked.watch }) new step rest counted ∙ h.found;
         entry = counted-entry (record old { watch = asked.watch }) new step rest counted ∙ h.entry;
         met = h.met ++ step.number ∷ [];
         count = omega arith;
-        numbers = append_assoc h.met (step.number ∷ []) (met_by new rest) ∙ ap (λ l. h.met ++ l) (sym met_on) ∙ h.numbers;
+        numbers = append_assoc h.met (step.number ∷ []) (met_by new rest) ∙ ap (λ l. h.met ++ l) (sym met_on)
+            ∙ h.numbers;
         rise = fall-lower step.number 0 (numbers_of rest) (omega arith) h.rise.1;
         own = h.own.1;
-        watches = subst (Watches answers run.start now run.found (h.met ++ step.number ∷ []) (met_by new rest)) (sym counted.watch)
+        watches = subst (Watches answers run.start now run.found (h.met ++ step.number ∷ []) (met_by new rest))
+            (sym counted.watch)
             (goes run.start run.found h.met (met_by new rest) (at-next before old step rest h)
             (subst (λ l. Watches answers run.start before run.found h.met l old.watch) met_on h.watches));
       }
@@ -309,7 +339,8 @@ module _ {L : Type 0} (answers : L → List Finding → Option ℕ → L → Typ
       → is_met old.entry step ≡ true → (rest : List Step) → IsAt answers run before old step.number (step ∷ rest)
       → HasStopped answers run now asked
   step-stops before now old asked step kept stop met rest h =
-      let left = met_from old.stream (initial_after step.change old.initial) (stream_after old.stream old.initial old.entry step) rest in
+      let left = met_from old.stream (initial_after step.change old.initial)
+      (stream_after old.stream old.initial old.entry step) rest in
       let met_on : met_by old (step ∷ rest) ≡ step.number ∷ left = rw (met) refl in
       let at = at-next before old step rest h in
       let stopped = stop run.start run.found h.met left at
@@ -330,30 +361,37 @@ module _ {L : Type 0} (answers : L → List Finding → Option ℕ → L → Typ
   pub changes-next : (now : L) (walk : Walk) (number : ℕ) (changes : List Change) (i : ℕ) (d : Change) (step : Step)
       → step ≡ change_step (slice_index_or changes i d) → i < length changes
       → (rest : List Step) → IsAtChanges answers run now walk number (drop i changes) rest
-      → (step.number < 2 ^ 28 - 1) × IsAt answers run now walk step.number (step ∷ (map change_step (drop (i + 1) changes) ++ rest))
+      → (step.number < 2 ^ 28 - 1) × IsAt answers run now walk step.number
+      (step ∷ (map change_step (drop (i + 1) changes) ++ rest))
   changes-next now walk number changes i d step e within rest h =
       let change = slice_index_or changes i d in
-      let here = subst (λ (cs : List Change). IsAtChanges answers run now walk number cs rest) (drop_more changes i d within) h in
-      let at = at-later now walk here.low change.number (change_step change ∷ (map change_step (drop (i + 1) changes) ++ rest)) here.before.0 here.at in
+      let here = subst (λ (cs : List Change). IsAtChanges answers run now walk number cs rest)
+      (drop_more changes i d within) h in
+      let at = at-later now walk here.low change.number
+      (change_step change ∷ (map change_step (drop (i + 1) changes) ++ rest)) here.before.0 here.at in
       let same : step.number ≡ change.number = ap (λ (s : Step). s.number) e in (
         omega (arith, here.before.2),
-        subst (λ (s : Step). IsAt answers run now walk s.number (s ∷ (map change_step (drop (i + 1) changes) ++ rest))) (sym e) at,
+        subst (λ (s : Step). IsAt answers run now walk s.number (s ∷ (map change_step (drop (i + 1) changes) ++ rest)))
+            (sym e) at,
       )
 
-  pub changes-after : (before now : L) (old new : Walk) (number : ℕ) (changes : List Change) (i : ℕ) (d : Change) (step : Step)
+  pub changes-after : (before now : L) (old new : Walk) (number : ℕ) (changes : List Change) (i : ℕ) (d : Change)
+      (step : Step)
       → step ≡ change_step (slice_index_or changes i d) → i < length changes
       → (rest : List Step) → IsAtChanges answers run before old number (drop i changes) rest
       → IsAt answers run now new (step.number + 1) (map change_step (drop (i + 1) changes) ++ rest)
       → IsAtChanges answers run now new number (drop (i + 1) changes) rest
   changes-after before now old new number changes i d step e within rest h at =
       let change = slice_index_or changes i d in
-      let here = subst (λ (cs : List Change). IsAtChanges answers run before old number cs rest) (drop_more changes i d within) h in
+      let here = subst (λ (cs : List Change). IsAtChanges answers run before old number cs rest)
+      (drop_more changes i d within) h in
       record {
         low = change.number + 1;
         order = omega (arith, here.before.1);
         before = here.before.3;
         later = here.later;
-        at = subst (λ (s : Step). IsAt answers run now new (s.number + 1) (map change_step (drop (i + 1) changes) ++ rest)) e at;
+        at = subst (λ (s : Step). IsAt answers run now new (s.number + 1)
+            (map change_step (drop (i + 1) changes) ++ rest)) e at;
       }
 
   pub changes-end : (now : L) (walk : Walk) (number : ℕ) (changes : List Change) (rest : List Step) → changes ≡ []
@@ -367,13 +405,16 @@ module _ {L : Type 0} (answers : L → List Finding → Option ℕ → L → Typ
   module _ (before : L) (old : Walk) (number : ℕ) (changes : List Change) (rest : List Step) (dead : IsDead old)
       (h : IsAtChanges answers run before old number changes rest) where
     found-passed : found_with (record old { initial = after_changes old.initial changes }) rest ≡ run.found
-    found-passed = ap (λ later. old.found.items ++ shown old.credits_shown later) (sym (run-passed old changes dead rest)) ∙ h.at.found
+    found-passed = ap (λ later. old.found.items ++ shown old.credits_shown later)
+        (sym (run-passed old changes dead rest)) ∙ h.at.found
 
-    pub changes-passed : (now : L) (new : Walk) → now ≡ before → new ≡ record old { initial = after_changes old.initial changes }
+    pub changes-passed : (now : L) (new : Walk) → now ≡ before
+        → new ≡ record old { initial = after_changes old.initial changes }
         → IsAt answers run now new number rest
     changes-passed now new same is =
         subst (λ walk. IsAt answers run now walk number rest) (sym is)
-        (subst (λ at. IsAt answers run at (record old { initial = after_changes old.initial changes }) number rest) (sym same) passed)
+        (subst (λ at. IsAt answers run at (record old { initial = after_changes old.initial changes }) number rest)
+        (sym same) passed)
       where
         passed : IsAt answers run before (record old { initial = after_changes old.initial changes }) number rest
         passed =
@@ -416,6 +457,7 @@ next-initial old new end changes i d step e within met kept =
     ∙ ap (after_changes old) (sym (drop_more changes i d within)) ∙ kept
 
 -- a step of a change leaves the windows as live as they were
-pub next-live : (old new : Stream) (stream : ℕ) (initial : Sides ℕ) (change : Change) (step : Step) → step ≡ change_step change
+pub next-live : (old new : Stream) (stream : ℕ) (initial : Sides ℕ) (change : Change) (step : Step)
+    → step ≡ change_step change
     → new ≡ stream_after stream initial old step → is_live old ≡ true → is_live new ≡ true
 next-live old new stream initial change step e met live = rw (met, e) (live-on stream initial old change ∙ live)

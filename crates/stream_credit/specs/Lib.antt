@@ -1,4 +1,2 @@
-pub mod Looks
-pub mod Part
-pub mod RunExamples
+pub mod examples
 pub mod code

@@ -4,3 +4,5 @@ pub mod Quiet
 pub mod QuietStream
 pub mod Silent
 pub mod Walk
+pub mod Looks
+pub mod Part

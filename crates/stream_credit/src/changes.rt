@@ -3,7 +3,7 @@ ghost use Rattle.std.specs.Bool.{OnFalse};
 ghost use Rattle.std.specs.Option.{ForSome};
 ghost use Rattle.audit_terms.specs.declared.items.Change.{Change};
 ghost use Rattle.audit_terms.specs.InForce.{initial_in_force};
-ghost use Rattle.settings_pair.specs.Changes.{AreOrderly};
+ghost use Rattle.settings_pair.specs.code.Changes.{AreOrderly};
 ghost use Rattle.stream_credit.specs.code.Left.{after_each, passed};
 ghost use Rattle.stream_credit.specs.code.QuietStream.{AreFrom, initial_at};
 

@@ -1,8 +1,8 @@
 //! What a walk shows at its end.
 
 ghost use Rattle.std.specs.Prelude.{◌≡◌, if◌then◌else◌, None};
-ghost use Rattle.audit_terms.specs.runs.Look.{up_to};
-ghost use Rattle.stream_credit.specs.Looks.{opened_up_to};
+ghost use Rattle.audit_terms.specs.code.runs.Look.{up_to};
+ghost use Rattle.stream_credit.specs.code.Looks.{opened_up_to};
 
 use crate::parts::StreamRun;
 use crate::walks::Walk;

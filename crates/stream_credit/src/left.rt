@@ -1,7 +1,7 @@
 ghost use Rattle.std.specs.Prelude.{◌≡◌, ℕ};
 ghost use Rattle.audit_terms.specs.declared.sides.Sides.{Sides};
-ghost use Rattle.audit_terms.specs.runs.Streams.{initial_after};
-ghost use Rattle.settings_pair.specs.Changes.{AreOrderlyFrom};
+ghost use Rattle.audit_terms.specs.code.runs.Streams.{initial_after};
+ghost use Rattle.settings_pair.specs.code.Changes.{AreOrderlyFrom};
 ghost use Rattle.stream_credit.specs.code.Left.{after_changes, passed, left_from, change_at, left_after, IsInForce};
 
 use audit_terms::{Change, Sides};

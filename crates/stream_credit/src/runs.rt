@@ -4,11 +4,11 @@ ghost use Rattle.audit_terms.specs.declared.frames.Frame.{Frame as FrameTerm};
 ghost use Rattle.audit_terms.specs.declared.findings.Finding.{Finding};
 ghost use Rattle.audit_terms.specs.Place.{place_number};
 ghost use Rattle.audit_terms.specs.Finding.{shown};
-ghost use Rattle.audit_terms.specs.runs.Look.{IsRun};
-ghost use Rattle.audit_terms.specs.runs.Streams.{stream_run, stream_at_end};
-ghost use Rattle.settings_pair.specs.Changes.{AreOrderly, AreAcknowledged};
-ghost use Rattle.stream_credit.specs.Looks.{step_numbers, opened_up_to};
-ghost use Rattle.stream_credit.specs.Part.{IsPart, frames_at, part_frames};
+ghost use Rattle.audit_terms.specs.code.runs.Look.{IsRun};
+ghost use Rattle.audit_terms.specs.code.runs.Streams.{stream_run, stream_at_end};
+ghost use Rattle.settings_pair.specs.code.Changes.{AreOrderly, AreAcknowledged};
+ghost use Rattle.stream_credit.specs.code.Looks.{step_numbers, opened_up_to};
+ghost use Rattle.stream_credit.specs.code.Part.{IsPart, frames_at, part_frames};
 ghost use Rattle.stream_credit.specs.code.Walk.{WholeRun, IsSound, HasEnded, HasStopped};
 
 use crate::changes::Changes;

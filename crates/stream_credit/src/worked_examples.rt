@@ -1,6 +1,9 @@
 //! Worked examples: what short scripts show of one stream, computed from the definitions by proof. The functions do
 //! nothing; each contract is the example.
-ghost use Rattle.stream_credit.specs.RunExamples.{NegativeWindow, NegativeWindowUnshown, SettingsReachEachStream, ChangesPassedOver, OpensAtZero, OverrunsAboveZero, OverflowingGrant, SettingOverflows, PromisedStall, PartOfPromised, KeptUpToStop, StepNumbers};
+ghost use Rattle.stream_credit.specs.examples.Run.{NegativeWindow, NegativeWindowUnshown, SettingsReachEachStream};
+ghost use Rattle.stream_credit.specs.examples.Run.{ChangesPassedOver, OpensAtZero, OverrunsAboveZero, OverflowingGrant};
+ghost use Rattle.stream_credit.specs.examples.Run.{SettingOverflows, PromisedStall, PartOfPromised, KeptUpToStop};
+ghost use Rattle.stream_credit.specs.examples.Run.{StepNumbers};
 
 /// A lower initial window makes a credit negative (RFC 9113, 6.9.2), with its credits and without.
 pub fn negative_window()

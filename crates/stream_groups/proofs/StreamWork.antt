@@ -1,5 +1,8 @@
 -- What is made of one stream, and of several.
-use Rattle.std.proofs.Common.{◌≡◌, ℕ, ◌+◌, ◌-◌, ◌^◌, ◌<◌, ◌≤◌, ◌==◌, ◌⊎◌, inl, inr, min, nat_le, leb-true, leb-false, Bool, true, false, ◌||◌, if◌then◌else◌, List, [], ◌∷◌, ◌++◌, All, Contains, get_or, take, drop, flat_map, append-nil, append_assoc, length, Option, Some, None, refl, sym, ap, subst, ◌∙◌, arith, true≢false}
+use Rattle.std.proofs.Common.{◌≡◌, ℕ, ◌+◌, ◌-◌, ◌^◌, ◌<◌, ◌≤◌, ◌==◌, ◌⊎◌, inl, inr, min, nat_le, leb-true, leb-false}
+use Rattle.std.proofs.Common.{Bool, true, false, ◌||◌, if◌then◌else◌, List, [], ◌∷◌, ◌++◌, All, Contains, get_or, take}
+use Rattle.std.proofs.Common.{drop, flat_map, append-nil, append_assoc, length, Option, Some, None, refl, sym, ap}
+use Rattle.std.proofs.Common.{subst, ◌∙◌, arith, true≢false}
 use Rattle.std.specs.Option.{option_to_list}
 use Rattle.std.specs.List.{list_any}
 use Rattle.std.proofs.Math.Seq.{take-add}
@@ -7,28 +10,30 @@ use Rattle.std.proofs.lemmas.List.{take_more}
 use Rattle.std.proofs.lemmas.Grind.{flat_map-append}
 use Rattle.audit_core.proofs.OrderlyRest.{drop-next}
 use Rattle.std.proofs.lemmas.List.Folds.{list_any-append}
-use Rattle.std.proofs.lemmas.List.Elements.{All-contains, All-contains_itself, All-append, All-nil, Contains-append_left, Contains-append_right}
+use Rattle.std.proofs.lemmas.List.Elements.{All-contains, All-contains_itself, All-append, All-nil}
+use Rattle.std.proofs.lemmas.List.Elements.{Contains-append_left, Contains-append_right}
 use borrow.Author.Tests.{eqb-true, ltb-true, ltb-false}
 use Rattle.audit_terms.specs.declared.findings.Finding.{Finding}
 use Rattle.audit_terms.specs.Finding.{in_order}
-use Rattle.audit_terms.specs.runs.Look.{Asked, Looked, last_answer, LooksInTime, is_past, up_to, upto_of, IsRun}
+use Rattle.audit_terms.specs.code.runs.Look.{Asked, Looked, last_answer, LooksInTime, is_past, up_to, upto_of, IsRun}
 use Rattle.audit_terms.specs.Place.{place_number}
-use Rattle.stream_credit.specs.Looks.{opened_up_to}
-use Rattle.split_merge.specs.Board.{IsPast, IsCut}
+use Rattle.stream_credit.specs.code.Looks.{opened_up_to}
+use Rattle.split_merge.specs.code.Board.{IsPast, IsCut}
 use Rattle.split_merge.proofs.RoundMembers.{contains-here, contains-later, in_order-contains}
 use Rattle.split_merge.proofs.RoundCuts.{front_is_cut_lem, whole_is_cut_lem, cuts_join_lem}
-use Rattle.job_crew.specs.Heeding.{Heeds, RunLooks}
+use Rattle.job_crew.specs.code.Heeding.{Heeds, RunLooks}
 use Rattle.std.specs.Prelude.{Result, Ok, Err, IfOk}
 use Rattle.audit_terms.specs.declared.frames.Frame.{Frame}
-use Rattle.audit_terms.specs.runs.Orderly.{IsOrderly}
+use Rattle.audit_terms.specs.code.runs.Orderly.{IsOrderly}
 use Rattle.audit_terms.specs.Finding.{shown}
-use Rattle.audit_terms.specs.runs.Streams.{stream_run, stream_at_end}
+use Rattle.audit_terms.specs.code.runs.Streams.{stream_run, stream_at_end}
 use Rattle.stream_credit.specs.declared.parts.StreamRun.{StreamRun}
-use Rattle.stream_credit.specs.Looks.{step_numbers}
+use Rattle.stream_credit.specs.code.Looks.{step_numbers}
 use Rattle.split_merge.specs.declared.splits.StreamRow.{StreamRow}
-use Rattle.split_merge.specs.Split.{frames_at, part_of}
+use Rattle.split_merge.specs.code.Split.{frames_at, part_of}
 use Rattle.stream_groups.specs.declared.streams.Streams.{Streams}
-use Rattle.stream_groups.specs.Streams.{lesser, AreOpenedUpTo, IsWork, IsRow, RowLooks, RowsLook, row_shown, row_opened}
+use Rattle.stream_groups.specs.code.Streams.{lesser, AreOpenedUpTo, IsWork, IsRow, RowLooks, RowsLook, row_shown}
+use Rattle.stream_groups.specs.code.Streams.{row_opened}
 use Rattle.stream_groups.proofs.StreamOrder.{shown-ordered}
 
 -- ---- one stream
@@ -84,7 +89,8 @@ module _ {L : Type 0} (answers : L → List Finding → Option ℕ → L → Typ
       (looks : ℕ) (opening opened : Option ℕ) → in_order whole ≡ whole
       → IsRun answers before after numbers whole kept upto last_look looks → opened ≡ opened_up_to upto opening
       → All (λ (found : Finding). place_number found.place ≤ 2 ^ 28 - 2) kept
-      → IsWork answers (RunLooks numbers whole) before after whole (option_to_list opening) upto kept (option_to_list opened)
+      → IsWork answers (RunLooks numbers whole) before after whole (option_to_list opening) upto kept
+      (option_to_list opened)
   work-of_run before after numbers whole kept upto last_look looks opening opened o run e n = record {
     cut = cut-of whole kept upto o run.found;
     opens = subst (λ l. AreOpenedUpTo upto (option_to_list l) (option_to_list opening)) (sym e)
@@ -178,7 +184,8 @@ module _ {L : Type 0} (answers : L → List Finding → Option ℕ → L → Typ
     by_test true l = let k = leb-true a b l in let m : a ≡ place = omega (arith, k, least) in inl (ap Some m)
     by_test false l = let k = leb-false a b l in let m : b ≡ place = omega (arith, k, least) in inr (ap Some m)
 
-  heeds-join : (due due' both : List Asked → Option ℕ → Type 0) → Joins due due' both → (a b c : L) (one other : Option ℕ)
+  heeds-join : (due due' both : List Asked → Option ℕ → Type 0) → Joins due due' both
+      → (a b c : L) (one other : Option ℕ)
       → Heeds answers due a b one → Heeds answers due' b c other → Heeds answers both a c (lesser one other)
   heeds-join due due' both join a b c one other h k = record {
     asked = h.asked ++ k.asked;
@@ -191,7 +198,8 @@ module _ {L : Type 0} (answers : L → List Finding → Option ℕ → L → Typ
     by_case place (inr e) = at-right h.asked k.asked place (k.answered place e)
 
   -- the work of no stream
-  pub work-none : (due : List Asked → Option ℕ → Type 0) → due [] None → (a : L) → IsWork answers due a a [] [] None [] []
+  pub work-none : (due : List Asked → Option ℕ → Type 0) → due [] None → (a : L)
+      → IsWork answers due a a [] [] None [] []
   work-none due none a = record {
     cut = whole_is_cut_lem [] None refl;
     opens = λ number h. refl;
@@ -295,11 +303,13 @@ module _ {L : Type 0} (answers : L → List Finding → Option ℕ → L → Typ
 
   -- what a run of a row's stream leaves
   pub row-work : {E : Type 0} (r : Result StreamRun E) → IsRow streams row → positions ≡ part_of streams.split.now row
-      → IfOk r (λ run. IsRun answers before after (step_numbers row.stream frames streams.changes.now) whole run.findings.items
+      → IfOk r (λ run. IsRun answers before after (step_numbers row.stream frames streams.changes.now) whole
+      run.findings.items
       run.upto run.last_look run.looks)
       → IfOk r (λ run. run.opened_at ≡ opened_up_to run.upto opening)
       → IfOk r (λ run. All (λ (found : Finding). place_number found.place ≤ 2 ^ 28 - 2) run.findings.items)
-      → IfOk r (λ run. IsWork answers (RowLooks credits_shown streams row) before after (row_shown credits_shown streams row)
+      → IfOk r (λ run. IsWork answers (RowLooks credits_shown streams row) before after
+      (row_shown credits_shown streams row)
       (option_to_list (row_opened streams row)) run.upto run.findings.items (option_to_list run.opened_at))
   row-work (Err e) is_row e' h k n = tt
   row-work (Ok run) is_row e h k n =
@@ -310,7 +320,8 @@ module _ {L : Type 0} (answers : L → List Finding → Option ℕ → L → Typ
       (shown credits_shown (stream_run row.stream (frames_at streams.frames.now l) streams.changes.now))
       (option_to_list (stream_at_end row.stream (frames_at streams.frames.now l) streams.changes.now).life.opened)
       run.upto run.findings.items (option_to_list run.opened_at)) e
-      (work-of_run answers before after (step_numbers row.stream frames streams.changes.now) whole run.findings.items run.upto
+      (work-of_run answers before after (step_numbers row.stream frames streams.changes.now) whole run.findings.items
+      run.upto
       run.last_look run.looks opening run.opened_at
       (shown-ordered row.stream is_row.in_range credits_shown frames streams.changes.now orderly) h k n)
 

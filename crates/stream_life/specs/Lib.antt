@@ -1,5 +1,3 @@
-pub mod Life
-pub mod Outcome
-pub mod Entry
-pub mod Script
-pub mod LifeExamples
+pub mod laws
+pub mod examples
+pub mod code

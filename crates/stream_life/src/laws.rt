@@ -1,6 +1,6 @@
 //! Laws of the definitions. The functions do nothing; each contract is a law.
-ghost use Rattle.stream_life.specs.Entry.{LifeIsTheEntry};
-ghost use Rattle.stream_life.specs.Outcome.{OutcomesTell};
+ghost use Rattle.stream_life.specs.laws.Entry.{LifeIsTheEntry};
+ghost use Rattle.stream_life.specs.laws.Outcome.{OutcomesTell};
 
 /// A stream's life over its frames is the pass's entry of the stream over its frames and all changes, credit aside.
 pub fn life_is_the_entry()

@@ -1,7 +1,8 @@
 ghost use Rattle.std.specs.Prelude.{◌≡◌, true, ℕ, ◌^◌, ◌<◌, Option};
 ghost use Rattle.audit_terms.specs.Sides.{side_of};
 ghost use Rattle.audit_terms.specs.Frame.{meets};
-ghost use Rattle.stream_life.specs.Life.{StreamByFrames, unmet, is_live_after, ends_live_window, after, outcome_of};
+ghost use Rattle.stream_life.specs.code.Life.{StreamByFrames, unmet, is_live_after, ends_live_window, after};
+ghost use Rattle.stream_life.specs.code.Life.{outcome_of};
 
 use audit_terms::{Frame, Side, Sides, StreamLife};
 use std::marker::Model;

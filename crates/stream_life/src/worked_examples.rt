@@ -1,6 +1,7 @@
 //! Worked examples: what the definitions say of each frame that a stream meets, computed by proof. The functions do
 //! nothing; each contract is the example.
-ghost use Rattle.stream_life.specs.LifeExamples.{BothSidesEnd, AfterReset, OpensAndEnds, NothingOpens, PromiseOpens, PromiseOpensOnce, MisplacedPromise};
+ghost use Rattle.stream_life.specs.examples.Life.{BothSidesEnd, AfterReset, OpensAndEnds, NothingOpens, PromiseOpens};
+ghost use Rattle.stream_life.specs.examples.Life.{PromiseOpensOnce, MisplacedPromise};
 
 /// An opening, and the ends of both sides (RFC 9113, 5.1).
 pub fn both_sides_end()

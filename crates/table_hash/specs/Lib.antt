@@ -1,1 +1,1 @@
-pub mod TableHash
+pub mod code

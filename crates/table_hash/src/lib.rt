@@ -4,7 +4,7 @@
 //! first sight and answers by equality, so no answer depends on the key: no contract of a table names it.
 #![tactic(auto)]
 
-ghost use Rattle.table_hash.specs.TableHash.{first_hasher};
+ghost use Rattle.table_hash.specs.code.TableHash.{first_hasher};
 
 use std::hash::{BuildHasher, DefaultHasher, RandomState};
 use std::random::RandomSource;

@@ -1,5 +1,6 @@
 -- On elements by index: of a list after another, and of a part of a list.
-use Rattle.std.proofs.Common.{◌≡◌, ℕ, zero, suc, ◌+◌, ◌-◌, ◌<◌, ◌≤◌, List, [], ◌∷◌, ◌++◌, length, take, drop, slice_get, refl, ap, ◌∙◌, arith}
+use Rattle.std.proofs.Common.{◌≡◌, ℕ, zero, suc, ◌+◌, ◌-◌, ◌<◌, ◌≤◌, List, [], ◌∷◌, ◌++◌, length, take, drop, slice_get}
+use Rattle.std.proofs.Common.{refl, ap, ◌∙◌, arith}
 use Rattle.std.specs.List.{slice_range}
 use Rattle.std.proofs.lemmas.List.{length-drop, length-take-le}
 
@@ -27,8 +28,10 @@ module _ {X : Type 0} where
   slice_get-drop (suc a) (x ∷ xs) i (suc j) e = slice_get-drop a xs i j (omega (arith, e))
 
   -- a part of a list
-  pub slice_get-slice_range : (xs : List X) (a b i j : ℕ) → j ≡ a + i → j < b → slice_get (slice_range xs a b) i ≡ slice_get xs j
-  slice_get-slice_range xs a b i j e lt = slice_get-take (b - a) (drop a xs) i (omega (arith, e, lt)) ∙ slice_get-drop a xs i j e
+  pub slice_get-slice_range : (xs : List X) (a b i j : ℕ) → j ≡ a + i → j < b → slice_get (slice_range xs a b) i
+      ≡ slice_get xs j
+  slice_get-slice_range xs a b i j e lt = slice_get-take (b - a) (drop a xs) i (omega (arith, e, lt))
+      ∙ slice_get-drop a xs i j e
 
   pub length-slice_range : (xs : List X) (a b : ℕ) → a ≤ b → b ≤ length xs → length (slice_range xs a b) ≡ b - a
   length-slice_range xs a b le le' = length-take-le (b - a) (drop a xs) (omega (arith, length-drop a xs, le, le'))

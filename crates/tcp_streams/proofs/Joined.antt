@@ -1,5 +1,6 @@
 -- On pieces that follow each other, and where their arrivals end.
-use Rattle.std.proofs.Common.{◌≡◌, ℕ, suc, ◌-◌, List, [], ◌∷◌, ◌++◌, length, map, slice_get, None, Some, sym, ap, ◌∙◌, arith}
+use Rattle.std.proofs.Common.{◌≡◌, ℕ, suc, ◌-◌, List, [], ◌∷◌, ◌++◌, length, map, slice_get, None, Some, sym, ap, ◌∙◌}
+use Rattle.std.proofs.Common.{arith}
 use Rattle.std.proofs.lemmas.List.Concat.{concat_is}
 use denote.Ref.{Bor}
 use Rattle.tcp_streams.specs.declared.streams.Arrival.{Arrival}

@@ -1,5 +1,6 @@
 -- On a past whose records fall: an opening is before what looks back to it, and no two share a record.
-use Rattle.std.proofs.Common.{◌≡◌, ℕ, ◌<◌, ◌≤◌, Bool, true, false, ◌&&◌, ◌||◌, not, List, [], ◌∷◌, ◌++◌, length, Option, None, Some, slice_get, ◌⊎◌, inl, inr, refl, sym, ap, subst, ◌∙◌, arith, true≢false}
+use Rattle.std.proofs.Common.{◌≡◌, ℕ, ◌<◌, ◌≤◌, Bool, true, false, ◌&&◌, ◌||◌, not, List, [], ◌∷◌, ◌++◌, length, Option}
+use Rattle.std.proofs.Common.{None, Some, slice_get, ◌⊎◌, inl, inr, refl, sym, ap, subst, ◌∙◌, arith, true≢false}
 use Rattle.std.specs.Prelude.{if◌then◌else◌, nat_eq, is_none, IfSome}
 use Rattle.std.specs.List.{list_any}
 use Rattle.std.proofs.lemmas.Bool.Decides.{eqb_tells}
@@ -69,12 +70,14 @@ last_opening-below p n (s ∷ past) f =
 pub opening_at-below : (n : ℕ) (s : Segment) (past : List Segment) → Falls n (s ∷ past) → IsBelow n (opening_at s past)
 opening_at-below n s past f =
     IsBelow-if (opens s past) n (Some s) (last_opening (pair_of s) past) f.0
-    (IsBelow-weaker s.rec n (last_opening (pair_of s) past) (omega (arith, f.0)) (last_opening-below (pair_of s) s.rec past f.1))
+    (IsBelow-weaker s.rec n (last_opening (pair_of s) past) (omega (arith, f.0))
+    (last_opening-below (pair_of s) s.rec past f.1))
 
 -- what looks back to an earlier opening doesn't look back to this one
 is_opening-below : (o : Segment) (x : Option Segment) → IsBelow o.rec x → is_opening o x ≡ false
 is_opening-below o None h = refl
-is_opening-below o (Some t) h = elim (eqb_tells t.rec o.rec) as (λ _. nat_eq t.rec o.rec ≡ false) [ inl e ↦ absurd (omega (arith, h, e.1)) | inr e ↦ e.0 ]
+is_opening-below o (Some t) h = elim (eqb_tells t.rec o.rec) as
+    (λ _. nat_eq t.rec o.rec ≡ false) [ inl e ↦ absurd (omega (arith, h, e.1)) | inr e ↦ e.0 ]
 
 -- nobody belongs to an opening that is still to come
 pub members-to_come : (o : Segment) (past : List Segment) → Falls o.rec past → members o past ≡ []
@@ -84,69 +87,97 @@ members-to_come o (s ∷ past) f =
     ∙ members-to_come o past (Falls-weaker s.rec o.rec past (omega (arith, f.0)) f.1)
 
 -- the openings are below what the past is below
-pub openings-below : (n : ℕ) (past : List Segment) → Falls n past → (k : ℕ) (o : Segment) → slice_get (openings past) k ≡ Some o → o.rec < n
+pub openings-below : (n : ℕ) (past : List Segment) → Falls n past → (k : ℕ) (o : Segment)
+    → slice_get (openings past) k ≡ Some o → o.rec < n
 openings-below n [] f k o at = absurd (let e : None ≡ Some o = at in cc)
-openings-below n (s ∷ past) f k o at = by (opens s past) (λ h. omega (arith, f.0, openings-below s.rec past f.1 k o h)) at
+openings-below n (s ∷ past) f k o at = by (opens s past) (λ h. omega (arith, f.0, openings-below s.rec past f.1 k o h))
+    at
   where
-    by : (b : Bool) → (slice_get (openings past) k ≡ Some o → o.rec < n) → slice_get (with_if b (openings past) s) k ≡ Some o → o.rec < n
+    by : (b : Bool) → (slice_get (openings past) k ≡ Some o → o.rec < n) → slice_get (with_if b (openings past) s) k
+        ≡ Some o → o.rec < n
     by false earlier h = earlier h
-    by true earlier h = elim (slice_get-push (openings past) s k o h) as (λ _. o.rec < n) [ inl e ↦ earlier e | inr e ↦ subst (λ (t : Segment). t.rec < n) e.1 f.0 ]
+    by true earlier h = elim (slice_get-push (openings past) s k o h) as
+        (λ _. o.rec < n) [ inl e ↦ earlier e | inr e ↦ subst (λ (t : Segment). t.rec < n) e.1 f.0 ]
 
 -- and no two share a record
 pub openings-distinct : (n : ℕ) (past : List Segment) → Falls n past → (i j : ℕ) (a b : Segment)
     → slice_get (openings past) i ≡ Some a → slice_get (openings past) j ≡ Some b → a.rec ≡ b.rec → i ≡ j
 openings-distinct n [] f i j a b at at' h = absurd (let e : None ≡ Some a = at in cc)
-openings-distinct n (s ∷ past) f i j a b at at' same = by (opens s past) (λ p q. openings-distinct s.rec past f.1 i j a b p q same) at at'
+openings-distinct n (s ∷ past) f i j a b at at' same = by (opens s past)
+    (λ p q. openings-distinct s.rec past f.1 i j a b p q same) at at'
   where
     below : (k : ℕ) (o : Segment) → slice_get (openings past) k ≡ Some o → o.rec < s.rec
     below = openings-below s.rec past f.1
 
-    both : (slice_get (openings past) i ≡ Some a → slice_get (openings past) j ≡ Some b → i ≡ j) → (slice_get (openings past) i ≡ Some a) ⊎ ((i ≡ length (openings past)) × (s ≡ a)) → (slice_get (openings past) j ≡ Some b) ⊎ ((j ≡ length (openings past)) × (s ≡ b)) → i ≡ j
+    both : (slice_get (openings past) i ≡ Some a → slice_get (openings past) j ≡ Some b → i ≡ j)
+        → (slice_get (openings past) i ≡ Some a) ⊎ ((i ≡ length (openings past)) × (s ≡ a))
+        → (slice_get (openings past) j ≡ Some b) ⊎ ((j ≡ length (openings past)) × (s ≡ b)) → i ≡ j
     both earlier (inl p) (inl q) = earlier p q
-    both earlier (inl p) (inr q) = let e : s.rec ≡ b.rec = ap (λ (t : Segment). t.rec) q.1 in absurd (omega (arith, below i a p))
-    both earlier (inr p) (inl q) = let e : s.rec ≡ a.rec = ap (λ (t : Segment). t.rec) p.1 in absurd (omega (arith, below j b q))
+    both earlier (inl p) (inr q) = let e : s.rec ≡ b.rec = ap (λ (t : Segment). t.rec) q.1 in absurd
+        (omega (arith, below i a p))
+    both earlier (inr p) (inl q) = let e : s.rec ≡ a.rec = ap (λ (t : Segment). t.rec) p.1 in absurd
+        (omega (arith, below j b q))
     both earlier (inr p) (inr q) = p.0 ∙ sym q.0
 
-    by : (t : Bool) → (slice_get (openings past) i ≡ Some a → slice_get (openings past) j ≡ Some b → i ≡ j) → slice_get (with_if t (openings past) s) i ≡ Some a → slice_get (with_if t (openings past) s) j ≡ Some b → i ≡ j
+    by : (t : Bool) → (slice_get (openings past) i ≡ Some a → slice_get (openings past) j ≡ Some b → i ≡ j)
+        → slice_get (with_if t (openings past) s) i ≡ Some a → slice_get (with_if t (openings past) s) j ≡ Some b
+        → i ≡ j
     by false earlier p q = earlier p q
     by true earlier p q = both earlier (slice_get-push (openings past) s i a p) (slice_get-push (openings past) s j b q)
 
-list_any-with_if : (p : Segment → Bool) (b : Bool) (xs : List Segment) (s : Segment) → list_any p xs ≡ true → list_any p (with_if b xs s) ≡ true
+list_any-with_if : (p : Segment → Bool) (b : Bool) (xs : List Segment) (s : Segment) → list_any p xs ≡ true
+    → list_any p (with_if b xs s) ≡ true
 list_any-with_if p false xs s h = h
 list_any-with_if p true xs s h = list_any-append p xs (s ∷ []) ∙ ap (λ c. c || list_any p (s ∷ [])) h
 
 -- a first stray is a stray
-pub first_strays-stray : (past : List Segment) (k : ℕ) (f : Segment) → slice_get (first_strays past) k ≡ Some f → list_any (is_of (pair_of f)) (strays past) ≡ true
+pub first_strays-stray : (past : List Segment) (k : ℕ) (f : Segment) → slice_get (first_strays past) k ≡ Some f
+    → list_any (is_of (pair_of f)) (strays past) ≡ true
 first_strays-stray [] k f at = absurd (let e : None ≡ Some f = at in cc)
 first_strays-stray (s ∷ past) k f at =
     by (is_none (opening_at s past)) (list_any (is_of (pair_of s)) (strays past))
     (λ b h. list_any-with_if (is_of (pair_of f)) b (strays past) s (first_strays-stray past k f h)) at
   where
     new : s ≡ f → list_any (is_of (pair_of f)) (strays past ++ s ∷ []) ≡ true
-    new e = list_any-at (is_of (pair_of f)) (strays past ++ s ∷ []) _ s (slice_get-last (strays past) s) (ap (λ t. is_of (pair_of f) t) e ∙ is_pair-refl (pair_of f))
+    new e = list_any-at (is_of (pair_of f)) (strays past ++ s ∷ []) _ s (slice_get-last (strays past) s)
+        (ap (λ t. is_of (pair_of f) t) e ∙ is_pair-refl (pair_of f))
 
-    by : (b c : Bool) → ((b : Bool) → slice_get (first_strays past) k ≡ Some f → list_any (is_of (pair_of f)) (with_if b (strays past) s) ≡ true) → slice_get (with_if (b && not c) (first_strays past) s) k ≡ Some f → list_any (is_of (pair_of f)) (with_if b (strays past) s) ≡ true
+    by : (b c : Bool) → ((b : Bool) → slice_get (first_strays past) k ≡ Some f
+        → list_any (is_of (pair_of f)) (with_if b (strays past) s) ≡ true)
+        → slice_get (with_if (b && not c) (first_strays past) s) k ≡ Some f
+        → list_any (is_of (pair_of f)) (with_if b (strays past) s) ≡ true
     by false c earlier h = earlier false h
     by true true earlier h = earlier true h
-    by true false earlier h = elim (slice_get-push (first_strays past) s k f h) as (λ _. list_any (is_of (pair_of f)) (strays past ++ s ∷ []) ≡ true) [ inl e ↦ earlier true e | inr e ↦ new e.1 ]
+    by true false earlier h = elim (slice_get-push (first_strays past) s k f h) as
+        (λ _. list_any (is_of (pair_of f)) (strays past ++ s ∷ []) ≡ true) [ inl e ↦ earlier true e | inr e ↦ new e.1 ]
 
 -- no two first strays are of one pair
 pub first_strays-distinct : (past : List Segment) (i j : ℕ) (a b : Segment)
-    → slice_get (first_strays past) i ≡ Some a → slice_get (first_strays past) j ≡ Some b → pair_of a ≡ pair_of b → i ≡ j
+    → slice_get (first_strays past) i ≡ Some a → slice_get (first_strays past) j ≡ Some b → pair_of a ≡ pair_of b
+    → i ≡ j
 first_strays-distinct [] i j a b at at' same = absurd (let e : None ≡ Some a = at in cc)
 first_strays-distinct (s ∷ past) i j a b at at' same =
-    by (is_none (opening_at s past)) (list_any (is_of (pair_of s)) (strays past)) (λ p q. first_strays-distinct past i j a b p q same) refl at at'
+    by (is_none (opening_at s past)) (list_any (is_of (pair_of s)) (strays past))
+    (λ p q. first_strays-distinct past i j a b p q same) refl at at'
   where
-    not_new : (k : ℕ) (t : Segment) → list_any (is_of (pair_of s)) (strays past) ≡ false → slice_get (first_strays past) k ≡ Some t → pair_of t ≡ pair_of s → ⊥
-    not_new k t none at e = true≢false (sym (subst (λ p. list_any (is_of p) (strays past) ≡ true) e (first_strays-stray past k t at)) ∙ none)
+    not_new : (k : ℕ) (t : Segment) → list_any (is_of (pair_of s)) (strays past) ≡ false
+        → slice_get (first_strays past) k ≡ Some t → pair_of t ≡ pair_of s → ⊥
+    not_new k t none at e = true≢false
+        (sym (subst (λ p. list_any (is_of p) (strays past) ≡ true) e (first_strays-stray past k t at)) ∙ none)
 
-    both : (slice_get (first_strays past) i ≡ Some a → slice_get (first_strays past) j ≡ Some b → i ≡ j) → list_any (is_of (pair_of s)) (strays past) ≡ false → (slice_get (first_strays past) i ≡ Some a) ⊎ ((i ≡ length (first_strays past)) × (s ≡ a)) → (slice_get (first_strays past) j ≡ Some b) ⊎ ((j ≡ length (first_strays past)) × (s ≡ b)) → i ≡ j
+    both : (slice_get (first_strays past) i ≡ Some a → slice_get (first_strays past) j ≡ Some b → i ≡ j)
+        → list_any (is_of (pair_of s)) (strays past) ≡ false → (slice_get (first_strays past) i ≡ Some a)
+        ⊎ ((i ≡ length (first_strays past)) × (s ≡ a)) → (slice_get (first_strays past) j ≡ Some b)
+        ⊎ ((j ≡ length (first_strays past)) × (s ≡ b)) → i ≡ j
     both earlier none (inl p) (inl q) = earlier p q
     both earlier none (inl p) (inr q) = absurd (not_new i a none p (same ∙ sym (ap pair_of q.1)))
     both earlier none (inr p) (inl q) = absurd (not_new j b none q (sym same ∙ sym (ap pair_of p.1)))
     both earlier none (inr p) (inr q) = p.0 ∙ sym q.0
 
-    by : (u v : Bool) → (slice_get (first_strays past) i ≡ Some a → slice_get (first_strays past) j ≡ Some b → i ≡ j) → list_any (is_of (pair_of s)) (strays past) ≡ v → slice_get (with_if (u && not v) (first_strays past) s) i ≡ Some a → slice_get (with_if (u && not v) (first_strays past) s) j ≡ Some b → i ≡ j
+    by : (u v : Bool) → (slice_get (first_strays past) i ≡ Some a → slice_get (first_strays past) j ≡ Some b → i ≡ j)
+        → list_any (is_of (pair_of s)) (strays past) ≡ v → slice_get (with_if (u && not v) (first_strays past) s) i
+        ≡ Some a → slice_get (with_if (u && not v) (first_strays past) s) j ≡ Some b → i ≡ j
     by false c earlier e p q = earlier p q
     by true true earlier e p q = earlier p q
-    by true false earlier e p q = both earlier e (slice_get-push (first_strays past) s i a p) (slice_get-push (first_strays past) s j b q)
+    by true false earlier e p q = both earlier e (slice_get-push (first_strays past) s i a p)
+        (slice_get-push (first_strays past) s j b q)

@@ -5,19 +5,21 @@ use Rattle.std.specs.List.{filter_map}
 use Rattle.audit_terms.specs.declared.sides.Side.{Side}
 use Rattle.packet_heads.specs.declared.packets.Packet.{Packet}
 use Rattle.packet_heads.specs.declared.packets.Segment.{Segment}
-use Rattle.packet_heads.specs.Order.{AreNumberedFrom, PayloadsRise, TimesFit}
+use Rattle.packet_heads.specs.code.Order.{AreNumberedFrom, PayloadsRise, TimesFit}
 use Rattle.tcp_streams.specs.declared.interval.Interval.{Interval}
 use Rattle.tcp_streams.specs.declared.members.Connection.{Connection}
 use Rattle.tcp_streams.specs.declared.streams.Flow.{Flow}
-use Rattle.tcp_streams.specs.Orderly.{AreTimely, AreMembers, payload_sum}
+use Rattle.tcp_streams.specs.code.Orderly.{AreTimely, AreMembers, payload_sum}
 use Rattle.tcp_streams.specs.Bytes.{bytes_of}
 use Rattle.tcp_streams.specs.Flow.{IsFlow}
 use Rattle.tcp_streams.specs.code.Assembled.{IsAssembled}
-use Rattle.tcp_streams.specs.code.Interval.{AreCaptured, IsInterval, IsCaptured, IsSame, at, member_piece, piece, size_of}
+use Rattle.tcp_streams.specs.code.Interval.{AreCaptured, IsInterval, IsCaptured, IsSame, at, member_piece, piece}
+use Rattle.tcp_streams.specs.code.Interval.{size_of}
 use Rattle.tcp_streams.specs.Members.{side_segments}
 use Rattle.tcp_streams.specs.Sequence.{source}
 use Rattle.tcp_streams.proofs.FlowLemmas.{IsFlow-same, side-fits}
-use Rattle.tcp_streams.proofs.PieceLemmas.{AreSound, member-pieces, pieces-intervals, pieces-same, pieces-size, side-sound, source-first, source-captured}
+use Rattle.tcp_streams.proofs.PieceLemmas.{AreSound, member-pieces, pieces-intervals, pieces-same, pieces-size}
+use Rattle.tcp_streams.proofs.PieceLemmas.{side-sound, source-first, source-captured}
 
 module _ (initial_number : ℕ) (capture : List ℕ) (packets : List Packet) (connection : Connection) (side : Side)
     (small : length capture < 2 ^ 31) (numbered : AreNumberedFrom 1 packets)
@@ -38,7 +40,8 @@ module _ (initial_number : ℕ) (capture : List ℕ) (packets : List Packet) (co
   pieces-valid = subst (λ (l : List Interval). All IsInterval l) (sym side-pieces)
       (pieces-intervals initial_number (length capture) 0 segments small side-is_sound)
 
-  module _ (intervals : List Interval) (same : IsSame (at intervals) (at pieces)) (size : size_of intervals ≤ size_of pieces) where
+  module _ (intervals : List Interval) (same : IsSame (at intervals) (at pieces))
+      (size : size_of intervals ≤ size_of pieces) where
     sources-same : IsSame (at intervals) (source initial_number segments)
     sources-same = λ o lt. same o lt ∙ ap (λ (l : List Interval). at l o) side-pieces
         ∙ sym (pieces-same initial_number (length capture) 0 segments small side-is_sound o lt)
@@ -61,7 +64,14 @@ module _ (initial_number : ℕ) (capture : List ℕ) (packets : List Packet) (co
           is_flow = IsFlow-same capture _ _ (bytes_of f) f.arrivals.items f.gap sources-same flow;
           within = omega (arith, within, intervals-within);
           orderly = record {
-            short = omega (arith, within, intervals-within, side-fits packets (length capture) connection side rise members, small);
+            short = omega (
+              arith,
+              within,
+              intervals-within,
+              side-fits packets (length capture) connection side
+                  rise members,
+              small,
+            );
             rises = flow.rises;
             timely = timely;
           };

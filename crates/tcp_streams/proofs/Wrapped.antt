@@ -1,12 +1,13 @@
 -- The worked example of a flow whose sequence numbers come round.
-use Rattle.std.proofs.Common.{◌≡◌, ℕ, zero, suc, ◌+◌, ◌-◌, ◌<◌, ◌≤◌, ◌^◌, Bool, true, false, List, [], ◌∷◌, filter, length, map, slice_get, Option, None, Some, refl, sym, ap, subst, ◌∙◌, arith, lit<}
+use Rattle.std.proofs.Common.{◌≡◌, ℕ, zero, suc, ◌+◌, ◌-◌, ◌<◌, ◌≤◌, ◌^◌, Bool, true, false, List, [], ◌∷◌, filter}
+use Rattle.std.proofs.Common.{length, map, slice_get, Option, None, Some, refl, sym, ap, subst, ◌∙◌, arith, lit<}
 use Rattle.std.specs.Prelude.{codes, if◌then◌else◌, nat_lt, ◌%◌, IsSome, IsSomeAnd}
 use Rattle.std.proofs.lemmas.Bool.Decides.{nat_tests}
 use Rattle.packet_heads.specs.declared.packets.Segment.{Segment}
 use Rattle.tcp_streams.specs.declared.members.Connection.{Connection}
 use Rattle.tcp_streams.specs.declared.streams.Arrival.{Arrival}
 use Rattle.tcp_streams.specs.Bytes.{bytes_of}
-use Rattle.tcp_streams.specs.Example.{WrappedRetransmission, client, letters, segment, server, wrapped}
+use Rattle.tcp_streams.specs.examples.Retransmission.{WrappedRetransmission, client, letters, segment, server, wrapped}
 use Rattle.tcp_streams.specs.Flow.{IsArrivalOf, IsFlow, arrival_at}
 use Rattle.tcp_streams.specs.Members.{segments_of}
 use Rattle.tcp_streams.specs.Pair.{is_endpoint}
@@ -47,7 +48,8 @@ not_below n k h = grind (arith, nat_tests)
 -- a segment brings nothing past its end
 brings-none : (isn : ℕ) (s : Segment) (o : ℕ) → payload_length s ≤ distance isn s o → brings isn s o ≡ None
 brings-none isn s o h =
-    ap (λ (b : Bool). if b then Some (let x : Source = record { rec = s.rec; nanos = s.nanos; index = s.lo + distance isn s o } in x) else None)
+    ap (λ (b : Bool). if b then Some
+    (let x : Source = record { rec = s.rec; nanos = s.nanos; index = s.lo + distance isn s o } in x) else None)
     (not_below (distance isn s o) (payload_length s) h)
 
 past_four : (o : ℕ) → 6 < o → o < 2 ^ 31 → 2 ≤ (o + (2 ^ 32 - 4)) % 2 ^ 32
@@ -73,9 +75,12 @@ fifth = segment 5 client server (2 ^ 32 - 3) false true 5 8
 
 none-later : (o : ℕ) → 6 < o → o < 2 ^ 31 → brought opened o ≡ None
 none-later o low high =
-    ap (λ x. earlier_of x (source (2 ^ 32 - 4) (third ∷ fourth ∷ fifth ∷ []) o)) (brings-none (2 ^ 32 - 4) first o (omega arith))
-    ∙ ap (λ x. earlier_of x (source (2 ^ 32 - 4) (fourth ∷ fifth ∷ []) o)) (brings-none (2 ^ 32 - 4) third o (past_four o low high))
-    ∙ ap (λ x. earlier_of x (source (2 ^ 32 - 4) (fifth ∷ []) o)) (brings-none (2 ^ 32 - 4) fourth o (past_three o low high))
+    ap (λ x. earlier_of x (source (2 ^ 32 - 4) (third ∷ fourth ∷ fifth ∷ []) o))
+    (brings-none (2 ^ 32 - 4) first o (omega arith))
+    ∙ ap (λ x. earlier_of x (source (2 ^ 32 - 4) (fourth ∷ fifth ∷ []) o))
+    (brings-none (2 ^ 32 - 4) third o (past_four o low high))
+    ∙ ap (λ x. earlier_of x (source (2 ^ 32 - 4) (fifth ∷ []) o))
+    (brings-none (2 ^ 32 - 4) fourth o (past_three o low high))
     ∙ ap (λ x. earlier_of x None) (brings-none (2 ^ 32 - 4) fifth o (past_zero o low high))
 
 -- what the definition says of one byte, and of its arrival
@@ -113,5 +118,6 @@ wrapped-retransmission found connection flow are at flows =
     let one = one-alone found opened connection shown at in
     let flows' : IsFlow letters (brought opened) (bytes_of flow) flow.arrivals.items flow.gap =
     subst (λ (m : Membership). IsFlow letters (brought m) (bytes_of flow) flow.arrivals.items flow.gap) one.1 flows in
-    let same = IsFlow-unique letters (brought opened) (bytes_of flow) (codes "abcdEF") flow.arrivals.items arrived flow.gap None flows' flow-is in
+    let same = IsFlow-unique letters (brought opened) (bytes_of flow) (codes "abcdEF") flow.arrivals.items arrived
+    flow.gap None flows' flow-is in
     (one.0, ap (λ (m : Membership). Some m.client_isn) one.1, same.0, same.1, same.2)

@@ -1,12 +1,11 @@
 pub mod Arrivals
 pub mod Bytes
-pub mod Example
 pub mod Flow
-pub mod Laws
 pub mod Members
 pub mod Membership
-pub mod Orderly
 pub mod Packets
 pub mod Pair
 pub mod Sequence
+pub mod laws
+pub mod examples
 pub mod code

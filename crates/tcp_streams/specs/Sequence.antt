@@ -2,7 +2,8 @@
 -- modulo 2 ^ 32 from the initial number, and a SYN takes a number of its own.
 --
 -- Where several segments bring a byte to one offset, the first record wins: this profile's own choice.
-use Rattle.std.specs.Prelude.{ℕ, ◌+◌, ◌-◌, ◌%◌, ◌^◌, nat_lt, if◌then◌else◌, List, [], ◌∷◌, zero, suc, Option, None, Some}
+use Rattle.std.specs.Prelude.{ℕ, ◌+◌, ◌-◌, ◌%◌, ◌^◌, nat_lt, if◌then◌else◌, List, [], ◌∷◌, zero, suc, Option, None}
+use Rattle.std.specs.Prelude.{Some}
 use Rattle.packet_heads.specs.declared.packets.Segment.{Segment}
 
 -- sequence numbers and offsets of 32 bits come round at this number

@@ -4,3 +4,4 @@ pub mod Pairs
 pub mod Past
 pub mod Standings
 pub mod Table
+pub mod Orderly

@@ -1,6 +1,6 @@
 ghost use Rattle.std.specs.Prelude.{◌≡◌, ◌<◌, ◌≤◌, ◌^◌, None, [], false, length, IsTrue, IfOk, IsOk, IfSome};
-ghost use Rattle.packet_heads.specs.Order.{AreNumberedFrom, PayloadsRise, TimesFit};
-ghost use Rattle.tcp_streams.specs.Orderly.{IsOrderly, AreMembers, payload_sum};
+ghost use Rattle.packet_heads.specs.code.Order.{AreNumberedFrom, PayloadsRise, TimesFit};
+ghost use Rattle.tcp_streams.specs.code.Orderly.{IsOrderly, AreMembers, payload_sum};
 ghost use Rattle.tcp_streams.specs.Bytes.{bytes_of};
 ghost use Rattle.tcp_streams.specs.Flow.{IsFlow};
 ghost use Rattle.tcp_streams.specs.Members.{initial_of, side_segments};

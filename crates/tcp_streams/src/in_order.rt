@@ -2,11 +2,11 @@
 
 ghost use Rattle.std.specs.Prelude.{◌≡◌, ◌+◌, ◌-◌, ◌<◌, ◌≤◌, ◌^◌, ◌∷◌, ◌++◌, [], length, IfOk, IfSome, OnOk};
 ghost use Rattle.std.specs.List.{slice_range};
-ghost use Rattle.packet_heads.specs.Order.{AreNumberedFrom, PayloadsRise, TimesFit};
+ghost use Rattle.packet_heads.specs.code.Order.{AreNumberedFrom, PayloadsRise, TimesFit};
 ghost use Rattle.tcp_streams.specs.Bytes.{joined};
 ghost use Rattle.tcp_streams.specs.code.Assembled.{IsAssembled};
 ghost use Rattle.tcp_streams.specs.code.Interval.{IsInterval, arrival_with, width};
-ghost use Rattle.tcp_streams.specs.Orderly.{AreMembers};
+ghost use Rattle.tcp_streams.specs.code.Orderly.{AreMembers};
 
 use crate::interval::Interval;
 use crate::layout::arrival_with;

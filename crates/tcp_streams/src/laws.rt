@@ -1,6 +1,6 @@
 //! Laws of the definitions. These calls do nothing; their contracts are what they are for.
 
-ghost use Rattle.tcp_streams.specs.Laws.{ByteHasOffset, FlowIsUnique, FlowsFit, SidesFit};
+ghost use Rattle.tcp_streams.specs.laws.Flows.{ByteHasOffset, FlowIsUnique, FlowsFit, SidesFit};
 
 /// A side's sources have one flow: no other bytes, arrivals or gap meet the definition.
 pub fn flow_is_unique()

@@ -1,5 +1,5 @@
 ghost use Rattle.std.specs.Prelude.{◌≡◌, ◌+◌, ◌-◌, ◌<◌, ◌≤◌, ◌^◌, true, length, All, IfOk};
-ghost use Rattle.tcp_streams.specs.Orderly.{AreTimely};
+ghost use Rattle.tcp_streams.specs.code.Orderly.{AreTimely};
 ghost use Rattle.tcp_streams.specs.Bytes.{bytes_of, joined};
 ghost use Rattle.tcp_streams.specs.Flow.{IsFlow};
 ghost use Rattle.tcp_streams.specs.code.Interval.{AreCaptured, IsInterval, Spans, arrival_with, arrivals_in, at, bytes_in, run_length, size_of};

@@ -1,7 +1,7 @@
 ghost use Rattle.std.specs.Prelude.{◌≡◌, ◌<◌, ◌^◌, length, All, IfOk};
-ghost use Rattle.tcp_streams.specs.Orderly.{AreMembers};
+ghost use Rattle.tcp_streams.specs.code.Orderly.{AreMembers};
 ghost use Rattle.tcp_streams.specs.Membership.{AreConnections, strays_of};
-ghost use Rattle.packet_heads.specs.Order.{AreNumberedFrom};
+ghost use Rattle.packet_heads.specs.code.Order.{AreNumberedFrom};
 
 use crate::members::Connections;
 use crate::table::Table;

@@ -1,7 +1,7 @@
 ghost use Rattle.std.specs.Prelude.{◌≡◌, ◌+◌, ◌-◌, ◌%◌, ◌<◌, ◌≤◌, ◌^◌, if◌then◌else◌, length, Option, IsSome, IfOk};
 ghost use Rattle.std.specs.List.{filter_map};
 ghost use Rattle.tcp_streams.specs.code.Interval.{PayloadsFit, member_piece, piece, stretch};
-ghost use Rattle.tcp_streams.specs.Orderly.{AreMembers};
+ghost use Rattle.tcp_streams.specs.code.Orderly.{AreMembers};
 ghost use Rattle.tcp_streams.specs.Members.{is_sent_by};
 ghost use Rattle.tcp_streams.specs.Packets.{segment_of};
 

@@ -29,7 +29,7 @@ pub struct Flow<'a> {
 
 impl<'a> Flow<'a> {
     ghost use Rattle.std.specs.Prelude.{◌≡◌, [], None, false, length};
-    ghost use Rattle.tcp_streams.specs.Orderly.{IsOrderly};
+    ghost use Rattle.tcp_streams.specs.code.Orderly.{IsOrderly};
     ghost use Rattle.tcp_streams.specs.Bytes.{bytes_of};
 
     /// The flow of a side whose initial sequence number is not known.

@@ -1,7 +1,7 @@
-//! A worked example, which stands with its answer in `specs/Example.antt`. The call does nothing; its contract is what it
-//! is for.
+//! A worked example, which stands with its answer in `specs/examples/Retransmission.antt`. The call does nothing; its
+//! contract is what it is for.
 
-ghost use Rattle.tcp_streams.specs.Example.{WrappedRetransmission};
+ghost use Rattle.tcp_streams.specs.examples.Retransmission.{WrappedRetransmission};
 
 /// From packets to a flow: numbers that come round, a retransmission that comes last, bytes that were there before.
 pub fn wrapped_retransmission()

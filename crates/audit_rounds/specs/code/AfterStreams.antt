@@ -3,12 +3,12 @@ use Rattle.std.specs.Global.{Global}
 use Rattle.std.specs.Prelude.{◌≡◌, ℕ, ◌<◌, Bool, List, Option, Vec, length, map, slice_index_or}
 use Rattle.std.specs.List.{All, AllZip}
 use Rattle.audit_terms.specs.declared.findings.Finding.{Finding}
-use Rattle.stop_desk.specs.Stop.{IsStop}
+use Rattle.stop_desk.specs.code.Stop.{IsStop}
 use Rattle.job_crew.specs.declared.settling.Settled.{Settled}
-use Rattle.job_crew.specs.Settling.{HasSettled}
+use Rattle.job_crew.specs.code.Settling.{HasSettled}
 use Rattle.audit_rounds.specs.declared.prepared.Prepared.{Prepared}
 use Rattle.stream_groups.specs.declared.streams.Streams.{Streams}
-use Rattle.audit_rounds.specs.Settling.{IsAfterStreams}
+use Rattle.audit_rounds.specs.code.Within.{IsAfterStreams}
 use Rattle.audit_rounds.specs.code.StreamRound.{IsFirstStop, IsStreamsOf}
 use Rattle.audit_rounds.specs.code.StreamJobs.{Makes, job_of, plan_from}
 

@@ -3,11 +3,11 @@ use Rattle.std.specs.Prelude.{◌≡◌, ℕ, ◌+◌, ◌<◌, ◌≤◌, ◌^�
 use Rattle.std.specs.List.{AllByRecursion}
 use Rattle.audit_terms.specs.declared.connections.ConnectionState.{ConnectionState}
 use Rattle.audit_terms.specs.declared.items.Item.{Item}
-use Rattle.block_scan.specs.List.{items_of}
+use Rattle.block_scan.specs.code.List.{items_of}
 use Rattle.conn_scan.specs.declared.block_items.Block.{Block}
-use Rattle.conn_scan.specs.Items.{items_in, IsBlock}
-use Rattle.conn_scan.specs.Block.{MovesLittle, BlockFits}
-use Rattle.conn_scan.specs.ConnSum.{ConnSum, conn_sum_of}
+use Rattle.conn_scan.specs.code.Items.{items_in, IsBlock}
+use Rattle.conn_scan.specs.code.Block.{MovesLittle, BlockFits}
+use Rattle.conn_scan.specs.code.ConnSum.{ConnSum, conn_sum_of}
 use Rattle.audit_rounds.specs.declared.blocks.ConnectionBlock.{ConnectionBlock}
 
 -- a block that may be summed

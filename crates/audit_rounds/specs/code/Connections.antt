@@ -3,7 +3,7 @@ use Rattle.std.specs.Global.{Global}
 use Rattle.std.specs.Prelude.{◌≡◌, ℕ, ◌<◌, List, Option, Vec, length, slice_index_or}
 use Rattle.conn_scan.specs.declared.block_items.Block.{Block}
 use Rattle.audit_rounds.specs.declared.prepared.Prepared.{Prepared}
-use Rattle.audit_rounds.specs.Settling.{frames_within}
+use Rattle.audit_rounds.specs.code.Within.{frames_within}
 
 -- the frames up to the stop, with these openings and all changes
 pub record IsRest (connection : Prepared) (stop : Option ℕ) (numbers : List ℕ) (rest : Block) : Type 0 where

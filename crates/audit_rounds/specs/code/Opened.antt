@@ -3,7 +3,7 @@ use Rattle.std.specs.Global.{Global}
 use Rattle.std.specs.Prelude.{ℕ, ◌==◌, if◌then◌else◌, Vec, List, []}
 use Rattle.std.specs.List.{flat_map}
 use Rattle.std.specs.List.Sorted.{IsPermutation}
-use Rattle.conn_scan.specs.Items.{NeverFallFrom}
+use Rattle.conn_scan.specs.code.Items.{NeverFallFrom}
 use Rattle.job_crew.specs.declared.parts.Part.{Part}
 
 -- the numbers that the parts of a connection tell, one part after the other

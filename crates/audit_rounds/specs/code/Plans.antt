@@ -1,17 +1,18 @@
 -- The plan of the round in which blocks are gone through.
-use Rattle.std.specs.Prelude.{◌≡◌, ℕ, ◌+◌, ◌<◌, ◌==◌, Bool, if◌then◌else◌, All, List, [], ◌∷◌, ◌++◌, map, slice_get, Option, Some}
+use Rattle.std.specs.Prelude.{◌≡◌, ℕ, ◌+◌, ◌<◌, ◌==◌, Bool, if◌then◌else◌, All, List, [], ◌∷◌, ◌++◌, map, slice_get}
+use Rattle.std.specs.Prelude.{Option, Some}
 use Rattle.audit_terms.specs.declared.findings.Finding.{Finding}
 use Rattle.audit_terms.specs.declared.frames.Frame.{Frame}
 use Rattle.audit_terms.specs.declared.items.Item.{Item}
 use Rattle.audit_terms.specs.Connection.{connection_start}
-use Rattle.audit_terms.specs.runs.Blocks.{block_run}
+use Rattle.audit_terms.specs.code.runs.Blocks.{block_run}
 use Rattle.audit_terms.specs.Finding.{shown}
-use Rattle.audit_terms.specs.runs.Look.{Asked}
-use Rattle.conn_scan.specs.Items.{items_in}
-use Rattle.split_merge.specs.Board.{Job, IsSettled, findings_of_jobs}
+use Rattle.audit_terms.specs.code.runs.Look.{Asked}
+use Rattle.conn_scan.specs.code.Items.{items_in}
+use Rattle.split_merge.specs.code.Board.{Job, IsSettled, findings_of_jobs}
 use Rattle.job_crew.specs.declared.parts.Part.{Part}
-use Rattle.job_crew.specs.Heeding.{RunLooks}
-use Rattle.job_crew.specs.Laid.{part_of, board_with}
+use Rattle.job_crew.specs.code.Heeding.{RunLooks}
+use Rattle.job_crew.specs.code.Laid.{part_of, board_with}
 use Rattle.audit_rounds.specs.declared.blocks.ConnectionBlock.{ConnectionBlock}
 use Rattle.audit_rounds.specs.declared.block_plans.ReadyBlock.{ReadyBlock}
 use Rattle.audit_rounds.specs.code.Blocks.{IsReady}

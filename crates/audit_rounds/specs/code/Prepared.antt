@@ -1,11 +1,11 @@
 -- A connection made ready for the rounds.
 use Rattle.std.specs.Prelude.{◌≡◌, ◌++◌, Bool, List}
 use Rattle.audit_terms.specs.declared.findings.Finding.{Finding}
-use Rattle.audit_terms.specs.runs.Orderly.{IsOrderly}
-use Rattle.audit_terms.specs.runs.LocalFaults.{local_run}
-use Rattle.audit_terms.specs.runs.Changes.{changes_of, settings_run}
-use Rattle.settings_pair.specs.Changes.{AreOrderly, AreAcknowledged}
-use Rattle.split_merge.specs.Split.{IsSplit}
+use Rattle.audit_terms.specs.code.runs.Orderly.{IsOrderly}
+use Rattle.audit_terms.specs.code.runs.LocalFaults.{local_run}
+use Rattle.audit_terms.specs.code.runs.Changes.{changes_of, settings_run}
+use Rattle.settings_pair.specs.code.Changes.{AreOrderly, AreAcknowledged}
+use Rattle.split_merge.specs.code.Split.{IsSplit}
 use Rattle.audit_rounds.specs.declared.prepared.Prepared.{Prepared}
 
 -- the frames of a connection, the changes that they bring, and their split

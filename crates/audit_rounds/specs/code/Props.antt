@@ -6,11 +6,11 @@ use Rattle.audit_terms.specs.declared.connections.ConnectionState.{ConnectionSta
 use Rattle.audit_terms.specs.declared.frames.Frame.{Frame}
 use Rattle.audit_terms.specs.declared.items.Change.{Change}
 use Rattle.audit_terms.specs.declared.items.Item.{Item}
-use Rattle.audit_terms.specs.runs.Orderly.{IsInRange, IsOrderlyFrom}
-use Rattle.settings_pair.specs.Changes.{AreOrderlyFrom}
+use Rattle.audit_terms.specs.code.runs.Orderly.{IsInRange, IsOrderlyFrom}
+use Rattle.settings_pair.specs.code.Changes.{AreOrderlyFrom}
 use Rattle.conn_scan.specs.declared.block_items.Block.{Block}
-use Rattle.conn_scan.specs.Items.{items_in, IsBlock, NeverFallFrom}
-use Rattle.conn_scan.specs.Block.{BlockFits}
+use Rattle.conn_scan.specs.code.Items.{items_in, IsBlock, NeverFallFrom}
+use Rattle.conn_scan.specs.code.Block.{BlockFits}
 use Rattle.audit_rounds.specs.declared.blocks.ConnectionBlock.{ConnectionBlock}
 use Rattle.audit_rounds.specs.declared.block_plans.ReadyBlock.{ReadyBlock}
 use Rattle.audit_rounds.specs.code.Blocks.{IsShort, AreShort, IsReady}

@@ -1,15 +1,16 @@
 -- The jobs of the round over streams: consecutive rows of a connection's split.
-use Rattle.std.specs.Prelude.{◌≡◌, ℕ, ◌+◌, ◌^◌, ◌<◌, ◌≤◌, Bool, List, [], ◌∷◌, ◌++◌, All, map, length, slice_get, Option, Some}
+use Rattle.std.specs.Prelude.{◌≡◌, ℕ, ◌+◌, ◌^◌, ◌<◌, ◌≤◌, Bool, List, [], ◌∷◌, ◌++◌, All, map, length, slice_get}
+use Rattle.std.specs.Prelude.{Option, Some}
 use Rattle.std.specs.Option.{option_map_or}
 use Rattle.std.specs.List.{between}
-use Rattle.audit_terms.specs.runs.Look.{Asked}
-use Rattle.settings_pair.specs.Changes.{AreOrderly}
+use Rattle.audit_terms.specs.code.runs.Look.{Asked}
+use Rattle.settings_pair.specs.code.Changes.{AreOrderly}
 use Rattle.split_merge.specs.declared.splits.StreamRow.{StreamRow}
-use Rattle.split_merge.specs.Groups.{groups}
-use Rattle.split_merge.specs.Board.{Job}
+use Rattle.split_merge.specs.code.Groups.{groups}
+use Rattle.split_merge.specs.code.Board.{Job}
 use Rattle.stream_groups.specs.declared.streams.Streams.{Streams}
 use Rattle.audit_rounds.specs.declared.stream_plan.StreamJob.{StreamJob}
-use Rattle.stream_groups.specs.Streams.{IsRow, AreOpenedUpTo, RowsLook, rows_shown, rows_opened}
+use Rattle.stream_groups.specs.code.Streams.{IsRow, AreOpenedUpTo, RowsLook, rows_shown, rows_opened}
 
 -- the streams of a connection that may be gone through
 pub record IsReady (streams : Streams) : Type 0 where

@@ -3,7 +3,7 @@ use Rattle.std.specs.Prelude.{◌≡◌, ℕ, ◌+◌, ◌*◌, ◌≤◌, true,
 use Rattle.std.specs.List.{list_any}
 use Rattle.audit_terms.specs.declared.findings.Finding.{Finding}
 use Rattle.audit_terms.specs.declared.looks.Watch.{Watch}
-use Rattle.audit_terms.specs.runs.Look.{Asked, Looked, last_answer, is_past, steps_between, LooksOn, LooksInTime}
+use Rattle.audit_terms.specs.code.runs.Look.{Asked, Looked, last_answer, is_past, steps_between, LooksOn, LooksInTime}
 
 -- numbers that never fall, the first `low` or above
 abbrev pub NeverFallFrom : (low : ℕ) → List ℕ → Type 0

@@ -1,15 +1,8 @@
 -- That places stand in order: of frame numbers, then of ranks, then of streams.
-use Rattle.std.specs.Prelude.{◌≡◌, ℕ, ◌-◌, ◌/◌, ◌%◌, ◌^◌, ◌<◌, ◌≤◌}
+use Rattle.std.specs.Prelude.{◌≡◌, ℕ, ◌-◌, ◌^◌, ◌<◌, ◌≤◌}
 use Rattle.std.specs.Ordering.{nat_cmp, ordering_then}
 use Rattle.audit_terms.specs.Place.{place_of}
-
--- the rank of a place
-abbrev pub place_rank : ℕ → ℕ
-place_rank place = place / 2 ^ 31 % 2 ^ 5
-
--- the word of all ones, which is no place
-abbrev pub no_place : ℕ
-no_place = 2 ^ 64 - 1
+use Rattle.audit_terms.specs.code.Places.{no_place}
 
 -- the numbers, ranks and streams that a place can hold
 pub record IsPlaceable (number rank stream : ℕ) : Type 0 where

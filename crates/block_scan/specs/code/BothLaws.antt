@@ -1,9 +1,9 @@
 -- Two lawful summaries side by side are lawful.
 use Rattle.std.proofs.Common.{◌≡◌, List, [], ◌∷◌, ◌++◌, refl, sym, ap, subst}
 use Rattle.block_scan.specs.declared.both.Both.{Both}
-use Rattle.block_scan.specs.Both.{pair, join_both, advance_both, step_both, FitBoth}
-use Rattle.block_scan.specs.Laws.{SummaryLaws, summary_of}
-use Rattle.block_scan.specs.List.{state_after}
+use Rattle.block_scan.specs.code.Both.{pair, join_both, advance_both, step_both, FitBoth}
+use Rattle.block_scan.specs.code.Summary.{SummaryLaws, summary_of}
+use Rattle.block_scan.specs.code.List.{state_after}
 
 pub both_is : {A B : Type 0} {x y : Both A B} → x.first ≡ y.first → x.second ≡ y.second → x ≡ y
 both_is e f = λ i. pair (e i) (f i)

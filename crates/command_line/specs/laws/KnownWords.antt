@@ -1,8 +1,9 @@
 -- What the command line makes of words that a reader can follow by hand.
 use Rattle.std.specs.Prelude.{◌≡◌, true, false, List, [], ◌∷◌, Option, None, Some, codes}
 use Rattle.clap.specs.Words.{Text, fault_of, first_of, matches_of}
-use Rattle.clap.specs.declared.error.kind.ErrorKind.TheVariants.{DisplayHelp, DisplayVersion, UnknownArgument, ValueValidation}
-use Rattle.command_line.specs.Choices.{Choices, choices}
+use Rattle.clap.specs.declared.error.kind.ErrorKind.TheVariants.{DisplayHelp, DisplayVersion, UnknownArgument}
+use Rattle.clap.specs.declared.error.kind.ErrorKind.TheVariants.{ValueValidation}
+use Rattle.command_line.specs.code.Choices.{Choices, choices}
 use Rattle.command_line.specs.declared.options.Options.{Options}
 use Rattle.command_line.specs.Asked.{IsFound}
 use Rattle.command_line.specs.Words.{app}

@@ -1,12 +1,13 @@
 -- What clears a block, by its summary.
-use Rattle.std.specs.Prelude.{ℕ, ℤ, neg_ℤ, ◌-ℤ◌, Bool, true, ◌==◌, ◌&&◌, ◌||◌, not, nat_lt, nat_le, int_lt, int_le, Option, Some, None}
+use Rattle.std.specs.Prelude.{ℕ, ℤ, neg_ℤ, ◌-ℤ◌, Bool, true, ◌==◌, ◌&&◌, ◌||◌, not, nat_lt, nat_le, int_lt, int_le}
+use Rattle.std.specs.Prelude.{Option, Some, None}
 use Rattle.audit_terms.specs.declared.connections.ConnectionState.{ConnectionState}
 use Rattle.audit_terms.specs.Window.{largest_window}
 use Rattle.conn_scan.specs.declared.credits.Credit.{Credit}
 use Rattle.conn_scan.specs.declared.rising.Rising.{Rising}
 use Rattle.conn_scan.specs.declared.latest.Latest.{Latest}
-use Rattle.conn_scan.specs.ConnSum.{ConnSum}
-use Rattle.conn_scan.specs.Clear.{is_usable}
+use Rattle.conn_scan.specs.code.ConnSum.{ConnSum}
+use Rattle.conn_scan.specs.code.Clear.{is_usable}
 
 -- the credit is usable before the changes of a summary and after each
 abbrev pub credit_clear : ℤ → Credit → Bool

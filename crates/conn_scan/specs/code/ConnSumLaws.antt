@@ -6,23 +6,23 @@ use Rattle.audit_terms.specs.declared.connections.ConnectionState.{ConnectionSta
 use Rattle.audit_terms.specs.declared.items.Item.{Item}
 use Rattle.audit_terms.specs.Frame.{promised_in}
 use Rattle.audit_terms.specs.Connection.{credit_after, connection_after, is_opened_by_headers, is_even_promise}
-use Rattle.audit_terms.specs.runs.Blocks.{connection_after_all}
-use Rattle.block_scan.specs.Laws.{SummaryLaws, summary_of}
-use Rattle.block_scan.specs.List.{state_after, states_before}
-use Rattle.block_scan.specs.Both.{pair, join_both, advance_both, FitBoth}
+use Rattle.audit_terms.specs.code.runs.Blocks.{connection_after_all}
+use Rattle.block_scan.specs.code.Summary.{SummaryLaws, summary_of}
+use Rattle.block_scan.specs.code.List.{state_after, states_before}
+use Rattle.block_scan.specs.code.Both.{pair, join_both, advance_both, FitBoth}
 use Rattle.block_scan.specs.code.BothLaws.{both_is, both_laws, summary-both}
 use Rattle.block_scan.specs.code.Shown.{summary-shown}
 use Rattle.conn_scan.specs.declared.side_credits.ClientCredit.{ClientCredit}
 use Rattle.conn_scan.specs.declared.side_credits.ServerCredit.{ServerCredit}
 use Rattle.conn_scan.specs.declared.ids.OpenedIds.{OpenedIds}
 use Rattle.conn_scan.specs.declared.ids.PromisedIds.{PromisedIds}
-use Rattle.conn_scan.specs.Credit.{no_change, one_change, credit_join, credit_advance}
-use Rattle.conn_scan.specs.SideCredit.{client_credit, server_credit, change_of, ItemsFit}
-use Rattle.conn_scan.specs.Rising.{no_identifier, one_identifier, rising_join, greatest_after, greatest_advance}
-use Rattle.conn_scan.specs.Ids.{opened_in, promised_by, opened_ids, promised_ids, AnyFit}
-use Rattle.conn_scan.specs.Latest.{no_item, one_item, latest_join, latest_advance, SettingsFit}
-use Rattle.conn_scan.specs.ConnSum.{ConnSum, ConnParts, conn_sum_of, parts_of, parts_step, PartsFollow}
-use Rattle.conn_scan.specs.Block.{connections_before}
+use Rattle.conn_scan.specs.code.Credit.{no_change, one_change, credit_join, credit_advance}
+use Rattle.conn_scan.specs.code.SideCredit.{client_credit, server_credit, change_of, ItemsFit}
+use Rattle.conn_scan.specs.code.Rising.{no_identifier, one_identifier, rising_join, greatest_after, greatest_advance}
+use Rattle.conn_scan.specs.code.Ids.{opened_in, promised_by, opened_ids, promised_ids, AnyFit}
+use Rattle.conn_scan.specs.code.Latest.{no_item, one_item, latest_join, latest_advance, SettingsFit}
+use Rattle.conn_scan.specs.code.ConnSum.{ConnSum, ConnParts, conn_sum_of, parts_of, parts_step, PartsFollow}
+use Rattle.conn_scan.specs.code.Block.{connections_before}
 use Rattle.conn_scan.specs.code.CreditLaws.{credit_shows}
 use Rattle.conn_scan.specs.code.RisingLaws.{rising_shows}
 use Rattle.conn_scan.specs.code.LatestLaws.{latest_shows, latest_laws}

@@ -1,14 +1,16 @@
 -- The summary of changes obeys the laws.
-use Rattle.std.proofs.Common.{◌≡◌, ℕ, ℤ, pos, ◌+◌, ◌*◌, ◌^◌, ◌≤◌, ◌+ℤ◌, suc, List, [], ◌∷◌, ◌++◌, length, map, refl, sym, ap, subst, ◌∙◌, arith, length-append}
+use Rattle.std.proofs.Common.{◌≡◌, ℕ, ℤ, pos, ◌+◌, ◌*◌, ◌^◌, ◌≤◌, ◌+ℤ◌, suc, List, [], ◌∷◌, ◌++◌, length, map, refl}
+use Rattle.std.proofs.Common.{sym, ap, subst, ◌∙◌, arith, length-append}
 use Rattle.std.specs.Int.{int_max, int_min}
 use Rattle.std.proofs.lemmas.Int.{ints, clamps}
 use Rattle.std.proofs.lemmas.Bool.{ne_eqb}
 use Rattle.audit_terms.specs.code.Room.{HasRoom}
-use Rattle.block_scan.specs.Laws.{SummaryLaws, summary_of}
-use Rattle.block_scan.specs.List.{state_after}
+use Rattle.block_scan.specs.code.Summary.{SummaryLaws, summary_of}
+use Rattle.block_scan.specs.code.List.{state_after}
 use Rattle.block_scan.specs.code.Shown.{Shows, lawful, summary-shown}
 use Rattle.conn_scan.specs.declared.credits.Credit.{Credit}
-use Rattle.conn_scan.specs.Credit.{total, prefix_sums, greatest, least, credit_of, no_change, one_change, credit_join, credit_advance, AreSmall, ChangesFit}
+use Rattle.conn_scan.specs.code.Credit.{total, prefix_sums, greatest, least, credit_of, no_change, one_change}
+use Rattle.conn_scan.specs.code.Credit.{credit_join, credit_advance, AreSmall, ChangesFit}
 
 pub total-append : (a b : List ℤ) → total (a ++ b) ≡ total a +ℤ total b
 total-append [] b = omega (arith, ints)

@@ -1,8 +1,8 @@
 -- The summaries of opened streams obey the laws.
 use Rattle.std.proofs.Common.{refl}
-use Rattle.block_scan.specs.Laws.{SummaryLaws}
-use Rattle.conn_scan.specs.Rising.{no_identifier, one_identifier, rising_join, greatest_after, greatest_advance}
-use Rattle.conn_scan.specs.Ids.{opened_in, promised_by, opened_ids, promised_ids, AnyFit}
+use Rattle.block_scan.specs.code.Summary.{SummaryLaws}
+use Rattle.conn_scan.specs.code.Rising.{no_identifier, one_identifier, rising_join, greatest_after, greatest_advance}
+use Rattle.conn_scan.specs.code.Ids.{opened_in, promised_by, opened_ids, promised_ids, AnyFit}
 use Rattle.conn_scan.specs.code.RisingLaws.{rising_laws}
 use Rattle.conn_scan.specs.code.Through.{view_laws}
 

@@ -1,5 +1,6 @@
 -- The summary of settings and lengths obeys the laws.
-use Rattle.std.proofs.Common.{◌≡◌, ℕ, max, Bool, true, false, ◌&&◌, ◌||◌, List, [], ◌∷◌, ◌++◌, Option, Some, None, refl, sym, ap, ◌∙◌, arith}
+use Rattle.std.proofs.Common.{◌≡◌, ℕ, max, Bool, true, false, ◌&&◌, ◌||◌, List, [], ◌∷◌, ◌++◌, Option, Some, None, refl}
+use Rattle.std.proofs.Common.{sym, ap, ◌∙◌, arith}
 use Rattle.std.specs.Prelude.{is_none, unwrap_or, if◌then◌else◌, ◌==◌}
 use Rattle.audit_terms.specs.declared.sides.Side.{Side}
 use Rattle.audit_terms.specs.declared.sides.Side.TheVariants.{Server}
@@ -9,11 +10,14 @@ use Rattle.audit_terms.specs.Side.{is_side}
 use Rattle.audit_terms.specs.Sides.{side_of, each_side}
 use Rattle.audit_terms.specs.Frame.{is_server_promise}
 use Rattle.audit_terms.specs.Change.{new_limit, new_push}
-use Rattle.block_scan.specs.Laws.{SummaryLaws}
-use Rattle.block_scan.specs.List.{state_after}
+use Rattle.block_scan.specs.code.Summary.{SummaryLaws}
+use Rattle.block_scan.specs.code.List.{state_after}
 use Rattle.block_scan.specs.code.Shown.{Shows, lawful}
 use Rattle.conn_scan.specs.declared.latest.InForce.{InForce}
-use Rattle.conn_scan.specs.Latest.{limit_in, push_in, length_by, grants_zero, promises_odd, is_zero, newer, lesser, last_limit, least_limit, last_push, longest_by, some_zero_grant, some_odd_promise, some_early_promise, some_barred_promise, latest_of, no_item, one_item, latest_join, in_force_after, latest_advance, SettingsFit}
+use Rattle.conn_scan.specs.code.Latest.{limit_in, push_in, length_by, grants_zero, promises_odd, is_zero, newer, lesser}
+use Rattle.conn_scan.specs.code.Latest.{last_limit, least_limit, last_push, longest_by, some_zero_grant}
+use Rattle.conn_scan.specs.code.Latest.{some_odd_promise, some_early_promise, some_barred_promise, latest_of, no_item}
+use Rattle.conn_scan.specs.code.Latest.{one_item, latest_join, in_force_after, latest_advance, SettingsFit}
 
 newer_none : (x : Option ℕ) → x ≡ newer None x
 newer_none None = refl

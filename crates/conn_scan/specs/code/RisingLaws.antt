@@ -1,10 +1,12 @@
 -- The summary of identifiers obeys the laws.
-use Rattle.std.proofs.Common.{◌≡◌, ℕ, min, max, Bool, true, false, ◌&&◌, nat_lt, List, [], ◌∷◌, ◌++◌, Option, Some, None, refl, sym, ap, ◌∙◌, arith, ⊎_elim}
+use Rattle.std.proofs.Common.{◌≡◌, ℕ, min, max, Bool, true, false, ◌&&◌, nat_lt, List, [], ◌∷◌, ◌++◌, Option, Some}
+use Rattle.std.proofs.Common.{None, refl, sym, ap, ◌∙◌, arith, ⊎_elim}
 use Rattle.std.proofs.lemmas.Bool.{cases_lt, lt-ltb, le-ltb}
-use Rattle.block_scan.specs.Laws.{SummaryLaws}
-use Rattle.block_scan.specs.List.{state_after}
+use Rattle.block_scan.specs.code.Summary.{SummaryLaws}
+use Rattle.block_scan.specs.code.List.{state_after}
 use Rattle.block_scan.specs.code.Shown.{Shows, lawful, append_nil}
-use Rattle.conn_scan.specs.Rising.{least_of, greatest_of, rise, present, rising_of, no_identifier, one_identifier, rising_join, greatest_after, greatest_advance}
+use Rattle.conn_scan.specs.code.Rising.{least_of, greatest_of, rise, present, rising_of, no_identifier, one_identifier}
+use Rattle.conn_scan.specs.code.Rising.{rising_join, greatest_after, greatest_advance}
 
 least-append : (x : ℕ) (a : List ℕ) (y : ℕ) (b : List ℕ) → least_of ((x ∷ a) ++ y ∷ b) ≡ min (least_of (x ∷ a))
     (least_of (y ∷ b))

@@ -2,9 +2,9 @@
 use Rattle.std.proofs.Common.{refl}
 use Rattle.audit_terms.specs.declared.sides.Side.TheVariants.{Client, Server}
 use Rattle.audit_terms.specs.Connection.{credit_after}
-use Rattle.block_scan.specs.Laws.{SummaryLaws}
-use Rattle.conn_scan.specs.Credit.{no_change, one_change, credit_join, credit_advance}
-use Rattle.conn_scan.specs.SideCredit.{client_credit, server_credit, change_of, ItemsFit}
+use Rattle.block_scan.specs.code.Summary.{SummaryLaws}
+use Rattle.conn_scan.specs.code.Credit.{no_change, one_change, credit_join, credit_advance}
+use Rattle.conn_scan.specs.code.SideCredit.{client_credit, server_credit, change_of, ItemsFit}
 use Rattle.conn_scan.specs.code.CreditLaws.{credit_laws}
 use Rattle.conn_scan.specs.code.Through.{view_laws}
 

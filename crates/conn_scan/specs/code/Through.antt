@@ -1,7 +1,7 @@
 -- A summary of what a view shows of each item is lawful where the summary of the views is.
 use Rattle.std.proofs.Common.{◌≡◌, List, [], ◌∷◌, ◌++◌, map, refl, sym, ap, ◌∙◌, subst}
-use Rattle.block_scan.specs.Laws.{SummaryLaws, summary_of}
-use Rattle.block_scan.specs.List.{state_after}
+use Rattle.block_scan.specs.code.Summary.{SummaryLaws, summary_of}
+use Rattle.block_scan.specs.code.List.{state_after}
 
 pub map-append : {A B : Type 0} (f : A → B) (a b : List A) → map f (a ++ b) ≡ map f a ++ map f b
 map-append f [] b = refl

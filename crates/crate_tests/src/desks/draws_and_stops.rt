@@ -1,6 +1,6 @@
 //! Two passes draw each job once, and each sees the lesser of the places that the two lowered.
 ghost use Rattle.std.specs.Prelude.{◌≡◌, ◌+◌, IfOk};
-ghost use Rattle.stop_desk.specs.Desk.{pass_draws};
+ghost use Rattle.stop_desk.specs.code.Desk.{pass_draws};
 
 use crate::answer::Answer;
 use audit_terms::Place;

@@ -1,7 +1,7 @@
 //! A thousand frames of the client on one stream.
 
 ghost use Rattle.std.specs.Prelude.{◌≡◌, length, IfSome};
-ghost use Rattle.audit_terms.specs.runs.Orderly.{IsOrderly};
+ghost use Rattle.audit_terms.specs.code.runs.Orderly.{IsOrderly};
 
 use crate::passes::scripts::{are_orderly, data, headers};
 use audit_terms::{Frame, Side};

@@ -2,7 +2,7 @@
 
 ghost use Rattle.std.specs.Prelude.{◌≡◌, true, IfOk, IfSome};
 ghost use Rattle.std.specs.List.{range_with_len};
-ghost use Rattle.settings_pair.specs.Changes.{AreOrderly};
+ghost use Rattle.settings_pair.specs.code.Changes.{AreOrderly};
 
 use super::frames::{FRAMES, frames};
 use super::test_look::{Looked, TestLook};

@@ -2,7 +2,7 @@
 
 ghost use Rattle.std.specs.Prelude.{◌≡◌, ◌<◌, ◌^◌, true};
 ghost use Rattle.audit_terms.specs.Frame.{promised_in};
-ghost use Rattle.audit_terms.specs.runs.Orderly.{IsInRange, IsOrderly};
+ghost use Rattle.audit_terms.specs.code.runs.Orderly.{IsInRange, IsOrderly};
 
 use audit_terms::{Body, Frame, Length, PackedSettings, Settings, Side, Word};
 

@@ -1,8 +1,8 @@
 //! The calls that answer some lines of a report.
 
 ghost use Rattle.std.specs.Prelude.{◌≡◌, ◌+◌, ◌*◌, ◌<◌, ◌^◌, length, IfOk};
-ghost use Rattle.audit_terms.specs.runs.Orderly.{IsInRange};
-ghost use Rattle.tcp_streams.specs.Orderly.{IsOrderly};
+ghost use Rattle.audit_terms.specs.code.runs.Orderly.{IsInRange};
+ghost use Rattle.tcp_streams.specs.code.Orderly.{IsOrderly};
 
 use crate::answer::Answer;
 use audit_report::{capture_lines, connection_lines, finding_line};

@@ -3,10 +3,10 @@
 ghost use Rattle.std.specs.Prelude.{◌≡◌, ◌<◌, [], ◌∷◌};
 ghost use Rattle.std.proofs.Props.{props};
 ghost use Rattle.audit_terms.specs.Frame.{promised_in};
-ghost use Rattle.audit_terms.specs.runs.Orderly.{IsInRange};
+ghost use Rattle.audit_terms.specs.code.runs.Orderly.{IsInRange};
 ghost use Rattle.audit_rounds.specs.code.JobProps.{frames-prop};
-ghost use Rattle.stream_credit.specs.Part.{IsPart};
-ghost use Rattle.crate_tests.specs.StreamJobs.{job_of};
+ghost use Rattle.stream_credit.specs.code.Part.{IsPart};
+ghost use Rattle.crate_tests.specs.code.StreamJobs.{job_of};
 
 use crate::answer::Answer;
 use audit_terms::{Body, Finding, Frame, Kind, Length, Look, Place, Side};

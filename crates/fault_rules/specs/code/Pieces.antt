@@ -1,5 +1,6 @@
 -- A connection's frames in pieces of one size, and what a piece has to know of those before it.
-use Rattle.std.specs.Prelude.{◌≡◌, ℕ, ◌*◌, ◌<◌, ◌≤◌, List, [], ◌∷◌, Option, Some, if◌then◌else◌, length, fold, take, slice_index_or}
+use Rattle.std.specs.Prelude.{◌≡◌, ℕ, ◌*◌, ◌<◌, ◌≤◌, List, [], ◌∷◌, Option, Some, if◌then◌else◌, length, fold, take}
+use Rattle.std.specs.Prelude.{slice_index_or}
 use Rattle.std.specs.Fork.{slice_chunk}
 use Rattle.audit_terms.specs.declared.sides.Side.{Side}
 use Rattle.audit_terms.specs.declared.sides.Sides.{Sides}
@@ -7,7 +8,7 @@ use Rattle.audit_terms.specs.declared.frames.Frame.{Frame}
 use Rattle.audit_terms.specs.declared.findings.Finding.{Finding}
 use Rattle.audit_terms.specs.Side.{is_side}
 use Rattle.audit_terms.specs.LocalFault.{previous_after, no_previous}
-use Rattle.audit_terms.specs.runs.LocalFaults.{local_run_from}
+use Rattle.audit_terms.specs.code.runs.LocalFaults.{local_run_from}
 
 -- the last frame of each side after some frames, from those before them
 abbrev pub previous_after_all : Sides (Option Frame) → List Frame → Sides (Option Frame)

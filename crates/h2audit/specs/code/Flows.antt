@@ -6,8 +6,8 @@ use Rattle.std.specs.declared.alloc.Global.{Global}
 use Rattle.audit_terms.specs.declared.frames.Frame.{Frame}
 use Rattle.audit_terms.specs.declared.findings.Finding.{Finding}
 use Rattle.packet_heads.specs.declared.packets.Packet.{Packet}
-use Rattle.packet_heads.specs.Order.{AreNumberedFrom, PayloadsRise, TimesFit}
-use Rattle.tcp_streams.specs.Orderly.{AreMembers, IsOrderly, payload_sum}
+use Rattle.packet_heads.specs.code.Order.{AreNumberedFrom, PayloadsRise, TimesFit}
+use Rattle.tcp_streams.specs.code.Orderly.{AreMembers, IsOrderly, payload_sum}
 use Rattle.h2_frames.specs.declared.connections.Cut.{Cut}
 use Rattle.h2_frames.specs.declared.connections.Cut.TheVariants.{Http2}
 use Rattle.job_crew.specs.declared.parts.Part.{Part}
@@ -16,7 +16,7 @@ use Rattle.h2audit.specs.declared.flow_round.ConnectionCut.{ConnectionCut}
 use Rattle.audit_report.specs.FlowLine.{extents_of}
 use Rattle.audit_terms.specs.declared.sides.Sides.{Sides}
 use Rattle.h2_frames.specs.Cut.{IsCut}
-use Rattle.h2_frames.specs.Orderly.{HasOrderlyFrames}
+use Rattle.h2_frames.specs.code.Orderly.{HasOrderlyFrames}
 use Rattle.h2audit.specs.Audited.{IsFlowOf, findings_of}
 use Rattle.audit_terms.specs.declared.sides.Side.{Side}
 use Rattle.audit_terms.specs.declared.sides.Side.TheVariants.{Client, Server}
@@ -24,7 +24,7 @@ use Rattle.tcp_streams.specs.declared.streams.Flow.{Flow}
 use Rattle.tcp_streams.specs.Bytes.{bytes_of}
 use Rattle.tcp_streams.specs.Members.{side_segments}
 use Rattle.tcp_streams.specs.declared.members.Connection.{Connection}
-use Rattle.split_merge.specs.Board.{Job}
+use Rattle.split_merge.specs.code.Board.{Job}
 
 -- a connection of a capture, with the capture's packets
 pub record AreSources (capture : List ℕ) (packets : List Packet) (connection : Connection) : Type 0 where

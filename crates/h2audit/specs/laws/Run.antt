@@ -1,4 +1,5 @@
--- What a run leaves behind, where its reader and its writer tell their bytes: all of it follows from what the accounts tell.
+-- What a run leaves behind, where its reader and its writer tell their bytes: all of it follows from what the accounts
+-- tell.
 use Rattle.std.specs.Prelude.{◌≡◌, ◌≢◌, ℕ, Bool, false, List, take, Option, None, Some, Result, Ok, Err}
 use Rattle.std.specs.Io.KnownBytes.{Appends, Keeps}
 use Rattle.pcap_records.specs.Refusal.{refusal}
@@ -26,7 +27,8 @@ IsJudged bytes lacked_memory (Err fault.OutOfMemory) = lacked_memory ≡ false �
 IsJudged bytes lacked_memory _ = Unit {0}
 
 module _ (R W : Type 0) where
-  -- accounts that tell of an answer, of a reader of all these bytes and of a writer that took what its account says, leave
+  -- accounts that tell of an answer, of a reader of all these bytes and of a writer that took what its account says,
+  -- leave
   -- and judge so
   abbrev pub RunsLeave : Type 0
   RunsLeave = (all : List ℕ) (reader : CaptureReader R) (writer : ReportWriter W) (shown : Bool) (old new : Option (List ℕ))

@@ -2,11 +2,11 @@
 use Rattle.std.specs.Prelude.{◌≡◌, ℕ, ◌<◌, ◌≤◌, ◌⊎◌, List, filter, map, length, slice_get, Contains, Option, Some}
 use Rattle.audit_terms.specs.declared.findings.Finding.{Finding}
 use Rattle.audit_terms.specs.Finding.{stops}
-use Rattle.stop_desk.specs.Counts.{times}
-use Rattle.stop_desk.specs.Desk.{DeskId, PassView, pass_of, pass_draws, IsConnection}
-use Rattle.split_merge.specs.Board.{Job, StopsAt, IsPartOf, parts_of}
+use Rattle.stop_desk.specs.code.Counts.{times}
+use Rattle.stop_desk.specs.code.Desk.{DeskId, PassView, pass_of, pass_draws, IsConnection}
+use Rattle.split_merge.specs.code.Board.{Job, StopsAt, IsPartOf, parts_of}
 use Rattle.job_crew.specs.declared.parts.Part.{Part}
-use Rattle.job_crew.specs.Laid.{part_of}
+use Rattle.job_crew.specs.code.Laid.{part_of}
 
 -- the places at which findings end a connection
 abbrev pub stops_on : (connection : ℕ) → List Finding → List (ℕ × ℕ)

@@ -3,8 +3,10 @@ use Rattle.std.specs.Prelude.{◌==◌, ◌&&◌, ◌||◌, ◌≤◌, ℕ, Bool
 use Rattle.packet_heads.specs.declared.packets.Packet.{Packet}
 use Rattle.packet_heads.specs.declared.packets.Packet.TheVariants.{Skipped, Refused}
 use Rattle.packet_heads.specs.declared.packets.Skip.TheVariants.{Fragment, NotTcp}
-use Rattle.packet_heads.specs.declared.packets.Refusal.TheVariants.{ShortIpv4, BadVersion, BadHeaderLength, BadTotalLength, PastEnd}
-use Rattle.packet_heads.specs.Ipv4.{version, header_words, header_length, total_length, is_fragment, protocol, datagram_end}
+use Rattle.packet_heads.specs.declared.packets.Refusal.TheVariants.{ShortIpv4, BadVersion, BadHeaderLength}
+use Rattle.packet_heads.specs.declared.packets.Refusal.TheVariants.{BadTotalLength, PastEnd}
+use Rattle.packet_heads.specs.Ipv4.{version, header_words, header_length, total_length, is_fragment, protocol}
+use Rattle.packet_heads.specs.Ipv4.{datagram_end}
 
 -- the header is whole, and the datagram does not end before it
 abbrev pub HasHeader : List ℕ → Type 0

@@ -1,7 +1,7 @@
 -- A walk over the records at the front of a capture, behind which more bytes may come.
 use Rattle.std.specs.Prelude.{◌≡◌, ◌≤◌, ◌<◌, ◌+◌, ◌*◌, ◌^◌, ℕ, List, ◌++◌, Option, None, Some, length, drop}
 use Rattle.pcap_records.specs.FileHeader.{ByteOrder, number_of, header_of, format_of}
-use Rattle.pcap_records.specs.Place.{AreTimely, RiseFrom}
+use Rattle.pcap_records.specs.code.Place.{AreTimely, RiseFrom}
 use Rattle.pcap_records.specs.Record.{AreRecords, BeginsWithRecord, record_at}
 use Rattle.pcap_records.specs.declared.capture.Record.{Record}
 use Rattle.pcap_records.specs.declared.walk.RecordWalk.{RecordWalk}

@@ -22,7 +22,8 @@ sent_by d frames = flat_map (sent_of d) frames
 abbrev pub waiting_of : Side → (seen : List Frame) → Waiting → List Settings
 waiting_of d seen waiting = sent_by d (drop (side_of d waiting.taken) seen)
 
--- after the frames seen, the SETTINGS of each side wait from the first on that no acknowledgement of the other side took
+-- after the frames seen, the SETTINGS of each side wait from the first on that no acknowledgement of the other side
+-- took
 pub record IsWaiting (now : InForce) (seen : List Frame) (waiting : Waiting) : Type 0 where
   pub taken : (d : Side) → side_of (other d) now.paired ≤ length (side_of d now.sent)
   pub queued : (d : Side) → waiting_of d seen waiting ≡ drop (side_of (other d) now.paired) (side_of d now.sent)

@@ -1,10 +1,11 @@
 -- What the table of streams says of each stream that is quiet so far, as a split walks over the frames.
-use Rattle.std.specs.Prelude.{◌≡◌, ◌≢◌, ℕ, ◌==◌, if◌then◌else◌, Bool, true, false, List, [], ◌∷◌, length, get_or, slice_get, Some}
+use Rattle.std.specs.Prelude.{◌≡◌, ◌≢◌, ℕ, ◌==◌, if◌then◌else◌, Bool, true, false, List, [], ◌∷◌, length, get_or}
+use Rattle.std.specs.Prelude.{slice_get, Some}
 use Rattle.audit_terms.specs.declared.frames.Frame.{Frame}
 use Rattle.audit_terms.specs.declared.items.Change.{Change}
-use Rattle.audit_terms.specs.runs.Orderly.{IsOrderly}
-use Rattle.audit_terms.specs.runs.Streams.{frames_of}
-use Rattle.settings_pair.specs.Changes.{AreOrderly, AreAcknowledged}
+use Rattle.audit_terms.specs.code.runs.Orderly.{IsOrderly}
+use Rattle.audit_terms.specs.code.runs.Streams.{frames_of}
+use Rattle.settings_pair.specs.code.Changes.{AreOrderly, AreAcknowledged}
 use Rattle.stream_credit.specs.declared.quiet_streams.QuietStream.{QuietStream}
 use Rattle.stream_credit.specs.code.QuietStream.{IsAheadIfQuiet, ShowsNothing}
 use Rattle.split_merge.specs.code.Visits.{NotAmong}

@@ -1,5 +1,6 @@
 -- What the table of streams says that a split fills as it walks over the frames.
-use Rattle.std.specs.Prelude.{◌≡◌, ◌≢◌, ℕ, ◌+◌, ◌<◌, ◌≤◌, ◌==◌, ◌||◌, if◌then◌else◌, Bool, List, [], ◌∷◌, ◌++◌, map, filter, length, get_or}
+use Rattle.std.specs.Prelude.{◌≡◌, ◌≢◌, ℕ, ◌+◌, ◌<◌, ◌≤◌, ◌==◌, ◌||◌, if◌then◌else◌, Bool, List, [], ◌∷◌, ◌++◌, map}
+use Rattle.std.specs.Prelude.{filter, length, get_or}
 use Rattle.std.specs.List.{between, list_any}
 use Rattle.table_hash.specs.declared.TableHash.{TableHash}
 use Rattle.indexmap.specs.IndexSet.{IndexSet}

@@ -2,8 +2,8 @@
 use Rattle.std.specs.Prelude.{◌≡◌, ℕ, ◌+◌, ◌-◌, ◌^◌, ◌<◌, ◌≤◌, [], ◌∷◌, ◌++◌, if◌then◌else◌, nat_lt, slice_index}
 use Rattle.atomic_table.specs.Table.{Me, Step}
 use Rattle.stop_desk.specs.declared.rule.Knows.{Knows}
-use Rattle.stop_desk.specs.Counts.{times, marks}
-use Rattle.stop_desk.specs.Stop.{past_places}
+use Rattle.stop_desk.specs.code.Counts.{times, marks}
+use Rattle.stop_desk.specs.code.Stop.{past_places}
 use Rattle.stop_desk.specs.code.Rule.{knows}
 
 abbrev pub PassState : Type 0

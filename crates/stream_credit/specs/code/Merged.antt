@@ -5,7 +5,7 @@ use Rattle.audit_terms.specs.declared.frames.Frame.{Frame}
 use Rattle.audit_terms.specs.declared.items.Change.{Change}
 use Rattle.audit_terms.specs.declared.items.Step.{Step}
 use Rattle.audit_terms.specs.Frame.{is_ack}
-use Rattle.audit_terms.specs.runs.Streams.{frame_step, change_step}
+use Rattle.audit_terms.specs.code.runs.Streams.{frame_step, change_step}
 
 -- a frame with the change that it brings
 abbrev pub joined_step : Frame → Change → Step

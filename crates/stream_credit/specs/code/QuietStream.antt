@@ -1,5 +1,6 @@
 -- A stream of which nothing was shown so far, where credits are not shown.
-use Rattle.std.specs.Prelude.{◌≡◌, ℕ, ℤ, pos, ◌+◌, ◌^◌, ◌<◌, ◌≤◌, ◌==◌, if◌then◌else◌, true, false, List, [], ◌∷◌, take, drop, length, Option, Some, None, option_map}
+use Rattle.std.specs.Prelude.{◌≡◌, ℕ, ℤ, pos, ◌+◌, ◌^◌, ◌<◌, ◌≤◌, ◌==◌, if◌then◌else◌, true, false, List, [], ◌∷◌, take}
+use Rattle.std.specs.Prelude.{drop, length, Option, Some, None, option_map}
 use Rattle.audit_terms.specs.declared.sides.Sides.{Sides}
 use Rattle.audit_terms.specs.declared.frames.Frame.{Frame}
 use Rattle.audit_terms.specs.declared.items.Change.{Change}
@@ -7,9 +8,10 @@ use Rattle.audit_terms.specs.declared.streams.Stream.{Stream}
 use Rattle.audit_terms.specs.InForce.{initial_in_force}
 use Rattle.audit_terms.specs.Finding.{in_order, shown}
 use Rattle.audit_terms.specs.Stream.{stream_said, stream_after}
-use Rattle.audit_terms.specs.runs.Orderly.{IsOrderly}
-use Rattle.audit_terms.specs.runs.Streams.{frame_step, stream_run, stream_run_from, stream_at_end, stream_after_all}
-use Rattle.settings_pair.specs.Changes.{AreOrderly}
+use Rattle.audit_terms.specs.code.runs.Orderly.{IsOrderly}
+use Rattle.audit_terms.specs.code.runs.Streams.{frame_step, stream_run, stream_run_from, stream_at_end}
+use Rattle.audit_terms.specs.code.runs.Streams.{stream_after_all}
+use Rattle.settings_pair.specs.code.Changes.{AreOrderly}
 use Rattle.stream_credit.specs.declared.quiet_streams.QuietStream.{QuietStream}
 use Rattle.stream_credit.specs.code.Left.{after_changes}
 use Rattle.stream_credit.specs.code.Merged.{merged, Acknowledge}

@@ -1,5 +1,6 @@
 -- A stream's run between two of its steps.
-use Rattle.std.specs.Prelude.{◌≡◌, ℕ, ◌+◌, ◌-◌, ◌*◌, ◌^◌, ◌<◌, ◌≤◌, List, [], ◌∷◌, ◌++◌, length, map, Option, None, Some}
+use Rattle.std.specs.Prelude.{◌≡◌, ℕ, ◌+◌, ◌-◌, ◌*◌, ◌^◌, ◌<◌, ◌≤◌, List, [], ◌∷◌, ◌++◌, length, map, Option, None}
+use Rattle.std.specs.Prelude.{Some}
 use Rattle.std.specs.List.{AllByRecursion}
 use Rattle.audit_terms.specs.declared.sides.Side.{Side}
 use Rattle.audit_terms.specs.declared.frames.Frame.{Frame}
@@ -8,19 +9,19 @@ use Rattle.audit_terms.specs.declared.items.Step.{Step}
 use Rattle.audit_terms.specs.declared.streams.Stream.{Stream}
 use Rattle.audit_terms.specs.declared.findings.Finding.{Finding}
 use Rattle.audit_terms.specs.Sides.{side_of}
-use Rattle.audit_terms.specs.runs.Orderly.{IsOrderlyFrom}
+use Rattle.audit_terms.specs.code.runs.Orderly.{IsOrderlyFrom}
 use Rattle.audit_terms.specs.Place.{place_number}
 use Rattle.audit_terms.specs.Finding.{in_order, shown}
-use Rattle.audit_terms.specs.runs.Look.{found_before}
-use Rattle.audit_terms.specs.runs.Streams.{change_step}
+use Rattle.audit_terms.specs.code.runs.Look.{found_before}
+use Rattle.audit_terms.specs.code.runs.Streams.{change_step}
 use Rattle.audit_terms.specs.Stream.{stream_said, stream_after}
-use Rattle.audit_terms.specs.runs.Streams.{initial_after, stream_run_from, stream_after_all}
+use Rattle.audit_terms.specs.code.runs.Streams.{initial_after, stream_run_from, stream_after_all}
 use Rattle.audit_terms.specs.code.Room.{WindowHasRoom}
 use Rattle.audit_terms.specs.code.Watch.{Watches, IsStopped, NeverFallFrom}
-use Rattle.settings_pair.specs.Changes.{AreOrderlyFrom}
+use Rattle.settings_pair.specs.code.Changes.{AreOrderlyFrom}
 use Rattle.stream_credit.specs.declared.left.Left.{Left}
 use Rattle.stream_credit.specs.declared.walks.Walk.{Walk}
-use Rattle.stream_credit.specs.Looks.{met_from, opened_up_to}
+use Rattle.stream_credit.specs.code.Looks.{met_from, opened_up_to}
 use Rattle.stream_credit.specs.code.Left.{IsInForce}
 use Rattle.stream_credit.specs.code.Merged.{merged, Acknowledge}
 

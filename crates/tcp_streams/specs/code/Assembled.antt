@@ -4,7 +4,7 @@ use Rattle.audit_terms.specs.declared.sides.Side.{Side}
 use Rattle.packet_heads.specs.declared.packets.Packet.{Packet}
 use Rattle.tcp_streams.specs.declared.members.Connection.{Connection}
 use Rattle.tcp_streams.specs.declared.streams.Flow.{Flow}
-use Rattle.tcp_streams.specs.Orderly.{IsOrderly, payload_sum}
+use Rattle.tcp_streams.specs.code.Orderly.{IsOrderly, payload_sum}
 use Rattle.tcp_streams.specs.Bytes.{bytes_of}
 use Rattle.tcp_streams.specs.Flow.{IsFlow}
 use Rattle.tcp_streams.specs.Members.{side_segments}

@@ -1,5 +1,6 @@
 -- The table that `connections` keeps, against the past that it has seen. No public clause cites these.
-use Rattle.std.specs.Prelude.{◌≡◌, ℕ, ◌+◌, ◌<◌, ◌^◌, Bool, true, false, ◌&&◌, not, if◌then◌else◌, List, [], ◌∷◌, ◌++◌, length, map, Option, None, Some, slice_get}
+use Rattle.std.specs.Prelude.{◌≡◌, ℕ, ◌+◌, ◌<◌, ◌^◌, Bool, true, false, ◌&&◌, not, if◌then◌else◌, List, [], ◌∷◌, ◌++◌}
+use Rattle.std.specs.Prelude.{length, map, Option, None, Some, slice_get}
 use Rattle.std.specs.List.{list_any}
 use Rattle.std.specs.Option.{option_or}
 use Rattle.packet_heads.specs.declared.packets.Segment.{Segment}
@@ -13,7 +14,8 @@ use Rattle.tcp_streams.specs.declared.table.Turn.TheVariants.{Opens, Joins, Coun
 use Rattle.tcp_streams.specs.code.Standings.{standing_of}
 use Rattle.tcp_streams.specs.Pair.{is_endpoint}
 use Rattle.tcp_streams.specs.code.Pairs.{is_of, pair_of}
-use Rattle.tcp_streams.specs.code.Past.{Membership, connection_of, first_strays, last_opening, membership, openings, opens, stray_of, strays}
+use Rattle.tcp_streams.specs.code.Past.{Membership, connection_of, first_strays, last_opening, membership, openings}
+use Rattle.tcp_streams.specs.code.Past.{opens, stray_of, strays}
 
 -- the connection that a segment opens
 abbrev pub opened_by : Segment → Membership

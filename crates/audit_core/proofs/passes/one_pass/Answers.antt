@@ -10,13 +10,14 @@ use Rattle.audit_terms.specs.code.Room.{HasRoom}
 use Rattle.audit_terms.specs.InForce.{change_of}
 use Rattle.audit_terms.specs.Connection.{connection_after}
 use Rattle.audit_terms.specs.Pass.{PassState, pass_start, next, item_of, streams_of}
-use Rattle.audit_terms.specs.runs.Changes.{changes_from}
-use Rattle.audit_terms.specs.runs.Orderly.{IsOrderlyFrom}
+use Rattle.audit_terms.specs.code.runs.Changes.{changes_from}
+use Rattle.audit_terms.specs.code.runs.Orderly.{IsOrderlyFrom}
 use Rattle.audit_terms.proofs.Bounds.{room-wider}
 use Rattle.audit_core.specs.code.StreamRows.{RowFits, row_opens}
 use Rattle.audit_core.proofs.OrderlyRest.{length-orderly, drop-at}
 use Rattle.audit_core.proofs.PassOrder.{streams-streams_of}
-use Rattle.audit_core.proofs.PassRows.{is_at, change-at, change-past, none-test, step_of-acknowledged, idle_rows-fit, fits-wider, opens-frame, same_item, rows-more, said-more, found-more}
+use Rattle.audit_core.proofs.PassRows.{is_at, change-at, change-past, none-test, step_of-acknowledged, idle_rows-fit}
+use Rattle.audit_core.proofs.PassRows.{fits-wider, opens-frame, same_item, rows-more, said-more, found-more}
 use Rattle.audit_core.proofs.passes.one_pass.Goals.{then-is_ack, else-is_ack}
 use Rattle.audit_core.proofs.passes.one_pass.Goals as goal
 

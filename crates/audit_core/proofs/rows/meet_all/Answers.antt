@@ -6,7 +6,7 @@ use Rattle.audit_terms.specs.declared.sides.Sides.{Sides}
 use Rattle.audit_terms.specs.declared.items.Item.{Item}
 use Rattle.audit_terms.specs.declared.streams.Stream.{Stream}
 use Rattle.audit_terms.specs.declared.findings.Finding.{Finding}
-use Rattle.audit_terms.specs.runs.Streams.{IsAcknowledged}
+use Rattle.audit_terms.specs.code.runs.Streams.{IsAcknowledged}
 use Rattle.audit_core.specs.declared.rows.StreamRow.{StreamRow}
 use Rattle.audit_core.specs.code.StreamRows.{RowFits, row_said, row_after}
 use Rattle.audit_core.proofs.rows.meet_all.Goals as goal

@@ -24,8 +24,10 @@ counted-is : (front : List ℕ) (packets : List Packet) → front ++ packet_coun
 unfolding counted
 counted-is front packets =
     regroup front (field (codes " segments ") (count_by is_segment packets))
-    (field (codes " snapped ") (count_by is_snapped packets)) (field (codes " not-ipv4 ") (count_by is_not_ipv4 packets))
-    (field (codes " fragments ") (count_by is_fragment packets)) (field (codes " not-tcp ") (count_by is_not_tcp packets))
+    (field (codes " snapped ") (count_by is_snapped packets))
+    (field (codes " not-ipv4 ") (count_by is_not_ipv4 packets))
+    (field (codes " fragments ") (count_by is_fragment packets))
+    (field (codes " not-tcp ") (count_by is_not_tcp packets))
     (field (codes " refused ") (count_by is_refused packets))
 
 pub returns : goal.returns
@@ -39,5 +41,6 @@ returns c =
     c.in_ok-push_field.ensures c.in_ok-push_packet_counts.ensures c.push_word.ensures in
     subst (λ n. OnOk c.push_word.result (string_bytes c.push_word.new.out ≡ string_bytes c.args.out.now
     ++ (counted (front n) packets ++ codes "\n"))) count
-    (subst (λ l. OnOk c.push_word.result (string_bytes c.push_word.new.out ≡ string_bytes c.args.out.now ++ (l ++ codes "\n")))
+    (subst (λ l. OnOk c.push_word.result
+    (string_bytes c.push_word.new.out ≡ string_bytes c.args.out.now ++ (l ++ codes "\n")))
     (counted-is (front c.len.result) packets) pushed)

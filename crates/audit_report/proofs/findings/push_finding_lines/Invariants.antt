@@ -5,5 +5,6 @@ use Rattle.audit_report.proofs.findings.push_finding_lines.Given as goal
 
 -- what is written, with the lines of the findings to come, is the whole
 abbrev pub invariant-loop-finding : goal.invariant-loop-finding
-invariant-loop-finding l = string_bytes l.out ++ finding_lines l.credits_shown l.frames (drop l.finding-index l.findings)
+invariant-loop-finding l = string_bytes l.out ++ finding_lines l.credits_shown l.frames
+    (drop l.finding-index l.findings)
     ≡ string_bytes l.initial.out ++ finding_lines l.credits_shown l.frames l.findings

@@ -5,5 +5,6 @@ use Rattle.audit_report.proofs.reports.push_sections.Given as goal
 
 -- what is written, with the lines of the connections to come, is the whole
 abbrev pub invariant-loop-i : goal.invariant-loop-i
-invariant-loop-i l = string_bytes l.out ++ sections_text l.frames_shown (l.i + 1) (drop l.i l.connections) (drop l.i l.audited)
+invariant-loop-i l = string_bytes l.out ++ sections_text l.frames_shown (l.i + 1) (drop l.i l.connections)
+    (drop l.i l.audited)
     ≡ string_bytes l.initial.out ++ sections_text l.frames_shown 1 l.connections l.audited

@@ -1,14 +1,15 @@
 use Rattle.std.proofs.Common.{◌≡◌, ◌+◌, ◌<◌, map, length, get_or, sym, ap, ◌∙◌, subst, arith, Vec, Global}
 use Rattle.std.proofs.lemmas.List.{length-map, length_push}
 use Rattle.audit_terms.specs.Connection.{connection_start}
-use Rattle.block_scan.specs.List.{items_of}
-use Rattle.conn_scan.specs.Items.{items_in}
-use Rattle.conn_scan.specs.Block.{BlockFits}
+use Rattle.block_scan.specs.code.List.{items_of}
+use Rattle.conn_scan.specs.code.Items.{items_in}
+use Rattle.conn_scan.specs.code.Block.{BlockFits}
 use Rattle.audit_rounds.specs.declared.block_plans.ReadyBlock.{ReadyBlock}
 use Rattle.audit_rounds.specs.code.Blocks.{blocks_in}
 use Rattle.audit_rounds.specs.code.Plans.{IsPlan}
 use Rattle.audit_rounds.proofs.Clears.{on-false}
-use Rattle.audit_rounds.proofs.Cuts.{said_from, said_number, sums-are, little-are, befores-are, befores-number, block-ready, block-said, some_of}
+use Rattle.audit_rounds.proofs.Cuts.{said_from, said_number, sums-are, little-are, befores-are, befores-number}
+use Rattle.audit_rounds.proofs.Cuts.{block-ready, block-said, some_of}
 use Rattle.audit_rounds.proofs.Plans.{finds_upto, plan-more, plan-skips, plan-all}
 use Rattle.audit_rounds.proofs.block_plans.add_ready.Goals.{then-may_show+in_ok-push, else-may_show}
 use Rattle.audit_rounds.proofs.block_plans.add_ready.Goals as goal
@@ -49,7 +50,8 @@ loop-at-preserved c = record {
       let said = said_from shows connection_start cut in
       let l = c.loop-at-test.true in
       let sums = c.requires.sums in
-      let is = befores-are blocks c.args.sums.now _ befores c.start.ensures c.requires.fits sums c.in_ok-befores.ensures in
+      let is = befores-are blocks c.args.sums.now _ befores c.start.ensures c.requires.fits sums
+      c.in_ok-befores.ensures in
       let many : length said ≡ length (blocks_in blocks) = said_number shows connection_start (blocks_in blocks) in
       let as_many : length (blocks_in blocks) ≡ length blocks = length-map blocks _ in
       let within : at < length said = omega arith in
@@ -64,7 +66,8 @@ loop-at-preserved c = record {
             (block-said blocks befores at before _ is c.index.ensures l shows) so_far)
         | else-may_show w ↦
             let d = some_of blocks at l in
-            let none = on-false c.may_show.result _ w.if-may_show.false c.may_show.ensures (items_in (get_or blocks at d).block)
+            let none = on-false c.may_show.result _ w.if-may_show.false c.may_show.ensures
+            (items_in (get_or blocks at d).block)
             (sums.each at d _ l).is in
             subst (IsPlan shows connections (finds_upto finds connection (at + 1) said))
             (sym (ap (λ (v : Vec ReadyBlock Global). v.items) w.plan-is))

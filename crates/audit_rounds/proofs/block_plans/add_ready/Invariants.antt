@@ -1,7 +1,7 @@
 use Rattle.std.proofs.Common.{◌≡◌, ℕ, ◌+◌, ◌<◌, ◌≤◌, List, All, map, length}
 use Rattle.audit_terms.specs.declared.findings.Finding.{Finding}
 use Rattle.audit_terms.specs.Connection.{connection_start}
-use Rattle.conn_scan.specs.Items.{items_in}
+use Rattle.conn_scan.specs.code.Items.{items_in}
 use Rattle.audit_rounds.specs.declared.blocks.ConnectionBlock.{ConnectionBlock}
 use Rattle.audit_rounds.specs.code.Blocks.{blocks_in}
 use Rattle.audit_rounds.specs.code.Plans.{IsPlan}
@@ -16,7 +16,8 @@ invariant-loop-at l = record {
       → All (λ (one : ConnectionBlock). one.connection ≡ connection) l.blocks
       → IsPlan l.credits_shown connections finds l.fn.plan.items
       → IsPlan l.credits_shown connections
-      (finds_upto finds connection l.at (said_from l.credits_shown connection_start (map items_in (blocks_in l.blocks))))
+      (finds_upto finds connection l.at
+      (said_from l.credits_shown connection_start (map items_in (blocks_in l.blocks))))
       l.plan.items;
   few : length l.plan.items ≤ length l.fn.plan.items + l.at;
 }

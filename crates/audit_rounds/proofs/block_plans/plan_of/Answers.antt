@@ -1,7 +1,8 @@
-use Rattle.std.proofs.Common.{◌≡◌, ℕ, ◌+◌, ◌-◌, ◌<◌, ◌≤◌, [], ◌++◌, length, get_or, take, drop, All, sym, ap, ◌∙◌, subst, arith}
+use Rattle.std.proofs.Common.{◌≡◌, ℕ, ◌+◌, ◌-◌, ◌<◌, ◌≤◌, [], ◌++◌, length, get_or, take, drop, All, sym, ap, ◌∙◌}
+use Rattle.std.proofs.Common.{subst, arith}
 use Rattle.std.proofs.lemmas.List.{length-drop, length-map, drop-drop, length-take-le}
 use Rattle.audit_terms.specs.Connection.{connection_start}
-use Rattle.conn_scan.specs.Block.{BlockFits}
+use Rattle.conn_scan.specs.code.Block.{BlockFits}
 use Rattle.audit_rounds.specs.declared.blocks.ConnectionBlock.{ConnectionBlock}
 use Rattle.audit_rounds.specs.code.Blocks.{AreCut, AreSums, blocks_in, wholes}
 use Rattle.audit_rounds.specs.code.Plans.{where_of, whole_shown, shown_at}
@@ -92,7 +93,8 @@ loop-count-preserved c =
     let as_many : length all ≡ length cut.connections.now = length-map cut.connections.now _ in
     let here = turn.0 in
     let inside : at < length cut.connections.now = omega arith in
-    let mine : take (start + count - start) (drop start c.as_slice.result.now) ≡ take count (drop start cut.blocks.items) =
+    let mine : take (start + count - start) (drop start c.as_slice.result.now) ≡ take count
+    (drop start cut.blocks.items) =
     ap (λ blocks. take (start + count - start) (drop start blocks)) c.as_slice.ensures.value
     ∙ ap (λ n. take n (drop start cut.blocks.items)) number in
     let joined = ap (λ blocks. joined_items (blocks_in blocks)) mine ∙ next.joined in
@@ -109,6 +111,7 @@ loop-count-preserved c =
           (drop-drop count start cut.blocks.items) next.rest;
       plan = plan-next shows (length cut.connections.now) at all _ here
           (plan-as shows (length cut.connections.now) _ _ _
-          (c.in_ok-add_ready.ensures.plan at (length cut.connections.now) (shown_at shows 0 (take at all)) inside own i.plan)
+          (c.in_ok-add_ready.ensures.plan at (length cut.connections.now) (shown_at shows 0 (take at all)) inside own
+          i.plan)
           (λ n. ap (λ items. shown_at shows 0 (take at all) n ++ where_of at n (whole_shown shows items)) joined));
     }

@@ -1,6 +1,6 @@
 use Rattle.std.proofs.Common.{◌≡◌, ◌<◌, List, length, All, sym, ◌∙◌, subst, arith}
 use Rattle.std.proofs.lemmas.List.{length-map}
-use Rattle.conn_scan.specs.Block.{BlockFits}
+use Rattle.conn_scan.specs.code.Block.{BlockFits}
 use Rattle.conn_scan.specs.declared.block_items.Block.{Block}
 use Rattle.audit_terms.specs.Connection.{connection_start}
 use Rattle.audit_rounds.specs.declared.blocks.ConnectionBlock.{ConnectionBlock}

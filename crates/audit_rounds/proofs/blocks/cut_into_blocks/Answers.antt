@@ -21,7 +21,8 @@ loop-connection-preserved c =
     record {
       number = ap length c.in_ok-push.ensures.items ∙ length_push counts _ ∙ ap (λ n. n + 1) i.number;
       cut = subst (λ counts. AreCut 0 (take (at + 1) (wholes all)) counts new) (sym c.in_ok-push.ensures.items)
-          (cut-next all at c.connection-item.result counts old new c.len.result (c.len-in-loop-connection.result - c.len-before.result)
+          (cut-next all at c.connection-item.result counts old new c.len.result
+          (c.len-in-loop-connection.result - c.len-before.result)
           c.loop-connection-test.true (c.len.ensures ∙ c.loop-connection.counts.ok.0) i.cut
           (subst (λ (one : Block). AddsBlocks c.len.result one old new) c.connection-item.is adds)
           (λ k. after k - before k));

@@ -10,5 +10,6 @@ invariant-loop-connection l = record {
   number : length l.counts.items ≡ l.connection-index;
   cut : AreCut 0 (take l.connection-index (wholes l.connections)) l.counts.items l.blocks.items;
   short : AreShort l.blocks.items;
-  few : length l.blocks.items ≤ sum_by (λ (whole : Block). length whole.frames.now) (take l.connection-index l.connections);
+  few : length l.blocks.items ≤ sum_by (λ (whole : Block). length whole.frames.now)
+      (take l.connection-index l.connections);
 }

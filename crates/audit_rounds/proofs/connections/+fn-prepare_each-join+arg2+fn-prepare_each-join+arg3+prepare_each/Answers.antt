@@ -1,7 +1,8 @@
 use Rattle.std.proofs.lemmas.Result.{IfOk-at_ok}
 use Rattle.audit_rounds.specs.code.MadeReady.{AreMadeReady}
 use Rattle.audit_rounds.proofs.MadeReady.{made-whole}
-use Rattle.audit_rounds.proofs.connections.+fn-prepare_each-join+arg2+fn-prepare_each-join+arg3+prepare_each.Goals as goal
+use Rattle.audit_rounds.proofs.connections.+fn-prepare_each-join+arg2+fn-prepare_each-join+arg3+prepare_each.Goals as
+    goal
 
 pub returns : goal.returns
 returns g t c =
@@ -15,5 +16,6 @@ returns g t c =
     let second = IfOk-at_ok (λ made. AreMadeReady shows back made.prepared.items made.found.items) other.was
     c.join-one.ensures.second in
     rw (c.in_ok-append.ensures.prepared, c.in_ok-append.ensures.found)
-    (made-whole shows c.args.connections.now front back c.middle.result one.made.prepared.items other.more.prepared.items
+    (made-whole shows c.args.connections.now front back c.middle.result one.made.prepared.items
+    other.more.prepared.items
     one.made.found.items other.more.found.items c.split_at.ensures.front c.split_at.ensures.back first second)

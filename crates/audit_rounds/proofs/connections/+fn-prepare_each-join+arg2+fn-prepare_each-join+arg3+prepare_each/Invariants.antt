@@ -1,5 +1,6 @@
 use Rattle.std.proofs.Common.{◌+◌, ◌*◌}
-use Rattle.audit_rounds.proofs.connections.+fn-prepare_each-join+arg2+fn-prepare_each-join+arg3+prepare_each.Given as goal
+use Rattle.audit_rounds.proofs.connections.+fn-prepare_each-join+arg2+fn-prepare_each-join+arg3+prepare_each.Given as
+    goal
 
 abbrev pub decreases-join+arg2 : goal.decreases-join+arg2
 decreases-join+arg2 g l = 2 * l.half + 1

@@ -3,7 +3,7 @@ use Rattle.std.proofs.lemmas.List.{take_all}
 use Rattle.std.proofs.lemmas.List.Elements.{All-push}
 use Rattle.audit_terms.specs.declared.findings.Finding.{Finding}
 use Rattle.audit_terms.specs.declared.frames.Frame.{Frame}
-use Rattle.audit_terms.specs.runs.Orderly.{IsOrderly}
+use Rattle.audit_terms.specs.code.runs.Orderly.{IsOrderly}
 use Rattle.audit_rounds.specs.declared.prepared.Prepared.{Prepared}
 use Rattle.audit_rounds.specs.code.Prepared.{IsPrepared, found_before}
 use Rattle.audit_rounds.proofs.Fronts.{ready-more, before-more}

@@ -12,7 +12,8 @@ loop-n-preserved c =
     let within = c.loop-n-test.true in
     record {
       within = omega (arith, within);
-      number = ap length c.in_ok-extend_from_slice.ensures.items ∙ length-append at.rests.items _ ∙ omega (arith, number);
+      number = ap length c.in_ok-extend_from_slice.ensures.items ∙ length-append at.rests.items _
+          ∙ omega (arith, number);
       each = rw c.in_ok-extend_from_slice.ensures.items (rests-more c.args.connections.now c.args.stops.now
           c.args.opened.now at.rests.items at.n c.index-connections-n.result c.index-stops-n.result
           c.index-opened-n.result c.as_slice.result.now c.rest_of-rest.result (sym number) within

@@ -13,7 +13,8 @@ loop-list-preserved c =
     record {
       lists = taken-more at.yielded list (into_iter_items c.next.new.self) _ _ c.in-Some.ensures.steps.0
           at.invariant.lists;
-      all = known-more items (λ (list : Vec Finding Global). upto_stop (in_order list.items)) at.yielded list at.all.items _
+      all = known-more items (λ (list : Vec Finding Global). upto_stop (in_order list.items)) at.yielded list
+          at.all.items _
           c.in_ok-merge.field-0 c.in_ok-push-2.ensures.items
           (c.in_ok-merge.ensures
           ∙ ap (λ lists. upto_stop (in_order (flat_map items lists)))

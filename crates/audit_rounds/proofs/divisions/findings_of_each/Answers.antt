@@ -2,7 +2,7 @@ use Rattle.std.proofs.Common.{List, map, All, sym, ap, ◌∙◌, subst, arith, 
 use Rattle.std.proofs.lemmas.List.{take_all}
 use Rattle.std.proofs.lemmas.List.Elements.{All-take, All-drop}
 use Rattle.audit_terms.specs.declared.findings.Finding.{Finding}
-use Rattle.audit_terms.specs.runs.Orderly.{IsOrderly}
+use Rattle.audit_terms.specs.code.runs.Orderly.{IsOrderly}
 use Rattle.audit_terms.specs.declared.frames.Frame.{Frame}
 use Rattle.audit_terms.specs.Finding.{shown}
 use Rattle.audit_terms.specs.Pass.{pass}
@@ -54,7 +54,8 @@ findings_by_halves-requires g c =
             (
               subst (All orderly) (sym c.split_at-in-loop-done.ensures.front)
                   (All-take orderly c.batch_length.result rest
-                  (subst (All orderly) (sym c.split_at.ensures.back) (All-drop orderly c.loop-done.done all c.requires))),
+                  (subst (All orderly) (sym c.split_at.ensures.back)
+                  (All-drop orderly c.loop-done.done all c.requires))),
               subst AreFew (sym c.split_at-in-loop-done.ensures.front) c.batch_length.ensures.few,
             ),
           ),

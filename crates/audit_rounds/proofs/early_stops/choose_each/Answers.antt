@@ -10,7 +10,8 @@ loop-n-preserved c =
     let later = c.args.later.now.items in
     let same = c.requires in
     let number = i.number in
-    let inside : at.n < length later = subst (λ k. at.n < k) (c.len-n-end.ensures ∙ c.args.later.now.ok.0) c.loop-n-test.true in
+    let inside : at.n < length later = subst (λ k. at.n < k) (c.len-n-end.ensures ∙ c.args.later.now.ok.0)
+    c.loop-n-test.true in
     record {
       fronts = length-set at.early.items at.n c.choose.new.early ∙ i.fronts;
       number = length-set at.later.items at.n c.choose.new.later ∙ number;

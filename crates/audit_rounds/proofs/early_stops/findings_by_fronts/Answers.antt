@@ -25,7 +25,8 @@ choose_each-requires g c =
     (λ (frames : Bor (List Frame)). shown c.args.credits_shown (pass (front_of frames.now))) early connections
     c.in_ok-early.ensures in
     as-many-zipped (λ (list : Vec Finding Global). list.items)
-    (λ (one : Bor (List Frame) × Vec Finding Global). shown c.args.credits_shown (pass (later_of one.0.now one.1.items)))
+    (λ (one : Bor (List Frame) × Vec Finding Global). shown c.args.credits_shown
+    (pass (later_of one.0.now one.1.items)))
     c.in_ok-later.later.items connections c.as_slice-found.result.now number c.in_ok-later.ensures
     ∙ ap length c.as_slice-found.ensures.value
 
@@ -34,6 +35,8 @@ returns g c =
     ap (map (λ (list : Vec Finding Global). list.items)) c.choose_each.ensures
     ∙ chosen-pass c.args.credits_shown c.args.connections.now c.in_ok-early.early.items c.in_ok-later.later.items
     c.in_ok-early.ensures
-    (subst (λ (early : List (Vec Finding Global)). map (λ (list : Vec Finding Global). list.items) c.in_ok-later.later.items
-    ≡ map (λ (one : Bor (List Frame) × Vec Finding Global). shown c.args.credits_shown (pass (later_of one.0.now one.1.items)))
+    (subst (λ (early : List (Vec Finding Global)). map (λ (list : Vec Finding Global). list.items)
+    c.in_ok-later.later.items
+    ≡ map (λ (one : Bor (List Frame) × Vec Finding Global). shown c.args.credits_shown
+    (pass (later_of one.0.now one.1.items)))
     (zip c.args.connections.now early)) c.as_slice-found.ensures.value c.in_ok-later.ensures)

@@ -16,7 +16,8 @@ findings_of_batch-requires-clause-frames g c κs within =
 pub findings_of_batch-requires-clause-few : goal.findings_of_batch-requires-clause-few
 findings_of_batch-requires-clause-few g c κs within =
     few-fronts c.args.connections.now c.as_slice.result.now
-    (ap (map (λ (front : Bor (List Frame)). front.now)) c.as_slice.ensures.value ∙ c.in_ok-fronts.ensures) c.requires.few
+    (ap (map (λ (front : Bor (List Frame)). front.now)) c.as_slice.ensures.value ∙ c.in_ok-fronts.ensures)
+    c.requires.few
 
 pub returns : goal.returns
 returns g c =

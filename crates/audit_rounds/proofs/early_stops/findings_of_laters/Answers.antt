@@ -16,7 +16,8 @@ findings_of_batch-requires-clause-frames g c κs within =
 pub findings_of_batch-requires-clause-few : goal.findings_of_batch-requires-clause-few
 findings_of_batch-requires-clause-few g c κs within =
     few-laters c.args.connections.now c.as_slice.result.now c.args.early.now
-    (ap (map (λ (later : Bor (List Frame)). later.now)) c.as_slice.ensures.value ∙ c.in_ok-laters.ensures) c.requires.few
+    (ap (map (λ (later : Bor (List Frame)). later.now)) c.as_slice.ensures.value ∙ c.in_ok-laters.ensures)
+    c.requires.few
 
 pub returns : goal.returns
 returns g c =

@@ -13,5 +13,6 @@ loop-frames-preserved c =
       fronts = rw c.in_ok-extend_from_slice.ensures.items (map-grows (λ front. front.now)
           (λ frames. front_of frames.now) at.fronts.items c.front_of-front.result c.args.connections.now at.frames-index
           c.frames-item.result within
-          (c.front_of-front.ensures ∙ ap (λ (frames : Bor (List Frame)). front_of frames.now) c.frames-item.is) at.invariant.fronts);
+          (c.front_of-front.ensures
+          ∙ ap (λ (frames : Bor (List Frame)). front_of frames.now) c.frames-item.is) at.invariant.fronts);
     }

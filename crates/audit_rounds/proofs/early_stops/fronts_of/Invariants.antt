@@ -6,5 +6,6 @@ use Rattle.audit_rounds.proofs.early_stops.fronts_of.Given as goal
 abbrev pub invariant-loop-frames : goal.invariant-loop-frames
 invariant-loop-frames l = record {
   within : l.frames-index ≤ length l.connections;
-  fronts : map (λ front. front.now) l.fronts.items ≡ map (λ frames. front_of frames.now) (take l.frames-index l.connections);
+  fronts : map (λ front. front.now) l.fronts.items ≡ map (λ frames. front_of frames.now)
+      (take l.frames-index l.connections);
 }

@@ -11,6 +11,8 @@ loop-n-preserved c =
     let within = c.loop-n-test.true in
     let same = c.requires in
     rw c.in_ok-extend_from_slice.ensures.items (laters-more c.args.connections.now c.args.early.now at.laters.items
-    c.later_of-later.result at.n c.index-connections-n.result there.result c.as_slice.result.now within (omega (arith, within, same))
+    c.later_of-later.result at.n c.index-connections-n.result there.result c.as_slice.result.now within
+    (omega (arith, within, same))
     (c.later_of-later.ensures
-    ∙ ap (λ (frames : Bor (List Frame)). later_of frames.now c.as_slice.result.now) c.index-connections-n.is) c.as_slice.ensures.value there.is at.invariant)
+    ∙ ap (λ (frames : Bor (List Frame)). later_of frames.now c.as_slice.result.now) c.index-connections-n.is)
+    c.as_slice.ensures.value there.is at.invariant)

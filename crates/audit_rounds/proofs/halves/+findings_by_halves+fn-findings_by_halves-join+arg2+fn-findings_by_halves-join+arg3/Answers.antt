@@ -18,5 +18,6 @@ returns g t c =
     let first = IfOk-at_ok (λ found. map items found.items ≡ map shows front) one.was c.join-one.ensures.first in
     let second = IfOk-at_ok (λ found. map items found.items ≡ map shows back) other.was c.join-one.ensures.second in
     rw c.in_ok-append.ensures.items
-    (halves-whole items shows c.args.connections.now front back one.found.items other.more.items c.in_halves.ensures.whole
+    (halves-whole items shows c.args.connections.now front back one.found.items other.more.items
+    c.in_halves.ensures.whole
     first second)

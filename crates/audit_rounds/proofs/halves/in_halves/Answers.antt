@@ -2,7 +2,7 @@ use Rattle.std.proofs.Common.{All, sym, ap, ◌++◌, ◌∙◌, subst, take, Bo
 use Rattle.std.proofs.lemmas.List.{take-append-drop}
 use Rattle.std.proofs.lemmas.List.Elements.{All-take, All-drop}
 use Rattle.audit_terms.specs.declared.frames.Frame.{Frame}
-use Rattle.audit_terms.specs.runs.Orderly.{IsOrderly}
+use Rattle.audit_terms.specs.code.runs.Orderly.{IsOrderly}
 use Rattle.audit_rounds.proofs.Few.{few-front, few-back}
 use Rattle.audit_rounds.proofs.halves.in_halves.Goals as goal
 

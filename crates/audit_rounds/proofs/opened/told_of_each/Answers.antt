@@ -17,7 +17,8 @@ loop-part-preserved c =
     (c.requires at.part-index part c.loop-part-test.true) in
     record {
       number = length-set all part.connection c.extend_from_slice.new.self ∙ number;
-      each = λ n list l. told-more all parts at.part-index n part list d c.extend_from_slice.new.self c.loop-part-test.true
+      each = λ n list l. told-more all parts at.part-index n part list d c.extend_from_slice.new.self
+          c.loop-part-test.true
           c.part-item.is (omega (arith, number, inside))
           (c.in_ok-extend_from_slice.ensures.items
           ∙ ap (λ numbers. d.items ++ numbers) c.as_slice.ensures.value

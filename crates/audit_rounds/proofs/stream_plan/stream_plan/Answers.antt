@@ -1,5 +1,5 @@
 use Rattle.std.proofs.Common.{rules, length, ap, ◌∙◌, arith}
-use Rattle.split_merge.specs.Groups.{groups}
+use Rattle.split_merge.specs.code.Groups.{groups}
 use Rattle.stream_groups.specs.declared.streams.Streams.{Streams}
 use Rattle.audit_rounds.proofs.Few.{jobs-few}
 use Rattle.audit_rounds.proofs.StreamPlan.{plan-more, plan-done}
@@ -9,7 +9,8 @@ pub loop-connection-preserved : goal.loop-connection-preserved
 loop-connection-preserved c =
     plan-more c.args.count c.loop-connection.connection c.args.connections.now c.index-connections-connection.result
     c.loop-connection.plan.items c.add_jobs.new.plan.items _ c.as_slice.result.now c.loop-connection-test.true
-    (c.as_slice.ensures.value ∙ c.in_ok-ranges.ensures.value ∙ ap (λ n. groups n c.args.count) (c.len.ensures ∙ search rules)
+    (c.as_slice.ensures.value ∙ c.in_ok-ranges.ensures.value
+    ∙ ap (λ n. groups n c.args.count) (c.len.ensures ∙ search rules)
     ∙ ap (λ (one : Streams). groups (length one.split.now.rows.items) c.args.count)
     c.index-connections-connection.is)
     c.in_ok-add_jobs.ensures c.loop-connection.invariant

@@ -1,7 +1,7 @@
 use Rattle.std.proofs.Common.{length, All, Option, ℕ, List, sym, ap, ◌∙◌, subst, Vec, Global}
 use Rattle.std.proofs.lemmas.Slice.Zip.{AllZip-long}
 use Rattle.audit_terms.specs.declared.findings.Finding.{Finding}
-use Rattle.stop_desk.specs.Stop.{IsStop}
+use Rattle.stop_desk.specs.code.Stop.{IsStop}
 use Rattle.stream_groups.specs.declared.streams.Streams.{Streams}
 use Rattle.audit_rounds.specs.code.AfterStreams.{HaveSettled}
 use Rattle.audit_rounds.specs.code.StreamJobs.{IsReady}

@@ -1,5 +1,5 @@
 use Rattle.std.proofs.Common.{◌++◌, map, ap, ◌∙◌, append_assoc}
-use Rattle.block_scan.specs.List.{items_of}
+use Rattle.block_scan.specs.code.List.{items_of}
 use Rattle.block_scan.proofs.Folds.{items_of-push-now, halves}
 use Rattle.block_scan.proofs.blocks.cut.Goals as goal
 

@@ -1,5 +1,5 @@
 use Rattle.std.proofs.Common.{◌++◌, map, sym, ap, ◌∙◌}
-use Rattle.block_scan.specs.List.{items_of}
+use Rattle.block_scan.specs.code.List.{items_of}
 use Rattle.block_scan.specs.code.Shown.{append_nil}
 use Rattle.block_scan.proofs.Folds.{none_left}
 use Rattle.block_scan.proofs.scans.joined.Goals as goal

@@ -1,7 +1,7 @@
 use Rattle.std.proofs.Common.{List, Bor, map, sym, ap, subst, ◌∙◌}
 use Rattle.rayon.proofs.ListFacts.{IfOk-then}
-use Rattle.block_scan.specs.Laws.{summary_of}
-use Rattle.block_scan.specs.List.{items_of, states_after, states_before}
+use Rattle.block_scan.specs.code.Summary.{summary_of}
+use Rattle.block_scan.specs.code.List.{items_of, states_after, states_before}
 use Rattle.block_scan.proofs.Folds.{map-now}
 use Rattle.block_scan.proofs.scans.scan.Goals as goal
 

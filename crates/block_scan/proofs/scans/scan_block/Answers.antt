@@ -1,6 +1,6 @@
 use Rattle.std.proofs.Common.{◌≡◌, ◌-◌, ◌∷◌, [], length, take, ap, sym, subst, ◌∙◌, arith}
 use Rattle.std.specs.Prelude.{slice_get}
-use Rattle.block_scan.specs.List.{states_after}
+use Rattle.block_scan.specs.code.List.{states_after}
 use Rattle.block_scan.proofs.Folds.{last_or-state_after}
 use Rattle.block_scan.proofs.Joined.{next_alone, next_states}
 use Rattle.block_scan.proofs.scans.scan_block.Goals as goal
@@ -19,7 +19,14 @@ advance-next-requires g c =
     let last = ap (λ y. y.now) c.unwrap_or.ensures
     ∙ last_or-state_after m.step s (take i items) c.last.result (c.last.ensures.value
     ∙ ap (λ l. slice_get l (length l - 1)) states) in
-    record { fits = (x ∷ [], subst (λ t. m.fits t (x ∷ [])) (sym last) alone, c.of-sum.ensures ∙ sym (laws.one _ x alone)) }
+    record {
+      fits = (
+        x ∷ [],
+        subst (λ t. m.fits t (x ∷ [])) (sym last) alone,
+        c.of-sum.ensures
+            ∙ sym (laws.one _ x alone),
+      );
+    }
 
 pub loop-item-preserved : goal.loop-item-preserved
 loop-item-preserved g c =

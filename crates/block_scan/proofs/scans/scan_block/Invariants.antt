@@ -1,5 +1,5 @@
 use Rattle.std.proofs.Common.{◌≡◌, ◌≤◌, length, take}
-use Rattle.block_scan.specs.List.{states_after}
+use Rattle.block_scan.specs.code.List.{states_after}
 use Rattle.block_scan.proofs.scans.scan_block.Given as goal
 
 abbrev pub invariant-loop-item : goal.invariant-loop-item

@@ -1,5 +1,5 @@
 use Rattle.std.proofs.Common.{◌∷◌, [], take, sym, ◌∙◌, arith}
-use Rattle.block_scan.specs.List.{state_after}
+use Rattle.block_scan.specs.code.List.{state_after}
 use Rattle.block_scan.proofs.Joined.{next_fits, next_alone, next_summary}
 use Rattle.block_scan.proofs.scans.sum_of.Goals as goal
 
@@ -26,7 +26,8 @@ join-sum-requires g c =
 pub loop-item-preserved : goal.loop-item-preserved
 loop-item-preserved g c = record {
   within = omega arith;
-  summed = next_summary g.met.S.Summary.laws c.requires.fits.0 c.args.items.now c.loop-item.item-index c.item-item.result
+  summed = next_summary g.met.S.Summary.laws c.requires.fits.0 c.args.items.now c.loop-item.item-index
+      c.item-item.result
       c.requires.fits.1 c.loop-item-test.true c.item-item.is c.loop-item.sum c.of.result c.join-sum.result
       c.loop-item.invariant.summed c.of.ensures c.join-sum.ensures;
 }

@@ -1,5 +1,5 @@
 use Rattle.std.proofs.Common.{◌≡◌, ◌≤◌, length, take}
-use Rattle.block_scan.specs.Laws.{summary_of}
+use Rattle.block_scan.specs.code.Summary.{summary_of}
 use Rattle.block_scan.proofs.scans.sum_of.Given as goal
 
 abbrev pub invariant-loop-item : goal.invariant-loop-item

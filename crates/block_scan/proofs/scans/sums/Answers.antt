@@ -2,8 +2,8 @@ use Rattle.std.proofs.Common.{List, Bor, sym, ap, subst, ◌∙◌}
 use Rattle.std.proofs.Common.{map, get_or}
 use Rattle.rayon.proofs.ListFacts.{IfOk-then}
 use Rattle.rayon.proofs.ToStd.{slice-map}
-use Rattle.block_scan.specs.Laws.{summary_of}
-use Rattle.block_scan.specs.List.{states_before}
+use Rattle.block_scan.specs.code.Summary.{summary_of}
+use Rattle.block_scan.specs.code.List.{states_before}
 use Rattle.block_scan.proofs.Joined.{block_fits}
 use Rattle.block_scan.proofs.scans.sums.Goals as goal
 

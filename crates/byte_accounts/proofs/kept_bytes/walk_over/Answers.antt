@@ -5,4 +5,9 @@ use Rattle.byte_accounts.proofs.kept_bytes.walk_over.Goals as goal
 pub advance-requires-clause-short : goal.advance-requires-clause-short
 advance-requires-clause-short c =
     let none : 0 ≤ length {A = ℕ} [] = omega arith in
-    omega (arith, ap length c.in_ok-capture.ensures, kept_size c.args.full.now [] 0 c.requires.full none, c.requires.length)
+    omega (
+      arith,
+      ap length c.in_ok-capture.ensures,
+      kept_size c.args.full.now [] 0 c.requires.full none,
+      c.requires.length,
+    )

@@ -16,26 +16,35 @@ loop-reader-preserved g c =
       passed = search rules;
       has_ended = search rules;
       grown = search rules;
-      front = front_stays c.args.reader.now old roomy now c.loop-reader.invariant.grown c.make_room.ensures.kept c.read_beside.ensures.front c.loop-reader.invariant.front;
+      front = front_stays c.args.reader.now old roomy now c.loop-reader.invariant.grown c.make_room.ensures.kept
+          c.read_beside.ensures.front c.loop-reader.invariant.front;
       read = λ before was.
-          consumed_read g.R.Read.remaining before old roomy now room c.make_room.ensures.kept c.loop-reader.invariant.passed c.read_beside.ensures.passed c.read_beside.ensures.front more.bytes (c.loop-reader.invariant.read before was);
-      walk = walk_stays (kept roomy) (kept now) c.read_beside.new.walk c.read_beside.ensures.front c.read_beside.ensures.walk;
+          consumed_read g.R.Read.remaining before old roomy now room c.make_room.ensures.kept
+          c.loop-reader.invariant.passed c.read_beside.ensures.passed c.read_beside.ensures.front more.bytes
+          (c.loop-reader.invariant.read before was);
+      walk = walk_stays (kept roomy) (kept now) c.read_beside.new.walk
+          c.read_beside.ensures.front c.read_beside.ensures.walk;
     }
 
 pub returns-then-branch-eq0-clause-bytes : goal.returns-then-branch-eq0-clause-bytes
 returns-then-branch-eq0-clause-bytes g c = λ before was.
     let old = c.loop-reader.reader in
     let more = c.in_ok-read_beside.ensures in
-    consumed_read g.R.Read.remaining before old c.make_room.new.self c.read_beside.new.self c.in_ok-make_room.ensures.ok c.make_room.ensures.kept c.loop-reader.invariant.passed c.read_beside.ensures.passed c.read_beside.ensures.front more.bytes (c.loop-reader.invariant.read before was)
+    consumed_read g.R.Read.remaining before old c.make_room.new.self c.read_beside.new.self c.in_ok-make_room.ensures.ok
+    c.make_room.ensures.kept c.loop-reader.invariant.passed c.read_beside.ensures.passed c.read_beside.ensures.front
+    more.bytes (c.loop-reader.invariant.read before was)
 
 pub returns-then-branch-eq0-clause-walk : goal.returns-then-branch-eq0-clause-walk
 returns-then-branch-eq0-clause-walk g c =
-    walk_stays (kept c.make_room.new.self) (kept c.read_beside.new.self) c.read_beside.new.walk c.read_beside.ensures.front c.read_beside.ensures.walk
+    walk_stays (kept c.make_room.new.self) (kept c.read_beside.new.self) c.read_beside.new.walk
+    c.read_beside.ensures.front c.read_beside.ensures.walk
 
 pub returns-in_err-read_beside-clause-front : goal.returns-in_err-read_beside-clause-front
 returns-in_err-read_beside-clause-front g c =
-    front_stays c.args.reader.now c.loop-reader.reader c.make_room.new.self c.read_beside.new.self c.loop-reader.invariant.grown c.make_room.ensures.kept c.read_beside.ensures.front c.loop-reader.invariant.front
+    front_stays c.args.reader.now c.loop-reader.reader c.make_room.new.self c.read_beside.new.self
+    c.loop-reader.invariant.grown c.make_room.ensures.kept c.read_beside.ensures.front c.loop-reader.invariant.front
 
 pub returns-then-branch-eq0-clause-front : goal.returns-then-branch-eq0-clause-front
 returns-then-branch-eq0-clause-front g c =
-    front_stays c.args.reader.now c.loop-reader.reader c.make_room.new.self c.read_beside.new.self c.loop-reader.invariant.grown c.make_room.ensures.kept c.read_beside.ensures.front c.loop-reader.invariant.front
+    front_stays c.args.reader.now c.loop-reader.reader c.make_room.new.self c.read_beside.new.self
+    c.loop-reader.invariant.grown c.make_room.ensures.kept c.read_beside.ensures.front c.loop-reader.invariant.front

@@ -9,7 +9,9 @@ returns-then-branch-eq0-clause-bytes g c = λ before was.
     let now = c.pass_once.new.self in
     let last = g.R.Read.remaining old.reader in
     let same : kept now ≡ kept old = search rules in
-    consumed_passed before last (g.R.Read.remaining now.reader) old now c.in_ok-pass_once.field-0 c.pass_once.new.piece same c.in_ok-pass_once.ensures.count c.in_ok-pass_once.ensures.fits c.in_ok-pass_once.ensures.bytes (c.loop-piece.invariant.read before was)
+    consumed_passed before last (g.R.Read.remaining now.reader) old now c.in_ok-pass_once.field-0 c.pass_once.new.piece
+    same c.in_ok-pass_once.ensures.count c.in_ok-pass_once.ensures.fits c.in_ok-pass_once.ensures.bytes
+    (c.loop-piece.invariant.read before was)
 
 pub loop-piece-preserved : goal.loop-piece-preserved
 loop-piece-preserved g c =
@@ -23,5 +25,7 @@ loop-piece-preserved g c =
       kept = search rules;
       has_ended = search rules;
       read = λ before was.
-          consumed_passed before last (g.R.Read.remaining now.reader) old now c.in_ok-pass_once.field-0 c.pass_once.new.piece same c.in_ok-pass_once.ensures.count c.in_ok-pass_once.ensures.fits c.in_ok-pass_once.ensures.bytes (c.loop-piece.invariant.read before was);
+          consumed_passed before last (g.R.Read.remaining now.reader) old now c.in_ok-pass_once.field-0
+          c.pass_once.new.piece same c.in_ok-pass_once.ensures.count c.in_ok-pass_once.ensures.fits
+          c.in_ok-pass_once.ensures.bytes (c.loop-piece.invariant.read before was);
     }

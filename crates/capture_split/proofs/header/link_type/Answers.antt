@@ -12,4 +12,5 @@ same_link order link header (Some format) is orders = is ∙ ap (λ (n : ByteOrd
 
 pub returns : goal.returns
 returns c =
-    same_link (order_of c.is_little.result) c.link_in.result c.args.header.now (format_of c.args.header.now) c.link_in.ensures c.is_little.ensures
+    same_link (order_of c.is_little.result) c.link_in.result c.args.header.now (format_of c.args.header.now)
+    c.link_in.ensures c.is_little.ensures

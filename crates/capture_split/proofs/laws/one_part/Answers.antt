@@ -8,5 +8,6 @@ pub returns : goal.returns
 returns c = λ link parts taken n bytes some.
     let part : ℕ = part_at link parts n bytes in (
       given-some link parts taken part n bytes some ∙ cond-true (part == part) _ _ (eq-eqb part part refl),
-      λ i other. given-some link parts taken i n bytes some ∙ cond-false (part == i) _ _ (ne_eqb part i (λ e. other (sym e))),
+      λ i other. given-some link parts taken i n bytes some
+          ∙ cond-false (part == i) _ _ (ne_eqb part i (λ e. other (sym e))),
     )

@@ -27,7 +27,8 @@ returns-clause-rest g c = λ some.
     let size : length (take f old) ≡ f = length-take-le f old c.requires.filled in
     let order : d ≤ f = omega (arith, c.in_ok-dealt.ensures.within, size) in
     let moved : drop d (take f old) ≡ take (f - d) c.copy_within.new.self =
-    back_part d f old order ∙ sym (moved_to_front d f old order c.requires.filled) ∙ ap (take (f - d)) (sym c.copy_within.ensures.after) in
+    back_part d f old order ∙ sym (moved_to_front d f old order c.requires.filled)
+    ∙ ap (take (f - d)) (sym c.copy_within.ensures.after) in
     let rest = c.in_ok-dealt.ensures.rest (omega (arith, some, size)) in
     (rest.0, λ begins. rest.1 (subst (BeginsWithRecord (order_of c.deal.new.self.is_little)) (sym moved) begins))
 
@@ -41,4 +42,5 @@ returns-clause-dealt g c = λ first bytes was.
     let back : d ≡ f - (f - d) = omega (arith, order) in
     let same : bytes ++ take d (take f old) ≡ bytes ++ take (f - (f - d)) old =
     ap (λ (l : List ℕ). bytes ++ l) (take-take d f old order ∙ ap (λ (k : ℕ). take k old) back) in
-    subst (IsDealt g.W.Write.contents c.deal.new.self first c.deal.new.parts) same (c.in_ok-dealt.ensures.dealt first bytes was)
+    subst (IsDealt g.W.Write.contents c.deal.new.self first c.deal.new.parts) same
+    (c.in_ok-dealt.ensures.dealt first bytes was)

@@ -8,6 +8,7 @@ invariant-loop g l = record {
   part : l.dealer.part < length l.parts;
   link : l.dealer.link ≡ l.initial.dealer.link;
   little : l.dealer.is_little ≡ l.initial.dealer.is_little;
-  turned : HasTurned g.W.Write.contents g.R.Read.remaining l.initial.dealer l.dealer l.initial.parts l.parts l.initial.reader l.reader
+  turned : HasTurned g.W.Write.contents g.R.Read.remaining l.initial.dealer l.dealer l.initial.parts l.parts
+      l.initial.reader l.reader
       (take l.filled l.buffer);
 }

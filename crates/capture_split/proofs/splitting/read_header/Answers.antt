@@ -15,7 +15,9 @@ loop-filled-preserved g c =
       within = search rules;
       bytes =
           subst (R c.args.reader.now c.read.new.self)
-          (sym (read_behind a (length before.header - a) n before.header c.read.new.buf before.invariant.within read.bound.0))
-          (Consumes-trans (g.R.Read.remaining c.args.reader.now) (g.R.Read.remaining before.reader) (g.R.Read.remaining c.read.new.self)
+          (sym (read_behind a (length before.header - a) n before.header c.read.new.buf before.invariant.within
+          read.bound.0))
+          (Consumes-trans (g.R.Read.remaining c.args.reader.now) (g.R.Read.remaining before.reader)
+          (g.R.Read.remaining c.read.new.self)
           (take a before.header) (take n c.read.new.buf) before.invariant.bytes read.bytes.0);
     }

@@ -24,6 +24,9 @@ returns g c =
       split.1,
       split.2,
       by_header (λ number link. AreSplit g.W.Write.contents number link split.0 c.args.parts.now c.split_last.new.parts)
-          (order_of d.is_little) d.link c.args.header.now (format_of c.args.header.now) c.behind-dealer.ensures.order c.behind-dealer.ensures.link
-          (split.3 c.args.parts.now [] (none_dealt g.W.Write.contents d c.args.parts.now c.behind-dealer.ensures.number c.behind-dealer.ensures.left)),
+          (order_of d.is_little) d.link c.args.header.now (format_of c.args.header.now) c.behind-dealer.ensures.order
+          c.behind-dealer.ensures.link
+          (split.3 c.args.parts.now []
+          (none_dealt g.W.Write.contents d c.args.parts.now
+          c.behind-dealer.ensures.number c.behind-dealer.ensures.left)),
     )

@@ -12,11 +12,15 @@ returns-clause-split g c =
       turned.consumed,
       filed.end,
       λ first bytes was.
-          let whole = c.in_ok-finish.ensures.split first (bytes ++ turned.given) turned.none_whole (turned.dealt first bytes was) in
-          subst (λ (b : Bool). AreSplit g.W.Write.contents (order_of b) c.args.dealer.now.link (bytes ++ (turned.given ++ rest)) first c.finish.new.parts)
+          let whole = c.in_ok-finish.ensures.split first (bytes ++ turned.given) turned.none_whole
+          (turned.dealt first bytes was) in
+          subst (λ (b : Bool). AreSplit g.W.Write.contents (order_of b) c.args.dealer.now.link
+          (bytes ++ (turned.given ++ rest)) first c.finish.new.parts)
           filed.same.1
-          (subst (λ (link : ℕ). AreSplit g.W.Write.contents (order_of c.deal_file.new.dealer.is_little) link (bytes ++ (turned.given ++ rest)) first c.finish.new.parts)
+          (subst (λ (link : ℕ). AreSplit g.W.Write.contents (order_of c.deal_file.new.dealer.is_little) link
+          (bytes ++ (turned.given ++ rest)) first c.finish.new.parts)
           filed.same.0
-          (subst (λ (l : List ℕ). AreSplit g.W.Write.contents (order_of c.deal_file.new.dealer.is_little) c.deal_file.new.dealer.link l first c.finish.new.parts)
+          (subst (λ (l : List ℕ). AreSplit g.W.Write.contents (order_of c.deal_file.new.dealer.is_little)
+          c.deal_file.new.dealer.link l first c.finish.new.parts)
           (append_assoc bytes turned.given rest) whole)),
     )

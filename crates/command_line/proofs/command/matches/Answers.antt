@@ -1,6 +1,7 @@
 use Rattle.std.proofs.Common.{Bor, List, Result, true, refl, ◌≡◌, ◌∙◌, ap, map, subst}
 use Rattle.std.proofs.lemmas.Result.{IfOk-weaker}
-use Rattle.clap.specs.Words.{App, FailsBy, HasMatchesOf, Text, app_of, fault_of, found_of, is_simple, is_simple_and_free, matches_of, rows_of}
+use Rattle.clap.specs.Words.{App, FailsBy, HasMatchesOf, Text, app_of, fault_of, found_of, is_simple}
+use Rattle.clap.specs.Words.{is_simple_and_free, matches_of, rows_of}
 use Rattle.clap.specs.declared.error.Error.{Error}
 use Rattle.clap.specs.declared.parser.matches.ArgMatches.{ArgMatches}
 use Rattle.command_line.specs.Words.{app}
@@ -30,11 +31,13 @@ returns-clause-rows c =
     let made = app_of c.in_ok-command.field-0 in
     let words = map (λ (w : Bor Text). w.now) c.args.words.now in
     IfOk-weaker c.try_get_matches_from.result _ _
-    (λ m taken. rows_of_equal made app words m c.in_ok-command.ensures app_simple taken) c.try_get_matches_from.ensures.matches
+    (λ m taken. rows_of_equal made app words m c.in_ok-command.ensures app_simple taken)
+    c.try_get_matches_from.ensures.matches
 
 pub returns-clause-numbers : goal.returns-clause-numbers
 returns-clause-numbers c = IfOk-weaker c.try_get_matches_from.result _ _
-    (λ m parsed. numbers_found c.in_ok-command.field-0 m c.in_ok-command.ensures parsed) c.try_get_matches_from.ensures.parsed
+    (λ m parsed. numbers_found c.in_ok-command.field-0 m c.in_ok-command.ensures parsed)
+    c.try_get_matches_from.ensures.parsed
 
 pub returns-clause-fails : goal.returns-clause-fails
 returns-clause-fails c =

@@ -1,6 +1,7 @@
 use Rattle.std.proofs.Common.{refl, ◌≡◌, true, false, List, [], ◌∷◌, codes, Some, None, rules}
 use Rattle.clap.specs.Words.{Text, fault_of, matches_of}
-use Rattle.clap.specs.declared.error.kind.ErrorKind.TheVariants.{DisplayHelp, DisplayVersion, UnknownArgument, ValueValidation}
+use Rattle.clap.specs.declared.error.kind.ErrorKind.TheVariants.{DisplayHelp, DisplayVersion, UnknownArgument}
+use Rattle.clap.specs.declared.error.kind.ErrorKind.TheVariants.{ValueValidation}
 use Rattle.clap.proofs.OnLiterals.{clap_on_literals}
 use Rattle.command_line.specs.laws.KnownWords.{AreFound}
 use Rattle.command_line.specs.Words.{app}
@@ -22,7 +23,8 @@ none_found = (
   refl,
 )
 
-all_found : AreFound all (record { workers = 64; groups = 1; block = 1048576; frames_shown = true }) (Some (codes "capture.pcap"))
+all_found : AreFound all (record { workers = 64; groups = 1; block = 1048576; frames_shown = true })
+    (Some (codes "capture.pcap"))
 unfolding clap_on_literals
 all_found = (
   refl,

@@ -19,7 +19,8 @@ pub loop-item-preserved : goal.loop-item-preserved
 loop-item-preserved c =
     let left = walked c.next.new.self.opened.now c.next.new.self.changes.now c.next.new.self.frames.now in
     rw c.in_ok-push.ensures.items
-    (append_assoc c.loop-item.list.items (c.in-Some.item ∷ []) left ∙ ap (λ l. c.loop-item.list.items ++ l) (sym c.in-Some.ensures.steps) ∙ c.loop-item.invariant)
+    (append_assoc c.loop-item.list.items (c.in-Some.item ∷ []) left ∙ ap (λ l. c.loop-item.list.items ++ l)
+    (sym c.in-Some.ensures.steps) ∙ c.loop-item.invariant)
 
 pub loop-item-smaller : goal.loop-item-smaller
 loop-item-smaller c = rw c.in-Some.ensures.steps (omega arith)

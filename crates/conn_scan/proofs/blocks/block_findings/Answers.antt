@@ -1,5 +1,5 @@
 use Rattle.std.proofs.Common.{◌≡◌, ◌^◌, arith}
-use Rattle.conn_scan.specs.Items.{items_in}
+use Rattle.conn_scan.specs.code.Items.{items_in}
 use Rattle.conn_scan.specs.code.CreditLaws.{room-wider}
 use Rattle.conn_scan.specs.code.Walk.{walked}
 use Rattle.conn_scan.proofs.BlockLemmas.{block_walked, fits_next}

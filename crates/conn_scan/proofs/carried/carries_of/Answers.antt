@@ -1,6 +1,6 @@
 use Rattle.std.proofs.Common.{map, sym, ap, ◌∙◌}
 use Rattle.std.proofs.lemmas.List.{map_more, take_all}
-use Rattle.block_scan.specs.List.{items_of}
+use Rattle.block_scan.specs.code.List.{items_of}
 use Rattle.conn_scan.specs.code.ConnSumLaws.{state_of, states_carried, sums-shown}
 use Rattle.conn_scan.proofs.SumLemmas.{items_fit}
 use Rattle.conn_scan.proofs.carried.carries_of.Goals as goal

@@ -1,10 +1,10 @@
 use Rattle.std.proofs.Common.{◌≡◌, ◌≤◌, ◌^◌, [], ◌∷◌, ◌++◌, append_assoc, length, sym, ap, subst, ◌∙◌, arith}
 use Rattle.std.specs.List.{AllByRecursion}
-use Rattle.block_scan.specs.Laws.{summary_of}
+use Rattle.block_scan.specs.code.Summary.{summary_of}
 use Rattle.block_scan.specs.code.Shown.{append_nil}
-use Rattle.conn_scan.specs.Items.{items_in}
-use Rattle.conn_scan.specs.Block.{MovesLittle}
-use Rattle.conn_scan.specs.ConnSum.{conn_sum_of, parts_of}
+use Rattle.conn_scan.specs.code.Items.{items_in}
+use Rattle.conn_scan.specs.code.Block.{MovesLittle}
+use Rattle.conn_scan.specs.code.ConnSum.{conn_sum_of, parts_of}
 use Rattle.conn_scan.specs.code.Walk.{walked}
 use Rattle.conn_scan.specs.code.ConnSumLaws.{conn_none, conn_one, conn_join, conn_sum-shown}
 use Rattle.conn_scan.proofs.WalkLemmas.{length-walked}

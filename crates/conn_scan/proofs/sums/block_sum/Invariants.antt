@@ -1,8 +1,8 @@
 use Rattle.std.proofs.Common.{◌≡◌, ◌++◌, List}
 use Rattle.std.specs.List.{AllByRecursion}
 use Rattle.audit_terms.specs.declared.items.Item.{Item}
-use Rattle.block_scan.specs.Laws.{summary_of}
-use Rattle.conn_scan.specs.Block.{MovesLittle}
+use Rattle.block_scan.specs.code.Summary.{summary_of}
+use Rattle.conn_scan.specs.code.Block.{MovesLittle}
 use Rattle.conn_scan.specs.code.Walk.{walked}
 use Rattle.conn_scan.specs.code.ConnSumLaws.{conn_none, conn_one, conn_join}
 use Rattle.conn_scan.proofs.sums.block_sum.Given as goal

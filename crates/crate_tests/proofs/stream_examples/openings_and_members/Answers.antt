@@ -1,6 +1,7 @@
 use Rattle.tcp_streams.proofs.Belongings.{connections-shown}
-use Rattle.crate_tests.specs.Captured.{packets}
-use Rattle.crate_tests.specs.Connections.{by_ports, from_the_other_end, one_endpoint, opened_twice, repeated_syn}
+use Rattle.crate_tests.specs.examples.Captured.{packets}
+use Rattle.crate_tests.specs.examples.Connections.{by_ports, from_the_other_end, one_endpoint, opened_twice}
+use Rattle.crate_tests.specs.examples.Connections.{repeated_syn}
 use Rattle.crate_tests.proofs.stream_examples.openings_and_members.Goals as goal
 
 pub returns-clause-ports_tell_apart : goal.returns-clause-ports_tell_apart

@@ -3,10 +3,10 @@ use Rattle.std.specs.List.{AllByRecursion}
 use Rattle.std.proofs.lemmas.List.{drop_more}
 use Rattle.audit_terms.specs.declared.frames.Frame.{Frame}
 use Rattle.audit_terms.specs.Sides.{side_of}
-use Rattle.audit_terms.specs.runs.Orderly.{IsInRange}
+use Rattle.audit_terms.specs.code.runs.Orderly.{IsInRange}
 use Rattle.audit_terms.specs.Finding.{in_order}
 use Rattle.audit_terms.specs.LocalFault.{local_said, previous_after}
-use Rattle.audit_terms.specs.runs.LocalFaults.{local_run_from}
+use Rattle.audit_terms.specs.code.runs.LocalFaults.{local_run_from}
 use Rattle.fault_rules.proofs.pieces.faults_after.Goals as goal
 
 pub loop-frame-preserved : goal.loop-frame-preserved

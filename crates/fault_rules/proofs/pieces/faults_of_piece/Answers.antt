@@ -1,6 +1,6 @@
 use Rattle.std.proofs.Common.{◌*◌, All, drop, sym, subst}
 use Rattle.std.proofs.lemmas.List.Elements.{All-take, All-drop}
-use Rattle.audit_terms.specs.runs.Orderly.{IsInRange}
+use Rattle.audit_terms.specs.code.runs.Orderly.{IsInRange}
 use Rattle.fault_rules.proofs.pieces.faults_of_piece.Goals as goal
 
 pub faults_after-requires : goal.faults_after-requires

@@ -8,7 +8,8 @@ loop-piece-preserved c =
     let i = c.loop-piece.piece-index in
     let piece = c.piece-item.result in
     let left = drop_more pieces i piece c.loop-piece-test.true in
-    let more = c.in_ok-extend_from_slice.ensures.items ∙ ap (λ said. c.loop-piece.found.items ++ said) c.as_slice.ensures.value in
+    let more = c.in_ok-extend_from_slice.ensures.items
+    ∙ ap (λ said. c.loop-piece.found.items ++ said) c.as_slice.ensures.value in
     ap (λ said. said ++ flat_map (λ piece. piece.items) (drop (i + 1) pieces)) more
     ∙ append_assoc c.loop-piece.found.items piece.items _
     ∙ ap (λ l. c.loop-piece.found.items ++ flat_map (λ piece. piece.items) l)

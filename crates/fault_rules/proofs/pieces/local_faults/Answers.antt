@@ -3,7 +3,7 @@ use Rattle.std.specs.List.{range_with_len}
 use Rattle.rayon.specs.Numbers.{nat_range}
 use Rattle.rayon.proofs.ListFacts.{IfOk-then}
 use Rattle.rayon.proofs.ToStd.{nat_range-All}
-use Rattle.audit_terms.specs.runs.Orderly.{IsInRange}
+use Rattle.audit_terms.specs.code.runs.Orderly.{IsInRange}
 use Rattle.fault_rules.specs.code.Pieces.{AreBefores}
 use Rattle.fault_rules.proofs.PieceLemmas.{orderly-All, pieces-all}
 use Rattle.fault_rules.proofs.pieces.local_faults.Goals as goal

@@ -8,5 +8,6 @@ returns c =
     let start = c.args.n * c.args.size in
     let rest = drop start frames in
     let whole : take (length frames - start) rest ≡ rest = take_all _ rest (omega (arith, length-drop start frames)) in
-    let size : c.min.result ≡ min c.args.size (length rest) = c.min.ensures ∙ ap (λ l. min c.args.size (length l)) whole in
+    let size : c.min.result ≡ min c.args.size (length rest) = c.min.ensures
+    ∙ ap (λ l. min c.args.size (length l)) whole in
     ap (take c.min.result) whole ∙ ap (λ k. take k rest) size ∙ take_min c.args.size rest

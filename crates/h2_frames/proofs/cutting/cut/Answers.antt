@@ -24,7 +24,8 @@ returns-in-Other-clause-only c =
     let bytes : bytes_left c.of-bytes.result ≡ bytes_of c.args.client.now =
     c.of-bytes.ensures.bytes ∙ ap joined c.as_slice.ensures.value in
     let first = rw bytes at c.in-Other.ensures in
-    λ other second. only-cut c.args.client.now c.args.server.now NotHttp2 other (c.if-not-server.false, first.0, first.1) second
+    λ other second. only-cut c.args.client.now c.args.server.now NotHttp2 other
+    (c.if-not-server.false, first.0, first.1) second
 
 pub returns-in-Preface-clause-only : goal.returns-in-Preface-clause-only
 returns-in-Preface-clause-only c =

@@ -24,7 +24,8 @@ returns-clause-is c =
     let both = found.2 in
     let bytes : bytes_left c.of-answers.result ≡ bytes_of c.args.server.now =
     c.of-answers.ensures.bytes ∙ ap joined c.as_slice.ensures.value in
-    http2-is c.args.client.now c.args.server.now _ both.client_frames both.server_frames found.0 c.in_ok-frames.frames.items
+    http2-is c.args.client.now c.args.server.now _ both.client_frames both.server_frames found.0
+    c.in_ok-frames.frames.items
     _ _ _ _ c.requires.begins c.requires.client c.requires.server
     (rw c.as_slice-arrivals.ensures.value at (c.in_ok-sent.ensures.left _ _ both.client_left))
     (rw (c.as_slice-arrivals-2.ensures.value, bytes) at (c.in_ok-answered.ensures.left _ _ both.server_left))

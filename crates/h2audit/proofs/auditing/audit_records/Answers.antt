@@ -16,9 +16,11 @@ pub audit_each-requires-clause-few : goal.audit_each-requires-clause-few
 audit_each-requires-clause-few g c κs within =
     let packets = c.in_ok-packets.packets in
     let few = opened-few packets c.in_ok-connections.connections.opened.items c.in_ok-connections.ensures.opened in
-    let same : length packets ≡ length (joined (map (λ (part : Vec Packet Global). part.items) c.in_ok-made.made.items)) =
+    let same : length packets ≡ length
+    (joined (map (λ (part : Vec Packet Global). part.items) c.in_ok-made.made.items)) =
     ap length c.in_ok-packets.ensures
-    ∙ ap (λ (parts : List (Vec Packet Global)). length (joined (map (λ (part : Vec Packet Global). part.items) parts))) c.as_slice.ensures.value in
+    ∙ ap (λ (parts : List (Vec Packet Global)). length (joined (map (λ (part : Vec Packet Global). part.items) parts)))
+    c.as_slice.ensures.value in
     let lent : length c.as_slice-2.result.now ≡ length c.in_ok-connections.connections.opened.items =
     ap length c.as_slice-2.ensures.value in
     let all = c.in_ok-made.ensures.few in
@@ -26,7 +28,9 @@ audit_each-requires-clause-few g c κs within =
 
 pub report-requires-clause-each : goal.report-requires-clause-each
 report-requires-clause-each g c =
-    ap length c.as_slice-3.ensures.value ∙ AreAudited-length c.args.options.now.frames_shown c.args.capture.now c.in_ok-packets.packets c.as_slice-2.result.now c.in_ok-audited.audited.items c.in_ok-audited.ensures.audits ∙ ap length c.as_slice-2.ensures.value
+    ap length c.as_slice-3.ensures.value ∙ AreAudited-length c.args.options.now.frames_shown c.args.capture.now
+    c.in_ok-packets.packets c.as_slice-2.result.now c.in_ok-audited.audited.items c.in_ok-audited.ensures.audits
+    ∙ ap length c.as_slice-2.ensures.value
 
 pub returns : goal.returns
 returns g c =
@@ -36,19 +40,26 @@ returns g c =
     let opened = c.in_ok-connections.connections.opened.items in
     let audited = c.in_ok-audited.audited.items in
     let given : c.in_ok-packets.packets ≡ packets = c.in_ok-packets.ensures
-    ∙ ap (λ (parts : List (Vec Packet Global)). joined (map (λ (part : Vec Packet Global). part.items) parts)) c.as_slice.ensures.value
+    ∙ ap (λ (parts : List (Vec Packet Global)). joined (map (λ (part : Vec Packet Global). part.items) parts))
+    c.as_slice.ensures.value
     ∙ c.in_ok-made.ensures.exact in
     let strays = c.in_ok-connections.ensures.strays ∙ ap strays_of given in
-    let by_packets = subst (λ (p : List Packet). AreAudited credits capture p c.as_slice-2.result.now audited) given c.in_ok-audited.ensures.audits in
+    let by_packets = subst (λ (p : List Packet). AreAudited credits capture p c.as_slice-2.result.now audited) given
+    c.in_ok-audited.ensures.audits in
     record {
       opened = opened;
       audited = audited;
       connections = subst (λ (p : List Packet). AreConnections p opened) given c.in_ok-connections.ensures.opened;
-      audits = subst (λ (cs : List Connection). AreAudited credits capture packets cs audited) c.as_slice-2.ensures.value by_packets;
+      audits = subst (λ (cs : List Connection). AreAudited credits capture packets cs audited)
+          c.as_slice-2.ensures.value by_packets;
       spelled = c.in_ok-text.ensures
-          ∙ ap (λ (b : Bool). report_text c.args.found.now c.in_ok-packets.packets c.in_ok-connections.connections.strays.items opened c.as_slice-3.result.now b) c.frames_shown.ensures
-          ∙ ap (λ (p : List Packet). report_text c.args.found.now p c.in_ok-connections.connections.strays.items opened c.as_slice-3.result.now credits) given
-          ∙ ap (λ (s : List Stray). report_text c.args.found.now packets s opened c.as_slice-3.result.now credits) strays
-          ∙ ap (λ (a : List Audited). report_text c.args.found.now packets (strays_of packets) opened a credits) c.as_slice-3.ensures.value;
+          ∙ ap (λ (b : Bool). report_text c.args.found.now c.in_ok-packets.packets
+          c.in_ok-connections.connections.strays.items opened c.as_slice-3.result.now b) c.frames_shown.ensures
+          ∙ ap (λ (p : List Packet). report_text c.args.found.now p c.in_ok-connections.connections.strays.items opened
+          c.as_slice-3.result.now credits) given
+          ∙ ap (λ (s : List Stray). report_text c.args.found.now packets s opened c.as_slice-3.result.now credits)
+          strays
+          ∙ ap (λ (a : List Audited). report_text c.args.found.now packets (strays_of packets) opened a
+          credits) c.as_slice-3.ensures.value;
       judged = c.verdict_on-verdict.ensures ∙ ap verdict_of c.as_slice-4.ensures.value;
     }

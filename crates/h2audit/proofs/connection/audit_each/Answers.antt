@@ -1,7 +1,7 @@
 use Rattle.std.proofs.Common.{sym, ap, ◌∙◌, subst, All}
 use Rattle.job_crew.specs.declared.parts.Part.{Part}
 use Rattle.audit_report.specs.declared.audited.Audited.{Audited}
-use Rattle.h2_frames.specs.Orderly.{HasOrderlyFrames}
+use Rattle.h2_frames.specs.code.Orderly.{HasOrderlyFrames}
 use Rattle.h2audit.specs.declared.flow_round.ConnectionCut.{ConnectionCut}
 use Rattle.h2audit.specs.Audited.{AreAudited}
 use Rattle.h2audit.specs.code.Flows.{found_in}

@@ -1,7 +1,7 @@
 use Rattle.std.proofs.Common.{Bor, List, map, sym, ap, ◌∙◌, subst, All}
 use Rattle.std.proofs.lemmas.List.{take_all}
 use Rattle.audit_terms.specs.declared.frames.Frame.{Frame}
-use Rattle.audit_terms.specs.runs.Orderly.{IsOrderly}
+use Rattle.audit_terms.specs.code.runs.Orderly.{IsOrderly}
 use Rattle.audit_terms.specs.Finding.{shown}
 use Rattle.audit_terms.specs.Pass.{pass}
 use Rattle.h2audit.specs.code.Flows.{frames_each, frames_in}
@@ -36,5 +36,6 @@ returns g c =
 pub loop-cut-preserved : goal.loop-cut-preserved
 loop-cut-preserved g c =
     mapped-more (λ (frames : Bor (List Frame)). frames.now) (λ (cut : Part ConnectionCut). frames_in cut.made.cut)
-    c.loop-cut.frames.items c.push.new.self.items c.args.cuts.now c.loop-cut.cut-index c.frames_in.result c.cut-item.result
+    c.loop-cut.frames.items c.push.new.self.items c.args.cuts.now c.loop-cut.cut-index c.frames_in.result
+    c.cut-item.result
     c.in_ok-push.ensures.items c.loop-cut-test.true c.cut-item.is c.frames_in.ensures c.loop-cut.invariant

@@ -4,7 +4,8 @@ use Rattle.h2audit.proofs.flow_round.cut_connection.Goals as goal
 
 pub cut-requires : goal.cut-requires
 cut-requires g c =
-    let fit = sides-fit c.args.packets.now (length c.args.capture.now) c.args.connection.now c.requires.payloads c.requires.members in
+    let fit = sides-fit c.args.packets.now (length c.args.capture.now) c.args.connection.now c.requires.payloads
+    c.requires.members in
     let client = c.in_ok-client.ensures.0 in
     let server = c.in_ok-client.ensures.1 in
     record {

@@ -12,7 +12,11 @@ returns-in-Run-default-Some-clause-does g c =
       audited.result,
       (
         refl,
-        (opened.result, record { shown = c.as_str.result; shows = c.as_str.ensures.value; called = opened.ensures }, ended),
+        (
+          opened.result,
+          record { shown = c.as_str.result; shows = c.as_str.ensures.value; called = opened.ensures },
+          ended,
+        ),
       ),
       (c.end.ensures.status, c.end.ensures.line, c.end.ensures.silent),
     )

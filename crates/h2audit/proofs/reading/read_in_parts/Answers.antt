@@ -10,9 +10,11 @@ returns-in_ok-keep_and_walk-in-Ok-clause-bytes g c =
     let first = c.args.reader.now in
     let before = g.R.Read.remaining first.reader in
     let now = c.keep_and_walk.new.reader in
-    let header = c.in_ok-keep_up_to.ensures.bytes before (consumed_none before first c.requires.kept c.requires.passed) in
+    let header = c.in_ok-keep_up_to.ensures.bytes before
+    (consumed_none before first c.requires.kept c.requires.passed) in
     let read = c.in_ok-keep_and_walk-in-Ok.ensures.bytes before header in
-    gave_front before (g.R.Read.remaining now.reader) now c.in_ok-keep_and_walk-in-Ok.ensures.sound.limit (λ short. search rules) read
+    gave_front before (g.R.Read.remaining now.reader) now c.in_ok-keep_and_walk-in-Ok.ensures.sound.limit
+    (λ short. search rules) read
 
 pub returns-in_ok-keep_and_walk-in-Ok-clause-brief : goal.returns-in_ok-keep_and_walk-in-Ok-clause-brief
 returns-in_ok-keep_and_walk-in-Ok-clause-brief g c = λ refused.
@@ -33,7 +35,8 @@ returns-then-has_ended-clause-bytes g c =
     let before = g.R.Read.remaining first.reader in
     let now = c.keep_up_to.new.reader in
     let read = c.in_ok-keep_up_to.ensures.bytes before (consumed_none before first c.requires.kept c.requires.passed) in
-    gave_front before (g.R.Read.remaining now.reader) now c.in_ok-keep_up_to.ensures.sound.limit (λ short. search rules) read
+    gave_front before (g.R.Read.remaining now.reader) now c.in_ok-keep_up_to.ensures.sound.limit
+    (λ short. search rules) read
 
 pub returns-then-has_ended-clause-answers : goal.returns-then-has_ended-clause-answers
 returns-then-has_ended-clause-answers g c = whole_answers c.keep_up_to.new.reader c.keep_up_to.ensures.unpassed
@@ -43,9 +46,11 @@ returns-in_ok-pass_over-in-Err-clause-bytes g c =
     let first = c.args.reader.now in
     let before = g.R.Read.remaining first.reader in
     let now = c.pass_over.new.reader in
-    let header = c.in_ok-keep_up_to.ensures.bytes before (consumed_none before first c.requires.kept c.requires.passed) in
+    let header = c.in_ok-keep_up_to.ensures.bytes before
+    (consumed_none before first c.requires.kept c.requires.passed) in
     let read = c.in_ok-pass_over-in-Err.ensures.bytes before header in
-    gave_front before (g.R.Read.remaining now.reader) now c.in_ok-pass_over-in-Err.ensures.sound.limit (λ short. search rules) read
+    gave_front before (g.R.Read.remaining now.reader) now c.in_ok-pass_over-in-Err.ensures.sound.limit
+    (λ short. search rules) read
 
 pub returns-in_ok-pass_over-in-Err-clause-answers : goal.returns-in_ok-pass_over-in-Err-clause-answers
 returns-in_ok-pass_over-in-Err-clause-answers g c =

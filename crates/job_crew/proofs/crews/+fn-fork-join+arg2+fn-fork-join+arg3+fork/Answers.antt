@@ -1,7 +1,7 @@
 use Rattle.std.proofs.Common.{◌≡◌, ℕ, ◌+◌, ◌-◌, ◌*◌, ◌/◌, ◌≤◌, [], ◌++◌, ap, sym, ◌∙◌, subst, arith}
 use Rattle.std.specs.Prelude.{IfOk}
 use Rattle.std.proofs.lemmas.Result.{IfOk-at_ok, IfOk-weaker}
-use Rattle.stop_desk.specs.Desk.{pass_of}
+use Rattle.stop_desk.specs.code.Desk.{pass_of}
 use Rattle.job_crew.specs.code.Worked.{IsAllWorked}
 use Rattle.job_crew.proofs.Draws.{worked-both}
 use Rattle.job_crew.proofs.crews.+fn-fork-join+arg2+fn-fork-join+arg3+fork.Goals as goal
@@ -39,7 +39,8 @@ together-requires-clause-mine g t c =
     let jobs = g.P.Round.jobs shift.plan.now in
     let half = c.args.workers / 2 in
     let first
-    = IfOk-at_ok (λ r. IsAllWorked makes jobs shift.desk.now.id shift.round (half * (shift.desk.now.jobs + 1)) r.0.items r.1)
+    = IfOk-at_ok (λ r. IsAllWorked makes jobs shift.desk.now.id shift.round (half * (shift.desk.now.jobs + 1)) r.0.items
+    r.1)
     c.in_ok-mine.was c.join-one.ensures.first in
     first.0.desk_is
 
@@ -50,7 +51,8 @@ together-requires-clause-theirs g t c =
     let jobs = g.P.Round.jobs shift.plan.now in
     let rest = c.args.workers - c.args.workers / 2 in
     let second
-    = IfOk-at_ok (λ r. IsAllWorked makes jobs shift.desk.now.id shift.round (rest * (shift.desk.now.jobs + 1)) r.0.items r.1)
+    = IfOk-at_ok (λ r. IsAllWorked makes jobs shift.desk.now.id shift.round (rest * (shift.desk.now.jobs + 1)) r.0.items
+    r.1)
     c.in_ok-theirs.was c.join-one.ensures.second in
     second.0.desk_is
 

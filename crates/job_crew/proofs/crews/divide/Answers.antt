@@ -1,6 +1,6 @@
 use Rattle.std.proofs.Common.{◌≡◌, ℕ, ◌+◌, ◌-◌, ◌*◌, [], ap, sym, ◌∙◌, mul_comm}
 use Rattle.std.proofs.Math.Nat.{mul-sub}
-use Rattle.stop_desk.specs.Desk.{PassView, pass_of}
+use Rattle.stop_desk.specs.code.Desk.{PassView, pass_of}
 use Rattle.job_crew.proofs.crews.divide.Goals as goal
 
 less-each : (workers given each : ℕ) → workers * each - given * each ≡ (workers - given) * each
@@ -21,5 +21,6 @@ returns-clause-kept c =
     c.split.ensures.kept
     ∙ ap (λ n. pass_of c.args.pass.desk (c.args.pass.allowance - n) c.args.pass.drawn c.args.pass.seen
     c.args.pass.lowered) amount
-    ∙ ap (λ (v : PassView). pass_of v.desk (v.allowance - c.args.given * each) v.drawn v.seen v.lowered) c.requires.fresh
+    ∙ ap (λ (v : PassView). pass_of v.desk (v.allowance - c.args.given * each) v.drawn v.seen v.lowered)
+    c.requires.fresh
     ∙ ap (λ n. pass_of c.args.desk.now.id n [] [] []) less

@@ -1,6 +1,6 @@
 use Rattle.std.proofs.Common.{◌≡◌, ◌∷◌, length, map, ap, arith}
 use Rattle.std.proofs.lemmas.List.{length-map}
-use Rattle.stop_desk.specs.Stop.{stop_word}
+use Rattle.stop_desk.specs.code.Stop.{stop_word}
 use Rattle.job_crew.proofs.Placed.{has-settled, in-round}
 use Rattle.job_crew.proofs.settling.settle.Goals as goal
 

@@ -1,5 +1,5 @@
 use Rattle.std.proofs.Common.{◌≡◌, take, drop}
-use Rattle.job_crew.specs.Crew.{last_stops_from}
+use Rattle.job_crew.specs.code.Crew.{last_stops_from}
 use Rattle.job_crew.proofs.settling.stops_of.Given as goal
 
 -- the stops of the connections so far

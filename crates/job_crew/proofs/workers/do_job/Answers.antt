@@ -1,10 +1,10 @@
 use Rattle.std.proofs.Common.{◌≡◌, ℕ, ◌++◌, Option, List, refl, ap, subst, ◌∙◌}
 use Rattle.audit_terms.specs.declared.findings.Finding.{Finding}
-use Rattle.audit_terms.specs.runs.Look.{Asked}
-use Rattle.stop_desk.specs.Desk.{PassView, pass_of}
-use Rattle.stop_desk.specs.Calls.{IsLook}
+use Rattle.audit_terms.specs.code.runs.Look.{Asked}
+use Rattle.stop_desk.specs.code.Desk.{PassView, pass_of}
+use Rattle.stop_desk.specs.code.Calls.{IsLook}
 use Rattle.job_crew.specs.declared.desk_looks.DeskLook.{DeskLook}
-use Rattle.job_crew.specs.Heeding.{Heeds}
+use Rattle.job_crew.specs.code.Heeding.{Heeds}
 use Rattle.job_crew.specs.code.Worked.{stops_on}
 use Rattle.job_crew.proofs.Stops.{Watched, watched}
 use Rattle.job_crew.proofs.Jobs.{job_at, at-job, job-there, job-done}
@@ -43,7 +43,8 @@ returns g c =
     let job = job_at jobs c.args.job in
     let at = at-job jobs c.args.job c.requires.job in
     job-done (g.P.Round.makes shift.plan.now) jobs shift.round _ shift.desk.now.id c.requires.job shift.there
-    (c.connection-connection.ensures job at) (told.cut job at) told.made refl c.args.pass watched c.lower_stops.new.pass told.looks.asked c.requires.desk (desk-watched _ _ _ _ told.looks) told.looks.answered
+    (c.connection-connection.ensures job at) (told.cut job at) told.made refl c.args.pass watched c.lower_stops.new.pass
+    told.looks.asked c.requires.desk (desk-watched _ _ _ _ told.looks) told.looks.answered
     (subst (λ (found : List Finding). c.lower_stops.new.pass ≡ pass_of watched.desk watched.allowance watched.drawn
     watched.seen (watched.lowered ++ stops_on c.connection-connection.result found)) c.as_slice.ensures.value
     c.lower_stops.ensures)

@@ -1,5 +1,5 @@
 use Rattle.std.proofs.Common.{◌≡◌, ◌++◌, take}
-use Rattle.stop_desk.specs.Desk.{pass_of}
+use Rattle.stop_desk.specs.code.Desk.{pass_of}
 use Rattle.job_crew.specs.code.Worked.{stops_on}
 use Rattle.job_crew.proofs.workers.lower_stops.Given as goal
 

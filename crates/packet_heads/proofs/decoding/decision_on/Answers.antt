@@ -17,7 +17,8 @@ returns-in-Some-clause-decided c =
     let packet = c.args.packet.now in
     let datagram = drop (datagram_start c.args.link packet) packet in
     by_lines (c.args.link == raw_ip) (is_partial c.args.row.now) packet datagram (segment_bytes datagram) _ _ (
-    decided_by_first (link_lines c.args.link packet) (ipv4_lines (is_partial c.args.row.now) datagram) (tcp_lines (segment_bytes datagram)) _ _
+    decided_by_first (link_lines c.args.link packet) (ipv4_lines (is_partial c.args.row.now) datagram)
+    (tcp_lines (segment_bytes datagram)) _ _
     c.in-Some.ensures.answer)
 
 pub returns-in-Some-answer-clause-decided : goal.returns-in-Some-answer-clause-decided
@@ -25,7 +26,8 @@ returns-in-Some-answer-clause-decided c =
     let packet = c.args.packet.now in
     let datagram = drop (datagram_start c.args.link packet) packet in
     by_lines (c.args.link == raw_ip) (is_partial c.args.row.now) packet datagram (segment_bytes datagram) _ _ (
-    decided_by_second (link_lines c.args.link packet) (ipv4_lines (is_partial c.args.row.now) datagram) (tcp_lines (segment_bytes datagram)) _ _
+    decided_by_second (link_lines c.args.link packet) (ipv4_lines (is_partial c.args.row.now) datagram)
+    (tcp_lines (segment_bytes datagram)) _ _
     c.in_default.ensures.answer
     (rw (c.datagram-datagram.ensures.datagram, c.datagram_start-start.ensures) at c.in-Some-answer.ensures.answer))
 
@@ -34,30 +36,37 @@ returns-in-Some-answer-2-clause-decided c =
     let packet = c.args.packet.now in
     let datagram = drop (datagram_start c.args.link packet) packet in
     by_lines (c.args.link == raw_ip) (is_partial c.args.row.now) packet datagram (segment_bytes datagram) _ _ (
-    decided_by_third (link_lines c.args.link packet) (ipv4_lines (is_partial c.args.row.now) datagram) (tcp_lines (segment_bytes datagram)) _ _
+    decided_by_third (link_lines c.args.link packet) (ipv4_lines (is_partial c.args.row.now) datagram)
+    (tcp_lines (segment_bytes datagram)) _ _
     c.in_default.ensures.answer
     (rw (c.datagram-datagram.ensures.datagram, c.datagram_start-start.ensures) at c.in_default-answer.ensures.answer)
-    (rw (c.segment.ensures, c.datagram-datagram.ensures.datagram, c.datagram_start-start.ensures) at c.in-Some-answer-2.ensures.answer))
+    (rw (c.segment.ensures, c.datagram-datagram.ensures.datagram, c.datagram_start-start.ensures) at
+    c.in-Some-answer-2.ensures.answer))
 
 pub returns-clause-decided : goal.returns-clause-decided
 returns-clause-decided c =
     let packet = c.args.packet.now in
     let datagram = drop (datagram_start c.args.link packet) packet in
-    ap Segment (rw (c.datagram-datagram.ensures.datagram, c.datagram_start-start.ensures) at c.segment_of.ensures.segment)
+    ap Segment (rw (c.datagram-datagram.ensures.datagram, c.datagram_start-start.ensures) at
+    c.segment_of.ensures.segment)
     ∙ by_lines (c.args.link == raw_ip) (is_partial c.args.row.now) packet datagram (segment_bytes datagram) _ _ (
-    decided_by_last (link_lines c.args.link packet) (ipv4_lines (is_partial c.args.row.now) datagram) (tcp_lines (segment_bytes datagram)) _
+    decided_by_last (link_lines c.args.link packet) (ipv4_lines (is_partial c.args.row.now) datagram)
+    (tcp_lines (segment_bytes datagram)) _
     c.in_default.ensures.answer
     (rw (c.datagram-datagram.ensures.datagram, c.datagram_start-start.ensures) at c.in_default-answer.ensures.answer)
-    (rw (c.segment.ensures, c.datagram-datagram.ensures.datagram, c.datagram_start-start.ensures) at c.in_default-answer-2.ensures.answer))
+    (rw (c.segment.ensures, c.datagram-datagram.ensures.datagram, c.datagram_start-start.ensures) at
+    c.in_default-answer-2.ensures.answer))
 
 pub returns-in-Some-clause-placed : goal.returns-in-Some-clause-placed
 returns-in-Some-clause-placed c = StandsIn-passed_over c.args.number c.args.row.now _ c.in-Some.ensures.passed_over
 
 pub returns-in-Some-answer-clause-placed : goal.returns-in-Some-answer-clause-placed
-returns-in-Some-answer-clause-placed c = StandsIn-passed_over c.args.number c.args.row.now _ c.in-Some-answer.ensures.passed_over
+returns-in-Some-answer-clause-placed c = StandsIn-passed_over c.args.number c.args.row.now _
+    c.in-Some-answer.ensures.passed_over
 
 pub returns-in-Some-answer-2-clause-placed : goal.returns-in-Some-answer-2-clause-placed
-returns-in-Some-answer-2-clause-placed c = StandsIn-passed_over c.args.number c.args.row.now _ c.in-Some-answer-2.ensures.passed_over
+returns-in-Some-answer-2-clause-placed c = StandsIn-passed_over c.args.number c.args.row.now _
+    c.in-Some-answer-2.ensures.passed_over
 
 pub returns-clause-placed : goal.returns-clause-placed
 returns-clause-placed c =

@@ -5,11 +5,13 @@ use Rattle.packet_heads.specs.Decision.{packet_decision, decision_on}
 use Rattle.packet_heads.proofs.decoding.decode.Goals as goal
 
 -- what lies together at an offset has the captured bytes in front, where it has as many
-in_front : (start count most : ℕ) (front capture : List ℕ) → front ≡ take most (drop start capture) → count ≤ length front
+in_front : (start count most : ℕ) (front capture : List ℕ) → front ≡ take most (drop start capture)
+    → count ≤ length front
     → take count front ≡ slice_range capture start (start + count)
 in_front start count most front capture is room =
     ap (take count) is
-    ∙ take-take count most (drop start capture) (omega (arith, room, ap length is, length-take most (drop start capture)))
+    ∙ take-take count most (drop start capture)
+    (omega (arith, room, ap length is, length-take most (drop start capture)))
     ∙ ap (λ (n : ℕ). take n (drop start capture)) (omega arith)
 
 pub returns-then-row-front-clause-decided : goal.returns-then-row-front-clause-decided

@@ -5,7 +5,8 @@ use Rattle.pcap_records.proofs.reading.records.Goals as goal
 pub returns-in-Ok-clause-ok : goal.returns-in-Ok-clause-ok
 returns-in-Ok-clause-ok c =
     let header = sym c.header_in_parts.ensures in (
-      ap (λ h. refusal_of h (length c.args.capture.now)) header ∙ ap (λ n. refusal_of c.header_in_parts.result.now n) (sym c.len.ensures)
+      ap (λ h. refusal_of h (length c.args.capture.now)) header ∙ ap (λ n. refusal_of c.header_in_parts.result.now n)
+          (sym c.len.ensures)
           ∙ c.in_ok-format.ensures.taken,
       c.in-Ok.ensures.reading,
     )

@@ -19,7 +19,8 @@ returns g c =
     let bytes = drop c.args.at c.args.capture.now in
     let size = c.len-size.result in
     let header = ap length (c.deref.ensures.value ∙ c.in_ok-header.ensures)
-    ∙ length-take-le (c.args.at + 16 - c.args.at) bytes (omega (arith, length-drop c.args.at c.args.capture.now, c.len-size.ensures)) in
+    ∙ length-take-le (c.args.at + 16 - c.args.at) bytes
+    (omega (arith, length-drop c.args.at c.args.capture.now, c.len-size.ensures)) in
     next_by_front g.T.ByteOrder.number_of g.met.T.ByteOrder.reads_first c.args.unit c.args.at size
     (c.args.at + 16 - c.args.at) c.deref.result.now bytes
     c.record_behind-2.result (omega (arith, header))

@@ -2,9 +2,9 @@ use Rattle.std.proofs.Common.{◌≡◌, ◌+◌, ◌∷◌, ◌++◌, drop, app
 use Rattle.std.specs.Option.{option_to_list}
 use Rattle.std.proofs.lemmas.List.{append-nil, drop_all}
 use Rattle.audit_terms.specs.declared.frames.Frame.{Frame}
-use Rattle.audit_terms.specs.runs.Orderly.{IsOrderlyFrom}
+use Rattle.audit_terms.specs.code.runs.Orderly.{IsOrderlyFrom}
 use Rattle.audit_terms.specs.InForce.{initial_in_force, in_force_after, change_of, settings_said}
-use Rattle.audit_terms.specs.runs.Changes.{changes_from, settings_run_from}
+use Rattle.audit_terms.specs.code.runs.Changes.{changes_from, settings_run_from}
 use Rattle.settings_pair.specs.code.Waiting.{IsWaiting}
 use Rattle.settings_pair.proofs.FrameByFrame.{drop-at, take-at}
 use Rattle.settings_pair.proofs.WaitingLemmas.{waiting-at_start}
@@ -29,7 +29,8 @@ returns-clause-orderly c =
 pub returns-clause-acknowledged : goal.returns-clause-acknowledged
 returns-clause-acknowledged c =
     let i = c.loop-at.invariant in
-    found-acknowledged i.now c.loop-at.pairs.changes.items c.args.frames.now c.loop-at.at c.requires (omega arith) i.changes
+    found-acknowledged i.now c.loop-at.pairs.changes.items c.args.frames.now c.loop-at.at c.requires
+    (omega arith) i.changes
 
 pub loop-at-preserved : goal.loop-at-preserved
 loop-at-preserved c =
@@ -45,7 +46,8 @@ loop-at-preserved c =
     record {
       now = after;
       low = frame.number + 1;
-      waiting = subst (λ seen. IsWaiting after seen c.meet.new.waiting) (sym (take-at frames at frame c.index-frames-at.is c.loop-at-test.true)) (met.waiting i.now i.waiting);
+      waiting = subst (λ seen. IsWaiting after seen c.meet.new.waiting)
+          (sym (take-at frames at frame c.index-frames-at.is c.loop-at-test.true)) (met.waiting i.now i.waiting);
       orderly = orderly.2;
       changes = ap (λ l. l ++ changes_from after rest) (met.changes i.now i.waiting)
           ∙ append_assoc _ (option_to_list (change_of i.now frame)) _
@@ -58,9 +60,11 @@ loop-at-preserved c =
 pub returns-clause-changes : goal.returns-clause-changes
 returns-clause-changes c =
     let i = c.loop-at.invariant in
-    sym (append-nil _) ∙ ap (λ l. c.loop-at.pairs.changes.items ++ changes_from i.now l) (sym (drop_all c.loop-at.at c.args.frames.now c.loop-at-test.false)) ∙ i.changes
+    sym (append-nil _) ∙ ap (λ l. c.loop-at.pairs.changes.items ++ changes_from i.now l)
+    (sym (drop_all c.loop-at.at c.args.frames.now c.loop-at-test.false)) ∙ i.changes
 
 pub returns-clause-findings : goal.returns-clause-findings
 returns-clause-findings c =
     let i = c.loop-at.invariant in
-    sym (append-nil _) ∙ ap (λ l. c.loop-at.pairs.findings.items ++ settings_run_from i.now l) (sym (drop_all c.loop-at.at c.args.frames.now c.loop-at-test.false)) ∙ i.findings
+    sym (append-nil _) ∙ ap (λ l. c.loop-at.pairs.findings.items ++ settings_run_from i.now l)
+    (sym (drop_all c.loop-at.at c.args.frames.now c.loop-at-test.false)) ∙ i.findings

@@ -1,7 +1,7 @@
 use Rattle.std.proofs.Common.{◌≡◌, ◌++◌, ℕ, take, drop}
-use Rattle.audit_terms.specs.runs.Orderly.{IsOrderlyFrom}
+use Rattle.audit_terms.specs.code.runs.Orderly.{IsOrderlyFrom}
 use Rattle.audit_terms.specs.InForce.{InForce}
-use Rattle.audit_terms.specs.runs.Changes.{changes_from, changes_of, settings_run_from, settings_run}
+use Rattle.audit_terms.specs.code.runs.Changes.{changes_from, changes_of, settings_run_from, settings_run}
 use Rattle.settings_pair.specs.code.Waiting.{IsWaiting}
 use Rattle.settings_pair.proofs.pairing.pair.Given as goal
 

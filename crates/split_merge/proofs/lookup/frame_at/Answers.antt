@@ -8,7 +8,8 @@ use Rattle.split_merge.proofs.lookup.frame_at.Goals as goal
 pub returns-in-Ok-clause-value : goal.returns-in-Ok-clause-value
 returns-in-Ok-clause-value c =
     ap (λ (frame : Frame). Some frame) c.index-frames-at.is
-    ∙ frame_numbered_found c.args.frames.now c.args.number c.in-Ok.at c.index-frames-at.result c.requires c.in-Ok.ensures.bound
+    ∙ frame_numbered_found c.args.frames.now c.args.number c.in-Ok.at c.index-frames-at.result c.requires
+    c.in-Ok.ensures.bound
     (c.in-Ok.ensures.position (λ frame. frame.number) (answers_always _ _ _ (λ f a r g called. search rules)))
 
 pub returns-in-Ok-clause-timely : goal.returns-in-Ok-clause-timely

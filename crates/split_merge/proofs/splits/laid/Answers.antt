@@ -25,7 +25,8 @@ place-requires-clause-places c =
     let is = c.deref_mut-2.ensures.value ∙ with_items_is rows c.lay_out-total.new.rows long ∙ laid in
     let named = ap streams_in is ∙ laid-streams 0 rows.items in
     subst (λ s. ArePlaces (streams_in c.args.table.now.rows.items) c.as_slice.result.now s) (sym named)
-    (subst (λ p. ArePlaces (streams_in c.args.table.now.rows.items) p (streams_in c.args.loud.rows.items)) (sym c.as_slice.ensures.value)
+    (subst (λ p. ArePlaces (streams_in c.args.table.now.rows.items) p (streams_in c.args.loud.rows.items))
+    (sym c.as_slice.ensures.value)
     c.requires.places)
 
 pub place-requires-clause-room_for : goal.place-requires-clause-room_for
@@ -39,7 +40,8 @@ place-requires-clause-room_for c =
     let told = ap (λ s. heard s (notes_from 0 c.args.frames.now)) named in
     let total = c.lay_out-total.ensures.total ∙ ap total_of c.deref_mut.ensures.value in
     subst (λ n. HasRoomFor c.deref_mut-2.result.now n c.lay_out-total.result) (sym told)
-    (rw (is, total) (room-laid rows.items (heard (streams_in rows.items) (notes_from 0 c.args.frames.now)) c.requires.counts.counts))
+    (rw (is, total) (room-laid rows.items (heard (streams_in rows.items) (notes_from 0 c.args.frames.now))
+    c.requires.counts.counts))
 
 pub returns : goal.returns
 returns c =
@@ -51,7 +53,8 @@ returns c =
     let named = ap streams_in is ∙ laid-streams 0 rows.items in
     let told = ap (λ s. heard s (notes_from 0 c.args.frames.now)) named in
     let noted = heard (streams_in rows.items) (notes_from 0 c.args.frames.now) in
-    let filled : IsFilled (laid_out 0 c.args.loud.rows.items) (heard (streams_in c.args.loud.rows.items) (notes_from 0 c.args.frames.now))
+    let filled : IsFilled (laid_out 0 c.args.loud.rows.items)
+    (heard (streams_in c.args.loud.rows.items) (notes_from 0 c.args.frames.now))
     c.place.new.rows c.in_ok-positions.positions.items =
     subst (λ l. IsFilled l noted c.place.new.rows c.in_ok-positions.positions.items) is
     (subst (λ n. IsFilled c.deref_mut-2.result.now n c.place.new.rows c.in_ok-positions.positions.items) told

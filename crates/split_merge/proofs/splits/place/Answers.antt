@@ -18,7 +18,8 @@ put_visit-requires-clause-place c =
     let seen = c.loop-frame.invariant in
     let own = c.place_of-own.ensures.place loud
     (kept-places c.args.table.now table c.args.places.now loud seen.rows_kept c.requires.places) in
-    let parts = first-parts loud frames i at (promised_by frame) frame c.frame-item.is c.loop-frame-test.true seen.position refl in
+    let parts = first-parts loud frames i at (promised_by frame) frame c.frame-item.is c.loop-frame-test.true
+    seen.position refl in
     has-place rows (heard loud (notes_from 0 frames)) (heard loud (notes_from 0 (take i frames))) _ c.args.total
     c.requires.room_for c.requires.distinct c.requires.places.above frame.stream at parts c.loop-frame.rows
     c.loop-frame.positions.items seen.long seen.filled c.place_of-own.result own
@@ -35,19 +36,23 @@ put_visit-requires-in-loop-frame-clause-place c =
     let seen = c.loop-frame.invariant in
     let own = c.place_of-own.ensures.place loud
     (kept-places c.args.table.now table c.args.places.now loud seen.rows_kept c.requires.places) in
-    let parts = first-parts loud frames i at c.promised_by.result frame c.frame-item.is c.loop-frame-test.true seen.position
+    let parts = first-parts loud frames i at c.promised_by.result frame c.frame-item.is c.loop-frame-test.true
+    seen.position
     c.promised_by.ensures in
-    let once = put-filled rows (heard loud (notes_from 0 frames)) (heard loud (notes_from 0 (take i frames))) _ c.args.total
+    let once = put-filled rows (heard loud (notes_from 0 frames)) (heard loud (notes_from 0 (take i frames))) _
+    c.args.total
     c.requires.room_for c.requires.distinct c.requires.places.above frame.stream at parts c.loop-frame.rows
     c.loop-frame.positions.items seen.long seen.filled c.place_of-own.result own c.put_visit.new.rows
     c.put_visit.new.positions.items c.put_visit.ensures in
     let promised = c.place_of-promised.ensures.place loud
     (kept-places c.args.table.now c.place_of-own.new.table c.args.places.now loud
     (c.place_of-own.ensures.kept.rows ∙ seen.rows_kept) c.requires.places) in
-    let rest = second-parts loud frames i at c.promised_by.result frame c.frame-item.is c.loop-frame-test.true seen.position
+    let rest = second-parts loud frames i at c.promised_by.result frame c.frame-item.is c.loop-frame-test.true
+    seen.position
     c.promised_by.ensures in
     has-place rows (heard loud (notes_from 0 frames)) _ _ c.args.total c.requires.room_for c.requires.distinct
-    c.requires.places.above c.promised_by.result at rest c.put_visit.new.rows c.put_visit.new.positions.items once.0 once.1
+    c.requires.places.above c.promised_by.result at rest c.put_visit.new.rows c.put_visit.new.positions.items once.0
+    once.1
     c.place_of-promised.result promised
 
 pub put_visit-requires-in-loop-frame-clause-short : goal.put_visit-requires-in-loop-frame-clause-short
@@ -62,9 +67,11 @@ put_visit-requires-in-loop-frame-clause-short c =
     let seen = c.loop-frame.invariant in
     let own = c.place_of-own.ensures.place loud
     (kept-places c.args.table.now table c.args.places.now loud seen.rows_kept c.requires.places) in
-    let parts = first-parts loud frames i at c.promised_by.result frame c.frame-item.is c.loop-frame-test.true seen.position
+    let parts = first-parts loud frames i at c.promised_by.result frame c.frame-item.is c.loop-frame-test.true
+    seen.position
     c.promised_by.ensures in
-    let once = put-filled rows (heard loud (notes_from 0 frames)) (heard loud (notes_from 0 (take i frames))) _ c.args.total
+    let once = put-filled rows (heard loud (notes_from 0 frames)) (heard loud (notes_from 0 (take i frames))) _
+    c.args.total
     c.requires.room_for c.requires.distinct c.requires.places.above frame.stream at parts c.loop-frame.rows
     c.loop-frame.positions.items seen.long seen.filled c.place_of-own.result own c.put_visit.new.rows
     c.put_visit.new.positions.items c.put_visit.ensures in
@@ -82,28 +89,35 @@ loop-frame-preserved c =
     let seen = c.loop-frame.invariant in
     let own = c.place_of-own.ensures.place loud
     (kept-places c.args.table.now table c.args.places.now loud seen.rows_kept c.requires.places) in
-    let parts = first-parts loud frames i at c.promised_by.result frame c.frame-item.is c.loop-frame-test.true seen.position
+    let parts = first-parts loud frames i at c.promised_by.result frame c.frame-item.is c.loop-frame-test.true
+    seen.position
     c.promised_by.ensures in
-    let once = put-filled rows (heard loud (notes_from 0 frames)) (heard loud (notes_from 0 (take i frames))) _ c.args.total
+    let once = put-filled rows (heard loud (notes_from 0 frames)) (heard loud (notes_from 0 (take i frames))) _
+    c.args.total
     c.requires.room_for c.requires.distinct c.requires.places.above frame.stream at parts c.loop-frame.rows
     c.loop-frame.positions.items seen.long seen.filled c.place_of-own.result own c.put_visit.new.rows
     c.put_visit.new.positions.items c.put_visit.ensures in
     let promised = c.place_of-promised.ensures.place loud
     (kept-places c.args.table.now c.place_of-own.new.table c.args.places.now loud
     (c.place_of-own.ensures.kept.rows ∙ seen.rows_kept) c.requires.places) in
-    let rest = second-parts loud frames i at c.promised_by.result frame c.frame-item.is c.loop-frame-test.true seen.position
+    let rest = second-parts loud frames i at c.promised_by.result frame c.frame-item.is c.loop-frame-test.true
+    seen.position
     c.promised_by.ensures in
-    let twice = put-filled rows (heard loud (notes_from 0 frames)) _ _ c.args.total c.requires.room_for c.requires.distinct
-    c.requires.places.above c.promised_by.result at rest c.put_visit.new.rows c.put_visit.new.positions.items once.0 once.1
+    let twice = put-filled rows (heard loud (notes_from 0 frames)) _ _ c.args.total c.requires.room_for
+    c.requires.distinct
+    c.requires.places.above c.promised_by.result at rest c.put_visit.new.rows c.put_visit.new.positions.items once.0
+    once.1
     c.place_of-promised.result promised c.put_visit-in-loop-frame.new.rows c.put_visit-in-loop-frame.new.positions.items
     c.put_visit-in-loop-frame.ensures in
-    let more = heard-more loud frames i at c.promised_by.result frame c.frame-item.is c.loop-frame-test.true seen.position
+    let more = heard-more loud frames i at c.promised_by.result frame c.frame-item.is c.loop-frame-test.true
+    seen.position
     c.promised_by.ensures in
     record {
       position = omega (arith, seen.position);
       rows_kept = c.place_of-promised.ensures.kept.rows ∙ c.place_of-own.ensures.kept.rows ∙ seen.rows_kept;
       index_kept = c.place_of-promised.ensures.kept.index ∙ c.place_of-own.ensures.kept.index ∙ seen.index_kept;
       long = twice.0;
-      filled = subst (λ l. IsFilled rows l c.put_visit-in-loop-frame.new.rows c.put_visit-in-loop-frame.new.positions.items)
+      filled = subst (λ l. IsFilled rows l c.put_visit-in-loop-frame.new.rows
+          c.put_visit-in-loop-frame.new.positions.items)
           (sym more) twice.1;
     }

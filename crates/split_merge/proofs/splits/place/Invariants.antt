@@ -9,5 +9,6 @@ invariant-loop-frame l = record {
   rows_kept : l.table.rows ≡ l.fn.table.rows;
   index_kept : l.table.index ≡ l.fn.table.index;
   long : length l.positions.items ≡ l.total;
-  filled : IsFilled l.fn.rows (heard (streams_in l.fn.rows) (notes_from 0 (take l.frame-index l.frames))) l.rows l.positions.items;
+  filled : IsFilled l.fn.rows (heard (streams_in l.fn.rows) (notes_from 0 (take l.frame-index l.frames)))
+      l.rows l.positions.items;
 }

@@ -1,7 +1,7 @@
 use Rattle.std.proofs.Common.{◌≡◌, [], sym, ap, ◌∙◌, subst, arith}
 use Rattle.std.specs.Prelude.{IfOk, Result, Ok, Err}
 use Rattle.split_merge.specs.declared.splits.SplitFrames.{SplitFrames}
-use Rattle.split_merge.specs.Split.{IsSplit}
+use Rattle.split_merge.specs.code.Split.{IsSplit}
 use Rattle.split_merge.specs.code.Visits.{streams_in, notes_from, AreDistinct}
 use Rattle.split_merge.specs.code.Ahead.{AreAhead, AreHushed}
 use Rattle.split_merge.specs.code.Loud.{loud_of, places_from, opened_in, heard, ArePlaces, AreCounted, IsLaid}
@@ -15,8 +15,10 @@ laid-requires-clause-places c =
     let quiets = c.finish.new.quiets.items in
     let changes = c.args.changes.now in
     let frames = c.args.frames.now in
-    let hushed = subst (λ l. AreHushed c.args.credits_shown changes frames (streams_in l) quiets) c.as_slice.ensures.value
-    (c.finish.ensures frames (subst (λ l. AreAhead changes frames (λ s. []) (streams_in l) c.in_ok-table.table.quiets.items)
+    let hushed = subst (λ l. AreHushed c.args.credits_shown changes frames (streams_in l) quiets)
+    c.as_slice.ensures.value
+    (c.finish.ensures frames
+    (subst (λ l. AreAhead changes frames (λ s. []) (streams_in l) c.in_ok-table.table.quiets.items)
     (sym c.as_slice.ensures.value) c.in_ok-table.ensures.ahead)) in
     let loud : c.in_ok-loud.loud.rows.items ≡ loud_of c.in_ok-table.table.rows.items c.finish.new.quiets.items =
     c.in_ok-loud.ensures.rows ∙ ap (λ l. loud_of l c.as_slice-3.result.now) c.as_slice-2.ensures.value
@@ -65,7 +67,8 @@ laid-requires-clause-distinct c =
     let named = ap streams_in loud ∙ loud-streams rows quiets in
     subst AreDistinct (sym named) (loud-distinct (streams_in rows) quiets c.in_ok-table.ensures.table.index.distinct)
 
-if-more : {E : Type 0} (P Q : SplitFrames → Type 0) (r : Result SplitFrames E) → ((x : SplitFrames) → P x → Q x) → IfOk r P → IfOk r Q
+if-more : {E : Type 0} (P Q : SplitFrames → Type 0) (r : Result SplitFrames E) → ((x : SplitFrames) → P x → Q x)
+    → IfOk r P → IfOk r Q
 if-more P Q (Ok x) f h = f x h
 if-more P Q (Err e) f h = tt
 
@@ -75,8 +78,10 @@ returns c =
     let quiets = c.finish.new.quiets.items in
     let changes = c.args.changes.now in
     let frames = c.args.frames.now in
-    let hushed = subst (λ l. AreHushed c.args.credits_shown changes frames (streams_in l) quiets) c.as_slice.ensures.value
-    (c.finish.ensures frames (subst (λ l. AreAhead changes frames (λ s. []) (streams_in l) c.in_ok-table.table.quiets.items)
+    let hushed = subst (λ l. AreHushed c.args.credits_shown changes frames (streams_in l) quiets)
+    c.as_slice.ensures.value
+    (c.finish.ensures frames
+    (subst (λ l. AreAhead changes frames (λ s. []) (streams_in l) c.in_ok-table.table.quiets.items)
     (sym c.as_slice.ensures.value) c.in_ok-table.ensures.ahead)) in
     let loud : c.in_ok-loud.loud.rows.items ≡ loud_of c.in_ok-table.table.rows.items c.finish.new.quiets.items =
     c.in_ok-loud.ensures.rows ∙ ap (λ l. loud_of l c.as_slice-3.result.now) c.as_slice-2.ensures.value
@@ -87,9 +92,11 @@ returns c =
     if-more (IsLaid c.in_ok-loud.loud.rows.items c.in_ok-loud.loud.opened.items
     (heard (streams_in c.in_ok-loud.loud.rows.items) (notes_from 0 frames)))
     (IsSplit c.args.credits_shown changes frames) c.laid.result
-    (λ split is. split-is c.args.credits_shown changes frames rows quiets split c.in_ok-table.ensures.streams table.listed
+    (λ split is. split-is c.args.credits_shown changes frames rows quiets split c.in_ok-table.ensures.streams
+    table.listed
     table.index.distinct table.index.above hushed
     (subst (λ l. IsLaid l (opened_in quiets) (heard (streams_in l) (notes_from 0 frames)) split) loud
-    (subst (λ o. IsLaid c.in_ok-loud.loud.rows.items o (heard (streams_in c.in_ok-loud.loud.rows.items) (notes_from 0 frames)) split)
+    (subst (λ o. IsLaid c.in_ok-loud.loud.rows.items o
+    (heard (streams_in c.in_ok-loud.loud.rows.items) (notes_from 0 frames)) split)
     opened is)))
     c.laid.ensures

@@ -16,7 +16,8 @@ loop-left-preserved c = record {
 pub loop-left-init : goal.loop-left-init
 loop-left-init c = record {
   within = omega arith;
-  swept = rw (drop-length c.args.findings.now, c.new-stalls.ensures.items) (record { first = record { at = c.new-ends.ensures }; reversed = refl });
+  swept = rw (drop-length c.args.findings.now, c.new-stalls.ensures.items)
+      (record { first = record { at = c.new-ends.ensures }; reversed = refl });
 }
 
 pub returns : goal.returns

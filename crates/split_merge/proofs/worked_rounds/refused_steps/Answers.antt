@@ -1,4 +1,5 @@
-use Rattle.split_merge.proofs.RoundExamples.{drawn_twice, look_invents, cut_unseen, all_skipped, overrun_lowered, error_not_lowered}
+use Rattle.split_merge.proofs.RoundExamples.{drawn_twice, look_invents, cut_unseen, all_skipped, overrun_lowered}
+use Rattle.split_merge.proofs.RoundExamples.{error_not_lowered}
 use Rattle.split_merge.proofs.worked_rounds.refused_steps.Goals as goal
 
 pub returns-clause-drawn_twice : goal.returns-clause-drawn_twice

@@ -1,5 +1,5 @@
 use Rattle.std.proofs.Common.{sym, ap, ◌∙◌, arith}
-use Rattle.stop_desk.specs.Desk.{DeskView}
+use Rattle.stop_desk.specs.code.Desk.{DeskView}
 use Rattle.stop_desk.proofs.Steps.{splits}
 use Rattle.stop_desk.proofs.passes.divide.Goals as goal
 
@@ -7,5 +7,6 @@ pub split_seat-requires : goal.split_seat-requires
 split_seat-requires g c = (
   c.requires.desk ∙ ap (λ (d : DeskView). d.id.table) (sym c.desk.view_is),
   c.desk.invariant.2,
-  splits c.desk.inside.table.shared.key _ g.A.Amount.amount _ (omega (arith, c.requires.amount, c.requires.some)) (omega (arith, c.requires.amount, c.requires.part)),
+  splits c.desk.inside.table.shared.key _ g.A.Amount.amount _ (omega (arith, c.requires.amount, c.requires.some))
+      (omega (arith, c.requires.amount, c.requires.part)),
 )

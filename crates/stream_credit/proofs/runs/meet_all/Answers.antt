@@ -4,7 +4,7 @@ use Rattle.std.specs.List.{All}
 use Rattle.std.proofs.lemmas.Bool.{OnTrue_at, OnFalse_at}
 use Rattle.std.proofs.lemmas.List.{drop_all}
 use Rattle.std.proofs.lemmas.List.Elements.{All-take, All-drop}
-use Rattle.stream_credit.specs.Part.{frames_at}
+use Rattle.stream_credit.specs.code.Part.{frames_at}
 use Rattle.stream_credit.specs.code.Walk.{IsSound}
 use Rattle.stream_credit.proofs.FrameLemmas.{goes-tail, stops-tail, frames-parts, last-changes}
 use Rattle.stream_credit.proofs.runs.meet_all.Goals as goal
@@ -15,7 +15,8 @@ loop-rest-init g c = record { within = c.requires.part.within; meets = λ run h.
 pub gather-requires : goal.gather-requires
 gather-requires g c =
     subst (All (λ (position : ℕ). position < length c.args.part.now.frames.now)) (sym c.split_at.ensures.front)
-    (All-take (λ (position : ℕ). position < length c.args.part.now.frames.now) c.min-in-loop-rest.result c.loop-rest.rest.now
+    (All-take (λ (position : ℕ). position < length c.args.part.now.frames.now) c.min-in-loop-rest.result
+    c.loop-rest.rest.now
     c.loop-rest.invariant.within)
 
 pub meet_frames-requires : goal.meet_frames-requires
@@ -23,7 +24,8 @@ meet_frames-requires g c =
     let frames = c.args.part.now.frames.now in
     let rest = c.loop-rest.rest.now in
     let later = c.split_at.result.1.now in
-    let parts = frames-parts frames c.split_at.result.0.now later rest c.as_slice.result.now c.split_at.ensures.by_index.0
+    let parts = frames-parts frames c.split_at.result.0.now later rest c.as_slice.result.now
+    c.split_at.ensures.by_index.0
     (c.as_slice.ensures.value ∙ c.in_ok-gather.ensures) in
     let r = c.requires.sound in (
       r.0,
@@ -37,7 +39,8 @@ returns-then-not-branch-clause-stops g c = λ run h.
     let frames = c.args.part.now.frames.now in
     let rest = c.loop-rest.rest.now in
     let later = c.split_at.result.1.now in
-    let parts = frames-parts frames c.split_at.result.0.now later rest c.as_slice.result.now c.split_at.ensures.by_index.0
+    let parts = frames-parts frames c.split_at.result.0.now later rest c.as_slice.result.now
+    c.split_at.ensures.by_index.0
     (c.as_slice.ensures.value ∙ c.in_ok-gather.ensures) in
     OnFalse_at c.if-not-branch.true c.in_ok-meet_frames.ensures.stops run (frames_at frames later)
     (subst (IsSound g.L.Look.answers run c.loop-rest.look c.loop-rest.walk c.loop-rest.left) parts
@@ -48,10 +51,12 @@ loop-rest-preserved g c =
     let frames = c.args.part.now.frames.now in
     let rest = c.loop-rest.rest.now in
     let later = c.split_at.result.1.now in
-    let parts = frames-parts frames c.split_at.result.0.now later rest c.as_slice.result.now c.split_at.ensures.by_index.0
+    let parts = frames-parts frames c.split_at.result.0.now later rest c.as_slice.result.now
+    c.split_at.ensures.by_index.0
     (c.as_slice.ensures.value ∙ c.in_ok-gather.ensures) in
     record {
-      within = subst (All (λ (position : ℕ). position < length c.args.part.now.frames.now)) (sym c.split_at.ensures.back)
+      within = subst (All (λ (position : ℕ). position < length c.args.part.now.frames.now))
+          (sym c.split_at.ensures.back)
           (All-drop (λ (position : ℕ). position < length c.args.part.now.frames.now) c.min-in-loop-rest.result
           c.loop-rest.rest.now c.loop-rest.invariant.within);
       meets = λ run h.
@@ -71,7 +76,8 @@ meet_changes-requires-clause-at g c =
       r.0,
       h.low + 2 ^ 28,
       [],
-      last-changes g.L.Look.answers r.0 c.loop-rest.look c.loop-rest.walk c.loop-rest.left (frames_at frames rest) none h,
+      last-changes g.L.Look.answers r.0 c.loop-rest.look c.loop-rest.walk c.loop-rest.left
+          (frames_at frames rest) none h,
     )
 
 pub meet_changes-requires-clause-in_force : goal.meet_changes-requires-clause-in_force
@@ -88,7 +94,8 @@ returns-clause-goes_on g c =
     let h = c.loop-rest.invariant.meets run sound in (
       h.low + 2 ^ 28,
       goes run (h.low + 2 ^ 28) []
-          (last-changes g.L.Look.answers run c.loop-rest.look c.loop-rest.walk c.loop-rest.left (frames_at frames rest) none h),
+          (last-changes g.L.Look.answers run c.loop-rest.look c.loop-rest.walk c.loop-rest.left
+          (frames_at frames rest) none h),
     ))
     c.meet_changes.ensures.goes_on
 
@@ -102,5 +109,6 @@ returns-clause-stops g c =
     (λ stops. λ run sound.
     let h = c.loop-rest.invariant.meets run sound in
     stops run (h.low + 2 ^ 28) []
-    (last-changes g.L.Look.answers run c.loop-rest.look c.loop-rest.walk c.loop-rest.left (frames_at frames rest) none h))
+    (last-changes g.L.Look.answers run c.loop-rest.look c.loop-rest.walk c.loop-rest.left (frames_at frames rest) none
+    h))
     c.meet_changes.ensures.stops

@@ -1,6 +1,6 @@
 use Rattle.std.proofs.Common.{ℕ, ◌<◌, length}
 use Rattle.std.specs.List.{All}
-use Rattle.stream_credit.specs.Part.{frames_at, part_frames}
+use Rattle.stream_credit.specs.code.Part.{frames_at, part_frames}
 use Rattle.stream_credit.proofs.FrameLemmas.{MeetsFrames}
 use Rattle.stream_credit.proofs.runs.meet_all.Given as goal
 

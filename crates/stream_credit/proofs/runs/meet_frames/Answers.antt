@@ -15,7 +15,8 @@ meet_frame-requires g c =
     ∙ ap (λ (one : Frame). one ∷ drop (i + 1) frames) (sym c.frame-item.is) in (
       r.0,
       drop (i + 1) frames ++ r.1,
-      subst (IsSound g.L.Look.answers r.0 c.loop-frame.look c.loop-frame.walk c.loop-frame.left) (ap (λ l. l ++ r.1) next)
+      subst (IsSound g.L.Look.answers r.0 c.loop-frame.look c.loop-frame.walk c.loop-frame.left)
+          (ap (λ l. l ++ r.1) next)
           (c.loop-frame.invariant r.0 r.1 r.2),
     )
 
@@ -27,7 +28,8 @@ returns-then-not-branch-clause-stops g c = λ run rest h.
     let next = drop_more frames i frame c.loop-frame-test.true
     ∙ ap (λ (one : Frame). one ∷ drop (i + 1) frames) (sym c.frame-item.is) in
     OnFalse_at c.if-not-branch.true c.in_ok-meet_frame.ensures.stops run (drop (i + 1) frames ++ rest)
-    (subst (IsSound g.L.Look.answers run c.loop-frame.look c.loop-frame.walk c.loop-frame.left) (ap (λ l. l ++ rest) next)
+    (subst (IsSound g.L.Look.answers run c.loop-frame.look c.loop-frame.walk c.loop-frame.left)
+    (ap (λ l. l ++ rest) next)
     (c.loop-frame.invariant run rest h))
 
 pub loop-frame-preserved : goal.loop-frame-preserved
@@ -38,7 +40,8 @@ loop-frame-preserved g c = λ run rest h.
     let next = drop_more frames i frame c.loop-frame-test.true
     ∙ ap (λ (one : Frame). one ∷ drop (i + 1) frames) (sym c.frame-item.is) in
     OnTrue_at c.if-not-branch.false c.in_ok-meet_frame.ensures.goes_on run (drop (i + 1) frames ++ rest)
-    (subst (IsSound g.L.Look.answers run c.loop-frame.look c.loop-frame.walk c.loop-frame.left) (ap (λ l. l ++ rest) next)
+    (subst (IsSound g.L.Look.answers run c.loop-frame.look c.loop-frame.walk c.loop-frame.left)
+    (ap (λ l. l ++ rest) next)
     (c.loop-frame.invariant run rest h))
 
 pub returns-clause-goes_on : goal.returns-clause-goes_on

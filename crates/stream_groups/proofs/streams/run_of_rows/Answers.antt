@@ -3,13 +3,14 @@ use Rattle.std.proofs.lemmas.List.{take_all}
 use Rattle.std.specs.Option.{option_to_list}
 use Rattle.audit_terms.specs.Finding.{in_order}
 use Rattle.audit_terms.proofs.FindingOrder.{in_order-append_left}
-use Rattle.stream_groups.specs.Streams.{RowsLook, rows_shown, rows_opened, row_shown, row_opened}
+use Rattle.stream_groups.specs.code.Streams.{RowsLook, rows_shown, rows_opened, row_shown, row_opened}
 use Rattle.stream_groups.proofs.StreamWork.{work-none, work-join, work-due, same-work, flat_map-more, rows-look-more}
 use Rattle.stream_groups.proofs.streams.run_of_rows.Goals as goal
 
 pub loop-row-init : goal.loop-row-init
 loop-row-init g c =
-    same-work g.L.Look.answers (RowsLook c.args.credits_shown c.args.streams.now []) c.args.look.now c.args.look.now _ _ _ _ _ _ _ _ _ _ refl refl refl
+    same-work g.L.Look.answers (RowsLook c.args.credits_shown c.args.streams.now []) c.args.look.now c.args.look.now _ _
+    _ _ _ _ _ _ _ _ refl refl refl
     (sym (ap in_order c.new.ensures.items)) (sym c.new-2.ensures.items)
     (work-none g.L.Look.answers (RowsLook c.args.credits_shown c.args.streams.now []) (refl, refl) c.args.look.now)
 
@@ -30,7 +31,8 @@ loop-row-preserved g c =
     (in_order-append_left found run.findings.items ∙ ap in_order (sym c.in_ok-add.ensures.findings))
     (sym c.in_ok-add.ensures.opened)
     (work-join answers so_far _ more
-    (rows-look-more c.args.credits_shown streams rows at _ c.loop-row-test.true) c.args.look.now c.loop-row.look c.run_of_row.new.look _ _ (in_order found) run.findings.items _ _ _
+    (rows-look-more c.args.credits_shown streams rows at _ c.loop-row-test.true) c.args.look.now c.loop-row.look
+    c.run_of_row.new.look _ _ (in_order found) run.findings.items _ _ _
     _ _ _ c.loop-row.invariant c.in_ok-run.ensures)
 
 pub returns : goal.returns

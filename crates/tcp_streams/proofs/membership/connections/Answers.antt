@@ -33,15 +33,19 @@ loop-packet-preserved c =
     sym (element_is packets c.from-together.result.now _ c.loop-at.at c.from-together.ensures.front
     c.loop-packet.packet-index d c.loop-packet-test.true) in
     let one_more = λ (d p : Packet) (is : get_or packets i d ≡ p).
-    ap (λ n. past_of (take n packets)) (let next : c.loop-at.at + (c.loop-packet.packet-index + 1) ≡ i + 1 = omega arith in next)
+    ap (λ n. past_of (take n packets))
+    (let next : c.loop-at.at + (c.loop-packet.packet-index + 1) ≡ i + 1 = omega arith in next)
     ∙ past_of-more packets i d p lt is in
     elim c.match-packet.branch [
       | in-Segment+in_ok-add w ↦
-          subst (λ (t : Table). IsTableOf (past_of (take (c.loop-at.at + (c.loop-packet.packet-index + 1)) packets)) t) (sym w.table-is)
+          subst (λ (t : Table). IsTableOf (past_of (take (c.loop-at.at + (c.loop-packet.packet-index + 1)) packets)) t)
+          (sym w.table-is)
           (subst (λ (l : List Segment). IsTableOf l w.add.new.self) (sym (one_more _ _ (same _ ∙ w.in-Segment.is)))
-          (w.in_ok-add.ensures _ c.loop-packet.invariant (Falls-next packets i _ _ c.requires.numbered lt (same _ ∙ w.in-Segment.is))))
+          (w.in_ok-add.ensures _ c.loop-packet.invariant
+          (Falls-next packets i _ _ c.requires.numbered lt (same _ ∙ w.in-Segment.is))))
       | in_default w ↦
-          subst (λ (t : Table). IsTableOf (past_of (take (c.loop-at.at + (c.loop-packet.packet-index + 1)) packets)) t) (sym w.table-is)
+          subst (λ (t : Table). IsTableOf (past_of (take (c.loop-at.at + (c.loop-packet.packet-index + 1)) packets)) t)
+          (sym w.table-is)
           (subst (λ (l : List Segment). IsTableOf l c.loop-packet.table)
           (sym (one_more _ _ (same _) ∙ with_packet-other _ _ w.in_default.not-Segment)) c.loop-packet.invariant)
     ]
@@ -49,28 +53,34 @@ loop-packet-preserved c =
 pub returns-clause-opened : goal.returns-clause-opened
 returns-clause-opened c =
     let packets : List Packet = c.args.packets.now in
-    let all : take c.loop-at.at packets ≡ packets = take_all c.loop-at.at packets (omega (arith, c.loop-at-test.false, c.len.ensures)) in
+    let all : take c.loop-at.at packets ≡ packets = take_all c.loop-at.at packets
+    (omega (arith, c.loop-at-test.false, c.len.ensures)) in
     shown-connections packets c.into_connections.result.opened.items
-    (ap (map membership) c.into_connections.ensures.opened ∙ c.loop-at.invariant.1.opened_are ∙ ap (λ (l : List Packet). connections_of (past_of l)) all)
+    (ap (map membership) c.into_connections.ensures.opened ∙ c.loop-at.invariant.1.opened_are
+    ∙ ap (λ (l : List Packet). connections_of (past_of l)) all)
 
 pub returns-clause-strays : goal.returns-clause-strays
 returns-clause-strays c =
     let packets : List Packet = c.args.packets.now in
-    let all : take c.loop-at.at packets ≡ packets = take_all c.loop-at.at packets (omega (arith, c.loop-at-test.false, c.len.ensures)) in
+    let all : take c.loop-at.at packets ≡ packets = take_all c.loop-at.at packets
+    (omega (arith, c.loop-at-test.false, c.len.ensures)) in
     c.into_connections.ensures.strays ∙ c.loop-at.invariant.1.strays_are
     ∙ ap (λ (l : List Packet). strays_of (past_of l)) all ∙ sym (strays-of-past packets)
 
 pub returns-clause-members : goal.returns-clause-members
 returns-clause-members c =
     let packets : List Packet = c.args.packets.now in
-    let all : take c.loop-at.at packets ≡ packets = take_all c.loop-at.at packets (omega (arith, c.loop-at-test.false, c.len.ensures)) in
+    let all : take c.loop-at.at packets ≡ packets = take_all c.loop-at.at packets
+    (omega (arith, c.loop-at-test.false, c.len.ensures)) in
     connections-members packets c.into_connections.result.opened.items c.requires.numbered
-    (ap (map membership) c.into_connections.ensures.opened ∙ c.loop-at.invariant.1.opened_are ∙ ap (λ (l : List Packet). connections_of (past_of l)) all)
+    (ap (map membership) c.into_connections.ensures.opened ∙ c.loop-at.invariant.1.opened_are
+    ∙ ap (λ (l : List Packet). connections_of (past_of l)) all)
 
 pub loop-at-preserved : goal.loop-at-preserved
 loop-at-preserved c =
     let packets : List Packet = c.args.packets.now in
     let all : c.loop-packet.packet-index ≡ length c.from-together.result.now = omega arith in (
       end_within packets c.from-together.result.now _ c.loop-at.at c.from-together.ensures.front c.loop-at.invariant.0,
-      subst (λ n. IsTableOf (past_of (take (c.loop-at.at + n) packets)) c.loop-packet.table) all c.loop-packet.invariant,
+      subst (λ n. IsTableOf (past_of (take (c.loop-at.at + n) packets)) c.loop-packet.table)
+          all c.loop-packet.invariant,
     )

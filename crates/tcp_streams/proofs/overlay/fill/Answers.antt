@@ -7,7 +7,8 @@ pub push_part-requires : goal.push_part-requires
 push_part-requires c = Spans-interval _ _ c.args.later.now c.loop-index.index _ (omega arith) c.requires.spans
 
 pub push_part-requires-then-index-later : goal.push_part-requires-then-index-later
-push_part-requires-then-index-later c = Spans-interval _ _ c.args.later.now c.loop-index.index _ (omega arith) c.requires.spans
+push_part-requires-then-index-later c = Spans-interval _ _ c.args.later.now c.loop-index.index _
+    (omega arith) c.requires.spans
 
 pub returns-in_ok-push_part-2-clause-added : goal.returns-in_ok-push_part-2-clause-added
 returns-in_ok-push_part-2-clause-added c =
@@ -15,7 +16,9 @@ returns-in_ok-push_part-2-clause-added c =
       | then-loop-index-test+else-later-index w ↦
           let over = w.if-later-index.false in
           c.in_ok-push_part-2.ensures
-          ∙ ap (λ l. c.loop-index.out.items ++ l) (sym (clipped-last c.args.low c.args.high _ _ c.args.later.now c.loop-index.index _ (omega arith) over c.requires.spans))
+          ∙ ap (λ l. c.loop-index.out.items ++ l)
+          (sym (clipped-last c.args.low c.args.high _ _ c.args.later.now c.loop-index.index _
+          (omega arith) over c.requires.spans))
           ∙ c.loop-index.invariant.makes
       | else-loop-index-test w ↦ absurd (omega arith)
     ]

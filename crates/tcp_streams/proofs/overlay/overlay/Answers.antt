@@ -1,4 +1,5 @@
-use Rattle.std.proofs.Common.{◌≡◌, ℕ, List, [], ◌∷◌, ◌++◌, ◌+◌, ◌<◌, ◌≤◌, ◌^◌, drop, get_or, length, ◌∙◌, sym, ap, append_assoc, arith}
+use Rattle.std.proofs.Common.{◌≡◌, ℕ, List, [], ◌∷◌, ◌++◌, ◌+◌, ◌<◌, ◌≤◌, ◌^◌, drop, get_or, length, ◌∙◌, sym, ap}
+use Rattle.std.proofs.Common.{append_assoc, arith}
 use Rattle.std.proofs.lemmas.List.{at_drop_all}
 use Rattle.tcp_streams.specs.declared.interval.Interval.{Interval}
 use Rattle.tcp_streams.specs.code.Interval.{Spans, clipped, overlay}
@@ -11,7 +12,8 @@ one_more : (out kept later : List Interval) (done i : ℕ) (d : Interval) → i 
     ++ overlay (drop (i + 1) kept) later (get_or kept i d).upto ≡ out ++ overlay (drop i kept) later done
 one_more out kept later done i d lt = rw (drop-get_or kept i d lt) (simp append_assoc)
 
-module _ (done i : ℕ) (kept : List Interval) (d : Interval) (lt : i < length kept) (spans : Spans done (drop i kept) (2 ^ 31)) where
+module _ (done i : ℕ) (kept : List Interval) (d : Interval) (lt : i < length kept)
+    (spans : Spans done (drop i kept) (2 ^ 31)) where
   starts : done ≤ (get_or kept i d).from
   starts = (rw (drop-get_or kept i d lt) at spans).0
 
@@ -40,9 +42,11 @@ add_kept-requires-clause-order c =
     starts c.loop-x.done c.loop-x.x-index c.args.kept.now _ c.loop-x-test.true c.loop-x.invariant.spans
 
 pub fill-requires-clause-order : goal.fill-requires-clause-order
-fill-requires-clause-order c = Spans-ordered c.loop-x.done _ (drop c.loop-x.x-index c.args.kept.now) c.loop-x.invariant.spans
+fill-requires-clause-order c = Spans-ordered c.loop-x.done _ (drop c.loop-x.x-index c.args.kept.now)
+    c.loop-x.invariant.spans
 
 pub returns : goal.returns
 returns c =
-    let left = at_drop_all (λ l. overlay l c.args.later.now c.loop-x.done) c.args.kept.now c.loop-x.x-index (omega arith) in
+    let left = at_drop_all (λ l. overlay l c.args.later.now c.loop-x.done) c.args.kept.now c.loop-x.x-index
+    (omega arith) in
     c.in_ok-fill.ensures.added ∙ ap (λ l. c.loop-x.out.items ++ l) (sym left) ∙ c.loop-x.invariant.makes

@@ -4,8 +4,10 @@ use Rattle.tcp_streams.proofs.pieces.piece_of_member.Goals as goal
 
 pub piece_of-requires-clause-payload : goal.piece_of-requires-clause-payload
 piece_of-requires-clause-payload c =
-    (payload-fits c.args.packets.now (c.args.member - 1) c.in-Segment.segment c.requires.payloads (c.in_ok-segment.ensures.some ∙ ap Some c.in-Segment.is)).0
+    (payload-fits c.args.packets.now (c.args.member - 1) c.in-Segment.segment c.requires.payloads
+    (c.in_ok-segment.ensures.some ∙ ap Some c.in-Segment.is)).0
 
 pub piece_of-requires-clause-short : goal.piece_of-requires-clause-short
 piece_of-requires-clause-short c =
-    (payload-fits c.args.packets.now (c.args.member - 1) c.in-Segment.segment c.requires.payloads (c.in_ok-segment.ensures.some ∙ ap Some c.in-Segment.is)).1
+    (payload-fits c.args.packets.now (c.args.member - 1) c.in-Segment.segment c.requires.payloads
+    (c.in_ok-segment.ensures.some ∙ ap Some c.in-Segment.is)).1

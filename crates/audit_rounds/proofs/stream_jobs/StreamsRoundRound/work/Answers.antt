@@ -39,7 +39,8 @@ slice_bounds-rows-end g c =
     let job = get_or round.plan.now c.args.job none in
     let inside : job.to ≤ length c.deref.result.now =
     subst (λ rows. job.to ≤ length rows) (sym c.deref.ensures.value)
-    (planned.within _ (slice_get-get_or round.connections.now job.connection c.index-self-job.result planned.connection)) in
+    (planned.within _ (slice_get-get_or round.connections.now job.connection c.index-self-job.result
+    planned.connection)) in
     inside
 
 pub run_of_rows-requires-clause-rows : goal.run_of_rows-requires-clause-rows
@@ -87,8 +88,10 @@ returns-clause-looks g c =
     if_ok-then c.run_of_rows.result _ _ c.run_of_rows.ensures (λ work made. record {
       asked = made.looks.asked;
       looked = made.looks.looked;
-      in_time = job-looks round.connections.now round.plan.now c.args.job none c.index-self-job.result c.deref.result.now
-          (round.planned c.args.job none within).connection c.deref.ensures.value round.credits_shown made.looks.asked work.upto
+      in_time = job-looks round.connections.now round.plan.now c.args.job none c.index-self-job.result
+          c.deref.result.now
+          (round.planned c.args.job none within).connection c.deref.ensures.value round.credits_shown made.looks.asked
+          work.upto
           made.looks.in_time;
       answered = made.looks.answered;
     })

@@ -10,7 +10,12 @@ returns-clause-said c =
 
 pub returns-clause-after : goal.returns-clause-after
 returns-clause-after c =
-    rw (c.life_at-life.ensures, c.in_ok-say_window.ensures.window, c.in_ok-say_window-2.ensures.window, c.opens-opening.ensures) refl
+    rw (
+      c.life_at-life.ensures,
+      c.in_ok-say_window.ensures.window,
+      c.in_ok-say_window-2.ensures.window,
+      c.opens-opening.ensures,
+    ) refl
 
 pub returns-clause-client : goal.returns-clause-client
 returns-clause-client c = c.in_ok-say_window.ensures.room

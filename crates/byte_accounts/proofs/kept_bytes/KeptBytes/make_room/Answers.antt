@@ -44,7 +44,8 @@ returns-clause-room g c =
     ∙ ap (λ (full : List (Vec ℕ Global)). full ++ c.replace.result ∷ []) c.reserve.ensures.items
     ∙ ap (λ (last : Vec ℕ Global). inside.full.items ++ last ∷ []) c.replace.ensures.value in
     let whole : vec_len inside.last ≡ 1048576 = omega (arith, c.self.invariant.2) in
-    let all = ap (λ (full : List (Vec ℕ Global)). length (joined (map (λ (part : Vec ℕ Global). part.items) full) ++ [])) is
+    let all = ap (λ (full : List (Vec ℕ Global)). length
+    (joined (map (λ (part : Vec ℕ Global). part.items) full) ++ [])) is
     ∙ pushed_size inside.full.items inside.last c.self.invariant.0 whole in
     let part : vec_len c.replace.new.dest ≡ vec_len c.resize-2.new.self = ap vec_len c.replace.ensures.after in
     omega (

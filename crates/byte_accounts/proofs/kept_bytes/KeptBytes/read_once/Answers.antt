@@ -23,7 +23,8 @@ returns-clause-bytes g c =
     kept_more before c.self.inside.last.items part c.self.inside.filled c.in_ok-count.count c.read_into.ensures.front
     ∙ ap (λ view. view.kept ++ more) c.self.view_is
     ) in
-    subst (Consumes (g.R.Read.remaining c.args.reader.now) (g.R.Read.remaining c.read_into.new.reader)) (sym is) c.in_ok-count.ensures.bytes
+    subst (Consumes (g.R.Read.remaining c.args.reader.now) (g.R.Read.remaining c.read_into.new.reader))
+    (sym is) c.in_ok-count.ensures.bytes
 
 pub read_into-requires : goal.read_into-requires
 read_into-requires g c =
@@ -41,7 +42,8 @@ pub returns-clause-within : goal.returns-clause-within
 returns-clause-within g c =
     let inside = c.self.inside in
     let part = c.read_into.new.part in
-    let within : inside.filled + c.in_ok-count.count ≤ length part.items = omega (arith, c.in_ok-count.ensures.fits, part.ok.0) in
+    let within : inside.filled + c.in_ok-count.count ≤ length part.items = omega
+    (arith, c.in_ok-count.ensures.fits, part.ok.0) in
     omega (
       arith,
       kept_size inside.full.items part.items (inside.filled + c.in_ok-count.count) c.self.invariant.0 within,

@@ -10,6 +10,8 @@ returns-clause-part g c = λ _.
     let count : 16 + c.min-front.result - 16 ≡ min 82 captured = omega (arith, c.min-front.ensures) in
     let front : take (16 + c.min-front.result - 16) packet ≡ take 82 (take captured packet) =
     ap (λ (k : ℕ). take k packet) count ∙ sym (take-min 82 captured packet) in
-    let read : take 82 (take captured packet) ≡ _ = ap (λ (k : ℕ). take 82 (take k packet)) c.captured_length-captured.ensures.length in
+    let read : take 82 (take captured packet) ≡ _ = ap (λ (k : ℕ). take 82 (take k packet))
+    c.captured_length-captured.ensures.length in
     c.in_ok-enter.ensures.part
-    ∙ ap (λ (f : List ℕ). part_of (length c.enter.new.parts) c.enter.new.self.number (pair_of c.enter.new.self.link f)) (front ∙ read)
+    ∙ ap (λ (f : List ℕ). part_of (length c.enter.new.parts) c.enter.new.self.number (pair_of c.enter.new.self.link f))
+    (front ∙ read)

@@ -1,4 +1,5 @@
-use Rattle.std.proofs.Common.{◌≡◌, ◌+◌, ◌-◌, ◌∙◌, ℕ, List, ◌++◌, length, take, drop, sym, ap, subst, rules, append_assoc, append-nil}
+use Rattle.std.proofs.Common.{◌≡◌, ◌+◌, ◌-◌, ◌∙◌, ℕ, List, ◌++◌, length, take, drop, sym, ap, subst, rules}
+use Rattle.std.proofs.Common.{append_assoc, append-nil}
 use Rattle.std.proofs.Math.Seq.{take-add}
 use Rattle.std.proofs.lemmas.List.{take_rest}
 use Rattle.capture_split.specs.Files.{IsDealt}
@@ -17,8 +18,10 @@ loop-at-preserved g c =
       link = search rules;
       little = search rules;
       dealt = λ first bytes was.
-          let step = c.in_ok-count.ensures.dealt first (bytes ++ take at unread) (c.loop-at.invariant.dealt first bytes was) in
-          let same : (bytes ++ take at unread) ++ take n (take (length unread - at) (drop at unread)) ≡ bytes ++ take (at + n) unread =
+          let step = c.in_ok-count.ensures.dealt first (bytes ++ take at unread)
+          (c.loop-at.invariant.dealt first bytes was) in
+          let same : (bytes ++ take at unread) ++ take n (take (length unread - at) (drop at unread)) ≡ bytes ++ take
+          (at + n) unread =
           ap (λ (l : List ℕ). (bytes ++ take at unread) ++ take n l) (take_rest unread at)
           ∙ append_assoc bytes (take at unread) (take n (drop at unread))
           ∙ ap (λ (l : List ℕ). bytes ++ l) (sym (take-add at n unread)) in
@@ -30,8 +33,10 @@ returns-then-count-eq0-clause-dealt g c = λ first bytes was.
     let unread : List ℕ = c.args.unread.now in
     let at : ℕ = c.loop-at.at in
     let h = c.if-count-eq0 in
-    let step = c.in_ok-count.ensures.dealt first (bytes ++ take at unread) (c.loop-at.invariant.dealt first bytes was) in
-    let same : (bytes ++ take at unread) ++ take c.in_ok-count.count (take (length unread - at) (drop at unread)) ≡ bytes ++ take at unread =
+    let step = c.in_ok-count.ensures.dealt first (bytes ++ take at unread)
+    (c.loop-at.invariant.dealt first bytes was) in
+    let same : (bytes ++ take at unread) ++ take c.in_ok-count.count (take (length unread - at) (drop at unread))
+    ≡ bytes ++ take at unread =
     ap (λ (k : ℕ). (bytes ++ take at unread) ++ take k (take (length unread - at) (drop at unread))) c.if-count-eq0.true
     ∙ append-nil (bytes ++ take at unread) in
     subst (λ (l : List ℕ). IsDealt g.W.Write.contents c.deal_some.new.self first c.deal_some.new.parts l) same step

@@ -9,7 +9,8 @@ invariant-loop-at g l = record {
   part : l.self.part < length l.parts;
   link : l.self.link ≡ l.initial.self.link;
   little : l.self.is_little ≡ l.initial.self.is_little;
-  dealt : (first : List (Part g.row.W.Denot)) (bytes : List ℕ) → IsDealt g.W.Write.contents l.initial.self first l.initial.parts bytes
+  dealt : (first : List (Part g.row.W.Denot)) (bytes : List ℕ)
+      → IsDealt g.W.Write.contents l.initial.self first l.initial.parts bytes
       → IsDealt g.W.Write.contents l.self first l.parts (bytes ++ take l.at l.unread);
 }
 

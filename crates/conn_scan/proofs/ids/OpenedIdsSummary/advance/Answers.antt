@@ -1,6 +1,6 @@
 use Rattle.std.proofs.Common.{map, refl, ap, ◌∙◌}
-use Rattle.conn_scan.specs.Rising.{no_identifier, one_identifier, rising_join}
-use Rattle.conn_scan.specs.Ids.{opened_ids, opened_in}
+use Rattle.conn_scan.specs.code.Rising.{no_identifier, one_identifier, rising_join}
+use Rattle.conn_scan.specs.code.Ids.{opened_ids, opened_in}
 use Rattle.conn_scan.specs.code.Through.{summary-view}
 use Rattle.conn_scan.proofs.ids.OpenedIdsSummary.advance.Goals as goal
 

@@ -1,6 +1,6 @@
 use Rattle.std.proofs.Common.{map, refl, ap, ◌∙◌}
-use Rattle.conn_scan.specs.Rising.{no_identifier, one_identifier, rising_join}
-use Rattle.conn_scan.specs.Ids.{promised_ids, promised_by}
+use Rattle.conn_scan.specs.code.Rising.{no_identifier, one_identifier, rising_join}
+use Rattle.conn_scan.specs.code.Ids.{promised_ids, promised_by}
 use Rattle.conn_scan.specs.code.Through.{summary-view}
 use Rattle.conn_scan.proofs.ids.PromisedIdsSummary.advance.Goals as goal
 

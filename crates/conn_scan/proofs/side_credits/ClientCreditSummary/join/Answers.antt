@@ -1,7 +1,7 @@
 use Rattle.std.proofs.Common.{map, refl, ap, subst, ◌∙◌}
 use Rattle.audit_terms.specs.declared.sides.Side.TheVariants.{Client}
-use Rattle.conn_scan.specs.Credit.{ChangesFit, no_change, one_change, credit_join}
-use Rattle.conn_scan.specs.SideCredit.{client_credit, change_of}
+use Rattle.conn_scan.specs.code.Credit.{ChangesFit, no_change, one_change, credit_join}
+use Rattle.conn_scan.specs.code.SideCredit.{client_credit, change_of}
 use Rattle.conn_scan.specs.code.Through.{map-append, summary-view}
 use Rattle.conn_scan.proofs.side_credits.ClientCreditSummary.join.Goals as goal
 

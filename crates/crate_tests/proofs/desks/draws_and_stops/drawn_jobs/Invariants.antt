@@ -1,5 +1,5 @@
 use Rattle.std.proofs.Common.{◌≡◌}
-use Rattle.stop_desk.specs.Desk.{pass_draws}
+use Rattle.stop_desk.specs.code.Desk.{pass_draws}
 use Rattle.crate_tests.proofs.desks.draws_and_stops.drawn_jobs.Given as goal
 
 abbrev pub invariant-loop : goal.invariant-loop

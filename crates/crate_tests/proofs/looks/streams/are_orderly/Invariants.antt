@@ -1,5 +1,5 @@
 use Rattle.std.proofs.Common.{drop}
-use Rattle.settings_pair.specs.Changes.{AreOrderlyFrom}
+use Rattle.settings_pair.specs.code.Changes.{AreOrderlyFrom}
 use Rattle.crate_tests.proofs.looks.streams.are_orderly.Given as goal
 
 abbrev pub invariant-loop-change : goal.invariant-loop-change

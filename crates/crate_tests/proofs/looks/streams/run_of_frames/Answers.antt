@@ -1,5 +1,5 @@
 use Rattle.std.proofs.Common.{◌∙◌, length, sym, ap, subst, arith}
-use Rattle.audit_terms.specs.runs.Orderly.{IsOrderly}
+use Rattle.audit_terms.specs.code.runs.Orderly.{IsOrderly}
 use Rattle.crate_tests.proofs.WholePart.{whole-part}
 use Rattle.crate_tests.proofs.looks.streams.run_of_frames.Goals as goal
 

@@ -1,5 +1,5 @@
 use Rattle.std.proofs.Common.{drop}
-use Rattle.audit_terms.specs.runs.Orderly.{IsOrderlyFrom}
+use Rattle.audit_terms.specs.code.runs.Orderly.{IsOrderlyFrom}
 use Rattle.crate_tests.proofs.passes.scripts.are_orderly.Given as goal
 
 abbrev pub invariant-loop-frame : goal.invariant-loop-frame

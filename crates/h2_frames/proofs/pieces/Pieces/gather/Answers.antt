@@ -6,7 +6,13 @@ use Rattle.h2_frames.proofs.pieces.Pieces.gather.Goals as goal
 
 pub loop-wanted-init : goal.loop-wanted-init
 loop-wanted-init c = record {
-  taken = record { front = []; size = omega arith; bytes = refl; counted = c.requires.counted; there = c.requires.there };
+  taken = record {
+    front = [];
+    size = omega arith;
+    bytes = refl;
+    counted = c.requires.counted;
+    there = c.requires.there;
+  };
   gathered_are = sym (append-nil c.args.gathered.now.items);
 }
 
@@ -15,7 +21,8 @@ loop-wanted-preserved c =
     let part = c.take_part-part in
     let before = c.loop-wanted.invariant in
     record {
-      taken = partly_taken-turn c.args.count c.loop-wanted.wanted c.args.self.now c.loop-wanted.self part.new.self part.result.now
+      taken = partly_taken-turn c.args.count c.loop-wanted.wanted c.args.self.now c.loop-wanted.self part.new.self
+          part.result.now
           before.taken part.ensures.bytes part.ensures.fits part.ensures.counted;
       gathered_are = c.in_ok-extend_from_slice.ensures.items
           ∙ ap (λ (xs : List ℕ). xs ++ part.result.now) before.gathered_are

@@ -3,7 +3,7 @@ use Rattle.h2audit.specs.code.Flows.{FlowView}
 use Rattle.std.proofs.lemmas.List.Elements.{All-get_or}
 use Rattle.std.specs.List.{slice_get}
 use Rattle.tcp_streams.specs.declared.members.Connection.{Connection}
-use Rattle.tcp_streams.specs.Orderly.{AreMembers}
+use Rattle.tcp_streams.specs.code.Orderly.{AreMembers}
 use Rattle.h2audit.specs.code.Flows.{IsConnectionCut}
 use Rattle.h2audit.proofs.Flows.{flow_jobs-at, flow_jobs-length, nothing-cut, get-is}
 use Rattle.h2audit.proofs.flow_round.FlowRoundRound.work.Goals as goal
@@ -35,6 +35,7 @@ returns-clause-made g c = λ connection is.
     let view = c.self.view_is in
     let there = ap (λ (v : FlowView). slice_get v.opened c.args.job) view ∙ is in
     subst (λ (v : FlowView). IsConnectionCut v.capture v.packets connection c.in_ok-made.made) view
-    (subst (λ (one : Connection). IsConnectionCut c.self.inside.capture.now c.self.inside.packets.now one c.in_ok-made.made)
+    (subst (λ (one : Connection). IsConnectionCut c.self.inside.capture.now c.self.inside.packets.now one
+    c.in_ok-made.made)
     (get-is c.self.inside.opened.now c.args.job connection c.index-self-job.result there)
     c.in_ok-made.ensures)

@@ -1,6 +1,8 @@
-use Rattle.std.proofs.Common.{◌≡◌, ◌∙◌, ◌≤◌, ◌∷◌, [], ◌++◌, List, length, map, take, take-append-drop, arith, ap, sym, subst}
+use Rattle.std.proofs.Common.{◌≡◌, ◌∙◌, ◌≤◌, ◌∷◌, [], ◌++◌, List, length, map, take, take-append-drop, arith, ap, sym}
+use Rattle.std.proofs.Common.{subst}
 use Rattle.std.proofs.lemmas.List.{append_assoc, map-append}
-use Rattle.parted_list.specs.Parts.{joined, ArePartsOf}
+use Rattle.parted_list.specs.Parts.{joined}
+use Rattle.parted_list.specs.code.Sizes.{ArePartsOf}
 use Rattle.parted_list.proofs.PartLemmas.{AreFull, full-push, full_and_last, joined-push}
 use Rattle.parted_list.proofs.parts.Parts.cut.Goals as goal
 
@@ -16,7 +18,8 @@ loop-rest-preserved g c =
     ap (λ (l : List _). l ++ later) c.split_at.ensures.front
     ∙ ap (λ (l : List _). take g.row.N c.loop-rest.rest.now ++ l) c.split_at.ensures.back
     ∙ take-append-drop g.row.N c.loop-rest.rest.now in (
-      subst (AreFull g.row.N) (sym more) (full-push g.row.N before part c.loop-rest.invariant.0 c.split_at.ensures.front_len),
+      subst (AreFull g.row.N) (sym more)
+          (full-push g.row.N before part c.loop-rest.invariant.0 c.split_at.ensures.front_len),
       ap (λ (parts : List (List _)). joined parts ++ later) more
           ∙ ap (λ (l : List _). l ++ later) (joined-push before part)
           ∙ append_assoc (joined before) part later

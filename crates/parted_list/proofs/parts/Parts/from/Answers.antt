@@ -38,7 +38,8 @@ slice_bounds-result-start g c =
 
 pub returns : goal.returns
 returns g c =
-    let there = ((part_from (λ part. part.now) g.row.N c.args.start c.self.inside.parts.items c.args.self.now c.self.view_is
+    let there = ((part_from (λ part. part.now) g.row.N c.args.start c.self.inside.parts.items c.args.self.now
+    c.self.view_is
     c.self.invariant.0 c.self.invariant.1 c.requires).1 c.index-part.result.now c.index-part.ensures) in
     let size = length-drop (c.args.start % g.row.N) c.index-part.result.now.now in
     let all = take_all (length c.index-part.result.now.now - c.args.start % g.row.N)

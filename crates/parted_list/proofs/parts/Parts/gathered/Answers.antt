@@ -15,7 +15,8 @@ loop-at-preserved g c =
     let wanted = c.min-wanted.result in
     let size : length (take wanted rest) ≡ wanted = length-take-le wanted rest (omega (arith, c.min-wanted.ensures)) in
     let more = range_more c.args.self.now rest (take wanted rest) c.args.start c.loop-at.at c.args.end
-    (min (g.row.N - c.loop-at.at % g.row.N) (length c.args.self.now - c.loop-at.at)) c.loop-at.invariant.0 c.loop-at-test.true
+    (min (g.row.N - c.loop-at.at % g.row.N) (length c.args.self.now - c.loop-at.at)) c.loop-at.invariant.0
+    c.loop-at-test.true
     c.from-rest.ensures.some c.from-rest.ensures.front
     (ap (λ k. take k rest) c.min-wanted.ensures) in (
       omega (arith, c.loop-at.invariant.0),

@@ -7,7 +7,8 @@ overflow_add-count g c =
     let within : c.loop-part.part-index < length c.args.parts.now = search rules in
     omega (
       arith,
-      within_joined (λ part. part.items) c.args.parts.now c.loop-part.part-index c.part-item.result within c.part-item.is,
+      within_joined (λ part. part.items) c.args.parts.now c.loop-part.part-index c.part-item.result
+          within c.part-item.is,
       c.loop-part.invariant.1,
       c.requires.length,
       c.len-count.ensures,

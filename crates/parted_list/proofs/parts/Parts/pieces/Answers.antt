@@ -10,7 +10,8 @@ pub loop-at-smaller : goal.loop-at-smaller
 loop-at-smaller g c =
     let rest : List _ = c.from-rest.result.now in
     let more = range_more c.args.self.now rest c.split_at.result.0.now c.args.start c.loop-at.at c.args.end
-    (min (g.row.N - c.loop-at.at % g.row.N) (length c.args.self.now - c.loop-at.at)) c.loop-at.invariant.0 c.loop-at-test.true
+    (min (g.row.N - c.loop-at.at % g.row.N) (length c.args.self.now - c.loop-at.at)) c.loop-at.invariant.0
+    c.loop-at-test.true
     c.from-rest.ensures.some c.from-rest.ensures.front
     (c.split_at.ensures.front ∙ ap (λ (k : ℕ). take k c.from-rest.result.now) c.min.ensures) in
     omega (arith, more.0, more.1, c.loop-at-test.true)
@@ -20,7 +21,8 @@ loop-at-preserved g c =
     let found : List (List _) = map (λ piece. piece.now) c.loop-at.found.items in
     let piece : List _ = c.split_at.result.0.now in
     let more = range_more c.args.self.now c.from-rest.result.now piece c.args.start c.loop-at.at c.args.end
-    (min (g.row.N - c.loop-at.at % g.row.N) (length c.args.self.now - c.loop-at.at)) c.loop-at.invariant.0 c.loop-at-test.true
+    (min (g.row.N - c.loop-at.at % g.row.N) (length c.args.self.now - c.loop-at.at)) c.loop-at.invariant.0
+    c.loop-at-test.true
     c.from-rest.ensures.some c.from-rest.ensures.front
     (c.split_at.ensures.front ∙ ap (λ (k : ℕ). take k c.from-rest.result.now) c.min.ensures) in
     let pushed : map (λ piece. piece.now) c.extend_from_slice.new.self.items ≡ found ++ piece ∷ [] =

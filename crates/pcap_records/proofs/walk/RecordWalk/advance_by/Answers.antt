@@ -17,11 +17,14 @@ loop-record-preserved g c =
     let number : ByteOrder = number_of walk.format.endian in
     let found =
     subst (λ (unit : ℕ). IsNextRecord number unit walk.at (drop walk.at front) (Some record_)) c.loop-record.invariant.2
-    (subst (λ (n : ByteOrder). IsNextRecord n c.args.self.now.format.unit walk.at (drop walk.at front) (Some record_)) order
+    (subst (λ (n : ByteOrder). IsNextRecord n c.args.self.now.format.unit walk.at (drop walk.at front) (Some record_))
+    order
     (subst (IsNextRecord g.T.ByteOrder.number_of c.args.self.now.format.unit walk.at (drop walk.at front)) c.in-Some.is
     c.in_ok-record.ensures)) in
-    let Read : List Record → Type 0 = λ rows. AreRead number walk.format.unit front rows (record_.start + record_.length) in
-    let read = AreRead-push number (subst ReadsFirst order g.met.T.ByteOrder.reads_first) walk.format.unit front walk.rows.items walk.at record_
+    let Read : List Record → Type 0 = λ rows. AreRead number walk.format.unit front rows
+    (record_.start + record_.length) in
+    let read = AreRead-push number (subst ReadsFirst order g.met.T.ByteOrder.reads_first) walk.format.unit front
+    walk.rows.items walk.at record_
     c.loop-record.invariant.0.read found.0 found.1 found.2 in (
       record {
         magic = c.loop-record.invariant.0.magic;

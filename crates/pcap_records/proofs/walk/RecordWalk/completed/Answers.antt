@@ -43,5 +43,6 @@ pub returns-clause-placed : goal.returns-clause-placed
 returns-clause-placed c =
     let read = c.advance.ensures.walk.read in (
       omega (arith, read.few, read.high, c.requires.short),
-      RiseFrom-widen 24 c.advance.new.self.at (length c.args.capture.now) c.advance.new.self.rows.items read.placed read.high,
+      RiseFrom-widen 24 c.advance.new.self.at (length c.args.capture.now) c.advance.new.self.rows.items
+          read.placed read.high,
     )

@@ -33,8 +33,10 @@ loop-row-preserved c =
       room = omega (arith, long, one, c.loop-row.invariant.room);
       rows = rows-more rows quiets i l m none idle before.rows.items after.rows.items c.loop-row.invariant.rows
           c.in_ok-add.ensures.rows;
-      places = places-more quiets i (length before.rows.items) (length after.rows.items) row idle m long before.places.items
+      places = places-more quiets i (length before.rows.items) (length after.rows.items) row idle m long
+          before.places.items
           after.places.items c.loop-row.invariant.places c.in_ok-add.ensures.places;
-      opened = opened-more rows quiets i l m none idle before.opened.items after.opened.items c.loop-row.invariant.opened
+      opened = opened-more rows quiets i l m none idle before.opened.items after.opened.items
+          c.loop-row.invariant.opened
           c.in_ok-add.ensures.opened;
     }

@@ -11,5 +11,6 @@ returns-in_err-row-clause-row c =
 
 pub returns-clause-row : goal.returns-clause-row
 returns-clause-row c =
-    row-from_set (streams_in c.args.self.now.rows.items) c.args.self.now.index c.requires.index c.args.stream c.in_ok-row.row
+    row-from_set (streams_in c.args.self.now.rows.items) c.args.self.now.index c.requires.index c.args.stream
+    c.in_ok-row.row
     c.in_ok-row.field-0-1.now c.in_ok-row.ensures.key c.in_ok-row.ensures.stored

@@ -2,8 +2,9 @@ use Rattle.std.proofs.Common.{◌∷◌, ◌++◌, length, set, sym, ap, ◌∙�
 use Rattle.std.proofs.lemmas.List.{length-set}
 use Rattle.split_merge.specs.code.Visits.{streams_in, counted, total_of, IsIndex, IsListed, noted}
 use Rattle.split_merge.proofs.NamedStreams.{length-streams_in}
-use Rattle.split_merge.proofs.Visited.{within-from_slice_get, count-total, total-row, length-row, total-counted, streams-counted, named-row, noted-listed}
-use Rattle.audit_terms.specs.runs.Streams.{frames_of}
+use Rattle.split_merge.proofs.Visited.{within-from_slice_get, count-total, total-row, length-row, total-counted}
+use Rattle.split_merge.proofs.Visited.{streams-counted, named-row, noted-listed}
+use Rattle.audit_terms.specs.code.runs.Streams.{frames_of}
 use Rattle.stream_credit.specs.code.QuietStream.{IsAheadIfQuiet}
 use Rattle.split_merge.specs.code.Ahead.{AreAhead, with_next}
 use Rattle.split_merge.proofs.Ahead.{ahead-zero, ahead-next, ahead-met}
@@ -51,7 +52,8 @@ returns-clause-room c = λ many h.
     let l = within-from_slice_get (streams_in rows) row c.args.stream c.in_ok-row.ensures.row in
     let n = length-streams_in rows in
     let total = ap total_of c.in_ok-row.ensures.rows ∙ total-row c.args.stream c.args.self.now.rows.items in
-    let more = ap (λ x. total_of (set rows row x)) is ∙ total-counted rows row c.index_mut.result.now (omega (arith, l, n)) in
+    let more = ap (λ x. total_of (set rows row x)) is ∙ total-counted rows row c.index_mut.result.now
+    (omega (arith, l, n)) in
     let long = length-set rows row c.count.new.row in
     let was = ap length c.in_ok-row.ensures.rows in
     let grew = length-row c.args.stream c.args.self.now.rows.items in
@@ -78,7 +80,8 @@ index_mut-requires-2 c =
     let quiets = c.row_of.new.self.quiets in
     let l = within-from_slice_get (streams_in rows.items) c.in_ok-row.row c.args.stream c.in_ok-row.ensures.row in
     let next = c.requires.next in
-    let h = c.in_ok-row.ensures.ahead c.args.changes.now next.all (with_next c.args.stream c.args.frame.now next.rest) next.ahead in
+    let h = c.in_ok-row.ensures.ahead c.args.changes.now next.all (with_next c.args.stream c.args.frame.now next.rest)
+    next.ahead in
     omega (arith, l, h.long, quiets.ok.0)
 
 pub meet-requires : goal.meet-requires

@@ -3,8 +3,8 @@ use Rattle.std.proofs.lemmas.List.{append-nil, at_drop_all, take_all, take_more,
 use Rattle.audit_terms.specs.declared.frames.Frame.{Frame}
 use Rattle.audit_terms.specs.Frame.{promised_by}
 use Rattle.audit_terms.specs.Pass.{first_of, streams_of}
-use Rattle.audit_terms.specs.runs.Orderly.{IsInRange}
-use Rattle.audit_terms.specs.runs.Streams.{frames_of}
+use Rattle.audit_terms.specs.code.runs.Orderly.{IsInRange}
+use Rattle.audit_terms.specs.code.runs.Streams.{frames_of}
 use Rattle.split_merge.specs.code.Visits.{streams_in, with_stream, noted, notes_from, total_of, IsTableOf}
 use Rattle.split_merge.specs.code.Ahead.{AreAhead, with_next}
 use Rattle.split_merge.proofs.NamedStreams.{without, named-more, named-first, index-empty}
@@ -28,7 +28,8 @@ loop-frame-init c =
         rows = let e = ap length none in omega (arith, e);
         visits = let e = ap total_of none in omega (arith, e);
       };
-      ahead = ahead-none c.args.changes.now c.args.frames.now (streams_in c.new-rows.result.items) c.new-quiets.result.items
+      ahead = ahead-none c.args.changes.now c.args.frames.now (streams_in c.new-rows.result.items)
+          c.new-quiets.result.items
           (ap streams_in none) unmet c.requires.frames c.requires.changes c.requires.acknowledged;
     }
 
@@ -85,9 +86,11 @@ note-requires-in-loop-frame-clause-next c =
     record {
       all = frames;
       rest = λ s. frames_of s (drop (i + 1) frames);
-      ahead = subst (λ p. AreAhead c.args.changes.now frames (with_next p frame (λ s. frames_of s (drop (i + 1) frames)))
+      ahead = subst (λ p. AreAhead c.args.changes.now frames
+          (with_next p frame (λ s. frames_of s (drop (i + 1) frames)))
           (streams_in c.note.new.self.rows.items) c.note.new.self.quiets.items) (sym c.promised_by.ensures)
-          (c.in_ok-note.ensures.ahead frames (with_next (promised_by frame) frame (λ s. frames_of s (drop (i + 1) frames)))
+          (c.in_ok-note.ensures.ahead frames
+          (with_next (promised_by frame) frame (λ s. frames_of s (drop (i + 1) frames)))
           (ahead-frame c.args.changes.now frames i frame (streams_in c.loop-frame.table.rows.items)
           c.loop-frame.table.quiets.items c.loop-frame-test.true c.frame-item.is c.loop-frame.invariant.ahead));
     }
@@ -118,7 +121,8 @@ loop-frame-preserved c =
       named = ap (λ l. l ++ without l (streams_of rest)) both
           ∙ named-more (promised_by frame) own (streams_of rest)
           ∙ named-more frame.stream seen (first_of (promised_by frame) (streams_of rest))
-          ∙ ap (λ l. seen ++ without seen (streams_of l)) (sym (drop_more frames i frame within ∙ ap (λ (one : Frame). one ∷ rest) (sym c.frame-item.is)))
+          ∙ ap (λ l. seen ++ without seen (streams_of l))
+          (sym (drop_more frames i frame within ∙ ap (λ (one : Frame). one ∷ rest) (sym c.frame-item.is)))
           ∙ c.loop-frame.invariant.named;
       room = record {
         rows = omega (arith, twice.rows);
@@ -127,7 +131,8 @@ loop-frame-preserved c =
       ahead = c.in_ok-note-2.ensures.ahead frames (λ s. frames_of s (drop (i + 1) frames))
           (subst (λ p. AreAhead c.args.changes.now frames (with_next p frame (λ s. frames_of s (drop (i + 1) frames)))
           (streams_in c.note.new.self.rows.items) c.note.new.self.quiets.items) (sym c.promised_by.ensures)
-          (c.in_ok-note.ensures.ahead frames (with_next (promised_by frame) frame (λ s. frames_of s (drop (i + 1) frames)))
+          (c.in_ok-note.ensures.ahead frames
+          (with_next (promised_by frame) frame (λ s. frames_of s (drop (i + 1) frames)))
           (ahead-frame c.args.changes.now frames i frame (streams_in c.loop-frame.table.rows.items)
           c.loop-frame.table.quiets.items c.loop-frame-test.true c.frame-item.is c.loop-frame.invariant.ahead)));
     }
@@ -136,7 +141,8 @@ pub returns-clause-streams : goal.returns-clause-streams
 returns-clause-streams c =
     let seen = streams_in c.loop-frame.table.rows.items in
     sym (append-nil seen)
-    ∙ sym (at_drop_all (λ l. seen ++ without seen (streams_of l)) c.args.frames.now c.loop-frame.frame-index c.loop-frame-test.false)
+    ∙ sym (at_drop_all (λ l. seen ++ without seen (streams_of l)) c.args.frames.now c.loop-frame.frame-index
+    c.loop-frame-test.false)
     ∙ c.loop-frame.invariant.named
 
 pub returns-clause-table : goal.returns-clause-table
@@ -152,7 +158,8 @@ returns-clause-room c =
 
 pub returns-clause-ahead : goal.returns-clause-ahead
 returns-clause-ahead c =
-    ahead-alike c.args.changes.now c.args.frames.now (λ s. frames_of s (drop c.loop-frame.frame-index c.args.frames.now))
+    ahead-alike c.args.changes.now c.args.frames.now
+    (λ s. frames_of s (drop c.loop-frame.frame-index c.args.frames.now))
     (λ s. []) (streams_in c.loop-frame.table.rows.items) c.loop-frame.table.quiets.items
     (λ s n. at_drop_all (λ l. frames_of s l) c.args.frames.now c.loop-frame.frame-index c.loop-frame-test.false)
     c.loop-frame.invariant.ahead

@@ -1,6 +1,6 @@
 use Rattle.std.proofs.Common.{◌≡◌, ◌*◌, ◌++◌, drop, take}
 use Rattle.audit_terms.specs.Pass.{streams_of}
-use Rattle.audit_terms.specs.runs.Streams.{frames_of}
+use Rattle.audit_terms.specs.code.runs.Streams.{frames_of}
 use Rattle.split_merge.specs.code.Visits.{streams_in, notes_from, IsTableOf, HasAtMost}
 use Rattle.split_merge.specs.code.Ahead.{AreAhead}
 use Rattle.split_merge.proofs.NamedStreams.{without}
@@ -9,7 +9,8 @@ use Rattle.split_merge.proofs.visits.Visits.of.Given as goal
 abbrev pub invariant-loop-frame : goal.invariant-loop-frame
 invariant-loop-frame l = record {
   table : IsTableOf (notes_from 0 (take l.frame-index l.frames)) l.table;
-  named : streams_in l.table.rows.items ++ without (streams_in l.table.rows.items) (streams_of (drop l.frame-index l.frames))
+  named : streams_in l.table.rows.items ++ without (streams_in l.table.rows.items)
+      (streams_of (drop l.frame-index l.frames))
       ≡ streams_of l.frames;
   room : HasAtMost (2 * l.frame-index) l.table;
   ahead : AreAhead l.changes l.frames (λ s. frames_of s (drop l.frame-index l.frames)) (streams_in l.table.rows.items)

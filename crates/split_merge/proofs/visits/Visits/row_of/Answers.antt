@@ -8,4 +8,5 @@ pub returns-then-is_row_of-clause-rows : goal.returns-then-is_row_of-clause-rows
 returns-then-is_row_of-clause-rows c =
     with_row-seen c.args.stream c.args.self.now.rows.items
     (found_among c.args.stream (streams_in c.args.self.now.rows.items) c.hint_of-hint.result
-    (ap (λ l. slice_get (streams_in l) c.hint_of-hint.result) (sym c.as_slice-2.ensures.value) ∙ c.if-is_row_of.ensures))
+    (ap (λ l. slice_get (streams_in l) c.hint_of-hint.result) (sym c.as_slice-2.ensures.value)
+    ∙ c.if-is_row_of.ensures))

@@ -1,5 +1,5 @@
 use Rattle.std.proofs.Common.{ap, arith}
-use Rattle.stop_desk.specs.Desk.{DeskId}
+use Rattle.stop_desk.specs.code.Desk.{DeskId}
 use Rattle.stop_desk.proofs.Names.{same_desk}
 use Rattle.stop_desk.proofs.Steps.{draws}
 use Rattle.stop_desk.proofs.passes.Pass.claim.Goals as goal

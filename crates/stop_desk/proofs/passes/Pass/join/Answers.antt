@@ -1,5 +1,5 @@
 use Rattle.std.proofs.Common.{ap, ◌∙◌}
-use Rattle.stop_desk.specs.Desk.{DeskId}
+use Rattle.stop_desk.specs.code.Desk.{DeskId}
 use Rattle.stop_desk.proofs.Names.{same_desk}
 use Rattle.stop_desk.proofs.Steps.{joins, learns}
 use Rattle.stop_desk.proofs.passes.Pass.join.Goals as goal
@@ -15,7 +15,8 @@ join_seat-requires c = (
 
 pub load-requires : goal.load-requires
 load-requires c = (
-  c.join_seat.ensures.0 ∙ ap (λ (d : DeskId). d.table) (same_desk _ _ _ _ c.self.view_is c.requires.desk c.desk.view_is),
+  c.join_seat.ensures.0
+      ∙ ap (λ (d : DeskId). d.table) (same_desk _ _ _ _ c.self.view_is c.requires.desk c.desk.view_is),
   c.desk.invariant.2,
   learns c.desk.inside.table.shared.key _ _ _,
 )

@@ -1,5 +1,5 @@
 use Rattle.std.proofs.Common.{◌+◌, ◌<◌, length, refl, ap, ◌∙◌, arith, sym, subst}
-use Rattle.stop_desk.specs.Desk.{DeskId, DeskView, PassView}
+use Rattle.stop_desk.specs.code.Desk.{DeskId, DeskView, PassView}
 use Rattle.stop_desk.proofs.Names.{same_desk}
 use Rattle.stop_desk.proofs.Steps.{sees}
 use Rattle.stop_desk.proofs.Looking.{looks, look-desk, look-fields}
@@ -7,14 +7,16 @@ use Rattle.stop_desk.proofs.passes.Pass.look.Goals as goal
 
 pub load-word-requires : goal.load-word-requires
 load-word-requires c =
-    let there = subst (λ (d : DeskView). c.args.connection + 1 < length d.id.opened) (sym c.desk.view_is) c.requires.connection in (
+    let there = subst (λ (d : DeskView). c.args.connection + 1 < length d.id.opened)
+    (sym c.desk.view_is) c.requires.connection in (
       ap (λ (d : DeskId). d.table) (same_desk _ _ _ _ c.self.view_is c.requires.desk c.desk.view_is),
       omega (arith, c.desk.invariant.0),
       sees c.desk.inside.table.shared.key _ _ _ _ c.self.invariant.2,
     )
 
 pub invariant_of-self : goal.invariant_of-self
-invariant_of-self c = look-fields _ c.args.connection _ _ _ (c.load-word.ensures.2 c.args.connection refl) c.self.invariant
+invariant_of-self c = look-fields _ c.args.connection _ _ _ (c.load-word.ensures.2 c.args.connection refl)
+    c.self.invariant
 
 pub returns-clause-desk : goal.returns-clause-desk
 returns-clause-desk c =

@@ -1,6 +1,6 @@
 use Rattle.std.proofs.Common.{◌+◌, ◌<◌, length, refl, ap, arith, sym, subst}
-use Rattle.stop_desk.specs.Desk.{DeskId, DeskView}
-use Rattle.stop_desk.specs.Stop.{past_places}
+use Rattle.stop_desk.specs.code.Desk.{DeskId, DeskView}
+use Rattle.stop_desk.specs.code.Stop.{past_places}
 use Rattle.stop_desk.proofs.Names.{same_desk}
 use Rattle.stop_desk.proofs.Steps.{lowers}
 use Rattle.stop_desk.proofs.Looking.{lower-fields, lowered-view}
@@ -9,7 +9,8 @@ use Rattle.stop_desk.proofs.passes.Pass.lower.Goals as goal
 pub fetch_min-requires : goal.fetch_min-requires
 fetch_min-requires c =
     let desk = same_desk _ _ _ _ c.self.view_is c.requires.desk c.desk.view_is in
-    let there = subst (λ (d : DeskView). c.args.connection + 1 < length d.id.opened) (sym c.desk.view_is) c.requires.connection in (
+    let there = subst (λ (d : DeskView). c.args.connection + 1 < length d.id.opened)
+    (sym c.desk.view_is) c.requires.connection in (
       ap (λ (d : DeskId). d.table) desk,
       omega (arith, c.desk.invariant.0),
       lowers c.desk.inside.table.shared.key _ _ _ _ _ c.self.invariant.2
@@ -18,7 +19,8 @@ fetch_min-requires c =
     )
 
 pub invariant_of-self : goal.invariant_of-self
-invariant_of-self c = lower-fields _ c.args.connection _ _ _ (c.fetch_min.ensures.2 c.args.connection refl) c.self.invariant
+invariant_of-self c = lower-fields _ c.args.connection _ _ _ (c.fetch_min.ensures.2 c.args.connection refl)
+    c.self.invariant
 
 pub returns : goal.returns
 returns c = rw (← c.self.view_is, ← c.word-word.ensures)

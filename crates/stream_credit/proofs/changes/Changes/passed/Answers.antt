@@ -1,13 +1,15 @@
-use Rattle.std.proofs.Common.{rules, ◌≡◌, ◌+◌, ◌<◌, ◌≤◌, List, IfOk, Some, None, slice_get, length, drop, ℕ, ◌-◌, ◌*◌, ◌/◌, ◌%◌, Bool, true, false, nat_eq, nat_lt, [], ◌∷◌, ◌++◌, slice_index_or, slice_set, bit_and, bit_or, Fits, w8, w32, w64, Bor, MutBor}
+use Rattle.std.proofs.Common.{rules, ◌≡◌, ◌+◌, ◌<◌, ◌≤◌, List, IfOk, Some, None, slice_get, length, drop, ℕ, ◌-◌, ◌*◌}
+use Rattle.std.proofs.Common.{◌/◌, ◌%◌, Bool, true, false, nat_eq, nat_lt, [], ◌∷◌, ◌++◌, slice_index_or, slice_set}
+use Rattle.std.proofs.Common.{bit_and, bit_or, Fits, w8, w32, w64, Bor, MutBor}
 use Rattle.std.specs.Bool.{OnFalse}
 use Rattle.std.specs.Option.{ForSome}
 use Rattle.audit_terms.specs.declared.items.Change.{Change}
 use Rattle.audit_terms.specs.InForce.{initial_in_force}
-use Rattle.settings_pair.specs.Changes.{AreOrderly}
+use Rattle.settings_pair.specs.code.Changes.{AreOrderly}
 use Rattle.stream_credit.specs.code.Left.{after_each, passed}
 use Rattle.stream_credit.specs.code.QuietStream.{AreFrom, initial_at}
 use Rattle.std.proofs.Common.{sym, ap, ◌∙◌, subst, arith, take}
-use Rattle.settings_pair.specs.Changes.{AreOrderlyFrom}
+use Rattle.settings_pair.specs.code.Changes.{AreOrderlyFrom}
 use Rattle.std.proofs.lemmas.List.{length-take-le}
 use Rattle.std.proofs.lemmas.List.Sorted.{IsPartitionPoint-from_clause}
 use Rattle.audit_terms.specs.declared.items.Change.{Change}
@@ -40,7 +42,8 @@ returns c =
     let fits = subst (λ (cs : List Change). c.args.met ≤ length cs) (sym c.self.view_is) c.requires.met in
     let is = rest-is c.args.met all fits ∙ ap (drop c.args.met) c.self.view_is in
     let orderly = subst (AreOrderlyFrom 0) (sym is) (orderly-drop 0 c.args.met c.args.self.now c.requires.orderly) in
-    let point = IsPartitionPoint-from_clause (λ (change : Change). nat_lt change.number c.args.number) _ _ c.partition_point.ensures.partitioned
+    let point = IsPartitionPoint-from_clause (λ (change : Change). nat_lt change.number c.args.number) _ _
+    c.partition_point.ensures.partitioned
     (orderly-parted 0 c.args.number slice orderly) (λ a r q k. search rules) in
     let taken = (parts-at_point c.args.number c.partition_point.result slice c.partition_point.ensures.bound point).0 in
     let long = length-take-le c.partition_point.result slice c.partition_point.ensures.bound in

@@ -1,18 +1,21 @@
-use Rattle.std.proofs.Common.{rules, ◌≡◌, ℕ, pos, ◌+◌, ◌^◌, ◌<◌, ◌≤◌, ◌∷◌, [], drop, length, true, false, List, OnOk, IfOk, ◌-◌, ◌*◌, ◌/◌, ◌%◌, Bool, nat_eq, nat_lt, ◌++◌, slice_index_or, slice_set, bit_and, bit_or, Fits, w8, w32, w64, Bor, MutBor}
+use Rattle.std.proofs.Common.{rules, ◌≡◌, ℕ, pos, ◌+◌, ◌^◌, ◌<◌, ◌≤◌, ◌∷◌, [], drop, length, true, false, List, OnOk}
+use Rattle.std.proofs.Common.{IfOk, ◌-◌, ◌*◌, ◌/◌, ◌%◌, Bool, nat_eq, nat_lt, ◌++◌, slice_index_or, slice_set, bit_and}
+use Rattle.std.proofs.Common.{bit_or, Fits, w8, w32, w64, Bor, MutBor}
 use Rattle.std.specs.Bool.{OnTrue, OnFalse}
 use Rattle.std.specs.Option.{ForSome}
 use Rattle.audit_terms.specs.declared.frames.Frame.{Frame as FrameTerm}
 use Rattle.audit_terms.specs.declared.items.Change.{Change as ChangeTerm}
 use Rattle.audit_terms.specs.declared.sides.Sides.{Sides as SidesTerm}
-use Rattle.audit_terms.specs.runs.Orderly.{IsOrderly, IsInRange}
-use Rattle.settings_pair.specs.Changes.{AreOrderly, AreAcknowledged}
-use Rattle.stream_credit.specs.Looks.{is_live}
+use Rattle.audit_terms.specs.code.runs.Orderly.{IsOrderly, IsInRange}
+use Rattle.settings_pair.specs.code.Changes.{AreOrderly, AreAcknowledged}
+use Rattle.stream_credit.specs.code.Looks.{is_live}
 use Rattle.audit_terms.specs.code.Room.{HasRoom}
-use Rattle.stream_credit.specs.code.QuietStream.{AreFrom, IsAhead, IsAheadIfQuiet, IsCreditOf, IsMovedBy, IsNext, IsPassed, ShowsNothing, StartsAt, opened_of, stream_of, window_of}
+use Rattle.stream_credit.specs.code.QuietStream.{AreFrom, IsAhead, IsAheadIfQuiet, IsCreditOf, IsMovedBy, IsNext}
+use Rattle.stream_credit.specs.code.QuietStream.{IsPassed, ShowsNothing, StartsAt, opened_of, stream_of, window_of}
 use Rattle.stream_credit.specs.code.Quiet.{IsRaised}
 use Rattle.std.proofs.Common.{Some, ap, ◌∙◌, subst, arith}
 use Rattle.std.proofs.lemmas.Option.{slice_get_within}
-use Rattle.audit_terms.specs.runs.Streams.{initial_after}
+use Rattle.audit_terms.specs.code.runs.Streams.{initial_after}
 use Rattle.stream_credit.proofs.QuietStreams.{few-changes, ahead-change}
 use Rattle.stream_credit.proofs.quiet_streams.QuietStream.meet_each.Goals as goal
 
@@ -60,7 +63,8 @@ loop-change-preserved c =
     (c.loop-change.invariant stream all rest s h) s (c.before-in-loop-change.ensures.change change c.in-Some.is)
     (c.before-in-loop-change.ensures.below change c.in-Some.is)
     (c.initial_after.ensures ∙ ap (initial_after (Some change)) c.initial_at-initial.ensures)
-    (subst (λ (before : SidesTerm ℕ). IsPassed before c.initial_after.result old c.meet_change.new.self) c.initial_at-initial.ensures
+    (subst (λ (before : SidesTerm ℕ). IsPassed before c.initial_after.result old c.meet_change.new.self)
+    c.initial_at-initial.ensures
     c.if-not-meet_change.ensures)
 
 -- src/quiet_streams.rt:205:5

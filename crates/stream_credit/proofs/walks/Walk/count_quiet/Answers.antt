@@ -6,11 +6,13 @@ use Rattle.stream_credit.proofs.walks.Walk.count_quiet.Goals as goal
 
 pub moved_quietly-requires-clause-client : goal.moved_quietly-requires-clause-client
 moved_quietly-requires-clause-client c =
-    room-wide c.args.frame.now.number c.args.self.now.entry.window.client (let n = c.requires.numbered in omega arith) (c.requires.room Client)
+    room-wide c.args.frame.now.number c.args.self.now.entry.window.client (let n = c.requires.numbered in omega arith)
+    (c.requires.room Client)
 
 pub moved_quietly-requires-clause-server : goal.moved_quietly-requires-clause-server
 moved_quietly-requires-clause-server c =
-    room-wide c.args.frame.now.number c.args.self.now.entry.window.server (let n = c.requires.numbered in omega arith) (c.requires.room Server)
+    room-wide c.args.frame.now.number c.args.self.now.entry.window.server (let n = c.requires.numbered in omega arith)
+    (c.requires.room Server)
 
 pub returns-clause-counted : goal.returns-clause-counted
 returns-clause-counted c =
@@ -20,6 +22,7 @@ returns-clause-counted c =
 
 pub returns-clause-room : goal.returns-clause-room
 returns-clause-room c =
-    quiet-fits c.args.self.now.stream c.args.self.now.entry c.args.frame.now c.in-Some.one c.in-Some-moved_quietly.windows
+    quiet-fits c.args.self.now.stream c.args.self.now.entry c.args.frame.now c.in-Some.one
+    c.in-Some-moved_quietly.windows
     (c.in-Some.ensures c.in-Some.one refl)
     (c.in-Some-moved_quietly.ensures c.in-Some-moved_quietly.windows refl) c.requires.room

@@ -6,16 +6,20 @@ use Rattle.stream_credit.proofs.walks.Walk.count_silent.Goals as goal
 
 pub moved-next_client-requires : goal.moved-next_client-requires
 moved-next_client-requires c =
-    room-wide c.args.step.now.number c.args.self.now.entry.window.client (let n = c.requires.numbered in omega arith) (c.requires.room Client)
+    room-wide c.args.step.now.number c.args.self.now.entry.window.client (let n = c.requires.numbered in omega arith)
+    (c.requires.room Client)
 
 pub moved-next_server-requires : goal.moved-next_server-requires
 moved-next_server-requires c =
-    room-wide c.args.step.now.number c.args.self.now.entry.window.server (let n = c.requires.numbered in omega arith) (c.requires.room Server)
+    room-wide c.args.step.now.number c.args.self.now.entry.window.server (let n = c.requires.numbered in omega arith)
+    (c.requires.room Server)
 
 pub returns-clause-counted : goal.returns-clause-counted
 returns-clause-counted c =
-    silent-counted c.args.self.now c.args.step.now c.initial_after-initial.result c.moved-next_client.result c.moved-next_server.result
-    c.if-self.false (sym c.is_some.ensures ∙ c.if-is_some.false) c.initial_after-initial.ensures c.moved-next_client.ensures.moved
+    silent-counted c.args.self.now c.args.step.now c.initial_after-initial.result c.moved-next_client.result
+    c.moved-next_server.result
+    c.if-self.false (sym c.is_some.ensures ∙ c.if-is_some.false) c.initial_after-initial.ensures
+    c.moved-next_client.ensures.moved
     c.moved-next_server.ensures.moved c.if-not-is_silent.ensures c.if-not-is_silent-2.ensures
 
 pub returns-clause-room : goal.returns-clause-room

@@ -3,7 +3,8 @@ use Rattle.stream_credit.proofs.walks.Walk.meet.Goals as goal
 
 pub returns-then-not-goes_on-clause-stops : goal.returns-then-not-goes_on-clause-stops
 returns-then-not-goes_on-clause-stops g c = λ run.
-    step-stops g.L.Look.answers run c.args.look.now c.goes_on.new.look c.args.self.now c.goes_on.new.self c.args.step.now
+    step-stops g.L.Look.answers run c.args.look.now c.goes_on.new.look c.args.self.now c.goes_on.new.self
+    c.args.step.now
     c.if-not-goes_on.ensures.kept c.if-not-goes_on.ensures.stops c.requires.met
 
 pub count-requires-clause-room : goal.count-requires-clause-room
@@ -13,6 +14,7 @@ count-requires-clause-room g c =
 
 pub returns-clause-goes_on : goal.returns-clause-goes_on
 returns-clause-goes_on g c = λ run.
-    step-on g.L.Look.answers run c.args.look.now c.goes_on.new.look c.args.self.now c.goes_on.new.self c.count.new.self c.args.step.now
+    step-on g.L.Look.answers run c.args.look.now c.goes_on.new.look c.args.self.now c.goes_on.new.self c.count.new.self
+    c.args.step.now
     c.if-not-goes_on.ensures.kept c.if-not-goes_on.ensures.goes_on
     c.in_ok-count.ensures.counted c.in_ok-count.ensures.room c.requires.met

@@ -1,6 +1,7 @@
 use Rattle.std.proofs.lemmas.Bool.{OnTrue_at, OnFalse_at}
 use Rattle.stream_credit.specs.code.Merged.{merged}
-use Rattle.stream_credit.proofs.FrameLemmas.{later_changes, goes-tail_both, stops-tail, frame-before, frame-changes, frame-acknowledged, frame-at, frame-meets, frame-sound, frame-in_force}
+use Rattle.stream_credit.proofs.FrameLemmas.{later_changes, goes-tail_both, stops-tail, frame-before, frame-changes}
+use Rattle.stream_credit.proofs.FrameLemmas.{frame-acknowledged, frame-at, frame-meets, frame-sound, frame-in_force}
 use Rattle.stream_credit.proofs.walks.Walk.meet_frame.Goals as goal
 
 pub meet_changes-requires-clause-at : goal.meet_changes-requires-clause-at

@@ -16,7 +16,8 @@ count_frame-requires-clause-room g c =
 
 pub returns-clause-goes_on : goal.returns-clause-goes_on
 returns-clause-goes_on g c = λ run.
-    step-on g.L.Look.answers run c.args.look.now c.goes_on.new.look c.args.self.now c.goes_on.new.self c.count_frame.new.self
+    step-on g.L.Look.answers run c.args.look.now c.goes_on.new.look c.args.self.now c.goes_on.new.self
+    c.count_frame.new.self
     (frame_with c.args.frame.now c.args.change.now)
     c.if-not-goes_on.ensures.kept c.if-not-goes_on.ensures.goes_on
     c.in_ok-count_frame.ensures.counted c.in_ok-count_frame.ensures.room refl

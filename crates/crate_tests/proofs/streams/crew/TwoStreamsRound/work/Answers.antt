@@ -1,7 +1,7 @@
 use Rattle.std.proofs.Common.{◌≡◌, ◌∙◌, sym, ap, subst}
 use Rattle.audit_rounds.proofs.Jobs.{run-heeds}
-use Rattle.stream_credit.specs.Part.{IsPart}
-use Rattle.crate_tests.specs.StreamJobs.{job_of}
+use Rattle.stream_credit.specs.code.Part.{IsPart}
+use Rattle.crate_tests.specs.code.StreamJobs.{job_of}
 use Rattle.crate_tests.proofs.StreamCuts.{stream-cut, first-of, second-of}
 use Rattle.crate_tests.proofs.streams.crew.TwoStreamsRound.work.Goals as goal
 use Rattle.crate_tests.proofs.streams.crew.TwoStreamsRound.work.Goals.{then-job-eq0, else-job-eq0}

@@ -1,0 +1,10 @@
+pub mod Script
+pub mod Stalls
+pub mod StreamUses
+pub mod SingleFaults
+pub mod FrameFaults
+pub mod WindowUses
+pub mod SettingsUses
+pub mod ServerWindows
+pub mod Promises
+pub mod KindTable

@@ -1,0 +1,7 @@
+pub mod Credit
+pub mod LiveWindows
+pub mod Parts
+pub mod Stop
+pub mod Apart
+pub mod Steps
+pub mod Streams

@@ -1,0 +1,5 @@
+pub mod Openings
+pub mod Items
+pub mod Rounds
+pub mod Settling
+pub mod EarlyStop

@@ -1,0 +1,162 @@
+-- Settings that a list of items brings into force, the lengths of its frames, and its promises
+-- (RFC 9113, 4.2, 6.5.2, 6.9, 8.4).
+use Rattle.std.specs.Prelude.{ℕ, min, max, ◌%◌, ◌==◌, Bool, false, ◌&&◌, ◌||◌, if◌then◌else◌, List, [], ◌∷◌, Option}
+use Rattle.std.specs.Prelude.{Some, None, is_none, unwrap_or}
+use Rattle.audit_terms.specs.declared.sides.Side.{Side}
+use Rattle.audit_terms.specs.declared.sides.Side.TheVariants.{Client, Server}
+use Rattle.audit_terms.specs.declared.items.Change.{Change}
+use Rattle.audit_terms.specs.declared.items.Item.{Item}
+use Rattle.audit_terms.specs.Side.{is_side}
+use Rattle.audit_terms.specs.Sides.{side_of, each_side}
+use Rattle.audit_terms.specs.Frame.{grants_nothing, is_server_promise, promised_in}
+use Rattle.audit_terms.specs.Change.{new_limit, new_push}
+use Rattle.conn_scan.specs.declared.latest.Latest.{Latest}
+use Rattle.conn_scan.specs.declared.latest.InForce.{InForce}
+
+-- the greatest frame length that a change brings for side d, if it brings one
+abbrev pub limit_in : Side → Option Change → Option ℕ
+limit_in d None = None
+limit_in d (Some change) = if is_side d change.side then change.max_frame else None
+
+-- ENABLE_PUSH that a change brings for the server, if it brings one
+abbrev pub push_in : Option Change → Option ℕ
+push_in None = None
+push_in (Some change) = if is_side Server change.side then change.push else None
+
+-- the length of side d's frame, 0 of a frame of the other side
+abbrev pub length_by : Side → Item → ℕ
+length_by d item = if is_side d item.frame.side then item.frame.length else 0
+
+-- does an item grant 0 on stream 0?
+abbrev pub grants_zero : Item → Bool
+grants_zero item = grants_nothing Client 0 item.frame || grants_nothing Server 0 item.frame
+
+-- does the server promise an odd stream by an item?
+abbrev pub promises_odd : Item → Bool
+promises_odd item = is_server_promise item.frame && (promised_in item.frame.body % 2 == 1)
+
+-- is the value there, and 0?
+abbrev pub is_zero : Option ℕ → Bool
+is_zero None = false
+is_zero (Some value) = value == 0
+
+-- a value, or the one before it where there is none
+abbrev pub newer : (before later : Option ℕ) → Option ℕ
+newer before None = before
+newer before (Some x) = Some x
+
+-- the lesser of two values that may be there
+abbrev pub lesser : Option ℕ → Option ℕ → Option ℕ
+lesser x None = x
+lesser None (Some y) = Some y
+lesser (Some x) (Some y) = Some (min x y)
+
+-- the last limit that some items bring for side d
+abbrev pub last_limit : Side → List Item → Option ℕ
+last_limit d [] = None
+last_limit d (item ∷ items) = newer (limit_in d item.change) (last_limit d items)
+
+-- the least limit that some items bring for side d
+abbrev pub least_limit : Side → List Item → Option ℕ
+least_limit d [] = None
+least_limit d (item ∷ items) = lesser (limit_in d item.change) (least_limit d items)
+
+-- the last ENABLE_PUSH that some items bring
+abbrev pub last_push : List Item → Option ℕ
+last_push [] = None
+last_push (item ∷ items) = newer (push_in item.change) (last_push items)
+
+-- the length of side d's longest frame, 0 of none
+abbrev pub longest_by : Side → List Item → ℕ
+longest_by d [] = 0
+longest_by d (item ∷ items) = max (length_by d item) (longest_by d items)
+
+-- is there an item that grants 0 on stream 0?
+abbrev pub some_zero_grant : List Item → Bool
+some_zero_grant [] = false
+some_zero_grant (item ∷ items) = grants_zero item || some_zero_grant items
+
+-- does the server promise an odd stream by some item?
+abbrev pub some_odd_promise : List Item → Bool
+some_odd_promise [] = false
+some_odd_promise (item ∷ items) = promises_odd item || some_odd_promise items
+
+-- does the server promise a stream before an item brings ENABLE_PUSH? What an item brings counts after its frame.
+abbrev pub some_early_promise : List Item → Bool
+some_early_promise [] = false
+some_early_promise (item ∷ items) =
+    is_server_promise item.frame || (is_none (push_in item.change) && some_early_promise items)
+
+-- does the server promise a stream while an ENABLE_PUSH of 0 that some item brought is the last?
+abbrev pub some_barred_promise : List Item → Bool
+some_barred_promise [] = false
+some_barred_promise (item ∷ items) =
+    (is_zero (push_in item.change) && some_early_promise items) || some_barred_promise items
+
+-- the summary of some items
+abbrev pub latest_of : List Item → Latest
+latest_of items = record {
+  limit = each_side (λ d. last_limit d items);
+  least = each_side (λ d. least_limit d items);
+  longest = each_side (λ d. longest_by d items);
+  push = last_push items;
+  zero_grant = some_zero_grant items;
+  odd_promise = some_odd_promise items;
+  early_promise = some_early_promise items;
+  barred_promise = some_barred_promise items;
+}
+
+abbrev pub no_item : Latest
+no_item = record {
+  limit = each_side (λ _. None);
+  least = each_side (λ _. None);
+  longest = each_side (λ _. 0);
+  push = None;
+  zero_grant = false;
+  odd_promise = false;
+  early_promise = false;
+  barred_promise = false;
+}
+
+abbrev pub one_item : Item → Latest
+one_item item = record {
+  limit = each_side (λ d. limit_in d item.change);
+  least = each_side (λ d. limit_in d item.change);
+  longest = each_side (λ d. length_by d item);
+  push = push_in item.change;
+  zero_grant = grants_zero item;
+  odd_promise = promises_odd item;
+  early_promise = is_server_promise item.frame;
+  barred_promise = false;
+}
+
+-- the items of one summary, and then those of another
+abbrev pub latest_join : Latest → Latest → Latest
+latest_join a b = record {
+  limit = each_side (λ d. newer (side_of d a.limit) (side_of d b.limit));
+  least = each_side (λ d. lesser (side_of d a.least) (side_of d b.least));
+  longest = each_side (λ d. max (side_of d a.longest) (side_of d b.longest));
+  push = newer a.push b.push;
+  zero_grant = a.zero_grant || b.zero_grant;
+  odd_promise = a.odd_promise || b.odd_promise;
+  early_promise = a.early_promise || (is_none a.push && b.early_promise);
+  barred_promise = (a.barred_promise || b.barred_promise) || (is_zero a.push && b.early_promise);
+}
+
+-- the settings in force after an item
+abbrev pub in_force_after : InForce → Item → InForce
+in_force_after now item = record {
+  limit = each_side (λ d. new_limit item.change d (side_of d now.limit));
+  push = new_push item.change now.push;
+}
+
+-- the settings in force after the items of a summary
+abbrev pub latest_advance : InForce → Latest → InForce
+latest_advance now items = record {
+  limit = each_side (λ d. unwrap_or (side_of d items.limit) (side_of d now.limit));
+  push = unwrap_or items.push now.push;
+}
+
+-- any items fit
+abbrev pub SettingsFit : InForce → List Item → Type 0
+SettingsFit now items = Unit {0}

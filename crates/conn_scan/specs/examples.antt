@@ -1,0 +1,2 @@
+pub mod StallInBlocks
+pub mod ScanSums

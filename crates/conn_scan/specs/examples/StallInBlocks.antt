@@ -1,0 +1,90 @@
+-- A worked example: the client uses up 65,535 bytes of connection credit, is granted 1 byte, and sends 1 byte.
+use Rattle.std.specs.Prelude.{◌≡◌, ℕ, ◌+◌, ◌*◌, pos, Bool, true, false, List, [], ◌∷◌, map, take, drop, None}
+use Rattle.audit_terms.specs.declared.sides.Side.{Side}
+use Rattle.audit_terms.specs.declared.sides.Side.TheVariants.{Client, Server}
+use Rattle.audit_terms.specs.declared.kinds.Kind.TheVariants.{ConnectionStallBegin, ConnectionStallEnd}
+use Rattle.audit_terms.specs.code.Settings.{no_settings}
+use Rattle.audit_terms.specs.declared.frames.Body.{Body}
+use Rattle.audit_terms.specs.declared.frames.Body.TheVariants.{Content, Headers, Settings as SettingsBody, SettingsAck}
+use Rattle.audit_terms.specs.declared.frames.Body.TheVariants.{WindowUpdate}
+use Rattle.audit_terms.specs.declared.frames.Frame.{Frame}
+use Rattle.audit_terms.specs.declared.items.Item.{Item}
+use Rattle.audit_terms.specs.declared.findings.Finding.{Finding}
+use Rattle.audit_terms.specs.FrameType.{data_type, headers_type, settings_type, window_update_type}
+use Rattle.audit_terms.specs.Finding.{finding_at, shown}
+use Rattle.audit_terms.specs.code.runs.Changes.{changes_of}
+use Rattle.audit_terms.specs.Connection.{connection_start}
+use Rattle.audit_terms.specs.code.runs.Blocks.{connection_after_all}
+use Rattle.audit_terms.specs.code.runs.States.{items_of}
+use Rattle.audit_terms.specs.code.runs.Blocks.{block_runs}
+use Rattle.conn_scan.specs.code.Items.{items_with}
+use Rattle.conn_scan.specs.code.Clear.{is_clear}
+
+abbrev pub scripted : ℕ → Side → (code stream length : ℕ) → Body → Frame
+scripted number side code stream length body = record {
+  number = number;
+  side = side;
+  rec = number + 2;
+  nanos = (number + 2) * 1000;
+  code = code;
+  flags = 0;
+  stream = stream;
+  length = length;
+  body = body;
+}
+
+abbrev pub data_frame : (number length : ℕ) → Frame
+data_frame number length = scripted number Client data_type 1 length Content
+
+-- both sides send empty settings and acknowledge them; frames 5 to 9 use up the credit
+abbrev pub stall_script : List Frame
+stall_script =
+    scripted 1 Client settings_type 0 0 (SettingsBody no_settings)
+    ∷ scripted 2 Server settings_type 0 0 (SettingsBody no_settings)
+    ∷ scripted 3 Client settings_type 0 0 SettingsAck ∷ scripted 4 Server settings_type 0 0 SettingsAck
+    ∷ scripted 5 Client headers_type 1 0 Headers
+    ∷ data_frame 6 16384 ∷ data_frame 7 16384 ∷ data_frame 8 16384 ∷ data_frame 9 16383
+    ∷ scripted 10 Server window_update_type 0 4 (WindowUpdate 1) ∷ data_frame 11 1 ∷ []
+
+-- its items: frame 5 opens a stream
+abbrev pub stall_items : List Item
+stall_items = items_with (5 ∷ []) (changes_of stall_script) stall_script
+
+abbrev pub StallItemsFound : Type 0
+StallItemsFound = stall_items ≡ items_of stall_script
+
+-- blocks of one item, and of two
+abbrev pub by_one : List Item → List (List Item)
+by_one items = map (λ item. item ∷ []) items
+
+abbrev pub by_two : List Item → List (List Item)
+by_two [] = []
+by_two (x ∷ []) = (x ∷ []) ∷ []
+by_two (x ∷ y ∷ items) = (x ∷ y ∷ []) ∷ by_two items
+
+-- what blocks show of the connection, without the credits
+abbrev pub shown_of : List (List Item) → List Finding
+shown_of blocks = shown false (block_runs connection_start blocks)
+
+abbrev pub stall_findings : List Finding
+stall_findings =
+    finding_at ConnectionStallBegin 9 0 Client (pos 0) ∷ finding_at ConnectionStallEnd 10 0 Client (pos 1)
+    ∷ finding_at ConnectionStallBegin 11 0 Client (pos 0) ∷ []
+
+abbrev pub StallByOne : Type 0
+StallByOne = shown_of (by_one stall_items) ≡ stall_findings
+
+abbrev pub StallByTwo : Type 0
+StallByTwo = shown_of (by_two stall_items) ≡ stall_findings
+
+abbrev pub StallAtOnce : Type 0
+StallAtOnce = shown_of (stall_items ∷ []) ≡ stall_findings
+
+-- is the item alone, at a place of the script, a clear block?
+abbrev pub is_clear_at : (place : ℕ) → Bool
+is_clear_at place =
+    is_clear (connection_after_all connection_start (take place stall_items)) (take 1 (drop place stall_items))
+
+-- frame 8 alone is clear; frame 10 and frame 11 are not, though credit is there after the one and before the other
+abbrev pub ClearFrames : Type 0
+ClearFrames = (is_clear_at 7 ≡ true) × (is_clear_at 9 ≡ false) × (is_clear_at 10 ≡ false)

@@ -1,0 +1,3 @@
+pub mod Items
+pub mod Blocks
+pub mod Clear

@@ -1,0 +1,5 @@
+pub mod Captured
+pub mod Connections
+pub mod Offsets
+pub mod Bodies
+pub mod Frames
