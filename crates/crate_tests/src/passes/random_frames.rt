@@ -73,11 +73,11 @@ fn script(alloc: Global, state: &mut u64, count: u32) -> Result<Vec<Frame>, Allo
     frames.push(settings(1, Side::Client))?;
     frames.push(settings(2, Side::Server))?;
     for opened in 0..3 {
-        frames.push(headers(3 + opened, Side::Client, 1 + 2 * opened))?;
+        frames.extend_from_slice(&[headers(3 + opened, Side::Client, 1 + 2 * opened)])?;
     }
     frames.push(promise(6, 1, 2))?;
     for at in 0..count {
-        frames.push(random_frame(state, 7 + at))?;
+        frames.extend_from_slice(&[random_frame(state, 7 + at)])?;
     }
     Ok(frames)
 }
