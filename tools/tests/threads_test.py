@@ -47,13 +47,16 @@ def connections(count: int) -> bytes:
 
 ONE_STREAM = capture_of("opened\nC HEADERS 1\nC DATA 1 100\n")
 TWO_STREAMS = capture_of("opened\nC HEADERS 1\nC HEADERS 3\n")
+TWO_LOUD_STREAMS = capture_of("opened\nC HEADERS 1\nC HEADERS 3\nS WINDOW_UPDATE 1 0\nS WINDOW_UPDATE 3 0\n")
 SHORT, LONG, LONGER = pings(3904), pings(4096), pings(20004)
 
 # The words, the capture, and how many threads each way adds beside the one at hand.
 ROWS = [
     ("--workers 2", ONE_STREAM, {"one side's flow": 1}),
     ("--workers 4", ONE_STREAM, {"one side's flow": 1, "room for frames": 1}),
-    ("--workers 2", TWO_STREAMS, {"one side's flow": 1, "one of two groups": 1}),
+    ("--workers 2", TWO_STREAMS, {"one side's flow": 1, "quiet streams are in no group": 0}),
+    ("--workers 2 --frames", TWO_STREAMS, {"one side's flow": 1, "one of two groups": 1}),
+    ("--workers 2", TWO_LOUD_STREAMS, {"one side's flow": 1, "one of two groups": 1}),
     ("--workers 2", SHORT, {"a part ahead, from 256 KiB on": 1, "one side's flow": 1}),
     ("--workers 4 --block 64", SHORT, {
         "a part ahead": 1, "one side's flow": 1, "room for frames": 1, "61 blocks are summed": 3}),
