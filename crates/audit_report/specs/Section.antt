@@ -22,8 +22,7 @@ connection_text k connection flows cut = connection_line k connection cut
     ++ flow_line Server flows.server (tail_of Server cut)
 
 -- of an HTTP/2 connection, which alone is audited, the lines of the findings shown, of the stalls that the findings
--- tell of,
--- and of the audit's end
+-- tell of, and of the audit's end
 abbrev pub findings_text : (credits_shown : Bool) → Cut → List Finding → List ℕ
 findings_text credits_shown (Http2 frames tails) findings = finding_lines credits_shown frames.items findings
     ++ stall_lines (stalls frames.items findings)

@@ -1,5 +1,6 @@
 ghost use Rattle.std.specs.Prelude.{◌≡◌, ◌+◌, ◌<◌, ◌^◌, if◌then◌else◌};
-ghost use Rattle.audit_report.specs.CaptureLine.{is_segment, is_snapped, is_not_ipv4, is_fragment, is_not_tcp, is_refused};
+ghost use Rattle.audit_report.specs.CaptureLine.{is_segment, is_snapped, is_not_ipv4, is_fragment, is_not_tcp};
+ghost use Rattle.audit_report.specs.CaptureLine.{is_refused};
 
 use packet_heads::{Packet, Packets, Skip};
 

@@ -1,5 +1,5 @@
-//! Many short connections go through the rounds in halves, side by side: no part of the work is then left to one thread,
-//! and threads start once.
+//! Many short connections go through the rounds in halves, side by side: no part of the work is then left to one
+//! thread, and threads start once.
 
 ghost use Rattle.std.specs.Prelude.{◌≡◌, ◌<◌, ◌≤◌, ◌++◌, All, IfOk, length, map};
 ghost use Rattle.std.specs.Thread.{IsSync};

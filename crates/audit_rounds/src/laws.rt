@@ -33,7 +33,8 @@ pub fn openings_are_told()
     ensures { OpeningsAreTold }
 {}
 
-/// Where the pass over a front of the frames shows an error of the connection, the pass over all of them shows the same.
+/// Where the pass over a front of the frames shows an error of the connection, the pass over all of them shows the
+/// same.
 pub fn fronts_settle()
     ensures { FrontsSettle }
 {}

@@ -1,6 +1,7 @@
 //! The round in which blocks are summed.
 
-ghost use Rattle.std.specs.Prelude.{◌≡◌, ℕ, ◌-◌, ◌<◌, ◌≤◌, ◌^◌, [], All, IfOk, length, map, slice_get, slice_index_or, Option, Some};
+ghost use Rattle.std.specs.Prelude.{◌≡◌, ℕ, ◌-◌, ◌<◌, ◌≤◌, ◌^◌, [], All, IfOk, length, map, slice_get, slice_index_or};
+ghost use Rattle.std.specs.Prelude.{Option, Some};
 ghost use Rattle.audit_terms.specs.declared.findings.Finding.{Finding as FindingTerm};
 ghost use Rattle.audit_terms.specs.Place.{place_number};
 ghost use Rattle.split_merge.specs.code.Board.{Job, IsCut};

@@ -37,8 +37,7 @@ connection_start = record {
 }
 
 -- what a frame moves the connection credit of side d by: the other side's grants on stream 0, less its own content,
--- whatever
--- the stream (6.9, 6.9.1)
+-- whatever the stream (6.9, 6.9.1)
 abbrev pub credit_moved : Side → Frame → ℤ
 credit_moved d frame = pos (grant_to d 0 frame) -ℤ pos (content_by d frame)
 
@@ -75,7 +74,8 @@ is_length_fatal frame =
 abbrev pub length_said : (limit : ℕ) → Frame → List Finding
 length_said limit frame =
     say (nat_lt limit frame.length)
-    (finding_at (if is_length_fatal frame then TooLong else LongFrame) frame.number frame.stream frame.side (pos frame.length))
+    (finding_at (if is_length_fatal frame then TooLong else LongFrame) frame.number frame.stream frame.side
+    (pos frame.length))
 
 -- a stream that the client opens, not above each one that it opened before (5.1.1)
 abbrev pub opening_order_said : (opened : ℕ) → Item → List Finding
@@ -108,7 +108,8 @@ connection_window_said d before frame =
 -- what a frame shows of both connection windows
 abbrev pub connection_windows_said : Sides ℤ → Frame → List Finding
 connection_windows_said credit frame =
-    connection_window_said Client (side_of Client credit) frame ++ connection_window_said Server (side_of Server credit) frame
+    connection_window_said Client (side_of Client credit) frame
+    ++ connection_window_said Server (side_of Server credit) frame
 
 -- what an item shows of the connection; a frame's length is judged by the limit that its own acknowledgement brings
 abbrev pub connection_said : ConnectionState → Item → List Finding

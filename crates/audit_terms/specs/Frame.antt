@@ -95,7 +95,8 @@ grants_nothing d stream frame = is_side (other d) frame.side && (frame.stream ==
 
 -- endpoint d ends its side of the stream with this DATA or HEADERS (5.1, 6.1, 6.2)
 abbrev pub sends_end : Side → Frame → Bool
-sends_end d frame = is_side d frame.side && (is_content frame.body || is_headers frame.body) && has_flag frame.flags end_stream_flag
+sends_end d frame = is_side d frame.side && (is_content frame.body || is_headers frame.body)
+    && has_flag frame.flags end_stream_flag
 
 -- endpoint d resets the stream (6.4)
 abbrev pub sends_reset : Side → Frame → Bool

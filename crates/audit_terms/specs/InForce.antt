@@ -55,4 +55,5 @@ in_force_after now frame = record {
 -- an acknowledgement with no SETTINGS left to take
 abbrev pub settings_said : InForce → Frame → List Finding
 settings_said now frame =
-    say (is_ack frame.body && is_none (taken now frame)) (finding_at UnmatchedAck frame.number frame.stream frame.side (pos 0))
+    say (is_ack frame.body && is_none (taken now frame))
+    (finding_at UnmatchedAck frame.number frame.stream frame.side (pos 0))

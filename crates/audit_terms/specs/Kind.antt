@@ -11,8 +11,7 @@ use Rattle.audit_terms.specs.declared.kinds.Kind.TheVariants.{StreamStallEnd, St
 use Rattle.audit_terms.specs.declared.kinds.Kind.TheVariants.{StreamCredit}
 
 -- the rank of a kind, and the word that a report prints. Ranks 0 to 12 are connection errors (RFC 9113, 5.4.1), 13 to
--- 20 other
--- faults, 21 to 24 stalls, 25 and 26 credits
+-- 20 other faults, 21 to 24 stalls, 25 and 26 credits
 abbrev pub row_of : Kind → ℕ × List ℕ
 row_of BadPreface = (0, codes "bad-preface")
 row_of BrokenBlock = (1, codes "broken-block")

@@ -15,15 +15,13 @@ abbrev pub idle_life : StreamLife
 idle_life = record { opened = None; ended = each_side (λ _. false) }
 
 -- a stream is opened by the first HEADERS of the client, where its identifier is odd, or by the first promise of the
--- server,
--- where it is even (5.1.1)
+-- server, where it is even (5.1.1)
 abbrev pub is_opening : (stream : ℕ) → StreamLife → Frame → Bool
 is_opening stream life frame =
     is_none life.opened && (((stream % 2 == 1) && is_client_headers frame) || promises stream frame)
 
 -- endpoint d sends nothing more on the stream: its END_STREAM or RST_STREAM (6.1, 6.2, 6.4), and of a promised stream
--- the
--- client never sends (5.1, reserved)
+-- the client never sends (5.1, reserved)
 abbrev pub is_last_of : Side → (stream : ℕ) → Frame → Bool
 is_last_of d stream frame = sends_end d frame || sends_reset d frame || (is_side Client d && promises stream frame)
 
@@ -41,8 +39,7 @@ life_after stream life frame =
     }
 
 -- a promise of the server on a stream on which it can promise nothing: one of its own, one that is not opened, or one
--- that it
--- has ended (6.6)
+-- that it has ended (6.6)
 abbrev pub is_misplaced_promise : (stream : ℕ) → StreamLife → Frame → Bool
 is_misplaced_promise stream life frame =
     is_server_promise frame && (frame.stream == stream)

@@ -56,10 +56,8 @@ pub record WindowStep : Type 0 where
   pub after : Option ℤ  -- the credit after the step, where the window lives on
 
 -- the window of side d at the step, from its credit before it. The step moves it by what is granted to it, less what is
--- sent
--- through it (6.9, 6.9.1), and by the new initial window minus the old (6.9.2). A grant that would bring it above the
--- largest
--- is not added, and ends it (6.9.1), as does a frame that ends it
+-- sent through it (6.9, 6.9.1), and by the new initial window minus the old (6.9.2). A grant that would bring it above
+-- the largest is not added, and ends it (6.9.1), as does a frame that ends it
 abbrev pub window_step : Side → (stream : ℕ) → Sides ℕ → Step → (before : ℤ) → WindowStep
 window_step d stream initial step before =
     let granted = step_amount (grant_to d stream) step in
@@ -131,7 +129,8 @@ abbrev pub stream_window_said : Side → (stream : ℕ) → Sides ℕ → Stream
 stream_window_said d stream initial entry step =
     if opens stream entry step
     then say_of (opened_window_said d stream step) (window_at_opening d stream initial step)
-    else say_of (λ before. live_window_said d stream step (window_step d stream initial step before)) (side_of d entry.window)
+    else say_of (λ before. live_window_said d stream step (window_step d stream initial step before))
+    (side_of d entry.window)
 
 -- what the step shows of the stream
 abbrev pub stream_said : (stream : ℕ) → Sides ℕ → Stream → Step → List Finding

@@ -32,7 +32,8 @@ impl ConnectionState {
     ghost use Rattle.audit_terms.specs.Frame.{content_by};
     ghost use Rattle.audit_terms.specs.code.runs.Orderly.{IsInRange};
     ghost use Rattle.audit_terms.specs.code.Room.{HasRoom};
-    ghost use Rattle.audit_terms.specs.Connection.{connection_start, credit_after, connection_window_said, connection_windows_said};
+    ghost use Rattle.audit_terms.specs.Connection.{connection_start, credit_after, connection_window_said};
+    ghost use Rattle.audit_terms.specs.Connection.{connection_windows_said};
 
     /// The connection before any frame.
     pub fn start() -> Self
@@ -129,11 +130,13 @@ impl ConnectionState {
     }
 
     ghost use Rattle.audit_terms.specs.Change.{new_limit, new_push};
-    ghost use Rattle.audit_terms.specs.Connection.{length_said, push_said, opening_order_said, promise_order_said, connection_said, connection_after, is_opened_by_headers, is_even_promise};
+    ghost use Rattle.audit_terms.specs.Connection.{length_said, push_said, opening_order_said, promise_order_said};
+    ghost use Rattle.audit_terms.specs.Connection.{connection_said, connection_after, is_opened_by_headers};
+    ghost use Rattle.audit_terms.specs.Connection.{is_even_promise};
 
     /// Adds what an item shows of the connection: its length, a promise that is not allowed, the order of openings and
-    /// promises, both connection windows; and brings the connection to its state after the item. Without memory the state
-    /// is as it was, and some findings may have been added.
+    /// promises, both connection windows; and brings the connection to its state after the item. Without memory the
+    /// state is as it was, and some findings may have been added.
     pub fn meet(&mut self, found: &mut Vec<Finding>, item: &Item) -> Result<(), AllocError>
         requires frame { IsInRange item.now.frame }
         requires client { HasRoom (2 ^ 60) self.old.credit.client }
@@ -203,7 +206,8 @@ ghost use Rattle.audit_terms.specs.Frame.{promised_in};
 ghost use Rattle.audit_terms.specs.code.runs.Orderly.{IsInRange};
 ghost use Rattle.audit_terms.specs.Sides.{side_of, each_side};
 ghost use Rattle.audit_terms.specs.Change.{new_limit, new_push};
-ghost use Rattle.audit_terms.specs.Connection.{is_length_fatal, length_said, push_said, opening_order_said, promise_order_said, is_opened_by_headers};
+ghost use Rattle.audit_terms.specs.Connection.{is_length_fatal, length_said, push_said, opening_order_said};
+ghost use Rattle.audit_terms.specs.Connection.{promise_order_said, is_opened_by_headers};
 
 /// Is it a HEADERS that opens its stream?
 fn is_opened_by_headers(item: &Item) -> bool

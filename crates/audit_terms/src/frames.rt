@@ -55,7 +55,8 @@ pub enum Body {
 }
 
 impl Body {
-    ghost use Rattle.audit_terms.specs.Frame.{is_content, is_headers, is_reset, is_ack, is_update, increment, is_zero_grant, is_promise, promised_in};
+    ghost use Rattle.audit_terms.specs.Frame.{is_content, is_headers, is_reset, is_ack, is_update, increment};
+    ghost use Rattle.audit_terms.specs.Frame.{is_zero_grant, is_promise, promised_in};
 
     pub fn is_content(&self) -> bool
         ensures { result ≡ is_content self.now }
@@ -146,7 +147,9 @@ pub struct Frame {
 const _: () = prove!(size_of::<Frame>() == 40);
 
 impl Frame {
-    ghost use Rattle.audit_terms.specs.Frame.{content_by, grant_to, grants_nothing, sends_end, sends_reset, is_server_promise, is_client_headers, promises, promised_by, meets, needs_opening};
+    ghost use Rattle.audit_terms.specs.Frame.{content_by, grant_to, grants_nothing, sends_end, sends_reset};
+    ghost use Rattle.audit_terms.specs.Frame.{is_server_promise, is_client_headers, promises, promised_by, meets};
+    ghost use Rattle.audit_terms.specs.Frame.{needs_opening};
     ghost use Rattle.audit_terms.specs.Life.{is_last_of, ends_window};
 
     /// The flow-controlled length in bytes that a side sends with this frame (RFC 9113, 6.9.1): all of a DATA frame,

@@ -34,7 +34,8 @@ pub enum Kind {
 }
 
 impl Kind {
-    ghost use Rattle.audit_terms.specs.Kind.{rank_of, is_connection_error, is_fault, begins_stall, ends_stall, is_credit, kind_name};
+    ghost use Rattle.audit_terms.specs.Kind.{rank_of, is_connection_error, is_fault, begins_stall, ends_stall};
+    ghost use Rattle.audit_terms.specs.Kind.{is_credit, kind_name};
 
     /// The rank, from 0 to 26. Findings of one frame stand in order of rank.
     pub fn rank(self) -> u8

@@ -15,7 +15,8 @@ pub struct StreamLife {
 impl StreamLife {
     ghost use Rattle.std.specs.Prelude.{◌&&◌, ◌||◌, is_some};
     ghost use Rattle.audit_terms.specs.Sides.{side_of};
-    ghost use Rattle.audit_terms.specs.Life.{idle_life, is_opening, is_last_of, life_after, is_misplaced_promise, is_not_opened, is_after_end};
+    ghost use Rattle.audit_terms.specs.Life.{idle_life, is_opening, is_last_of, life_after, is_misplaced_promise};
+    ghost use Rattle.audit_terms.specs.Life.{is_not_opened, is_after_end};
 
     /// A stream that no frame has met.
     pub fn idle() -> Self
@@ -30,8 +31,8 @@ impl StreamLife {
         }
     }
 
-    /// Does the frame open the stream? The first HEADERS of the client opens one of an odd identifier, the first promise
-    /// of the server one of an even identifier (RFC 9113, 5.1.1).
+    /// Does the frame open the stream? The first HEADERS of the client opens one of an odd identifier, the first
+    /// promise of the server one of an even identifier (RFC 9113, 5.1.1).
     pub fn is_opening(&self, stream: u32, frame: &Frame) -> bool
         ensures { result ≡ is_opening stream self.now frame.now }
     {
@@ -60,7 +61,8 @@ impl StreamLife {
     /// Has a side ended the stream after a frame? Only an opened stream ends.
     fn ended_after(&self, side: Side, stream: u32, frame: &Frame) -> bool
         ensures { result ≡ (side_of side self.now.ended
-            || ((is_opening stream self.now frame.now || is_some self.now.opened) && is_last_of side stream frame.now)) }
+            || ((is_opening stream self.now frame.now || is_some self.now.opened)
+            && is_last_of side stream frame.now)) }
     {
         self.ended.of(side)
             || ((self.is_opening(stream, frame) || self.opened.is_some())

@@ -1,6 +1,8 @@
 ghost use Rattle.std.specs.Prelude.{◌≡◌, ℕ, ◌^◌, ◌<◌, ◌++◌, OnOk};
 ghost use Rattle.audit_terms.specs.code.runs.Orderly.{IsInRange};
-ghost use Rattle.audit_terms.specs.LocalFault.{is_settings, leaves_block_open, breaks_block, needs_stream, needs_connection, is_on_wrong_stream, reading_fault, body_said, local_said, previous_after};
+ghost use Rattle.audit_terms.specs.LocalFault.{is_settings, leaves_block_open, breaks_block, needs_stream};
+ghost use Rattle.audit_terms.specs.LocalFault.{needs_connection, is_on_wrong_stream, reading_fault, body_said};
+ghost use Rattle.audit_terms.specs.LocalFault.{local_said, previous_after};
 
 use crate::findings::{Finding, say_if};
 use crate::frames::{

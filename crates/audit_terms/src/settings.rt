@@ -36,7 +36,8 @@ impl Settings {
 /// Settings as a frame keeps them, in 13 bytes: a connection has many frames. A contract sees the settings.
 #[derive(Clone, Copy)]
 pub struct PackedSettings {
-    /// Which of the words below hold a value, in three bits; before them one more than the identifier out of range, or 0.
+    /// Which of the words below hold a value, in three bits; before them one more than the identifier out of range, or
+    /// 0.
     marks: u8,
     push: Word,
     initial: Word,

@@ -1,10 +1,12 @@
-ghost use Rattle.std.specs.Prelude.{◌≡◌, ℕ, ◌+◌, ◌-◌, ◌^◌, ◌<◌, ◌≤◌, ◌++◌, pos, neg_ℤ, ◌≤ℤ◌, ◌+ℤ◌, ◌-ℤ◌, if◌then◌else◌, IfOk, OnOk};
+ghost use Rattle.std.specs.Prelude.{◌≡◌, ℕ, ◌+◌, ◌-◌, ◌^◌, ◌<◌, ◌≤◌, ◌++◌, pos, neg_ℤ, ◌≤ℤ◌, ◌+ℤ◌, ◌-ℤ◌, if◌then◌else◌};
+ghost use Rattle.std.specs.Prelude.{IfOk, OnOk};
 ghost use Rattle.std.specs.Option.{ForSome};
 ghost use Rattle.audit_terms.specs.Sides.{side_of};
 ghost use Rattle.audit_terms.specs.Change.{new_initial};
 ghost use Rattle.audit_terms.specs.Finding.{say_of};
 ghost use Rattle.audit_terms.specs.Frame.{content_by};
-ghost use Rattle.audit_terms.specs.Stream.{step_amount, window_after, window_at_opening, window_step, live_window_said, opened_window_said};
+ghost use Rattle.audit_terms.specs.Stream.{step_amount, window_after, window_at_opening, window_step, live_window_said};
+ghost use Rattle.audit_terms.specs.Stream.{opened_window_said};
 ghost use Rattle.audit_terms.specs.code.runs.Streams.{IsAcknowledged, initial_after};
 ghost use Rattle.audit_terms.specs.code.StreamSteps.{counted, is_overflowing_grant, window_ends};
 ghost use Rattle.audit_terms.specs.code.Room.{HasRoom, WindowHasRoom};
@@ -57,8 +59,10 @@ pub fn say_window(
     requires acknowledged { IsAcknowledged step.now }
     requires room { WindowHasRoom (2 ^ 60) window.old }
     ensures said { OnOk result (found.new.items ≡ found.old.items
-        ++ (if opens then say_of (opened_window_said side stream step.now) (window_at_opening side stream initial.now step.now)
-        else say_of (λ before. live_window_said side stream step.now (window_step side stream initial.now step.now before))
+        ++ (if opens
+        then say_of (opened_window_said side stream step.now) (window_at_opening side stream initial.now step.now)
+        else say_of
+        (λ before. live_window_said side stream step.now (window_step side stream initial.now step.now before))
         window.old)) }
     ensures window { OnOk result (window.new
         ≡ (if opens then window_at_opening side stream initial.now step.now
@@ -145,7 +149,8 @@ fn say_live(
         ≡ found.old.items
         ++ live_window_said side stream step.now (window_step side stream initial.now step.now before.now)) }
     ensures window { IfOk result (λ after. after ≡ window_after side stream initial.now step.now (Some before.now)) }
-    ensures room { IfOk result (λ after. (bound : ℕ) → HasRoom bound before.now → WindowHasRoom (bound + 2 ^ 32) after) }
+    ensures room { IfOk result
+        (λ after. (bound : ℕ) → HasRoom bound before.now → WindowHasRoom (bound + 2 ^ 32) after) }
 {
     let live = LiveStep::of(side, stream, initial, step, before);
     live.say_faults(found, side, stream, step)?;
@@ -174,7 +179,8 @@ impl LiveStep {
     ghost use Rattle.audit_terms.specs.Window.{overflows, overruns};
     ghost use Rattle.audit_terms.specs.Finding.{finding_at, say};
     ghost use Rattle.audit_terms.specs.Stream.{stream_finding};
-    ghost use Rattle.audit_terms.specs.declared.kinds.Kind.TheVariants.{SettingOverflow, StreamOverrun, StreamOverflow, StreamStallEnd, StreamStallBegin, StreamCredit};
+    ghost use Rattle.audit_terms.specs.declared.kinds.Kind.TheVariants.{SettingOverflow, StreamOverrun, StreamOverflow};
+    ghost use Rattle.audit_terms.specs.declared.kinds.Kind.TheVariants.{StreamStallEnd, StreamStallBegin, StreamCredit};
     ghost use Rattle.std.specs.Ordering.{int_eq};
 
     fn of(side: Side, stream: u32, initial: &Sides<u32>, step: &Step, before: &i64) -> Self

@@ -9,7 +9,8 @@ use std::thread::{JoinHandle, Threads, spawn};
 /// as to read into it.
 const MAKERS: usize = 4;
 
-/// The bytes of a page of memory, which is what a system hands out at a time. Where pages are larger, some writes are idle.
+/// The bytes of a page of memory, which is what a system hands out at a time. Where pages are larger, some writes are
+/// idle.
 const PAGE: usize = 4096;
 
 /// Makes parts ahead, each by a thread of its own, beside the thread that reads.

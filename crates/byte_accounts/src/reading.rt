@@ -33,7 +33,8 @@ pub fn keep_up_to<T: Threads, R: Read>(
     ensures front { take (length (kept reader.old)) (kept reader.new) ≡ kept reader.old }
     ensures whole { OnOk result (reader.new.has_ended ≡ false → length (kept reader.new) ≡ limit) }
     ensures end { OnOk result (reader.new.has_ended ≡ true → IsAtEnd (R.remaining reader.new.reader)) }
-    ensures bytes { OnOk result ((before : Option (List _)) → HasConsumed before (R.remaining reader.old.reader) reader.old
+    ensures bytes { OnOk result ((before : Option (List _))
+        → HasConsumed before (R.remaining reader.old.reader) reader.old
         → HasConsumed before (R.remaining reader.new.reader) reader.new) }
     ensures err { IfErr result (λ e. IsReadingFault e reader.new) }
 {
@@ -64,7 +65,8 @@ pub fn keep_and_walk<T: Threads, R: Read>(
     ensures front { take (length (kept reader.old)) (kept reader.new) ≡ kept reader.old }
     ensures whole { OnOk result (reader.new.has_ended ≡ false → length (kept reader.new) ≡ 2 ^ 31) }
     ensures end { OnOk result (reader.new.has_ended ≡ true → IsAtEnd (R.remaining reader.new.reader)) }
-    ensures bytes { OnOk result ((before : Option (List _)) → HasConsumed before (R.remaining reader.old.reader) reader.old
+    ensures bytes { OnOk result ((before : Option (List _))
+        → HasConsumed before (R.remaining reader.old.reader) reader.old
         → HasConsumed before (R.remaining reader.new.reader) reader.new) }
     ensures walk { OnOk result (IsWalkIn (kept reader.new) walk.new) }
     ensures err { IfErr result (λ e. IsReadingFault e reader.new) }
@@ -87,7 +89,8 @@ pub fn pass_over<R: Read>(reader: &mut CaptureReader<R>) -> Result<(), ReadFault
     ensures whole { OnOk result (reader.new.has_ended ≡ false
         → length (kept reader.new) + reader.new.passed ≡ 2 ^ 31) }
     ensures end { OnOk result (reader.new.has_ended ≡ true → IsAtEnd (R.remaining reader.new.reader)) }
-    ensures bytes { OnOk result ((before : Option (List _)) → HasConsumed before (R.remaining reader.old.reader) reader.old
+    ensures bytes { OnOk result ((before : Option (List _))
+        → HasConsumed before (R.remaining reader.old.reader) reader.old
         → HasConsumed before (R.remaining reader.new.reader) reader.new) }
     ensures err { IfErr result (λ e. IsReadingFault e reader.new) }
 {

@@ -83,7 +83,8 @@ impl<W: Write> ReportWriter<W> {
         requires some { self.old.written < vec_len self.old.text }
         requires unfailed { self.old.has_failed ≡ false }
         requires unflushed { self.old.is_flushed ≡ false }
-        ensures ok { IfOk result (λ n. self.new ≡ record self.old { writer = self.new.writer; written = self.old.written + n }) }
+        ensures ok { IfOk result
+            (λ n. self.new ≡ record self.old { writer = self.new.writer; written = self.old.written + n }) }
         ensures bound { IfOk result (λ n. (0 < n) × (self.old.written + n ≤ vec_len self.old.text)) }
         ensures bytes { IfOk result (λ n. Appends (W.contents self.old.writer) (W.contents self.new.writer)
             (take n (drop self.old.written self.old.text.items))) }

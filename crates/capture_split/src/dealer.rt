@@ -1,6 +1,7 @@
 //! Which bytes go to which part.
 
-ghost use Rattle.std.specs.Prelude.{◌≡◌, ◌+◌, ◌-◌, ◌<◌, ◌≤◌, ◌^◌, ℕ, List, [], ◌++◌, false, length, min, take, drop, IfOk, IfSome, OnOk, IsTrue};
+ghost use Rattle.std.specs.Prelude.{◌≡◌, ◌+◌, ◌-◌, ◌<◌, ◌≤◌, ◌^◌, ℕ, List, [], ◌++◌, false, length, min, take, drop};
+ghost use Rattle.std.specs.Prelude.{IfOk, IfSome, OnOk, IsTrue};
 ghost use Rattle.std.specs.Bool.{Decides};
 ghost use Rattle.byteorder.specs.Endian.{big_bytes};
 ghost use Rattle.pcap_records.specs.FileHeader.{format_of, link_of, number_of};
@@ -43,7 +44,8 @@ impl Dealer {
     pub fn behind(header: &[u8]) -> Dealer
         requires { 24 ≤ length header.now }
         ensures order { IfSome (format_of header.now) (λ format. order_of result.is_little ≡ number_of format.endian) }
-        ensures link { IfSome (format_of header.now) (λ format. result.link ≡ link_of (number_of format.endian) header.now) }
+        ensures link { IfSome (format_of header.now)
+            (λ format. result.link ≡ link_of (number_of format.endian) header.now) }
         ensures number { result.number ≡ 0 }
         ensures part { result.part ≡ 0 }
         ensures left { result.left ≡ 0 }
@@ -155,7 +157,8 @@ impl Dealer {
         ensures same { (self.new.link ≡ self.old.link) × (self.new.is_little ≡ self.old.is_little) }
         ensures count { IfOk result (λ n. n ≡ min self.old.left (length unread.now)) }
         ensures left { IfOk result (λ n. self.new ≡ record self.old { left = self.old.left - n }) }
-        ensures grows { IfOk result (λ n. OneGrows W.contents parts.old parts.new self.old.part (take n unread.now) []) }
+        ensures grows { IfOk result
+            (λ n. OneGrows W.contents parts.old parts.new self.old.part (take n unread.now) []) }
     {
         let count = self.left.min(unread.len() as u64) as usize;
         give(parts, self.part, &unread[..count], self.pair)?;

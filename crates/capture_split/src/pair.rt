@@ -82,7 +82,10 @@ fn header_length(datagram: &[u8]) -> usize
 fn sender(datagram: &[u8], segment: &[u8]) -> Endpoint
     requires datagram { 20 ≤ length datagram.now }
     requires segment { 4 ≤ length segment.now }
-    ensures { result ≡ record { address = ipv4_words.source_address datagram.now; port = tcp_words.source_port segment.now } }
+    ensures { result ≡ record {
+      address = ipv4_words.source_address datagram.now;
+      port = tcp_words.source_port segment.now;
+    } }
 {
     Endpoint {
         address: BigEndian::read_u32(&datagram[12..]),
@@ -94,7 +97,10 @@ fn sender(datagram: &[u8], segment: &[u8]) -> Endpoint
 fn receiver(datagram: &[u8], segment: &[u8]) -> Endpoint
     requires datagram { 20 ≤ length datagram.now }
     requires segment { 4 ≤ length segment.now }
-    ensures { result ≡ record { address = ipv4_words.destination_address datagram.now; port = tcp_words.destination_port segment.now } }
+    ensures { result ≡ record {
+      address = ipv4_words.destination_address datagram.now;
+      port = tcp_words.destination_port segment.now;
+    } }
 {
     Endpoint {
         address: BigEndian::read_u32(&datagram[16..]),

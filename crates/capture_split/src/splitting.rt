@@ -77,7 +77,8 @@ pub fn split_last<R: Read, W: Write + Drop>(
     Ok(())
 }
 
-/// Deals a file of a capture behind which another one comes, from behind its header on. It has to end with a whole record.
+/// Deals a file of a capture behind which another one comes, from behind its header on. It has to end with a whole
+/// record.
 pub fn split_file<R: Read, W: Write + Drop>(
     dealer: &mut Dealer,
     reader: &mut R,

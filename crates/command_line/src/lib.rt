@@ -4,8 +4,8 @@
 //! audit with its [`Options`], help, the version or why the words are refused. [`Options`] refuses numbers out of
 //! range. [`laws::known_words`] computes seven command lines.
 //!
-//! A wrong body that the prover refuses: the path of the capture left out. Tested, in `tests/` at the root: the texts of help
-//! and of refused words.
+//! A wrong body that the prover refuses: the path of the capture left out. Tested, in `tests/` at the root: the texts
+//! of help and of refused words.
 #![tactic(auto)]
 
 mod command;

@@ -32,9 +32,9 @@ pub struct BlockRun {
     pub looks: u32,
 }
 
-/// What a block of frames shows of its connection, from the state before it, up to where `look` says that the connection
-/// stops: over-long frames, promises that are not allowed, openings out of order, and what becomes of both connection
-/// windows (RFC 9113, 4.2, 5.1.1, 6.9, 8.4). Credits are left out unless they are shown.
+/// What a block of frames shows of its connection, from the state before it, up to where `look` says that the
+/// connection stops: over-long frames, promises that are not allowed, openings out of order, and what becomes of both
+/// connection windows (RFC 9113, 4.2, 5.1.1, 6.9, 8.4). Credits are left out unless they are shown.
 pub fn block_findings<L: Look>(
     alloc: Global,
     before: &ConnectionState,
@@ -87,7 +87,8 @@ fn goes_on<L: Look>(watch: &mut Watch, look: &mut L, found: &[Finding], item: &I
     ensures stops { OnFalse result ((start : L) (whole : List FindingTerm) (met left : List ℕ)
         → found.now ≡ found_before item.now.frame.number whole
         → Watches L.answers start look.old whole met (item.now.frame.number ∷ left) watch.old
-        → IsStopped L.answers start look.new whole (met ++ item.now.frame.number ∷ left) item.now.frame.number watch.new) }
+        → IsStopped L.answers start look.new whole
+        (met ++ item.now.frame.number ∷ left) item.now.frame.number watch.new) }
 {
     watch.goes_on(look, found, item.frame.number)
 }

@@ -36,8 +36,8 @@ const CLIENT_INITIAL: u32 = 1000;
 
 const SERVER_INITIAL: u32 = 5000;
 
-/// A capture that grows record by record; each side keeps the sequence number of its next byte. An `Err` leaves a capture
-/// that may end within a record.
+/// A capture that grows record by record; each side keeps the sequence number of its next byte. An `Err` leaves a
+/// capture that may end within a record.
 #[derive(Drop)]
 pub struct Capture {
     alloc: Global,
@@ -60,8 +60,8 @@ impl Capture {
         })
     }
 
-    /// Records 1 to 6: the handshake; the client's preface and SETTINGS (frame 1); the server's SETTINGS (frame 2); their
-    /// acknowledgements by the client (frame 3) and the server (frame 4).
+    /// Records 1 to 6: the handshake; the client's preface and SETTINGS (frame 1); the server's SETTINGS (frame 2);
+    /// their acknowledgements by the client (frame 3) and the server (frame 4).
     pub fn opened(alloc: Global) -> Result<Capture, AllocError> {
         let mut capture = Capture::new(alloc)?;
         capture.syn(CLIENT_INITIAL)?;

@@ -7,16 +7,15 @@
 //! where its answer changes, padding, values of settings at the ends of their ranges, the preface, frame headers,
 //! capture order.
 //!
-//! What is left for tests are calls, of single crates and of runs: calls that take memory once each where there is memory,
-//! and printed text. `assemble` beside a slow program over random segments; `findings_of_each` beside `one_pass` over random
-//! frames; two passes over one desk; when runs look, with
-//! a stop and without; that a later job sees the stop which an earlier one lowered, that two workers are in one round at
-//! once, and how many jobs each round has; readers and writers that go in steps or fail; the texts of faults; and calls that
-//! whole reports do not reach, once each. What the program answers to words and to whole captures is asked of the program,
-//! in `tests/` at the root.
+//! What is left for tests are calls, of single crates and of runs: calls that take memory once each where there is
+//! memory, and printed text. `assemble` beside a slow program over random segments; `findings_of_each` beside
+//! `one_pass` over random frames; two passes over one desk; when runs look, with a stop and without; that a later job
+//! sees the stop which an earlier one lowered, that two workers are in one round at once, and how many jobs each round
+//! has; readers and writers that go in steps or fail; the texts of faults; and calls that whole reports do not reach,
+//! once each. What the program answers to words and to whole captures is asked of the program, in `tests/` at the root.
 //!
-//! All tests are one program, since each crate above the libraries takes them anew, to prove and to build. Test functions
-//! of the language would be one more.
+//! All tests are one program, since each crate above the libraries takes them anew, to prove and to build. Test
+//! functions of the language would be one more.
 #![tactic(auto)]
 
 mod answer;

@@ -40,7 +40,8 @@ pub fn local_faults(
         .into_par_iter()
         .map(
             |n: usize| -> Result<Vec<Finding>, AllocError>
-                requires { (n < length befores.now) × All IsInRange frames.now × AreBefores size frames.now befores.now }
+                requires { (n < length befores.now) × All IsInRange frames.now
+                    × AreBefores size frames.now befores.now }
                 ensures { IfOk result (λ said. said.items ≡ piece_run size frames.entry.now n) }
             { faults_of_piece(alloc, size, frames, befores, n) },
         )

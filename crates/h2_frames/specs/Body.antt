@@ -34,13 +34,13 @@ abbrev pub of_length : ℕ → List ℕ → Body → Body
 of_length n payload body = if length payload == n then body else wrong_size payload
 
 -- what must be there stands behind the length of the padding, where there is padding, and is this long at least (DATA
--- 6.1,
--- HEADERS 6.2, PUSH_PROMISE 6.6); padding longer than what is left is an error
+-- 6.1, HEADERS 6.2, PUSH_PROMISE 6.6); padding longer than what is left is an error
 abbrev pub padded_body : ℕ → List ℕ → ℕ → Body → Body
 padded_body flags payload fields body =
     let needed = (if is_padded flags then 1 else 0) + fields in
     if nat_lt (length payload) needed then wrong_size payload
-    else if is_padded flags && nat_lt (length payload - needed) (pad_length payload) then Unreadable BadPadding (pad_length payload)
+    else if is_padded flags && nat_lt (length payload - needed) (pad_length payload)
+    then Unreadable BadPadding (pad_length payload)
     else body
 
 -- SETTINGS (6.5): an acknowledgement is empty, other payloads are whole pairs of six bytes
@@ -52,18 +52,18 @@ settings_body flags payload =
 
 -- by the type byte: DATA 6.1; HEADERS 6.2, where five bytes on the stream's priority follow with the flag PRIORITY;
 -- PRIORITY 6.3; RST_STREAM 6.4; PUSH_PROMISE 6.6, which begins with the promised stream; PING 6.7; GOAWAY 6.8: a
--- stream, an
--- error code, and debug data of any length; WINDOW_UPDATE 6.9: the increment behind a reserved bit; CONTINUATION 6.10;
--- an
--- unknown type is no error (5.5)
+-- stream, an error code, and debug data of any length; WINDOW_UPDATE 6.9: the increment behind a reserved bit;
+-- CONTINUATION 6.10; an unknown type is no error (5.5)
 abbrev pub body_of : ℕ → ℕ → List ℕ → Body
 body_of code flags payload =
     if code == data_type then padded_body flags payload 0 Content
     else if code == headers_type then padded_body flags payload (if has_flag flags priority_flag then 5 else 0) Headers
-    else if code == priority_type then (if length payload == 5 then Priority else Unreadable BadPriority (length payload))
+    else if code == priority_type
+    then (if length payload == 5 then Priority else Unreadable BadPriority (length payload))
     else if code == rst_stream_type then of_length 4 payload RstStream
     else if code == settings_type then settings_body flags payload
-    else if code == push_promise_type then padded_body flags payload 4 (PushPromise (number_of_31_bits (drop (if is_padded flags then 1 else 0) payload)))
+    else if code == push_promise_type then padded_body flags payload 4
+    (PushPromise (number_of_31_bits (drop (if is_padded flags then 1 else 0) payload)))
     else if code == ping_type then of_length 8 payload Ping
     else if code == goaway_type then (if nat_lt (length payload) 8 then wrong_size payload else GoAway)
     else if code == window_update_type then of_length 4 payload (WindowUpdate (number_of_31_bits payload))

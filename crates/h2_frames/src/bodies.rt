@@ -1,9 +1,12 @@
-ghost use Rattle.std.specs.Prelude.{◌≡◌, ℕ, ◌+◌, ◌-◌, ◌<◌, ◌≤◌, ◌^◌, ◌==◌, nat_lt, if◌then◌else◌, List, drop, length, IsTrue};
-ghost use Rattle.audit_terms.specs.declared.frames.Body.TheVariants.{Content, GoAway, Headers, Priority, PushPromise, Unreadable, WindowUpdate};
+ghost use Rattle.std.specs.Prelude.{◌≡◌, ℕ, ◌+◌, ◌-◌, ◌<◌, ◌≤◌, ◌^◌, ◌==◌, nat_lt, if◌then◌else◌, List, drop, length};
+ghost use Rattle.std.specs.Prelude.{IsTrue};
+ghost use Rattle.audit_terms.specs.declared.frames.Body.TheVariants.{Content, GoAway, Headers, Priority, PushPromise};
+ghost use Rattle.audit_terms.specs.declared.frames.Body.TheVariants.{Unreadable, WindowUpdate};
 ghost use Rattle.audit_terms.specs.declared.kinds.Kind.TheVariants.{BadPriority};
 ghost use Rattle.audit_terms.specs.Frame.{promised_in};
 ghost use Rattle.audit_terms.specs.FrameType.{has_flag};
-ghost use Rattle.h2_frames.specs.Body.{body_of, is_padded, of_length, padded_body, priority_flag, settings_body, wrong_size};
+ghost use Rattle.h2_frames.specs.Body.{body_of, is_padded, of_length, padded_body, priority_flag, settings_body};
+ghost use Rattle.h2_frames.specs.Body.{wrong_size};
 ghost use Rattle.h2_frames.specs.Header.{number_of_31_bits};
 
 use crate::headers::number_of_31_bits;
@@ -103,7 +106,8 @@ fn headers_body(flags: u8, payload: &[u8]) -> Body
 /// PRIORITY (RFC 9113, 6.3).
 fn priority_body(payload: &[u8]) -> Body
     requires { length payload.now < 2 ^ 24 }
-    ensures exact { result ≡ (if length payload.now == 5 then Priority else Unreadable BadPriority (length payload.now)) }
+    ensures exact { result ≡ (if length payload.now == 5 then Priority
+        else Unreadable BadPriority (length payload.now)) }
     ensures promised { promised_in result < 2 ^ 31 }
 {
     if payload.len() == 5 {

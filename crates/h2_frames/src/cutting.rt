@@ -57,8 +57,9 @@ fn http2(
 /// it. The frames of [`Cut::Http2`] are numbered from 1 in capture order. One pass over each flow; a frame is
 /// copied only where it lies in several pieces and its payload matters, into a buffer that the next one uses again.
 ///
-/// The frames are put in the memory of `room`, whose elements are dropped. It may be empty, and then the list grows as it
-/// is filled, as it does where there are more frames than `room` has memory for. Where there are no frames it is dropped.
+/// The frames are put in the memory of `room`, whose elements are dropped. It may be empty, and then the list grows as
+/// it is filled, as it does where there are more frames than `room` has memory for. Where there are no frames it is
+/// dropped.
 pub fn cut(alloc: Global, client: &Flow, server: &Flow, room: Vec<Frame>) -> Result<Cut, AllocError>
     requires client { IsOrderly client.now }
     requires server { IsOrderly server.now }

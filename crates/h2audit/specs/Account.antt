@@ -23,9 +23,8 @@ module _ {R : Type 0} where
 module _ {R W : Type 0} where
   -- the accounts at the end of a run. After a verdict the reads gave a whole capture, and the writes took its report,
   -- all of it; after a failed write they took a prefix of it. Before any other fault nothing was written: a read
-  -- failed,
-  -- the capture that the reads gave is refused, or memory was wanting, for its bytes or for the audit of a capture that
-  -- is not refused
+  -- failed, the capture that the reads gave is refused, or memory was wanting, for its bytes or for the audit of a
+  -- capture that is not refused
   abbrev pub Tells : CaptureReader R → ReportWriter W → (shown : Bool) → Result Verdict AuditFault → Type 0
   Tells reader writer shown (Ok verdict) =
       IsReadToEnd reader

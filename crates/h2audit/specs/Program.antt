@@ -39,10 +39,10 @@ IsShown text output (Err fault.Write) = HasWriteFailed output × ((n : ℕ) × (
 IsShown text output (Err _) = ⊥
 
 -- `opens` says what opening a name may give, and `says` that a line was said; readers of these types have these bytes
--- left,
--- where they are known; `before` and `after` are what is lent, at the begin and at the end
+-- left, where they are known; `before` and `after` are what is lent, at the begin and at the end
 module _ {O S I F W : Type 0} (opens : O → List ℕ → Result F Error → O → Type 0) (says : S → List ℕ → S → Type 0)
-    (input_left : I → Option (List ℕ)) (file_left : F → Option (List ℕ)) (before after : Outside O S I F W) (status : ℕ) where
+    (input_left : I → Option (List ℕ)) (file_left : F → Option (List ℕ)) (before after : Outside O S I F W)
+    (status : ℕ) where
   -- what the program answers to words that are not refused: a run on FILE, as it was opened by its name, or on standard
   -- input, with the options that were found; or help or the version on standard output. All else that is lent stays as
   -- it was

@@ -11,8 +11,8 @@ pub fn one_report()
     ensures { OneReport }
 {}
 
-/// What a run leaves in a writer that tells its bytes, where its reader tells them too: clauses `leaves` and `judged` that
-/// `run` need not have, since they follow from `tells`, `given` and `taken`.
+/// What a run leaves in a writer that tells its bytes, where its reader tells them too: clauses `leaves` and `judged`
+/// that `run` need not have, since they follow from `tells`, `given` and `taken`.
 pub fn runs_leave<R, W>()
     ensures { RunsLeave R W }
 {}

@@ -9,25 +9,28 @@
 //!   or want of memory. The report is `IsReport` of `specs/Report.antt`, made of the definitions of the crates below
 //!   and of none of their functions. It names neither workers nor groups nor blocks, and [`laws::one_report`] says that
 //!   there is no second one.
-//! - [`run`] reads a capture to its end, audits it, writes the report and flushes once. What its reads gave and its writes
-//!   took is told by the accounts of `byte_accounts`, a [`CaptureReader`] and a [`ReportWriter`]. For every reader and
-//!   writer, also of files and pipes, clause `tells` says of these accounts (`Tells` of `specs/Account.antt`): after a
-//!   verdict the reads gave a whole capture, and the writes took all of its report and one flush; after a failed write they
-//!   took a prefix of it; before any other fault nothing was written, and a refusal is that of the bytes that were read.
-//!   Where reader and writer themselves tell their bytes, these are the ones of the accounts (`given`, `taken`); what a run
-//!   then leaves in the writer follows ([`laws::runs_leave`], [`laws::faults_are_silent`]).
-//! - [`run_program`] is the program, over words and what it is lent ([`Outside`]): a way to open FILE and to say a line, and
-//!   the accounts of standard input, of FILE and of standard output. It does what the words ask for and nothing else (`Ends`
-//!   of `specs/Program.antt`): the account of the input that they name tells what `run` tells, status and line are those of
-//!   the answer, and all else that is lent stays as it was. [`program_words`] reads the words.
+//! - [`run`] reads a capture to its end, audits it, writes the report and flushes once. What its reads gave and its
+//!   writes took is told by the accounts of `byte_accounts`, a [`CaptureReader`] and a [`ReportWriter`]. For every
+//!   reader and writer, also of files and pipes, clause `tells` says of these accounts (`Tells` of
+//!   `specs/Account.antt`): after a verdict the reads gave a whole capture, and the writes took all of its report and
+//!   one flush; after a failed write they took a prefix of it; before any other fault nothing was written, and a
+//!   refusal is that of the bytes that were read. Where reader and writer themselves tell their bytes, these are the
+//!   ones of the accounts (`given`, `taken`); what a run then leaves in the writer follows ([`laws::runs_leave`],
+//!   [`laws::faults_are_silent`]).
+//! - [`run_program`] is the program, over words and what it is lent ([`Outside`]): a way to open FILE and to say a
+//!   line, and the accounts of standard input, of FILE and of standard output. It does what the words ask for and
+//!   nothing else (`Ends` of `specs/Program.antt`): the account of the input that they name tells what `run` tells,
+//!   status and line are those of the answer, and all else that is lent stays as it was. [`program_words`] reads the
+//!   words.
 //! - [`parse`] says what the words of a command line ask for, by `clap`'s own definition of the command, and
 //!   [`Options`] refuses numbers out of range; both are `command_line`'s. [`laws::known_words`] computes seven command
 //!   lines. [`ending`] is status and line.
 //!
-//! 2^31 bytes, at which reading stops, are refused as the whole is. Where the file header refuses a capture, it alone is
-//! kept (`brief`), since what follows changes no answer (`pcap_records::laws::header_refuses`). What is kept and its packets
-//! stand in parts, and nothing is copied from part to part. Round 0 has a job for each connection, which assembles both of
-//! its flows and cuts them; another thread may make room for the frames meanwhile. `audit_rounds` has the rounds after it.
+//! 2^31 bytes, at which reading stops, are refused as the whole is. Where the file header refuses a capture, it alone
+//! is kept (`brief`), since what follows changes no answer (`pcap_records::laws::header_refuses`). What is kept and its
+//! packets stand in parts, and nothing is copied from part to part. Round 0 has a job for each connection, which
+//! assembles both of its flows and cuts them; another thread may make room for the frames meanwhile. `audit_rounds` has
+//! the rounds after it.
 //!
 //! Wrong bodies that the prover refuses: an empty report, a verdict by errors alone, words always refused, options not
 //! heeded, "read failed" whatever FILE gave, standard input read though FILE is named. Tested, in

@@ -34,8 +34,8 @@ pub fn program_words(rt: &(impl Env + AllocGlobal)) -> io::Result<Vec<String>> {
     Ok(words)
 }
 
-/// What the program is lent: a way to open FILE by its name, a way to say a line on standard error, and the accounts of its
-/// reads and writes.
+/// What the program is lent: a way to open FILE by its name, a way to say a line on standard error, and the accounts of
+/// its reads and writes.
 #[derive(Drop)]
 pub struct Outside<O, S, I, F, W> {
     pub open_file: O,
@@ -155,8 +155,8 @@ fn answer<O: FnMut(&str) -> io::Result<F>, S: FnMut(&str), I: Read, F: Read + Dr
     }
 }
 
-/// What the audit of FILE answers, and the account of its reads. One that could not be opened is a failure to read, or want
-/// of memory.
+/// What the audit of FILE answers, and the account of its reads. One that could not be opened is a failure to read, or
+/// want of memory.
 fn audit_file<F: Read + Drop, W: Write>(
     rt: &(impl AllocGlobal + Threads + Sync + RandomSource),
     options: &Options,

@@ -16,8 +16,8 @@ use std::thread::Threads;
 /// The number of bytes in a file header.
 const HEADER: usize = 24;
 
-/// Reads to the end, or until there are 2^31 bytes, and keeps what its answer can depend on: all of it, or the file header
-/// alone where that refuses it. Answers that refusal, or a walk over the records so far.
+/// Reads to the end, or until there are 2^31 bytes, and keeps what its answer can depend on: all of it, or the file
+/// header alone where that refuses it. Answers that refusal, or a walk over the records so far.
 ///
 /// Other workers make room ahead of the reads, and walk.
 pub(crate) fn read_capture<R: Read>(
@@ -27,7 +27,8 @@ pub(crate) fn read_capture<R: Read>(
     reader: &mut CaptureReader<R>,
 ) -> Result<Result<RecordWalk, PcapFault>, AuditFault>
     requires { IsUnread reader.old }
-    ensures bytes { OnOk result (IfSome (R.remaining reader.old.reader) (λ all. HaveGiven reader.new (take (2 ^ 31) all))) }
+    ensures bytes { OnOk result (IfSome (R.remaining reader.old.reader)
+        (λ all. HaveGiven reader.new (take (2 ^ 31) all))) }
     ensures ok { OnOk result (IsReadToEnd reader.new) }
     ensures answers { OnOk result (OfGiven reader.new (AnswersFor (kept reader.new))) }
     ensures brief { OnOk result (IsBrief reader.new) }
@@ -52,7 +53,8 @@ fn read_in_parts<T: Threads, R: Read>(
     reader: &mut CaptureReader<R>,
 ) -> Result<Result<RecordWalk, PcapFault>, ReadFault>
     requires { IsUnread reader.old }
-    ensures bytes { OnOk result (IfSome (R.remaining reader.old.reader) (λ all. HaveGiven reader.new (take (2 ^ 31) all))) }
+    ensures bytes { OnOk result (IfSome (R.remaining reader.old.reader)
+        (λ all. HaveGiven reader.new (take (2 ^ 31) all))) }
     ensures ok { OnOk result (IsReadToEnd reader.new) }
     ensures answers { OnOk result (OfGiven reader.new (AnswersFor (kept reader.new))) }
     ensures brief { OnOk result (IsBrief reader.new) }

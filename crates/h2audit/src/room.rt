@@ -11,8 +11,8 @@ use tcp_streams::Connection;
 /// The thread here takes that over while the flows are made; it knows nothing of them, so no frame depends on it.
 ///
 /// There is room for as many frames as the connection has packets, 40 bytes for each. A packet takes 56 bytes of the
-/// capture and more: 16 for its record, 20 for its IPv4 header and 20 for that of TCP. So all rooms together are smaller
-/// than the capture, and need no bound, also where there are no frames. Where there are more, the list grows.
+/// capture and more: 16 for its record, 20 for its IPv4 header and 20 for that of TCP. So all rooms together are
+/// smaller than the capture, and need no bound, also where there are no frames. Where there are more, the list grows.
 pub(crate) fn begin_room<R: Threads>(
     rt: &R,
     alloc: Global,

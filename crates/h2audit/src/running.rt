@@ -61,7 +61,8 @@ pub fn run<R: Read, W: Write>(
     }
 }
 
-/// Audits what is kept of a capture, if there is memory for the list of its parts, or answers the refusal that was read.
+/// Audits what is kept of a capture, if there is memory for the list of its parts, or answers the refusal that was
+/// read.
 fn audit_kept<R: Read>(
     rt: &(impl Threads + Sync + RandomSource),
     alloc: Global,

@@ -14,18 +14,19 @@
 //! - [`Gate`] holds workers back before they start a job, for tests. It has no say in the answer.
 //!
 //! Of an implementor's work it asks that it keeps all findings up to a place, which is none or the answer of one of its
-//! looks, and that it makes the looks that the round says are due (`IsCut`, `Heeds`). Work takes any look, and so cannot
-//! know of desks, nor answer for looks that it did not make. A worker's look owns the worker's pass
-//! while a job runs, and gives it back.
+//! looks, and that it makes the looks that the round says are due (`IsCut`, `Heeds`). Work takes any look, and so
+//! cannot know of desks, nor answer for looks that it did not make. A worker's look owns the worker's pass while a job
+//! runs, and gives it back.
 //!
 //! A worker's promise speaks of its own parts and its own pass, so the induction over workers has one step, a join of
 //! two; closing the desk speaks of all. Each worker begins with one draw more than there are jobs, so it ends where no
 //! job is left and never for want of draws. Want of memory is the one error; after it the desk is gone.
 //!
-//! Wrong bodies that the prover refuses: parts dropped where two halves join, an overrun lowered, stops handed on as the
-//! round found them. Tested, in `crate_tests`: that a job sees the stop that an earlier one lowered, that two workers are
-//! in one round at once, and how many jobs each round of an audit has. Trusted: std's `join`, which starts threads, and
-//! does the work on the thread at hand where none can be had. That several threads work at once is not proved.
+//! Wrong bodies that the prover refuses: parts dropped where two halves join, an overrun lowered, stops handed on as
+//! the round found them. Tested, in `crate_tests`: that a job sees the stop that an earlier one lowered, that two
+//! workers are in one round at once, and how many jobs each round of an audit has. Trusted: std's `join`, which starts
+//! threads, and does the work on the thread at hand where none can be had. That several threads work at once is not
+//! proved.
 #![tactic(auto)]
 
 mod crews;

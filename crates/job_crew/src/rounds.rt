@@ -19,8 +19,8 @@ pub struct Work<M> {
 
 /// The jobs of one round, numbered from 0.
 ///
-/// An implementor states its jobs, as if nothing stopped them, what may be made of each, and which looks a job has to make
-/// that went up to a place.
+/// An implementor states its jobs, as if nothing stopped them, what may be made of each, and which looks a job has to
+/// make that went up to a place.
 pub trait Round: Sync {
     type Made: Drop + Send;
 

@@ -1,7 +1,8 @@
 //! IPv4 datagrams (RFC 791, 3.1).
 
 ghost use Rattle.std.specs.Prelude.{◌≡◌, ◌*◌, ◌<◌, ◌≤◌, length, IfNone, IfSome};
-ghost use Rattle.packet_heads.specs.Ipv4.{version, header_words, header_length, total_length, is_fragment, protocol, source_address, destination_address, datagram_end, segment_bytes, is_snapped};
+ghost use Rattle.packet_heads.specs.Ipv4.{version, header_words, header_length, total_length, is_fragment, protocol};
+ghost use Rattle.packet_heads.specs.Ipv4.{source_address, destination_address, datagram_end, segment_bytes, is_snapped};
 ghost use Rattle.packet_heads.specs.code.Ipv4.{ipv4_lines, HasHeader};
 ghost use Rattle.packet_heads.specs.code.Lines.{first_answer};
 ghost use Rattle.packet_heads.specs.code.Standing.{IsPassedOver};

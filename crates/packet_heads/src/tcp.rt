@@ -1,7 +1,8 @@
 //! TCP segments (RFC 9293, 3.1).
 
 ghost use Rattle.std.specs.Prelude.{◌≡◌, ◌*◌, ◌<◌, ◌≤◌, length, IfNone, IfSome};
-ghost use Rattle.packet_heads.specs.Tcp.{source_port, destination_port, sequence_number, data_offset, syn, ack, header_length};
+ghost use Rattle.packet_heads.specs.Tcp.{source_port, destination_port, sequence_number, data_offset, syn, ack};
+ghost use Rattle.packet_heads.specs.Tcp.{header_length};
 ghost use Rattle.packet_heads.specs.code.Tcp.{tcp_lines, HasHeader};
 ghost use Rattle.packet_heads.specs.code.Lines.{first_answer};
 ghost use Rattle.packet_heads.specs.code.Standing.{IsPassedOver};

@@ -8,7 +8,9 @@ ghost use Rattle.packet_heads.specs.examples.Datagrams.{segment, segment_with};
 ghost use Rattle.packet_heads.specs.Refusal.{refusal_name};
 ghost use Rattle.packet_heads.specs.declared.packets.Packet.TheVariants.{Skipped, Refused};
 ghost use Rattle.packet_heads.specs.declared.packets.Skip.TheVariants.{NotIpv4, Fragment, NotTcp};
-ghost use Rattle.packet_heads.specs.declared.packets.Refusal.TheVariants.{ShortEthernet, ShortIpv4, BadVersion, BadHeaderLength, BadTotalLength, PastEnd, ShortTcp, BadDataOffset};
+ghost use Rattle.packet_heads.specs.declared.packets.Refusal.TheVariants.{ShortEthernet, ShortIpv4, BadVersion};
+ghost use Rattle.packet_heads.specs.declared.packets.Refusal.TheVariants.{BadHeaderLength, BadTotalLength, PastEnd};
+ghost use Rattle.packet_heads.specs.declared.packets.Refusal.TheVariants.{ShortTcp, BadDataOffset};
 
 /// Ethernet frames without a tag, by their captured length and their type (RFC 894).
 pub fn frames()

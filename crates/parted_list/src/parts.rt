@@ -1,4 +1,5 @@
-ghost use Rattle.std.specs.Prelude.{◌≡◌, ◌+◌, ◌++◌, ◌-◌, ◌*◌, ◌%◌, ◌<◌, ◌≤◌, ◌^◌, IfOk, IfSome, IfNone, OnOk, Some, drop, length, map, min, slice_get, take, vec_len};
+ghost use Rattle.std.specs.Prelude.{◌≡◌, ◌+◌, ◌++◌, ◌-◌, ◌*◌, ◌%◌, ◌<◌, ◌≤◌, ◌^◌, IfOk, IfSome, IfNone, OnOk, Some};
+ghost use Rattle.std.specs.Prelude.{drop, length, map, min, slice_get, take, vec_len};
 ghost use Rattle.std.specs.List.{All, slice_range};
 ghost use Rattle.parted_list.specs.Parts.{joined};
 ghost use Rattle.parted_list.specs.code.Sizes.{ArePartsOf};
@@ -56,7 +57,8 @@ impl<'a, T, const N: usize> Parts<'a, T, N> {
         }
     }
 
-    /// Puts the elements from one index up to another behind those that were found: as they lie, in one piece or in several.
+    /// Puts the elements from one index up to another behind those that were found: as they lie, in one piece or in
+    /// several.
     pub fn pieces(
         &self,
         start: usize,

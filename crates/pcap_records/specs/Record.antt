@@ -28,4 +28,5 @@ AreRecords number unit at bytes [] rest = (rest ≡ bytes) × ¬ BeginsWithRecor
 AreRecords number unit at bytes (r ∷ rs) rest =
     BeginsWithRecord number bytes
     × (r ≡ record_at number unit at bytes)
-    × AreRecords number unit (at + 16 + captured_length number bytes) (drop (16 + captured_length number bytes) bytes) rs rest
+    × AreRecords number unit (at + 16 + captured_length number bytes)
+    (drop (16 + captured_length number bytes) bytes) rs rest

@@ -6,8 +6,8 @@
 //! in the order of the numbers of [`PcapFault`]. A [`Capture`] is held in parts; a record's header is read where it
 //! lies, and only one in which two parts meet is copied.
 //!
-//! [`RecordWalk`] does the same in steps: a program that reads a capture piece by piece goes on over the records that have
-//! come, and [`RecordWalk::finish`] answers what `records` does. `records` is such a walk in one step.
+//! [`RecordWalk`] does the same in steps: a program that reads a capture piece by piece goes on over the records that
+//! have come, and [`RecordWalk::finish`] answers what `records` does. `records` is such a walk in one step.
 //!
 //! The contract pins both answers to definitions that go by the bytes alone: `refusal` of `specs/Refusal.antt` looks at
 //! the header and the length, and `IsReading` of `specs/Reading.antt` is a relation by cases, a record of 16 header
@@ -19,9 +19,9 @@
 //!   is one of the two that are read, and the capture has fewer than 2^31 bytes. So lengths and offsets fit 31 bits and
 //!   frame numbers 28, and a place is one word.
 //! - [`laws`]: a capture has one reading; its first 2^31 bytes are refused exactly as the whole, so that a program may
-//!   stop reading there; a header that is refused by itself is refused alike whatever follows it, so that a program need
-//!   not keep that; a capture of 2^31 - 1 bytes is not too large, which no test could afford; what a walk has read of a
-//!   front stands whatever bytes come behind it.
+//!   stop reading there; a header that is refused by itself is refused alike whatever follows it, so that a program
+//!   need not keep that; a capture of 2^31 - 1 bytes is not too large, which no test could afford; what a walk has read
+//!   of a front stands whatever bytes come behind it.
 //! - [`worked_examples`]: the four magics, each refusal at the value that decides, their order, times in both units,
 //!   cut records.
 //!

@@ -8,7 +8,8 @@ ghost use Rattle.pcap_records.specs.FileHeader.{number_of, format_of};
 ghost use Rattle.pcap_records.specs.Reading.{cut_after};
 ghost use Rattle.pcap_records.specs.Record.{AreRecords, record_at};
 ghost use Rattle.pcap_records.specs.Refusal.{refusal, refusal_in};
-ghost use Rattle.pcap_records.specs.declared.faults.PcapFault.TheVariants.{ShortHeader, BadMagic, BadVersion, LinkType, TooLarge};
+ghost use Rattle.pcap_records.specs.declared.faults.PcapFault.TheVariants.{ShortHeader, BadMagic, BadVersion, LinkType};
+ghost use Rattle.pcap_records.specs.declared.faults.PcapFault.TheVariants.{TooLarge};
 ghost use Rattle.pcap_records.specs.declared.format.Endian.TheVariants.{Big, Little};
 
 /// The four magics of the classic format, and one that a modified format has in either order of bytes.

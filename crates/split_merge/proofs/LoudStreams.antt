@@ -219,7 +219,8 @@ places-length at (quiet ∷ quiets) = by_test quiet.is_quiet (places-length at q
     (places-length (at + 1) quiets) where
       by_test : (b : Bool) → length (places_from at quiets) ≡ length quiets → length (places_from (at + 1) quiets)
           ≡ length quiets →
-          length (if b then None ∷ places_from at quiets else Some at ∷ places_from (at + 1) quiets) ≡ suc (length quiets)
+          length (if b then None ∷ places_from at quiets else Some at ∷ places_from (at + 1) quiets)
+          ≡ suc (length quiets)
       by_test true e f = ap suc e
       by_test false e f = ap suc f
 

@@ -7,8 +7,8 @@ use audit_terms::{Finding, Side, Sides};
 use std::alloc::{AllocError, Global};
 use std::collections::BTreeMap;
 
-/// An end of a stall for each window, by the side that sends through it and the stream, 0 being the connection. Ordered maps, in
-/// which no streams collide.
+/// An end of a stall for each window, by the side that sends through it and the stream, 0 being the connection. Ordered
+/// maps, in which no streams collide.
 #[derive(Drop)]
 pub struct Ends {
     pub by_side: Sides<BTreeMap<u32, Finding>>,

@@ -1,6 +1,7 @@
 //! The streams of which something may be shown, apart from the quiet ones: the loud ones.
 
-ghost use Rattle.std.specs.Prelude.{◌≡◌, ℕ, ◌^◌, ◌<◌, ◌++◌, ◌∷◌, [], List, IfOk, MatchOption, OnOk, Some, length, slice_get};
+ghost use Rattle.std.specs.Prelude.{◌≡◌, ℕ, ◌^◌, ◌<◌, ◌++◌, ◌∷◌, [], List, IfOk, MatchOption, OnOk, Some, length};
+ghost use Rattle.std.specs.Prelude.{slice_get};
 ghost use Rattle.split_merge.specs.code.Visits.{IsIndex, NotAmong, streams_in};
 ghost use Rattle.split_merge.specs.code.Loud.{ArePlaces, IsKept, loud_of, opened_in, places_from};
 

@@ -3,7 +3,8 @@ ghost use Rattle.audit_terms.specs.code.runs.Orderly.{IsOrderly};
 ghost use Rattle.settings_pair.specs.code.Changes.{AreOrderly, AreAcknowledged};
 ghost use Rattle.split_merge.specs.code.Split.{IsRange, IsSplit, part_of};
 ghost use Rattle.split_merge.specs.code.Loud.{AreCounted, ArePlaces, HasPlace, IsLaid, IsPut, heard};
-ghost use Rattle.split_merge.specs.code.Visits.{AreDistinct, HasRoomFor, IsFilled, IsIndex, counted, laid_out, notes_from, streams_in, total_of};
+ghost use Rattle.split_merge.specs.code.Visits.{AreDistinct, HasRoomFor, IsFilled, IsIndex, counted, laid_out};
+ghost use Rattle.split_merge.specs.code.Visits.{notes_from, streams_in, total_of};
 
 use crate::loud::{Loud, place_of};
 use crate::visits::{Visits, finish};

@@ -1,4 +1,5 @@
-ghost use Rattle.std.specs.Prelude.{◌≡◌, ◌≢◌, ℕ, ◌*◌, ◌+◌, ◌^◌, ◌<◌, ◌++◌, [], List, IfOk, MatchOption, OnOk, Some, length, slice_get};
+ghost use Rattle.std.specs.Prelude.{◌≡◌, ◌≢◌, ℕ, ◌*◌, ◌+◌, ◌^◌, ◌<◌, ◌++◌, [], List, IfOk, MatchOption, OnOk, Some};
+ghost use Rattle.std.specs.Prelude.{length, slice_get};
 ghost use Rattle.std.specs.Bool.{OnTrue};
 ghost use Rattle.audit_terms.specs.declared.frames.Frame.{Frame as FrameTerm};
 ghost use Rattle.audit_terms.specs.declared.items.Change.{Change as ChangeTerm};
@@ -6,7 +7,8 @@ ghost use Rattle.audit_terms.specs.Pass.{streams_of};
 ghost use Rattle.audit_terms.specs.code.runs.Orderly.{IsOrderly};
 ghost use Rattle.settings_pair.specs.code.Changes.{AreOrderly, AreAcknowledged};
 ghost use Rattle.stream_credit.specs.code.QuietStream.{IsAheadIfQuiet};
-ghost use Rattle.split_merge.specs.code.Visits.{HasAtMost, IsIndex, IsTableOf, NotAmong, counted, noted, notes_from, streams_in, with_row, with_stream};
+ghost use Rattle.split_merge.specs.code.Visits.{HasAtMost, IsIndex, IsTableOf, NotAmong, counted, noted, notes_from};
+ghost use Rattle.split_merge.specs.code.Visits.{streams_in, with_row, with_stream};
 ghost use Rattle.split_merge.specs.code.Loud.{IsKept};
 ghost use Rattle.split_merge.specs.code.Ahead.{AreAhead, AreHushed, IsEnd, IsHushed, MeetsNext, with_next};
 

@@ -19,7 +19,8 @@ pub(crate) const FIRST_WINDOWS: Sides<u32> = Sides {
 };
 
 /// The changes of a connection, in order, made ready for the runs of all its streams: each stands with the initial
-/// windows that it leaves in force (RFC 9113, 6.9.2), so that a stream that opens late need not go through those before.
+/// windows that it leaves in force (RFC 9113, 6.9.2), so that a stream that opens late need not go through those
+/// before.
 #[derive(Drop)]
 pub struct Changes<'a> {
     all: &'a [Change],

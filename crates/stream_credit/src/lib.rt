@@ -8,11 +8,11 @@
 //! - The findings are the run of the stream as `audit_terms` defines it, in order, credits only where they are shown,
 //!   up to the place at which its [`audit_terms::Look`] has it end; with it the opening, if that does not lie past the
 //!   place.
-//! - The steps of a run are the stream's frames and the changes that find a live window of it. A change that finds none,
-//!   as before its opening and after its ends, costs it nothing: a search by halving passes over all of them.
+//! - The steps of a run are the stream's frames and the changes that find a live window of it. A change that finds
+//!   none, as before its opening and after its ends, costs it nothing: a search by halving passes over all of them.
 //! - The looks are made in time, so many and no other (`IsRun`): before the first step, and again before the next one
-//!   after each 256 steps. Each is handed what is shown of the steps before. A run that meets all its steps says that it
-//!   is whole, and keeps all. One that ends early keeps what lies up to its last answer; it cuts once, since a later
+//!   after each 256 steps. Each is handed what is shown of the steps before. A run that meets all its steps says that
+//!   it is whole, and keeps all. One that ends early keeps what lies up to its last answer; it cuts once, since a later
 //!   answer may be lower than what was found before it.
 //! - A stream's frames lie far from one another. They are gathered some at a time before they are met, since a look at
 //!   each would wait for the memory before the next one begins.

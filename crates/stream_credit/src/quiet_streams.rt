@@ -1,7 +1,8 @@
 //! Streams of which nothing is shown, where credits are not shown: most are of this kind. Such a stream is told by its
 //! frames in the order of the capture, beside all others, and need not be gone through by itself.
 
-ghost use Rattle.std.specs.Prelude.{◌≡◌, ℕ, pos, ◌+◌, ◌^◌, ◌<◌, ◌≤◌, ◌∷◌, [], drop, length, true, false, List, OnOk, IfOk};
+ghost use Rattle.std.specs.Prelude.{◌≡◌, ℕ, pos, ◌+◌, ◌^◌, ◌<◌, ◌≤◌, ◌∷◌, [], drop, length, true, false, List, OnOk};
+ghost use Rattle.std.specs.Prelude.{IfOk};
 ghost use Rattle.std.specs.Bool.{OnTrue, OnFalse};
 ghost use Rattle.std.specs.Option.{ForSome};
 ghost use Rattle.audit_terms.specs.declared.frames.Frame.{Frame as FrameTerm};
@@ -11,7 +12,9 @@ ghost use Rattle.audit_terms.specs.code.runs.Orderly.{IsOrderly, IsInRange};
 ghost use Rattle.settings_pair.specs.code.Changes.{AreOrderly, AreAcknowledged};
 ghost use Rattle.stream_credit.specs.code.Looks.{is_live};
 ghost use Rattle.audit_terms.specs.code.Room.{HasRoom};
-ghost use Rattle.stream_credit.specs.code.QuietStream.{AreFrom, IsAhead, IsAheadIfQuiet, IsCreditOf, IsMovedBy, IsNext, IsPassed, ShowsNothing, StartsAt, opened_of, stream_of, window_of};
+ghost use Rattle.stream_credit.specs.code.QuietStream.{AreFrom, IsAhead, IsAheadIfQuiet, IsCreditOf, IsMovedBy, IsNext};
+ghost use Rattle.stream_credit.specs.code.QuietStream.{IsPassed, ShowsNothing, StartsAt, opened_of, stream_of};
+ghost use Rattle.stream_credit.specs.code.QuietStream.{window_of};
 ghost use Rattle.stream_credit.specs.code.Quiet.{IsRaised};
 
 use crate::changes::Changes;

@@ -1,6 +1,5 @@
 -- Which segments belong to which opening, and which to none (RFC 9293, 3.5; which SYN opens a connection of a capture
--- is
--- this profile's own choice).
+-- is this profile's own choice).
 use Rattle.std.specs.Prelude.{◌≡◌, Bool, false, ◌&&◌, ◌==◌, not, if◌then◌else◌, List, [], ◌∷◌, ◌++◌, map, filter, find}
 use Rattle.std.specs.Prelude.{fold, length, Option, None, Some, is_none, option_map}
 use Rattle.std.specs.List.{AllZip, filter_map, list_any}

@@ -2,7 +2,8 @@ ghost use Rattle.std.specs.Prelude.{◌≡◌, ◌+◌, ◌-◌, ◌<◌, ◌≤
 ghost use Rattle.tcp_streams.specs.code.Orderly.{AreTimely};
 ghost use Rattle.tcp_streams.specs.Bytes.{bytes_of, joined};
 ghost use Rattle.tcp_streams.specs.Flow.{IsFlow};
-ghost use Rattle.tcp_streams.specs.code.Interval.{AreCaptured, IsInterval, Spans, arrival_with, arrivals_in, at, bytes_in, run_length, size_of};
+ghost use Rattle.tcp_streams.specs.code.Interval.{AreCaptured, IsInterval, Spans, arrival_with, arrivals_in, at};
+ghost use Rattle.tcp_streams.specs.code.Interval.{bytes_in, run_length, size_of};
 ghost use Rattle.tcp_streams.specs.declared.interval.Interval.{Interval as Held};
 
 use crate::interval::Interval;

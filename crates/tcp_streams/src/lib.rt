@@ -20,10 +20,10 @@
 //! leaves free; so it takes n log n steps in whichever order segments come. Pairs are looked up by a hash whose key no
 //! capture can foresee (`table_hash`); the contract of [`connections`] holds for every key, so no answer depends on it.
 //!
-//! Wrong bodies that the prover refuses: the last retransmission wins, a SYN of any number opens again, a pair is known by
-//! one end. [`worked_examples`] goes from packets to a flow; worked examples of openings, strays and offsets are proved in
-//! `crate_tests`. Tested there: random segments beside a slow program that keeps a plain list of offsets, and that keys
-//! are drawn. Tested by whole reports: interleaved connections.
+//! Wrong bodies that the prover refuses: the last retransmission wins, a SYN of any number opens again, a pair is known
+//! by one end. [`worked_examples`] goes from packets to a flow; worked examples of openings, strays and offsets are
+//! proved in `crate_tests`. Tested there: random segments beside a slow program that keeps a plain list of offsets, and
+//! that keys are drawn. Tested by whole reports: interleaved connections.
 #![tactic(auto)]
 
 mod assembly;

@@ -1,5 +1,6 @@
 ghost use Rattle.std.specs.Prelude.{◌≡◌, ◌+◌, ◌-◌, ◌<◌, ◌≤◌, ◌^◌, [], ◌∷◌, ◌++◌, false, All, length, drop, IfOk, OnOk};
-ghost use Rattle.tcp_streams.specs.code.Interval.{HasPassed, IsInterval, IsSame, Spans, at, clipped, lie_apart, overlay, size_of};
+ghost use Rattle.tcp_streams.specs.code.Interval.{HasPassed, IsInterval, IsSame, Spans, at, clipped, lie_apart};
+ghost use Rattle.tcp_streams.specs.code.Interval.{overlay, size_of};
 
 use crate::interval::{END_OF_OFFSETS, Interval};
 use std::alloc::{AllocError, Global};
@@ -71,7 +72,8 @@ fn overlay(
     Ok(out)
 }
 
-/// Adds the parts from an offset up to an interval that is kept, then the interval, and says with which interval to go on.
+/// Adds the parts from an offset up to an interval that is kept, then the interval, and says with which interval to go
+/// on.
 fn add_kept(
     out: &mut Vec<Interval>,
     later: &[Interval],

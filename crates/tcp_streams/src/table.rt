@@ -123,7 +123,8 @@ impl Table {
             ≡ map membership self.old.opened.items ++ opened_by segment.now ∷ []) }
         ensures strays { OnOk result (self.new.strays.items ≡ self.old.strays.items) }
         ensures standings { OnOk result
-            (SetsStanding (pair_of segment.now) (Opened (length self.old.opened.items)) self.old.standings self.new.standings) }
+            (SetsStanding (pair_of segment.now) (Opened (length self.old.opened.items))
+            self.old.standings self.new.standings) }
     {
         let connection = Connection::opened_by(self.alloc, segment)?;
         let index = self.connection_count();
@@ -137,7 +138,8 @@ impl Table {
         ensures opened { OnOk result (self.new.opened.items ≡ self.old.opened.items) }
         ensures strays { OnOk result (self.new.strays.items ≡ self.old.strays.items ++ first_stray segment.now ∷ []) }
         ensures standings { OnOk result
-            (SetsStanding (pair_of segment.now) (Unopened (length self.old.strays.items)) self.old.standings self.new.standings) }
+            (SetsStanding (pair_of segment.now) (Unopened (length self.old.strays.items))
+            self.old.standings self.new.standings) }
     {
         let index = self.stray_count();
         self.strays.push(Stray {

@@ -1,6 +1,5 @@
 -- Worked examples of settings in force: what a SETTINGS frame without a value leaves, what acknowledgements take, and
--- whose
--- values are judged.
+-- whose values are judged.
 use Rattle.std.specs.Prelude.{◌≡◌, pos, ◌-ℤ◌, [], ◌∷◌, Some}
 use Rattle.audit_terms.specs.declared.sides.Side.TheVariants.{Client, Server}
 use Rattle.audit_terms.specs.declared.kinds.Kind.TheVariants.{BadSetting, Push, LongFrame, StreamOverrun, UnmatchedAck}
@@ -19,7 +18,8 @@ InitialWindowStays =
     audit_of (
     initial_window_frame 5 Server 10 ∷ ack_frame 6 Client ∷ settings_frame 7 Server ∷ ack_frame 8 Client
     ∷ headers_frame 9 Client 1 ∷ data_frame 10 Client 1 11 ∷ [])
-    ≡ finding_at StreamOverrun 10 1 Client (pos 0 -ℤ pos 1) ∷ finding_at StreamStallBegin 10 1 Client (pos 0 -ℤ pos 1) ∷ []
+    ≡ finding_at StreamOverrun 10 1 Client (pos 0 -ℤ pos 1) ∷ finding_at StreamStallBegin 10 1 Client (pos 0 -ℤ pos 1)
+    ∷ []
 
 -- and the limit of 20,000 bytes
 abbrev pub FrameLimitStays : Type 0

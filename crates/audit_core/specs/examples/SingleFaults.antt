@@ -57,7 +57,8 @@ TooLongFound =
 -- a grant above the largest window ends the stream's window: the next grant is not for a live one
 abbrev pub StreamOverflowFound : Type 0
 StreamOverflowFound =
-    audit_with_credits_of (headers_frame 5 Client 1 ∷ update_frame 6 Server 1 2147418113 ∷ update_frame 7 Server 1 1 ∷ [])
+    audit_with_credits_of (headers_frame 5 Client 1 ∷ update_frame 6 Server 1 2147418113 ∷ update_frame 7 Server 1 1
+    ∷ [])
     ≡ finding_at StreamCredit 5 1 Client (pos 65535) ∷ finding_at StreamCredit 5 1 Server (pos 65535)
     ∷ finding_at StreamOverflow 6 1 Client (pos 2147483648) ∷ []
 

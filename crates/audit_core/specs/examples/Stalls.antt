@@ -34,7 +34,8 @@ PaddedStall = audit_of padded_stall_script ≡ padded_stall_findings
 
 -- where they stand: frame 9, ranks 22 and 24, the connection and stream 1
 abbrev pub StallPlaces : Type 0
-StallPlaces = map (λ (found : Finding). found.place) padded_stall_findings ≡ 0x0000_009b_0000_0000 ∷ 0x0000_009c_0000_0001 ∷ []
+StallPlaces = map (λ (found : Finding). found.place) padded_stall_findings ≡ 0x0000_009b_0000_0000
+    ∷ 0x0000_009c_0000_0001 ∷ []
 
 -- the same with the credit lines
 abbrev pub PaddedStallCredits : Type 0

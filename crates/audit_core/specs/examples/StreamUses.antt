@@ -16,7 +16,8 @@ use Rattle.audit_core.specs.examples.Stalls.{padded_stall_script, padded_stall_f
 -- a stream is used that was never opened: what later frames show is withdrawn
 abbrev pub WithdrawnFindings : Type 0
 WithdrawnFindings =
-    audit_of (padded_stall_script ++ data_frame 10 Client 7 5 ∷ update_frame 11 Server 0 10 ∷ data_frame 12 Client 1 1 ∷ [])
+    audit_of (padded_stall_script ++ data_frame 10 Client 7 5 ∷ update_frame 11 Server 0 10 ∷ data_frame 12 Client 1 1
+    ∷ [])
     ≡ padded_stall_findings ++ finding_at NotOpened 10 7 Client (pos 0) ∷ []
 
 -- with no stop they are there: the content of the stream that was not opened counts for the connection
@@ -56,7 +57,8 @@ AfterEndAndReset =
 -- streams are opened in falling order
 abbrev pub IdentifierOrder : Type 0
 IdentifierOrder =
-    audit_of (headers_frame 5 Client 5 ∷ headers_frame 6 Client 3 ∷ []) ≡ finding_at IdNotGreater 6 3 Client (pos 5) ∷ []
+    audit_of (headers_frame 5 Client 5 ∷ headers_frame 6 Client 3 ∷ []) ≡ finding_at IdNotGreater 6 3 Client (pos 5)
+    ∷ []
 
 -- an acknowledgement of nothing
 abbrev pub UnmatchedAcknowledgement : Type 0

@@ -31,7 +31,8 @@ block_job credits_shown one = record {
 -- the looks that are due of a block's job are those of its run, a step for each frame
 abbrev pub BlockLooks : (credits_shown : Bool) → List ReadyBlock → (job : ℕ) → List Asked → (upto : Option ℕ) → Type 0
 BlockLooks credits_shown plan job asked upto = (one : ReadyBlock) → slice_get plan job ≡ Some one →
-    RunLooks (map (λ (frame : Frame). frame.number) one.block.frames.now) (block_job credits_shown one).findings asked upto
+    RunLooks (map (λ (frame : Frame). frame.number) one.block.frames.now)
+    (block_job credits_shown one).findings asked upto
 
 -- all blocks may be gone through
 abbrev pub AreReady : List ReadyBlock → Type 0

@@ -58,4 +58,5 @@ job_at connection range = record { connection = connection; from = range.0; to =
 abbrev pub plan_from : (count : ℕ) → (connection : ℕ) → List Streams → List StreamJob
 plan_from count connection [] = []
 plan_from count connection (streams ∷ rest) =
-    map (job_at connection) (groups (length streams.split.now.rows.items) count) ++ plan_from count (connection + 1) rest
+    map (job_at connection) (groups (length streams.split.now.rows.items) count)
+    ++ plan_from count (connection + 1) rest

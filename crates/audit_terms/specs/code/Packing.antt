@@ -1,6 +1,5 @@
 -- How the values of a SETTINGS frame are kept: three words, and a byte of marks. The marks say which of the words hold
--- a value,
--- and before these three bits one more than the identifier out of range, or 0.
+-- a value, and before these three bits one more than the identifier out of range, or 0.
 use Rattle.std.specs.Prelude.{◌≡◌, ℕ, zero, suc, ◌+◌, ◌*◌, ◌/◌, ◌%◌, Option, None, Some, unwrap_or}
 use Rattle.audit_terms.specs.declared.settings.Settings.{Settings}
 use Rattle.audit_terms.specs.declared.settings.PackedSettings.TheInside.{Inside}

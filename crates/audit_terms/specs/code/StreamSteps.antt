@@ -11,8 +11,7 @@ use Rattle.audit_terms.specs.Change.{new_initial}
 use Rattle.audit_terms.specs.Stream.{step_amount, step_test}
 
 -- what the step moves a live window of side d by: what is granted to it, less what is sent through it (6.9, 6.9.1), and
--- the new
--- initial window minus the old (6.9.2)
+-- the new initial window minus the old (6.9.2)
 abbrev pub window_moved : Side → (stream : ℕ) → Sides ℕ → Step → ℤ
 window_moved d stream initial step =
     (pos (step_amount (grant_to d stream) step) -ℤ pos (step_amount (content_by d) step))

@@ -25,4 +25,5 @@ since number frames = filter (λ (frame : Frame). nat_le number frame.number) fr
 
 -- the credit of side d's window on a stream that was opened at a number, where `initial` is the initial window in force
 abbrev pub stream_credit_sum : (initial : ℕ) → Side → (stream opening : ℕ) → List Frame → ℤ
-stream_credit_sum initial d stream opening frames = credit_sum initial stream d (since opening frames) (content_on d stream)
+stream_credit_sum initial d stream opening frames = credit_sum initial stream d (since opening frames)
+    (content_on d stream)

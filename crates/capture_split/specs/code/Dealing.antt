@@ -16,7 +16,8 @@ module _ {W : Type 0} (contents : W → Option (List ℕ)) where
 
   -- a reader gave bytes, which were dealt but for some at their end; those hold no whole record. `left` tells the bytes
   -- that a reader will give, where they are known
-  pub record HasTurned {R : Type 0} (left : R → Option (List ℕ)) (d e : Dealer) (old new : List (Part W)) (before after : R)
+  pub record HasTurned {R : Type 0} (left : R → Option (List ℕ)) (d e : Dealer) (old new : List (Part W))
+      (before after : R)
       (unread : List ℕ) : Type 0 where
     pub given : List ℕ
     pub consumed : Consumes (left before) (left after) (given ++ unread)

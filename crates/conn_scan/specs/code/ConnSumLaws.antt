@@ -136,7 +136,8 @@ states_carried now (block ∷ blocks) =
     ∙ ap (λ states. now ∷ states) (states_carried (connection_after_all now block) blocks)
 
 -- the summaries of blocks
-pub sums-shown : (blocks : List (List Item)) → map conn_sum_of blocks ≡ map (summary_of conn_none conn_one conn_join) blocks
+pub sums-shown : (blocks : List (List Item)) → map conn_sum_of blocks
+    ≡ map (summary_of conn_none conn_one conn_join) blocks
 sums-shown [] = refl
 sums-shown (block ∷ blocks) = ap (λ sum. sum ∷ map conn_sum_of blocks) (sym (conn_sum-shown block))
     ∙ ap (λ sums. summary_of conn_none conn_one conn_join block ∷ sums) (sums-shown blocks)

@@ -141,8 +141,7 @@ OtherSettings =
     ≡ no_settings ∷ no_settings ∷ no_settings ∷ []
 
 -- repeated pairs: the last value of an identifier counts, in range or not, and the first pair out of range is named,
--- also
--- where a later one of its identifier is in range
+-- also where a later one of its identifier is in range
 abbrev pub FirstPairOutOfRange : Type 0
 FirstPairOutOfRange =
     settings_of (pair 4 128 0 0 0 ++ pair 2 0 0 0 5 ++ pair 4 0 0 0 7 ++ pair 5 0 0 64 0 ++ [])

@@ -28,10 +28,10 @@ IsJudged bytes lacked_memory _ = Unit {0}
 
 module _ (R W : Type 0) where
   -- accounts that tell of an answer, of a reader of all these bytes and of a writer that took what its account says,
-  -- leave
-  -- and judge so
+  -- leave and judge so
   abbrev pub RunsLeave : Type 0
-  RunsLeave = (all : List ℕ) (reader : CaptureReader R) (writer : ReportWriter W) (shown : Bool) (old new : Option (List ℕ))
+  RunsLeave = (all : List ℕ) (reader : CaptureReader R) (writer : ReportWriter W) (shown : Bool)
+      (old new : Option (List ℕ))
       (answer : Result Verdict AuditFault) →
       Tells reader writer shown answer → HasGiven (Some all) reader → Appends old new (written writer) →
       Leaves all shown old new answer × IsJudged all reader.lacked_memory answer

@@ -36,7 +36,8 @@ AreCut count (part ∷ []) = (length part ≡ count) × (count ≤ 8192)
 AreCut count (part ∷ next ∷ later) = (length part ≡ 8192) × (8192 < count) × AreCut (count - 8192) (next ∷ later)
 
 -- the decisions on these records in parts, of which the first has this number
-pub record AreDecidedParts (link number : ℕ) (rows : List Record) (capture : List ℕ) (parts : List (List Packet)) : Type 0 where
+pub record AreDecidedParts (link number : ℕ) (rows : List Record) (capture : List ℕ)
+    (parts : List (List Packet)) : Type 0 where
   pub decided : AreDecided link number rows capture (joined parts)
   pub cut : AreCut (length rows) parts
 

@@ -48,9 +48,9 @@ opening_of frames changes stream =
     option_to_list (stream_at_end stream (frames_of stream frames) changes).life.opened
 
 -- some streams that meet a frame are quiet: nothing is shown of them, and the frames that open them are told. Each
--- other
--- one has a row with the positions of its frames, in order of first frames
-pub record IsSplit (credits_shown : Bool) (changes : List Change) (frames : List Frame) (split : SplitFrames) : Type 0 where
+-- other one has a row with the positions of its frames, in order of first frames
+pub record IsSplit (credits_shown : Bool) (changes : List Change) (frames : List Frame)
+    (split : SplitFrames) : Type 0 where
   pub is_quiet : ℕ → Bool
   pub streams : map (λ (row : StreamRow). row.stream) split.rows.items
       ≡ filter (λ stream. not (is_quiet stream)) (streams_of frames)

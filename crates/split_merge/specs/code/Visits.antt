@@ -105,7 +105,8 @@ abbrev pub grown : StreamRow → ℕ → StreamRow
 grown row many = record { stream = row.stream; from = row.from; to = row.from + many }
 
 -- the ranges have grown from those of `empty` by the positions of what was noted
-pub record IsFilled (empty : List StreamRow) (notes : List (ℕ × ℕ)) (rows : List StreamRow) (positions : List ℕ) : Type 0 where
+pub record IsFilled (empty : List StreamRow) (notes : List (ℕ × ℕ)) (rows : List StreamRow)
+    (positions : List ℕ) : Type 0 where
   pub long : length rows ≡ length empty
   pub ranges : (r : ℕ) (d : StreamRow) → r < length empty →
       get_or rows r d ≡ grown (get_or empty r d) (length (row_positions r empty notes))

@@ -16,8 +16,7 @@ abbrev pub is_live : Stream → Bool
 is_live entry = is_some entry.window.client || is_some entry.window.server
 
 -- the steps of a stream's run are the stream's frames and the changes that find a live window of it (RFC 9113, 6.9.2):
--- a change
--- that finds none costs it nothing
+-- a change that finds none costs it nothing
 abbrev pub is_met : Stream → Step → Bool
 is_met entry step = is_some step.frame || is_live entry
 
@@ -26,7 +25,8 @@ abbrev pub met_from : (stream : ℕ) → Sides ℕ → Stream → List Step → 
 met_from stream initial entry [] = []
 met_from stream initial entry (step ∷ steps) =
     if is_met entry step
-    then step.number ∷ met_from stream (initial_after step.change initial) (stream_after stream initial entry step) steps
+    then step.number ∷ met_from stream (initial_after step.change initial)
+    (stream_after stream initial entry step) steps
     else met_from stream (initial_after step.change initial) (stream_after stream initial entry step) steps
 
 -- of all frames of the stream, and all changes of its connection

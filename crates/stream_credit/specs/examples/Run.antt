@@ -160,7 +160,8 @@ KeptUpToStop =
 -- frame's number is no step of its own
 abbrev pub StepNumbers : Type 0
 StepNumbers =
-    (step_numbers 1 (headers_frame 5 Client 1 ∷ sized_data 8 Client 1 100 ∷ []) (brings 3 Client 0 ∷ brings 8 Server 1 ∷ [])
+    (step_numbers 1 (headers_frame 5 Client 1 ∷ sized_data 8 Client 1 100 ∷ [])
+    (brings 3 Client 0 ∷ brings 8 Server 1 ∷ [])
     ≡ 5 ∷ 8 ∷ [])
     × (step_numbers 1 (headers_frame 9 Client 1 ∷ reset_frame 12 Server 1 ∷ sized_data 14 Server 1 4 ∷ []) many_changes
     ≡ 9 ∷ 10 ∷ 12 ∷ 14 ∷ [])

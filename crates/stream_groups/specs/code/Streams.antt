@@ -67,7 +67,8 @@ AreOpenedUpTo upto opened all = (number : ℕ) → is_past upto number ≡ false
 -- the looks of the run of one stream, and the place up to which it goes
 abbrev pub RowLooks : (credits_shown : Bool) → Streams → StreamRow → List Asked → (upto : Option ℕ) → Type 0
 RowLooks credits_shown streams row =
-    RunLooks (step_numbers row.stream (row_frames streams row) streams.changes.now) (row_shown credits_shown streams row)
+    RunLooks (step_numbers row.stream (row_frames streams row) streams.changes.now)
+    (row_shown credits_shown streams row)
 
 -- those of the runs of several, one run after the other, and the lesser of the places
 abbrev pub RowsLook : (credits_shown : Bool) → Streams → List StreamRow → List Asked → (upto : Option ℕ) → Type 0
@@ -79,7 +80,8 @@ RowsLook credits_shown streams (row ∷ rows) asked upto =
 
 -- what was made of some streams, which show `whole` and open at `openings`, with the looks that are due
 pub record IsWork {L : Type 0} (answers : L → List Finding → Option ℕ → L → Type 0)
-    (due : List Asked → (upto : Option ℕ) → Type 0) (before after : L) (whole : List Finding) (openings : List ℕ) (upto : Option ℕ) (kept : List Finding) (opened : List ℕ)
+    (due : List Asked → (upto : Option ℕ) → Type 0) (before after : L) (whole : List Finding) (openings : List ℕ)
+    (upto : Option ℕ) (kept : List Finding) (opened : List ℕ)
     : Type 0 where
   pub cut : IsCut whole upto kept
   pub opens : AreOpenedUpTo upto opened openings

@@ -12,7 +12,8 @@ use Rattle.tcp_streams.specs.Sequence.{source}
 
 -- the flow of a side whose initial sequence number is known
 pub record IsAssembled
-    (capture : List ℕ) (packets : List Packet) (connection : Connection) (side : Side) (initial_number : ℕ) (flow : Flow)
+    (capture : List ℕ) (packets : List Packet) (connection : Connection) (side : Side) (initial_number : ℕ)
+    (flow : Flow)
     : Type 0 where
   pub started : IsTrue flow.started
   pub is_flow : IsFlow capture (source initial_number (side_segments packets connection side))

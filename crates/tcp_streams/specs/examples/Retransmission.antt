@@ -1,7 +1,6 @@
 -- A worked example of a whole flow (RFC 9293, 3.4): sequence numbers come round within the stream, and its first bytes
--- are
--- sent again after its last ones. Payloads are the letters of the capture, and each record is captured at a thousand
--- nanoseconds times its number.
+-- are sent again after its last ones. Payloads are the letters of the capture, and each record is captured at a
+-- thousand nanoseconds times its number.
 use Rattle.std.specs.Prelude.{◌≡◌, ℕ, ◌-◌, ◌*◌, ◌^◌, Bool, true, false, List, [], ◌∷◌, length, map, slice_get, codes}
 use Rattle.std.specs.Prelude.{Some, None}
 use Rattle.audit_terms.specs.declared.sides.Side.TheVariants.{Client}
@@ -52,15 +51,15 @@ abbrev pub letters : List ℕ
 letters = codes "EFdXYabc"
 
 -- whatever connections are found, they are one, and whatever its client's flow is, it is this: six bytes, of which
--- record 4
--- brought the fourth alone, since the next two were there; all arrive with the first, which came last; and there is no
--- gap
+-- record 4 brought the fourth alone, since the next two were there; all arrive with the first, which came last; and
+-- there is no gap
 abbrev pub WrappedRetransmission : Type 0
 WrappedRetransmission =
     (found : List Connection) (connection : Connection) (flow : Flow)
     → AreConnections wrapped found
     → slice_get found 0 ≡ Some connection
-    → IsFlow letters (source connection.client_isn (side_segments wrapped connection Client)) (bytes_of flow) flow.arrivals.items flow.gap
+    → IsFlow letters (source connection.client_isn (side_segments wrapped connection Client))
+    (bytes_of flow) flow.arrivals.items flow.gap
     → (length found ≡ 1) × (initial_of connection Client ≡ Some (2 ^ 32 - 4))
     × (bytes_of flow ≡ codes "abcdEF")
     × (flow.arrivals.items ≡ record { upto = 6; rec = 5; nanos = 5000 } ∷ [])

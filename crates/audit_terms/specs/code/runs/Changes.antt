@@ -9,7 +9,8 @@ use Rattle.audit_terms.specs.InForce.{InForce, change_of, in_force_after, initia
 -- the changes that a list of frames brings
 abbrev pub changes_from : InForce → List Frame → List Change
 changes_from now [] = []
-changes_from now (frame ∷ frames) = option_to_list (change_of now frame) ++ changes_from (in_force_after now frame) frames
+changes_from now (frame ∷ frames) = option_to_list (change_of now frame)
+    ++ changes_from (in_force_after now frame) frames
 
 -- the changes that a connection's frames bring
 abbrev pub changes_of : List Frame → List Change
