@@ -34,9 +34,6 @@ and_same e f = λ i. e i && f i
 
 -- ---- credit
 
-pub not_above : (a b : ℤ) → b ≤ℤ a → int_lt a b ≡ false
-not_above a b h = grind (arith, ints)
-
 pub not_most : (a b : ℤ) → b <ℤ a → int_le a b ≡ false
 not_most a b h = grind (arith, ints)
 

@@ -28,7 +28,8 @@ use Rattle.conn_scan.specs.code.Latest.{length_by, longest_by}
 use Rattle.conn_scan.specs.code.Clear.{connections, is_usable, keeps_credit, grants_something, openings_rise}
 use Rattle.conn_scan.specs.code.Clear.{promises_allowed, promises_rise}
 use Rattle.conn_scan.specs.laws.Clear.{ClearShowsCredit}
-use Rattle.conn_scan.proofs.ClearLemmas.{not_above, not_most, usable_parts}
+use Rattle.conn_scan.specs.code.CreditLaws.{not_above}
+use Rattle.conn_scan.proofs.ClearLemmas.{not_most, usable_parts}
 
 abbrev IsCredit : Finding → Type 0
 IsCredit found = found.kind ≡ ConnectionCredit

@@ -27,15 +27,19 @@ pub struct Credit {
 impl Credit {
     ghost use Rattle.conn_scan.specs.code.Credit.{credit_met};
 
-    /// Takes one change more.
+    /// Takes one change more. Most items change nothing.
     pub(crate) fn meet(&mut self, change: i64)
         requires sum { HasRoom (2 ^ 60) self.old.sum }
         requires change { HasRoom (2 ^ 32) change }
         ensures { self.new ≡ credit_met self.old change }
     {
-        self.sum = self.sum_with(change);
-        self.high = self.high.max(self.sum);
-        self.low = self.low.min(self.sum);
+        if change > 0 {
+            self.sum = self.sum_with(change);
+            self.high = self.high.max(self.sum);
+        } else if change < 0 {
+            self.sum = self.sum_with(change);
+            self.low = self.low.min(self.sum);
+        }
     }
 
     /// The sum of these changes and of some first ones of a later summary.

@@ -1,5 +1,6 @@
 -- What a list of signed changes does to the credit of a window (RFC 9113, 6.9).
-use Rattle.std.specs.Prelude.{ℤ, pos, ◌-◌, ◌*◌, ◌^◌, ◌≤◌, ◌+ℤ◌, List, [], ◌∷◌, length}
+use Rattle.std.specs.Prelude.{ℤ, pos, ◌-◌, ◌*◌, ◌^◌, ◌≤◌, ◌+ℤ◌, int_lt, if◌then◌else◌, List, [], ◌∷◌}
+use Rattle.std.specs.Prelude.{length}
 use Rattle.std.specs.Int.{int_max, int_min}
 use Rattle.audit_terms.specs.declared.sides.Side.{Side}
 use Rattle.audit_terms.specs.declared.items.Item.{Item}
@@ -46,12 +47,12 @@ credit_join a b = record {
   low = int_min a.low (a.sum +ℤ b.low);
 }
 
--- the changes of a summary, and then one more
+-- the changes of a summary, and then one more: what rises makes no sum less, and what falls none greater
 abbrev pub credit_met : Credit → ℤ → Credit
 credit_met a change = record {
   sum = a.sum +ℤ change;
-  high = int_max a.high (a.sum +ℤ change);
-  low = int_min a.low (a.sum +ℤ change);
+  high = (if int_lt (pos 0) change then int_max a.high (a.sum +ℤ change) else a.high);
+  low = (if int_lt change (pos 0) then int_min a.low (a.sum +ℤ change) else a.low);
 }
 
 -- the credit after the changes of a summary

@@ -1,8 +1,9 @@
 -- The summary of changes obeys the laws.
-use Rattle.std.proofs.Common.{◌≡◌, ℤ, pos, ◌*◌, ◌^◌, ◌+ℤ◌, ◌≤ℤ◌, ◌≤◌, List, [], ◌∷◌, ◌++◌, length, refl, sym, subst, ◌∙◌, arith}
+use Rattle.std.proofs.Common.{◌≡◌, ℤ, pos, ◌*◌, ◌^◌, ◌+ℤ◌, ◌<ℤ◌, ◌≤ℤ◌, int_lt, ◌≤◌, List, [], ◌∷◌, ◌++◌, length, refl, sym, subst, ◌∙◌, arith}
 use Rattle.std.proofs.Common.{length-append}
+use Rattle.std.specs.Prelude.{true, false, if◌then◌else◌}
 use Rattle.std.specs.Int.{int_max, int_min}
-use Rattle.std.proofs.lemmas.Int.{ints, clamps}
+use Rattle.std.proofs.lemmas.Int.{ints, clamps, by_lt_z}
 use Rattle.audit_terms.specs.code.Room.{HasRoom}
 use Rattle.block_scan.specs.code.Summary.{SummaryLaws, summary_of}
 use Rattle.block_scan.specs.code.List.{state_after}
@@ -35,6 +36,9 @@ low-append (x ∷ a) b = let e = low-append a b in omega (arith, ints, clamps)
 pub credit_of-append : (a b : List ℤ) → credit_of (a ++ b) ≡ credit_join (credit_of a) (credit_of b)
 credit_of-append a b = λ i. record { sum = total-append a b i; high = high-append a b i; low = low-append a b i }
 
+total-met : (a : List ℤ) (x : ℤ) → total (a ++ x ∷ []) ≡ total a +ℤ x
+total-met a x = let e = total-append a (x ∷ []) in omega (arith, ints)
+
 high-met : (a : List ℤ) (x : ℤ) → high (a ++ x ∷ []) ≡ int_max (high a) (total a +ℤ x)
 high-met [] x = omega (arith, ints, clamps)
 high-met (y ∷ a) x = let e = high-met a x in omega (arith, ints, clamps)
@@ -43,12 +47,32 @@ low-met : (a : List ℤ) (x : ℤ) → low (a ++ x ∷ []) ≡ int_min (low a) (
 low-met [] x = omega (arith, ints, clamps)
 low-met (y ∷ a) x = let e = low-met a x in omega (arith, ints, clamps)
 
-total-met : (a : List ℤ) (x : ℤ) → total (a ++ x ∷ []) ≡ total a +ℤ x
-total-met a x = let e = total-append a (x ∷ []) in omega (arith, ints)
+-- the whole sum is one of those that are compared
+within : (a : List ℤ) → (low a ≤ℤ total a) × (total a ≤ℤ high a)
+within [] = (omega (arith, ints), omega (arith, ints))
+within (x ∷ a) =
+    let l = (within a).0 in let h = (within a).1 in (omega (arith, ints, clamps), omega (arith, ints, clamps))
+
+pub above : (a b : ℤ) → a <ℤ b → int_lt a b ≡ true
+above a b h = grind (arith, ints)
+
+pub not_above : (a b : ℤ) → b ≤ℤ a → int_lt a b ≡ false
+not_above a b h = grind (arith, ints)
+
+risen : (h t x : ℤ) → t ≤ℤ h → int_max h (t +ℤ x) ≡ (if int_lt (pos 0) x then int_max h (t +ℤ x) else h)
+risen h t x le = by_lt_z (pos 0) x (λ p. rw (above (pos 0) x p) refl)
+    (λ p. rw (not_above (pos 0) x p) (omega (arith, ints, clamps)))
+
+fallen : (l t x : ℤ) → l ≤ℤ t → int_min l (t +ℤ x) ≡ (if int_lt x (pos 0) then int_min l (t +ℤ x) else l)
+fallen l t x le = by_lt_z x (pos 0) (λ p. rw (above x (pos 0) p) refl)
+    (λ p. rw (not_above x (pos 0) p) (omega (arith, ints, clamps)))
 
 -- the summary of one change more
 pub credit_of-met : (a : List ℤ) (x : ℤ) → credit_of (a ++ x ∷ []) ≡ credit_met (credit_of a) x
-credit_of-met a x = λ i. record { sum = total-met a x i; high = high-met a x i; low = low-met a x i }
+credit_of-met a x =
+    let high = high-met a x ∙ risen (high a) (total a) x (within a).1 in
+    let low = low-met a x ∙ fallen (low a) (total a) x (within a).0 in
+    λ i. record { sum = total-met a x i; high = high i; low = low i }
 
 sum-one : (x : ℤ) → x +ℤ pos 0 ≡ x
 sum-one x = omega (arith, ints)
