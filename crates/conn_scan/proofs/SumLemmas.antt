@@ -66,13 +66,18 @@ credits_summed a sum e =
       ap (λ s. s.credit.server) shown ∙ sym (summary-shown credit_shows (map (change_of Server) a)),
     )
 
--- of the items of a block, those so far are few
-pub few : (block : Block) (done rest : List Item)
+-- the sum of the first items of a block is far from what a word holds
+pub sum_roomy : (block : Block) (done rest : List Item) (sum : ConnSum)
     → done ++ rest ≡ walked block.opened.now block.changes.now block.frames.now
-    → length block.frames.now ≤ 2 ^ 28 → length done ≤ 2 ^ 28
-few block done rest split number =
+    → length block.frames.now ≤ 2 ^ 28 → AllByRecursion MovesLittle done → sum ≡ conn_sum_of done
+    → HasRoom (2 ^ 60) sum.credit.client.sum × HasRoom (2 ^ 60) sum.credit.server.sum
+sum_roomy block done rest sum split number little is =
     let all = length-walked block.opened.now block.changes.now block.frames.now in
-    omega (arith, ap length split, length-append done rest)
+    let few : length done ≤ 2 ^ 28 = omega (arith, ap length split, length-append done rest) in
+    rw is (
+      (changes_roomy (change_of Client) (λ x h. h.0) done few little).sum,
+      (changes_roomy (change_of Server) (λ x h. h.1) done few little).sum,
+    )
 
 -- the connection before each block is what a scan carries
 pub states_carried : (now : ConnectionState) (blocks : List (List Item))

@@ -4,12 +4,15 @@ use Rattle.std.proofs.Common.{◌∙◌, ⊎_elim, arith}
 use Rattle.std.specs.List.{list_any, find}
 use Rattle.std.proofs.lemmas.Bool.{cases_lt, lt-ltb, le-ltb, eq-eqb, ne_eqb}
 use Rattle.audit_terms.specs.declared.frames.Frame.{Frame}
+use Rattle.std.proofs.Math.Bool.{and-false}
 use Rattle.audit_terms.specs.declared.items.Change.{Change}
+use Rattle.audit_terms.specs.declared.items.Item.{Item}
 use Rattle.audit_terms.specs.Frame.{is_headers}
 use Rattle.audit_terms.specs.code.runs.Orderly.{IsOrderlyFrom}
 use Rattle.settings_pair.specs.code.Changes.{AreOrderlyFrom}
 use Rattle.conn_scan.specs.code.Items.{item_with, items_with, NeverFallFrom}
 use Rattle.conn_scan.specs.code.Walk.{numbers_from, changes_from, is_first, first_change, item_at, walked}
+use Rattle.conn_scan.specs.code.Walk.{StartFrom, ChangesStartFrom}
 
 -- ---- opening numbers
 
@@ -124,3 +127,63 @@ pub length-walked : (opened : List ℕ) (changes : List Change) (frames : List F
 length-walked opened changes [] = refl
 length-walked opened changes (frame ∷ frames) =
     ap suc (length-walked (numbers_from frame.number opened) (changes_from frame.number changes) frames)
+
+-- ---- frames that stand beside no opening and no change
+
+-- the item of such a frame
+abbrev pub idle_at : Frame → Item
+idle_at frame = record { frame = frame; opens = false; change = None }
+
+numbers-before : (number due : ℕ) (numbers : List ℕ) → number < due → StartFrom due numbers
+    → (numbers_from number numbers ≡ numbers) × (is_first number numbers ≡ false)
+numbers-before number due [] lt h = (refl, refl)
+numbers-before number due (n ∷ numbers) lt h =
+    (rw (le-ltb n number (omega (arith, h))) refl, ne_eqb n number (λ e. absurd (omega (arith, h, e))))
+
+changes-before : (number due : ℕ) (changes : List Change) → number < due → ChangesStartFrom due changes
+    → (changes_from number changes ≡ changes) × (first_change number changes ≡ None)
+changes-before number due [] lt h = (refl, refl)
+changes-before number due (c ∷ changes) lt h = (
+  rw (le-ltb c.number number (omega (arith, h))) refl,
+  rw (ne_eqb c.number number (λ e. absurd (omega (arith, h, e)))) refl,
+)
+
+pub walked-idle : (due : ℕ) (opened : List ℕ) (changes : List Change) (frame : Frame) (frames : List Frame)
+    → frame.number < due → StartFrom due opened → ChangesStartFrom due changes
+    → walked opened changes (frame ∷ frames) ≡ idle_at frame ∷ walked opened changes frames
+walked-idle due opened changes frame frames lt o c =
+    let marks = numbers-before frame.number due opened lt o in
+    let news = changes-before frame.number due changes lt c in
+    rw (marks.0, news.0, marks.1, news.1, and-false (is_headers frame.body)) refl
+
+-- ---- what stands below all frames may be left out
+
+numbers-again : (low number : ℕ) (numbers : List ℕ) → low ≤ number
+    → numbers_from number numbers ≡ numbers_from number (numbers_from low numbers)
+numbers-again low number [] le = refl
+numbers-again low number (n ∷ numbers) le = ⊎_elim
+    (λ lt. rw (lt-ltb n low lt, lt-ltb n number (omega arith)) (numbers-again low number numbers le))
+    (λ ge. rw (le-ltb n low ge) refl)
+    (cases_lt n low)
+
+changes-again : (low number : ℕ) (changes : List Change) → low ≤ number
+    → changes_from number changes ≡ changes_from number (changes_from low changes)
+changes-again low number [] le = refl
+changes-again low number (c ∷ changes) le = ⊎_elim
+    (λ lt. rw (lt-ltb c.number low lt, lt-ltb c.number number (omega arith)) (changes-again low number changes le))
+    (λ ge. rw (le-ltb c.number low ge) refl)
+    (cases_lt c.number low)
+
+pub walked-from : (low : ℕ) (opened : List ℕ) (changes : List Change) (frames : List Frame)
+    → IsOrderlyFrom low frames
+    → walked opened changes frames ≡ walked (numbers_from low opened) (changes_from low changes) frames
+walked-from low opened changes [] h = refl
+walked-from low opened changes (frame ∷ frames) h = λ i.
+    let marks = numbers-again low frame.number opened h.0 i in
+    let news = changes-again low frame.number changes h.0 i in
+    item_at frame marks news ∷ walked marks news frames
+
+pub walked-none : (opened : List ℕ) (changes : List Change) (frames : List Frame) → length frames ≡ 0
+    → walked opened changes frames ≡ []
+walked-none opened changes [] e = refl
+walked-none opened changes (frame ∷ frames) e = absurd (omega (arith, e))

@@ -4,6 +4,7 @@ ghost use Rattle.conn_scan.specs.code.Items.{items_with, items_in, NeverFallFrom
 ghost use Rattle.audit_terms.specs.code.runs.Orderly.{IsOrderly};
 ghost use Rattle.settings_pair.specs.code.Changes.{AreOrderly};
 ghost use Rattle.conn_scan.specs.code.Walk.{numbers_from, changes_from, is_first, first_change, item_at, walked};
+ghost use Rattle.conn_scan.specs.code.Walk.{StartFrom, ChangesStartFrom};
 
 use audit_terms::{Change, Frame, Item};
 use std::alloc::{AllocError, Global};
@@ -89,6 +90,21 @@ pub fn changes_from(changes: &[Change], low: u32) -> &[Change]
     rest
 }
 
+/// A number that no opening and no change stands below: a frame that does stands beside none.
+pub(crate) fn first_number(opened: &[u32], changes: &[Change]) -> u32
+    ensures opened { StartFrom result opened.now }
+    ensures changes { ChangesStartFrom result changes.now }
+{
+    let opening = match opened.split_first() {
+        Some((first, _)) => *first,
+        None => u32::MAX,
+    };
+    match changes.split_first() {
+        Some((first, _)) => opening.min(first.number),
+        None => opening,
+    }
+}
+
 /// Is it the first number?
 fn is_first(number: u32, numbers: &[u32]) -> bool
     ensures { result ≡ is_first number numbers.now }
@@ -110,7 +126,7 @@ fn first_change(number: u32, changes: &[Change]) -> Option<Change>
 }
 
 /// A frame with its opening mark and its change, where the first number and the first change are not below its number.
-fn item_at(frame: &Frame, opened: &[u32], changes: &[Change]) -> Item
+pub(crate) fn item_at(frame: &Frame, opened: &[u32], changes: &[Change]) -> Item
     ensures { result ≡ item_at frame.now opened.now changes.now }
 {
     Item {

@@ -1,7 +1,7 @@
 ghost use Rattle.std.specs.Prelude.{◌≡◌};
-ghost use Rattle.conn_scan.specs.code.Ids.{opened_in, promised_by};
+ghost use Rattle.conn_scan.specs.code.Ids.{opened_in, promise_of};
 
-use audit_terms::Item;
+use audit_terms::{Frame, Item};
 
 /// The stream that the HEADERS of an item open, an odd one of the client (RFC 9113, 5.1.1).
 pub(crate) fn opened_in(item: &Item) -> Option<u32>
@@ -14,12 +14,12 @@ pub(crate) fn opened_in(item: &Item) -> Option<u32>
     }
 }
 
-/// The even stream that the server promises by an item.
-pub(crate) fn promised_by(item: &Item) -> Option<u32>
-    ensures { result ≡ promised_by item.now }
+/// The even stream that the server promises by a frame.
+pub(crate) fn promise_of(frame: &Frame) -> Option<u32>
+    ensures { result ≡ promise_of frame.now }
 {
-    let promised = item.frame.body.promised();
-    if item.frame.is_server_promise() && promised % 2 == 0 {
+    let promised = frame.body.promised();
+    if frame.is_server_promise() && promised % 2 == 0 {
         Some(promised)
     } else {
         None

@@ -1,8 +1,8 @@
 ghost use Rattle.std.specs.Prelude.{◌≡◌, Some};
-ghost use Rattle.conn_scan.specs.code.Latest.{grants_zero, is_zero, newer, lesser, no_item, latest_join};
-ghost use Rattle.conn_scan.specs.code.Latest.{latest_seen, latest_promised, latest_changed};
+ghost use Rattle.conn_scan.specs.code.Latest.{is_zero, newer, lesser, no_item, latest_join};
+ghost use Rattle.conn_scan.specs.code.Latest.{latest_promised, latest_changed};
 
-use audit_terms::{Change, Frame, Side, Sides};
+use audit_terms::{Change, Side, Sides};
 
 /// What some items bring into force, the lengths of their frames, and the server's promises (RFC 9113, 4.2, 6.5.2,
 /// 8.4).
@@ -24,13 +24,6 @@ pub struct Latest {
     pub early_promise: bool,
     /// Does the server promise a stream while an ENABLE_PUSH of 0 that they brought is in force?
     pub barred_promise: bool,
-}
-
-/// Does a frame grant 0 on stream 0?
-fn grants_zero(frame: &Frame) -> bool
-    ensures { result ≡ grants_zero frame.now }
-{
-    frame.body.is_zero_grant() && frame.stream == 0
 }
 
 /// Is the value there, and 0?
@@ -87,20 +80,6 @@ impl Latest {
             odd_promise: false,
             early_promise: false,
             barred_promise: false,
-        }
-    }
-
-    /// Takes the length of a frame, and whether it grants 0.
-    pub(crate) fn see(&mut self, frame: &Frame)
-        ensures { self.new ≡ latest_seen self.old frame.now }
-    {
-        let length = frame.length.get();
-        match frame.side {
-            Side::Client => self.longest.client = self.longest.client.max(length),
-            Side::Server => self.longest.server = self.longest.server.max(length),
-        }
-        if grants_zero(frame) {
-            self.zero_grant = true;
         }
     }
 

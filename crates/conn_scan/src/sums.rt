@@ -1,16 +1,18 @@
-ghost use Rattle.std.specs.Prelude.{◌≡◌, ◌≤◌, ◌^◌, length};
+ghost use Rattle.std.specs.Prelude.{◌≡◌, ◌≤◌, ◌^◌, ◌==◌, ◌&&◌, ◌||◌, length};
 ghost use Rattle.std.specs.List.{AllByRecursion};
 ghost use Rattle.audit_terms.specs.declared.sides.Side.TheVariants.{Client, Server};
+ghost use Rattle.audit_terms.specs.Frame.{is_zero_grant};
 ghost use Rattle.audit_terms.specs.Connection.{credit_moved};
 ghost use Rattle.audit_terms.specs.code.Room.{HasRoom};
 ghost use Rattle.conn_scan.specs.code.Items.{items_in, IsBlock};
 ghost use Rattle.conn_scan.specs.code.Block.{MovesLittle};
 ghost use Rattle.conn_scan.specs.code.Credit.{spent_by, granted_by, credit_met};
-ghost use Rattle.conn_scan.specs.code.ConnSum.{conn_sum_of, conn_met, conn_counted, conn_promised};
+ghost use Rattle.conn_scan.specs.code.ConnSum.{conn_sum_of, conn_met, conn_framed, conn_counted};
+ghost use Rattle.conn_scan.specs.code.ConnSum.{conn_promised};
 
-use crate::block_items::Block;
+use crate::block_items::{Block, changes_from, first_number, item_at, numbers_from};
 use crate::credits::Credit;
-use crate::ids::{opened_in, promised_by};
+use crate::ids::{opened_in, promise_of};
 use crate::latest::Latest;
 use crate::rising::Rising;
 use audit_terms::{ConnectionState, Frame, Item, Side, Sides};
@@ -29,34 +31,48 @@ pub struct ConnSum {
     pub latest: Latest,
 }
 
-/// Takes what a frame moves: by its content the credit of its sender, by its grant that of the other side.
-fn take_moves(frame: &Frame, own: &mut Credit, other: &mut Credit)
+/// Takes what a frame moves, by its content the credit of its sender and by its grant that of the other side, and
+/// whether it grants 0.
+fn take_moves(frame: &Frame, own: &mut Credit, other: &mut Credit, zero_grant: &mut bool)
     requires own { HasRoom (2 ^ 60) own.old.sum }
     requires other { HasRoom (2 ^ 60) other.old.sum }
     ensures own { own.new ≡ credit_met own.old (spent_by frame.now) }
     ensures other { other.new ≡ credit_met other.old (granted_by frame.now) }
+    ensures zero { zero_grant.new ≡ zero_grant.old || ((frame.now.stream == 0) && is_zero_grant frame.now.body) }
     ensures little { HasRoom (2 ^ 32) (spent_by frame.now) × HasRoom (2 ^ 32) (granted_by frame.now) }
 {
     if frame.stream == 0 {
         own.meet(-i64::from(frame.content_by(frame.side)));
         other.meet(i64::from(frame.body.increment()));
+        *zero_grant = *zero_grant || frame.body.is_zero_grant();
     } else if frame.body.is_content() {
         own.meet(-i64::from(frame.length.get()));
     }
 }
 
 impl ConnSum {
-    /// Takes one item more. Most items open nothing and bring nothing, and move one credit at most.
+    /// Takes one item more.
     fn meet(&mut self, item: &Item)
         requires client { HasRoom (2 ^ 60) self.old.credit.client.sum }
         requires server { HasRoom (2 ^ 60) self.old.credit.server.sum }
         ensures met { self.new ≡ conn_met self.old item.now }
         ensures little { MovesLittle item.now }
     {
-        self.count(&item.frame);
+        self.meet_frame(&item.frame);
         self.opened.meet(opened_in(item));
-        self.see_promise(item);
         self.latest.meet_change(&item.change);
+    }
+
+    /// Takes a frame that opens no stream and brings nothing into force.
+    fn meet_frame(&mut self, frame: &Frame)
+        requires client { HasRoom (2 ^ 60) self.old.credit.client.sum }
+        requires server { HasRoom (2 ^ 60) self.old.credit.server.sum }
+        ensures met { self.new ≡ conn_framed self.old frame.now }
+        ensures little { HasRoom (2 ^ 32) (credit_moved Client frame.now)
+            × HasRoom (2 ^ 32) (credit_moved Server frame.now) }
+    {
+        self.count(frame);
+        self.see_promise(frame);
     }
 
     /// Takes the length of a frame, what it moves, and whether it grants 0.
@@ -67,20 +83,30 @@ impl ConnSum {
         ensures little { HasRoom (2 ^ 32) (credit_moved Client frame.now)
             × HasRoom (2 ^ 32) (credit_moved Server frame.now) }
     {
-        self.latest.see(frame);
+        let length = frame.length.get();
+        let credit = &mut self.credit;
+        let latest = &mut self.latest;
+        let longest = &mut latest.longest;
+        let zero = &mut latest.zero_grant;
         match frame.side {
-            Side::Client => take_moves(frame, &mut self.credit.client, &mut self.credit.server),
-            Side::Server => take_moves(frame, &mut self.credit.server, &mut self.credit.client),
+            Side::Client => {
+                longest.client = longest.client.max(length);
+                take_moves(frame, &mut credit.client, &mut credit.server, zero);
+            }
+            Side::Server => {
+                longest.server = longest.server.max(length);
+                take_moves(frame, &mut credit.server, &mut credit.client, zero);
+            }
         }
     }
 
-    /// Takes a promise of the server, if the item is one.
-    fn see_promise(&mut self, item: &Item)
-        ensures { self.new ≡ conn_promised self.old item.now }
+    /// Takes a promise of the server, if the frame is one.
+    fn see_promise(&mut self, frame: &Frame)
+        ensures { self.new ≡ conn_promised self.old frame.now }
     {
-        if item.frame.is_server_promise() {
-            self.promised.meet(promised_by(item));
-            self.latest.promise(item.frame.body.promised());
+        if frame.is_server_promise() {
+            self.promised.meet(promise_of(frame));
+            self.latest.promise(frame.body.promised());
         }
     }
 }
@@ -165,8 +191,22 @@ pub fn block_sum(block: &Block) -> ConnSum
     ensures little { AllByRecursion MovesLittle (items_in block.now) }
 {
     let mut sum = ConnSum::empty();
-    for item in block.items() {
-        sum.meet(&item);
+    let mut frames = block.frames;
+    let mut opened = block.opened;
+    let mut changes = block.changes;
+    let mut due = first_number(opened, changes);
+    while let Some((frame, later)) = frames.split_first() {
+        if frame.number < due {
+            sum.meet_frame(frame);
+        } else {
+            opened = numbers_from(opened, frame.number);
+            changes = changes_from(changes, frame.number);
+            sum.meet(&item_at(frame, opened, changes));
+            opened = numbers_from(opened, frame.number + 1);
+            changes = changes_from(changes, frame.number + 1);
+            due = first_number(opened, changes);
+        }
+        frames = later;
     }
     sum
 }

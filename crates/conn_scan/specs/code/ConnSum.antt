@@ -8,7 +8,7 @@ use Rattle.audit_terms.specs.Sides.{side_of, each_side}
 pub use Rattle.conn_scan.specs.declared.sums.ConnSum.{ConnSum}
 use Rattle.conn_scan.specs.code.Credit.{change_of, credit_of, no_change, credit_join, credit_met, credit_advance}
 use Rattle.conn_scan.specs.code.Rising.{present, rising_of, no_identifier, rising_join, rising_met}
-use Rattle.conn_scan.specs.code.Ids.{opened_in, promised_by}
+use Rattle.conn_scan.specs.code.Ids.{opened_in, promise_of, promised_by}
 use Rattle.conn_scan.specs.code.Latest.{latest_of, no_item, latest_join, latest_seen, latest_marked, latest_met}
 
 -- the summary of some items: what they do to each side's credit, which streams they open, what they bring into force
@@ -35,12 +35,16 @@ conn_counted a frame = record a {
   latest = latest_seen a.latest frame;
 }
 
--- a summary, and then a promise of the server, if the item is one
-abbrev pub conn_promised : ConnSum → Item → ConnSum
-conn_promised a item = record a {
-  promised = rising_met a.promised (promised_by item);
-  latest = latest_marked a.latest item.frame;
+-- a summary, and then a promise of the server, if the frame is one
+abbrev pub conn_promised : ConnSum → Frame → ConnSum
+conn_promised a frame = record a {
+  promised = rising_met a.promised (promise_of frame);
+  latest = latest_marked a.latest frame;
 }
+
+-- a summary, and then a frame that opens no stream and brings nothing into force
+abbrev pub conn_framed : ConnSum → Frame → ConnSum
+conn_framed a frame = conn_promised (conn_counted a frame) frame
 
 -- the items of a summary, and then one more
 abbrev pub conn_met : ConnSum → Item → ConnSum

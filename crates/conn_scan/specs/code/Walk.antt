@@ -1,5 +1,5 @@
 -- The items of some frames by one forward walk over the frames, the opening numbers and the changes.
-use Rattle.std.specs.Prelude.{ℕ, ◌==◌, ◌&&◌, Bool, false, nat_lt, if◌then◌else◌, Option, Some, None, List, [], ◌∷◌}
+use Rattle.std.specs.Prelude.{ℕ, ◌≤◌, ◌==◌, ◌&&◌, Bool, false, nat_lt, if◌then◌else◌, Option, Some, None, List, [], ◌∷◌}
 use Rattle.audit_terms.specs.declared.frames.Frame.{Frame}
 use Rattle.audit_terms.specs.declared.items.Change.{Change}
 use Rattle.audit_terms.specs.declared.items.Item.{Item}
@@ -40,3 +40,13 @@ walked opened changes (frame ∷ frames) =
     let marks = numbers_from frame.number opened in
     let news = changes_from frame.number changes in
     item_at frame marks news ∷ walked marks news frames
+
+-- the first number, if there is one, is not below `low`
+abbrev pub StartFrom : (low : ℕ) → List ℕ → Type 0
+StartFrom low [] = Unit {0}
+StartFrom low (number ∷ _) = low ≤ number
+
+-- nor the number of the first change
+abbrev pub ChangesStartFrom : (low : ℕ) → List Change → Type 0
+ChangesStartFrom low [] = Unit {0}
+ChangesStartFrom low (change ∷ _) = low ≤ change.number
