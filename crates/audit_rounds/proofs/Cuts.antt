@@ -26,69 +26,16 @@ use Rattle.conn_scan.specs.declared.block_items.Block.{Block}
 use Rattle.conn_scan.specs.code.Items.{item_with, items_with, items_in, IsBlock, NeverFallFrom}
 use Rattle.conn_scan.specs.code.Block.{MovesLittle, BlockFits, connections_before}
 use Rattle.conn_scan.specs.code.ConnSum.{ConnSum, conn_sum_of}
-use Rattle.conn_scan.specs.code.SideCredit.{change_of}
-use Rattle.conn_scan.specs.code.CreditLaws.{room-wider}
+use Rattle.conn_scan.specs.code.FitLaws.{first_fit, rest_fit}
 use Rattle.conn_scan.specs.code.Walk.{numbers_from, changes_from}
 use Rattle.conn_scan.proofs.SumLemmas.{little-append}
+use Rattle.conn_scan.proofs.WalkLemmas.{numbers_from-rise, changes_from-orderly, items_with-from}
 use Rattle.audit_core.proofs.OrderlyRest.{length-orderly}
 use Rattle.split_merge.proofs.ShownMerge.{shown-append}
 use Rattle.audit_rounds.specs.declared.blocks.ConnectionBlock.{ConnectionBlock}
 use Rattle.audit_rounds.specs.code.Blocks.{IsShort, AreShort, IsSum, AreSums, IsReady, blocks_in}
 use Rattle.audit_rounds.proofs.Jobs.{all-map}
 use Rattle.audit_rounds.proofs.Parts.{orderly-earlier}
-
--- ---- what stands before a block
-
-any_from : (low number : ℕ) (numbers : List ℕ) → low ≤ number
-    → list_any (λ n. n == number) numbers ≡ list_any (λ n. n == number) (numbers_from low numbers)
-any_from low number [] le = refl
-any_from low number (n ∷ numbers) le = ⊎_elim
-    (λ lt. rw (lt-ltb n low lt, ne_eqb n number (λ e. absurd (omega arith))) (any_from low number numbers le))
-    (λ ge. rw (le-ltb n low ge) refl)
-    (cases_lt n low)
-
-rise-from : (start low : ℕ) (numbers : List ℕ) → NeverFallFrom start numbers
-    → NeverFallFrom 0 (numbers_from low numbers)
-rise-from start low [] h = tt
-rise-from start low (n ∷ numbers) h = ⊎_elim
-    (λ lt. rw (lt-ltb n low lt) (rise-from n low numbers h.1))
-    (λ ge. rw (le-ltb n low ge) (omega arith, h.1))
-    (cases_lt n low)
-
-find_from : (low number : ℕ) (changes : List Change) → low ≤ number
-    → find (λ (change : Change). change.number == number) changes
-    ≡ find (λ (change : Change). change.number == number) (changes_from low changes)
-find_from low number [] le = refl
-find_from low number (c ∷ changes) le = ⊎_elim
-    (λ lt. rw (lt-ltb c.number low lt, ne_eqb c.number number (λ e. absurd (omega arith)))
-    (find_from low number changes le))
-    (λ ge. rw (le-ltb c.number low ge) refl)
-    (cases_lt c.number low)
-
-orderly-from : (start low : ℕ) (changes : List Change) → AreOrderlyFrom start changes
-    → AreOrderlyFrom 0 (changes_from low changes)
-orderly-from start low [] h = tt
-orderly-from start low (c ∷ changes) h = ⊎_elim
-    (λ lt. rw (lt-ltb c.number low lt) (orderly-from (c.number + 1) low changes h.2))
-    (λ ge. rw (le-ltb c.number low ge) (omega arith, h.1, h.2))
-    (cases_lt c.number low)
-
--- what stands below all frames may be left out
-items-from : (low base : ℕ) (opened : List ℕ) (changes : List Change) (frames : List Frame) → low ≤ base
-    → IsOrderlyFrom base frames
-    → items_with opened changes frames ≡ items_with (numbers_from low opened) (changes_from low changes) frames
-items-from low base opened changes [] le h = refl
-items-from low base opened changes (frame ∷ frames) le h =
-    let in_range : low ≤ frame.number = omega (arith, h.0) in
-    let first : item_with opened changes frame
-    ≡ item_with (numbers_from low opened) (changes_from low changes) frame = λ i. record {
-      frame = frame;
-      opens = is_headers frame.body && any_from low frame.number opened in_range i;
-      change = find_from low frame.number changes in_range i;
-    } in
-    ap (λ item. item ∷ items_with opened changes frames) first
-    ∙ ap (λ items. item_with (numbers_from low opened) (changes_from low changes) frame ∷ items)
-    (items-from low (frame.number + 1) opened changes frames (omega arith) h.2)
 
 -- ---- one block more
 
@@ -119,7 +66,7 @@ items-cut opened changes frames later first n is orderly =
     let news = changes_from first.number changes in
     sym (map-append (item_with marks news) (take n frames) (drop n frames))
     ∙ ap (items_with marks news) (take-append-drop n frames)
-    ∙ sym (items-from first.number first.number opened changes frames (omega arith)
+    ∙ sym (items_with-from first.number first.number opened changes frames (omega arith)
     (own_number frames later first is orderly))
 
 items-as : (block : Block) (opened : List ℕ) (changes : List Change) (frames : List Frame)
@@ -132,8 +79,8 @@ cut-is : (opened : List ℕ) (changes : List Change) (first : Frame) (part : Lis
     → block.frames.now ≡ part → NeverFallFrom 0 opened → AreOrderlyFrom 0 changes → IsOrderly part → IsBlock block
 cut-is opened changes first part block o c f rise orderly ranges = record {
   frames = subst IsOrderly (sym f) ranges;
-  opened = subst (NeverFallFrom 0) (sym o) (rise-from 0 first.number opened rise);
-  changes = subst (AreOrderlyFrom 0) (sym c) (orderly-from 0 first.number changes orderly);
+  opened = subst (NeverFallFrom 0) (sym o) (numbers_from-rise 0 0 first.number opened (omega arith) rise);
+  changes = subst (AreOrderlyFrom 0) (sym c) (changes_from-orderly 0 0 first.number changes (omega arith) orderly);
 }
 
 -- a block of some frames, and what is left of them
@@ -218,59 +165,6 @@ sums-slice blocks sums start number h l =
 
 -- ---- the connection before each block
 
-moved_room : (n : ℕ) (credit change : ℤ) → HasRoom n credit → HasRoom (2 ^ 32) change
-    → HasRoom (n + 2 ^ 32) (credit +ℤ change)
-moved_room n credit change h k =
-    let a = h.0 in let b = h.1 in let c = k.0 in let d = k.1 in (omega (arith, ints), omega (arith, ints))
-
-client_room : (n : ℕ) (now : ConnectionState) (items : List Item) → AllByRecursion MovesLittle items
-    → HasRoom n now.credit.client → HasRoom (n + 2 ^ 32 * length items) (connection_after_all now items).credit.client
-client_room n now [] little h = room-wider _ _ now.credit.client (omega arith) h
-client_room n now (item ∷ items) little h =
-    room-wider _ _ (connection_after_all now (item ∷ items)).credit.client (omega arith)
-    (client_room (n + 2 ^ 32) (connection_after now item) items little.1
-    (moved_room n now.credit.client (change_of Client item) h little.0.0))
-
-server_room : (n : ℕ) (now : ConnectionState) (items : List Item) → AllByRecursion MovesLittle items
-    → HasRoom n now.credit.server → HasRoom (n + 2 ^ 32 * length items) (connection_after_all now items).credit.server
-server_room n now [] little h = room-wider _ _ now.credit.server (omega arith) h
-server_room n now (item ∷ items) little h =
-    room-wider _ _ (connection_after_all now (item ∷ items)).credit.server (omega arith)
-    (server_room (n + 2 ^ 32) (connection_after now item) items little.1
-    (moved_room n now.credit.server (change_of Server item) h little.0.1))
-
-little-front : (a b : List Item) → AllByRecursion MovesLittle (a ++ b) → AllByRecursion MovesLittle a
-little-front [] b h = tt
-little-front (x ∷ a) b h = (h.0, little-front a b h.1)
-
-little-back : (a b : List Item) → AllByRecursion MovesLittle (a ++ b) → AllByRecursion MovesLittle b
-little-back [] b h = h
-little-back (x ∷ a) b h = little-back a b h.1
-
-first_fits : (now : ConnectionState) (block later : List Item) → BlockFits now (block ++ later) → BlockFits now block
-first_fits now block later fits =
-    let both = length-append block later in
-    let number = fits.number in
-    record {
-      number = omega arith;
-      client = room-wider _ _ now.credit.client (omega arith) fits.client;
-      server = room-wider _ _ now.credit.server (omega arith) fits.server;
-    }
-
-rest_fits : (now : ConnectionState) (block later : List Item) → BlockFits now (block ++ later)
-    → AllByRecursion MovesLittle (block ++ later) → BlockFits (connection_after_all now block) later
-rest_fits now block later fits little =
-    let both = length-append block later in
-    let number = fits.number in
-    let first = little-front block later little in
-    record {
-      number = omega arith;
-      client = room-wider _ _ (connection_after_all now block).credit.client (omega arith)
-          (client_room _ now block first fits.client);
-      server = room-wider _ _ (connection_after_all now block).credit.server (omega arith)
-          (server_room _ now block first fits.server);
-    }
-
 pub before_number : (now : ConnectionState) (blocks : List Block)
     → length (connections_before now (map items_in blocks)) ≡ length blocks
 before_number now [] = refl
@@ -285,13 +179,12 @@ pub before_each : (now : ConnectionState) (blocks : List Block) (n : ℕ) (befor
 before_each now [] n before block l short fits little = absurd (omega arith)
 before_each now (b ∷ blocks) zero before block l short fits little = record {
   is_block = (short 0 b (omega arith)).is_block;
-  fits = first_fits now (items_in b) (items_of (map items_in blocks)) fits;
+  fits = (first_fit now (items_in b) (items_of (map items_in blocks)) (fits, little)).0;
 }
 before_each now (b ∷ blocks) (suc n) before block l short fits little =
+    let rest = rest_fit now (items_in b) (items_of (map items_in blocks)) (fits, little) in
     before_each (connection_after_all now (items_in b)) blocks n before block (omega arith)
-    (λ k d le. short (suc k) d (omega arith))
-    (rest_fits now (items_in b) (items_of (map items_in blocks)) fits little)
-    (little-back (items_in b) (items_of (map items_in blocks)) little)
+    (λ k d le. short (suc k) d (omega arith)) rest.0 rest.1
 
 -- ---- what is shown
 

@@ -39,12 +39,12 @@ any_first number (n ∷ numbers) h = ⊎_elim
     (λ ge. rw (eq-eqb n number (omega (arith, h.0))) refl)
     (cases_lt number n)
 
-numbers_from-rise : (start low : ℕ) (numbers : List ℕ) → NeverFallFrom start numbers
-    → NeverFallFrom low (numbers_from low numbers)
-numbers_from-rise start low [] h = tt
-numbers_from-rise start low (n ∷ numbers) h = ⊎_elim
-    (λ lt. rw (lt-ltb n low lt) (numbers_from-rise n low numbers h.1))
-    (λ ge. rw (le-ltb n low ge) (ge, h.1))
+pub numbers_from-rise : (base start low : ℕ) (numbers : List ℕ) → base ≤ low → NeverFallFrom start numbers
+    → NeverFallFrom base (numbers_from low numbers)
+numbers_from-rise base start low [] le h = tt
+numbers_from-rise base start low (n ∷ numbers) le h = ⊎_elim
+    (λ lt. rw (lt-ltb n low lt) (numbers_from-rise base n low numbers le h.1))
+    (λ ge. rw (le-ltb n low ge) (omega arith, h.1))
     (cases_lt n low)
 
 -- ---- changes
@@ -75,18 +75,18 @@ find_first number (c ∷ changes) h = ⊎_elim
     (λ ge. rw (eq-eqb c.number number (omega (arith, h.0))) refl)
     (cases_lt number c.number)
 
-changes_from-orderly : (start low : ℕ) (changes : List Change) → AreOrderlyFrom start changes
-    → AreOrderlyFrom low (changes_from low changes)
-changes_from-orderly start low [] h = tt
-changes_from-orderly start low (c ∷ changes) h = ⊎_elim
-    (λ lt. rw (lt-ltb c.number low lt) (changes_from-orderly (c.number + 1) low changes h.2))
-    (λ ge. rw (le-ltb c.number low ge) (ge, h.1, h.2))
+pub changes_from-orderly : (base start low : ℕ) (changes : List Change) → base ≤ low → AreOrderlyFrom start changes
+    → AreOrderlyFrom base (changes_from low changes)
+changes_from-orderly base start low [] le h = tt
+changes_from-orderly base start low (c ∷ changes) le h = ⊎_elim
+    (λ lt. rw (lt-ltb c.number low lt) (changes_from-orderly base (c.number + 1) low changes le h.2))
+    (λ ge. rw (le-ltb c.number low ge) (omega arith, h.1, h.2))
     (cases_lt c.number low)
 
 -- ---- items
 
 -- what stands below all frames may be left out
-items_with-from : (low base : ℕ) (opened : List ℕ) (changes : List Change) (frames : List Frame) → low ≤ base
+pub items_with-from : (low base : ℕ) (opened : List ℕ) (changes : List Change) (frames : List Frame) → low ≤ base
     → IsOrderlyFrom base frames
     → items_with opened changes frames ≡ items_with (numbers_from low opened) (changes_from low changes) frames
 items_with-from low base opened changes [] le h = refl
@@ -110,8 +110,8 @@ walked-items_with base start begin opened changes (frame ∷ frames) h o c =
     let n = frame.number in
     let marks = numbers_from n opened in
     let news = changes_from n changes in
-    let rise = numbers_from-rise start n opened o in
-    let orderly = changes_from-orderly begin n changes c in
+    let rise = numbers_from-rise n start n opened (omega arith) o in
+    let orderly = changes_from-orderly n begin n changes (omega arith) c in
     let first : item_at frame marks news ≡ item_with marks news frame = λ i. record {
       frame = frame;
       opens = is_headers frame.body && sym (any_first n marks rise) i;
