@@ -5,7 +5,8 @@ use Rattle.audit_terms.specs.declared.connections.ConnectionState.{ConnectionSta
 use Rattle.audit_terms.specs.declared.items.Item.{Item}
 use Rattle.audit_terms.specs.code.runs.Blocks.{block_run}
 use Rattle.audit_terms.specs.Finding.{shown}
-use Rattle.conn_scan.specs.code.ConnSum.{ConnSum, conn_sum_of}
+use Rattle.conn_scan.specs.declared.sums.ConnSum.{ConnSum}
+use Rattle.conn_scan.specs.code.ConnSum.{conn_sum_of}
 use Rattle.conn_scan.specs.code.Clear.{is_clear}
 use Rattle.conn_scan.proofs.ShownLemmas.{clear_shows_credit}
 

@@ -25,7 +25,8 @@ use Rattle.block_scan.specs.code.List.{items_of}
 use Rattle.conn_scan.specs.declared.block_items.Block.{Block}
 use Rattle.conn_scan.specs.code.Items.{item_with, items_with, items_in, IsBlock, NeverFallFrom}
 use Rattle.conn_scan.specs.code.Block.{MovesLittle, BlockFits, connections_before}
-use Rattle.conn_scan.specs.code.ConnSum.{ConnSum, conn_sum_of}
+use Rattle.conn_scan.specs.declared.sums.ConnSum.{ConnSum}
+use Rattle.conn_scan.specs.code.ConnSum.{conn_sum_of}
 use Rattle.conn_scan.specs.code.FitLaws.{first_fit, rest_fit}
 use Rattle.conn_scan.specs.code.Walk.{numbers_from, changes_from}
 use Rattle.conn_scan.proofs.SumLemmas.{little-append}

@@ -9,7 +9,7 @@ use Rattle.audit_terms.specs.Connection.{connection_start}
 use Rattle.conn_scan.specs.declared.block_items.Block.{Block}
 use Rattle.conn_scan.specs.code.Items.{items_in, IsBlock}
 use Rattle.conn_scan.specs.code.Block.{BlockFits}
-use Rattle.conn_scan.specs.code.ConnSum.{ConnSum}
+use Rattle.conn_scan.specs.declared.sums.ConnSum.{ConnSum}
 use Rattle.stop_desk.specs.code.Stop.{IsStop}
 use Rattle.split_merge.specs.code.Board.{Job, IsLeast, StopsAt, findings_of_parts}
 use Rattle.split_merge.proofs.RoundMerge.{board_merges_lem}

@@ -1,6 +1,7 @@
 -- The run of a block, item by item.
-use Rattle.std.proofs.Common.{◌≡◌, ℕ, ◌^◌, ◌+◌, Bool, true, false, cond, List, [], ◌∷◌, ◌++◌, append_assoc, sym, ap}
-use Rattle.std.proofs.Common.{◌∙◌, refl, arith}
+use Rattle.std.proofs.Common.{◌≡◌, ℕ, ◌^◌, ◌+◌, Bool, List, ◌∷◌, ◌++◌, append_assoc, sym, ap}
+use Rattle.std.proofs.Common.{◌∙◌, arith}
+use Rattle.std.proofs.lemmas.List.Elements.{filter-append}
 use Rattle.audit_terms.specs.declared.connections.ConnectionState.{ConnectionState}
 use Rattle.audit_terms.specs.declared.items.Item.{Item}
 use Rattle.audit_terms.specs.declared.findings.Finding.{Finding}
@@ -32,15 +33,6 @@ fits_next now next item rest fits client server =
       server = room-wider _ _ next.credit.server (omega arith) (server _ fits.server);
     }
 
-shown-append : (credits : Bool) (a b : List Finding) → shown credits (a ++ b) ≡ shown credits a ++ shown credits b
-shown-append credits [] b = refl
-shown-append credits (x ∷ a) b = step (is_shown credits x) (shown-append credits a b) where
-  step : (keep : Bool) → shown credits (a ++ b) ≡ shown credits a ++ shown credits b
-      → cond keep (x ∷ shown credits (a ++ b)) (shown credits (a ++ b))
-      ≡ cond keep (x ∷ shown credits a) (shown credits a) ++ shown credits b
-  step true e = ap (λ l. x ∷ l) e
-  step false e = e
-
 -- what is shown of a block, one item further
 pub shown_next : (credits : Bool) (whole : List Finding) (state next : ConnectionState) (item : Item) (rest : List Item)
     (old new said : List Finding)
@@ -50,7 +42,7 @@ pub shown_next : (credits : Bool) (whole : List Finding) (state next : Connectio
     → whole ≡ new ++ shown credits (block_run next rest)
 shown_next credits whole state next item rest old new said so_far after here added =
     let later = block_run (connection_after state item) rest in
-    so_far ∙ ap (λ l. old ++ l) (shown-append credits (in_order (connection_said state item)) later)
+    so_far ∙ ap (λ l. old ++ l) (filter-append (is_shown credits) (in_order (connection_said state item)) later)
     ∙ ap (λ l. old ++ (l ++ shown credits later)) (sym here)
     ∙ sym (append_assoc old said (shown credits later))
     ∙ ap (λ l. l ++ shown credits later) (sym added)

@@ -9,7 +9,9 @@ use Rattle.std.proofs.lemmas.Int.{ints, clamps, by_lt_z}
 use Rattle.std.proofs.Math.Bool.{and-false, and-true, and_assoc, or-false}
 use Rattle.std.proofs.lemmas.Bool.{cases_lt, lt-ltb, le-ltb, le-leb, lt-leb}
 use Rattle.std.proofs.lemmas.Bool.Decides.{nat_tests}
+use Rattle.audit_terms.specs.declared.sides.Side.{Side}
 use Rattle.audit_terms.specs.declared.sides.Side.TheVariants.{Client, Server}
+use Rattle.audit_terms.specs.Change.{new_limit}
 use Rattle.audit_terms.specs.declared.connections.ConnectionState.{ConnectionState}
 use Rattle.audit_terms.specs.declared.items.Item.{Item}
 use Rattle.audit_terms.specs.Frame.{is_server_promise, promised_in}
@@ -22,7 +24,7 @@ use Rattle.conn_scan.specs.code.Latest.{limit_in, push_in, is_zero, lesser, leas
 use Rattle.conn_scan.specs.code.Latest.{some_zero_grant, some_odd_promise, some_early_promise, some_barred_promise}
 use Rattle.conn_scan.specs.code.Latest.{latest_of}
 use Rattle.conn_scan.specs.code.ConnSum.{conn_sum_of}
-use Rattle.conn_scan.specs.code.Clear.{connections, is_usable, keeps_credit, grants_something, openings_rise}
+use Rattle.conn_scan.specs.code.Clear.{connections, is_usable, grants_something, openings_rise}
 use Rattle.conn_scan.specs.code.Clear.{promises_allowed, promises_rise, is_clear}
 use Rattle.conn_scan.specs.code.CreditLaws.{high-signed, low-signed}
 use Rattle.conn_scan.specs.code.RisingLaws.{below_both, both_below}
@@ -91,17 +93,21 @@ usable_same c [] = no_change_same c
 usable_same c (x ∷ xs) = ap (λ b. is_usable c && b) (usable_same (c +ℤ x) xs)
     ∙ step_same c x (low xs) (high xs) (low-signed xs) (high-signed xs)
 
-client_usable : (now : ConnectionState) (items : List Item) → keeps_credit Client now items
-    ≡ usable_all now.credit.client (map (change_of Client) items)
-client_usable now [] = refl
-client_usable now (item ∷ items) =
-    ap (λ b. is_usable now.credit.client && b) (client_usable (connection_after now item) items)
+-- of one side
+module _ (credit : ConnectionState → ℤ) (change : Item → ℤ)
+    (step : (now : ConnectionState) (item : Item) → credit (connection_after now item) ≡ credit now +ℤ change item)
+  where
+    usable_items : (now : ConnectionState) (items : List Item)
+        → list_all (λ (at : ConnectionState). is_usable (credit at)) (connections now items)
+        ≡ usable_all (credit now) (map change items)
+    usable_items now [] = refl
+    usable_items now (item ∷ items) = ap (λ b. is_usable (credit now) && b) (usable_items (connection_after now item) items
+        ∙ ap (λ c. usable_all c (map change items)) (step now item))
 
-server_usable : (now : ConnectionState) (items : List Item) → keeps_credit Server now items
-    ≡ usable_all now.credit.server (map (change_of Server) items)
-server_usable now [] = refl
-server_usable now (item ∷ items) =
-    ap (λ b. is_usable now.credit.server && b) (server_usable (connection_after now item) items)
+    credit_same : (now : ConnectionState) (items : List Item)
+        → list_all (λ (at : ConnectionState). is_usable (credit at)) (connections now items)
+        ≡ credit_clear (credit now) (credit_of (map change items))
+    credit_same now items = usable_items now items ∙ usable_same (credit now) (map change items)
 
 -- ---- identifiers
 
@@ -243,35 +249,26 @@ length_turn l limit None (Some y) = and_twice (nat_le l limit) (nat_le l y)
 length_turn l limit (Some v) None = ap (λ t. nat_le l limit && t) (and-true (nat_le l v))
 length_turn l limit (Some v) (Some y) = ap (λ t. nat_le l limit && t) (le_min l v y)
 
-client_within : (l : ℕ) (now : ConnectionState) (items : List Item)
-    → list_all (λ (at : ConnectionState). nat_le l at.limit.client) (connections now items)
-    ≡ length_clear now.limit.client l (least_limit Client items)
-client_within l now [] = refl
-client_within l now (item ∷ items) =
-    let limit = now.limit.client in
-    ap (λ b. nat_le l limit && b) (client_within l (connection_after now item) items)
-    ∙ ap (λ n. nat_le l limit && (nat_le l n && is_within l (least_limit Client items)))
-    (sym (limit_is Client item.change limit))
-    ∙ length_turn l limit (limit_in Client item.change) (least_limit Client items)
-
-server_within : (l : ℕ) (now : ConnectionState) (items : List Item)
-    → list_all (λ (at : ConnectionState). nat_le l at.limit.server) (connections now items)
-    ≡ length_clear now.limit.server l (least_limit Server items)
-server_within l now [] = refl
-server_within l now (item ∷ items) =
-    let limit = now.limit.server in
-    ap (λ b. nat_le l limit && b) (server_within l (connection_after now item) items)
-    ∙ ap (λ n. nat_le l limit && (nat_le l n && is_within l (least_limit Server items)))
-    (sym (limit_is Server item.change limit))
-    ∙ length_turn l limit (limit_in Server item.change) (least_limit Server items)
+module _ (d : Side) (limit : ConnectionState → ℕ)
+    (step : (now : ConnectionState) (item : Item) → limit (connection_after now item)
+    ≡ new_limit item.change d (limit now)) where
+  within_same : (l : ℕ) (now : ConnectionState) (items : List Item)
+      → list_all (λ (at : ConnectionState). nat_le l (limit at)) (connections now items)
+      ≡ length_clear (limit now) l (least_limit d items)
+  within_same l now [] = refl
+  within_same l now (item ∷ items) =
+      ap (λ b. nat_le l (limit now) && b) (within_same l (connection_after now item) items)
+      ∙ ap (λ n. nat_le l (limit now) && (nat_le l n && is_within l (least_limit d items)))
+      (step now item ∙ sym (limit_is d item.change (limit now)))
+      ∙ length_turn l (limit now) (limit_in d item.change) (least_limit d items)
 
 pub clear_same : (now : ConnectionState) (items : List Item) → sum_clear now (conn_sum_of items) ≡ is_clear now items
 clear_same now items = sym (
     and_same
     (and_same
     (and_same
-    (client_usable now items ∙ usable_same now.credit.client (map (change_of Client) items))
-    (server_usable now items ∙ usable_same now.credit.server (map (change_of Server) items)))
+    (credit_same (λ s. s.credit.client) (change_of Client) (λ s x. refl) now items)
+    (credit_same (λ s. s.credit.server) (change_of Server) (λ s x. refl) now items))
     (and_same (grants_same now items)
     (openings_same now items ∙ rise_same now.opened (present (map opened_in items)))))
     (and_same
@@ -279,5 +276,5 @@ clear_same now items = sym (
     (promises_same now items
     ∙ ap (λ b. b && not (some_odd_promise items)) (rise_same now.promised (present (map promised_by items)))))
     (and_same
-    (client_within (longest_by Client items) now items)
-    (server_within (longest_by Server items) now items))))
+    (within_same Client (λ s. s.limit.client) (λ s x. refl) (longest_by Client items) now items)
+    (within_same Server (λ s. s.limit.server) (λ s x. refl) (longest_by Server items) now items))))

@@ -1,9 +1,12 @@
 -- The items of a connection's frames are those of the pass, and those of consecutive blocks join.
-use Rattle.std.proofs.Common.{◌≡◌, ℕ, ◌+◌, ◌<◌, ◌≤◌, ◌==◌, Bool, true, false, ◌||◌, ◌&&◌, cond, List, [], ◌∷◌, ◌++◌}
+use Rattle.std.proofs.Common.{◌≡◌, ℕ, ◌+◌, ◌<◌, ◌≤◌, ◌==◌, false, ◌||◌, ◌&&◌, cond, List, [], ◌∷◌, ◌++◌}
 use Rattle.std.proofs.Common.{append_assoc, Option, Some, None, refl, sym, ap, ◌∙◌, arith}
 use Rattle.std.specs.List.{AllByRecursion, list_any}
 use Rattle.std.specs.Option.{option_to_list}
 use Rattle.std.proofs.lemmas.Bool.{eq-eqb, ne_eqb}
+use Rattle.std.proofs.Math.Bool.{or-false}
+use Rattle.std.proofs.lemmas.List.Folds.{list_any-append}
+use Rattle.conn_scan.specs.code.Each.{all-append}
 use Rattle.audit_terms.specs.declared.frames.Frame.{Frame}
 use Rattle.audit_terms.specs.declared.settings.Settings.{Settings}
 use Rattle.audit_terms.specs.declared.items.Change.{Change}
@@ -75,10 +78,6 @@ below-lack low number [] le h = tt
 below-lack low number (change ∷ changes) le h =
     ((λ e. absurd (omega (arith, h.0, e))), below-lack low number changes le h.1)
 
-below-append : (low : ℕ) (a b : List Change) → AllBelow low a → AllBelow low b → AllBelow low (a ++ b)
-below-append low [] b h k = k
-below-append low (x ∷ a) b h k = (h.0, below-append low a b h.1 k)
-
 below-wider : (low high : ℕ) (changes : List Change) → low ≤ high → AllBelow low changes → AllBelow high changes
 below-wider low high [] le h = tt
 below-wider low high (change ∷ changes) le h = (omega (arith, h.0), below-wider low high changes le h.1)
@@ -111,28 +110,13 @@ items-from state low opened before (frame ∷ frames) h below marked =
     ∙ ap (λ changes. item_of state frame ∷ items_with opened changes frames) (sym turned)
     ∙ ap (λ items. item_of state frame ∷ items)
     (items-from (next state frame) (frame.number + 1) opened (before ++ own) frames h.2
-    (below-append (frame.number + 1) before own (below-wider low (frame.number + 1) before (omega (arith, h.0)) below)
+    (all-append (λ (change : Change). change.number < frame.number + 1) before own (below-wider low (frame.number + 1) before (omega (arith, h.0)) below)
     (taking-below frame (taken state.in_force frame))) marked.1)
 
 pub items_are_the_pass : ItemsAreThePass
 items_are_the_pass frames opened orderly marked = items-from pass_start 0 opened [] frames orderly tt marked
 
 -- ---- two blocks
-
-any-append : (number : ℕ) (a b : List ℕ)
-    → list_any (λ n. n == number) (a ++ b) ≡ list_any (λ n. n == number) a || list_any (λ n. n == number) b
-any-append number [] b = refl
-any-append number (x ∷ a) b = step (x == number) (any-append number a b) where
-  step : (t : Bool) → list_any (λ n. n == number) (a ++ b)
-      ≡ list_any (λ n. n == number) a || list_any (λ n. n == number) b
-      → t || list_any (λ n. n == number) (a ++ b)
-      ≡ (t || list_any (λ n. n == number) a) || list_any (λ n. n == number) b
-  step true e = refl
-  step false e = e
-
-or_false : (a : Bool) → a || false ≡ a
-or_false true = refl
-or_false false = refl
 
 any-none : (number : ℕ) (a : List ℕ) → AllByRecursion (λ n. n ≡ number → ⊥) a
     → list_any (λ n. n == number) a ≡ false
@@ -160,17 +144,17 @@ module _ (number : ℕ) (opened opened' : List ℕ) (changes changes' : List Cha
   item-first : (frame : Frame) → frame.number < number
       → item_with (opened ++ opened') (changes ++ changes') frame ≡ item_with opened changes frame
   item-first frame lt =
-      let mark = any-append frame.number opened opened'
+      let mark = list_any-append (λ n. n == frame.number) opened opened'
       ∙ ap (λ t. list_any (λ n. n == frame.number) opened || t)
       (any-none frame.number opened' (numbers_above number frame.number opened' o.above lt))
-      ∙ or_false (list_any (λ n. n == frame.number) opened) in
+      ∙ or-false (list_any (λ n. n == frame.number) opened) in
       let found = find-before frame changes changes' (changes_above number frame.number changes' c.above lt) in
       λ i. record { frame = frame; opens = is_headers frame.body && mark i; change = found i }
 
   item-later : (frame : Frame) → number ≤ frame.number
       → item_with (opened ++ opened') (changes ++ changes') frame ≡ item_with opened' changes' frame
   item-later frame le =
-      let mark = any-append frame.number opened opened'
+      let mark = list_any-append (λ n. n == frame.number) opened opened'
       ∙ ap (λ t. t || list_any (λ n. n == frame.number) opened')
       (any-none frame.number opened (numbers_below number frame.number opened o.below le)) in
       let found = find-behind frame changes changes' (below-lack number frame.number changes le c.below) in

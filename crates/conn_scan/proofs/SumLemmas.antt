@@ -17,15 +17,16 @@ use Rattle.conn_scan.specs.declared.block_items.Block.{Block}
 use Rattle.conn_scan.specs.code.Walk.{walked}
 use Rattle.conn_scan.proofs.WalkLemmas.{length-walked}
 use Rattle.conn_scan.specs.code.Block.{MovesLittle, ItemsFit, connections_before}
-use Rattle.conn_scan.specs.code.ConnSum.{ConnSum, conn_sum_of, conn_none, conn_one, conn_join}
+use Rattle.conn_scan.specs.declared.sums.ConnSum.{ConnSum}
+use Rattle.conn_scan.specs.code.ConnSum.{conn_sum_of, conn_none, conn_one, conn_join}
+use Rattle.conn_scan.specs.code.Each.{all-append}
 use Rattle.conn_scan.specs.code.FitLaws.{room-wider}
 use Rattle.conn_scan.specs.code.CreditLaws.{IsRoomy, roomy, credit_shows}
 use Rattle.conn_scan.specs.code.ConnSumLaws.{all-after, conn_shows}
 
 pub little-append : (a b : List Item) → AllByRecursion MovesLittle a → AllByRecursion MovesLittle b
     → AllByRecursion MovesLittle (a ++ b)
-little-append [] b h k = k
-little-append (x ∷ a) b h k = (h.0, little-append a b h.1 k)
+little-append = all-append MovesLittle
 
 -- the credit of one side, which each item changes by little
 module _ (change : Item → ℤ) (small : (item : Item) → MovesLittle item → HasRoom (2 ^ 32) (change item)) where

@@ -8,6 +8,7 @@ pub mod Block
 pub mod Walk
 pub mod Clear
 pub mod Cleared
+pub mod Each
 pub mod FitLaws
 pub mod CreditLaws
 pub mod RisingLaws

@@ -7,7 +7,8 @@ use Rattle.block_scan.specs.code.List.{items_of}
 use Rattle.conn_scan.specs.declared.block_items.Block.{Block}
 use Rattle.conn_scan.specs.code.Items.{items_in, IsBlock}
 use Rattle.conn_scan.specs.code.Block.{MovesLittle, BlockFits}
-use Rattle.conn_scan.specs.code.ConnSum.{ConnSum, conn_sum_of}
+use Rattle.conn_scan.specs.declared.sums.ConnSum.{ConnSum}
+use Rattle.conn_scan.specs.code.ConnSum.{conn_sum_of}
 use Rattle.audit_rounds.specs.declared.blocks.ConnectionBlock.{ConnectionBlock}
 
 -- a block that may be summed

@@ -6,7 +6,7 @@ use Rattle.audit_terms.specs.Window.{largest_window}
 use Rattle.conn_scan.specs.declared.credits.Credit.{Credit}
 use Rattle.conn_scan.specs.declared.rising.Rising.{Rising}
 use Rattle.conn_scan.specs.declared.latest.Latest.{Latest}
-use Rattle.conn_scan.specs.code.ConnSum.{ConnSum}
+use Rattle.conn_scan.specs.declared.sums.ConnSum.{ConnSum}
 use Rattle.conn_scan.specs.code.Clear.{is_usable}
 
 -- the credit is usable before the changes of a summary and after each

@@ -5,7 +5,7 @@ use Rattle.audit_terms.specs.declared.frames.Frame.{Frame}
 use Rattle.audit_terms.specs.declared.items.Item.{Item}
 use Rattle.audit_terms.specs.Connection.{credit_moved}
 use Rattle.audit_terms.specs.Sides.{side_of, each_side}
-pub use Rattle.conn_scan.specs.declared.sums.ConnSum.{ConnSum}
+use Rattle.conn_scan.specs.declared.sums.ConnSum.{ConnSum}
 use Rattle.conn_scan.specs.code.Credit.{change_of, credit_of, no_change, credit_join, credit_met, credit_advance}
 use Rattle.conn_scan.specs.code.Rising.{present, rising_of, no_identifier, rising_join, rising_met}
 use Rattle.conn_scan.specs.code.Ids.{opened_in, promise_of, promised_by}

@@ -1,6 +1,7 @@
 -- What a list of signed changes does to the credit of a window (RFC 9113, 6.9).
 use Rattle.std.specs.Prelude.{ℤ, pos, ◌-◌, ◌*◌, ◌^◌, ◌≤◌, ◌+ℤ◌, ◌-ℤ◌, ◌==◌, int_lt, if◌then◌else◌, List, [], ◌∷◌}
 use Rattle.std.specs.Prelude.{length}
+use Rattle.std.specs.List.{AllByRecursion}
 use Rattle.std.specs.Int.{int_max, int_min}
 use Rattle.audit_terms.specs.declared.sides.Side.{Side}
 use Rattle.audit_terms.specs.declared.frames.Frame.{Frame}
@@ -71,8 +72,7 @@ credit_advance credit changes = credit +ℤ changes.sum
 
 -- each change is at most 2^32 in size
 abbrev pub AreSmall : List ℤ → Type 0
-AreSmall [] = Unit {0}
-AreSmall (change ∷ changes) = HasRoom (2 ^ 32) change × AreSmall changes
+AreSmall = AllByRecursion (HasRoom (2 ^ 32))
 
 -- At most 2^28 changes, each at most 2^32 in size, from a credit that none of them can bring beyond 2^61: so any credit
 -- of at most 2^60 in size fits 2^28 changes.

@@ -11,6 +11,7 @@ use Rattle.block_scan.specs.code.Shown.{Shows, lawful, summary-shown}
 use Rattle.conn_scan.specs.declared.credits.Credit.{Credit}
 use Rattle.conn_scan.specs.code.Credit.{total, high, low, credit_of, no_change, one_change, credit_join, credit_met}
 use Rattle.conn_scan.specs.code.Credit.{credit_advance, AreSmall, ChangesFit}
+use Rattle.conn_scan.specs.code.Each.{all-front, all-back}
 use Rattle.conn_scan.specs.code.FitLaws.{room-wider}
 
 total-append : (a b : List ℤ) → total (a ++ b) ≡ total a +ℤ total b
@@ -91,14 +92,6 @@ moved s [] = omega (arith, ints)
 moved s (x ∷ a) = let turned : s +ℤ (x +ℤ total a) ≡ (s +ℤ x) +ℤ total a = omega (arith, ints) in turned
     ∙ moved (s +ℤ x) a
 
-small-front : (a b : List ℤ) → AreSmall (a ++ b) → AreSmall a
-small-front [] b h = tt
-small-front (x ∷ a) b h = (h.0, small-front a b h.1)
-
-small-back : (a b : List ℤ) → AreSmall (a ++ b) → AreSmall b
-small-back [] b h = h
-small-back (x ∷ a) b h = small-back a b h.1
-
 pub total-room : (a : List ℤ) → AreSmall a → HasRoom (2 ^ 32 * length a) (total a)
 total-room [] h = (omega (arith, ints), omega (arith, ints))
 total-room (x ∷ a) h =
@@ -110,16 +103,16 @@ total-room (x ∷ a) h =
 pub first_fit : (s : ℤ) (a b : List ℤ) → ChangesFit s (a ++ b) → ChangesFit s a
 first_fit s a b f =
     let n = f.number in let l = f.room.0 in let u = f.room.1 in let e = length-append a b in
-    record { number = omega arith; sizes = small-front a b f.sizes; room = (omega (arith, ints), omega (arith, ints)) }
+    record { number = omega arith; sizes = all-front (HasRoom (2 ^ 32)) a b f.sizes; room = (omega (arith, ints), omega (arith, ints)) }
 
 pub rest_fits : (s : ℤ) (a b : List ℤ) → ChangesFit s (a ++ b) → ChangesFit (state_after ◌+ℤ◌ s a) b
 rest_fits s a b f =
     let n = f.number in let l = f.room.0 in let u = f.room.1 in let e = length-append a b in
-    let r = total-room a (small-front a b f.sizes) in let p = r.0 in let q = r.1 in
+    let r = total-room a (all-front (HasRoom (2 ^ 32)) a b f.sizes) in let p = r.0 in let q = r.1 in
     rw (sym (moved s a))
     (record {
       number = omega arith;
-      sizes = small-back a b f.sizes;
+      sizes = all-back (HasRoom (2 ^ 32)) a b f.sizes;
       room =
           (omega (arith, ints), omega (arith, ints));
     })

@@ -9,6 +9,7 @@ use Rattle.audit_terms.specs.Connection.{connection_after}
 use Rattle.audit_terms.specs.code.runs.Blocks.{connection_after_all}
 use Rattle.audit_terms.specs.code.Room.{HasRoom}
 use Rattle.conn_scan.specs.code.Credit.{change_of}
+use Rattle.conn_scan.specs.code.Each.{all-front, all-back}
 use Rattle.conn_scan.specs.code.Block.{MovesLittle, ItemsFit}
 
 pub room-wider : (n m : ℕ) (x : ℤ) → n ≤ m → HasRoom n x → HasRoom m x
@@ -30,14 +31,6 @@ module _ (credit : ConnectionState → ℤ) (change : Item → ℤ)
       (room-after (n + 2 ^ 32) (connection_after now item) items little.1
       (rw (step now item) (moved_room n (credit now) (change item) h (small item little.0))))
 
-little-front : (a b : List Item) → AllByRecursion MovesLittle (a ++ b) → AllByRecursion MovesLittle a
-little-front [] b h = tt
-little-front (x ∷ a) b h = (h.0, little-front a b h.1)
-
-little-back : (a b : List Item) → AllByRecursion MovesLittle (a ++ b) → AllByRecursion MovesLittle b
-little-back [] b h = h
-little-back (x ∷ a) b h = little-back a b h.1
-
 pub first_fit : (now : ConnectionState) (a b : List Item) → ItemsFit now (a ++ b) → ItemsFit now a
 first_fit now a b f =
     let both = length-append a b in
@@ -47,7 +40,7 @@ first_fit now a b f =
         client = room-wider _ _ now.credit.client (omega arith) f.0.client;
         server = room-wider _ _ now.credit.server (omega arith) f.0.server;
       },
-      little-front a b f.1,
+      all-front MovesLittle a b f.1,
     )
 
 pub rest_fit : (now : ConnectionState) (a b : List Item) → ItemsFit now (a ++ b)
@@ -55,7 +48,7 @@ pub rest_fit : (now : ConnectionState) (a b : List Item) → ItemsFit now (a ++ 
 rest_fit now a b f =
     let both = length-append a b in
     let number = f.0.number in
-    let first = little-front a b f.1 in (
+    let first = all-front MovesLittle a b f.1 in (
       record {
         number = omega arith;
         client = room-wider _ _ (connection_after_all now a).credit.client (omega arith)
@@ -63,5 +56,5 @@ rest_fit now a b f =
         server = room-wider _ _ (connection_after_all now a).credit.server (omega arith)
             (room-after (λ s. s.credit.server) (change_of Server) (λ s x. refl) (λ x h. h.1) _ now a first f.0.server);
       },
-      little-back a b f.1,
+      all-back MovesLittle a b f.1,
     )
