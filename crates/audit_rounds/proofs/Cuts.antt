@@ -1,25 +1,20 @@
 -- Blocks that a connection's frames are cut into.
-use Rattle.std.proofs.Common.{◌≡◌, ℕ, zero, suc, ◌+◌, ◌*◌, ◌^◌, ◌<◌, ◌≤◌, ◌==◌, ◌&&◌, Bool, List, [], ◌∷◌, ◌++◌}
-use Rattle.std.proofs.Common.{append_assoc, map, take, drop, length, length-append, get_or, All, refl, sym, ap, ◌∙◌}
-use Rattle.std.proofs.Common.{subst, ⊎_elim, arith, ℤ, ◌+ℤ◌}
-use Rattle.std.proofs.lemmas.Int.{ints}
-use Rattle.std.proofs.lemmas.Bool.{cases_lt, lt-ltb, le-ltb, ne_eqb}
+use Rattle.std.proofs.Common.{◌≡◌, ℕ, zero, suc, ◌+◌, ◌<◌, ◌≤◌, Bool, List, [], ◌∷◌, ◌++◌}
+use Rattle.std.proofs.Common.{append_assoc, map, take, drop, length, get_or, All, refl, sym, ap, ◌∙◌}
+use Rattle.std.proofs.Common.{subst, arith}
 use Rattle.std.proofs.lemmas.List.{take-append-drop, map-append, get_or-take, get_or-drop, length-take-le, length-map}
 use Rattle.std.proofs.lemmas.List.{length-drop}
 use Rattle.std.proofs.Math.ListN.{get_or-map}
-use Rattle.std.specs.List.{AllByRecursion, list_any, find}
+use Rattle.std.specs.List.{AllByRecursion}
 use Rattle.audit_terms.specs.declared.connections.ConnectionState.{ConnectionState}
 use Rattle.audit_terms.specs.declared.findings.Finding.{Finding}
 use Rattle.audit_terms.specs.declared.frames.Frame.{Frame}
 use Rattle.audit_terms.specs.declared.items.Change.{Change}
 use Rattle.audit_terms.specs.declared.items.Item.{Item}
-use Rattle.audit_terms.specs.declared.sides.Side.TheVariants.{Client, Server}
 use Rattle.audit_terms.specs.Connection.{connection_start, connection_said, connection_after}
 use Rattle.audit_terms.specs.code.runs.Blocks.{block_run, connection_after_all}
 use Rattle.audit_terms.specs.Finding.{in_order, shown}
-use Rattle.audit_terms.specs.Frame.{is_headers}
 use Rattle.audit_terms.specs.code.runs.Orderly.{IsOrderly, IsOrderlyFrom}
-use Rattle.audit_terms.specs.code.Room.{HasRoom}
 use Rattle.settings_pair.specs.code.Changes.{AreOrderlyFrom}
 use Rattle.block_scan.specs.code.List.{items_of}
 use Rattle.conn_scan.specs.declared.block_items.Block.{Block}
