@@ -1,5 +1,4 @@
-pub mod Numbered
-pub mod Sweep
+mod Numbered
 pub mod RoundMembers
 pub mod RoundSteps
 pub mod RoundParts

@@ -1,4 +1,3 @@
-pub mod Ends
 pub mod Visits
 pub mod Ahead
 pub mod Loud

@@ -8,8 +8,8 @@ use Rattle.audit_terms.specs.declared.kinds.Kind.TheVariants.{ConnectionStallBeg
 use Rattle.audit_terms.specs.declared.kinds.Kind.TheVariants.{StreamStallBegin, StreamStallEnd, StreamOverrun}
 use Rattle.audit_terms.specs.declared.kinds.Kind.TheVariants.{NotOpened}
 use Rattle.audit_terms.specs.Finding.{finding_at}
-use Rattle.split_merge.specs.Stalls.{stalls}
-use Rattle.split_merge.specs.declared.stalls.Stall.{Stall}
+use Rattle.audit_report.specs.Stalls.{stalls}
+use Rattle.audit_report.specs.declared.stalls.Stall.{Stall}
 
 -- a frame of this number, captured at this many microseconds
 abbrev frame_at : (number micros : ℕ) → Frame

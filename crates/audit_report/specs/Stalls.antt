@@ -6,8 +6,8 @@ use Rattle.audit_terms.specs.declared.frames.Frame.{Frame}
 use Rattle.audit_terms.specs.Side.{is_side}
 use Rattle.audit_terms.specs.Kind.{begins_stall, ends_stall}
 use Rattle.audit_terms.specs.Place.{place_number, place_stream}
-use Rattle.split_merge.specs.FrameLookup.{nanos_at}
-use Rattle.split_merge.specs.declared.stalls.Stall.{Stall}
+use Rattle.audit_report.specs.FrameLookup.{nanos_at}
+use Rattle.audit_report.specs.declared.stalls.Stall.{Stall}
 
 -- the finding ends a stall of the window through which this side sends on this stream, 0 being the connection
 abbrev pub is_end_of : Side → ℕ → Finding → Bool

@@ -8,9 +8,9 @@ use Rattle.audit_terms.specs.declared.findings.Finding.{Finding}
 use Rattle.audit_terms.specs.declared.frames.Frame.{Frame}
 use Rattle.audit_terms.specs.Place.{place_stream}
 use Rattle.audit_terms.specs.Kind.{begins_stall}
-use Rattle.split_merge.specs.Stalls.{stall_of}
-use Rattle.split_merge.specs.declared.ends.Ends.{Ends}
-use Rattle.split_merge.specs.declared.stalls.Stall.{Stall}
+use Rattle.audit_report.specs.Stalls.{stall_of}
+use Rattle.audit_report.specs.declared.ends.Ends.{Ends}
+use Rattle.audit_report.specs.declared.stalls.Stall.{Stall}
 
 -- the end that the table has for the window of this side and stream
 abbrev pub end_in : Ends → Side → ℕ → Option Finding

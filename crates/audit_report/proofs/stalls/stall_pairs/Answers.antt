@@ -1,8 +1,8 @@
 use Rattle.std.proofs.Common.{◌≡◌, drop, refl, ap, ◌∙◌, arith}
 use Rattle.std.proofs.Math.Seq.{drop-length}
-use Rattle.split_merge.specs.Stalls.{stalls}
-use Rattle.split_merge.proofs.Sweep.{swept_down}
-use Rattle.split_merge.proofs.stalls.stall_pairs.Goals as goal
+use Rattle.audit_report.specs.Stalls.{stalls}
+use Rattle.audit_report.proofs.Sweep.{swept_down}
+use Rattle.audit_report.proofs.stalls.stall_pairs.Goals as goal
 
 pub loop-left-preserved : goal.loop-left-preserved
 loop-left-preserved c = record {

@@ -1,6 +1,6 @@
 ghost use Rattle.std.specs.Prelude.{◌≡◌, ◌<◌, ◌^◌, IfSome};
 ghost use Rattle.audit_terms.specs.code.runs.Orderly.{IsOrderly};
-ghost use Rattle.split_merge.specs.FrameLookup.{frame_numbered};
+ghost use Rattle.audit_report.specs.FrameLookup.{frame_numbered};
 
 use audit_terms::Frame;
 

@@ -6,11 +6,11 @@ use Rattle.audit_terms.specs.declared.sides.Side.{Side}
 use Rattle.audit_terms.specs.declared.findings.Finding.{Finding}
 use Rattle.audit_terms.specs.declared.frames.Frame.{Frame}
 use Rattle.audit_terms.specs.Place.{place_stream}
-use Rattle.split_merge.specs.code.Ends.{end_in, begun_by}
+use Rattle.audit_report.specs.code.Ends.{end_in, begun_by}
 use Rattle.audit_terms.specs.Kind.{begins_stall}
-use Rattle.split_merge.specs.Stalls.{is_end_of, first_end, stall_of, stalls}
-use Rattle.split_merge.specs.declared.ends.Ends.{Ends}
-use Rattle.split_merge.specs.declared.stalls.Stall.{Stall}
+use Rattle.audit_report.specs.Stalls.{is_end_of, first_end, stall_of, stalls}
+use Rattle.audit_report.specs.declared.ends.Ends.{Ends}
+use Rattle.audit_report.specs.declared.stalls.Stall.{Stall}
 
 -- the table has the first end of each window among the findings
 pub record HasFirstEnds (ends : Ends) (later : List Finding) : Type 0 where

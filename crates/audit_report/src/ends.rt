@@ -15,7 +15,7 @@ pub struct Ends {
 }
 
 impl Ends {
-    ghost use Rattle.split_merge.specs.code.Ends.{end_in};
+    ghost use Rattle.audit_report.specs.code.Ends.{end_in};
 
     pub fn new(alloc: Global) -> Ends
         ensures { (side : Side) (stream : ℕ) → end_in result side stream ≡ None }

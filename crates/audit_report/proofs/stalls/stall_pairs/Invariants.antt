@@ -1,6 +1,6 @@
 use Rattle.std.proofs.Common.{◌≤◌, drop, length}
-use Rattle.split_merge.proofs.Sweep.{HasSweptTo}
-use Rattle.split_merge.proofs.stalls.stall_pairs.Given as goal
+use Rattle.audit_report.proofs.Sweep.{HasSweptTo}
+use Rattle.audit_report.proofs.stalls.stall_pairs.Given as goal
 
 abbrev pub invariant-loop-left : goal.invariant-loop-left
 invariant-loop-left l = record {

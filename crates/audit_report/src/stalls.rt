@@ -1,9 +1,9 @@
 ghost use Rattle.std.specs.Prelude.{◌≡◌, ℕ, ◌++◌, if◌then◌else◌, IfOk, OnOk, pos, Some};
 ghost use Rattle.audit_terms.specs.code.runs.Orderly.{IsOrderly};
 ghost use Rattle.audit_terms.specs.Place.{place_stream};
-ghost use Rattle.split_merge.specs.FrameLookup.{nanos_at};
-ghost use Rattle.split_merge.specs.Stalls.{is_end_of, stall_of, stalls};
-ghost use Rattle.split_merge.specs.code.Ends.{end_in, begun_by};
+ghost use Rattle.audit_report.specs.FrameLookup.{nanos_at};
+ghost use Rattle.audit_report.specs.Stalls.{is_end_of, stall_of, stalls};
+ghost use Rattle.audit_report.specs.code.Ends.{end_in, begun_by};
 ghost use Rattle.audit_terms.specs.declared.sides.Side.{Side};
 
 use crate::ends::Ends;
