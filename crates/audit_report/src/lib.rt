@@ -18,7 +18,7 @@
 //! frame is not there would have record 0 and time 0, which no report meets. A finding's frame is looked for at its own
 //! number first, since frame n stands at n - 1, then by halving; lines go onto one growing text.
 //!
-//! [`worked_examples`] shows stalls: of both sides and of several windows, open ones, and one of a clock that went back.
+//! [`worked_examples`] shows stalls: of both sides, of several windows, without an end, by a clock that went back.
 //!
 //! Wrong bodies that the prover refuses: the cut record left out, tails exchanged, a sign left out, no connections, a
 //! frame looked up by its record, an end of a stall that was withdrawn. Tested, in `crate_tests`: that each call of the

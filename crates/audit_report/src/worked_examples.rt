@@ -1,5 +1,5 @@
-//! Worked examples, by proof: findings, with the stalls that they tell of. The functions do nothing; each contract is the
-//! example.
+//! Worked examples, by proof: findings, with the stalls that they tell of. The functions do nothing; each contract is
+//! the example.
 ghost use Rattle.audit_report.specs.examples.Stalls.{BothSidesStall, ClockGoesBack, FirstEndCounts};
 ghost use Rattle.audit_report.specs.examples.Stalls.{StallEndsThenOverrun, StallsStayOpen};
 

@@ -9,9 +9,9 @@ use Rattle.std.proofs.lemmas.Slice.Zip.{AllZip-long}
 use Rattle.audit_terms.specs.declared.findings.Finding.{Finding}
 use Rattle.audit_terms.specs.Finding.{in_order, upto_stop}
 use Rattle.audit_terms.specs.Pass.{streams_of}
-use Rattle.split_merge.specs.code.Board.{Job, StopsAt, IsLeast, stop_of, findings_of_jobs, findings_of_parts}
-use Rattle.split_merge.specs.laws.Rounds.{Merges}
-use Rattle.split_merge.proofs.RoundMerge.{board_merges_lem}
+use Rattle.job_crew.specs.code.Board.{Job, StopsAt, IsLeast, stop_of, findings_of_jobs, findings_of_parts}
+use Rattle.job_crew.specs.laws.Rounds.{Merges}
+use Rattle.job_crew.proofs.RoundMerge.{board_merges_lem}
 use Rattle.job_crew.specs.declared.parts.Part.{Part}
 use Rattle.job_crew.specs.declared.settling.Settled.{Settled}
 use Rattle.job_crew.specs.code.Laid.{part_of, board_with}

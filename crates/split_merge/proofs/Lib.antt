@@ -1,9 +1,4 @@
 mod Numbered
-pub mod RoundMembers
-pub mod RoundSteps
-pub mod RoundParts
-pub mod RoundMerge
-pub mod RoundExamples
 pub mod NamedStreams
 pub mod Visited
 pub mod Positions
@@ -14,4 +9,3 @@ pub mod LoudStreams
 pub mod SplitIs
 pub mod GroupRanges
 pub mod ShownMerge
-pub mod RoundCuts

@@ -5,9 +5,9 @@ use Rattle.audit_terms.specs.declared.sides.Side.TheVariants.{Client}
 use Rattle.audit_terms.specs.declared.kinds.Kind.TheVariants.{StreamOverrun, NotOpened}
 use Rattle.audit_terms.specs.declared.findings.Finding.{Finding}
 use Rattle.audit_terms.specs.Finding.{finding_at, in_order, upto_stop}
-use Rattle.split_merge.specs.code.Board.{Job, Round, Part, Board, IsSettled, findings_of_jobs, findings_of_parts}
-use Rattle.split_merge.specs.laws.Machine.{Event, Draw, Look, Lower, Finish, round_start, after_events, AreAllowed}
-use Rattle.split_merge.specs.laws.Machine.{IsFinished, board_of}
+use Rattle.job_crew.specs.code.Board.{Job, Round, Part, Board, IsSettled, findings_of_jobs, findings_of_parts}
+use Rattle.job_crew.specs.laws.Machine.{Event, Draw, Look, Lower, Finish, round_start, after_events, AreAllowed}
+use Rattle.job_crew.specs.laws.Machine.{IsFinished, board_of}
 
 abbrev pub overrun : (number stream : ℕ) → Finding
 overrun number stream = finding_at StreamOverrun number stream Client (pos 0 -ℤ pos 1)

@@ -6,9 +6,9 @@ use Rattle.std.proofs.lemmas.List.Elements.{Contains-append_cases}
 use Rattle.audit_terms.specs.declared.findings.Finding.{Finding}
 use Rattle.audit_terms.specs.Finding.{in_order}
 use Rattle.audit_terms.proofs.FindingOrder.{in_order-append_comm, in_order-alike}
-use Rattle.split_merge.specs.code.Board.{Job, Part, IsPast, IsPartOf, parts_of, findings_of_jobs, findings_of_parts}
-use Rattle.split_merge.proofs.RoundMembers.{contains-none, contains-here, contains-later, contains-cases}
-use Rattle.split_merge.proofs.RoundSteps.{parts_of-cons, parts_of-true, parts_of-false}
+use Rattle.job_crew.specs.code.Board.{Job, Part, IsPast, IsPartOf, parts_of, findings_of_jobs, findings_of_parts}
+use Rattle.job_crew.proofs.RoundMembers.{contains-none, contains-here, contains-later, contains-cases}
+use Rattle.job_crew.proofs.RoundSteps.{parts_of-cons, parts_of-true, parts_of-false}
 
 -- the same findings in another order
 swap-front : (xs ys zs : List Finding) → in_order (xs ++ (ys ++ zs)) ≡ in_order (ys ++ (xs ++ zs))

@@ -2,7 +2,7 @@
 use Rattle.std.specs.Prelude.{◌≡◌, ℕ, nat_le, List, ◌++◌, filter, Option, Some}
 use Rattle.audit_terms.specs.declared.findings.Finding.{Finding}
 use Rattle.audit_terms.specs.Finding.{in_order, upto_stop}
-use Rattle.split_merge.specs.code.Board.{IsPast, IsCut}
+use Rattle.job_crew.specs.code.Board.{IsPast, IsCut}
 
 -- the findings at or before a place, of a list in order, are a cut of it
 abbrev pub FrontIsCut : Type 0

@@ -1,5 +1,5 @@
-use Rattle.split_merge.proofs.RoundExamples.{two_workers_finish, two_workers_settle}
-use Rattle.split_merge.proofs.worked_rounds.withdrawn_findings.Goals as goal
+use Rattle.job_crew.proofs.RoundExamples.{two_workers_finish, two_workers_settle}
+use Rattle.job_crew.proofs.worked_rounds.withdrawn_findings.Goals as goal
 
 pub returns-clause-finish : goal.returns-clause-finish
 returns-clause-finish c = two_workers_finish

@@ -2,9 +2,9 @@
 use Rattle.std.specs.Prelude.{◌≡◌, ℕ, ◌<◌, List, ◌++◌, length, Contains}
 use Rattle.audit_terms.specs.declared.findings.Finding.{Finding}
 use Rattle.audit_terms.specs.Finding.{in_order, upto_stop}
-use Rattle.split_merge.specs.code.Board.{Job, Round, Board, IsLeast, StopsAt, stop_of, IsSettled, findings_of_jobs}
-use Rattle.split_merge.specs.code.Board.{findings_of_parts}
-use Rattle.split_merge.specs.laws.Machine.{Event, round_start, after_events, AreAllowed, IsFinished, board_of}
+use Rattle.job_crew.specs.code.Board.{Job, Round, Board, IsLeast, StopsAt, stop_of, IsSettled, findings_of_jobs}
+use Rattle.job_crew.specs.code.Board.{findings_of_parts}
+use Rattle.job_crew.specs.laws.Machine.{Event, round_start, after_events, AreAllowed, IsFinished, board_of}
 
 -- each job is of one of the round's connections
 abbrev pub HasConnections : Round → Type 0

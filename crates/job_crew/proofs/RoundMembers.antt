@@ -6,7 +6,7 @@ use Rattle.std.proofs.lemmas.List.Elements.{Contains-append_left, Contains-appen
 use Rattle.audit_terms.specs.declared.findings.Finding.{Finding}
 use Rattle.audit_terms.specs.Finding.{comes_after, in_order}
 use Rattle.audit_terms.specs.Order.{put_by}
-use Rattle.split_merge.specs.laws.Machine.{by_worker, by_all}
+use Rattle.job_crew.specs.laws.Machine.{by_worker, by_all}
 
 -- a pair, where its type is not known
 abbrev pub pair : {X Y : Type 0} → X → Y → X × Y

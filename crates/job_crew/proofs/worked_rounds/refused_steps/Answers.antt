@@ -1,6 +1,6 @@
-use Rattle.split_merge.proofs.RoundExamples.{drawn_twice, look_invents, cut_unseen, all_skipped, overrun_lowered}
-use Rattle.split_merge.proofs.RoundExamples.{error_not_lowered}
-use Rattle.split_merge.proofs.worked_rounds.refused_steps.Goals as goal
+use Rattle.job_crew.proofs.RoundExamples.{drawn_twice, look_invents, cut_unseen, all_skipped, overrun_lowered}
+use Rattle.job_crew.proofs.RoundExamples.{error_not_lowered}
+use Rattle.job_crew.proofs.worked_rounds.refused_steps.Goals as goal
 
 pub returns-clause-drawn_twice : goal.returns-clause-drawn_twice
 returns-clause-drawn_twice c = drawn_twice

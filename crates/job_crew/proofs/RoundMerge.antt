@@ -15,12 +15,12 @@ use Rattle.audit_terms.specs.Order.{put_by}
 use Rattle.audit_terms.specs.Finding.{stops, comes_after, in_order, upto_stop}
 use Rattle.audit_terms.proofs.OrderedLists.{NoneBefore, IsInOrder, in_order-ordered}
 use Rattle.audit_terms.proofs.FindingOrder.{comes_after_is, in_order-append_comm, in_order-alike}
-use Rattle.split_merge.specs.code.Board.{Job, Round, Part, Board, stop_of, StopsAt, IsLeast, IsGiven, JobStopsAt}
-use Rattle.split_merge.specs.code.Board.{IsSettled, parts_of, findings_of_jobs, findings_of_parts}
-use Rattle.split_merge.specs.laws.Rounds.{Merges, BoardMerges}
-use Rattle.split_merge.proofs.RoundMembers.{contains-none, contains-here, contains-later, contains-cases}
-use Rattle.split_merge.proofs.RoundMembers.{contains-flat_map, flat_map-contains, contains-in_order, in_order-contains}
-use Rattle.split_merge.proofs.RoundParts.{IsWholeWith, IsOneOf, whole-parts}
+use Rattle.job_crew.specs.code.Board.{Job, Round, Part, Board, stop_of, StopsAt, IsLeast, IsGiven, JobStopsAt}
+use Rattle.job_crew.specs.code.Board.{IsSettled, parts_of, findings_of_jobs, findings_of_parts}
+use Rattle.job_crew.specs.laws.Rounds.{Merges, BoardMerges}
+use Rattle.job_crew.proofs.RoundMembers.{contains-none, contains-here, contains-later, contains-cases}
+use Rattle.job_crew.proofs.RoundMembers.{contains-flat_map, flat_map-contains, contains-in_order, in_order-contains}
+use Rattle.job_crew.proofs.RoundParts.{IsWholeWith, IsOneOf, whole-parts}
 
 -- what stands at a later place comes after
 later-first : (a b : Ordering) → a ≡ Greater → is_gt (ordering_then a b) ≡ true

@@ -1,5 +1,5 @@
-use Rattle.split_merge.proofs.RoundCuts.{front_is_cut_lem, whole_is_cut_lem, cuts_join_lem}
-use Rattle.split_merge.proofs.laws.cuts_join.Goals as goal
+use Rattle.job_crew.proofs.RoundCuts.{front_is_cut_lem, whole_is_cut_lem, cuts_join_lem}
+use Rattle.job_crew.proofs.laws.cuts_join.Goals as goal
 
 pub returns-clause-front : goal.returns-clause-front
 returns-clause-front c = front_is_cut_lem

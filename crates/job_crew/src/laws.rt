@@ -1,7 +1,7 @@
 //! Laws of a round in which workers draw jobs and share the stops of connections. The functions do nothing; each
 //! contract is a law of the definitions in `specs/`.
 
-ghost use Rattle.split_merge.specs.laws.Rounds.{RunSettles, BoardMerges};
+ghost use Rattle.job_crew.specs.laws.Rounds.{RunSettles, BoardMerges};
 
 /// However workers draw jobs, look at stops, lower them and finish jobs: once each job is finished, the board is
 /// settled. Every job was drawn by one worker and so has one part, and a stop is only ever an opening stop or an error
@@ -18,7 +18,7 @@ pub fn board_merges()
     ensures { BoardMerges }
 {}
 
-ghost use Rattle.split_merge.specs.laws.Cuts.{FrontIsCut, WholeIsCut, CutsJoin};
+ghost use Rattle.job_crew.specs.laws.Cuts.{FrontIsCut, WholeIsCut, CutsJoin};
 
 /// What a part may be: a front of what its job finds or all of it, and parts of such lists put together, as where a job
 /// has several streams of which each went up to a place of its own.
@@ -28,7 +28,7 @@ pub fn cuts_join()
     ensures join { CutsJoin }
 {}
 
-ghost use Rattle.split_merge.specs.laws.Cuts.{StopsJoin};
+ghost use Rattle.job_crew.specs.laws.Cuts.{StopsJoin};
 
 /// What a round gives up to its stop may stand for what its whole jobs would give when further rounds add to it.
 pub fn rounds_join()

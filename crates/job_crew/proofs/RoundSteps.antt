@@ -4,14 +4,14 @@ use Rattle.std.proofs.Common.{refl, sym, ap, subst, ◌∙◌, arith, ◌⊎◌,
 use Rattle.std.proofs.Common.{slice_set, eqb-true, eq-eqb, ltb-true, ltb-false, true≢false, nat_lt, if◌then◌else◌, ◌==◌}
 use Rattle.std.proofs.Common.{length-set, get_or-set_same, get_or-set_other}
 use Rattle.std.proofs.lemmas.List.Sums.{sum_by-cons}
-use Rattle.split_merge.specs.code.Board.{Job, Round, Part, stop_of, IsLeast, IsPartOf, parts_of, JobStopsAt, IsGiven}
-use Rattle.split_merge.specs.code.Board.{IsSettled}
-use Rattle.split_merge.specs.laws.Machine.{RoundState, Event, Draw, Look, Lower, Finish, by_worker, by_all, round_start}
-use Rattle.split_merge.specs.laws.Machine.{IsAtWork, IsAllowed, lesser, after_event, after_events, AreAllowed}
-use Rattle.split_merge.specs.laws.Machine.{IsFinished, board_of}
-use Rattle.split_merge.specs.laws.Rounds.{HasConnections, RunSettles}
-use Rattle.split_merge.proofs.RoundMembers.{pair, contains-none, contains-here, contains-later, contains-cases}
-use Rattle.split_merge.proofs.RoundMembers.{contains-own, contains-all, contains-got}
+use Rattle.job_crew.specs.code.Board.{Job, Round, Part, stop_of, IsLeast, IsPartOf, parts_of, JobStopsAt, IsGiven}
+use Rattle.job_crew.specs.code.Board.{IsSettled}
+use Rattle.job_crew.specs.laws.Machine.{RoundState, Event, Draw, Look, Lower, Finish, by_worker, by_all, round_start}
+use Rattle.job_crew.specs.laws.Machine.{IsAtWork, IsAllowed, lesser, after_event, after_events, AreAllowed}
+use Rattle.job_crew.specs.laws.Machine.{IsFinished, board_of}
+use Rattle.job_crew.specs.laws.Rounds.{HasConnections, RunSettles}
+use Rattle.job_crew.proofs.RoundMembers.{pair, contains-none, contains-here, contains-later, contains-cases}
+use Rattle.job_crew.proofs.RoundMembers.{contains-own, contains-all, contains-got}
 
 pub parts_of-cons : (job : ℕ) (part : Part) (parts : List Part) →
     parts_of job (part ∷ parts) ≡ (if part.job == job then 1 else 0) + parts_of job parts

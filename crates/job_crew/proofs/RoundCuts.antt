@@ -7,10 +7,10 @@ use Rattle.audit_terms.specs.Order.{put_by}
 use Rattle.audit_terms.specs.Finding.{stops, comes_after, in_order, upto_stop}
 use Rattle.audit_terms.proofs.OrderedLists.{NoneBefore, IsInOrder, ordered-in_order, in_order-ordered}
 use Rattle.audit_terms.proofs.FindingOrder.{comes_after_is, in_order-append_comm, in_order-alike, in_order-in_order}
-use Rattle.split_merge.specs.code.Board.{IsPast}
-use Rattle.split_merge.specs.laws.Cuts.{FrontIsCut, WholeIsCut, CutsJoin, StopsJoin}
-use Rattle.split_merge.proofs.RoundMembers.{contains-none, contains-cases}
-use Rattle.split_merge.proofs.RoundParts.{swap-middle}
+use Rattle.job_crew.specs.code.Board.{IsPast}
+use Rattle.job_crew.specs.laws.Cuts.{FrontIsCut, WholeIsCut, CutsJoin, StopsJoin}
+use Rattle.job_crew.proofs.RoundMembers.{contains-none, contains-cases}
+use Rattle.job_crew.proofs.RoundParts.{swap-middle}
 
 -- a test divides a list into those that pass and those that do not
 module _ (test : Finding → Bool) where

@@ -3,15 +3,15 @@ use Rattle.std.proofs.Common.{◌≡◌, ℕ, zero, suc, ◌<◌, false, List, [
 use Rattle.std.proofs.Common.{true≢false, append-nil, ◌⊎◌, inl, inr, Contains, Some, None, slice_get}
 use Rattle.audit_terms.specs.declared.findings.Finding.{Finding}
 use Rattle.audit_terms.specs.Finding.{stops, in_order}
-use Rattle.split_merge.specs.code.Board.{Job, StopsAt, IsCut, IsPartOf}
-use Rattle.split_merge.specs.laws.Machine.{round_start, after_events, AreAllowed, IsFinished}
-use Rattle.split_merge.specs.laws.Rounds.{HasConnections}
-use Rattle.split_merge.specs.examples.Rounds.{overrun, error, job, part, example, example_events, TwoWorkersFinish}
-use Rattle.split_merge.specs.examples.Rounds.{TwoWorkersSettle, DrawnTwice, LookInvents, CutUnseen, AllSkipped}
-use Rattle.split_merge.specs.examples.Rounds.{OverrunLowered, ErrorNotLowered}
-use Rattle.split_merge.proofs.RoundMembers.{pair, contains-none, contains-here, contains-cases, contains-in_order}
-use Rattle.split_merge.proofs.RoundMembers.{in_order-contains}
-use Rattle.split_merge.proofs.RoundSteps.{run_settles_lem}
+use Rattle.job_crew.specs.code.Board.{Job, StopsAt, IsCut, IsPartOf}
+use Rattle.job_crew.specs.laws.Machine.{round_start, after_events, AreAllowed, IsFinished}
+use Rattle.job_crew.specs.laws.Rounds.{HasConnections}
+use Rattle.job_crew.specs.examples.Rounds.{overrun, error, job, part, example, example_events, TwoWorkersFinish}
+use Rattle.job_crew.specs.examples.Rounds.{TwoWorkersSettle, DrawnTwice, LookInvents, CutUnseen, AllSkipped}
+use Rattle.job_crew.specs.examples.Rounds.{OverrunLowered, ErrorNotLowered}
+use Rattle.job_crew.proofs.RoundMembers.{pair, contains-none, contains-here, contains-cases, contains-in_order}
+use Rattle.job_crew.proofs.RoundMembers.{in_order-contains}
+use Rattle.job_crew.proofs.RoundSteps.{run_settles_lem}
 
 abbrev job_0 : Job
 job_0 = job 0 (overrun 6 1 ∷ overrun 9 1 ∷ [])

@@ -1,8 +1,8 @@
 //! Worked examples of a round of workers, by proof: one that finishes, with what it leaves, and steps that no worker
 //! may take. The functions do nothing; each contract is an example.
-ghost use Rattle.split_merge.specs.examples.Rounds.{TwoWorkersFinish, TwoWorkersSettle, TwoWorkersMerge, DrawnTwice};
-ghost use Rattle.split_merge.specs.examples.Rounds.{LookInvents, CutUnseen, AllSkipped, OverrunLowered};
-ghost use Rattle.split_merge.specs.examples.Rounds.{ErrorNotLowered};
+ghost use Rattle.job_crew.specs.examples.Rounds.{TwoWorkersFinish, TwoWorkersSettle, TwoWorkersMerge, DrawnTwice};
+ghost use Rattle.job_crew.specs.examples.Rounds.{LookInvents, CutUnseen, AllSkipped, OverrunLowered};
+ghost use Rattle.job_crew.specs.examples.Rounds.{ErrorNotLowered};
 
 /// A worker meets an error of the connection, and another sees that and leaves out what it found past it.
 pub fn withdrawn_findings()

@@ -3,7 +3,7 @@
 -- number of workers.
 use Rattle.std.specs.Prelude.{◌≡◌, ◌≢◌, ℕ, ◌+◌, ◌<◌, ◌==◌, min, if◌then◌else◌, List, [], ◌∷◌, length, map, slice_get}
 use Rattle.std.specs.Prelude.{slice_set, Contains, Option, Some, None}
-use Rattle.split_merge.specs.code.Board.{Job, Round, Part, Board, stop_of, StopsAt, IsPartOf, parts_of}
+use Rattle.job_crew.specs.code.Board.{Job, Round, Part, Board, stop_of, StopsAt, IsPartOf, parts_of}
 
 -- the next number to draw, the stops so far, and what was done by whom: each entry names its worker first
 pub record RoundState : Type 0 where
