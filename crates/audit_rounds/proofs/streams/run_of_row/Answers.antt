@@ -1,5 +1,5 @@
-use Rattle.stream_groups.proofs.StreamWork.{row-work}
-use Rattle.stream_groups.proofs.streams.run_of_row.Goals as goal
+use Rattle.audit_rounds.proofs.StreamWork.{row-work}
+use Rattle.audit_rounds.proofs.streams.run_of_row.Goals as goal
 
 pub returns : goal.returns
 returns g c =

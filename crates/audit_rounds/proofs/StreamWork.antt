@@ -31,10 +31,10 @@ use Rattle.stream_credit.specs.declared.parts.StreamRun.{StreamRun}
 use Rattle.stream_credit.specs.code.Looks.{step_numbers}
 use Rattle.split_merge.specs.declared.splits.StreamRow.{StreamRow}
 use Rattle.split_merge.specs.code.Split.{frames_at, part_of}
-use Rattle.stream_groups.specs.declared.streams.Streams.{Streams}
-use Rattle.stream_groups.specs.code.Streams.{lesser, AreOpenedUpTo, IsWork, IsRow, RowLooks, RowsLook, row_shown}
-use Rattle.stream_groups.specs.code.Streams.{row_opened}
-use Rattle.stream_groups.proofs.StreamOrder.{shown-ordered}
+use Rattle.audit_rounds.specs.declared.streams.Streams.{Streams}
+use Rattle.audit_rounds.specs.code.Streams.{lesser, AreOpenedUpTo, IsWork, IsRow, RowLooks, RowsLook, row_shown}
+use Rattle.audit_rounds.specs.code.Streams.{row_opened}
+use Rattle.audit_rounds.proofs.StreamOrder.{shown-ordered}
 
 -- ---- one stream
 

@@ -1,7 +1,7 @@
 use Rattle.std.proofs.Common.{take}
 use Rattle.audit_terms.specs.Finding.{in_order}
-use Rattle.stream_groups.specs.code.Streams.{IsWork, RowsLook, rows_shown, rows_opened}
-use Rattle.stream_groups.proofs.streams.run_of_rows.Given as goal
+use Rattle.audit_rounds.specs.code.Streams.{IsWork, RowsLook, rows_shown, rows_opened}
+use Rattle.audit_rounds.proofs.streams.run_of_rows.Given as goal
 
 -- the work of the rows so far, but for the order of its findings
 abbrev pub invariant-loop-row : goal.invariant-loop-row

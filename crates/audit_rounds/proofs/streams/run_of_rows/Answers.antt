@@ -3,9 +3,9 @@ use Rattle.std.proofs.lemmas.List.{take_all}
 use Rattle.std.specs.Option.{option_to_list}
 use Rattle.audit_terms.specs.Finding.{in_order}
 use Rattle.audit_terms.proofs.FindingOrder.{in_order-append_left}
-use Rattle.stream_groups.specs.code.Streams.{RowsLook, rows_shown, rows_opened, row_shown, row_opened}
-use Rattle.stream_groups.proofs.StreamWork.{work-none, work-join, work-due, same-work, flat_map-more, rows-look-more}
-use Rattle.stream_groups.proofs.streams.run_of_rows.Goals as goal
+use Rattle.audit_rounds.specs.code.Streams.{RowsLook, rows_shown, rows_opened, row_shown, row_opened}
+use Rattle.audit_rounds.proofs.StreamWork.{work-none, work-join, work-due, same-work, flat_map-more, rows-look-more}
+use Rattle.audit_rounds.proofs.streams.run_of_rows.Goals as goal
 
 pub loop-row-init : goal.loop-row-init
 loop-row-init g c =

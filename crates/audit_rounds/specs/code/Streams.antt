@@ -17,7 +17,7 @@ use Rattle.split_merge.specs.code.Split.{IsRange, part_of, frames_at}
 use Rattle.job_crew.specs.code.Board.{IsCut}
 use Rattle.job_crew.specs.code.Heeding.{Heeds, RunLooks}
 use Rattle.stream_credit.specs.code.Looks.{step_numbers}
-use Rattle.stream_groups.specs.declared.streams.Streams.{Streams}
+use Rattle.audit_rounds.specs.declared.streams.Streams.{Streams}
 
 -- what is shown of one stream
 abbrev pub shown_of : (credits_shown : Bool) → List Frame → (stream : ℕ) → List Finding
