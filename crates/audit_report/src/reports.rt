@@ -6,7 +6,7 @@ ghost use Rattle.audit_report.specs.EndLine.{end_line};
 ghost use Rattle.audit_report.specs.FindingLine.{finding_lines};
 ghost use Rattle.audit_report.specs.Section.{connection_text, findings_text, sections_text};
 ghost use Rattle.audit_report.specs.StallLine.{stall_lines};
-ghost use Rattle.split_merge.specs.Stalls.{stalls};
+ghost use Rattle.audit_report.specs.Stalls.{stalls};
 ghost use Rattle.audit_report.specs.ReportText.{report_text};
 ghost use Rattle.audit_report.specs.declared.audited.Audited.{Audited};
 
@@ -15,11 +15,11 @@ use crate::capture::push_capture_text;
 use crate::connections::push_connection_text;
 use crate::endings::{push_end_line, push_stall_lines};
 use crate::findings::push_finding_lines;
+use crate::stalls::stall_pairs;
 use audit_terms::{Finding, Frame};
 use h2_frames::Cut;
 use packet_heads::Packets;
 use pcap_records::Records;
-use split_merge::stall_pairs;
 use std::alloc::{AllocError, Global};
 use tcp_streams::{Connection, Connections};
 

@@ -17,6 +17,8 @@ pub mod Plans
 pub mod Jobs
 pub mod Clears
 pub mod Settles
+pub mod StreamOrder
+pub mod StreamWork
 pub mod StreamJobs
 pub mod StreamPlan
 pub mod Few

@@ -7,7 +7,8 @@
 //!
 //! 1. In the first round, a job is a group of the streams of a connection, but for the quiet ones, of which nothing is
 //!    shown: those are told when the connection is split. With what the split tells of them, this tells which frames
-//!    open streams.
+//!    open streams. A job goes through its streams one after the other, and makes the looks that are due of each. It
+//!    went up to the least of the places at which their runs stopped (`IsWork` of `specs/code/Streams.antt`).
 //! 2. What a connection shows by itself, up to its stop, is found in blocks of its frames. In the second round, blocks
 //!    are summed, and the sums carry the connection's state from block to block.
 //! 3. In the third, blocks that are not clear are gone through, each from the state before it; where credits are shown,
@@ -35,9 +36,10 @@
 //!
 //! Wrong bodies that the prover refuses: changes of settings, not handed on to the blocks; a look that answers nothing
 //! in place of the worker's, in the round over streams and in that over blocks; what the blocks show, lost where
-//! nothing was found before; openings of quiet streams, lost; streams split as if credits were not shown. Those of
-//! single rounds stand in the crates below. Tested by whole reports, in many mixes of workers, groups and block
-//! lengths: that the call succeeds where there is memory. Trusted: the port of `itertools`.
+//! nothing was found before; openings of quiet streams, lost; streams split as if credits were not shown; of the places
+//! up to which runs went, the greater taken for the lesser. Those of single rounds stand in the crates below. Tested by
+//! whole reports, in many mixes of workers, groups and block lengths: that the call succeeds where there is memory.
+//! Trusted: the port of `itertools`.
 #![tactic(auto)]
 
 mod beginnings;
@@ -57,6 +59,7 @@ mod prepared;
 mod stream_jobs;
 mod stream_plan;
 mod stream_round;
+mod streams;
 mod sum_round;
 
 pub use divisions::{Division, findings_of_each};

@@ -1,10 +1,4 @@
-pub mod Numbered
-pub mod Sweep
-pub mod RoundMembers
-pub mod RoundSteps
-pub mod RoundParts
-pub mod RoundMerge
-pub mod RoundExamples
+mod Numbered
 pub mod NamedStreams
 pub mod Visited
 pub mod Positions
@@ -15,4 +9,3 @@ pub mod LoudStreams
 pub mod SplitIs
 pub mod GroupRanges
 pub mod ShownMerge
-pub mod RoundCuts
