@@ -20,8 +20,9 @@
 //!   counted without a list of findings.
 //! - No sum wraps, for any increments and settings that a frame can hold: 2^28 steps of less than 2^32 fit a signed
 //!   word.
-//! - [`worked_examples`] are short runs of the definitions: windows below zero, settings that reach open and later
-//!   streams, windows that open at 0, overruns, both overflows, a promised stream, a run that ends at a stop.
+//! - [`worked_examples`] are short runs of the definitions: ends of both sides, resets, promises and where they stand
+//!   wrongly, windows below zero, settings that reach open and later streams, windows that open at 0, overruns, both
+//!   overflows, a promised stream, a run that ends at a stop.
 //!
 //! Asked of the caller: rising numbers, and that a frame with the number of a change is an acknowledgement, as
 //! `settings_pair` gives them.
