@@ -29,7 +29,8 @@ use Rattle.stream_credit.specs.code.Looks.{is_live}
 use Rattle.stream_credit.specs.code.Left.{after_changes, after_each, passed, left_from}
 use Rattle.stream_credit.specs.code.Merged.{merged, Acknowledge}
 use Rattle.stream_credit.specs.code.QuietStream.{window_of, opened_of, stream_of, initial_at, IsMovedBy, IsPassed}
-use Rattle.stream_credit.specs.code.QuietStream.{IsNext, AreFrom, StartsAt, IsAhead, IsAheadIfQuiet, ShowsNothing}
+use Rattle.stream_credit.specs.code.QuietStream.{IsNext, AreFrom, StartsAt, IsAhead, HasMet, IsAheadIfQuiet}
+use Rattle.stream_credit.specs.code.QuietStream.{ShowsNothing}
 use Rattle.stream_credit.specs.declared.quiet.Move.{Move}
 use Rattle.stream_credit.specs.code.Quiet.{IsMove, IsRaised, IsQuiet}
 use Rattle.stream_credit.specs.code.Silent.{moved, IsSilent}
@@ -559,27 +560,26 @@ frame-tail stream changes all rest frame old mid new initial e i f n h =
     (subst (λ (now : Sides ℕ). IsNext stream now frame mid new) i n)
 
 pub finish-tail : (b : Bool) (stream : ℕ) (changes : List Change) (old new : QuietStream)
-    → OnTrue b ((stream : ℕ) (all rest : List Frame) → StartsAt (2 ^ 32 - 1) rest
-    → IsAhead stream changes all rest old → IsAhead stream changes all rest new)
-    → OnTrue b (AreFrom (2 ^ 32 - 1) (drop new.met changes))
-    → (all : List Frame) → IsAhead stream changes all [] old → OnTrue b (ShowsNothing stream changes all new.opened)
-finish-tail true stream changes old new a f all h = shows-nothing stream changes all new (a stream all [] tt h) f
-finish-tail false stream changes old new a f all h = tt
+    → OnTrue b (HasMet (2 ^ 32 - 1) changes old new) → (all : List Frame) → IsAhead stream changes all [] old
+    → OnTrue b (ShowsNothing stream changes all new.opened)
+finish-tail true stream changes old new met all h =
+    shows-nothing stream changes all new (met.ahead stream all [] tt h) met.passed
+finish-tail false stream changes old new met all h = tt
 
-pub step-tail : (b : Bool) (stream : ℕ) (initial : Sides ℕ) (frame : Frame) (old new : QuietStream) (entry : Stream)
-    (found : List Finding) → OnTrue b (stream_of new ≡ entry) → OnTrue b (new.met ≡ old.met)
+pub step-tail : (b : Bool) (stream : ℕ) (initial : Sides ℕ) (frame : Frame) (old new : QuietStream) (next : Stream)
+    (found : List Finding) → OnTrue b (stream_of new ≡ next) → OnTrue b (new.met ≡ old.met)
     → OnTrue b (new.client < 2 ^ 31)
     → OnTrue b (new.server < 2 ^ 31) → found ≡ stream_said stream initial (stream_of old) (frame_step frame)
-    → entry ≡ stream_after stream initial (stream_of old) (frame_step frame) → shown false found ≡ []
+    → next ≡ stream_after stream initial (stream_of old) (frame_step frame) → shown false found ≡ []
     → OnTrue b (IsNext stream initial frame old new)
-step-tail true stream initial frame old new entry found is met client server said after none = record {
+step-tail true stream initial frame old new next found is met client server said after none = record {
   shown = subst (λ l. shown false (in_order l) ≡ []) said (none-in_order found none);
   after = is ∙ after;
   met = met;
   client = client;
   server = server;
 }
-step-tail false stream initial frame old new entry found is met client server said after none = tt
+step-tail false stream initial frame old new next found is met client server said after none = tt
 
 -- whether it is quiet says nothing of where it stands
 pub ahead-told : (stream : ℕ) (changes : List Change) (all rest : List Frame) (quiet : QuietStream) (is_quiet : Bool)

@@ -12,8 +12,8 @@ ghost use Rattle.audit_terms.specs.code.runs.Orderly.{IsOrderly, IsInRange};
 ghost use Rattle.settings_pair.specs.code.Changes.{AreOrderly, AreAcknowledged};
 ghost use Rattle.stream_credit.specs.code.Looks.{is_live};
 ghost use Rattle.audit_terms.specs.code.Room.{HasRoom};
-ghost use Rattle.stream_credit.specs.code.QuietStream.{AreFrom, IsAhead, IsAheadIfQuiet, IsCreditOf, IsMovedBy, IsNext};
-ghost use Rattle.stream_credit.specs.code.QuietStream.{IsPassed, ShowsNothing, StartsAt, opened_of, stream_of};
+ghost use Rattle.stream_credit.specs.code.QuietStream.{AreFrom, CanMeet, HasMet, IsAhead, IsAheadIfQuiet, IsCreditOf};
+ghost use Rattle.stream_credit.specs.code.QuietStream.{IsMovedBy, IsNext, IsPassed, ShowsNothing, opened_of, stream_of};
 ghost use Rattle.stream_credit.specs.code.QuietStream.{window_of};
 ghost use Rattle.stream_credit.specs.code.Quiet.{IsRaised};
 
@@ -206,11 +206,8 @@ impl QuietStream {
     /// Meets the changes before a number while a window lives, one by one, and answers whether nothing of them may be
     /// shown.
     fn meet_each(&mut self, changes: &Changes<'_>, number: u32) -> bool
-        requires { (stream : ℕ) × (all rest : List FrameTerm) × StartsAt number rest
-            × IsAhead stream changes.now all rest self.old }
-        ensures ahead { OnTrue result ((stream : ℕ) (all rest : List FrameTerm) → StartsAt number rest
-            → IsAhead stream changes.now all rest self.old → IsAhead stream changes.now all rest self.new) }
-        ensures passed { OnTrue result (AreFrom number (drop self.new.met changes.now)) }
+        requires { CanMeet number changes.now self.old }
+        ensures { OnTrue result (HasMet number changes.now self.old self.new) }
     {
         while let Some(change) = changes.before(self.met, number) {
             let initial = changes.initial_at(self.met);
@@ -224,11 +221,8 @@ impl QuietStream {
     /// Meets the changes before a number, and answers whether nothing of them may be shown. A change that finds no live
     /// window is passed over.
     fn meet_changes(&mut self, changes: &Changes<'_>, number: u32) -> bool
-        requires { (stream : ℕ) × (all rest : List FrameTerm) × StartsAt number rest
-            × IsAhead stream changes.now all rest self.old }
-        ensures ahead { OnTrue result ((stream : ℕ) (all rest : List FrameTerm) → StartsAt number rest
-            → IsAhead stream changes.now all rest self.old → IsAhead stream changes.now all rest self.new) }
-        ensures passed { OnTrue result (AreFrom number (drop self.new.met changes.now)) }
+        requires { CanMeet number changes.now self.old }
+        ensures { OnTrue result (HasMet number changes.now self.old self.new) }
     {
         if self.is_live() {
             return self.meet_each(changes, number);

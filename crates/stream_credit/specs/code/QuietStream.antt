@@ -90,6 +90,20 @@ pub record IsAhead (stream : ℕ) (changes : List Change) (all rest : List Frame
   pub end : stream_at_end stream all changes
       ≡ stream_after_all stream (initial_at quiet.met changes) (stream_of quiet) (merged rest (drop quiet.met changes))
 
+-- it stands before some rest of its frames that begins at the number, so it can meet the changes before that
+pub record CanMeet (number : ℕ) (changes : List Change) (quiet : QuietStream) : Type 0 where
+  pub stream : ℕ
+  pub all : List Frame
+  pub rest : List Frame
+  pub starts : StartsAt number rest
+  pub ahead : IsAhead stream changes all rest quiet
+
+-- it has met the changes before the number: none of them is left, and it still stands before such a rest
+pub record HasMet (number : ℕ) (changes : List Change) (old new : QuietStream) : Type 0 where
+  pub passed : AreFrom number (drop new.met changes)
+  pub ahead : (stream : ℕ) (all rest : List Frame) → StartsAt number rest → IsAhead stream changes all rest old
+      → IsAhead stream changes all rest new
+
 -- the same for as long as it is quiet
 abbrev pub IsAheadIfQuiet : (stream : ℕ) → List Change → (all rest : List Frame) → QuietStream → Type 0
 IsAheadIfQuiet stream changes all rest quiet = quiet.is_quiet ≡ true → IsAhead stream changes all rest quiet
