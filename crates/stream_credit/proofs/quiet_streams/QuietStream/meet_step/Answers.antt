@@ -19,6 +19,4 @@ returns c =
     let empty = nil_from_length c.keep_shown.new.found.items (sym c.keep_shown.new.found.ok.0 ∙ none) in
     step-tail c.becomes.result c.args.stream c.args.initial.now c.args.frame.now c.args.self.now c.becomes.new.self
     c.meet.new.self
-    c.meet.new.found.items c.becomes.ensures.stream c.becomes.ensures.met c.becomes.ensures.client
-    c.becomes.ensures.server
-    said after (sym c.keep_shown.ensures ∙ empty)
+    c.meet.new.found.items c.becomes.ensures.stream c.becomes.ensures.met said after (sym c.keep_shown.ensures ∙ empty)

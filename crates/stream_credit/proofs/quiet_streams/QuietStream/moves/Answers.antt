@@ -7,8 +7,7 @@ returns-in-Some-raised-clause-moved c =
     c.life.ensures (c.move_of.ensures c.in-Some.one c.in-Some.is) c.in-Client.is
     (c.raised.ensures.raised c.in-Some-raised.credit c.in-Some-raised.is)
     (c.raised.ensures.live c.in-Some-raised.credit c.in-Some-raised.is)
-    (c.raised.ensures.some c.in-Some-raised.credit c.in-Some-raised.is)
-    (c.raised.ensures.within c.in-Some-raised.credit c.in-Some-raised.is) c.requires.server
+    (c.raised.ensures.left c.in-Some-raised.credit c.in-Some-raised.is)
 
 pub returns-in-Some-raised-2-clause-moved : goal.returns-in-Some-raised-2-clause-moved
 returns-in-Some-raised-2-clause-moved c =
@@ -16,5 +15,4 @@ returns-in-Some-raised-2-clause-moved c =
     c.life.ensures (c.move_of.ensures c.in-Some.one c.in-Some.is) c.in-Server.is
     (c.raised-in-Server.ensures.raised c.in-Some-raised-2.credit c.in-Some-raised-2.is)
     (c.raised-in-Server.ensures.live c.in-Some-raised-2.credit c.in-Some-raised-2.is)
-    (c.raised-in-Server.ensures.some c.in-Some-raised-2.credit c.in-Some-raised-2.is)
-    (c.raised-in-Server.ensures.within c.in-Some-raised-2.credit c.in-Some-raised-2.is) c.requires.client
+    (c.raised-in-Server.ensures.left c.in-Some-raised-2.credit c.in-Some-raised-2.is)
