@@ -1,13 +1,10 @@
--- Short scripts for the worked examples: frames of a connection, each spelled by what a stream's life goes by.
-use Rattle.std.specs.Prelude.{ℕ, ◌+◌, ◌*◌, List, [], ◌∷◌}
+-- Short scripts for the worked examples: frames of a connection, each spelled by what a stream goes by.
+use Rattle.std.specs.Prelude.{ℕ, ◌+◌, ◌*◌}
 use Rattle.audit_terms.specs.declared.sides.Side.{Side}
 use Rattle.audit_terms.specs.declared.frames.Body.{Body}
 use Rattle.audit_terms.specs.declared.frames.Body.TheVariants.{Content, Headers, RstStream, PushPromise}
 use Rattle.audit_terms.specs.declared.frames.Frame.{Frame}
 use Rattle.audit_terms.specs.FrameType.{data_type, headers_type, rst_stream_type, push_promise_type, end_stream_flag}
-use Rattle.audit_terms.specs.code.runs.Streams.{frames_of}
-use Rattle.stream_life.specs.declared.lives.LifeOutcome.{LifeOutcome}
-use Rattle.stream_life.specs.code.Life.{StreamByFrames, unmet, after, after_all, outcome_of}
 
 -- a frame without length
 abbrev pub scripted : ℕ → Side → (code flags stream : ℕ) → Body → Frame
@@ -41,16 +38,3 @@ reset_frame number side stream = scripted number side rst_stream_type 0 stream R
 
 abbrev pub promise_frame : ℕ → Side → (stream promised : ℕ) → Frame
 promise_frame number side stream promised = scripted number side push_promise_type 0 stream (PushPromise promised)
-
--- what each frame is to the stream
-abbrev pub outcomes_from : StreamByFrames → List Frame → List LifeOutcome
-outcomes_from now [] = []
-outcomes_from now (frame ∷ frames) = outcome_of now frame ∷ outcomes_from (after now frame) frames
-
--- what each frame of a connection that a stream meets is to it
-abbrev pub outcomes : (stream : ℕ) → List Frame → List LifeOutcome
-outcomes stream script = outcomes_from (unmet stream) (frames_of stream script)
-
--- the stream after the frames of a connection that it meets
-abbrev pub after_script : (stream : ℕ) → List Frame → StreamByFrames
-after_script stream script = after_all (unmet stream) (frames_of stream script)
