@@ -12,7 +12,7 @@ use Rattle.conn_scan.specs.declared.block_items.Block.{Block}
 use Rattle.conn_scan.specs.code.Block.{BlockFits}
 use Rattle.conn_scan.specs.code.Items.{items_in, IsBlock}
 use Rattle.conn_scan.specs.code.Walk.{walked}
-use Rattle.conn_scan.specs.code.CreditLaws.{room-wider}
+use Rattle.conn_scan.specs.code.FitLaws.{room-wider}
 use Rattle.conn_scan.proofs.WalkLemmas.{walked-items_with}
 
 pub block_walked : (block : Block) → IsBlock block

@@ -6,6 +6,7 @@ use Rattle.std.specs.Prelude.{unwrap_or, is_none}
 use Rattle.std.specs.List.{list_all}
 use Rattle.std.specs.Int.{int_max, int_min}
 use Rattle.std.proofs.lemmas.Int.{ints, clamps, by_lt_z}
+use Rattle.std.proofs.Math.Bool.{and-false, and-true, and_assoc, or-false}
 use Rattle.std.proofs.lemmas.Bool.{cases_lt, lt-ltb, le-ltb, le-leb, lt-leb}
 use Rattle.std.proofs.lemmas.Bool.Decides.{nat_tests}
 use Rattle.audit_terms.specs.declared.sides.Side.TheVariants.{Client, Server}
@@ -14,8 +15,7 @@ use Rattle.audit_terms.specs.declared.items.Item.{Item}
 use Rattle.audit_terms.specs.Frame.{is_server_promise, promised_in}
 use Rattle.audit_terms.specs.Window.{largest_window}
 use Rattle.audit_terms.specs.Connection.{is_opened_by_headers, connection_after}
-use Rattle.conn_scan.specs.code.Credit.{credit_of}
-use Rattle.conn_scan.specs.code.SideCredit.{change_of}
+use Rattle.conn_scan.specs.code.Credit.{change_of, high, low, credit_of}
 use Rattle.conn_scan.specs.code.Rising.{least_of, rise, present, rising_of}
 use Rattle.conn_scan.specs.code.Ids.{opened_in, promised_by}
 use Rattle.conn_scan.specs.code.Latest.{limit_in, push_in, is_zero, lesser, least_limit, longest_by, grants_zero}
@@ -24,118 +24,72 @@ use Rattle.conn_scan.specs.code.Latest.{latest_of}
 use Rattle.conn_scan.specs.code.ConnSum.{conn_sum_of}
 use Rattle.conn_scan.specs.code.Clear.{connections, is_usable, keeps_credit, grants_something, openings_rise}
 use Rattle.conn_scan.specs.code.Clear.{promises_allowed, promises_rise, is_clear}
-use Rattle.conn_scan.specs.code.CreditLaws.{high, low, high-next, low-next}
+use Rattle.conn_scan.specs.code.CreditLaws.{high-signed, low-signed}
+use Rattle.conn_scan.specs.code.RisingLaws.{below_both, both_below}
 use Rattle.conn_scan.specs.code.LatestLaws.{limit_is, push_is}
 use Rattle.conn_scan.specs.code.Cleared.{credit_clear, ids_clear, push_clear, is_within, length_clear, sum_clear}
 
 and_same : {a b c d : Bool} → a ≡ b → c ≡ d → a && c ≡ b && d
 and_same e f = λ i. e i && f i
 
-and_false : (a : Bool) → a && false ≡ false
-and_false true = refl
-and_false false = refl
-
-and_true : (a : Bool) → a && true ≡ a
-and_true true = refl
-and_true false = refl
-
-or_false : (a : Bool) → a || false ≡ a
-or_false true = refl
-or_false false = refl
-
 -- ---- credit
 
-int_lt-true : (a b : ℤ) → a <ℤ b → int_lt a b ≡ true
-int_lt-true a b h = grind (arith, ints)
+pub not_most : (a b : ℤ) → b <ℤ a → int_le a b ≡ false
+not_most a b h = grind (arith, ints)
 
-int_lt-false : (a b : ℤ) → b ≤ℤ a → int_lt a b ≡ false
-int_lt-false a b h = grind (arith, ints)
+at_most : (a b : ℤ) → a ≤ℤ b → int_le a b ≡ true
+at_most a b h = grind (arith, ints)
 
-int_le-true : (a b : ℤ) → a ≤ℤ b → int_le a b ≡ true
-int_le-true a b h = grind (arith, ints)
-
-int_le-false : (a b : ℤ) → b <ℤ a → int_le a b ≡ false
-int_le-false a b h = grind (arith, ints)
+pub usable_parts : (c : ℤ) → is_usable c ≡ true → (pos 0 <ℤ c) × (c ≤ℤ largest_window)
+usable_parts c e = (grind (arith, ints), grind (arith, ints))
 
 -- the credit is usable before some changes and after each
 abbrev usable_all : ℤ → List ℤ → Bool
 usable_all credit [] = is_usable credit && true
 usable_all credit (change ∷ changes) = is_usable credit && usable_all (credit +ℤ change) changes
 
-no_change_same : (c : ℤ) → is_usable c && true ≡ credit_clear c (credit_of [])
-no_change_same c = by_lt_z (pos 0) c
-    (λ p. by_lt_z largest_window c
-    (λ q. rw (int_le-false c largest_window q, int_lt-true (pos 0) c p) refl)
-    (λ q. rw (
-      int_le-true c largest_window q,
-      int_lt-true (pos 0) c p,
-      int_lt-true (neg_ℤ c) (pos 0) (omega (arith, ints)),
-      int_le-true (pos 0) (largest_window -ℤ c) (omega (arith, ints)),
-    ) refl))
-    (λ p. rw (int_lt-false (pos 0) c p) refl)
+no_change_same : (c : ℤ) → is_usable c && true
+    ≡ is_usable c && (int_lt (neg_ℤ c) (pos 0) && int_le (pos 0) (largest_window -ℤ c))
+no_change_same c = grind (arith, ints)
 
--- what holds after a change and of the extremes of those after it, holds of all extremes
-step_same : (c x l h : ℤ)
-    → (int_lt (pos 0) (c +ℤ x) && int_le (c +ℤ x) largest_window)
-    && (int_lt (neg_ℤ (c +ℤ x)) l && int_le h (largest_window -ℤ (c +ℤ x)))
-    ≡ int_lt (neg_ℤ c) (int_min x (x +ℤ l)) && int_le (int_max x (x +ℤ h)) (largest_window -ℤ c)
-step_same c x l h =
-    by_lt_z (pos 0) (c +ℤ x)
-    (λ p. by_lt_z largest_window (c +ℤ x)
-    (λ q. rw (
-      int_le-false (c +ℤ x) largest_window q,
-      int_lt-true (pos 0) (c +ℤ x) p,
-      int_le-false (int_max x (x +ℤ h)) (largest_window -ℤ c) (omega (arith, ints, clamps)),
-    ) (sym (and_false _)))
-    (λ q. by_lt_z (neg_ℤ (c +ℤ x)) l
-    (λ r. by_lt_z (largest_window -ℤ (c +ℤ x)) h
-    (λ s. rw (
-      int_le-true (c +ℤ x) largest_window q,
-      int_lt-true (pos 0) (c +ℤ x) p,
-      int_lt-true (neg_ℤ (c +ℤ x)) l r,
-      int_le-false h (largest_window -ℤ (c +ℤ x)) s,
-      int_le-false (int_max x (x +ℤ h)) (largest_window -ℤ c) (omega (arith, ints, clamps)),
-    ) (sym (and_false _)))
-    (λ s. rw (
-      int_le-true (c +ℤ x) largest_window q,
-      int_lt-true (pos 0) (c +ℤ x) p,
-      int_lt-true (neg_ℤ (c +ℤ x)) l r,
-      int_le-true h (largest_window -ℤ (c +ℤ x)) s,
-      int_lt-true (neg_ℤ c) (int_min x (x +ℤ l)) (omega (arith, ints, clamps)),
-      int_le-true (int_max x (x +ℤ h)) (largest_window -ℤ c) (omega (arith, ints, clamps)),
-    ) refl))
-    (λ r. rw (
-      int_le-true (c +ℤ x) largest_window q,
-      int_lt-true (pos 0) (c +ℤ x) p,
-      int_lt-false (neg_ℤ (c +ℤ x)) l r,
-      int_lt-false (neg_ℤ c) (int_min x (x +ℤ l)) (omega (arith, ints, clamps)),
-    ) refl)))
-    (λ p. rw (
-      int_lt-false (pos 0) (c +ℤ x) p,
-      int_lt-false (neg_ℤ c) (int_min x (x +ℤ l)) (omega (arith, ints, clamps)),
-    ) refl)
+-- at a usable credit, what holds of the least and the greatest credit that later changes reach holds of all three
+low_same : (c x l : ℤ) → pos 0 <ℤ c → int_lt (neg_ℤ (c +ℤ x)) l ≡ int_lt (neg_ℤ c) (int_min (pos 0) (x +ℤ l))
+low_same c x l p = grind (arith, ints, clamps)
 
-lesser_self : (x : ℤ) → int_min x (x +ℤ pos 0) ≡ x
-lesser_self x = omega (arith, ints, clamps)
+high_same : (c x h : ℤ) → c ≤ℤ largest_window
+    → int_le h (largest_window -ℤ (c +ℤ x)) ≡ int_le (int_max (pos 0) (x +ℤ h)) (largest_window -ℤ c)
+high_same c x h p =
+    by_lt_z (largest_window -ℤ (c +ℤ x)) h
+    (λ q. not_most h (largest_window -ℤ (c +ℤ x)) q
+    ∙ sym (not_most (int_max (pos 0) (x +ℤ h)) (largest_window -ℤ c) (omega (arith, ints, clamps))))
+    (λ q. at_most h (largest_window -ℤ (c +ℤ x)) q
+    ∙ sym (at_most (int_max (pos 0) (x +ℤ h)) (largest_window -ℤ c) (omega (arith, ints, clamps))))
 
-greater_self : (x : ℤ) → int_max x (x +ℤ pos 0) ≡ x
-greater_self x = omega (arith, ints, clamps)
+-- a credit is usable where such extremes are
+usable_within : (c l h : ℤ) → l ≤ℤ pos 0 → pos 0 ≤ℤ h
+    → is_usable c && (int_lt (neg_ℤ c) l && int_le h (largest_window -ℤ c))
+    ≡ int_lt (neg_ℤ c) l && int_le h (largest_window -ℤ c)
+usable_within c l h p q = grind (arith, ints)
 
-one_change_same : (c x : ℤ) → is_usable (c +ℤ x) && true
-    ≡ int_lt (neg_ℤ c) x && int_le x (largest_window -ℤ c)
-one_change_same c x = no_change_same (c +ℤ x) ∙ step_same c x (pos 0) (pos 0)
-    ∙ ap (λ l. int_lt (neg_ℤ c) l && int_le (int_max x (x +ℤ pos 0)) (largest_window -ℤ c)) (lesser_self x)
-    ∙ ap (λ h. int_lt (neg_ℤ c) x && int_le h (largest_window -ℤ c)) (greater_self x)
+step_same : (c x l h : ℤ) → l ≤ℤ pos 0 → pos 0 ≤ℤ h
+    → is_usable c
+    && (is_usable (c +ℤ x) && (int_lt (neg_ℤ (c +ℤ x)) l && int_le h (largest_window -ℤ (c +ℤ x))))
+    ≡ is_usable c
+    && (int_lt (neg_ℤ c) (int_min (pos 0) (x +ℤ l)) && int_le (int_max (pos 0) (x +ℤ h)) (largest_window -ℤ c))
+step_same c x l h p q =
+    ap (λ b. is_usable c && b) (usable_within (c +ℤ x) l h p q)
+    ∙ when_usable (is_usable c) refl where
+      when_usable : (b : Bool) → is_usable c ≡ b
+          → b && (int_lt (neg_ℤ (c +ℤ x)) l && int_le h (largest_window -ℤ (c +ℤ x)))
+          ≡ b && (int_lt (neg_ℤ c) (int_min (pos 0) (x +ℤ l)) && int_le (int_max (pos 0) (x +ℤ h)) (largest_window -ℤ c))
+      when_usable true e =
+          let parts = usable_parts c e in and_same (low_same c x l parts.0) (high_same c x h parts.1)
+      when_usable false e = refl
 
 usable_same : (c : ℤ) (changes : List ℤ) → usable_all c changes ≡ credit_clear c (credit_of changes)
 usable_same c [] = no_change_same c
-usable_same c (x ∷ []) = ap (λ b. is_usable c && b) (one_change_same c x)
-usable_same c (x ∷ y ∷ ys) =
-    ap (λ b. is_usable c && b)
-    (usable_same (c +ℤ x) (y ∷ ys) ∙ step_same c x (low (y ∷ ys)) (high (y ∷ ys))
-    ∙ ap (λ l. int_lt (neg_ℤ c) l && int_le (int_max x (x +ℤ high (y ∷ ys))) (largest_window -ℤ c))
-    (sym (low-next x y ys))
-    ∙ ap (λ h. int_lt (neg_ℤ c) (low (x ∷ y ∷ ys)) && int_le h (largest_window -ℤ c)) (sym (high-next x y ys)))
+usable_same c (x ∷ xs) = ap (λ b. is_usable c && b) (usable_same (c +ℤ x) xs)
+    ∙ step_same c x (low xs) (high xs) (low-signed xs) (high-signed xs)
 
 client_usable : (now : ConnectionState) (items : List Item) → keeps_credit Client now items
     ≡ usable_all now.credit.client (map (change_of Client) items)
@@ -150,24 +104,6 @@ server_usable now (item ∷ items) =
     ap (λ b. is_usable now.credit.server && b) (server_usable (connection_after now item) items)
 
 -- ---- identifiers
-
-below_both : (x p q : ℕ) → nat_lt x (min p q) ≡ nat_lt x p && nat_lt x q
-below_both x p q = ⊎_elim
-    (λ lt. ⊎_elim
-    (λ lu. rw (lt-ltb x p lt, lt-ltb x q lu, lt-ltb x (min p q) (omega arith)) refl)
-    (λ ge. rw (lt-ltb x p lt, le-ltb x q ge, le-ltb x (min p q) (omega arith)) refl)
-    (cases_lt x q))
-    (λ ge. rw (le-ltb x p ge, le-ltb x (min p q) (omega arith)) refl)
-    (cases_lt x p)
-
-both_below : (x g q : ℕ) → nat_lt (max x g) q ≡ nat_lt x q && nat_lt g q
-both_below x g q = ⊎_elim
-    (λ lt. ⊎_elim
-    (λ lu. rw (lt-ltb x q lt, lt-ltb g q lu, lt-ltb (max x g) q (omega arith)) refl)
-    (λ ge. rw (lt-ltb x q lt, le-ltb g q ge, le-ltb (max x g) q (omega arith)) refl)
-    (cases_lt g q))
-    (λ ge. rw (le-ltb x q ge, le-ltb (max x g) q (omega arith)) refl)
-    (cases_lt x q)
 
 id_turn : (a b c d : Bool) → a && ((b && c) && d) ≡ (a && b) && (c && d)
 id_turn true true c d = refl
@@ -212,10 +148,6 @@ openings_same now (item ∷ items) =
 
 -- ---- promises
 
-and_turn : (a b c : Bool) → a && (b && c) ≡ (a && b) && c
-and_turn true b c = refl
-and_turn false b c = refl
-
 odd_is : (n : ℕ) → (n % 2 == 1) ≡ not (n % 2 == 0)
 odd_is n = grind (arith, nat_tests)
 
@@ -224,8 +156,8 @@ parity_turn : (e d : Bool) (n g : ℕ) (later : List (Option ℕ)) (o : Bool) �
     ≡ rises_past g (present ((if e then Some n else None) ∷ later)) && not (d || o)
 parity_turn true d n g later o is =
     rw is (ap (λ t. t && (rises_past (max g n) (present later) && not o)) (not_le n g)
-    ∙ and_turn (nat_lt g n) (rises_past (max g n) (present later)) (not o))
-parity_turn false d n g later o is = rw is (sym (and_false (rises_past g (present later))))
+    ∙ sym (and_assoc (nat_lt g n) (rises_past (max g n) (present later)) (not o)))
+parity_turn false d n g later o is = rw is (sym (and-false (rises_past g (present later))))
 
 promises_turn : (p : Bool) (n g : ℕ) (later : List (Option ℕ)) (o : Bool)
     → not (p && ((n % 2 == 1) || nat_le n g))
@@ -265,7 +197,7 @@ push_turn : (p : Bool) (c : Option ℕ) (push : ℕ) (e b : Bool)
 push_turn p None push e b = none_turn p e (push == 0) b
 push_turn p (Some v) push e b =
     ap (λ t. not (p && (push == 0)) && t) (and_not e (v == 0) b)
-    ∙ ap (λ t. not (t && (push == 0)) && not (((v == 0) && e) || b)) (sym (or_false p))
+    ∙ ap (λ t. not (t && (push == 0)) && not (((v == 0) && e) || b)) (sym (or-false p))
 
 push_same : (now : ConnectionState) (items : List Item) → promises_allowed now items
     ≡ push_clear now.push (latest_of items)
@@ -287,8 +219,8 @@ not_both false b = refl
 grants_same : (now : ConnectionState) (items : List Item) → grants_something now items ≡ not (some_zero_grant items)
 grants_same now [] = refl
 grants_same now (item ∷ items) =
-    ap (λ b. not (grants_zero item) && b) (grants_same (connection_after now item) items)
-    ∙ not_both (grants_zero item) (some_zero_grant items)
+    ap (λ b. not (grants_zero item.frame) && b) (grants_same (connection_after now item) items)
+    ∙ not_both (grants_zero item.frame) (some_zero_grant items)
 
 and_twice : (a b : Bool) → a && (a && b) ≡ a && b
 and_twice true b = refl
@@ -308,7 +240,7 @@ length_turn : (l limit : ℕ) (m least : Option ℕ)
     ≡ nat_le l limit && is_within l (lesser m least)
 length_turn l limit None None = and_twice (nat_le l limit) true
 length_turn l limit None (Some y) = and_twice (nat_le l limit) (nat_le l y)
-length_turn l limit (Some v) None = ap (λ t. nat_le l limit && t) (and_true (nat_le l v))
+length_turn l limit (Some v) None = ap (λ t. nat_le l limit && t) (and-true (nat_le l v))
 length_turn l limit (Some v) (Some y) = ap (λ t. nat_le l limit && t) (le_min l v y)
 
 client_within : (l : ℕ) (now : ConnectionState) (items : List Item)

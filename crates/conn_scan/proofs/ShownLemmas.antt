@@ -1,10 +1,10 @@
 -- A clear block shows connection credit alone.
-use Rattle.std.proofs.Common.{◌≡◌, ℕ, ◌<◌, ◌≤◌, ℤ, pos, ◌+ℤ◌, ◌-ℤ◌, ◌<ℤ◌, ◌≤ℤ◌, int_lt, int_le, nat_lt, nat_le, Bool}
-use Rattle.std.proofs.Common.{true, false, ◌&&◌, ◌||◌, not, cond, if◌then◌else◌, List, [], ◌∷◌, ◌++◌, refl, ap, ◌∙◌}
+use Rattle.std.proofs.Common.{◌≡◌, ℕ, ◌<◌, ◌≤◌, ℤ, pos, ◌+ℤ◌, ◌-ℤ◌, ◌<ℤ◌, int_lt, int_le, nat_lt, nat_le, Bool}
+use Rattle.std.proofs.Common.{true, false, ◌&&◌, not, cond, if◌then◌else◌, List, [], ◌∷◌, ◌++◌, refl, ap, ◌∙◌}
 use Rattle.std.proofs.Common.{arith, true≢false, ⊎_elim}
 use Rattle.std.specs.List.{AllByRecursion, list_all}
 use Rattle.std.proofs.lemmas.Int.{ints}
-use Rattle.std.proofs.lemmas.Bool.{and_parts, not-true, le-ltb, leb-true, cases_lt, and_left, and_right}
+use Rattle.std.proofs.lemmas.Bool.{and_parts, or_parts, not-true, le-ltb, leb-true, cases_lt, and_left, and_right}
 use Rattle.audit_terms.specs.declared.sides.Side.{Side}
 use Rattle.audit_terms.specs.declared.sides.Side.TheVariants.{Client, Server}
 use Rattle.audit_terms.specs.declared.connections.ConnectionState.{ConnectionState}
@@ -28,6 +28,8 @@ use Rattle.conn_scan.specs.code.Latest.{length_by, longest_by}
 use Rattle.conn_scan.specs.code.Clear.{connections, is_usable, keeps_credit, grants_something, openings_rise}
 use Rattle.conn_scan.specs.code.Clear.{promises_allowed, promises_rise}
 use Rattle.conn_scan.specs.laws.Clear.{ClearShowsCredit}
+use Rattle.conn_scan.specs.code.CreditLaws.{not_above}
+use Rattle.conn_scan.proofs.ClearLemmas.{not_most, usable_parts}
 
 abbrev IsCredit : Finding → Type 0
 IsCredit found = found.kind ≡ ConnectionCredit
@@ -58,18 +60,6 @@ hidden (x ∷ found) h =
 
 -- ---- windows
 
-above-true : (a b : ℤ) → int_lt a b ≡ true → a <ℤ b
-above-true a b e = grind (arith, ints)
-
-most-true : (a b : ℤ) → int_le a b ≡ true → a ≤ℤ b
-most-true a b e = grind (arith, ints)
-
-not_above : (a b : ℤ) → b ≤ℤ a → int_lt a b ≡ false
-not_above a b h = grind (arith, ints)
-
-not_most : (a b : ℤ) → b <ℤ a → int_le a b ≡ false
-not_most a b h = grind (arith, ints)
-
 -- a frame that carries content of side d grants nothing to d
 no_grant : (d s : Side) (b c : Bool) (length amount : ℕ) → 0 < (if is_side d s && b then length else 0)
     → (if is_side (other d) s && c then amount else 0) ≡ 0
@@ -92,11 +82,9 @@ window_only : (d : Side) (before : ℤ) (frame : Frame) → is_usable before ≡
     → Only (connection_window_said d before frame)
 window_only d before frame entry left grants =
     let after = credit_after d before frame in
-    let here = and_parts (int_lt (pos 0) before) (int_le before largest_window) entry in
-    let there = and_parts (int_lt (pos 0) after) (int_le after largest_window) left in
-    let some = above-true (pos 0) before here.0 in
-    let kept = above-true (pos 0) after there.0 in
-    let most = most-true after largest_window there.1 in
+    let some = (usable_parts before entry).0 in
+    let kept = (usable_parts after left).0 in
+    let most = (usable_parts after left).1 in
     let full : int_le before (pos 0) ≡ false = not_most before (pos 0) some in
     let still : int_le after (pos 0) ≡ false = not_most after (pos 0) kept in
     both_only _ _
@@ -115,24 +103,20 @@ window_only d before frame entry left grants =
 
 -- ---- an item
 
-or_parts : (a b : Bool) → (a || b) ≡ false → (a ≡ false) × (b ≡ false)
-or_parts true b e = absurd (true≢false e)
-or_parts false b e = (refl, e)
-
 -- the limit after an item bounds the frame of its side
 length_only : (s : Side) (now : ConnectionState) (item : Item) (client server : ℕ) → item.frame.side ≡ s
-    → length_by Client item ≤ client → length_by Server item ≤ server
+    → length_by Client item.frame ≤ client → length_by Server item.frame ≤ server
     → nat_le client (connection_after now item).limit.client ≡ true
     → nat_le server (connection_after now item).limit.server ≡ true
     → Only (length_said (new_limit item.change s (side_of s now.limit)) item.frame)
 length_only Client now item client server side c s lc ls =
     let bound = leb-true client (connection_after now item).limit.client lc in
-    let own : length_by Client item ≡ item.frame.length =
+    let own : length_by Client item.frame ≡ item.frame.length =
     ap (λ (d : Side). if is_side Client d then item.frame.length else 0) side in
     none_said _ _ (le-ltb (new_limit item.change Client now.limit.client) item.frame.length (omega arith))
 length_only Server now item client server side c s lc ls =
     let bound = leb-true server (connection_after now item).limit.server ls in
-    let own : length_by Server item ≡ item.frame.length =
+    let own : length_by Server item.frame ≡ item.frame.length =
     ap (λ (d : Side). if is_side Server d then item.frame.length else 0) side in
     none_said _ _ (le-ltb (new_limit item.change Server now.limit.server) item.frame.length (omega arith))
 

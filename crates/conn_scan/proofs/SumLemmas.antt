@@ -1,90 +1,90 @@
--- Items that each move a credit by at most 2^32 fit the summaries.
-use Rattle.std.proofs.Common.{◌≡◌, ℕ, ℤ, pos, ◌-◌, ◌*◌, ◌^◌, ◌≤◌, List, [], ◌∷◌, ◌++◌, length, length-append, map}
-use Rattle.std.proofs.Common.{arith, refl, sym, ap}
-use Rattle.std.proofs.lemmas.Int.{ints}
+-- What the sums of a block's items need.
+use Rattle.std.proofs.Common.{◌≡◌, ℤ, ◌-◌, ◌*◌, ◌^◌, ◌≤◌, List, [], ◌∷◌, ◌++◌, length, map, refl, ap}
+use Rattle.std.proofs.Common.{sym, ◌∙◌, arith, length-append}
 use Rattle.std.specs.List.{AllByRecursion}
+use Rattle.std.proofs.lemmas.List.{length-map}
 use Rattle.audit_terms.specs.declared.sides.Side.TheVariants.{Client, Server}
 use Rattle.audit_terms.specs.declared.connections.ConnectionState.{ConnectionState}
 use Rattle.audit_terms.specs.declared.items.Item.{Item}
-use Rattle.audit_terms.specs.Connection.{connection_start}
+use Rattle.audit_terms.specs.Connection.{connection_after}
+use Rattle.audit_terms.specs.code.runs.Blocks.{connection_after_all}
 use Rattle.audit_terms.specs.code.Room.{HasRoom}
-use Rattle.conn_scan.specs.code.Credit.{AreSmall}
-use Rattle.conn_scan.specs.code.SideCredit.{change_of}
 use Rattle.block_scan.specs.code.Summary.{summary_of}
-use Rattle.block_scan.specs.code.List.{state_after}
-use Rattle.conn_scan.specs.code.ConnSum.{parts_of, parts_step}
-use Rattle.conn_scan.specs.code.Block.{MovesLittle, BlockFits}
-use Rattle.conn_scan.specs.code.CreditLaws.{room-wider}
-use Rattle.conn_scan.specs.code.ConnSumLaws.{conn_none, conn_one, conn_join, ConnFits, conn_laws}
+use Rattle.block_scan.specs.code.List.{states_before}
+use Rattle.block_scan.specs.code.Shown.{summary-shown}
+use Rattle.conn_scan.specs.code.Credit.{change_of, credit_of, no_change, one_change, credit_join, AreSmall, ChangesFit}
+use Rattle.conn_scan.specs.declared.block_items.Block.{Block}
+use Rattle.conn_scan.specs.code.Walk.{walked}
+use Rattle.conn_scan.proofs.WalkLemmas.{length-walked}
+use Rattle.conn_scan.specs.code.Block.{MovesLittle, ItemsFit, connections_before}
+use Rattle.conn_scan.specs.code.ConnSum.{ConnSum, conn_sum_of, conn_none, conn_one, conn_join}
+use Rattle.conn_scan.specs.code.FitLaws.{room-wider}
+use Rattle.conn_scan.specs.code.CreditLaws.{IsRoomy, roomy, credit_shows}
+use Rattle.conn_scan.specs.code.ConnSumLaws.{all-after, conn_shows}
 
 pub little-append : (a b : List Item) → AllByRecursion MovesLittle a → AllByRecursion MovesLittle b
     → AllByRecursion MovesLittle (a ++ b)
 little-append [] b h k = k
 little-append (x ∷ a) b h k = (h.0, little-append a b h.1 k)
 
-client_small : (items : List Item) → AllByRecursion MovesLittle items → AreSmall (map (change_of Client) items)
-client_small [] h = tt
-client_small (x ∷ items) h = (h.0.0, client_small items h.1)
+-- the credit of one side, which each item changes by little
+module _ (change : Item → ℤ) (small : (item : Item) → MovesLittle item → HasRoom (2 ^ 32) (change item)) where
+  changes_small : (items : List Item) → AllByRecursion MovesLittle items → AreSmall (map change items)
+  changes_small [] h = tt
+  changes_small (x ∷ items) h = (small x h.0, changes_small items h.1)
 
-server_small : (items : List Item) → AllByRecursion MovesLittle items → AreSmall (map (change_of Server) items)
-server_small [] h = tt
-server_small (x ∷ items) h = (h.0.1, server_small items h.1)
+  pub changes_roomy : (items : List Item) → length items ≤ 2 ^ 28 → AllByRecursion MovesLittle items
+      → IsRoomy (credit_of (map change items))
+  changes_roomy items number little =
+      let same = length-map items change in roomy (map change items) (omega arith) (changes_small items little)
 
-length-map : {A B : Type 0} (f : A → B) (xs : List A) → length (map f xs) ≡ length xs
-length-map f [] = refl
-length-map f (x ∷ xs) = let e = length-map f xs in omega arith
+  pub changes_fit : (credit : ℤ) (items : List Item) → length items ≤ 2 ^ 28 → AllByRecursion MovesLittle items
+      → HasRoom (2 ^ 60 - 2 ^ 32 * length items) credit → ChangesFit credit (map change items)
+  changes_fit credit items number little room =
+      let same = length-map items change in
+      record {
+        number = omega arith;
+        sizes = changes_small items little;
+        room = room-wider _ _ credit (omega arith) room;
+      }
 
-room_for : (n m : ℕ) (x : ℤ) → m ≡ n → n ≤ 2 ^ 28 → HasRoom (2 ^ 60 - 2 ^ 32 * n) x
-    → HasRoom (2 ^ 61 - 2 ^ 32 * m) x
-room_for n m x e le h = room-wider _ _ x (omega arith) h
+pub client_fit : (now : ConnectionState) (items : List Item) → ItemsFit now items
+    → ChangesFit now.credit.client (map (change_of Client) items)
+client_fit now items f = changes_fit (change_of Client) (λ x h. h.0) now.credit.client items f.0.number f.1 f.0.client
 
-pub items_fit : (now : ConnectionState) (items : List Item) → BlockFits now items → AllByRecursion MovesLittle items
-    → ConnFits (parts_of now) items
-items_fit now items fits little =
-    let client = length-map (change_of Client) items in
-    let server = length-map (change_of Server) items in
-    let number = fits.number in (
-      (
-        record {
-          number = omega arith;
-          sizes = client_small items little;
-          room = room_for (length items) _ now.credit.client client number fits.client;
-        },
-        record {
-          number = omega arith;
-          sizes = server_small items little;
-          room = room_for (length items) _ now.credit.server server number fits.server;
-        },
-      ),
-      ((tt, tt), tt),
+pub server_fit : (now : ConnectionState) (items : List Item) → ItemsFit now items
+    → ChangesFit now.credit.server (map (change_of Server) items)
+server_fit now items f = changes_fit (change_of Server) (λ x h. h.1) now.credit.server items f.0.number f.1 f.0.server
+
+-- the summary of a connection's items has those of the changes of both credits
+pub credits_summed : (a : List Item) (sum : ConnSum) → sum ≡ summary_of conn_none conn_one conn_join a
+    → (sum.credit.client ≡ summary_of no_change one_change credit_join (map (change_of Client) a))
+    × (sum.credit.server ≡ summary_of no_change one_change credit_join (map (change_of Server) a))
+credits_summed a sum e =
+    let shown = e ∙ summary-shown conn_shows a in (
+      ap (λ s. s.credit.client) shown ∙ sym (summary-shown credit_shows (map (change_of Client) a)),
+      ap (λ s. s.credit.server) shown ∙ sym (summary-shown credit_shows (map (change_of Server) a)),
     )
 
--- a connection whose credits are 0
-abbrev pub at_rest : ConnectionState
-at_rest = record connection_start { credit = record { client = pos 0; server = pos 0 } }
+-- of the items of a block, those so far are few
+pub few : (block : Block) (done rest : List Item)
+    → done ++ rest ≡ walked block.opened.now block.changes.now block.frames.now
+    → length block.frames.now ≤ 2 ^ 28 → length done ≤ 2 ^ 28
+few block done rest split number =
+    let all = length-walked block.opened.now block.changes.now block.frames.now in
+    omega (arith, ap length split, length-append done rest)
 
-no_room : (n : ℕ) → HasRoom n (pos 0)
-no_room n = (omega (arith, ints), omega (arith, ints))
+-- the connection before each block is what a scan carries
+pub states_carried : (now : ConnectionState) (blocks : List (List Item))
+    → states_before connection_after now blocks ≡ connections_before now blocks
+states_carried now [] = refl
+states_carried now (block ∷ blocks) =
+    ap (λ s. now ∷ states_before connection_after s blocks) (sym (all-after now block))
+    ∙ ap (λ states. now ∷ states) (states_carried (connection_after_all now block) blocks)
 
-pub sum_fits : (items : List Item) → length items ≤ 2 ^ 28 → AllByRecursion MovesLittle items
-    → ConnFits (parts_of at_rest) items
-sum_fits items le little =
-    items_fit at_rest items (record { number = le; client = no_room _; server = no_room _ }) little
-
-pub counted : (done rest all : List Item) (item : Item) → (done ++ item ∷ []) ++ rest ≡ all → length all ≤ 2 ^ 28
-    → length (done ++ item ∷ []) ≤ 2 ^ 28
-counted done rest all item e le =
-    omega (arith, ap length e, length-append (done ++ item ∷ []) rest)
-
--- the summary of one item more
-pub one_more : (done : List Item) (item : Item) → length (done ++ item ∷ []) ≤ 2 ^ 28
-    → AllByRecursion MovesLittle (done ++ item ∷ [])
-    → (conn_one item ≡ summary_of conn_none conn_one conn_join (item ∷ []))
-    × (summary_of conn_none conn_one conn_join (done ++ item ∷ [])
-    ≡ conn_join (summary_of conn_none conn_one conn_join done) (summary_of conn_none conn_one conn_join (item ∷ [])))
-one_more done item le little =
-    let state = parts_of at_rest in
-    let fits = sum_fits (done ++ item ∷ []) le little in (
-      sym (conn_laws.one (state_after parts_step state done) item (conn_laws.rest_fits state done (item ∷ []) fits)),
-      conn_laws.appended state done (item ∷ []) fits,
-    )
+-- the summaries of blocks
+pub sums-shown : (blocks : List (List Item)) → map conn_sum_of blocks
+    ≡ map (summary_of conn_none conn_one conn_join) blocks
+sums-shown [] = refl
+sums-shown (block ∷ blocks) = ap (λ sum. sum ∷ map conn_sum_of blocks) (sym (summary-shown conn_shows block))
+    ∙ ap (λ sums. summary_of conn_none conn_one conn_join block ∷ sums) (sums-shown blocks)

@@ -25,15 +25,12 @@ pub fn clear(before: &ConnectionState, sum: &ConnSum) -> bool
 fn is_sum_clear(before: &ConnectionState, sum: &ConnSum) -> bool
     ensures { result ≡ sum_clear before.now sum.now }
 {
-    let client = &sum.first.first.credit;
-    let server = &sum.first.second.credit;
-    let ids = &sum.second.first;
-    let latest = &sum.second.second;
-    let credits = keeps_credit(before.credit.client, client)
-        & keeps_credit(before.credit.server, server);
-    let openings = !latest.zero_grant & rise_past(before.opened, &ids.first.ids);
+    let latest = &sum.latest;
+    let credits = keeps_credit(before.credit.client, &sum.credit.client)
+        & keeps_credit(before.credit.server, &sum.credit.server);
+    let openings = !latest.zero_grant & rise_past(before.opened, &sum.opened);
     let promises = allows_promises(before.push, latest)
-        & (rise_past(before.promised, &ids.second.ids) & !latest.odd_promise);
+        & (rise_past(before.promised, &sum.promised) & !latest.odd_promise);
     let lengths = is_length_kept(
         before.limit.client,
         latest.longest.client,

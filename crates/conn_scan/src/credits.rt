@@ -1,22 +1,47 @@
 ghost use Rattle.std.specs.Prelude.{◌≡◌, ◌+ℤ◌, ◌^◌};
 ghost use Rattle.audit_terms.specs.code.Room.{HasRoom};
+ghost use Rattle.conn_scan.specs.code.Credit.{change_of};
 
+use audit_terms::{Item, Side};
 use block_scan::Summary;
+
+/// What an item moves the connection credit of a side by, in bytes: the other side's grants, less its own content.
+pub(crate) fn change_of(side: Side, item: &Item) -> i64
+    ensures value { result ≡ change_of side item.now }
+    ensures little { HasRoom (2 ^ 32) result }
+{
+    i64::from(item.frame.grant_to(side, 0)) - i64::from(item.frame.content_by(side))
+}
 
 /// What a list of signed changes does to the credit of a window (RFC 9113, 6.9). Of no change all is 0.
 #[derive(Clone, Copy)]
 pub struct Credit {
-    /// How many changes there are.
-    pub count: u32,
     /// The changes added up, in bytes.
     pub sum: i64,
-    /// The greatest sum of the first changes: of one, of two, and so on to all.
+    /// The greatest sum of the first changes: of none, of one, of two, and so on to all. So it is at least 0.
     pub high: i64,
-    /// The least of these sums.
+    /// The least of these sums, at most 0.
     pub low: i64,
 }
 
 impl Credit {
+    ghost use Rattle.conn_scan.specs.code.Credit.{credit_met};
+
+    /// Takes one change more. Most items change nothing.
+    pub(crate) fn meet(&mut self, change: i64)
+        requires sum { HasRoom (2 ^ 60) self.old.sum }
+        requires change { HasRoom (2 ^ 32) change }
+        ensures { self.new ≡ credit_met self.old change }
+    {
+        if change > 0 {
+            self.sum = self.sum_with(change);
+            self.high = self.high.max(self.sum);
+        } else if change < 0 {
+            self.sum = self.sum_with(change);
+            self.low = self.low.min(self.sum);
+        }
+    }
+
     /// The sum of these changes and of some first ones of a later summary.
     fn sum_with(&self, later: i64) -> i64
         requires sum { HasRoom (2 ^ 60) self.now.sum }
@@ -49,7 +74,6 @@ impl Summary for Credit {
 
     fn empty() -> Self {
         Credit {
-            count: 0,
             sum: 0,
             high: 0,
             low: 0,
@@ -58,22 +82,14 @@ impl Summary for Credit {
 
     fn of(change: &i64) -> Self {
         Credit {
-            count: 1,
             sum: *change,
-            high: *change,
-            low: *change,
+            high: (*change).max(0),
+            low: (*change).min(0),
         }
     }
 
     fn join(&self, later: &Self) -> Self {
-        if self.count == 0 {
-            return *later;
-        }
-        if later.count == 0 {
-            return *self;
-        }
         Credit {
-            count: self.count + later.count,
             sum: self.sum_with(later.sum),
             high: self.high.max(self.sum_with(later.high)),
             low: self.low.min(self.sum_with(later.low)),

@@ -1,18 +1,8 @@
-ghost use Rattle.std.specs.Prelude.{◌≡◌};
-ghost use Rattle.conn_scan.specs.code.Latest.{limit_in, push_in, length_by, grants_zero, promises_odd, is_zero, newer};
-ghost use Rattle.conn_scan.specs.code.Latest.{lesser};
+ghost use Rattle.std.specs.Prelude.{◌≡◌, Some};
+ghost use Rattle.conn_scan.specs.code.Latest.{length_by, grants_zero, is_zero, newer, lesser, no_item, latest_join};
+ghost use Rattle.conn_scan.specs.code.Latest.{latest_met, latest_seen, latest_promised, latest_changed};
 
-use audit_terms::{Change, Item, Side, Sides};
-use block_scan::Summary;
-
-/// The settings in force for each side's frames (RFC 9113, 6.5.2).
-#[derive(Clone, Copy)]
-pub struct InForce {
-    /// The greatest length in bytes of a frame that each side may send.
-    pub limit: Sides<u32>,
-    /// ENABLE_PUSH for the server: 0 where it may promise nothing.
-    pub push: u32,
-}
+use audit_terms::{Change, Frame, Item, Side, Sides};
 
 /// What some items bring into force, the lengths of their frames, and the server's promises (RFC 9113, 4.2, 6.5.2,
 /// 8.4).
@@ -36,49 +26,22 @@ pub struct Latest {
     pub barred_promise: bool,
 }
 
-/// The limit that a change brings for a side, if it brings one.
-fn limit_in(side: Side, change: &Option<Change>) -> Option<u32>
-    ensures { result ≡ limit_in side change.now }
-{
-    match change {
-        Some(change) if side == change.side => change.max_frame,
-        _ => None,
-    }
-}
-
-/// ENABLE_PUSH that a change brings for the server, if it brings one.
-fn push_in(change: &Option<Change>) -> Option<u32>
-    ensures { result ≡ push_in change.now }
-{
-    match change {
-        Some(change) if Side::Server == change.side => change.push,
-        _ => None,
-    }
-}
-
 /// The length of a side's frame, 0 of a frame of the other side.
-fn length_by(side: Side, item: &Item) -> u32
-    ensures { result ≡ length_by side item.now }
+fn length_by(side: Side, frame: &Frame) -> u32
+    ensures { result ≡ length_by side frame.now }
 {
-    if side == item.frame.side {
-        item.frame.length.get()
+    if side == frame.side {
+        frame.length.get()
     } else {
         0
     }
 }
 
-/// Does an item grant 0 on stream 0?
-fn grants_zero(item: &Item) -> bool
-    ensures { result ≡ grants_zero item.now }
+/// Does a frame grant 0 on stream 0?
+fn grants_zero(frame: &Frame) -> bool
+    ensures { result ≡ grants_zero frame.now }
 {
-    item.frame.grants_nothing(Side::Client, 0) || item.frame.grants_nothing(Side::Server, 0)
-}
-
-/// Does the server promise an odd stream by an item?
-fn promises_odd(item: &Item) -> bool
-    ensures { result ≡ promises_odd item.now }
-{
-    item.frame.is_server_promise() && item.frame.body.promised() % 2 == 1
+    frame.body.is_zero_grant() && frame.stream == 0
 }
 
 /// Is the value there, and 0?
@@ -112,28 +75,11 @@ fn lesser(a: Option<u32>, b: Option<u32>) -> Option<u32>
     }
 }
 
-impl Summary for Latest {
-    ghost use Rattle.conn_scan.specs.code.Latest.{no_item, one_item, latest_join, latest_advance, in_force_after};
-    ghost use Rattle.conn_scan.specs.code.Latest.{SettingsFit};
-    ghost use Rattle.conn_scan.specs.code.LatestLaws.{latest_laws};
-
-    type Item = Item;
-
-    type State = InForce;
-
-    ghost empty = { no_item };
-
-    ghost of = { one_item };
-
-    ghost join = { latest_join };
-
-    ghost advance = { latest_advance };
-
-    ghost step = { in_force_after };
-
-    ghost fits = { SettingsFit };
-
-    fn empty() -> Self {
+impl Latest {
+    /// The summary of no item.
+    pub(crate) fn empty() -> Self
+        ensures { result ≡ no_item }
+    {
         Latest {
             limit: Sides {
                 client: None,
@@ -155,27 +101,58 @@ impl Summary for Latest {
         }
     }
 
-    fn of(item: &Item) -> Self {
-        let limit = Sides {
-            client: limit_in(Side::Client, &item.change),
-            server: limit_in(Side::Server, &item.change),
-        };
-        Latest {
-            limit,
-            least: limit,
-            longest: Sides {
-                client: length_by(Side::Client, item),
-                server: length_by(Side::Server, item),
-            },
-            push: push_in(&item.change),
-            zero_grant: grants_zero(item),
-            odd_promise: promises_odd(item),
-            early_promise: item.frame.is_server_promise(),
-            barred_promise: false,
+    /// Takes one item more.
+    pub(crate) fn meet(&mut self, item: &Item)
+        ensures { self.new ≡ latest_met self.old item.now }
+    {
+        self.see(&item.frame);
+        if let Some(change) = &item.change {
+            self.change(change);
         }
     }
 
-    fn join(&self, later: &Self) -> Self {
+    /// Takes the length of a frame, and what it grants and promises.
+    fn see(&mut self, frame: &Frame)
+        ensures { self.new ≡ latest_seen self.old frame.now }
+    {
+        self.longest.client = self.longest.client.max(length_by(Side::Client, frame));
+        self.longest.server = self.longest.server.max(length_by(Side::Server, frame));
+        self.zero_grant = self.zero_grant || grants_zero(frame);
+        if frame.is_server_promise() {
+            self.promise(frame.body.promised());
+        }
+    }
+
+    /// Takes a promise of the server.
+    fn promise(&mut self, stream: u32)
+        ensures { self.new ≡ latest_promised self.old stream }
+    {
+        self.odd_promise = self.odd_promise || stream % 2 == 1;
+        self.early_promise = self.early_promise || self.push.is_none();
+        self.barred_promise = self.barred_promise || is_zero(self.push);
+    }
+
+    /// Takes what an acknowledgement brings into force.
+    fn change(&mut self, change: &Change)
+        ensures { self.new ≡ latest_changed self.old (Some change.now) }
+    {
+        match change.side {
+            Side::Client => {
+                self.limit.client = newer(self.limit.client, change.max_frame);
+                self.least.client = lesser(self.least.client, change.max_frame);
+            }
+            Side::Server => {
+                self.limit.server = newer(self.limit.server, change.max_frame);
+                self.least.server = lesser(self.least.server, change.max_frame);
+                self.push = newer(self.push, change.push);
+            }
+        }
+    }
+
+    /// The summary of these items, and then those of a later summary.
+    pub(crate) fn join(&self, later: &Self) -> Self
+        ensures { result ≡ latest_join self.now later.now }
+    {
         Latest {
             limit: Sides {
                 client: newer(self.limit.client, later.limit.client),
@@ -197,16 +174,4 @@ impl Summary for Latest {
                 | (is_zero(self.push) & later.early_promise),
         }
     }
-
-    fn advance(now: &InForce, items: &Self) -> InForce {
-        InForce {
-            limit: Sides {
-                client: items.limit.client.unwrap_or(now.limit.client),
-                server: items.limit.server.unwrap_or(now.limit.server),
-            },
-            push: items.push.unwrap_or(now.push),
-        }
-    }
-
-    ghost laws = { latest_laws };
 }

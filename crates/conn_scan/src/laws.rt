@@ -1,7 +1,6 @@
 //! Promises about the definitions alone: functions that do nothing, and whose contracts are the laws.
 ghost use Rattle.conn_scan.specs.laws.Blocks.{BlocksFit};
 ghost use Rattle.conn_scan.specs.laws.Clear.{ClearShowsCredit};
-ghost use Rattle.conn_scan.specs.code.ConnSum.{PartsFollow};
 ghost use Rattle.conn_scan.specs.laws.Items.{ItemsAreThePass, ItemsOfBlocksJoin};
 ghost use Rattle.conn_scan.specs.examples.StallInBlocks.{StallItemsFound, StallByOne, StallByTwo, StallAtOnce};
 ghost use Rattle.conn_scan.specs.examples.StallInBlocks.{ClearFrames};
@@ -14,11 +13,6 @@ pub fn scan_sums()
     ensures first { FirstSumFound }
     ensures last { LastSumFound }
     ensures carries { CarriesFound }
-{}
-
-/// The state that the summaries of a block advance is that of the connection: both step alike at each item.
-pub fn parts_follow_the_connection()
-    ensures { PartsFollow }
 {}
 
 /// With the numbers of the opening frames and all changes, the items of a connection's frames are those of the pass.

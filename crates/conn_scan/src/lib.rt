@@ -1,15 +1,16 @@
 //! What a block of frames does to a connection (RFC 9113, 4.2, 5.1.1, 6.9), in a form that can be joined.
 //!
-//! - [`Credit`] is what changes do to one window; [`ClientCredit`] and [`ServerCredit`] what items do to each side's.
-//!   The greatest and the least prefix sum stand beside the sum: by the sum alone, a block that falls below 0 and rises
-//!   again would look quiet.
-//! - [`Ids`] are the streams that items open, [`Latest`] the settings that they bring and the lengths of their frames.
+//! - [`Credit`] is what changes do to one window. The greatest and the least prefix sum stand beside the sum: by the
+//!   sum alone, a block that falls below 0 and rises again would look quiet.
+//! - [`Rising`] is what is known of the streams that items open, [`Latest`] are the settings that they bring and the
+//!   lengths of their frames.
 //! - [`Block`] is a range of frames with the numbers of those that open streams and the changes of settings: its items
 //!   are walked one by one, and no list of them is made. [`items`] is that list, for who wants it. A number counts as
 //!   an opening on HEADERS alone, and numbers of no frame are passed over. [`numbers_from`] and [`changes_from`] are
 //!   what a later block needs of both.
-//! - [`ConnSum`] is all of these summaries, each a lawful one of `block_scan`, and [`block_sum`] that of a block; its
-//!   parts step as the connection does ([`laws::parts_follow_the_connection`]).
+//! - [`ConnSum`] is all of these, a lawful summary of `block_scan` whose steps are those of the connection, and
+//!   [`block_sum`] that of a block. It takes each item in place, and none is made of an item alone to be joined: most
+//!   frames move a credit or nothing.
 //! - [`carries_of`] is the connection before each block. [`block_findings`] is what a block shows from there, up to the
 //!   place at which its look has it end, with the looks made in time (`IsRun` of `audit_terms`).
 //! - [`clear`] tells by a summary that a block shows nothing but connection credit ([`laws::clear_shows_credit`]). It
@@ -21,9 +22,9 @@
 //! examples: credit used up, granted and used again, in states, sums and carries, and a stall in blocks of one, of two
 //! and at once.
 //!
-//! Wrong bodies that the prover refuses: a block that starts afresh, a join that leaves out what is before, clear by
-//! the total alone, a run that looks once. Tested, in `crate_tests`: that the calls succeed where
-//! there is memory, and how often a run over 1,000 frames looks.
+//! Wrong bodies that the prover refuses: a block that starts afresh, an item or a join that leaves out what is before,
+//! clear by the total alone, HEADERS that all count as openings, a run that looks once. Tested, in `crate_tests`: that
+//! the calls succeed where there is memory, and how often a run over 1,000 frames looks.
 #![tactic(auto)]
 
 mod block_items;
@@ -35,7 +36,6 @@ mod ids;
 mod latest;
 pub mod laws;
 mod rising;
-mod side_credits;
 mod sums;
 
 pub use audit_terms::ConnectionState as ConnState;
@@ -44,8 +44,6 @@ pub use blocks::{BlockRun, block_findings};
 pub use carried::carries_of;
 pub use cleared::clear;
 pub use credits::Credit;
-pub use ids::{Ids, OpenedIds, PromisedIds};
-pub use latest::{InForce, Latest};
+pub use latest::Latest;
 pub use rising::Rising;
-pub use side_credits::{ClientCredit, ServerCredit};
 pub use sums::{ConnSum, block_sum};

@@ -1,4 +1,5 @@
-use block_scan::Summary;
+ghost use Rattle.std.specs.Prelude.{◌≡◌};
+ghost use Rattle.conn_scan.specs.code.Rising.{no_identifier, one_identifier, rising_join, rising_met};
 
 /// Identifiers of opened streams, and whether they rise (RFC 9113, 5.1.1).
 #[derive(Clone, Copy)]
@@ -13,28 +14,11 @@ pub struct Rising {
     pub rises: bool,
 }
 
-impl Summary for Rising {
-    ghost use Rattle.conn_scan.specs.code.Rising.{no_identifier, one_identifier, rising_join, greatest_after};
-    ghost use Rattle.conn_scan.specs.code.Rising.{greatest_advance};
-    ghost use Rattle.conn_scan.specs.code.RisingLaws.{Fit, rising_laws};
-
-    type Item = Option<u32>;
-
-    type State = u32;
-
-    ghost empty = { no_identifier };
-
-    ghost of = { one_identifier };
-
-    ghost join = { rising_join };
-
-    ghost advance = { greatest_advance };
-
-    ghost step = { greatest_after };
-
-    ghost fits = { Fit };
-
-    fn empty() -> Self {
+impl Rising {
+    /// The summary of no identifier.
+    pub(crate) fn empty() -> Self
+        ensures { result ≡ no_identifier }
+    {
         Rising {
             none: true,
             least: 0,
@@ -43,19 +27,31 @@ impl Summary for Rising {
         }
     }
 
-    fn of(identifier: &Option<u32>) -> Self {
-        match *identifier {
-            None => Self::empty(),
-            Some(one) => Rising {
-                none: false,
-                least: one,
-                greatest: one,
-                rises: true,
-            },
+    /// The summary of one identifier.
+    fn of(identifier: u32) -> Self
+        ensures { result ≡ one_identifier identifier }
+    {
+        Rising {
+            none: false,
+            least: identifier,
+            greatest: identifier,
+            rises: true,
         }
     }
 
-    fn join(&self, later: &Self) -> Self {
+    /// Takes one identifier more, if there is one.
+    pub(crate) fn meet(&mut self, identifier: Option<u32>)
+        ensures { self.new ≡ rising_met self.old identifier }
+    {
+        if let Some(one) = identifier {
+            *self = self.join(&Self::of(one));
+        }
+    }
+
+    /// The summary of these identifiers, and then those of a later summary.
+    pub(crate) fn join(&self, later: &Self) -> Self
+        ensures { result ≡ rising_join self.now later.now }
+    {
         if self.none {
             return *later;
         }
@@ -69,10 +65,4 @@ impl Summary for Rising {
             rises: self.greatest < later.least && (self.rises && later.rises),
         }
     }
-
-    fn advance(before: &u32, identifiers: &Self) -> u32 {
-        (*before).max(identifiers.greatest)
-    }
-
-    ghost laws = { rising_laws };
 }

@@ -5,7 +5,8 @@ use Rattle.audit_terms.specs.declared.connections.ConnectionState.{ConnectionSta
 use Rattle.audit_terms.specs.declared.items.Item.{Item}
 use Rattle.audit_terms.specs.code.runs.Blocks.{connection_after_all}
 use Rattle.audit_terms.specs.code.Room.{HasRoom}
-use Rattle.conn_scan.specs.code.SideCredit.{change_of}
+use Rattle.std.specs.List.{AllByRecursion}
+use Rattle.conn_scan.specs.code.Credit.{change_of}
 
 -- the item moves each side's credit by at most 2^32
 abbrev pub MovesLittle : Item → Type 0
@@ -16,6 +17,10 @@ pub record BlockFits (now : ConnectionState) (items : List Item) : Type 0 where
   pub number : length items ≤ 2 ^ 28
   pub client : HasRoom (2 ^ 60 - 2 ^ 32 * length items) now.credit.client
   pub server : HasRoom (2 ^ 60 - 2 ^ 32 * length items) now.credit.server
+
+-- items that fit a connection, each of which moves its credits by little
+abbrev pub ItemsFit : ConnectionState → List Item → Type 0
+ItemsFit now items = BlockFits now items × AllByRecursion MovesLittle items
 
 -- the connection before each of some blocks
 abbrev pub connections_before : ConnectionState → List (List Item) → List ConnectionState

@@ -37,7 +37,7 @@ at_none test now (item ∷ items) = not (test now item) && at_none test (connect
 
 -- no increment of 0 on stream 0 (6.9)
 abbrev pub grants_something : ConnectionState → List Item → Bool
-grants_something = at_none (λ now item. grants_zero item)
+grants_something = at_none (λ now item. grants_zero item.frame)
 
 -- each stream that HEADERS of the client open is above all that it opened before (5.1.1)
 abbrev pub openings_rise : ConnectionState → List Item → Bool

@@ -33,9 +33,9 @@ length_clear limit longest least = nat_le longest limit && is_within longest lea
 
 abbrev pub sum_clear : ConnectionState → ConnSum → Bool
 sum_clear now sum =
-    let latest = sum.second.second in
-    ((credit_clear now.credit.client sum.first.first.credit && credit_clear now.credit.server sum.first.second.credit)
-    && (not latest.zero_grant && ids_clear now.opened sum.second.first.first.ids))
-    && ((push_clear now.push latest && (ids_clear now.promised sum.second.first.second.ids && not latest.odd_promise))
+    let latest = sum.latest in
+    ((credit_clear now.credit.client sum.credit.client && credit_clear now.credit.server sum.credit.server)
+    && (not latest.zero_grant && ids_clear now.opened sum.opened))
+    && ((push_clear now.push latest && (ids_clear now.promised sum.promised && not latest.odd_promise))
     && (length_clear now.limit.client latest.longest.client latest.least.client
     && length_clear now.limit.server latest.longest.server latest.least.server))

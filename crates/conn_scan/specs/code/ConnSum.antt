@@ -1,51 +1,58 @@
--- All that a list of items does to its connection, and the state that this advances.
-use Rattle.std.specs.Prelude.{◌≡◌, List, map}
-use Rattle.audit_terms.specs.declared.sides.Side.TheVariants.{Client, Server}
+-- All that a list of items does to its connection.
+use Rattle.std.specs.Prelude.{max, unwrap_or, List, map}
 use Rattle.audit_terms.specs.declared.connections.ConnectionState.{ConnectionState}
 use Rattle.audit_terms.specs.declared.items.Item.{Item}
-use Rattle.audit_terms.specs.Connection.{credit_after, connection_after}
-use Rattle.block_scan.specs.declared.both.Both.{Both}
-use Rattle.block_scan.specs.code.Both.{pair, step_both}
-use Rattle.conn_scan.specs.declared.latest.InForce.{InForce}
-use Rattle.conn_scan.specs.declared.latest.Latest.{Latest}
-use Rattle.conn_scan.specs.declared.side_credits.ClientCredit.{ClientCredit}
-use Rattle.conn_scan.specs.declared.side_credits.ServerCredit.{ServerCredit}
-use Rattle.conn_scan.specs.declared.ids.OpenedIds.{OpenedIds}
-use Rattle.conn_scan.specs.declared.ids.PromisedIds.{PromisedIds}
-use Rattle.std.specs.Prelude.{ℕ, ℤ}
-use Rattle.conn_scan.specs.code.Credit.{credit_of}
-use Rattle.conn_scan.specs.code.SideCredit.{client_credit, server_credit, change_of}
-use Rattle.conn_scan.specs.code.Rising.{present, rising_of, greatest_after}
-use Rattle.conn_scan.specs.code.Ids.{opened_in, promised_by, opened_ids, promised_ids}
-use Rattle.conn_scan.specs.code.Latest.{latest_of, in_force_after}
-
-abbrev pub ConnSum : Type 0
-ConnSum = Both (Both ClientCredit ServerCredit) (Both (Both OpenedIds PromisedIds) Latest)
-
-abbrev pub ConnParts : Type 0
-ConnParts = Both (Both ℤ ℤ) (Both (Both ℕ ℕ) InForce)
+use Rattle.audit_terms.specs.Sides.{side_of, each_side}
+pub use Rattle.conn_scan.specs.declared.sums.ConnSum.{ConnSum}
+use Rattle.conn_scan.specs.code.Credit.{change_of, credit_of, no_change, credit_join, credit_met, credit_advance}
+use Rattle.conn_scan.specs.code.Rising.{present, rising_of, no_identifier, rising_join, rising_met}
+use Rattle.conn_scan.specs.code.Ids.{opened_in, promised_by}
+use Rattle.conn_scan.specs.code.Latest.{latest_of, no_item, latest_join, latest_met}
 
 -- the summary of some items: what they do to each side's credit, which streams they open, what they bring into force
 abbrev pub conn_sum_of : List Item → ConnSum
-conn_sum_of items =
-    pair (pair (client_credit (credit_of (map (change_of Client) items)))
-    (server_credit (credit_of (map (change_of Server) items))))
-    (pair (pair (opened_ids (rising_of (present (map opened_in items))))
-    (promised_ids (rising_of (present (map promised_by items))))) (latest_of items))
+conn_sum_of items = record {
+  credit = each_side (λ d. credit_of (map (change_of d) items));
+  opened = rising_of (present (map opened_in items));
+  promised = rising_of (present (map promised_by items));
+  latest = latest_of items;
+}
 
--- the parts of a connection's state that the summaries advance
-abbrev pub parts_of : ConnectionState → ConnParts
-parts_of now = pair (pair now.credit.client now.credit.server)
-    (pair (pair now.opened now.promised) (record { limit = now.limit; push = now.push }))
+abbrev pub conn_none : ConnSum
+conn_none = record {
+  credit = each_side (λ _. no_change);
+  opened = no_identifier;
+  promised = no_identifier;
+  latest = no_item;
+}
 
--- the step of all parts by one item
-abbrev pub parts_step : ConnParts → Item → ConnParts
-parts_step =
-    step_both (step_both (λ s item. credit_after Client s item.frame) (λ s item. credit_after Server s item.frame))
-    (step_both (step_both (λ s item. greatest_after s (opened_in item))
-    (λ s item. greatest_after s (promised_by item))) in_force_after)
+-- the items of a summary, and then one more
+abbrev pub conn_met : ConnSum → Item → ConnSum
+conn_met a item = record {
+  credit = each_side (λ d. credit_met (side_of d a.credit) (change_of d item));
+  opened = rising_met a.opened (opened_in item);
+  promised = rising_met a.promised (promised_by item);
+  latest = latest_met a.latest item;
+}
 
--- the parts step as the connection does
-abbrev pub PartsFollow : Type 0
-PartsFollow = (now : ConnectionState) (item : Item) → parts_step (parts_of now) item
-    ≡ parts_of (connection_after now item)
+abbrev pub conn_one : Item → ConnSum
+conn_one = conn_met conn_none
+
+-- the items of one summary, and then those of another
+abbrev pub conn_join : ConnSum → ConnSum → ConnSum
+conn_join a b = record {
+  credit = each_side (λ d. credit_join (side_of d a.credit) (side_of d b.credit));
+  opened = rising_join a.opened b.opened;
+  promised = rising_join a.promised b.promised;
+  latest = latest_join a.latest b.latest;
+}
+
+-- the connection after the items of a summary
+abbrev pub conn_advance : ConnectionState → ConnSum → ConnectionState
+conn_advance now items = record {
+  credit = each_side (λ d. credit_advance (side_of d now.credit) (side_of d items.credit));
+  opened = max now.opened items.opened.greatest;
+  promised = max now.promised items.promised.greatest;
+  push = unwrap_or items.latest.push now.push;
+  limit = each_side (λ d. unwrap_or (side_of d items.latest.limit) (side_of d now.limit));
+}

@@ -1,143 +1,113 @@
--- The summary of all parts in closed form, and its step.
-use Rattle.std.proofs.Common.{◌≡◌, ℕ, max, Bool, true, false, List, [], ◌∷◌, map, Some, None, refl, sym, ap, ◌∙◌}
+-- The summary of a connection's items obeys the laws.
+use Rattle.std.proofs.Common.{◌≡◌, ℕ, ℤ, pos, ◌+ℤ◌, max, Bool, true, false, List, [], ◌∷◌, ◌++◌, map, Option, Some, None}
+use Rattle.std.proofs.Common.{refl, ap, subst, ◌∙◌, arith}
 use Rattle.std.specs.Prelude.{if◌then◌else◌}
-use Rattle.audit_terms.specs.declared.sides.Side.TheVariants.{Client, Server}
+use Rattle.std.proofs.lemmas.Int.{ints}
+use Rattle.std.proofs.lemmas.List.{map-append}
+use Rattle.audit_terms.specs.declared.sides.Side.{Side}
 use Rattle.audit_terms.specs.declared.connections.ConnectionState.{ConnectionState}
 use Rattle.audit_terms.specs.declared.items.Item.{Item}
+use Rattle.audit_terms.specs.Sides.{side_of, each_side}
 use Rattle.audit_terms.specs.Frame.{promised_in}
-use Rattle.audit_terms.specs.Connection.{credit_after, connection_after, is_opened_by_headers, is_even_promise}
+use Rattle.audit_terms.specs.Connection.{connection_after, is_opened_by_headers, is_even_promise}
 use Rattle.audit_terms.specs.code.runs.Blocks.{connection_after_all}
-use Rattle.block_scan.specs.code.Summary.{SummaryLaws, summary_of}
-use Rattle.block_scan.specs.code.List.{state_after, states_before}
-use Rattle.block_scan.specs.code.Both.{pair, join_both, advance_both, FitBoth}
-use Rattle.block_scan.specs.code.BothLaws.{both_is, both_laws, summary-both}
-use Rattle.block_scan.specs.code.Shown.{summary-shown}
-use Rattle.conn_scan.specs.declared.side_credits.ClientCredit.{ClientCredit}
-use Rattle.conn_scan.specs.declared.side_credits.ServerCredit.{ServerCredit}
-use Rattle.conn_scan.specs.declared.ids.OpenedIds.{OpenedIds}
-use Rattle.conn_scan.specs.declared.ids.PromisedIds.{PromisedIds}
-use Rattle.conn_scan.specs.code.Credit.{no_change, one_change, credit_join, credit_advance}
-use Rattle.conn_scan.specs.code.SideCredit.{client_credit, server_credit, change_of, ItemsFit}
-use Rattle.conn_scan.specs.code.Rising.{no_identifier, one_identifier, rising_join, greatest_after, greatest_advance}
-use Rattle.conn_scan.specs.code.Ids.{opened_in, promised_by, opened_ids, promised_ids, AnyFit}
-use Rattle.conn_scan.specs.code.Latest.{no_item, one_item, latest_join, latest_advance, SettingsFit}
-use Rattle.conn_scan.specs.code.ConnSum.{ConnSum, ConnParts, conn_sum_of, parts_of, parts_step, PartsFollow}
-use Rattle.conn_scan.specs.code.Block.{connections_before}
-use Rattle.conn_scan.specs.code.CreditLaws.{credit_shows}
-use Rattle.conn_scan.specs.code.RisingLaws.{rising_shows}
-use Rattle.conn_scan.specs.code.LatestLaws.{latest_shows, latest_laws}
-use Rattle.conn_scan.specs.code.SideCreditLaws.{client_laws, server_laws}
-use Rattle.conn_scan.specs.code.IdsLaws.{opened_laws, promised_laws}
-use Rattle.conn_scan.specs.code.Through.{summary-view}
+use Rattle.block_scan.specs.code.Summary.{SummaryLaws}
+use Rattle.block_scan.specs.code.List.{state_after}
+use Rattle.block_scan.specs.code.Shown.{Shows, lawful}
+use Rattle.conn_scan.specs.code.Credit.{change_of, credit_of, credit_join, credit_met, total}
+use Rattle.conn_scan.specs.code.Rising.{greatest_of, present, rising_of, rising_join, rising_met}
+use Rattle.conn_scan.specs.code.Ids.{opened_in, promised_by}
+use Rattle.conn_scan.specs.code.ConnSum.{conn_sum_of, conn_none, conn_one, conn_met, conn_join, conn_advance}
+use Rattle.conn_scan.specs.code.Block.{ItemsFit}
+use Rattle.conn_scan.specs.code.FitLaws.{first_fit, rest_fit}
+use Rattle.conn_scan.specs.code.CreditLaws.{credit_of-append, credit_of-met}
+use Rattle.conn_scan.specs.code.RisingLaws.{present-append, rising_of-append, rising_of-met}
+use Rattle.conn_scan.specs.code.LatestLaws.{limit-next, push-next, latest_of-append, latest_of-met}
 
-abbrev client_join : ClientCredit → ClientCredit → ClientCredit
-client_join x y = client_credit (credit_join x.credit y.credit)
+credits-append : (d : Side) (a b : List Item) → credit_of (map (change_of d) (a ++ b))
+    ≡ credit_join (credit_of (map (change_of d) a)) (credit_of (map (change_of d) b))
+credits-append d a b = ap credit_of (map-append (change_of d) a b)
+    ∙ credit_of-append (map (change_of d) a) (map (change_of d) b)
 
-abbrev server_join : ServerCredit → ServerCredit → ServerCredit
-server_join x y = server_credit (credit_join x.credit y.credit)
+ids-append : (ids : Item → Option ℕ) (a b : List Item) → rising_of (present (map ids (a ++ b)))
+    ≡ rising_join (rising_of (present (map ids a))) (rising_of (present (map ids b)))
+ids-append ids a b = ap (λ l. rising_of (present l)) (map-append ids a b)
+    ∙ ap rising_of (present-append (map ids a) (map ids b))
+    ∙ rising_of-append (present (map ids a)) (present (map ids b))
 
-abbrev opened_join : OpenedIds → OpenedIds → OpenedIds
-opened_join x y = opened_ids (rising_join x.ids y.ids)
-
-abbrev promised_join : PromisedIds → PromisedIds → PromisedIds
-promised_join x y = promised_ids (rising_join x.ids y.ids)
-
-abbrev pub conn_none : ConnSum
-conn_none = pair (pair (client_credit no_change) (server_credit no_change))
-    (pair (pair (opened_ids no_identifier) (promised_ids no_identifier)) no_item)
-
-abbrev pub conn_one : Item → ConnSum
-conn_one item =
-    pair (pair (client_credit (one_change (change_of Client item)))
-    (server_credit (one_change (change_of Server item))))
-    (pair (pair (opened_ids (one_identifier (opened_in item))) (promised_ids (one_identifier (promised_by item))))
-    (one_item item))
-
-abbrev pub conn_join : ConnSum → ConnSum → ConnSum
-conn_join = join_both (join_both client_join server_join) (join_both (join_both opened_join promised_join) latest_join)
-
-pub conn_sum-shown : (items : List Item) → summary_of conn_none conn_one conn_join items ≡ conn_sum_of items
-conn_sum-shown items =
-    let client = summary-view (change_of Client) client_credit (λ x. x.credit)
-    (λ x. refl) no_change one_change credit_join items
-    ∙ ap client_credit (summary-shown credit_shows (map (change_of Client) items)) in
-    let server = summary-view (change_of Server) server_credit (λ x. x.credit)
-    (λ x. refl) no_change one_change credit_join items
-    ∙ ap server_credit (summary-shown credit_shows (map (change_of Server) items)) in
-    let opened = summary-view opened_in opened_ids (λ x. x.ids)
-    (λ x. refl) no_identifier one_identifier rising_join items
-    ∙ ap opened_ids (summary-shown rising_shows (map opened_in items)) in
-    let promised = summary-view promised_by promised_ids (λ x. x.ids)
-    (λ x. refl) no_identifier one_identifier rising_join items
-    ∙ ap promised_ids (summary-shown rising_shows (map promised_by items)) in
-    let latest = summary-shown latest_shows items in
-    let credits = summary-both (client_credit no_change)
-    (λ item. client_credit (one_change (change_of Client item))) client_join
-    (server_credit no_change) (λ item. server_credit (one_change (change_of Server item))) server_join items in
-    let ids = summary-both (opened_ids no_identifier) (λ item. opened_ids (one_identifier (opened_in item))) opened_join
-    (promised_ids no_identifier) (λ item. promised_ids (one_identifier (promised_by item))) promised_join items in
-    let rest = summary-both (pair (opened_ids no_identifier) (promised_ids no_identifier))
-    (λ item. pair (opened_ids (one_identifier (opened_in item))) (promised_ids (one_identifier (promised_by item))))
-    (join_both opened_join promised_join)
-    no_item one_item latest_join items in
-    let all = summary-both (pair (client_credit no_change) (server_credit no_change))
-    (λ item. pair (client_credit (one_change (change_of Client item)))
-    (server_credit (one_change (change_of Server item)))) (join_both client_join server_join)
-    (pair (pair (opened_ids no_identifier) (promised_ids no_identifier)) no_item)
-    (λ item. pair (pair (opened_ids (one_identifier (opened_in item)))
-    (promised_ids (one_identifier (promised_by item)))) (one_item item))
-    (join_both (join_both opened_join promised_join) latest_join) items in
-    all
-    ∙ both_is (credits ∙ both_is client server) (rest ∙ both_is (ids ∙ both_is opened promised) latest)
-
-greatest_if : (b : Bool) (x before : ℕ) → greatest_after before (if b then Some x else None)
-    ≡ (if b then max before x else before)
-greatest_if true x before = refl
-greatest_if false x before = refl
-
-pub parts_follow : PartsFollow
-parts_follow now item = λ i.
-    pair (pair (credit_after Client now.credit.client item.frame) (credit_after Server now.credit.server item.frame))
-    (pair (pair (greatest_if (is_opened_by_headers item) item.frame.stream now.opened i)
-    (greatest_if (is_even_promise item.frame) (promised_in item.frame.body) now.promised i))
-    (record { limit = (connection_after now item).limit; push = (connection_after now item).push }))
-
-abbrev pub conn_advance : ConnParts → ConnSum → ConnParts
-conn_advance = advance_both (advance_both (λ s x. credit_advance s x.credit) (λ s x. credit_advance s x.credit))
-    (advance_both (advance_both (λ s x. greatest_advance s x.ids) (λ s x. greatest_advance s x.ids)) latest_advance)
-
-abbrev pub ConnFits : ConnParts → List Item → Type 0
-ConnFits = FitBoth (FitBoth (ItemsFit Client) (ItemsFit Server)) (FitBoth (FitBoth AnyFit AnyFit) SettingsFit)
-
-pub conn_laws : SummaryLaws conn_none conn_one conn_join conn_advance parts_step ConnFits
-conn_laws = both_laws (both_laws client_laws server_laws) (both_laws (both_laws opened_laws promised_laws) latest_laws)
-
--- the state of a connection from its parts
-abbrev pub state_of : ConnParts → ConnectionState
-state_of parts = record {
-  credit = record { client = parts.first.first; server = parts.first.second };
-  opened = parts.second.first.first;
-  promised = parts.second.first.second;
-  push = parts.second.second.push;
-  limit = parts.second.second.limit;
+conn_sum_of-append : (a b : List Item) → conn_sum_of (a ++ b) ≡ conn_join (conn_sum_of a) (conn_sum_of b)
+conn_sum_of-append a b = λ i. record {
+  credit = each_side (λ d. credits-append d a b i);
+  opened = ids-append opened_in a b i;
+  promised = ids-append promised_by a b i;
+  latest = latest_of-append a b i;
 }
 
-parts_after : (now : ConnectionState) (items : List Item) → state_after parts_step (parts_of now) items
-    ≡ parts_of (connection_after_all now items)
-parts_after now [] = refl
-parts_after now (item ∷ items) = ap (λ parts. state_after parts_step parts items) (parts_follow now item)
-    ∙ parts_after (connection_after now item) items
+credits-met : (d : Side) (a : List Item) (x : Item) → credit_of (map (change_of d) (a ++ x ∷ []))
+    ≡ credit_met (credit_of (map (change_of d) a)) (change_of d x)
+credits-met d a x = ap credit_of (map-append (change_of d) a (x ∷ []))
+    ∙ credit_of-met (map (change_of d) a) (change_of d x)
 
-pub states_carried : (now : ConnectionState) (blocks : List (List Item))
-    → map state_of (states_before parts_step (parts_of now) blocks) ≡ connections_before now blocks
-states_carried now [] = refl
-states_carried now (block ∷ blocks) =
-    ap (λ parts. now ∷ map state_of (states_before parts_step parts blocks)) (parts_after now block)
-    ∙ ap (λ states. now ∷ states) (states_carried (connection_after_all now block) blocks)
+ids-met : (ids : Item → Option ℕ) (a : List Item) (x : Item) → rising_of (present (map ids (a ++ x ∷ [])))
+    ≡ rising_met (rising_of (present (map ids a))) (ids x)
+ids-met ids a x = ap (λ l. rising_of (present l)) (map-append ids a (x ∷ [])) ∙ rising_of-met (map ids a) (ids x)
 
--- the summaries of blocks
-pub sums-shown : (blocks : List (List Item)) → map conn_sum_of blocks
-    ≡ map (summary_of conn_none conn_one conn_join) blocks
-sums-shown [] = refl
-sums-shown (block ∷ blocks) = ap (λ sum. sum ∷ map conn_sum_of blocks) (sym (conn_sum-shown block))
-    ∙ ap (λ sums. summary_of conn_none conn_one conn_join block ∷ sums) (sums-shown blocks)
+-- the summary of one item more
+pub conn_sum_of-met : (a : List Item) (x : Item) → conn_sum_of (a ++ x ∷ []) ≡ conn_met (conn_sum_of a) x
+conn_sum_of-met a x = λ i. record {
+  credit = each_side (λ d. credits-met d a x i);
+  opened = ids-met opened_in a x i;
+  promised = ids-met promised_by a x i;
+  latest = latest_of-met a x i;
+}
+
+unmoved : (s : ℤ) → s +ℤ pos 0 ≡ s
+unmoved s = omega (arith, ints)
+
+moved-next : (s x rest : ℤ) → s +ℤ (x +ℤ rest) ≡ (s +ℤ x) +ℤ rest
+moved-next s x rest = omega (arith, ints)
+
+greatest-none : (s : ℕ) → max s 0 ≡ s
+greatest-none s = omega arith
+
+greatest-next : (b : Bool) (s x : ℕ) (rest : List (Option ℕ))
+    → max s (greatest_of (present ((if b then Some x else None) ∷ rest)))
+    ≡ max (if b then max s x else s) (greatest_of (present rest))
+greatest-next true s x rest = omega arith
+greatest-next false s x rest = refl
+
+pub moved : (s : ConnectionState) (a : List Item) → conn_advance s (conn_sum_of a) ≡ connection_after_all s a
+moved s [] = λ i. record s {
+  credit = each_side (λ d. unmoved (side_of d s.credit) i);
+  opened = greatest-none s.opened i;
+  promised = greatest-none s.promised i;
+}
+moved s (x ∷ a) =
+    (λ i. record {
+      credit = each_side (λ d. moved-next (side_of d s.credit) (change_of d x) (total (map (change_of d) a)) i);
+      opened = greatest-next (is_opened_by_headers x) s.opened x.frame.stream (map opened_in a) i;
+      promised =
+          greatest-next (is_even_promise x.frame) s.promised (promised_in x.frame.body) (map promised_by a) i;
+      push = push-next x a s.push i;
+      limit = each_side (λ d. limit-next d x a (side_of d s.limit) i);
+    })
+    ∙ moved (connection_after s x) a
+
+-- the fold of a scan is that of the connection
+pub all-after : (s : ConnectionState) (a : List Item)
+    → connection_after_all s a ≡ state_after connection_after s a
+all-after s [] = refl
+all-after s (x ∷ a) = all-after (connection_after s x) a
+
+pub conn_shows : Shows conn_sum_of conn_none conn_one conn_join conn_advance connection_after ItemsFit
+conn_shows = record {
+  first_fit = first_fit;
+  rest_fits = λ s a b f. subst (λ s. ItemsFit s b) (all-after s a) (rest_fit s a b f);
+  none = refl;
+  one = conn_sum_of-met [];
+  joined = conn_sum_of-append;
+  moved = λ s a f. moved s a ∙ all-after s a;
+}
+
+pub conn_laws : SummaryLaws conn_none conn_one conn_join conn_advance connection_after ItemsFit
+conn_laws = lawful conn_shows

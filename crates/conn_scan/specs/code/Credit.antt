@@ -1,59 +1,59 @@
 -- What a list of signed changes does to the credit of a window (RFC 9113, 6.9).
-use Rattle.std.specs.Prelude.{ℤ, pos, ◌+◌, ◌-◌, ◌*◌, ◌^◌, ◌≤◌, ◌+ℤ◌, ◌==◌, if◌then◌else◌, List, [], ◌∷◌, length, map}
+use Rattle.std.specs.Prelude.{ℤ, pos, ◌-◌, ◌*◌, ◌^◌, ◌≤◌, ◌+ℤ◌, int_lt, if◌then◌else◌, List, [], ◌∷◌}
+use Rattle.std.specs.Prelude.{length}
 use Rattle.std.specs.Int.{int_max, int_min}
+use Rattle.audit_terms.specs.declared.sides.Side.{Side}
+use Rattle.audit_terms.specs.declared.items.Item.{Item}
+use Rattle.audit_terms.specs.Connection.{credit_moved}
 use Rattle.audit_terms.specs.code.Room.{HasRoom}
 use Rattle.conn_scan.specs.declared.credits.Credit.{Credit}
+
+-- what an item moves the connection credit of side d by; 0 where it leaves the side untouched
+abbrev pub change_of : Side → Item → ℤ
+change_of d item = credit_moved d item.frame
 
 -- the changes, added up
 abbrev pub total : List ℤ → ℤ
 total [] = pos 0
 total (change ∷ changes) = change +ℤ total changes
 
--- the sum of each prefix that is not empty
-abbrev pub prefix_sums : List ℤ → List ℤ
-prefix_sums [] = []
-prefix_sums (change ∷ changes) = change ∷ map (λ sum. change +ℤ sum) (prefix_sums changes)
+-- the greatest sum of the first changes: of none, of one, and so on to all
+abbrev pub high : List ℤ → ℤ
+high [] = pos 0
+high (change ∷ changes) = int_max (pos 0) (change +ℤ high changes)
 
--- the greatest of some numbers, 0 of none
-abbrev pub greatest : List ℤ → ℤ
-greatest [] = pos 0
-greatest (x ∷ []) = x
-greatest (x ∷ y ∷ xs) = int_max x (greatest (y ∷ xs))
-
--- the least of some numbers, 0 of none
-abbrev pub least : List ℤ → ℤ
-least [] = pos 0
-least (x ∷ []) = x
-least (x ∷ y ∷ xs) = int_min x (least (y ∷ xs))
+-- the least of these sums
+abbrev pub low : List ℤ → ℤ
+low [] = pos 0
+low (change ∷ changes) = int_min (pos 0) (change +ℤ low changes)
 
 -- the summary of some changes
 abbrev pub credit_of : List ℤ → Credit
-credit_of changes = record {
-  count = length changes;
-  sum = total changes;
-  high = greatest (prefix_sums changes);
-  low = least (prefix_sums changes);
-}
+credit_of changes = record { sum = total changes; high = high changes; low = low changes }
 
 -- no change
 abbrev pub no_change : Credit
-no_change = record { count = 0; sum = pos 0; high = pos 0; low = pos 0 }
+no_change = record { sum = pos 0; high = pos 0; low = pos 0 }
 
 -- one change
 abbrev pub one_change : ℤ → Credit
-one_change change = record { count = 1; sum = change; high = change; low = change }
+one_change change = record { sum = change; high = int_max change (pos 0); low = int_min change (pos 0) }
 
 -- the changes of one summary, and then those of another
 abbrev pub credit_join : Credit → Credit → Credit
-credit_join a b =
-    if a.count == 0 then b
-    else if b.count == 0 then a
-    else record {
-      count = a.count + b.count;
-      sum = a.sum +ℤ b.sum;
-      high = int_max a.high (a.sum +ℤ b.high);
-      low = int_min a.low (a.sum +ℤ b.low);
-    }
+credit_join a b = record {
+  sum = a.sum +ℤ b.sum;
+  high = int_max a.high (a.sum +ℤ b.high);
+  low = int_min a.low (a.sum +ℤ b.low);
+}
+
+-- the changes of a summary, and then one more: what rises makes no sum less, and what falls none greater
+abbrev pub credit_met : Credit → ℤ → Credit
+credit_met a change = record {
+  sum = a.sum +ℤ change;
+  high = (if int_lt (pos 0) change then int_max a.high (a.sum +ℤ change) else a.high);
+  low = (if int_lt change (pos 0) then int_min a.low (a.sum +ℤ change) else a.low);
+}
 
 -- the credit after the changes of a summary
 abbrev pub credit_advance : ℤ → Credit → ℤ

@@ -1,77 +1,90 @@
 -- The summary of changes obeys the laws.
-use Rattle.std.proofs.Common.{◌≡◌, ℕ, ℤ, pos, ◌+◌, ◌*◌, ◌^◌, ◌≤◌, ◌+ℤ◌, suc, List, [], ◌∷◌, ◌++◌, length, map, refl}
-use Rattle.std.proofs.Common.{sym, ap, subst, ◌∙◌, arith, length-append}
+use Rattle.std.proofs.Common.{◌≡◌, ℤ, pos, ◌*◌, ◌^◌, ◌+ℤ◌, ◌<ℤ◌, ◌≤ℤ◌, int_lt, ◌≤◌, List, [], ◌∷◌, ◌++◌, length, refl, sym, subst, ◌∙◌, arith}
+use Rattle.std.proofs.Common.{length-append}
+use Rattle.std.specs.Prelude.{true, false, if◌then◌else◌}
 use Rattle.std.specs.Int.{int_max, int_min}
-use Rattle.std.proofs.lemmas.Int.{ints, clamps}
-use Rattle.std.proofs.lemmas.Bool.{ne_eqb}
+use Rattle.std.proofs.lemmas.Int.{ints, clamps, by_lt_z}
 use Rattle.audit_terms.specs.code.Room.{HasRoom}
 use Rattle.block_scan.specs.code.Summary.{SummaryLaws, summary_of}
 use Rattle.block_scan.specs.code.List.{state_after}
 use Rattle.block_scan.specs.code.Shown.{Shows, lawful, summary-shown}
 use Rattle.conn_scan.specs.declared.credits.Credit.{Credit}
-use Rattle.conn_scan.specs.code.Credit.{total, prefix_sums, greatest, least, credit_of, no_change, one_change}
-use Rattle.conn_scan.specs.code.Credit.{credit_join, credit_advance, AreSmall, ChangesFit}
+use Rattle.conn_scan.specs.code.Credit.{total, high, low, credit_of, no_change, one_change, credit_join, credit_met}
+use Rattle.conn_scan.specs.code.Credit.{credit_advance, AreSmall, ChangesFit}
+use Rattle.conn_scan.specs.code.FitLaws.{room-wider}
 
-pub total-append : (a b : List ℤ) → total (a ++ b) ≡ total a +ℤ total b
+total-append : (a b : List ℤ) → total (a ++ b) ≡ total a +ℤ total b
 total-append [] b = omega (arith, ints)
 total-append (x ∷ a) b = let e = total-append a b in omega (arith, ints)
 
-greatest-moved : (x y : ℤ) (ys : List ℤ) → greatest (map (λ s. x +ℤ s) (y ∷ ys)) ≡ x +ℤ greatest (y ∷ ys)
-greatest-moved x y [] = refl
-greatest-moved x y (z ∷ ys) = let e = greatest-moved x z ys in rw e (omega (arith, ints, clamps))
+pub high-signed : (a : List ℤ) → pos 0 ≤ℤ high a
+high-signed [] = omega (arith, ints)
+high-signed (x ∷ a) = omega (arith, ints, clamps)
 
-least-moved : (x y : ℤ) (ys : List ℤ) → least (map (λ s. x +ℤ s) (y ∷ ys)) ≡ x +ℤ least (y ∷ ys)
-least-moved x y [] = refl
-least-moved x y (z ∷ ys) = let e = least-moved x z ys in rw e (omega (arith, ints, clamps))
+pub low-signed : (a : List ℤ) → low a ≤ℤ pos 0
+low-signed [] = omega (arith, ints)
+low-signed (x ∷ a) = omega (arith, ints, clamps)
 
-abbrev pub high : List ℤ → ℤ
-high xs = greatest (prefix_sums xs)
+high-append : (a b : List ℤ) → high (a ++ b) ≡ int_max (high a) (total a +ℤ high b)
+high-append [] b = let h = high-signed b in omega (arith, ints, clamps)
+high-append (x ∷ a) b = let e = high-append a b in omega (arith, ints, clamps)
 
-abbrev pub low : List ℤ → ℤ
-low xs = least (prefix_sums xs)
+low-append : (a b : List ℤ) → low (a ++ b) ≡ int_min (low a) (total a +ℤ low b)
+low-append [] b = let h = low-signed b in omega (arith, ints, clamps)
+low-append (x ∷ a) b = let e = low-append a b in omega (arith, ints, clamps)
 
-pub high-next : (x y : ℤ) (ys : List ℤ) → high (x ∷ y ∷ ys) ≡ int_max x (x +ℤ high (y ∷ ys))
-high-next x y ys = ap (int_max x) (greatest-moved x y (map (λ s. y +ℤ s) (prefix_sums ys)))
+pub credit_of-append : (a b : List ℤ) → credit_of (a ++ b) ≡ credit_join (credit_of a) (credit_of b)
+credit_of-append a b = λ i. record { sum = total-append a b i; high = high-append a b i; low = low-append a b i }
 
-pub low-next : (x y : ℤ) (ys : List ℤ) → low (x ∷ y ∷ ys) ≡ int_min x (x +ℤ low (y ∷ ys))
-low-next x y ys = ap (int_min x) (least-moved x y (map (λ s. y +ℤ s) (prefix_sums ys)))
+total-met : (a : List ℤ) (x : ℤ) → total (a ++ x ∷ []) ≡ total a +ℤ x
+total-met a x = let e = total-append a (x ∷ []) in omega (arith, ints)
 
-high-append : (x : ℤ) (a : List ℤ) (y : ℤ) (b : List ℤ) → high ((x ∷ a) ++ y ∷ b) ≡ int_max (high (x ∷ a))
-    (total (x ∷ a) +ℤ high (y ∷ b))
-high-append x [] y b = high-next x y b ∙ omega (arith, ints, clamps)
-high-append x (z ∷ a) y b =
-    let e = high-append z a y b in
-    high-next x z (a ++ y ∷ b) ∙ ap (λ h. int_max x (x +ℤ h)) e ∙ rw (high-next x z a) (omega (arith, ints, clamps))
+high-met : (a : List ℤ) (x : ℤ) → high (a ++ x ∷ []) ≡ int_max (high a) (total a +ℤ x)
+high-met [] x = omega (arith, ints, clamps)
+high-met (y ∷ a) x = let e = high-met a x in omega (arith, ints, clamps)
 
-low-append : (x : ℤ) (a : List ℤ) (y : ℤ) (b : List ℤ) → low ((x ∷ a) ++ y ∷ b) ≡ int_min (low (x ∷ a))
-    (total (x ∷ a) +ℤ low (y ∷ b))
-low-append x [] y b = low-next x y b ∙ omega (arith, ints, clamps)
-low-append x (z ∷ a) y b =
-    let e = low-append z a y b in
-    low-next x z (a ++ y ∷ b) ∙ ap (λ h. int_min x (x +ℤ h)) e ∙ rw (low-next x z a) (omega (arith, ints, clamps))
+low-met : (a : List ℤ) (x : ℤ) → low (a ++ x ∷ []) ≡ int_min (low a) (total a +ℤ x)
+low-met [] x = omega (arith, ints, clamps)
+low-met (y ∷ a) x = let e = low-met a x in omega (arith, ints, clamps)
 
-append_nil : (xs : List ℤ) → xs ++ [] ≡ xs
-append_nil [] = refl
-append_nil (x ∷ xs) = ap (λ l. x ∷ l) (append_nil xs)
+-- the whole sum is one of those that are compared
+within : (a : List ℤ) → (low a ≤ℤ total a) × (total a ≤ℤ high a)
+within [] = (omega (arith, ints), omega (arith, ints))
+within (x ∷ a) =
+    let l = (within a).0 in let h = (within a).1 in (omega (arith, ints, clamps), omega (arith, ints, clamps))
 
-join_left : (a b : Credit) → a.count ≡ 0 → credit_join a b ≡ b
-join_left a b e = rw e refl
+pub above : (a b : ℤ) → a <ℤ b → int_lt a b ≡ true
+above a b h = grind (arith, ints)
 
-some_is : (n : ℕ) → suc n ≡ 0 → ⊥
-some_is n e = omega (arith, e)
+pub not_above : (a b : ℤ) → b ≤ℤ a → int_lt a b ≡ false
+not_above a b h = grind (arith, ints)
 
-credit_of-append : (a b : List ℤ) → credit_of (a ++ b) ≡ credit_join (credit_of a) (credit_of b)
-credit_of-append [] b = sym (join_left (credit_of []) (credit_of b) refl)
-credit_of-append (x ∷ a) [] = ap credit_of (append_nil (x ∷ a))
-    ∙ sym (rw (ne_eqb (suc (length a)) 0 (some_is (length a))) refl)
-credit_of-append (x ∷ a) (y ∷ b) =
-    sym (rw (ne_eqb (suc (length a)) 0 (some_is (length a)), ne_eqb (suc (length b)) 0 (some_is (length b)))
-    (λ i. record {
-      count = sym (length-append (x ∷ a) (y ∷ b)) i;
-      sum = sym (total-append (x ∷ a) (y ∷ b)) i;
-      high = sym (high-append x a y b) i;
-      low = sym (low-append x a y b) i;
-    }))
+risen : (h t x : ℤ) → t ≤ℤ h → int_max h (t +ℤ x) ≡ (if int_lt (pos 0) x then int_max h (t +ℤ x) else h)
+risen h t x le = by_lt_z (pos 0) x (λ p. rw (above (pos 0) x p) refl)
+    (λ p. rw (not_above (pos 0) x p) (omega (arith, ints, clamps)))
+
+fallen : (l t x : ℤ) → l ≤ℤ t → int_min l (t +ℤ x) ≡ (if int_lt x (pos 0) then int_min l (t +ℤ x) else l)
+fallen l t x le = by_lt_z x (pos 0) (λ p. rw (above x (pos 0) p) refl)
+    (λ p. rw (not_above x (pos 0) p) (omega (arith, ints, clamps)))
+
+-- the summary of one change more
+pub credit_of-met : (a : List ℤ) (x : ℤ) → credit_of (a ++ x ∷ []) ≡ credit_met (credit_of a) x
+credit_of-met a x =
+    let high = high-met a x ∙ risen (high a) (total a) x (within a).1 in
+    let low = low-met a x ∙ fallen (low a) (total a) x (within a).0 in
+    λ i. record { sum = total-met a x i; high = high i; low = low i }
+
+sum-one : (x : ℤ) → x +ℤ pos 0 ≡ x
+sum-one x = omega (arith, ints)
+
+high-one : (x : ℤ) → int_max (pos 0) (x +ℤ pos 0) ≡ int_max x (pos 0)
+high-one x = omega (arith, ints, clamps)
+
+low-one : (x : ℤ) → int_min (pos 0) (x +ℤ pos 0) ≡ int_min x (pos 0)
+low-one x = omega (arith, ints, clamps)
+
+one_of : (x : ℤ) → credit_of (x ∷ []) ≡ one_change x
+one_of x = λ i. record { sum = sum-one x i; high = high-one x i; low = low-one x i }
 
 moved : (s : ℤ) (a : List ℤ) → s +ℤ total a ≡ state_after ◌+ℤ◌ s a
 moved s [] = omega (arith, ints)
@@ -94,12 +107,12 @@ total-room (x ∷ a) h =
     let l = h.0.0 in let u = h.0.1 in
     (omega (arith, ints), omega (arith, ints))
 
-first_fit : (s : ℤ) (a b : List ℤ) → ChangesFit s (a ++ b) → ChangesFit s a
+pub first_fit : (s : ℤ) (a b : List ℤ) → ChangesFit s (a ++ b) → ChangesFit s a
 first_fit s a b f =
     let n = f.number in let l = f.room.0 in let u = f.room.1 in let e = length-append a b in
     record { number = omega arith; sizes = small-front a b f.sizes; room = (omega (arith, ints), omega (arith, ints)) }
 
-rest_fits : (s : ℤ) (a b : List ℤ) → ChangesFit s (a ++ b) → ChangesFit (state_after ◌+ℤ◌ s a) b
+pub rest_fits : (s : ℤ) (a b : List ℤ) → ChangesFit s (a ++ b) → ChangesFit (state_after ◌+ℤ◌ s a) b
 rest_fits s a b f =
     let n = f.number in let l = f.room.0 in let u = f.room.1 in let e = length-append a b in
     let r = total-room a (small-front a b f.sizes) in let p = r.0 in let q = r.1 in
@@ -111,15 +124,12 @@ rest_fits s a b f =
           (omega (arith, ints), omega (arith, ints));
     })
 
-unchanged : (x : ℤ) → x +ℤ pos 0 ≡ x
-unchanged x = omega (arith, ints)
-
 pub credit_shows : Shows credit_of no_change one_change credit_join credit_advance ◌+ℤ◌ ChangesFit
 credit_shows = record {
   first_fit = first_fit;
   rest_fits = rest_fits;
   none = refl;
-  one = λ x. ap (λ sum. record { count = 1; sum = sum; high = x; low = x }) (unchanged x);
+  one = one_of;
   joined = credit_of-append;
   moved = λ s a f. moved s a;
 }
@@ -127,24 +137,17 @@ credit_shows = record {
 pub credit_laws : SummaryLaws no_change one_change credit_join credit_advance ◌+ℤ◌ ChangesFit
 credit_laws = lawful credit_shows
 
-high-room : (a : List ℤ) → AreSmall a → HasRoom (2 ^ 32 * length a) (greatest (prefix_sums a))
+high-room : (a : List ℤ) → AreSmall a → HasRoom (2 ^ 32 * length a) (high a)
 high-room [] h = (omega (arith, ints), omega (arith, ints))
-high-room (x ∷ []) h = let l = h.0.0 in let u = h.0.1 in (omega (arith, ints), omega (arith, ints))
-high-room (x ∷ y ∷ a) h =
-    let r = high-room (y ∷ a) h.1 in let p = r.0 in let q = r.1 in
-    let l = h.0.0 in let u = h.0.1 in let e = high-next x y a in
-    (rw e (omega (arith, ints, clamps)), rw e (omega (arith, ints, clamps)))
+high-room (x ∷ a) h =
+    let r = high-room a h.1 in let p = r.0 in let q = r.1 in let l = h.0.0 in let u = h.0.1 in
+    (omega (arith, ints, clamps), omega (arith, ints, clamps))
 
-low-room : (a : List ℤ) → AreSmall a → HasRoom (2 ^ 32 * length a) (least (prefix_sums a))
+low-room : (a : List ℤ) → AreSmall a → HasRoom (2 ^ 32 * length a) (low a)
 low-room [] h = (omega (arith, ints), omega (arith, ints))
-low-room (x ∷ []) h = let l = h.0.0 in let u = h.0.1 in (omega (arith, ints), omega (arith, ints))
-low-room (x ∷ y ∷ a) h =
-    let r = low-room (y ∷ a) h.1 in let p = r.0 in let q = r.1 in
-    let l = h.0.0 in let u = h.0.1 in let e = low-next x y a in
-    (rw e (omega (arith, ints, clamps)), rw e (omega (arith, ints, clamps)))
-
-pub room-wider : (n m : ℕ) (x : ℤ) → n ≤ m → HasRoom n x → HasRoom m x
-room-wider n m x le h = let l = h.0 in let u = h.1 in (omega (arith, ints), omega (arith, ints))
+low-room (x ∷ a) h =
+    let r = low-room a h.1 in let p = r.0 in let q = r.1 in let l = h.0.0 in let u = h.0.1 in
+    (omega (arith, ints, clamps), omega (arith, ints, clamps))
 
 -- What keeps the sums of two summaries within their machine words.
 pub record IsRoomy (credit : Credit) : Type 0 where
@@ -152,42 +155,18 @@ pub record IsRoomy (credit : Credit) : Type 0 where
   pub high : HasRoom (2 ^ 60) credit.high
   pub low : HasRoom (2 ^ 60) credit.low
 
-roomy : (s : ℤ) (a : List ℤ) → ChangesFit s a → IsRoomy (credit_of a)
-roomy s a f =
-    let n = f.number in
+-- a summary of few changes, each of them small
+pub roomy : (a : List ℤ) → length a ≤ 2 ^ 28 → AreSmall a → IsRoomy (credit_of a)
+roomy a n small =
     let le : 2 ^ 32 * length a ≤ 2 ^ 60 = omega arith in
     record {
-      sum = room-wider _ _ _ le (total-room a f.sizes);
-      high = room-wider _ _ _ le (high-room a f.sizes);
-      low = room-wider _ _ _ le (low-room a f.sizes);
+      sum = room-wider _ _ _ le (total-room a small);
+      high = room-wider _ _ _ le (high-room a small);
+      low = room-wider _ _ _ le (low-room a small);
     }
 
 -- a summary of changes that fit
 pub summary_room : (s : ℤ) (a : List ℤ) (x : Credit) → ChangesFit s a
     → x ≡ summary_of no_change one_change credit_join a → IsRoomy x
-summary_room s a x f e = subst IsRoomy (sym (e ∙ summary-shown credit_shows a)) (roomy s a f)
-
-pub summary_count : (a : List ℤ) (x : Credit) → x ≡ summary_of no_change one_change credit_join a → x.count ≡ length a
-summary_count a x e = ap (λ y. y.count) (e ∙ summary-shown credit_shows a)
-
-pub front_fits : (s : ℤ) (a b : List ℤ) → ChangesFit s (a ++ b) → ChangesFit s a
-front_fits s a b f = first_fit s a b f
-
-pub back_fits : (s : ℤ) (a b : List ℤ) → ChangesFit s (a ++ b) → ChangesFit (state_after ◌+ℤ◌ s a) b
-back_fits s a b f = rest_fits s a b f
-
--- two summaries, each of some change
-pub join_some : (a b : Credit) → (a.count ≡ 0 → ⊥) → (b.count ≡ 0 → ⊥)
-    → credit_join a b ≡ record {
-      count = a.count + b.count;
-      sum = a.sum +ℤ b.sum;
-      high = int_max a.high
-          (a.sum +ℤ b.high);
-      low = int_min a.low (a.sum +ℤ b.low);
-    }
-join_some a b p q = rw (ne_eqb a.count 0 p, ne_eqb b.count 0 q) refl
-
-pub credit_is : (count : ℕ) {s t h i l m : ℤ} → s ≡ t → h ≡ i → l ≡ m
-    → ◌≡◌ {A = Credit} record { count = count; sum = s; high = h; low = l } record
-    { count = count; sum = t; high = i; low = m }
-credit_is count sum high low = λ i. record { count = count; sum = sum i; high = high i; low = low i }
+summary_room s a x f e =
+    subst IsRoomy (sym (e ∙ summary-shown credit_shows a)) (roomy a f.number f.sizes)

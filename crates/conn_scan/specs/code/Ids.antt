@@ -1,11 +1,8 @@
--- The streams that a list of items opens (RFC 9113, 5.1.1): odd ones by HEADERS of the client, even ones by promises.
-use Rattle.std.specs.Prelude.{ℕ, List, Option, Some, None, if◌then◌else◌}
+-- The streams that an item opens (RFC 9113, 5.1.1): odd ones by HEADERS of the client, even ones by promises.
+use Rattle.std.specs.Prelude.{ℕ, Option, Some, None, if◌then◌else◌}
 use Rattle.audit_terms.specs.declared.items.Item.{Item}
 use Rattle.audit_terms.specs.Frame.{promised_in}
 use Rattle.audit_terms.specs.Connection.{is_opened_by_headers, is_even_promise}
-use Rattle.conn_scan.specs.declared.rising.Rising.{Rising}
-use Rattle.conn_scan.specs.declared.ids.OpenedIds.{OpenedIds}
-use Rattle.conn_scan.specs.declared.ids.PromisedIds.{PromisedIds}
 
 -- the stream that the HEADERS of an item open
 abbrev pub opened_in : Item → Option ℕ
@@ -14,13 +11,3 @@ opened_in item = if is_opened_by_headers item then Some item.frame.stream else N
 -- the even stream that the server promises by an item
 abbrev pub promised_by : Item → Option ℕ
 promised_by item = if is_even_promise item.frame then Some (promised_in item.frame.body) else None
-
-abbrev pub opened_ids : Rising → OpenedIds
-opened_ids ids = record { ids = ids }
-
-abbrev pub promised_ids : Rising → PromisedIds
-promised_ids ids = record { ids = ids }
-
--- any items fit
-abbrev pub AnyFit : (greatest : ℕ) → List Item → Type 0
-AnyFit greatest items = Unit {0}

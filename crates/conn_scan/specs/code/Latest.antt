@@ -1,17 +1,16 @@
 -- Settings that a list of items brings into force, the lengths of its frames, and its promises
 -- (RFC 9113, 4.2, 6.5.2, 6.9, 8.4).
 use Rattle.std.specs.Prelude.{ℕ, min, max, ◌%◌, ◌==◌, Bool, false, ◌&&◌, ◌||◌, if◌then◌else◌, List, [], ◌∷◌, Option}
-use Rattle.std.specs.Prelude.{Some, None, is_none, unwrap_or}
+use Rattle.std.specs.Prelude.{Some, None, is_none}
 use Rattle.audit_terms.specs.declared.sides.Side.{Side}
 use Rattle.audit_terms.specs.declared.sides.Side.TheVariants.{Client, Server}
+use Rattle.audit_terms.specs.declared.frames.Frame.{Frame}
 use Rattle.audit_terms.specs.declared.items.Change.{Change}
 use Rattle.audit_terms.specs.declared.items.Item.{Item}
 use Rattle.audit_terms.specs.Side.{is_side}
 use Rattle.audit_terms.specs.Sides.{side_of, each_side}
 use Rattle.audit_terms.specs.Frame.{grants_nothing, is_server_promise, promised_in}
-use Rattle.audit_terms.specs.Change.{new_limit, new_push}
 use Rattle.conn_scan.specs.declared.latest.Latest.{Latest}
-use Rattle.conn_scan.specs.declared.latest.InForce.{InForce}
 
 -- the greatest frame length that a change brings for side d, if it brings one
 abbrev pub limit_in : Side → Option Change → Option ℕ
@@ -24,16 +23,16 @@ push_in None = None
 push_in (Some change) = if is_side Server change.side then change.push else None
 
 -- the length of side d's frame, 0 of a frame of the other side
-abbrev pub length_by : Side → Item → ℕ
-length_by d item = if is_side d item.frame.side then item.frame.length else 0
+abbrev pub length_by : Side → Frame → ℕ
+length_by d frame = if is_side d frame.side then frame.length else 0
 
--- does an item grant 0 on stream 0?
-abbrev pub grants_zero : Item → Bool
-grants_zero item = grants_nothing Client 0 item.frame || grants_nothing Server 0 item.frame
+-- does a frame grant 0 on stream 0?
+abbrev pub grants_zero : Frame → Bool
+grants_zero frame = grants_nothing Client 0 frame || grants_nothing Server 0 frame
 
--- does the server promise an odd stream by an item?
-abbrev pub promises_odd : Item → Bool
-promises_odd item = is_server_promise item.frame && (promised_in item.frame.body % 2 == 1)
+-- does the server promise an odd stream by a frame?
+abbrev pub promises_odd : Frame → Bool
+promises_odd frame = is_server_promise frame && (promised_in frame.body % 2 == 1)
 
 -- is the value there, and 0?
 abbrev pub is_zero : Option ℕ → Bool
@@ -69,17 +68,17 @@ last_push (item ∷ items) = newer (push_in item.change) (last_push items)
 -- the length of side d's longest frame, 0 of none
 abbrev pub longest_by : Side → List Item → ℕ
 longest_by d [] = 0
-longest_by d (item ∷ items) = max (length_by d item) (longest_by d items)
+longest_by d (item ∷ items) = max (length_by d item.frame) (longest_by d items)
 
 -- is there an item that grants 0 on stream 0?
 abbrev pub some_zero_grant : List Item → Bool
 some_zero_grant [] = false
-some_zero_grant (item ∷ items) = grants_zero item || some_zero_grant items
+some_zero_grant (item ∷ items) = grants_zero item.frame || some_zero_grant items
 
 -- does the server promise an odd stream by some item?
 abbrev pub some_odd_promise : List Item → Bool
 some_odd_promise [] = false
-some_odd_promise (item ∷ items) = promises_odd item || some_odd_promise items
+some_odd_promise (item ∷ items) = promises_odd item.frame || some_odd_promise items
 
 -- does the server promise a stream before an item brings ENABLE_PUSH? What an item brings counts after its frame.
 abbrev pub some_early_promise : List Item → Bool
@@ -118,17 +117,35 @@ no_item = record {
   barred_promise = false;
 }
 
-abbrev pub one_item : Item → Latest
-one_item item = record {
-  limit = each_side (λ d. limit_in d item.change);
-  least = each_side (λ d. limit_in d item.change);
-  longest = each_side (λ d. length_by d item);
-  push = push_in item.change;
-  zero_grant = grants_zero item;
-  odd_promise = promises_odd item;
-  early_promise = is_server_promise item.frame;
-  barred_promise = false;
+-- a summary, and then the length of a frame, and what it grants and promises
+abbrev pub latest_seen : Latest → Frame → Latest
+latest_seen a frame = record a {
+  longest = each_side (λ d. max (side_of d a.longest) (length_by d frame));
+  zero_grant = a.zero_grant || grants_zero frame;
+  odd_promise = a.odd_promise || promises_odd frame;
+  early_promise = a.early_promise || (is_server_promise frame && is_none a.push);
+  barred_promise = a.barred_promise || (is_server_promise frame && is_zero a.push);
 }
+
+-- a summary, and then a promise of the server
+abbrev pub latest_promised : Latest → (stream : ℕ) → Latest
+latest_promised a stream = record a {
+  odd_promise = a.odd_promise || (stream % 2 == 1);
+  early_promise = a.early_promise || is_none a.push;
+  barred_promise = a.barred_promise || is_zero a.push;
+}
+
+-- a summary, and then what an acknowledgement brings into force
+abbrev pub latest_changed : Latest → Option Change → Latest
+latest_changed a change = record a {
+  limit = each_side (λ d. newer (side_of d a.limit) (limit_in d change));
+  least = each_side (λ d. lesser (side_of d a.least) (limit_in d change));
+  push = newer a.push (push_in change);
+}
+
+-- the items of a summary, and then one more
+abbrev pub latest_met : Latest → Item → Latest
+latest_met a item = latest_changed (latest_seen a item.frame) item.change
 
 -- the items of one summary, and then those of another
 abbrev pub latest_join : Latest → Latest → Latest
@@ -142,21 +159,3 @@ latest_join a b = record {
   early_promise = a.early_promise || (is_none a.push && b.early_promise);
   barred_promise = (a.barred_promise || b.barred_promise) || (is_zero a.push && b.early_promise);
 }
-
--- the settings in force after an item
-abbrev pub in_force_after : InForce → Item → InForce
-in_force_after now item = record {
-  limit = each_side (λ d. new_limit item.change d (side_of d now.limit));
-  push = new_push item.change now.push;
-}
-
--- the settings in force after the items of a summary
-abbrev pub latest_advance : InForce → Latest → InForce
-latest_advance now items = record {
-  limit = each_side (λ d. unwrap_or (side_of d items.limit) (side_of d now.limit));
-  push = unwrap_or items.push now.push;
-}
-
--- any items fit
-abbrev pub SettingsFit : InForce → List Item → Type 0
-SettingsFit now items = Unit {0}

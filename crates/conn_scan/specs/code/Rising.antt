@@ -38,9 +38,8 @@ rising_of xs = record { none = is_empty xs; least = least_of xs; greatest = grea
 abbrev pub no_identifier : Rising
 no_identifier = record { none = true; least = 0; greatest = 0; rises = true }
 
-abbrev pub one_identifier : Option ℕ → Rising
-one_identifier None = no_identifier
-one_identifier (Some x) = record { none = false; least = x; greatest = x; rises = true }
+abbrev pub one_identifier : ℕ → Rising
+one_identifier x = record { none = false; least = x; greatest = x; rises = true }
 
 -- the identifiers of one summary, and then those of another
 abbrev pub rising_join : Rising → Rising → Rising
@@ -54,11 +53,7 @@ rising_join a b =
       rises = nat_lt a.greatest b.least && (a.rises && b.rises);
     }
 
--- the greatest identifier so far, after one that may be there
-abbrev pub greatest_after : ℕ → Option ℕ → ℕ
-greatest_after before None = before
-greatest_after before (Some x) = max before x
-
--- the greatest identifier so far, after those of a summary
-abbrev pub greatest_advance : ℕ → Rising → ℕ
-greatest_advance before ids = max before ids.greatest
+-- the identifiers of a summary, and then one more, if there is one
+abbrev pub rising_met : Rising → Option ℕ → Rising
+rising_met a None = a
+rising_met a (Some x) = rising_join a (one_identifier x)

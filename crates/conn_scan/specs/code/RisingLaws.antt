@@ -1,12 +1,10 @@
--- The summary of identifiers obeys the laws.
+-- How the summary of identifiers goes on.
 use Rattle.std.proofs.Common.{◌≡◌, ℕ, min, max, Bool, true, false, ◌&&◌, nat_lt, List, [], ◌∷◌, ◌++◌, Option, Some}
 use Rattle.std.proofs.Common.{None, refl, sym, ap, ◌∙◌, arith, ⊎_elim}
+use Rattle.std.proofs.Math.Nat.{max-zero}
 use Rattle.std.proofs.lemmas.Bool.{cases_lt, lt-ltb, le-ltb}
-use Rattle.block_scan.specs.code.Summary.{SummaryLaws}
-use Rattle.block_scan.specs.code.List.{state_after}
-use Rattle.block_scan.specs.code.Shown.{Shows, lawful, append_nil}
-use Rattle.conn_scan.specs.code.Rising.{least_of, greatest_of, rise, present, rising_of, no_identifier, one_identifier}
-use Rattle.conn_scan.specs.code.Rising.{rising_join, greatest_after, greatest_advance}
+use Rattle.std.proofs.lemmas.List.{append-nil}
+use Rattle.conn_scan.specs.code.Rising.{least_of, greatest_of, rise, present, rising_of, rising_join, rising_met}
 
 least-append : (x : ℕ) (a : List ℕ) (y : ℕ) (b : List ℕ) → least_of ((x ∷ a) ++ y ∷ b) ≡ min (least_of (x ∷ a))
     (least_of (y ∷ b))
@@ -18,7 +16,7 @@ greatest-append [] b = omega arith
 greatest-append (x ∷ a) b = let e = greatest-append a b in omega arith
 
 -- below both is below the lesser
-below_both : (x p q : ℕ) → nat_lt x (min p q) ≡ nat_lt x p && nat_lt x q
+pub below_both : (x p q : ℕ) → nat_lt x (min p q) ≡ nat_lt x p && nat_lt x q
 below_both x p q = ⊎_elim
     (λ lt. ⊎_elim
     (λ lu. rw (lt-ltb x p lt, lt-ltb x q lu, lt-ltb x (min p q) (omega arith)) refl)
@@ -27,7 +25,7 @@ below_both x p q = ⊎_elim
     (λ ge. rw (le-ltb x p ge, le-ltb x (min p q) (omega arith)) refl)
     (cases_lt x p)
 
-both_below : (x g q : ℕ) → nat_lt (max x g) q ≡ nat_lt x q && nat_lt g q
+pub both_below : (x g q : ℕ) → nat_lt (max x g) q ≡ nat_lt x q && nat_lt g q
 both_below x g q = ⊎_elim
     (λ lt. ⊎_elim
     (λ lu. rw (lt-ltb x q lt, lt-ltb g q lu, lt-ltb (max x g) q (omega arith)) refl)
@@ -46,12 +44,9 @@ turn false true true r s = refl
 turn false true false r s = refl
 turn false false g r s = refl
 
-zero_max : (x : ℕ) → max x 0 ≡ x
-zero_max x = omega arith
-
 rise-append : (x : ℕ) (a : List ℕ) (y : ℕ) (b : List ℕ)
     → rise ((x ∷ a) ++ y ∷ b) ≡ nat_lt (greatest_of (x ∷ a)) (least_of (y ∷ b)) && (rise (x ∷ a) && rise (y ∷ b))
-rise-append x [] y b = ap (λ n. nat_lt n (least_of (y ∷ b)) && rise (y ∷ b)) (sym (zero_max x))
+rise-append x [] y b = ap (λ n. nat_lt n (least_of (y ∷ b)) && rise (y ∷ b)) (sym (max-zero x))
 rise-append x (z ∷ a) y b =
     let q = least_of (y ∷ b) in
     ap (λ n. nat_lt x n && rise ((z ∷ a) ++ y ∷ b)) (least-append z a y b)
@@ -62,9 +57,9 @@ rise-append x (z ∷ a) y b =
     ∙ ap (λ t. t && ((nat_lt x (least_of (z ∷ a)) && rise (z ∷ a)) && rise (y ∷ b)))
     (sym (both_below x (greatest_of (z ∷ a)) q))
 
-rising_of-append : (a b : List ℕ) → rising_of (a ++ b) ≡ rising_join (rising_of a) (rising_of b)
+pub rising_of-append : (a b : List ℕ) → rising_of (a ++ b) ≡ rising_join (rising_of a) (rising_of b)
 rising_of-append [] b = refl
-rising_of-append (x ∷ a) [] = ap rising_of (append_nil (x ∷ a))
+rising_of-append (x ∷ a) [] = ap rising_of (append-nil (x ∷ a))
 rising_of-append (x ∷ a) (y ∷ b) = λ i. record {
   none = false;
   least = least-append x a y b i;
@@ -72,36 +67,15 @@ rising_of-append (x ∷ a) (y ∷ b) = λ i. record {
   rises = rise-append x a y b i;
 }
 
-present-append : (a b : List (Option ℕ)) → present (a ++ b) ≡ present a ++ present b
+pub present-append : (a b : List (Option ℕ)) → present (a ++ b) ≡ present a ++ present b
 present-append [] b = refl
 present-append (None ∷ a) b = present-append a b
 present-append (Some x ∷ a) b = ap (λ l. x ∷ l) (present-append a b)
 
-moved : (s : ℕ) (a : List (Option ℕ)) → max s (greatest_of (present a)) ≡ state_after greatest_after s a
-moved s [] = omega arith
-moved s (None ∷ a) = moved s a
-moved s (Some x ∷ a) =
-    let e : max s (max x (greatest_of (present a))) ≡ max (max s x) (greatest_of (present a)) = omega arith in e
-    ∙ moved (max s x) a
-
-single : (x : Option ℕ) → rising_of (present (x ∷ [])) ≡ one_identifier x
-single None = refl
-single (Some x) = ap (λ g. record { none = false; least = x; greatest = g; rises = true }) (zero_max x)
-
--- any identifiers fit
-abbrev pub Fit : ℕ → List (Option ℕ) → Type 0
-Fit before ids = Unit {0}
-
-pub rising_shows : Shows
-    (λ ids. rising_of (present ids)) no_identifier one_identifier rising_join greatest_advance greatest_after Fit
-rising_shows = record {
-  first_fit = λ s a b f. tt;
-  rest_fits = λ s a b f. tt;
-  none = refl;
-  one = single;
-  joined = λ a b. ap rising_of (present-append a b) ∙ rising_of-append (present a) (present b);
-  moved = λ s a f. moved s a;
-}
-
-pub rising_laws : SummaryLaws no_identifier one_identifier rising_join greatest_advance greatest_after Fit
-rising_laws = lawful rising_shows
+-- the summary of one identifier more, if there is one
+pub rising_of-met : (a : List (Option ℕ)) (x : Option ℕ)
+    → rising_of (present (a ++ x ∷ [])) ≡ rising_met (rising_of (present a)) x
+rising_of-met a None = ap rising_of (present-append a (None ∷ []) ∙ append-nil (present a))
+rising_of-met a (Some x) = ap rising_of (present-append a (Some x ∷ [])) ∙ rising_of-append (present a) (x ∷ [])
+    ∙ ap (λ g. rising_join (rising_of (present a)) (record { none = false; least = x; greatest = g; rises = true }))
+    (max-zero x)

@@ -20,12 +20,12 @@ StatesFound =
 abbrev pub FirstSumFound : Type 0
 FirstSumFound =
     ◌≡◌ {A = Credit} (summary_of no_change one_change credit_join first_changes)
-    (record { count = 2; sum = neg_ℤ (pos 65534); high = neg_ℤ (pos 65534); low = neg_ℤ (pos 65535) })
+    (record { sum = neg_ℤ (pos 65534); high = pos 0; low = neg_ℤ (pos 65535) })
 
 abbrev pub LastSumFound : Type 0
 LastSumFound =
     ◌≡◌ {A = Credit} (summary_of no_change one_change credit_join last_changes)
-    (record { count = 1; sum = neg_ℤ (pos 1); high = neg_ℤ (pos 1); low = neg_ℤ (pos 1) })
+    (record { sum = neg_ℤ (pos 1); high = pos 0; low = neg_ℤ (pos 1) })
 
 -- the credit before each block
 abbrev pub CarriesFound : Type 0

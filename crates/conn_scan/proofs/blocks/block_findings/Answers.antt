@@ -1,6 +1,6 @@
 use Rattle.std.proofs.Common.{◌≡◌, ◌^◌, arith}
 use Rattle.conn_scan.specs.code.Items.{items_in}
-use Rattle.conn_scan.specs.code.CreditLaws.{room-wider}
+use Rattle.conn_scan.specs.code.FitLaws.{room-wider}
 use Rattle.conn_scan.specs.code.Walk.{walked}
 use Rattle.conn_scan.proofs.BlockLemmas.{block_walked, fits_next}
 use Rattle.conn_scan.proofs.Halfway.{begins, is-due, goes, stops, stops-numbered, is-whole, whole-numbered}

@@ -1,10 +1,9 @@
 use Rattle.std.proofs.Common.{◌≡◌, ◌++◌, List}
 use Rattle.std.specs.List.{AllByRecursion}
 use Rattle.audit_terms.specs.declared.items.Item.{Item}
-use Rattle.block_scan.specs.code.Summary.{summary_of}
 use Rattle.conn_scan.specs.code.Block.{MovesLittle}
 use Rattle.conn_scan.specs.code.Walk.{walked}
-use Rattle.conn_scan.specs.code.ConnSumLaws.{conn_none, conn_one, conn_join}
+use Rattle.conn_scan.specs.code.ConnSum.{conn_sum_of}
 use Rattle.conn_scan.proofs.sums.block_sum.Given as goal
 
 -- the sum is that of the items so far
@@ -15,6 +14,6 @@ invariant-loop-item l =
     record {
       done : List Item;
       split : done ++ rest ≡ all;
-      sum : l.sum ≡ summary_of conn_none conn_one conn_join done;
+      sum : l.sum ≡ conn_sum_of done;
       little : AllByRecursion MovesLittle done;
     }
