@@ -84,7 +84,7 @@ impl RecordWalk {
         let unit = self.format.unit;
         while let Some(record) = next_record::<T>(alloc, capture, self.at, unit)? {
             self.rows.push(record)?;
-            self.at = record.start + record.length;
+            self.at = record.start as usize + record.length as usize;
         }
         Ok(())
     }
