@@ -3,6 +3,7 @@ ghost use Rattle.pcap_records.specs.Record.{captured_length, record_at};
 ghost use Rattle.pcap_records.specs.code.Walk.{IsNextRecord};
 
 use crate::capture::{Capture, Record};
+use crate::nanos::Nanos;
 use byteorder::ByteOrder;
 use std::alloc::{AllocError, Global};
 
@@ -30,7 +31,7 @@ fn record_behind<T: ByteOrder>(front: &[u8], at: usize, size: usize, unit: u64) 
     let seconds = u64::from(T::read_u32(front));
     let fraction = u64::from(T::read_u32(&front[4..]));
     Some(Record {
-        nanos: seconds * SECOND + fraction * unit,
+        nanos: Nanos::of(seconds * SECOND + fraction * unit),
         original: T::read_u32(&front[12..]),
         start: (at + RECORD_HEADER) as u32,
         length: captured,
