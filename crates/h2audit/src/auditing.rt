@@ -87,7 +87,8 @@ fn audit_records(
     let made = decode_all(rt, alloc, options.workers(), &found, capture)?;
     let packets = Packets::of(alloc, made.as_slice())?;
     let division = division(options, TableHash::drawn(rt));
-    let Connections { opened, strays } = connections(alloc, division.hash, &packets)?;
+    let connections = connections(alloc, division.hash, &packets)?;
+    let Connections { opened, strays } = connections;
     // From here on there are no records, whose memory frames may take.
     let begun = capture_lines(alloc, found, &packets, strays)?;
     let audited = audit_each(
