@@ -85,14 +85,15 @@ pub fn each_kind_of_packet(alloc: Global) -> Answer {
         rows,
         cut: Some(14),
     };
-    let strays = [Stray {
+    let mut strays = Vec::new(alloc);
+    strays.push(Stray {
         from: SERVER,
         to: CLIENT,
         segments: 2,
-    }];
+    })?;
     let packets = Packets::cut(alloc, &packets)?;
-    let text = capture_lines(alloc, &records, &packets, &strays)?;
-    Ok(text.as_slice() == CAPTURE_LINES.as_bytes())
+    let text = capture_lines(alloc, records, &packets, strays)?;
+    Ok(text.as_str() == CAPTURE_LINES)
 }
 
 /// A flow of these bytes, which one record brought.
