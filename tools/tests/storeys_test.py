@@ -60,12 +60,12 @@ class Storeys(unittest.TestCase):
             self.rests(file, STOREYS.index("examples" if is_law else "code"))
 
     def test_statements_of_laws(self) -> None:
-        """The statement of a law stands in laws/, but for the two by which code is proved."""
+        """The statement of a law stands in laws/, but for the one by which code is proved."""
         crates = set()
         for file in CRATES.glob("*/src/laws.rt"):
             crates |= {crate for crate, room, path in cited(file) if room == "specs" and storey(path) == 1}
         text = " ".join(ARCHITECTURE.split())
-        (said,) = re.findall(r"two laws by which code is proved have[^(.]*\(([^)]*)\)", text)
+        (said,) = re.findall(r"the law by which code is proved has[^(.]*\(([^)]*)\)", text)
         self.assertEqual(crates, set(re.findall(r"of `(\w+)`", said)))
 
     def rests(self, file: pathlib.Path, highest: int) -> None:
