@@ -4,8 +4,8 @@
 //! [`decode_all`] answers for each record of a capture in order, by several threads. A record holds a TCP segment, or
 //! something that is passed over and named ([`Skip`]), or a packet that cannot be read ([`Refusal`]). Twelve lines in a
 //! fixed order decide, of which the first that applies counts. `specs/Decision.antt` lists them, the twelfth being the
-//! segment; `specs/Ethernet.antt`, `specs/Ipv4.antt` (RFC 791, 3.1) and `specs/Tcp.antt` (RFC 9293, 3.1) have the fields
-//! of which they speak. The contract says that each answer is exactly this decision, field by field;
+//! segment; `specs/Ethernet.antt`, `specs/Ipv4.antt` (RFC 791, 3.1) and `specs/Tcp.antt` (RFC 9293, 3.1) have the
+//! fields of which they speak. The contract says that each answer is exactly this decision, field by field;
 //! [`worked_examples`] computes it for headers at each bound, one less and one more, and has the names of the refusals
 //! byte for byte.
 //!

@@ -1,5 +1,5 @@
--- Worked examples: what the life of a stream shows, its opening, its ends, and which windows live (RFC 9113, 5.1, 5.1.1,
--- 6.6). No frame here has content and no settings change, so a live window keeps its first credit, 65535.
+-- Worked examples: what the life of a stream shows, its opening, its ends, and which windows live (RFC 9113, 5.1,
+-- 5.1.1, 6.6). No frame here has content and no settings change, so a live window keeps its first credit, 65535.
 use Rattle.std.specs.Prelude.{◌≡◌, ℕ, ℤ, pos, true, false, List, [], ◌∷◌, Option, Some, None}
 use Rattle.audit_terms.specs.declared.sides.Side.TheVariants.{Client, Server}
 use Rattle.audit_terms.specs.declared.sides.Sides.{Sides}

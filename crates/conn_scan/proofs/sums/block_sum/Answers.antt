@@ -14,13 +14,15 @@ use Rattle.conn_scan.proofs.sums.block_sum.Goals as goal
 pub meet-requires-clause-client : goal.meet-requires-clause-client
 meet-requires-clause-client c =
     let i = c.loop-item.invariant in
-    rw i.sum (changes_roomy (change_of Client) (λ x h. h.0) i.done (few c.args.block.now i.done _ i.split c.requires.number)
+    rw i.sum (changes_roomy (change_of Client) (λ x h. h.0) i.done
+    (few c.args.block.now i.done _ i.split c.requires.number)
     i.little).sum
 
 pub meet-requires-clause-server : goal.meet-requires-clause-server
 meet-requires-clause-server c =
     let i = c.loop-item.invariant in
-    rw i.sum (changes_roomy (change_of Server) (λ x h. h.1) i.done (few c.args.block.now i.done _ i.split c.requires.number)
+    rw i.sum (changes_roomy (change_of Server) (λ x h. h.1) i.done
+    (few c.args.block.now i.done _ i.split c.requires.number)
     i.little).sum
 
 pub loop-item-preserved : goal.loop-item-preserved
