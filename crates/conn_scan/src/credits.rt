@@ -1,17 +1,7 @@
 ghost use Rattle.std.specs.Prelude.{◌≡◌, ◌+ℤ◌, ◌^◌};
 ghost use Rattle.audit_terms.specs.code.Room.{HasRoom};
-ghost use Rattle.conn_scan.specs.code.Credit.{change_of};
 
-use audit_terms::{Item, Side};
 use block_scan::Summary;
-
-/// What an item moves the connection credit of a side by, in bytes: the other side's grants, less its own content.
-pub(crate) fn change_of(side: Side, item: &Item) -> i64
-    ensures value { result ≡ change_of side item.now }
-    ensures little { HasRoom (2 ^ 32) result }
-{
-    i64::from(item.frame.grant_to(side, 0)) - i64::from(item.frame.content_by(side))
-}
 
 /// What a list of signed changes does to the credit of a window (RFC 9113, 6.9). Of no change all is 0.
 #[derive(Clone, Copy)]

@@ -1,8 +1,8 @@
 ghost use Rattle.std.specs.Prelude.{◌≡◌, Some};
-ghost use Rattle.conn_scan.specs.code.Latest.{length_by, grants_zero, is_zero, newer, lesser, no_item, latest_join};
-ghost use Rattle.conn_scan.specs.code.Latest.{latest_met, latest_seen, latest_promised, latest_changed};
+ghost use Rattle.conn_scan.specs.code.Latest.{grants_zero, is_zero, newer, lesser, no_item, latest_join};
+ghost use Rattle.conn_scan.specs.code.Latest.{latest_seen, latest_promised, latest_changed};
 
-use audit_terms::{Change, Frame, Item, Side, Sides};
+use audit_terms::{Change, Frame, Side, Sides};
 
 /// What some items bring into force, the lengths of their frames, and the server's promises (RFC 9113, 4.2, 6.5.2,
 /// 8.4).
@@ -24,17 +24,6 @@ pub struct Latest {
     pub early_promise: bool,
     /// Does the server promise a stream while an ENABLE_PUSH of 0 that they brought is in force?
     pub barred_promise: bool,
-}
-
-/// The length of a side's frame, 0 of a frame of the other side.
-fn length_by(side: Side, frame: &Frame) -> u32
-    ensures { result ≡ length_by side frame.now }
-{
-    if side == frame.side {
-        frame.length.get()
-    } else {
-        0
-    }
 }
 
 /// Does a frame grant 0 on stream 0?
@@ -101,35 +90,36 @@ impl Latest {
         }
     }
 
-    /// Takes one item more.
-    pub(crate) fn meet(&mut self, item: &Item)
-        ensures { self.new ≡ latest_met self.old item.now }
-    {
-        self.see(&item.frame);
-        if let Some(change) = &item.change {
-            self.change(change);
-        }
-    }
-
-    /// Takes the length of a frame, and what it grants and promises.
-    fn see(&mut self, frame: &Frame)
+    /// Takes the length of a frame, and whether it grants 0.
+    pub(crate) fn see(&mut self, frame: &Frame)
         ensures { self.new ≡ latest_seen self.old frame.now }
     {
-        self.longest.client = self.longest.client.max(length_by(Side::Client, frame));
-        self.longest.server = self.longest.server.max(length_by(Side::Server, frame));
-        self.zero_grant = self.zero_grant || grants_zero(frame);
-        if frame.is_server_promise() {
-            self.promise(frame.body.promised());
+        let length = frame.length.get();
+        match frame.side {
+            Side::Client => self.longest.client = self.longest.client.max(length),
+            Side::Server => self.longest.server = self.longest.server.max(length),
+        }
+        if grants_zero(frame) {
+            self.zero_grant = true;
         }
     }
 
     /// Takes a promise of the server.
-    fn promise(&mut self, stream: u32)
+    pub(crate) fn promise(&mut self, stream: u32)
         ensures { self.new ≡ latest_promised self.old stream }
     {
         self.odd_promise = self.odd_promise || stream % 2 == 1;
         self.early_promise = self.early_promise || self.push.is_none();
         self.barred_promise = self.barred_promise || is_zero(self.push);
+    }
+
+    /// Takes what an acknowledgement brings into force, if there is one.
+    pub(crate) fn meet_change(&mut self, change: &Option<Change>)
+        ensures { self.new ≡ latest_changed self.old change.now }
+    {
+        if let Some(change) = change {
+            self.change(change);
+        }
     }
 
     /// Takes what an acknowledgement brings into force.

@@ -1,16 +1,19 @@
 ghost use Rattle.std.specs.Prelude.{◌≡◌, ◌≤◌, ◌^◌, length};
 ghost use Rattle.std.specs.List.{AllByRecursion};
+ghost use Rattle.audit_terms.specs.declared.sides.Side.TheVariants.{Client, Server};
+ghost use Rattle.audit_terms.specs.Connection.{credit_moved};
 ghost use Rattle.audit_terms.specs.code.Room.{HasRoom};
 ghost use Rattle.conn_scan.specs.code.Items.{items_in, IsBlock};
 ghost use Rattle.conn_scan.specs.code.Block.{MovesLittle};
-ghost use Rattle.conn_scan.specs.code.ConnSum.{conn_sum_of, conn_met};
+ghost use Rattle.conn_scan.specs.code.Credit.{spent_by, granted_by, credit_met};
+ghost use Rattle.conn_scan.specs.code.ConnSum.{conn_sum_of, conn_met, conn_counted, conn_promised};
 
 use crate::block_items::Block;
-use crate::credits::{Credit, change_of};
+use crate::credits::Credit;
 use crate::ids::{opened_in, promised_by};
 use crate::latest::Latest;
 use crate::rising::Rising;
-use audit_terms::{ConnectionState, Item, Side, Sides};
+use audit_terms::{ConnectionState, Frame, Item, Side, Sides};
 use block_scan::Summary;
 
 /// All that a list of items does to its connection.
@@ -26,19 +29,59 @@ pub struct ConnSum {
     pub latest: Latest,
 }
 
+/// Takes what a frame moves: by its content the credit of its sender, by its grant that of the other side.
+fn take_moves(frame: &Frame, own: &mut Credit, other: &mut Credit)
+    requires own { HasRoom (2 ^ 60) own.old.sum }
+    requires other { HasRoom (2 ^ 60) other.old.sum }
+    ensures own { own.new ≡ credit_met own.old (spent_by frame.now) }
+    ensures other { other.new ≡ credit_met other.old (granted_by frame.now) }
+    ensures little { HasRoom (2 ^ 32) (spent_by frame.now) × HasRoom (2 ^ 32) (granted_by frame.now) }
+{
+    if frame.stream == 0 {
+        own.meet(-i64::from(frame.content_by(frame.side)));
+        other.meet(i64::from(frame.body.increment()));
+    } else if frame.body.is_content() {
+        own.meet(-i64::from(frame.length.get()));
+    }
+}
+
 impl ConnSum {
-    /// Takes one item more. Most items open nothing and bring nothing, and leave all but credits and lengths.
+    /// Takes one item more. Most items open nothing and bring nothing, and move one credit at most.
     fn meet(&mut self, item: &Item)
         requires client { HasRoom (2 ^ 60) self.old.credit.client.sum }
         requires server { HasRoom (2 ^ 60) self.old.credit.server.sum }
         ensures met { self.new ≡ conn_met self.old item.now }
         ensures little { MovesLittle item.now }
     {
-        self.credit.client.meet(change_of(Side::Client, item));
-        self.credit.server.meet(change_of(Side::Server, item));
+        self.count(&item.frame);
         self.opened.meet(opened_in(item));
-        self.promised.meet(promised_by(item));
-        self.latest.meet(item);
+        self.see_promise(item);
+        self.latest.meet_change(&item.change);
+    }
+
+    /// Takes the length of a frame, what it moves, and whether it grants 0.
+    fn count(&mut self, frame: &Frame)
+        requires client { HasRoom (2 ^ 60) self.old.credit.client.sum }
+        requires server { HasRoom (2 ^ 60) self.old.credit.server.sum }
+        ensures counted { self.new ≡ conn_counted self.old frame.now }
+        ensures little { HasRoom (2 ^ 32) (credit_moved Client frame.now)
+            × HasRoom (2 ^ 32) (credit_moved Server frame.now) }
+    {
+        self.latest.see(frame);
+        match frame.side {
+            Side::Client => take_moves(frame, &mut self.credit.client, &mut self.credit.server),
+            Side::Server => take_moves(frame, &mut self.credit.server, &mut self.credit.client),
+        }
+    }
+
+    /// Takes a promise of the server, if the item is one.
+    fn see_promise(&mut self, item: &Item)
+        ensures { self.new ≡ conn_promised self.old item.now }
+    {
+        if item.frame.is_server_promise() {
+            self.promised.meet(promised_by(item));
+            self.latest.promise(item.frame.body.promised());
+        }
     }
 }
 

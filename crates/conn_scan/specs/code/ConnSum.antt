@@ -1,13 +1,15 @@
 -- All that a list of items does to its connection.
 use Rattle.std.specs.Prelude.{max, unwrap_or, List, map}
 use Rattle.audit_terms.specs.declared.connections.ConnectionState.{ConnectionState}
+use Rattle.audit_terms.specs.declared.frames.Frame.{Frame}
 use Rattle.audit_terms.specs.declared.items.Item.{Item}
+use Rattle.audit_terms.specs.Connection.{credit_moved}
 use Rattle.audit_terms.specs.Sides.{side_of, each_side}
 pub use Rattle.conn_scan.specs.declared.sums.ConnSum.{ConnSum}
 use Rattle.conn_scan.specs.code.Credit.{change_of, credit_of, no_change, credit_join, credit_met, credit_advance}
 use Rattle.conn_scan.specs.code.Rising.{present, rising_of, no_identifier, rising_join, rising_met}
 use Rattle.conn_scan.specs.code.Ids.{opened_in, promised_by}
-use Rattle.conn_scan.specs.code.Latest.{latest_of, no_item, latest_join, latest_met}
+use Rattle.conn_scan.specs.code.Latest.{latest_of, no_item, latest_join, latest_seen, latest_marked, latest_met}
 
 -- the summary of some items: what they do to each side's credit, which streams they open, what they bring into force
 abbrev pub conn_sum_of : List Item → ConnSum
@@ -24,6 +26,20 @@ conn_none = record {
   opened = no_identifier;
   promised = no_identifier;
   latest = no_item;
+}
+
+-- a summary, and then the length of a frame, what it moves, and whether it grants 0
+abbrev pub conn_counted : ConnSum → Frame → ConnSum
+conn_counted a frame = record a {
+  credit = each_side (λ d. credit_met (side_of d a.credit) (credit_moved d frame));
+  latest = latest_seen a.latest frame;
+}
+
+-- a summary, and then a promise of the server, if the item is one
+abbrev pub conn_promised : ConnSum → Item → ConnSum
+conn_promised a item = record a {
+  promised = rising_met a.promised (promised_by item);
+  latest = latest_marked a.latest item.frame;
 }
 
 -- the items of a summary, and then one more

@@ -1,9 +1,11 @@
 -- What a list of signed changes does to the credit of a window (RFC 9113, 6.9).
-use Rattle.std.specs.Prelude.{ℤ, pos, ◌-◌, ◌*◌, ◌^◌, ◌≤◌, ◌+ℤ◌, int_lt, if◌then◌else◌, List, [], ◌∷◌}
+use Rattle.std.specs.Prelude.{ℤ, pos, ◌-◌, ◌*◌, ◌^◌, ◌≤◌, ◌+ℤ◌, ◌-ℤ◌, ◌==◌, int_lt, if◌then◌else◌, List, [], ◌∷◌}
 use Rattle.std.specs.Prelude.{length}
 use Rattle.std.specs.Int.{int_max, int_min}
 use Rattle.audit_terms.specs.declared.sides.Side.{Side}
+use Rattle.audit_terms.specs.declared.frames.Frame.{Frame}
 use Rattle.audit_terms.specs.declared.items.Item.{Item}
+use Rattle.audit_terms.specs.Frame.{is_content, increment}
 use Rattle.audit_terms.specs.Connection.{credit_moved}
 use Rattle.audit_terms.specs.code.Room.{HasRoom}
 use Rattle.conn_scan.specs.declared.credits.Credit.{Credit}
@@ -11,6 +13,14 @@ use Rattle.conn_scan.specs.declared.credits.Credit.{Credit}
 -- what an item moves the connection credit of side d by; 0 where it leaves the side untouched
 abbrev pub change_of : Side → Item → ℤ
 change_of d item = credit_moved d item.frame
+
+-- the same of the credit of a frame's sender, which its content takes from
+abbrev pub spent_by : Frame → ℤ
+spent_by frame = pos 0 -ℤ pos (if is_content frame.body then frame.length else 0)
+
+-- the same of the other side's, which its grant adds to
+abbrev pub granted_by : Frame → ℤ
+granted_by frame = pos (if frame.stream == 0 then increment frame.body else 0) -ℤ pos 0
 
 -- the changes, added up
 abbrev pub total : List ℤ → ℤ

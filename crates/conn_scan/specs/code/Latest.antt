@@ -117,11 +117,16 @@ no_item = record {
   barred_promise = false;
 }
 
--- a summary, and then the length of a frame, and what it grants and promises
+-- a summary, and then the length of a frame, and whether it grants 0
 abbrev pub latest_seen : Latest → Frame → Latest
 latest_seen a frame = record a {
   longest = each_side (λ d. max (side_of d a.longest) (length_by d frame));
   zero_grant = a.zero_grant || grants_zero frame;
+}
+
+-- a summary, and then a promise of the server, if the frame is one
+abbrev pub latest_marked : Latest → Frame → Latest
+latest_marked a frame = record a {
   odd_promise = a.odd_promise || promises_odd frame;
   early_promise = a.early_promise || (is_server_promise frame && is_none a.push);
   barred_promise = a.barred_promise || (is_server_promise frame && is_zero a.push);
@@ -145,7 +150,7 @@ latest_changed a change = record a {
 
 -- the items of a summary, and then one more
 abbrev pub latest_met : Latest → Item → Latest
-latest_met a item = latest_changed (latest_seen a item.frame) item.change
+latest_met a item = latest_changed (latest_marked (latest_seen a item.frame) item.frame) item.change
 
 -- the items of one summary, and then those of another
 abbrev pub latest_join : Latest → Latest → Latest
