@@ -57,7 +57,8 @@ returns g c =
       audits = subst (λ (cs : List Connection). AreAudited credits capture packets cs audited)
           c.as_slice-2.ensures.value by_packets;
       spelled = c.in_ok-text.ensures
-          ∙ ap (λ (l : List ℕ). l ++ sections_text c.frames_shown.result 1 c.as_slice-3.result.now c.as_slice-4.result.now)
+          ∙ ap (λ (l : List ℕ). l ++ sections_text c.frames_shown.result 1 c.as_slice-3.result.now
+          c.as_slice-4.result.now)
           c.in_ok-begun.ensures
           ∙ ap (λ (b : Bool). capture_text found c.in_ok-packets.packets strays
           ++ sections_text b 1 c.as_slice-3.result.now c.as_slice-4.result.now) c.frames_shown.ensures
