@@ -6,6 +6,7 @@ pub mod RoundParts
 pub mod RoundMerge
 pub mod RoundExamples
 pub mod NamedStreams
+pub mod Rising
 pub mod Visited
 pub mod Positions
 pub mod LaidOut

@@ -1,7 +1,6 @@
 -- The rows of the loud streams, laid out, are the split.
 use Rattle.std.proofs.Common.{◌≡◌, ◌≢◌, ℕ, ◌<◌, Bool, true, false, not, List, [], filter, flat_map, length, get_or}
 use Rattle.std.proofs.Common.{slice_get, Some, option_to_list, refl, sym, ap, ◌∙◌, subst, arith}
-use Rattle.std.proofs.lemmas.List.{get_or-map}
 use Rattle.std.proofs.lemmas.Option.{slice_get-get_or}
 use Rattle.audit_terms.specs.declared.frames.Frame.{Frame}
 use Rattle.audit_terms.specs.declared.items.Change.{Change}
@@ -16,22 +15,12 @@ use Rattle.split_merge.specs.code.Visits.{streams_in, notes_from, noted_position
 use Rattle.split_merge.specs.code.Visits.{NotAmong, AreDistinct, IsListed, HasRoomFor}
 use Rattle.split_merge.specs.code.Ahead.{AreHushed}
 use Rattle.split_merge.specs.code.Loud.{loud_of, opened_in, quiet_in, heard, AreCounted, IsLaid}
-use Rattle.split_merge.proofs.NamedStreams.{length-streams_in, found_among}
+use Rattle.split_merge.proofs.NamedStreams.{length-streams_in, found_among, stream-at}
 use Rattle.split_merge.proofs.Visited.{not_among-at, get-from_slice_get}
 use Rattle.split_merge.proofs.Positions.{noted-positions, frames_at-positions, positions-within}
 use Rattle.split_merge.proofs.LaidOut.{laid-streams, room-laid, filled-streams}
 use Rattle.split_merge.proofs.LoudStreams.{loud-streams, loud-not_among, loud-each, loud-filter, opened-filter}
 use Rattle.split_merge.proofs.LoudStreams.{quiet_in-at, heard-positions}
-
-stream-at : (rows : List StreamRow) (k : ℕ) (d : StreamRow) → k < length rows
-    → get_or (streams_in rows) k 0 ≡ (get_or rows k d).stream
-stream-at rows k d l = get_or-map (λ (row : StreamRow). row.stream) rows k d 0 l
-
-pub row-at : (rows : List StreamRow) (k : ℕ) (d : StreamRow) → k < length rows →
-    slice_get (streams_in rows) k ≡ Some (get_or rows k d).stream
-row-at rows k d l =
-    let n = length-streams_in rows in
-    slice_get-get_or (streams_in rows) k 0 (omega (arith, l, n)) ∙ ap Some (stream-at rows k d l)
 
 among-at : (rows : List StreamRow) (k : ℕ) → k < length rows → is_among (get_or (streams_in rows) k 0) (streams_in rows)
     ≡ true

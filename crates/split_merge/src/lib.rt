@@ -39,6 +39,7 @@ pub mod laws;
 mod lookup;
 mod loud;
 mod merging;
+mod row_index;
 mod splits;
 mod stalls;
 mod visits;

@@ -8,7 +8,7 @@ ghost use Rattle.split_merge.specs.code.Visits.{notes_from, streams_in, total_of
 
 use crate::loud::{Loud, place_of};
 use crate::visits::{Visits, finish};
-use audit_terms::Frame;
+use audit_terms::{Change, Frame};
 use std::alloc::{AllocError, Global};
 use stream_credit::Changes;
 use table_hash::TableHash;
@@ -48,7 +48,7 @@ pub fn split(
     alloc: Global,
     hash: TableHash,
     credits_shown: bool,
-    changes: &Changes<'_>,
+    changes: &[Change],
     frames: &[Frame],
 ) -> Result<SplitFrames, AllocError>
     requires length { length frames.now < 2 ^ 28 }
@@ -57,12 +57,13 @@ pub fn split(
     requires acknowledged { AreAcknowledged frames.now changes.now }
     ensures { IfOk result (IsSplit credits_shown changes.now frames.now) }
 {
-    let mut table = Visits::of(alloc, hash, credits_shown, changes, frames)?;
+    let changes = Changes::of(alloc, changes)?;
+    let mut table = Visits::of(alloc, hash, credits_shown, &changes, frames)?;
     finish(
         table.rows.as_slice(),
         &mut table.quiets,
         credits_shown,
-        changes,
+        &changes,
     );
     let loud = Loud::of(alloc, table.rows.as_slice(), table.quiets.as_slice())?;
     laid(alloc, loud, &mut table, frames)

@@ -12,9 +12,9 @@ ghost use Rattle.split_merge.specs.code.Visits.{streams_in, with_row, with_strea
 ghost use Rattle.split_merge.specs.code.Loud.{IsKept};
 ghost use Rattle.split_merge.specs.code.Ahead.{AreAhead, AreHushed, IsEnd, IsHushed, MeetsNext, with_next};
 
+use crate::row_index::RowIndex;
 use crate::splits::StreamRow;
 use audit_terms::{Finding, Frame};
-use indexmap::IndexSet;
 use std::alloc::{AllocError, Global};
 use stream_credit::{Changes, QuietStream};
 use table_hash::TableHash;
@@ -32,8 +32,8 @@ pub struct Visits {
     pub rows: Vec<StreamRow>,
     /// The stream of each row, for as long as nothing is shown of it.
     pub quiets: Vec<QuietStream>,
-    /// The streams of the rows, each at the index of its row.
-    pub index: IndexSet<u32, TableHash>,
+    /// Where the row of each stream stands.
+    pub index: RowIndex,
     /// Rows that were sought before, by the last bits of their streams' numbers: the streams of a connection are
     /// numbered one after the other, so that those of one time seldom share a place here.
     pub hints: Vec<u32>,
@@ -67,7 +67,7 @@ impl Visits {
         let mut table = Visits {
             rows,
             quiets,
-            index: IndexSet::with_hasher(alloc, hash),
+            index: RowIndex::new(alloc, hash),
             hints,
             last: 0,
         };
@@ -152,9 +152,9 @@ impl Visits {
             → AreAhead changes all rest (streams_in self.old.rows.items) self.old.quiets.items
             → AreAhead changes all rest (streams_in self.new.rows.items) self.new.quiets.items) }
     {
-        let (row, added) = self.index.insert_full(stream)?;
+        let (row, added) = self.index.insert(self.rows.as_slice(), stream)?;
         if !added {
-            return Ok(row as u32);
+            return Ok(row);
         }
         self.rows.push(StreamRow {
             stream,
@@ -162,7 +162,7 @@ impl Visits {
             to: 0,
         })?;
         self.quiets.push(unmet(credits_shown))?;
-        Ok(row as u32)
+        Ok(row)
     }
 
     /// The index of a stream's row, if it has one.
@@ -180,9 +180,9 @@ impl Visits {
         if is_row_of(self.rows.as_slice(), hint, stream) {
             return Some(hint);
         }
-        let (row, _) = self.index.get_full(&stream)?;
-        remember(&mut self.hints, stream, row as u32);
-        Some(row as u32)
+        let row = self.index.find(self.rows.as_slice(), stream)?;
+        remember(&mut self.hints, stream, row);
+        Some(row)
     }
 }
 

@@ -1,11 +1,10 @@
 -- What the table of streams says that a split fills as it walks over the frames.
-use Rattle.std.specs.Prelude.{◌≡◌, ◌≢◌, ℕ, ◌+◌, ◌<◌, ◌≤◌, ◌==◌, ◌||◌, if◌then◌else◌, Bool, List, [], ◌∷◌, ◌++◌, map}
-use Rattle.std.specs.Prelude.{filter, length, get_or}
+use Rattle.std.specs.Prelude.{◌≡◌, ◌≢◌, ℕ, ◌+◌, ◌<◌, ◌≤◌, ◌==◌, ◌||◌, if◌then◌else◌, Bool, true, false, List, [], ◌∷◌}
+use Rattle.std.specs.Prelude.{◌++◌, map, filter, length, get_or, slice_get, drop, Some}
 use Rattle.std.specs.List.{between, list_any}
-use Rattle.table_hash.specs.declared.TableHash.{TableHash}
-use Rattle.indexmap.specs.IndexSet.{IndexSet}
 use Rattle.audit_terms.specs.declared.frames.Frame.{Frame}
 use Rattle.audit_terms.specs.Frame.{promised_by}
+use Rattle.split_merge.specs.declared.row_index.RowIndex.{RowIndex}
 use Rattle.split_merge.specs.declared.splits.StreamRow.{StreamRow}
 use Rattle.split_merge.specs.declared.visits.Visits.{Visits}
 
@@ -54,11 +53,28 @@ is_among stream streams = list_any (λ other. stream == other) streams
 abbrev pub with_stream : ℕ → List ℕ → List ℕ
 with_stream stream streams = if (stream == 0) || is_among stream streams then streams else streams ++ stream ∷ []
 
--- the set has these streams in this order; 0 is none of them
-pub record IsIndex (streams : List ℕ) (index : IndexSet ℕ TableHash) : Type 0 where
+-- the index tells where each stream stands among these: those at the front rise, the others are in its table, in order;
+-- 0 is none of them
+pub record IsIndex (streams : List ℕ) (index : RowIndex) : Type 0 where
   pub distinct : AreDistinct streams
   pub above : NotAmong 0 streams
-  pub keys : index.keys ≡ streams
+  pub within : index.rising ≤ length streams
+  pub rises : (i j : ℕ) → i < j → j < index.rising → get_or streams i 0 < get_or streams j 0
+  pub others : index.others.keys ≡ drop index.rising streams
+
+-- the stream is above each of these
+abbrev pub AreBelow : (stream : ℕ) → List ℕ → Type 0
+AreBelow stream streams = (i : ℕ) → i < length streams → get_or streams i 0 < stream
+
+-- the stream is none of so many at the front
+abbrev pub NotBefore : (many stream : ℕ) → List ℕ → Type 0
+NotBefore many stream streams = (i : ℕ) → i < many → get_or streams i 0 ≢ stream
+
+-- where the stream stands among these, or, if it is new, is to stand behind them
+abbrev pub IsRowOf : (is_new : Bool) (stream row : ℕ) → List ℕ → RowIndex → Type 0
+IsRowOf false stream row streams index = (slice_get streams row ≡ Some stream) × IsIndex streams index
+IsRowOf true stream row streams index =
+    (row ≡ length streams) × NotAmong stream streams × IsIndex (streams ++ stream ∷ []) index
 
 -- the rows, and one of the stream where it has none
 abbrev pub with_row : (stream : ℕ) → List StreamRow → List StreamRow

@@ -13,7 +13,7 @@ pub laid-requires-clause-places : goal.laid-requires-clause-places
 laid-requires-clause-places c =
     let rows = c.in_ok-table.table.rows.items in
     let quiets = c.finish.new.quiets.items in
-    let changes = c.args.changes.now in
+    let changes = c.in_ok-changes.changes in
     let frames = c.args.frames.now in
     let hushed = subst (λ l. AreHushed c.args.credits_shown changes frames (streams_in l) quiets)
     c.as_slice.ensures.value
@@ -35,7 +35,7 @@ pub laid-requires-clause-total : goal.laid-requires-clause-total
 laid-requires-clause-total c =
     let rows = c.in_ok-table.table.rows.items in
     let quiets = c.finish.new.quiets.items in
-    let changes = c.args.changes.now in
+    let changes = c.in_ok-changes.changes in
     let frames = c.args.frames.now in
     let loud : c.in_ok-loud.loud.rows.items ≡ loud_of c.in_ok-table.table.rows.items c.finish.new.quiets.items =
     c.in_ok-loud.ensures.rows ∙ ap (λ l. loud_of l c.as_slice-3.result.now) c.as_slice-2.ensures.value
@@ -47,7 +47,7 @@ pub laid-requires-clause-counts : goal.laid-requires-clause-counts
 laid-requires-clause-counts c =
     let rows = c.in_ok-table.table.rows.items in
     let quiets = c.finish.new.quiets.items in
-    let changes = c.args.changes.now in
+    let changes = c.in_ok-changes.changes in
     let frames = c.args.frames.now in
     let loud : c.in_ok-loud.loud.rows.items ≡ loud_of c.in_ok-table.table.rows.items c.finish.new.quiets.items =
     c.in_ok-loud.ensures.rows ∙ ap (λ l. loud_of l c.as_slice-3.result.now) c.as_slice-2.ensures.value
@@ -59,7 +59,7 @@ pub laid-requires-clause-distinct : goal.laid-requires-clause-distinct
 laid-requires-clause-distinct c =
     let rows = c.in_ok-table.table.rows.items in
     let quiets = c.finish.new.quiets.items in
-    let changes = c.args.changes.now in
+    let changes = c.in_ok-changes.changes in
     let frames = c.args.frames.now in
     let loud : c.in_ok-loud.loud.rows.items ≡ loud_of c.in_ok-table.table.rows.items c.finish.new.quiets.items =
     c.in_ok-loud.ensures.rows ∙ ap (λ l. loud_of l c.as_slice-3.result.now) c.as_slice-2.ensures.value
@@ -76,7 +76,7 @@ pub returns : goal.returns
 returns c =
     let rows = c.in_ok-table.table.rows.items in
     let quiets = c.finish.new.quiets.items in
-    let changes = c.args.changes.now in
+    let changes = c.in_ok-changes.changes in
     let frames = c.args.frames.now in
     let hushed = subst (λ l. AreHushed c.args.credits_shown changes frames (streams_in l) quiets)
     c.as_slice.ensures.value
@@ -89,7 +89,8 @@ returns c =
     let opened : c.in_ok-loud.loud.opened.items ≡ opened_in c.finish.new.quiets.items =
     c.in_ok-loud.ensures.opened ∙ ap opened_in c.as_slice-3.ensures.value in
     let table = c.in_ok-table.ensures.table in
-    if-more (IsLaid c.in_ok-loud.loud.rows.items c.in_ok-loud.loud.opened.items
+    subst (λ l. IfOk c.laid.result (IsSplit c.args.credits_shown l frames)) c.in_ok-changes.ensures
+    (if-more (IsLaid c.in_ok-loud.loud.rows.items c.in_ok-loud.loud.opened.items
     (heard (streams_in c.in_ok-loud.loud.rows.items) (notes_from 0 frames)))
     (IsSplit c.args.credits_shown changes frames) c.laid.result
     (λ split is. split-is c.args.credits_shown changes frames rows quiets split c.in_ok-table.ensures.streams
@@ -99,4 +100,4 @@ returns c =
     (subst (λ o. IsLaid c.in_ok-loud.loud.rows.items o
     (heard (streams_in c.in_ok-loud.loud.rows.items) (notes_from 0 frames)) split)
     opened is)))
-    c.laid.ensures
+    c.laid.ensures)

@@ -3,9 +3,8 @@ use Rattle.audit_terms.specs.code.runs.Streams.{frames_of}
 use Rattle.stream_credit.specs.code.QuietStream.{IsAheadIfQuiet}
 use Rattle.split_merge.specs.declared.splits.StreamRow.{StreamRow}
 use Rattle.split_merge.specs.code.Visits.{streams_in}
-use Rattle.split_merge.proofs.NamedStreams.{length-streams_in}
+use Rattle.split_merge.proofs.NamedStreams.{length-streams_in, row-at}
 use Rattle.split_merge.proofs.Ahead.{ended-none, ended-more, ended-all}
-use Rattle.split_merge.proofs.SplitIs.{row-at}
 use Rattle.split_merge.proofs.visits.finish.Goals as goal
 
 pub loop-row-init : goal.loop-row-init
