@@ -14,6 +14,7 @@ pub mod Placed
 pub mod Ahead
 pub mod LoudStreams
 pub mod SplitIs
+pub mod LoudLaid
 pub mod GroupRanges
 pub mod ShownMerge
 pub mod RoundCuts

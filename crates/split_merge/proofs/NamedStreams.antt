@@ -5,7 +5,7 @@ use Rattle.std.proofs.Common.{append_assoc, true≢false}
 use Rattle.std.proofs.lemmas.List.{get_or-map}
 use Rattle.std.proofs.lemmas.Option.{slice_get-get_or}
 use Rattle.std.specs.List.{find}
-use Rattle.split_merge.specs.declared.splits.StreamRow.{StreamRow}
+use Rattle.split_merge.specs.declared.visits.Visited.{Visited}
 use borrow.Author.Tests.{eqb-true, eq-eqb}
 use Rattle.audit_terms.specs.Pass.{first_of}
 use Rattle.split_merge.specs.code.Visits.{NotAmong, AreDistinct, is_among, with_stream, streams_in}
@@ -183,20 +183,20 @@ pub distinct-append : (s : ℕ) (xs : List ℕ) → NotAmong s xs → AreDistinc
 distinct-append s [] n h = (tt, tt)
 distinct-append s (x ∷ xs) n h = (not_among-append x s xs h.0 (λ e. n.0 (sym e)), distinct-append s xs n.1 h.1)
 
-pub streams_in-push : (rows : List StreamRow) (row : StreamRow) → streams_in (rows ++ row ∷ []) ≡ streams_in rows
+pub streams_in-push : (rows : List Visited) (row : Visited) → streams_in (rows ++ row ∷ []) ≡ streams_in rows
     ++ row.stream ∷ []
 streams_in-push [] row = refl
 streams_in-push (x ∷ rows) row = ap (λ l. x.stream ∷ l) (streams_in-push rows row)
 
-pub length-streams_in : (rows : List StreamRow) → length (streams_in rows) ≡ length rows
+pub length-streams_in : (rows : List Visited) → length (streams_in rows) ≡ length rows
 length-streams_in [] = refl
 length-streams_in (x ∷ rows) = ap suc (length-streams_in rows)
 
-pub stream-at : (rows : List StreamRow) (k : ℕ) (d : StreamRow) → k < length rows
+pub stream-at : (rows : List Visited) (k : ℕ) (d : Visited) → k < length rows
     → get_or (streams_in rows) k 0 ≡ (get_or rows k d).stream
-stream-at rows k d l = get_or-map (λ (row : StreamRow). row.stream) rows k d 0 l
+stream-at rows k d l = get_or-map (λ (row : Visited). row.stream) rows k d 0 l
 
-pub row-at : (rows : List StreamRow) (k : ℕ) (d : StreamRow) → k < length rows →
+pub row-at : (rows : List Visited) (k : ℕ) (d : Visited) → k < length rows →
     slice_get (streams_in rows) k ≡ Some (get_or rows k d).stream
 row-at rows k d l =
     let n = length-streams_in rows in

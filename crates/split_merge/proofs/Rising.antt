@@ -16,7 +16,7 @@ use Rattle.std.specs.Ordering.{nat_cmp, ordering_index}
 use Rattle.std.specs.declared.cmp.Ordering.TheVariants.{Less, Equal, Greater}
 use Rattle.indexmap.specs.IndexSet.{insert_key}
 use Rattle.split_merge.specs.declared.row_index.RowIndex.{RowIndex}
-use Rattle.split_merge.specs.declared.splits.StreamRow.{StreamRow}
+use Rattle.split_merge.specs.declared.visits.Visited.{Visited}
 use Rattle.split_merge.specs.code.Visits.{NotAmong, AreBelow, IsIndex, IsRowOf, NotBefore, is_among, streams_in}
 use Rattle.split_merge.proofs.NamedStreams.{distinct-append, key-found, length-streams_in, none-from_test}
 use Rattle.split_merge.proofs.NamedStreams.{not_among-append, row-at, stream-at}
@@ -36,19 +36,19 @@ greater_apart a n e same = grind (arith, common_steps)
 ranks_rise : (a b n : ℕ) → a ≤ b → ordering_index (nat_cmp a n) ≤ ordering_index (nat_cmp b n)
 ranks_rise a b n le = grind (arith, common_steps)
 
-module _ (rows : List StreamRow) (many : ℕ) (m : many ≤ length rows) where
-  front-stream : (i : ℕ) (d : StreamRow) → i < many
+module _ (rows : List Visited) (many : ℕ) (m : many ≤ length rows) where
+  front-stream : (i : ℕ) (d : Visited) → i < many
       → (get_or (take many rows) i d).stream ≡ get_or (streams_in rows) i 0
   front-stream i d l =
-      ap (λ (row : StreamRow). row.stream) (get_or-take many rows i d l)
+      ap (λ (row : Visited). row.stream) (get_or-take many rows i d l)
       ∙ sym (stream-at rows i d (omega (arith, l, m)))
 
   -- what a search by halving answers, where it finds the stream
   pub row-from_front : (i stream : ℕ) → i < length (take many rows)
-      → ((e : StreamRow) → nat_cmp (get_or (take many rows) i e).stream stream ≡ Equal)
+      → ((e : Visited) → nat_cmp (get_or (take many rows) i e).stream stream ≡ Equal)
       → slice_get (streams_in rows) i ≡ Some stream
   row-from_front i stream l at =
-      let d : StreamRow = record { stream = 0; from = 0; to = 0 } in
+      let d : Visited = record { stream = 0; count = 0 } in
       let n = length-take-le many rows m in
       let w : i < many = omega (arith, l, n) in
       let k : i < length rows = omega (arith, w, m) in
@@ -56,7 +56,7 @@ module _ (rows : List StreamRow) (many : ℕ) (m : many ≤ length rows) where
       ∙ ap Some (sym (stream-at rows i d k) ∙ sym (front-stream i d w) ∙ equal_streams _ _ (at d))
 
   streams-rise : ((i j : ℕ) → i < j → j < many → get_or (streams_in rows) i 0 < get_or (streams_in rows) j 0)
-      → (i j : ℕ) (d : StreamRow) → i ≤ j → j < length (take many rows)
+      → (i j : ℕ) (d : Visited) → i ≤ j → j < length (take many rows)
       → (get_or (take many rows) i d).stream ≤ (get_or (take many rows) j d).stream
   streams-rise rises i j d le l = by_case (cases_lt i j) where
     w : j < many
@@ -76,12 +76,12 @@ module _ (rows : List StreamRow) (many : ℕ) (m : many ≤ length rows) where
   -- and where it does not
   pub none-from_front : (stream i : ℕ)
       → ((i j : ℕ) → i < j → j < many → get_or (streams_in rows) i 0 < get_or (streams_in rows) j 0)
-      → (IsNonDecreasingBy (λ (y : StreamRow). ordering_index (nat_cmp y.stream stream)) (take many rows)
-      → IsPartitionPoint (λ (y : StreamRow). nat_cmp y.stream stream ≡ Less)
-      (λ (y : StreamRow). nat_cmp y.stream stream ≡ Greater) (take many rows) i)
+      → (IsNonDecreasingBy (λ (y : Visited). ordering_index (nat_cmp y.stream stream)) (take many rows)
+      → IsPartitionPoint (λ (y : Visited). nat_cmp y.stream stream ≡ Less)
+      (λ (y : Visited). nat_cmp y.stream stream ≡ Greater) (take many rows) i)
       → NotBefore many stream (streams_in rows)
   none-from_front stream i rises at = λ k w.
-      let d : StreamRow = record { stream = 0; from = 0; to = 0 } in
+      let d : Visited = record { stream = 0; count = 0 } in
       let n = length-take-le many rows m in
       let l : k < length (take many rows) = omega (arith, w, n) in
       let parted = at (λ a b e le k. ranks_rise _ _ stream (streams-rise rises a b e le k)) in
@@ -95,7 +95,7 @@ on_true true P h = h refl
 on_true false P h = tt
 
 -- all rows rise, and the last is below the stream
-pub all-below : (rows : List StreamRow) (index : RowIndex) (stream : ℕ) (last : StreamRow)
+pub all-below : (rows : List Visited) (index : RowIndex) (stream : ℕ) (last : Visited)
     → IsIndex (streams_in rows) index → index.rising ≡ length rows → slice_get rows (length rows - 1) ≡ Some last
     → OnTrue (nat_lt last.stream stream) (AreBelow stream (streams_in rows))
 all-below rows index stream last is all at = on_true (nat_lt last.stream stream) _ below where
@@ -113,13 +113,13 @@ all-below rows index stream last is all at = on_true (nat_lt last.stream stream)
         let w : length rows - 1 < length rows = omega (arith, n, l) in
         let up = is.rises i (length rows - 1) p (omega (arith, w, all)) in
         let top = stream-at rows (length rows - 1) last w
-        ∙ ap (λ (row : StreamRow). row.stream) (get_or_from_slice_get rows (length rows - 1) last last at) in
+        ∙ ap (λ (row : Visited). row.stream) (get_or_from_slice_get rows (length rows - 1) last last at) in
         omega (arith, up, top, ltb-true last.stream stream e)
     by_case i l (inr p) =
         let w : length rows - 1 < length rows = omega (arith, n, l) in
         let same : length rows - 1 ≡ i = omega (arith, n, l, p) in
         let top = stream-at rows (length rows - 1) last w
-        ∙ ap (λ (row : StreamRow). row.stream) (get_or_from_slice_get rows (length rows - 1) last last at) in
+        ∙ ap (λ (row : Visited). row.stream) (get_or_from_slice_get rows (length rows - 1) last last at) in
         let here = ap (λ j. get_or (streams_in rows) j 0) same in
         omega (arith, here, top, ltb-true last.stream stream e)
 
@@ -295,7 +295,7 @@ row-above streams before after is stream row above all below e keys at =
     (at, new, index-front streams before after stream above is new e all below keys)
 
 -- which of both is told
-pub row-told : (is_new told : Bool) (stream row : ℕ) (rows seen : List StreamRow) (index : RowIndex) → seen ≡ rows
+pub row-told : (is_new told : Bool) (stream row : ℕ) (rows seen : List Visited) (index : RowIndex) → seen ≡ rows
     → is_new ≡ told → IsRowOf is_new stream row (streams_in seen) index
     → IsRowOf told stream row (streams_in rows) index
 row-told is_new told stream row rows seen index e f h =

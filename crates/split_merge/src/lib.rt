@@ -2,7 +2,8 @@
 //!
 //! - [`split`] tells the quiet streams from the others. Nothing is shown of a quiet one, and most are. Each is told in
 //!   one walk over all frames in order (`stream_credit::QuietStream`), and of it only the frame that opens it is
-//!   answered. Where credits are shown, no stream is quiet.
+//!   answered. Where credits are shown, no stream is quiet. As long as streams are met in order of their numbers, as
+//!   they have to be opened (5.1.1), the row of one is found by halving; the others stand in a table.
 //! - To each other stream [`split`] gives its frames, as positions in the list of all frames: one row for each, in
 //!   order of first frames, promises of it included. A second walk finds them, where there are such streams. [`groups`]
 //!   deals the rows out in consecutive ranges. Parts are ranges of one list of positions, so no frame is copied, and a
@@ -28,9 +29,10 @@
 //! They say nothing of progress, and of no thread: `job_crew` promises boards that threads leave. [`worked_examples`]
 //! and [`worked_rounds`] show splits, stalls, two workers with a stop that one sees, and steps that no worker may take.
 //!
-//! Wrong bodies that the prover refuses: a rest of streams left out, positions overwritten, a stream that is called
-//! quiet before its last changes, or where credits are shown, a frame looked up by its record, a withdrawn end, a cut
-//! at the first reported error. Tested by whole reports: that the calls succeed where there is memory.
+//! Wrong bodies that the prover refuses: a rest of streams left out, positions overwritten, rows in any order that are
+//! taken for rising ones, a stream that is called quiet before its last changes, or where credits are shown, a frame
+//! looked up by its record, a withdrawn end, a cut at the first reported error. Tested by whole reports: that the calls
+//! succeed where there is memory.
 #![tactic(auto)]
 
 mod ends;

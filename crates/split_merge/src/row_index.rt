@@ -4,7 +4,7 @@ ghost use Rattle.std.specs.Prelude.{◌≡◌, ◌≢◌, ◌+◌, ◌^◌, ◌<
 ghost use Rattle.std.specs.Bool.{OnTrue};
 ghost use Rattle.split_merge.specs.code.Visits.{AreBelow, IsIndex, IsRowOf, NotAmong, NotBefore, streams_in};
 
-use crate::splits::StreamRow;
+use crate::visits::Visited;
 use indexmap::IndexSet;
 use std::alloc::{AllocError, Global};
 use table_hash::TableHash;
@@ -32,7 +32,7 @@ impl RowIndex {
     }
 
     /// Where the row of a stream stands among these, if it has one.
-    pub fn find(&self, rows: &[StreamRow], stream: u32) -> Option<u32>
+    pub fn find(&self, rows: &[Visited], stream: u32) -> Option<u32>
         requires index { IsIndex (streams_in rows.now) self.now }
         requires room { length rows.now < 2 ^ 31 }
         ensures { MatchOption result (NotAmong stream (streams_in rows.now))
@@ -46,7 +46,7 @@ impl RowIndex {
     }
 
     /// Where the row of a stream stands among these, or is to be added behind them: then the second value is true.
-    pub fn insert(&mut self, rows: &[StreamRow], stream: u32) -> Result<(u32, bool), AllocError>
+    pub fn insert(&mut self, rows: &[Visited], stream: u32) -> Result<(u32, bool), AllocError>
         requires index { IsIndex (streams_in rows.now) self.old }
         requires room { length rows.now < 2 ^ 31 }
         requires above { stream ≢ 0 }
@@ -64,7 +64,7 @@ impl RowIndex {
     }
 
     /// Do the streams of all rows rise, up to below this one?
-    fn is_above(&self, rows: &[StreamRow], stream: u32) -> bool
+    fn is_above(&self, rows: &[Visited], stream: u32) -> bool
         requires { IsIndex (streams_in rows.now) self.now }
         ensures rising { OnTrue result (self.now.rising ≡ length rows.now) }
         ensures above { OnTrue result (AreBelow stream (streams_in rows.now)) }
@@ -79,7 +79,7 @@ impl RowIndex {
     }
 
     /// Where the row of a stream stands among those at the front.
-    fn rising_row(&self, rows: &[StreamRow], stream: u32) -> Option<u32>
+    fn rising_row(&self, rows: &[Visited], stream: u32) -> Option<u32>
         requires index { IsIndex (streams_in rows.now) self.now }
         requires room { length rows.now < 2 ^ 31 }
         ensures { MatchOption result (NotBefore self.now.rising stream (streams_in rows.now))

@@ -13,7 +13,6 @@ ghost use Rattle.split_merge.specs.code.Loud.{IsKept};
 ghost use Rattle.split_merge.specs.code.Ahead.{AreAhead, AreHushed, IsEnd, IsHushed, MeetsNext, with_next};
 
 use crate::row_index::RowIndex;
-use crate::splits::StreamRow;
 use audit_terms::{Finding, Frame};
 use std::alloc::{AllocError, Global};
 use stream_credit::{Changes, QuietStream};
@@ -25,11 +24,18 @@ const HINTS: usize = 1024;
 /// Of so many frames and more rows are remembered.
 const MANY: usize = 128;
 
+/// A stream, and of how many frames it is so far: it visits each frame that it meets.
+#[derive(Clone, Copy)]
+pub struct Visited {
+    pub stream: u32,
+    pub count: u32,
+}
+
 /// The streams that meet the frames seen so far, in order of their first frames.
 #[derive(Drop)]
 pub struct Visits {
-    /// A row for each stream, whose range is as long as the stream's visits are many.
-    pub rows: Vec<StreamRow>,
+    /// A row for each stream.
+    pub rows: Vec<Visited>,
     /// The stream of each row, for as long as nothing is shown of it.
     pub quiets: Vec<QuietStream>,
     /// Where the row of each stream stands.
@@ -156,11 +162,7 @@ impl Visits {
         if !added {
             return Ok(row);
         }
-        self.rows.push(StreamRow {
-            stream,
-            from: 0,
-            to: 0,
-        })?;
+        self.rows.push(Visited { stream, count: 0 })?;
         self.quiets.push(unmet(credits_shown))?;
         Ok(row)
     }
@@ -200,7 +202,7 @@ fn unmet(credits_shown: bool) -> QuietStream
 
 /// The streams of the rows after the changes behind their last frames: each that is still quiet shows nothing.
 pub fn finish(
-    rows: &[StreamRow],
+    rows: &[Visited],
     quiets: &mut Vec<QuietStream>,
     credits_shown: bool,
     changes: &Changes<'_>,
@@ -255,7 +257,7 @@ fn remember(hints: &mut [u32], stream: u32, row: u32) {
 }
 
 /// Is the row at this index the stream's?
-fn is_row_of(rows: &[StreamRow], row: u32, stream: u32) -> bool
+fn is_row_of(rows: &[Visited], row: u32, stream: u32) -> bool
     ensures { OnTrue result (slice_get (streams_in rows.now) row ≡ Some stream) }
 {
     match rows.get(row as usize) {
@@ -265,9 +267,9 @@ fn is_row_of(rows: &[StreamRow], row: u32, stream: u32) -> bool
 }
 
 /// Counts one visit more.
-fn count(row: &mut StreamRow)
-    requires { row.old.to < 2 ^ 31 }
+fn count(row: &mut Visited)
+    requires { row.old.count < 2 ^ 31 }
     ensures { row.new ≡ counted row.old }
 {
-    row.to += 1;
+    row.count += 1;
 }
