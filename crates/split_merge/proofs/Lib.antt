@@ -1,5 +1,6 @@
 mod Numbered
 pub mod NamedStreams
+pub mod Rising
 pub mod Visited
 pub mod Positions
 pub mod LaidOut
@@ -7,5 +8,6 @@ pub mod Placed
 pub mod Ahead
 pub mod LoudStreams
 pub mod SplitIs
+pub mod LoudLaid
 pub mod GroupRanges
 pub mod ShownMerge

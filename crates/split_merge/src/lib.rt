@@ -2,7 +2,8 @@
 //!
 //! - [`split`] tells the quiet streams from the others. Nothing is shown of a quiet one, and most are. Each is told in
 //!   one walk over all frames in order (`stream_credit::QuietStream`), and of it only the frame that opens it is
-//!   answered. Where credits are shown, no stream is quiet.
+//!   answered. Where credits are shown, no stream is quiet. As long as streams are met in order of their numbers, as
+//!   they have to be opened (5.1.1), the row of one is found by halving; the others stand in a table.
 //! - To each other stream [`split`] gives its frames, as positions in the list of all frames: one row for each, in
 //!   order of first frames, promises of it included. A second walk finds them, where there are such streams. [`groups`]
 //!   deals the rows out in consecutive ranges. Parts are ranges of one list of positions, so no frame is copied, and a
@@ -12,14 +13,15 @@
 //!
 //! [`worked_examples`] shows splits, quiet streams, groups, and where a merge ends.
 //!
-//! Wrong bodies that the prover refuses: a rest of streams left out, positions overwritten, a stream that is called
-//! quiet before its last changes, or where credits are shown, a cut at the first reported error. Tested by whole
-//! reports: that the calls succeed where there is memory.
+//! Wrong bodies that the prover refuses: a rest of streams left out, positions overwritten, rows in any order that are
+//! taken for rising ones, a stream that is called quiet before its last changes, or where credits are shown, a cut at
+//! the first reported error. Tested by whole reports: that the calls succeed where there is memory.
 #![tactic(auto)]
 
 mod grouping;
 mod loud;
 mod merging;
+mod row_index;
 mod splits;
 mod visits;
 pub mod worked_examples;
