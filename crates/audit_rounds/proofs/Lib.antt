@@ -20,6 +20,7 @@ pub mod Settles
 pub mod StreamJobs
 pub mod StreamPlan
 pub mod Few
+pub mod Frameless
 pub mod StreamReady
 pub mod Openers
 pub mod Ordered
