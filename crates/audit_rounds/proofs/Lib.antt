@@ -22,6 +22,7 @@ pub mod StreamWork
 pub mod StreamJobs
 pub mod StreamPlan
 pub mod Few
+pub mod Frameless
 pub mod StreamReady
 pub mod Openers
 pub mod Ordered

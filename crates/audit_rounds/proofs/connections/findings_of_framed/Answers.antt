@@ -5,7 +5,7 @@ use Rattle.audit_rounds.specs.code.Few.{PreparedAreFew}
 use Rattle.audit_rounds.proofs.Few.{few-ready}
 use Rattle.audit_rounds.proofs.Fronts.{passes-same}
 use Rattle.audit_rounds.proofs.Whole.{if_ok-then}
-use Rattle.audit_rounds.proofs.connections.findings_of_batch.Goals as goal
+use Rattle.audit_rounds.proofs.connections.findings_of_framed.Goals as goal
 
 pub findings_of_prepared-requires-clause-prepared : goal.findings_of_prepared-requires-clause-prepared
 findings_of_prepared-requires-clause-prepared g c κs within =
