@@ -1,5 +1,5 @@
 #!/usr/bin/python3
-"""Tests of the sources in Python and in shell: the types of all Python, and the length of lines.
+"""Tests of all sources: the types of Python, and the length of lines.
 
     tools/tests/sources_test.py [Lines | Types]
 
@@ -16,6 +16,8 @@ TOP = pathlib.Path(__file__).resolve().parents[2]
 FOLDERS = (".ci", "bench", "tests", "tools")
 LONGEST = 120
 SHELL, PYTHON = re.compile(rb"#!.*sh\b"), re.compile(rb"#!.*python3?\b")
+# A name that the toolchain makes of those of several functions, a list of tactics, and the rows of a table.
+WHOLE = re.compile(r"use \S+ as goal|#!\[tactic\(.*|    (∷ )?\((not|nat_lt|if|20 ≤) .*\)")
 
 
 def sources(ending: str, first_line: re.Pattern[bytes]) -> list[pathlib.Path]:
@@ -35,6 +37,17 @@ class Lines(unittest.TestCase):
             for file in sources(".py", PYTHON) + sources(".sh", SHELL)
             for number, line in enumerate(file.read_text(encoding="utf-8").splitlines(), 1)
             if len(line) > LONGEST
+        ]
+        self.assertEqual(too_long, [], f"more than {LONGEST} characters")
+
+    def test_length_in_crates(self) -> None:
+        files = [file for ending in ("rt", "antt") for file in sorted((TOP / "crates").glob(f"*/[!o]*/**/*.{ending}"))]
+        self.assertGreater(len(files), 500)
+        too_long = [
+            f"{file.relative_to(TOP)}:{number}"
+            for file in files
+            for number, line in enumerate(file.read_text(encoding="utf-8").splitlines(), 1)
+            if len(line) > LONGEST and not WHOLE.fullmatch(line)
         ]
         self.assertEqual(too_long, [], f"more than {LONGEST} characters")
 

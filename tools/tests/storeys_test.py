@@ -64,7 +64,8 @@ class Storeys(unittest.TestCase):
         crates = set()
         for file in CRATES.glob("*/src/laws.rt"):
             crates |= {crate for crate, room, path in cited(file) if room == "specs" and storey(path) == 1}
-        (said,) = re.findall(r"law by which code is proved has[^(.]*\(([^)]*)\)", ARCHITECTURE)
+        text = " ".join(ARCHITECTURE.split())
+        (said,) = re.findall(r"the law by which code is proved has[^(.]*\(([^)]*)\)", text)
         self.assertEqual(crates, set(re.findall(r"of `(\w+)`", said)))
 
     def rests(self, file: pathlib.Path, highest: int) -> None:

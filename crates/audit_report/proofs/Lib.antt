@@ -1,2 +1,4 @@
 pub mod Joins
 pub mod Pairs
+pub mod FrameNumbers
+pub mod Sweep

@@ -8,7 +8,7 @@ use Rattle.audit_terms.specs.declared.frames.Frame.{Frame}
 use Rattle.audit_terms.specs.Kind.{kind_name, is_credit}
 use Rattle.audit_terms.specs.Place.{place_number, place_stream}
 use Rattle.audit_terms.specs.Side.{side_name}
-use Rattle.split_merge.specs.FrameLookup.{frame_numbered, nanos_at}
+use Rattle.audit_report.specs.FrameLookup.{frame_numbered, nanos_at}
 
 -- the record at which the last byte of the frame of this number arrived; 0 where there is no such frame
 abbrev pub record_at : List Frame → ℕ → ℕ

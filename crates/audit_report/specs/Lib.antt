@@ -6,10 +6,13 @@ pub mod EndLine
 pub mod Endpoint
 pub mod FindingLine
 pub mod FlowLine
+pub mod FrameLookup
 pub mod Line
 pub mod RecordLines
 pub mod ReportText
 pub mod Section
 pub mod StallLine
+pub mod Stalls
 pub mod UnopenedLines
 pub mod code
+pub mod examples

@@ -12,7 +12,7 @@ use Rattle.audit_terms.specs.declared.sides.Side.TheVariants.{Client, Server}
 use Rattle.audit_terms.specs.declared.sides.Sides.{Sides}
 use Rattle.h2_frames.specs.declared.connections.Cut.{Cut}
 use Rattle.h2_frames.specs.declared.connections.Cut.TheVariants.{Http2}
-use Rattle.split_merge.specs.Stalls.{stalls}
+use Rattle.audit_report.specs.Stalls.{stalls}
 use Rattle.tcp_streams.specs.declared.members.Connection.{Connection}
 
 -- the lines of the connection and of its two flows

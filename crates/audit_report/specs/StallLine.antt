@@ -4,7 +4,7 @@ use Rattle.std.specs.Fmt.{signed_decimal}
 use Rattle.std.specs.List.{flat_map}
 use Rattle.audit_report.specs.Line.{line, field}
 use Rattle.audit_terms.specs.Side.{side_name}
-use Rattle.split_merge.specs.declared.stalls.Stall.{Stall}
+use Rattle.audit_report.specs.declared.stalls.Stall.{Stall}
 
 -- ` to M nanos D`, or ` open` where the stall does not end
 abbrev pub stall_end_text : Option ℕ → ℤ → List ℕ

@@ -16,22 +16,23 @@ use tcp_streams::Stray;
 
 /// What the report says of the capture itself: the capture line, then a line for each fragment, each refused packet,
 /// the record that the capture's end cuts, and each pair of endpoints whose opening was not captured.
+///
+/// No other line tells of records and strays, so they are taken, and their memory is free from here on.
 pub fn capture_lines(
     alloc: Global,
-    records: &Records,
+    records: Records,
     packets: &Packets<'_>,
-    strays: &[Stray],
-) -> Result<Vec<u8>, AllocError>
-    ensures { IfOk result (λ text. text.items ≡ capture_text records.now packets.now strays.now) }
+    strays: Vec<Stray>,
+) -> Result<String, AllocError>
+    ensures { IfOk result (λ text. string_bytes text ≡ capture_text records packets.now strays.items) }
 {
     let mut out = String::new(alloc);
-    push_capture_text(&mut out, records, packets, strays)?;
-    Ok(out.into_bytes())
+    push_capture_text(&mut out, &records, packets, strays.as_slice())?;
+    Ok(out)
 }
 
-/// Adds the same to a text.
 #[tactic(auto, using(crate::proofs::Joins::joins))]
-pub fn push_capture_text(
+fn push_capture_text(
     out: &mut String,
     records: &Records,
     packets: &Packets<'_>,

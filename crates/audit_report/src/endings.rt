@@ -4,9 +4,9 @@ ghost use Rattle.audit_report.specs.Line.{field, line};
 ghost use Rattle.audit_report.specs.StallLine.{stall_end_text, stall_line, stall_lines};
 ghost use Rattle.audit_report.specs.EndLine.{end_line_after, end_line};
 
+use crate::stalls::Stall;
 use crate::words::{push_field, push_signed, push_word};
 use audit_terms::Finding;
-use split_merge::Stall;
 use std::alloc::AllocError;
 
 /// Adds a line for each stall, in order.

@@ -1,13 +1,13 @@
 ghost use Rattle.std.specs.Prelude.{◌≡◌, ◌++◌, OnOk, IfOk};
 ghost use Rattle.std.specs.String.{string_bytes};
 ghost use Rattle.audit_terms.specs.code.runs.Orderly.{IsOrderly};
-ghost use Rattle.split_merge.specs.FrameLookup.{frame_numbered};
+ghost use Rattle.audit_report.specs.FrameLookup.{frame_numbered};
 ghost use Rattle.audit_report.specs.FindingLine.{finding_line, shown_line, finding_lines};
 ghost use Rattle.audit_report.specs.code.Findings.{moment_text, said_text};
 
+use crate::lookup::frame_at;
 use crate::words::{push_field, push_signed, push_word};
 use audit_terms::{Finding, Frame};
-use split_merge::frame_at;
 use std::alloc::{AllocError, Global};
 
 /// The line of a finding, with the record and the time of its frame, which is found among the frames by its number. For

@@ -4,6 +4,9 @@
 //!   for each connection, with its findings, the stalls that they tell of, and how its audit ended.
 //! - [`capture_lines`], [`connection_lines`] and [`finding_line`] are parts of it, each by a definition of its own in
 //!   `specs/`; `specs/Line.antt` and `specs/Endpoint.antt` say how a line is spelled.
+//! - [`stall_pairs`] and [`frame_at`] say which stalls findings tell of, and which frame each of them is about. The
+//!   definition (`specs/Stalls.antt`) looks forward from each beginning for the first end of the same side and stream;
+//!   the code goes over the list once, from the back, with the nearest end of each window in a table.
 //! - [`Audited`] is what a report needs of a connection. Of a flow that is its [`Extent`], length and gap: its bytes
 //!   are gone once its frames are cut.
 //!
@@ -15,9 +18,12 @@
 //! frame is not there would have record 0 and time 0, which no report meets. A finding's frame is looked for at its own
 //! number first, since frame n stands at n - 1, then by halving; lines go onto one growing text.
 //!
-//! Wrong bodies that the prover refuses: the cut record left out, tails exchanged, a sign left out, no connections.
-//! Tested, in `crate_tests`: that each call succeeds where there is memory, on a snapped capture with a gap, a negative
-//! window, and one packet of each kind. Trusted: std's statement of what `write!` of a number writes.
+//! [`worked_examples`] shows stalls: of both sides, of several windows, without an end, by a clock that went back.
+//!
+//! Wrong bodies that the prover refuses: the cut record left out, tails exchanged, a sign left out, no connections, a
+//! frame looked up by its record, an end of a stall that was withdrawn. Tested, in `crate_tests`: that each call of the
+//! text succeeds where there is memory, on a snapped capture with a gap, a negative window, and one packet of each
+//! kind. Trusted: std's statement of what `write!` of a number writes.
 #![tactic(auto)]
 
 mod audited;
@@ -25,17 +31,23 @@ mod capture;
 mod connections;
 mod endings;
 mod endpoints;
+mod ends;
 mod extents;
 mod findings;
+mod lookup;
 mod numbered;
 mod reports;
+mod stalls;
 mod tally;
 mod unopened;
 mod words;
+pub mod worked_examples;
 
 pub use audited::Audited;
 pub use capture::capture_lines;
 pub use connections::connection_lines;
 pub use extents::Extent;
 pub use findings::finding_line;
+pub use lookup::frame_at;
 pub use reports::report;
+pub use stalls::{Stall, stall_pairs};

@@ -6,41 +6,36 @@ ghost use Rattle.audit_report.specs.EndLine.{end_line};
 ghost use Rattle.audit_report.specs.FindingLine.{finding_lines};
 ghost use Rattle.audit_report.specs.Section.{connection_text, findings_text, sections_text};
 ghost use Rattle.audit_report.specs.StallLine.{stall_lines};
-ghost use Rattle.split_merge.specs.Stalls.{stalls};
-ghost use Rattle.audit_report.specs.ReportText.{report_text};
+ghost use Rattle.audit_report.specs.Stalls.{stalls};
 ghost use Rattle.audit_report.specs.declared.audited.Audited.{Audited};
 
 use crate::audited::Audited;
-use crate::capture::push_capture_text;
 use crate::connections::push_connection_text;
 use crate::endings::{push_end_line, push_stall_lines};
 use crate::findings::push_finding_lines;
+use crate::stalls::stall_pairs;
 use audit_terms::{Finding, Frame};
 use h2_frames::Cut;
-use packet_heads::Packets;
-use pcap_records::Records;
-use split_merge::stall_pairs;
 use std::alloc::{AllocError, Global};
-use tcp_streams::{Connection, Connections};
+use tcp_streams::Connection;
 
-/// The whole report: the capture's lines, and then those of each connection, in order of opening. `audited` has what
-/// was found in each of them, in the same order. Credits are told only with `frames_shown`.
+/// The whole report: behind the capture's lines, as [`crate::capture_lines`] gives them, those of each connection, in
+/// order of opening. `audited` has what was found in each of them, in the same order. Credits are told only with
+/// `frames_shown`.
 pub fn report(
     alloc: Global,
-    records: &Records,
-    packets: &Packets<'_>,
-    connections: &Connections,
+    capture_lines: String,
+    connections: &[Connection],
     audited: &[Audited],
     frames_shown: bool,
 ) -> Result<Vec<u8>, AllocError>
-    requires each { length audited.now ≡ length connections.now.opened.items }
+    requires each { length audited.now ≡ length connections.now }
     requires orderly { All (λ (a : Audited). HasOrderlyFrames a.cut) audited.now }
-    ensures { IfOk result (λ text. text.items ≡ report_text records.now packets.now connections.now.strays.items
-        connections.now.opened.items audited.now frames_shown) }
+    ensures { IfOk result (λ text. text.items
+        ≡ string_bytes capture_lines ++ sections_text frames_shown 1 connections.now audited.now) }
 {
-    let mut out = String::new(alloc);
-    push_capture_text(&mut out, records, packets, &connections.strays)?;
-    push_sections(alloc, &mut out, &connections.opened, audited, frames_shown)?;
+    let mut out = capture_lines;
+    push_sections(alloc, &mut out, connections, audited, frames_shown)?;
     Ok(out.into_bytes())
 }
 

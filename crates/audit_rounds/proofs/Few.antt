@@ -15,7 +15,7 @@ use Rattle.audit_terms.specs.code.runs.Look.{is_past}
 use Rattle.conn_scan.specs.declared.block_items.Block.{Block}
 use Rattle.split_merge.specs.declared.splits.SplitFrames.{SplitFrames}
 use Rattle.split_merge.specs.code.Groups.{groups, group_at}
-use Rattle.stream_groups.specs.declared.streams.Streams.{Streams}
+use Rattle.audit_rounds.specs.declared.streams.Streams.{Streams}
 use Rattle.audit_rounds.specs.code.Within.{frames_within}
 use Rattle.audit_rounds.specs.declared.prepared.Prepared.{Prepared}
 use Rattle.audit_rounds.specs.code.Connections.{AreRests}

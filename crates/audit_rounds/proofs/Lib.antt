@@ -17,9 +17,12 @@ pub mod Plans
 pub mod Jobs
 pub mod Clears
 pub mod Settles
+pub mod StreamOrder
+pub mod StreamWork
 pub mod StreamJobs
 pub mod StreamPlan
 pub mod Few
+pub mod Frameless
 pub mod StreamReady
 pub mod Openers
 pub mod Ordered

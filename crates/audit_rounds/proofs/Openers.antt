@@ -8,9 +8,9 @@ use Rattle.std.proofs.lemmas.List.Elements.{Contains-append_left, Contains-appen
 use Rattle.audit_core.proofs.OrderlyRest.{drop-next}
 use Rattle.audit_terms.specs.declared.findings.Finding.{Finding}
 use Rattle.audit_terms.specs.Finding.{stops}
-use Rattle.split_merge.specs.code.Board.{StopsAt}
-use Rattle.split_merge.proofs.RoundMembers.{contains-none, contains-cases}
-use Rattle.stream_groups.specs.code.Streams.{lesser}
+use Rattle.job_crew.specs.code.Board.{StopsAt}
+use Rattle.job_crew.proofs.RoundMembers.{contains-none, contains-cases}
+use Rattle.audit_rounds.specs.code.Streams.{lesser}
 use Rattle.audit_terms.specs.declared.items.Change.{Change}
 use Rattle.audit_rounds.specs.declared.prepared.Prepared.{Prepared}
 use Rattle.audit_rounds.specs.code.StreamRound.{IsFirstStop, changes_in}

@@ -11,8 +11,8 @@ use Rattle.conn_scan.specs.code.Items.{items_in, IsBlock}
 use Rattle.conn_scan.specs.code.Block.{BlockFits}
 use Rattle.conn_scan.specs.declared.sums.ConnSum.{ConnSum}
 use Rattle.stop_desk.specs.code.Stop.{IsStop}
-use Rattle.split_merge.specs.code.Board.{Job, IsLeast, StopsAt, findings_of_parts}
-use Rattle.split_merge.proofs.RoundMerge.{board_merges_lem}
+use Rattle.job_crew.specs.code.Board.{Job, IsLeast, StopsAt, findings_of_parts}
+use Rattle.job_crew.proofs.RoundMerge.{board_merges_lem}
 use Rattle.job_crew.specs.declared.parts.Part.{Part}
 use Rattle.job_crew.specs.declared.settling.Settled.{Settled}
 use Rattle.job_crew.specs.code.Laid.{part_of}

@@ -7,10 +7,10 @@ use Rattle.std.specs.Option.{option_map_or}
 use Rattle.audit_terms.specs.declared.findings.Finding.{Finding}
 use Rattle.audit_terms.specs.code.runs.Look.{Asked}
 use Rattle.split_merge.specs.declared.splits.StreamRow.{StreamRow}
-use Rattle.split_merge.specs.code.Board.{Job, IsCut}
-use Rattle.stream_groups.specs.declared.streams.Streams.{Streams}
+use Rattle.job_crew.specs.code.Board.{Job, IsCut}
+use Rattle.audit_rounds.specs.declared.streams.Streams.{Streams}
 use Rattle.audit_rounds.specs.declared.stream_plan.StreamJob.{StreamJob}
-use Rattle.stream_groups.specs.code.Streams.{IsRow, AreOpenedUpTo, RowsLook, rows_shown, rows_opened}
+use Rattle.audit_rounds.specs.code.Streams.{IsRow, AreOpenedUpTo, RowsLook, rows_shown, rows_opened}
 use Rattle.audit_rounds.specs.code.StreamJobs.{IsReady, JobLooks, Makes, job_of, of_rows}
 use Rattle.audit_rounds.proofs.Jobs.{job-is}
 

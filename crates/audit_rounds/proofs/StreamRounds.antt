@@ -29,18 +29,18 @@ use Rattle.audit_core.proofs.PassOrder.{AreStreams as Are31Bits, streams-streams
 use Rattle.settings_pair.specs.code.Changes.{AreOrderly, AreAcknowledged}
 use Rattle.split_merge.specs.declared.splits.SplitFrames.{SplitFrames}
 use Rattle.split_merge.specs.declared.splits.StreamRow.{StreamRow}
-use Rattle.split_merge.specs.code.Board.{Job, findings_of_jobs}
+use Rattle.job_crew.specs.code.Board.{Job, findings_of_jobs}
 use Rattle.split_merge.specs.code.Groups.{groups, AreConsecutive}
 use Rattle.split_merge.specs.code.Split.{IsSplit, frames_at, opening_of, part_of}
 use Rattle.split_merge.proofs.GroupRanges.{groups-consecutive, groups-joined}
 use Rattle.stop_desk.specs.code.Stop.{IsPlace, IsStop, past_places}
 use Rattle.audit_rounds.specs.declared.prepared.Prepared.{Prepared}
-use Rattle.stream_groups.specs.declared.streams.Streams.{Streams}
+use Rattle.audit_rounds.specs.declared.streams.Streams.{Streams}
 use Rattle.audit_rounds.specs.declared.stream_plan.StreamJob.{StreamJob}
 use Rattle.audit_rounds.specs.code.Prepared.{IsPrepared, found_before}
 use Rattle.audit_rounds.specs.code.StreamJobs.{IsReady, IsJobOf, job_of, job_at, of_rows, plan_from}
 use Rattle.audit_rounds.specs.code.StreamRound.{IsFirstStop, IsStreamsOf}
-use Rattle.stream_groups.specs.code.Streams.{IsRow, row_frames, rows_opened, shown_of}
+use Rattle.audit_rounds.specs.code.Streams.{IsRow, row_frames, rows_opened, shown_of}
 use Rattle.audit_rounds.specs.code.Openings.{openings_of}
 use Rattle.audit_rounds.specs.code.Shown.{streams_shown}
 use Rattle.audit_rounds.specs.code.Within.{AgreeWithin}

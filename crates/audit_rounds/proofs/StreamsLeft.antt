@@ -9,14 +9,14 @@ use Rattle.std.proofs.lemmas.Slice.Zip.{AllZip-long}
 use Rattle.audit_terms.specs.declared.findings.Finding.{Finding}
 use Rattle.audit_terms.specs.Finding.{in_order, upto_stop}
 use Rattle.audit_terms.specs.Pass.{streams_of}
-use Rattle.split_merge.specs.code.Board.{Job, StopsAt, IsLeast, stop_of, findings_of_jobs, findings_of_parts}
-use Rattle.split_merge.specs.laws.Rounds.{Merges}
-use Rattle.split_merge.proofs.RoundMerge.{board_merges_lem}
+use Rattle.job_crew.specs.code.Board.{Job, StopsAt, IsLeast, stop_of, findings_of_jobs, findings_of_parts}
+use Rattle.job_crew.specs.laws.Rounds.{Merges}
+use Rattle.job_crew.proofs.RoundMerge.{board_merges_lem}
 use Rattle.job_crew.specs.declared.parts.Part.{Part}
 use Rattle.job_crew.specs.declared.settling.Settled.{Settled}
 use Rattle.job_crew.specs.code.Laid.{part_of, board_with}
 use Rattle.audit_rounds.specs.declared.prepared.Prepared.{Prepared}
-use Rattle.stream_groups.specs.declared.streams.Streams.{Streams}
+use Rattle.audit_rounds.specs.declared.streams.Streams.{Streams}
 use Rattle.audit_rounds.specs.declared.stream_plan.StreamJob.{StreamJob}
 use Rattle.audit_rounds.specs.code.Openings.{openings_of}
 use Rattle.audit_rounds.specs.code.Shown.{streams_shown}
@@ -27,7 +27,7 @@ use Rattle.audit_rounds.specs.code.Opened.{numbers_told, IsInOrder}
 use Rattle.audit_rounds.specs.code.Prepared.{IsPrepared, found_before}
 use Rattle.audit_rounds.specs.code.StreamJobs.{job_of, of_rows, plan_from}
 use Rattle.audit_rounds.specs.code.StreamRound.{IsFirstStop, IsStreamsOf}
-use Rattle.stream_groups.specs.code.Streams.{rows_opened}
+use Rattle.audit_rounds.specs.code.Streams.{rows_opened}
 use Rattle.audit_rounds.proofs.Jobs.{job-is}
 use Rattle.audit_rounds.proofs.Settles.{parts-within}
 use Rattle.audit_rounds.proofs.StreamRounds.{jobs-of, jobs-within, openings-of, prepared-at, openings-all}

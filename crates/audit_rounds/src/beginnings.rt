@@ -5,10 +5,10 @@ ghost use Rattle.std.specs.List.{AllZip};
 ghost use Rattle.audit_rounds.specs.code.StreamRound.{IsFirstStop, IsStreamsOf, changes_in};
 
 use crate::prepared::Prepared;
+use crate::streams::{Streams, lesser};
 use audit_terms::{Finding, Place};
 use std::alloc::{AllocError, Global};
 use stream_credit::Changes;
-use stream_groups::{Streams, lesser};
 
 /// The changes of each connection, made ready for its streams.
 pub(crate) fn changes_each<'a>(

@@ -3,7 +3,7 @@
 ghost use Rattle.std.specs.Prelude.{◌≡◌, ℕ, ◌-◌, ◌<◌, ◌≤◌, ◌^◌, All, IfOk, length, map, slice_get, Option, Some, ⊤};
 ghost use Rattle.audit_terms.specs.declared.findings.Finding.{Finding as FindingTerm};
 ghost use Rattle.audit_terms.specs.Place.{place_number};
-ghost use Rattle.split_merge.specs.code.Board.{Job, IsCut};
+ghost use Rattle.job_crew.specs.code.Board.{Job, IsCut};
 ghost use Rattle.job_crew.specs.code.Heeding.{Heeds};
 ghost use Rattle.audit_rounds.specs.code.Plans.{block_job, AreReady, BlockLooks};
 ghost use Rattle.audit_rounds.specs.code.Props.{ready-props};

@@ -6,7 +6,7 @@ ghost use Rattle.audit_terms.specs.Connection.{connection_start};
 ghost use Rattle.audit_terms.specs.code.runs.Blocks.{block_run};
 ghost use Rattle.audit_terms.specs.Finding.{in_order, upto_stop, shown};
 ghost use Rattle.stop_desk.specs.code.Stop.{IsStop};
-ghost use Rattle.split_merge.specs.code.Board.{Job};
+ghost use Rattle.job_crew.specs.code.Board.{Job};
 ghost use Rattle.job_crew.specs.code.Settling.{HasSettled};
 ghost use Rattle.conn_scan.specs.declared.sums.ConnSum.{ConnSum as ConnSumTerm};
 ghost use Rattle.conn_scan.specs.code.Items.{items_in, IsBlock};

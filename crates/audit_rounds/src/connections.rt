@@ -14,6 +14,7 @@ ghost use Rattle.audit_rounds.specs.code.Few.{AreFew, PreparedAreFew};
 
 use crate::block_rounds::rounds_over_blocks;
 use crate::divisions::Division;
+use crate::framed::{spread, with_frames};
 use crate::prepared::{Prepared, prepare};
 use crate::stream_round::{AfterStreams, round_over_streams};
 use audit_terms::{Finding, Frame, Place};
@@ -63,8 +64,29 @@ impl<'a> MadeReady<'a> {
     }
 }
 
-/// What is shown of each connection of a batch.
+/// What is shown of each connection of a batch. Those that have no frame go through no round.
 pub(crate) fn findings_of_batch<R: Threads + Sync, G: Gate>(
+    rt: &R,
+    alloc: Global,
+    division: &Division,
+    gate: &G,
+    credits_shown: bool,
+    connections: &[&[Frame]],
+) -> Result<Vec<Vec<Finding>>, AllocError>
+    requires workers { 0 < division.now.workers }
+    requires groups { 0 < division.now.groups }
+    requires frames { All (λ frames. IsOrderly frames.now) connections.now }
+    requires few { AreFew connections.now }
+    ensures { IfOk result (λ found. map (λ one. one.items) found.items
+        ≡ map (λ frames. shown credits_shown (pass frames.now)) connections.now) }
+{
+    let framed = with_frames(alloc, connections)?;
+    let found = findings_of_framed(rt, alloc, division, gate, credits_shown, framed.as_slice())?;
+    spread(alloc, connections, found)
+}
+
+/// What is shown of each of these connections, by the rounds.
+fn findings_of_framed<R: Threads + Sync, G: Gate>(
     rt: &R,
     alloc: Global,
     division: &Division,

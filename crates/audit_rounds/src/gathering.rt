@@ -1,7 +1,7 @@
 //! What rounds found, connection by connection.
 
 ghost use Rattle.std.specs.Prelude.{◌≡◌, ℕ, [], ◌++◌, ◌<◌, All, IfOk, map, length, slice_index_or};
-ghost use Rattle.split_merge.specs.code.Board.{findings_of_parts};
+ghost use Rattle.job_crew.specs.code.Board.{findings_of_parts};
 ghost use Rattle.job_crew.specs.code.Laid.{part_of};
 
 use audit_terms::Finding;

@@ -7,7 +7,8 @@
 //!
 //! 1. In the first round, a job is a group of the streams of a connection, but for the quiet ones, of which nothing is
 //!    shown: those are told when the connection is split. With what the split tells of them, this tells which frames
-//!    open streams.
+//!    open streams. A job goes through its streams one after the other, and makes the looks that are due of each. It
+//!    went up to the least of the places at which their runs stopped (`IsWork` of `specs/code/Streams.antt`).
 //! 2. What a connection shows by itself, up to its stop, is found in blocks of its frames. In the second round, blocks
 //!    are summed, and the sums carry the connection's state from block to block.
 //! 3. In the third, blocks that are not clear are gone through, each from the state before it; where credits are shown,
@@ -18,8 +19,9 @@
 //! consecutive connections that have not too many frames together: it bounds what the rounds need beside the frames,
 //! and lets threads start once for many small connections. It has 2^28 frames at most, whatever the connections, so
 //! each round has fewer than 2^32 jobs, and want of memory is answered only where a growth was refused.
-//! Of a long connection a front goes through the rounds first: what an early error ends is then neither split nor gone
-//! through. Many short connections go in halves of as many frames, side by side, each with half of the workers.
+//! A connection without frames goes through no round. Of a long connection a front goes through the rounds first: what
+//! an early error ends is then neither split nor gone through. Many short connections go in halves of as many frames,
+//! side by side, each with half of the workers.
 //!
 //! - [`laws::rounds_make_the_pass`]: local faults, unmatched acknowledgements, what is shown of the streams and of the
 //!   blocks make what is shown of the pass, for every cut of the frames into blocks. Credits that no line shows are
@@ -35,9 +37,10 @@
 //!
 //! Wrong bodies that the prover refuses: changes of settings, not handed on to the blocks; a look that answers nothing
 //! in place of the worker's, in the round over streams and in that over blocks; what the blocks show, lost where
-//! nothing was found before; openings of quiet streams, lost; streams split as if credits were not shown. Those of
-//! single rounds stand in the crates below. Tested by whole reports, in many mixes of workers, groups and block
-//! lengths: that the call succeeds where there is memory. Trusted: the port of `itertools`.
+//! nothing was found before; openings of quiet streams, lost; streams split as if credits were not shown; what is found
+//! of a connection, given to another; of the places up to which runs went, the greater taken for the lesser. Those of
+//! single rounds stand in the crates below. Tested by whole reports, in many mixes of workers, groups and block lengths:
+//! that the call succeeds where there is memory. Trusted: the port of `itertools`.
 #![tactic(auto)]
 
 mod beginnings;
@@ -48,6 +51,7 @@ mod blocks;
 mod connections;
 mod divisions;
 mod early_stops;
+mod framed;
 mod gathering;
 mod halves;
 pub mod laws;
@@ -57,6 +61,7 @@ mod prepared;
 mod stream_jobs;
 mod stream_plan;
 mod stream_round;
+mod streams;
 mod sum_round;
 
 pub use divisions::{Division, findings_of_each};

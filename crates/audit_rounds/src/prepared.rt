@@ -14,7 +14,6 @@ use settings_pair::pair;
 use split_merge::{SplitFrames, split};
 use std::alloc::{AllocError, Global};
 use std::thread::{Threads, join};
-use stream_credit::Changes;
 use table_hash::TableHash;
 
 /// The frames of a connection, with what its rounds need beside them.
@@ -29,24 +28,6 @@ pub(crate) struct Prepared<'a> {
 
 /// From so many frames on a connection is made ready by more than one thread.
 const MANY: usize = 4096;
-
-/// The frames of a connection by stream. Which streams are quiet, the connection's changes tell.
-fn split_with(
-    alloc: Global,
-    hash: TableHash,
-    credits_shown: bool,
-    changes: &[Change],
-    frames: &[Frame],
-) -> Result<SplitFrames, AllocError>
-    requires length { length frames.now < 2 ^ 28 }
-    requires frames { IsOrderly frames.now }
-    requires changes { AreOrderly changes.now }
-    requires acknowledged { AreAcknowledged frames.now changes.now }
-    ensures { IfOk result (IsSplit credits_shown changes.now frames.now) }
-{
-    let changes = Changes::of(alloc, changes)?;
-    split(alloc, hash, credits_shown, &changes, frames)
-}
 
 /// The faults of single frames, and the frames by stream: side by side, where there are many frames and workers.
 fn faults_and_split<R: Threads + Sync>(
@@ -72,7 +53,7 @@ fn faults_and_split<R: Threads + Sync>(
     if workers == 1 || frames.len() < MANY {
         return (
             local_faults(rt, alloc, 1, frames),
-            split_with(alloc, hash, credits_shown, changes, frames),
+            split(alloc, hash, credits_shown, changes, frames),
         );
     }
     let others = workers as usize - 1;
@@ -86,7 +67,7 @@ fn faults_and_split<R: Threads + Sync>(
             requires { (length frames.now < 2 ^ 28) × IsOrderly frames.now × AreOrderly changes.now
                 × AreAcknowledged frames.now changes.now }
             ensures { IfOk result (IsSplit credits_shown changes.entry.now frames.entry.now) }
-        { split_with(alloc, hash, credits_shown, changes, frames) },
+        { split(alloc, hash, credits_shown, changes, frames) },
     )
 }
 

@@ -6,10 +6,10 @@ ghost use Rattle.audit_rounds.specs.code.StreamJobs.{IsReady, IsJobOf, JobLooks,
 ghost use Rattle.audit_rounds.specs.code.JobProps.{frames-prop, changes-prop};
 
 use crate::stream_plan::StreamJob;
+use crate::streams::{Streams, run_of_rows};
 use audit_terms::Look;
 use job_crew::{Round, Work};
 use std::alloc::{AllocError, Global};
-use stream_groups::{Streams, run_of_rows};
 
 /// A round of which each job is a group of the streams of one connection.
 #[derive(Drop)]

@@ -5,9 +5,9 @@ ghost use Rattle.split_merge.specs.code.Groups.{groups};
 ghost use Rattle.audit_rounds.specs.code.Few.{RowsAreFew};
 ghost use Rattle.audit_rounds.specs.code.StreamJobs.{IsReady, job_at, plan_from};
 
+use crate::streams::Streams;
 use split_merge::groups;
 use std::alloc::{AllocError, Global};
-use stream_groups::Streams;
 
 /// Consecutive rows of a connection's split, from the first up to the first of the next.
 #[derive(Clone, Copy)]

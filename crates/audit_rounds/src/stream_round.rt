@@ -14,11 +14,11 @@ use crate::opened::opened_each;
 use crate::prepared::Prepared;
 use crate::stream_jobs::StreamsRound;
 use crate::stream_plan::stream_plan;
+use crate::streams::Streams;
 use audit_terms::{Finding, Place};
 use job_crew::{Gate, Settled, settle};
 use std::alloc::{AllocError, Global};
 use std::thread::Threads;
-use stream_groups::Streams;
 
 /// The number of the round over streams.
 const STREAM_ROUND: u8 = 1;

@@ -83,7 +83,8 @@ step_same c x l h p q =
     ∙ when_usable (is_usable c) refl where
       when_usable : (b : Bool) → is_usable c ≡ b
           → b && (int_lt (neg_ℤ (c +ℤ x)) l && int_le h (largest_window -ℤ (c +ℤ x)))
-          ≡ b && (int_lt (neg_ℤ c) (int_min (pos 0) (x +ℤ l)) && int_le (int_max (pos 0) (x +ℤ h)) (largest_window -ℤ c))
+          ≡ b && (int_lt (neg_ℤ c) (int_min (pos 0) (x +ℤ l))
+          && int_le (int_max (pos 0) (x +ℤ h)) (largest_window -ℤ c))
       when_usable true e =
           let parts = usable_parts c e in and_same (low_same c x l parts.0) (high_same c x h parts.1)
       when_usable false e = refl
@@ -101,7 +102,8 @@ module _ (credit : ConnectionState → ℤ) (change : Item → ℤ)
         → list_all (λ (at : ConnectionState). is_usable (credit at)) (connections now items)
         ≡ usable_all (credit now) (map change items)
     usable_items now [] = refl
-    usable_items now (item ∷ items) = ap (λ b. is_usable (credit now) && b) (usable_items (connection_after now item) items
+    usable_items now (item ∷ items) =
+        ap (λ b. is_usable (credit now) && b) (usable_items (connection_after now item) items
         ∙ ap (λ c. usable_all c (map change items)) (step now item))
 
     credit_same : (now : ConnectionState) (items : List Item)

@@ -110,7 +110,8 @@ items-from state low opened before (frame ∷ frames) h below marked =
     ∙ ap (λ changes. item_of state frame ∷ items_with opened changes frames) (sym turned)
     ∙ ap (λ items. item_of state frame ∷ items)
     (items-from (next state frame) (frame.number + 1) opened (before ++ own) frames h.2
-    (all-append (λ (change : Change). change.number < frame.number + 1) before own (below-wider low (frame.number + 1) before (omega (arith, h.0)) below)
+    (all-append (λ (change : Change). change.number < frame.number + 1) before own
+    (below-wider low (frame.number + 1) before (omega (arith, h.0)) below)
     (taking-below frame (taken state.in_force frame))) marked.1)
 
 pub items_are_the_pass : ItemsAreThePass

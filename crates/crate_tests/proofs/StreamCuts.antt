@@ -7,11 +7,11 @@ use Rattle.audit_terms.specs.Finding.{shown}
 use Rattle.audit_terms.specs.code.runs.Look.{IsRun}
 use Rattle.audit_terms.specs.Place.{place_number}
 use Rattle.audit_terms.specs.code.runs.Streams.{stream_run}
-use Rattle.split_merge.specs.code.Board.{Job, IsCut}
+use Rattle.job_crew.specs.code.Board.{Job, IsCut}
 use Rattle.stream_credit.specs.declared.parts.StreamPart.{StreamPart}
 use Rattle.stream_credit.specs.code.Part.{part_frames, IsPart}
-use Rattle.stream_groups.proofs.StreamOrder.{shown-ordered}
-use Rattle.stream_groups.proofs.StreamWork.{work-of_run}
+use Rattle.audit_rounds.proofs.StreamOrder.{shown-ordered}
+use Rattle.audit_rounds.proofs.StreamWork.{work-of_run}
 use Rattle.crate_tests.specs.code.StreamJobs.{job_of}
 
 pub stream-cut : {L : Type 0} (answers : L → List Finding → Option ℕ → L → Type 0) (before after : L)

@@ -19,7 +19,7 @@ fn arrivals_from(arrivals: &[Arrival], offset: u64) -> &[Arrival]
 {
     let mut rest = arrivals;
     while let Some((first, later)) = rest.split_first() {
-        if offset < first.upto {
+        if offset < first.upto as u64 {
             return rest;
         }
         rest = later;

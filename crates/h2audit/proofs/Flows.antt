@@ -17,7 +17,7 @@ use Rattle.audit_report.specs.declared.audited.Audited.{Audited}
 use Rattle.h2audit.specs.declared.flow_round.ConnectionCut.{ConnectionCut}
 use Rattle.h2audit.specs.Audited.{AreAudited, findings_of}
 use Rattle.tcp_streams.specs.declared.members.Connection.{Connection}
-use Rattle.split_merge.specs.code.Board.{Job, IsCut}
+use Rattle.job_crew.specs.code.Board.{Job, IsCut}
 use Rattle.h2audit.specs.code.Flows.{IsConnectionCut, flow_jobs, AreConnectionCuts, frames_in, frames_each, found_in}
 use Rattle.h2audit.specs.code.Flows.{audits_of}
 

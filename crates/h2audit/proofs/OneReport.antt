@@ -21,7 +21,7 @@ use Rattle.audit_terms.specs.declared.frames.Frame.{Frame}
 use Rattle.audit_terms.specs.declared.sides.Side.{Side}
 use Rattle.audit_terms.specs.declared.sides.Side.TheVariants.{Client, Server}
 use Rattle.packet_heads.specs.declared.packets.Endpoint.{Endpoint}
-use Rattle.split_merge.specs.Stalls.{stalls}
+use Rattle.audit_report.specs.Stalls.{stalls}
 use Rattle.audit_report.specs.declared.extents.Extent.{Extent}
 use Rattle.audit_terms.specs.declared.sides.Sides.{Sides}
 use Rattle.audit_terms.specs.Finding.{shown as shown_of}

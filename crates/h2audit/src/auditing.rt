@@ -8,7 +8,7 @@ use crate::connection::{audit_each, verdict_on};
 use crate::division::division;
 use crate::fault::AuditFault;
 use crate::verdict::Verdict;
-use audit_report::report;
+use audit_report::{capture_lines, report};
 use command_line::Options;
 use job_crew::Gate;
 use packet_heads::{Packets, decode_all};
@@ -17,7 +17,7 @@ use std::alloc::{AllocError, Global};
 use std::random::RandomSource;
 use std::thread::Threads;
 use table_hash::TableHash;
-use tcp_streams::connections;
+use tcp_streams::{Connections, connections};
 
 /// The report of a capture, and its verdict.
 ///
@@ -59,7 +59,7 @@ pub(crate) fn audit_parts(
     ensures refused { IfErr result (λ e. IsNoReport capture.now e) }
 {
     match walk.finish(alloc, capture) {
-        Ok(found) => match audit_records(rt, alloc, &found, capture, options, gate) {
+        Ok(found) => match audit_records(rt, alloc, found, capture, options, gate) {
             Ok(answer) => Ok(answer),
             Err(_) => Err(AuditFault::OutOfMemory),
         },
@@ -72,22 +72,25 @@ pub(crate) fn audit_parts(
 fn audit_records(
     rt: &(impl Threads + Sync + RandomSource),
     alloc: Global,
-    found: &Records,
+    found: Records,
     capture: &Capture<'_>,
     options: &Options,
     gate: &impl Gate,
 ) -> Result<(Vec<u8>, Verdict), AllocError>
     requires size { length capture.now < 2 ^ 31 }
-    requires linked { IsTrue (is_read found.now.link) }
-    requires within { AreWithin (length capture.now) found.now.rows.items }
-    requires timely { AreTimely found.now.rows.items }
-    ensures { IfOk result (λ r. IsReportOn capture.now found.now options.now.frames_shown
+    requires linked { IsTrue (is_read found.link) }
+    requires within { AreWithin (length capture.now) found.rows.items }
+    requires timely { AreTimely found.rows.items }
+    ensures { IfOk result (λ r. IsReportOn capture.now found options.now.frames_shown
         r.0.items r.1) }
 {
-    let made = decode_all(rt, alloc, options.workers(), found, capture)?;
+    let made = decode_all(rt, alloc, options.workers(), &found, capture)?;
     let packets = Packets::of(alloc, made.as_slice())?;
     let division = division(options, TableHash::drawn(rt));
     let connections = connections(alloc, division.hash, &packets)?;
+    let Connections { opened, strays } = connections;
+    // From here on there are no records, whose memory frames may take.
+    let begun = capture_lines(alloc, found, &packets, strays)?;
     let audited = audit_each(
         rt,
         alloc,
@@ -95,14 +98,13 @@ fn audit_records(
         &division,
         capture,
         &packets,
-        connections.opened.as_slice(),
+        opened.as_slice(),
         gate,
     )?;
     let text = report(
         alloc,
-        found,
-        &packets,
-        &connections,
+        begun,
+        opened.as_slice(),
         audited.as_slice(),
         options.frames_shown(),
     )?;

@@ -6,8 +6,8 @@ use Rattle.stop_desk.specs.code.Counts.{marks, once_below}
 use Rattle.stop_desk.specs.code.Desk.{DeskId, PassView, ClosedView, closed_of, IsConnection, opening_stop, final_stop}
 use Rattle.stop_desk.specs.code.Calls.{IsAtMost}
 use Rattle.stop_desk.specs.code.Settled.{IsLeast as IsLeastOnDesk, Settled}
-use Rattle.split_merge.specs.code.Board.{Job, Round, Part as BoardPart, IsLeast, IsPartOf, parts_of, stop_of, IsGiven}
-use Rattle.split_merge.specs.code.Board.{IsSettled}
+use Rattle.job_crew.specs.code.Board.{Job, Round, Part as BoardPart, IsLeast, IsPartOf, parts_of, stop_of, IsGiven}
+use Rattle.job_crew.specs.code.Board.{IsSettled}
 use Rattle.job_crew.specs.declared.parts.Part.{Part}
 use Rattle.job_crew.specs.code.Laid.{part_of, board_with}
 use Rattle.job_crew.specs.code.Crew.{opening_stops, last_stops, IsDone}

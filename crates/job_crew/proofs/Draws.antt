@@ -8,9 +8,9 @@ use Rattle.stop_desk.specs.code.Counts.{is_number, times}
 use Rattle.stop_desk.specs.code.Desk.{DeskId, PassView, pass_of, pass_draws, IsConnection}
 use Rattle.stop_desk.specs.code.Calls.{Draws, IsClaim}
 use Rattle.stop_desk.proofs.Weights.{weigh-append, weigh-snoc}
-use Rattle.split_merge.specs.code.Board.{Job as BoardJob, parts_of}
-use Rattle.split_merge.proofs.RoundMembers.{contains-none, contains-cases}
-use Rattle.split_merge.proofs.RoundSteps.{parts_of-cons}
+use Rattle.job_crew.specs.code.Board.{Job as BoardJob, parts_of}
+use Rattle.job_crew.proofs.RoundMembers.{contains-none, contains-cases}
+use Rattle.job_crew.proofs.RoundSteps.{parts_of-cons}
 use Rattle.job_crew.specs.declared.parts.Part.{Part}
 use Rattle.job_crew.specs.code.Laid.{part_of}
 use Rattle.job_crew.specs.code.Worked.{IsLaid, IsReal, DoesJob, IsWorked, IsAllWorked, DrewJobs}

@@ -5,8 +5,8 @@ use Rattle.std.proofs.lemmas.Option.{slice_get-get_or}
 use Rattle.std.proofs.lemmas.List.Elements.{Contains-append_left, Contains-append_right, Contains-append_cases}
 use Rattle.audit_terms.specs.code.runs.Look.{Asked}
 use Rattle.stop_desk.specs.code.Desk.{DeskId, PassView, pass_of, IsConnection}
-use Rattle.split_merge.specs.code.Board.{Job, StopsAt, IsCut}
-use Rattle.split_merge.proofs.RoundMembers.{contains-got}
+use Rattle.job_crew.specs.code.Board.{Job, StopsAt, IsCut}
+use Rattle.job_crew.proofs.RoundMembers.{contains-got}
 use Rattle.job_crew.specs.declared.parts.Part.{Part}
 use Rattle.job_crew.specs.code.Worked.{stops_on, IsReal, Goes, DoesJob}
 use Rattle.job_crew.proofs.Stops.{Watched, contains-stops_on, stops_on-contains, cut-stops}

@@ -1,3 +1,9 @@
+pub mod RoundMembers
+pub mod RoundSteps
+pub mod RoundParts
+pub mod RoundMerge
+pub mod RoundExamples
+pub mod RoundCuts
 pub mod Stops
 pub mod Jobs
 pub mod Counting

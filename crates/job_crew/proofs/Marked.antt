@@ -8,8 +8,8 @@ use Rattle.stop_desk.specs.code.Counts.{marks, is_mark, once_below}
 use Rattle.stop_desk.specs.code.Stop.{place_at, past_places, IsStop}
 use Rattle.stop_desk.specs.code.Desk.{DeskId, ClosedView, IsConnection, opening_stop, final_stop}
 use Rattle.stop_desk.proofs.Marks.{mark-cases, mark-here}
-use Rattle.split_merge.specs.code.Board.{stop_of}
-use Rattle.split_merge.proofs.RoundMembers.{pair, contains-none, contains-here, contains-later, contains-cases}
+use Rattle.job_crew.specs.code.Board.{stop_of}
+use Rattle.job_crew.proofs.RoundMembers.{pair, contains-none, contains-here, contains-later, contains-cases}
 use Rattle.job_crew.specs.code.Crew.{opening_stops, last_stops_from, last_stops}
 
 pub contains-marks : (c p : ℕ) (ms : List (ℕ × ℕ)) → Contains ms (c, p) → 0 < marks c p ms

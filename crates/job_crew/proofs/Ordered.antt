@@ -5,9 +5,9 @@ use Rattle.std.specs.List.Sorted.{IsNonDecreasingBy}
 use Rattle.std.proofs.lemmas.List.Sums.{sum_by-cons}
 use mathlib.Core.Logic.{dite}
 use native.Mathlib.Decide.{ℕ_discrete}
-use Rattle.split_merge.specs.code.Board.{parts_of}
-use Rattle.split_merge.proofs.RoundMembers.{contains-none, contains-here, contains-later, contains-cases}
-use Rattle.split_merge.proofs.RoundSteps.{parts_of-cons}
+use Rattle.job_crew.specs.code.Board.{parts_of}
+use Rattle.job_crew.proofs.RoundMembers.{contains-none, contains-here, contains-later, contains-cases}
+use Rattle.job_crew.proofs.RoundSteps.{parts_of-cons}
 use Rattle.job_crew.specs.declared.parts.Part.{Part}
 use Rattle.job_crew.specs.code.Laid.{part_of}
 use Rattle.job_crew.proofs.Counting.{number-cases}

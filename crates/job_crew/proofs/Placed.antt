@@ -6,9 +6,9 @@ use Rattle.std.specs.List.Sorted.{IsPermutation, IsNonDecreasingBy}
 use Rattle.std.proofs.lemmas.List.Sorted.{sum_by-IsPermutation, IsPermutation-sym, Contains-permutation}
 use Rattle.stop_desk.specs.code.Stop.{IsStop}
 use Rattle.stop_desk.specs.code.Desk.{DeskId, ClosedView}
-use Rattle.split_merge.specs.code.Board.{Job, Part as BoardPart, IsLeast, IsPartOf, parts_of, stop_of, IsGiven}
-use Rattle.split_merge.specs.code.Board.{IsSettled}
-use Rattle.split_merge.proofs.RoundMembers.{contains-got}
+use Rattle.job_crew.specs.code.Board.{Job, Part as BoardPart, IsLeast, IsPartOf, parts_of, stop_of, IsGiven}
+use Rattle.job_crew.specs.code.Board.{IsSettled}
+use Rattle.job_crew.proofs.RoundMembers.{contains-got}
 use Rattle.job_crew.specs.declared.parts.Part.{Part}
 use Rattle.job_crew.specs.declared.settling.Settled.{Settled}
 use Rattle.job_crew.specs.code.Laid.{part_of, board_with}

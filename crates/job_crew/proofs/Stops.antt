@@ -7,9 +7,9 @@ use Rattle.audit_terms.specs.Finding.{stops, in_order}
 use Rattle.audit_terms.specs.code.runs.Look.{Asked, Looked}
 use Rattle.stop_desk.specs.code.Desk.{PassView, pass_of}
 use Rattle.stop_desk.specs.code.Calls.{IsLook}
-use Rattle.split_merge.specs.code.Board.{StopsAt, IsCut}
-use Rattle.split_merge.proofs.RoundMembers.{pair, contains-none, contains-here, contains-later, contains-cases}
-use Rattle.split_merge.proofs.RoundMembers.{contains-in_order, in_order-contains}
+use Rattle.job_crew.specs.code.Board.{StopsAt, IsCut}
+use Rattle.job_crew.proofs.RoundMembers.{pair, contains-none, contains-here, contains-later, contains-cases}
+use Rattle.job_crew.proofs.RoundMembers.{contains-in_order, in_order-contains}
 use Rattle.job_crew.specs.code.Worked.{stops_on}
 
 -- an error of the connection is one of the places

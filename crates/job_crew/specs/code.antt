@@ -1,3 +1,4 @@
+pub mod Board
 pub mod Worked
 pub mod Heeding
 pub mod Laid

@@ -3,7 +3,7 @@
 ghost use Rattle.std.specs.Prelude.{◌≡◌, ◌+◌, ◌-◌, ◌*◌, ◌<◌, [], ◌++◌, All, IfOk, length};
 ghost use Rattle.std.specs.Thread.{IsSend, IsSync};
 ghost use Rattle.stop_desk.specs.code.Desk.{pass_of, all_draws, IsConnection};
-ghost use Rattle.split_merge.specs.code.Board.{Job};
+ghost use Rattle.job_crew.specs.code.Board.{Job};
 ghost use Rattle.job_crew.specs.code.Crew.{IsDone};
 ghost use Rattle.job_crew.specs.code.Worked.{IsAllWorked};
 

@@ -6,9 +6,9 @@
 //! ends the connection, and lays down a [`Part`]. There are no more workers than jobs.
 //!
 //! - [`crew`] works on a desk that is given, and answers the parts and the closed desk. What is left is a settled board
-//!   (`IsSettled` of `split_merge`), for every number of workers and by whichever order they ran in: one part a job,
-//!   each up to a place that was seen; each error of a part was lowered; each stop is the least of its opening stop and
-//!   what was lowered. So nothing is lost before the stop of a connection, and the stop is its least error.
+//!   (`IsSettled` of `specs/code/Board.antt`), for every number of workers and by whichever order they ran in: one part
+//!   a job, each up to a place that was seen; each error of a part was lowered; each stop is the least of its opening
+//!   stop and what was lowered. So nothing is lost before the stop of a connection, and the stop is its least error.
 //! - [`settle`] gives the parts in the order of jobs, with the stops read, and says of each part that it was not cut
 //!   below its connection's stop (`HasSettled` of `specs/code/Settling.antt`).
 //! - [`Gate`] holds workers back before they start a job, for tests. It has no say in the answer.
@@ -22,6 +22,21 @@
 //! two; closing the desk speaks of all. Each worker begins with one draw more than there are jobs, so it ends where no
 //! job is left and never for want of draws. Want of memory is the one error; after it the desk is gone.
 //!
+//! [`laws`] are about workers, and need no code. `specs/laws/Machine.antt` is a machine in which workers draw jobs,
+//! look at stops, lower them and finish parts, an event each: a run is any list of allowed events, so any interleaving.
+//! An event carries its answer, and an answer that could not be is not allowed.
+//!
+//! - [`laws::run_settles`]: once every job is finished, the board is settled: one part a job, each stop the least of
+//!   what it began with and what was lowered, each place seen real.
+//! - [`laws::board_merges`]: of each connection, the parts of a settled board give up to its stop what the whole jobs
+//!   would, and the stop is the least error of all. The reason: each place seen is that of a real error, so none lies
+//!   below the least; each part has everything up to the place that it saw; so the least error is found, lowered and
+//!   kept.
+//! - [`laws::cuts_join`], [`laws::rounds_join`]: parts of several streams make one, and rounds go one after the other.
+//!
+//! They say nothing of progress, and of no thread: that threads leave such a board is the promise of [`crew`].
+//! [`worked_rounds`] shows two workers with a stop that one sees, and steps that no worker may take.
+//!
 //! Wrong bodies that the prover refuses: parts dropped where two halves join, an overrun lowered, stops handed on as
 //! the round found them. Tested, in `crate_tests`: that a job sees the stop that an earlier one lowered, that two
 //! workers are in one round at once, and how many jobs each round of an audit has. Trusted: std's `join`, which starts
@@ -32,9 +47,11 @@
 mod crews;
 mod desk_looks;
 mod gate;
+pub mod laws;
 mod parts;
 mod rounds;
 mod settling;
+pub mod worked_rounds;
 mod workers;
 
 pub use crews::crew;

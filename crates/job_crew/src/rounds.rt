@@ -1,7 +1,7 @@
 ghost use Rattle.std.specs.Prelude.{◌≡◌, ℕ, ◌-◌, ◌^◌, ◌<◌, ◌≤◌, All, IfOk, length, slice_get, Option, Some};
 ghost use Rattle.audit_terms.specs.declared.findings.Finding.{Finding as FindingTerm};
 ghost use Rattle.audit_terms.specs.Place.{place_number};
-ghost use Rattle.split_merge.specs.code.Board.{Job, IsCut};
+ghost use Rattle.job_crew.specs.code.Board.{Job, IsCut};
 ghost use Rattle.job_crew.specs.code.Heeding.{Heeds};
 
 use audit_terms::{Finding, Look, Place};
@@ -26,7 +26,7 @@ pub trait Round: Sync {
 
     ghost use Rattle.std.specs.Prelude.{ℕ, List, Option};
     ghost use Rattle.audit_terms.specs.code.runs.Look.{Asked};
-    ghost use Rattle.split_merge.specs.code.Board.{Job};
+    ghost use Rattle.job_crew.specs.code.Board.{Job};
 
     ghost jobs: { Self → List Job };
 

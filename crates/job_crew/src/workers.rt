@@ -4,7 +4,7 @@ ghost use Rattle.std.specs.Prelude.{◌≡◌, ℕ, ◌+◌, ◌-◌, ◌^◌, �
 ghost use Rattle.audit_terms.specs.declared.findings.Finding.{Finding as FindingTerm};
 ghost use Rattle.audit_terms.specs.Place.{place_number};
 ghost use Rattle.stop_desk.specs.code.Desk.{pass_of, IsConnection};
-ghost use Rattle.split_merge.specs.code.Board.{Job};
+ghost use Rattle.job_crew.specs.code.Board.{Job};
 ghost use Rattle.job_crew.specs.code.Worked.{stops_on, DoesJob, IsWorked, IsAllWorked};
 
 use crate::desk_looks::DeskLook;

@@ -26,7 +26,9 @@ RiseFrom-at from size (row ∷ rows) (suc k) d h below = RiseFrom-at (row.start 
 
 -- the records of a capture end within it
 pub ends-within : (size : ℕ) (rows : List Record) → AreWithin size rows → All (EndsWithin size) rows
-ends-within size rows h k d below = RiseFrom-at 24 size rows k d h.1 below
+ends-within size rows h k d below =
+    let inside = RiseFrom-at 24 size rows k d h.2 below in
+    (inside, omega (arith, inside, h.0))
 
 -- as many packets as rows
 pub AllStand-length : (number : ℕ) (rows : List Record) (packets : List Packet) → AllStand number rows packets

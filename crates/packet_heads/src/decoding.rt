@@ -6,7 +6,7 @@ ghost use Rattle.packet_heads.specs.Decision.{decision_on, packet_decision, segm
 ghost use Rattle.packet_heads.specs.Ipv4.{segment_bytes};
 ghost use Rattle.packet_heads.specs.code.Ipv4 as ipv4_code;
 ghost use Rattle.packet_heads.specs.code.Tcp as tcp_code;
-ghost use Rattle.packet_heads.specs.code.Standing.{StandsIn};
+ghost use Rattle.packet_heads.specs.code.Standing.{EndsWithin, StandsIn};
 
 use crate::packets::{Endpoint, Packet, Segment};
 use crate::{ipv4, link, tcp};
@@ -16,7 +16,7 @@ use std::alloc::{AllocError, Global};
 /// The segment in a datagram whose headers are whole, and which begins at this offset of the capture.
 fn segment_of(number: u32, row: &Record, partial: bool, at: usize, datagram: &[u8]) -> Segment
     requires partial_is { partial ≡ is_partial row.now }
-    requires place { at + length datagram.now < 2 ^ 64 }
+    requires place { at + length datagram.now < 2 ^ 32 }
     requires datagram { ipv4_code.HasHeader datagram.now }
     requires segment { tcp_code.HasHeader (segment_bytes datagram.now) }
     ensures segment { result ≡ segment_of number row.now at datagram.now }
@@ -39,8 +39,8 @@ fn segment_of(number: u32, row: &Record, partial: bool, at: usize, datagram: &[u
         seq: tcp::sequence_number(segment),
         syn: tcp::syn(segment),
         ack: tcp::ack(segment),
-        lo: at + ipv4::header_length(datagram) + tcp::header_length(segment),
-        hi: at + ipv4::end(datagram),
+        lo: (at + ipv4::header_length(datagram) + tcp::header_length(segment)) as u32,
+        hi: (at + ipv4::end(datagram)) as u32,
         snapped: ipv4::is_snapped(partial, datagram),
     }
 }
@@ -49,7 +49,7 @@ fn segment_of(number: u32, row: &Record, partial: bool, at: usize, datagram: &[u
 fn decision_on(link: u16, number: u32, row: &Record, packet: &[u8]) -> Packet
     requires linked { IsTrue (is_read link) }
     requires captured { length packet.now ≡ row.now.length }
-    requires place { row.now.start + row.now.length < 2 ^ 64 }
+    requires place { row.now.start + row.now.length < 2 ^ 32 }
     ensures decided { result ≡ decision_on link number row.now packet.now }
     ensures placed { StandsIn number row.now result }
 {
@@ -58,14 +58,15 @@ fn decision_on(link: u16, number: u32, row: &Record, packet: &[u8]) -> Packet
     }
     let start = link::datagram_start(link, packet);
     let datagram = link::datagram(packet, start);
-    let partial = row.length < row.original as usize;
+    let partial = row.length < row.original;
     if let Some(answer) = ipv4::answer(partial, datagram) {
         return answer;
     }
     if let Some(answer) = tcp::answer(ipv4::segment(datagram)) {
         return answer;
     }
-    Packet::Segment(segment_of(number, row, partial, row.start + start, datagram))
+    let at = row.start as usize + start;
+    Packet::Segment(segment_of(number, row, partial, at, datagram))
 }
 
 /// What a record holds: the first line of the table that applies to its captured bytes.
@@ -81,18 +82,18 @@ pub fn decode(
     capture: &Capture<'_>,
 ) -> Result<Packet, AllocError>
     requires linked { IsTrue (is_read link) }
-    requires inside { row.now.start + row.now.length ≤ length capture.now }
+    requires inside { EndsWithin (length capture.now) row.now }
     ensures decided { IfOk result (λ packet. packet ≡ packet_decision link number row.now capture.now) }
     ensures placed { IfOk result (StandsIn number row.now) }
 {
     let size = capture.len();
-    let end = row.start + row.length;
-    if row.start < size {
-        let front = capture.from(row.start);
-        if row.length <= front.len() {
-            return Ok(decision_on(link, number, row, &front[..row.length]));
+    let (start, length) = (row.start as usize, row.length as usize);
+    if start < size {
+        let front = capture.from(start);
+        if length <= front.len() {
+            return Ok(decision_on(link, number, row, &front[..length]));
         }
     }
-    let packet = capture.gathered(alloc, row.start, end)?;
+    let packet = capture.gathered(alloc, start, start + length)?;
     Ok(decision_on(link, number, row, &packet))
 }

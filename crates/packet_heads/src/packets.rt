@@ -1,4 +1,5 @@
 use parted_list::Parts;
+use pcap_records::Nanos;
 
 /// An IPv4 address and a TCP port.
 #[derive(Clone, Copy, Debug, PartialEq, Eq, PartialOrd, Ord)]
@@ -9,15 +10,15 @@ pub struct Endpoint {
 
 /// A TCP segment of a capture. Its payload stands in the capture at `lo..hi`.
 ///
-/// The fields stand by falling size, as they do in memory: so a [`Packet`] takes 64 bytes.
+/// What needs no alignment stands last, so that a [`Packet`] takes 48 bytes.
 #[derive(Clone, Copy)]
 pub struct Segment {
     /// When it was captured, in nanoseconds.
-    pub nanos: u64,
-    pub lo: usize,
-    pub hi: usize,
+    pub nanos: Nanos,
     pub from: Endpoint,
     pub to: Endpoint,
+    pub lo: u32,
+    pub hi: u32,
     /// The number of its record, from 1.
     pub rec: u32,
     /// The sequence number (RFC 9293, 3.1).
@@ -88,6 +89,8 @@ pub enum Packet {
     Skipped(Skip),
     Refused(Refusal),
 }
+
+const _: () = prove!(size_of::<Packet>() == 48);
 
 /// How many packets a part of a capture's packets has.
 pub const PACKET_PART: usize = 8_192;

@@ -1,2 +1,3 @@
+pub mod Nanos
 pub mod Walk
 pub mod Place

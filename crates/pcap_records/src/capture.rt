@@ -1,17 +1,22 @@
+use crate::nanos::Nanos;
 use parted_list::Parts;
 
 /// One whole record of a capture, whose packet stands in the capture at `start..start + length`.
+///
+/// A capture has fewer than 2^31 bytes, so 32 bits hold an offset.
 #[derive(Clone, Copy)]
 pub struct Record {
     /// When it was captured, in nanoseconds.
-    pub nanos: u64,
+    pub nanos: Nanos,
     /// The length of the packet on the wire, in bytes.
     pub original: u32,
     /// Where the captured bytes begin in the capture.
-    pub start: usize,
+    pub start: u32,
     /// How many bytes were captured.
-    pub length: usize,
+    pub length: u32,
 }
+
+const _: () = prove!(size_of::<Record>() == 20);
 
 /// The link type of Ethernet (LINKTYPE_ETHERNET): a record holds a frame.
 pub const ETHERNET: u16 = 1;

@@ -35,6 +35,7 @@ mod faults;
 mod format;
 mod header;
 pub mod laws;
+mod nanos;
 mod reading;
 mod rows;
 mod walk;
@@ -42,5 +43,6 @@ pub mod worked_examples;
 
 pub use capture::{CAPTURE_PART, Capture, ETHERNET, RAW_IP, Record, Records};
 pub use faults::PcapFault;
+pub use nanos::Nanos;
 pub use reading::{records, refusal};
 pub use walk::RecordWalk;

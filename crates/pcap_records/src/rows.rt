@@ -3,6 +3,7 @@ ghost use Rattle.pcap_records.specs.Record.{captured_length, record_at};
 ghost use Rattle.pcap_records.specs.code.Walk.{IsNextRecord};
 
 use crate::capture::{Capture, Record};
+use crate::nanos::Nanos;
 use byteorder::ByteOrder;
 use std::alloc::{AllocError, Global};
 
@@ -16,22 +17,23 @@ const SECOND: u64 = 1_000_000_000;
 fn record_behind<T: ByteOrder>(front: &[u8], at: usize, size: usize, unit: u64) -> Option<Record>
     requires header { 16 ≤ length front.now }
     requires inside { at + 16 ≤ size }
+    requires short { size ≤ 2 ^ 31 }
     requires unit { unit ≤ 1000 }
     ensures found { IfSome result (λ r. (16 + captured_length T.number_of front.now ≤ size - at)
         × (r ≡ record_at T.number_of unit at front.now)) }
     ensures time { IfSome result (λ r. r.nanos < 2 ^ 63) }
     ensures none { IfNone result (size - at < 16 + captured_length T.number_of front.now) }
 {
-    let captured = T::read_u32(&front[8..]) as usize;
-    if captured > size - at - RECORD_HEADER {
+    let captured = T::read_u32(&front[8..]);
+    if captured as usize > size - at - RECORD_HEADER {
         return None;
     }
     let seconds = u64::from(T::read_u32(front));
     let fraction = u64::from(T::read_u32(&front[4..]));
     Some(Record {
-        nanos: seconds * SECOND + fraction * unit,
+        nanos: Nanos::of(seconds * SECOND + fraction * unit),
         original: T::read_u32(&front[12..]),
-        start: at + RECORD_HEADER,
+        start: (at + RECORD_HEADER) as u32,
         length: captured,
     })
 }
@@ -46,6 +48,7 @@ pub fn next_record<T: ByteOrder>(
     unit: u64,
 ) -> Result<Option<Record>, AllocError>
     requires offset { at ≤ length capture.now }
+    requires short { length capture.now ≤ 2 ^ 31 }
     requires unit { unit ≤ 1000 }
     ensures { IfOk result (IsNextRecord T.number_of unit at (drop at capture.now)) }
 {

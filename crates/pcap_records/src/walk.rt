@@ -83,8 +83,9 @@ impl RecordWalk {
     {
         let unit = self.format.unit;
         while let Some(record) = next_record::<T>(alloc, capture, self.at, unit)? {
+            let next = record.start as usize + record.length as usize;
             self.rows.push(record)?;
-            self.at = record.start + record.length;
+            self.at = next;
         }
         Ok(())
     }

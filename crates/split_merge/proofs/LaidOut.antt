@@ -9,66 +9,75 @@ use Rattle.std.proofs.lemmas.List.Edits.{between_more, between_none}
 use Rattle.std.proofs.lemmas.Slice.{between_is}
 use borrow.Author.Tests.{eqb-true, eq-eqb}
 use Rattle.split_merge.specs.declared.splits.StreamRow.{StreamRow}
-use Rattle.split_merge.specs.code.Visits.{streams_in, row_positions, noted_positions, total_of, counted, laid_out}
-use Rattle.split_merge.specs.code.Visits.{grown, AreDistinct, HasRoomFor, IsFilled}
-use Rattle.split_merge.proofs.NamedStreams.{length-streams_in}
+use Rattle.split_merge.specs.declared.visits.Visited.{Visited}
+use Rattle.split_merge.specs.code.Visits.{streams_in, row_positions, noted_positions, row_streams, total_of}
+use Rattle.split_merge.specs.code.Visits.{laid_out, longer, grown, AreDistinct, HasRoomFor, IsFilled}
 use Rattle.split_merge.proofs.Visited.{noted_positions-append, three, row-within, positions-here, positions-there}
+
+pub length-row_streams : (rows : List StreamRow) → length (row_streams rows) ≡ length rows
+length-row_streams [] = refl
+length-row_streams (row ∷ rows) = ap suc (length-row_streams rows)
 
 -- ---- the ranges
 
-pub laid-length : (at : ℕ) (rows : List StreamRow) → length (laid_out at rows) ≡ length rows
+pub laid-length : (at : ℕ) (rows : List Visited) → length (laid_out at rows) ≡ length rows
 laid-length at [] = refl
-laid-length at (row ∷ rows) = ap suc (laid-length (at + row.to) rows)
+laid-length at (row ∷ rows) = ap suc (laid-length (at + row.count) rows)
 
-pub laid-streams : (at : ℕ) (rows : List StreamRow) → streams_in (laid_out at rows) ≡ streams_in rows
+pub laid-streams : (at : ℕ) (rows : List Visited) → row_streams (laid_out at rows) ≡ streams_in rows
 laid-streams at [] = refl
-laid-streams at (row ∷ rows) = ap (λ l. row.stream ∷ l) (laid-streams (at + row.to) rows)
+laid-streams at (row ∷ rows) = ap (λ l. row.stream ∷ l) (laid-streams (at + row.count) rows)
 
-laid-from : (at : ℕ) (rows : List StreamRow) (r : ℕ) (d : StreamRow) → r < length rows
+laid-from : (at : ℕ) (rows : List Visited) (r : ℕ) (d : StreamRow) → r < length rows
     → at ≤ (get_or (laid_out at rows) r d).from
 laid-from at [] r d l = absurd (omega arith)
 laid-from at (row ∷ rows) zero d l = omega arith
-laid-from at (row ∷ rows) (suc r) d l = let h = laid-from (at + row.to) rows r d (omega arith) in omega (arith, h)
+laid-from at (row ∷ rows) (suc r) d l = let h = laid-from (at + row.count) rows r d (omega arith) in omega (arith, h)
 
-laid-empty : (at : ℕ) (rows : List StreamRow) (r : ℕ) (d : StreamRow) → r < length rows →
+laid-empty : (at : ℕ) (rows : List Visited) (r : ℕ) (d : StreamRow) → r < length rows →
     (get_or (laid_out at rows) r d).to ≡ (get_or (laid_out at rows) r d).from
 laid-empty at [] r d l = absurd (omega arith)
 laid-empty at (row ∷ rows) zero d l = refl
-laid-empty at (row ∷ rows) (suc r) d l = laid-empty (at + row.to) rows r d (omega arith)
+laid-empty at (row ∷ rows) (suc r) d l = laid-empty (at + row.count) rows r d (omega arith)
 
-laid-within : (at : ℕ) (rows : List StreamRow) (r : ℕ) (d : StreamRow) → r < length rows →
-    (get_or (laid_out at rows) r d).from + (get_or rows r d).to ≤ at + total_of rows
-laid-within at [] r d l = absurd (omega arith)
-laid-within at (row ∷ rows) zero d l = omega arith
-laid-within at (row ∷ rows) (suc r) d l = let h = laid-within (at + row.to) rows r d (omega arith) in omega (arith, h)
+laid-within : (at : ℕ) (rows : List Visited) (r : ℕ) (d : StreamRow) (e : Visited) → r < length rows →
+    (get_or (laid_out at rows) r d).from + (get_or rows r e).count ≤ at + total_of rows
+laid-within at [] r d e l = absurd (omega arith)
+laid-within at (row ∷ rows) zero d e l = omega arith
+laid-within at (row ∷ rows) (suc r) d e l =
+    let h = laid-within (at + row.count) rows r d e (omega arith) in omega (arith, h)
 
-laid-apart : (at : ℕ) (rows : List StreamRow) (r s : ℕ) (d : StreamRow) → r < s → s < length rows →
-    (get_or (laid_out at rows) r d).from + (get_or rows r d).to ≤ (get_or (laid_out at rows) s d).from
-laid-apart at [] r s d p l = absurd (omega arith)
-laid-apart at (row ∷ rows) r zero d p l = absurd (omega arith)
-laid-apart at (row ∷ rows) zero (suc s) d p l = laid-from (at + row.to) rows s d (omega arith)
-laid-apart at (row ∷ rows) (suc r) (suc s) d p l = laid-apart (at + row.to) rows r s d (omega arith) (omega arith)
+laid-apart : (at : ℕ) (rows : List Visited) (r s : ℕ) (d : StreamRow) (e : Visited) → r < s → s < length rows →
+    (get_or (laid_out at rows) r d).from + (get_or rows r e).count ≤ (get_or (laid_out at rows) s d).from
+laid-apart at [] r s d e p l = absurd (omega arith)
+laid-apart at (row ∷ rows) r zero d e p l = absurd (omega arith)
+laid-apart at (row ∷ rows) zero (suc s) d e p l = laid-from (at + row.count) rows s d (omega arith)
+laid-apart at (row ∷ rows) (suc r) (suc s) d e p l =
+    laid-apart (at + row.count) rows r s d e (omega arith) (omega arith)
 
-laid-positions : (rows : List StreamRow) (notes : List (ℕ × ℕ)) (r : ℕ) →
-    row_positions r (laid_out 0 rows) notes ≡ row_positions r rows notes
+laid-positions : (rows : List Visited) (notes : List (ℕ × ℕ)) (r : ℕ) →
+    row_positions r (row_streams (laid_out 0 rows)) notes ≡ row_positions r (streams_in rows) notes
 laid-positions rows notes r = ap (λ l. noted_positions (get_or l r 0) notes) (laid-streams 0 rows)
 
-pub room-laid : (rows : List StreamRow) (notes : List (ℕ × ℕ))
-    → ((r : ℕ) (d : StreamRow) → r < length rows → (get_or rows r d).to ≡ length (row_positions r rows notes))
+pub room-laid : (rows : List Visited) (notes : List (ℕ × ℕ))
+    → ((r : ℕ) (d : Visited) → r < length rows
+    → (get_or rows r d).count ≡ length (row_positions r (streams_in rows) notes))
     → HasRoomFor (laid_out 0 rows) notes (total_of rows)
 room-laid rows notes counts = record {
   empty = λ r d l. let n = laid-length 0 rows in laid-empty 0 rows r d (omega (arith, l, n));
   apart = λ r s d p l.
       let n = laid-length 0 rows in
       let m : s < length rows = omega (arith, l, n) in
-      let h = laid-apart 0 rows r s d p m in
-      let c = counts r d (omega (arith, p, m)) ∙ ap length (sym (laid-positions rows notes r)) in
+      let none : Visited = record { stream = 0; count = 0 } in
+      let h = laid-apart 0 rows r s d none p m in
+      let c = counts r none (omega (arith, p, m)) ∙ ap length (sym (laid-positions rows notes r)) in
       omega (arith, h, c);
   within = λ r d l.
       let n = laid-length 0 rows in
       let m : r < length rows = omega (arith, l, n) in
-      let h = laid-within 0 rows r d m in
-      let c = counts r d m ∙ ap length (sym (laid-positions rows notes r)) in
+      let none : Visited = record { stream = 0; count = 0 } in
+      let h = laid-within 0 rows r d none m in
+      let c = counts r none m ∙ ap length (sym (laid-positions rows notes r)) in
       omega (arith, h, c);
 }
 
@@ -94,8 +103,8 @@ between-above : (xs : List ℕ) (from to at position : ℕ) → at < from → be
 between-above xs from to at position h = ap (take (to - from)) (drop-set-lt from xs at position h)
 
 module _ (empty : List StreamRow) (all came later : List (ℕ × ℕ)) (total : ℕ) (room : HasRoomFor empty all total)
-    (index stream position : ℕ) (distinct : AreDistinct (streams_in empty))
-    (at : slice_get (streams_in empty) index ≡ Some stream) (above : stream ≢ 0)
+    (index stream position : ℕ) (distinct : AreDistinct (row_streams empty))
+    (at : slice_get (row_streams empty) index ≡ Some stream) (above : stream ≢ 0)
     (parts : (came ++ (stream, position) ∷ []) ++ later ≡ all)
     (rows : List StreamRow) (positions : List ℕ) (long : length positions ≡ total)
     (filled : IsFilled empty came rows positions) (e : StreamRow) where
@@ -106,25 +115,33 @@ module _ (empty : List StreamRow) (all came later : List (ℕ × ℕ)) (total : 
   row = get_or rows index e
 
   known : index < length empty
-  known = row-within empty index stream distinct at above
+  known =
+      let n = length-row_streams empty in
+      omega (arith, row-within (row_streams empty) index stream distinct at above, n)
 
-  positions-all : (r : ℕ) → length (row_positions r empty noted_now) ≤ length (row_positions r empty all)
+  positions-all : (r : ℕ) → length (row_positions r (row_streams empty) noted_now)
+      ≤ length (row_positions r (row_streams empty) all)
   positions-all r =
-      let split = sym (noted_positions-append (get_or (streams_in empty) r 0) noted_now later)
-      ∙ ap (row_positions r empty) parts in
-      let n = sym (length-append (row_positions r empty noted_now) (row_positions r empty later)) ∙ ap length split in
+      let split = sym (noted_positions-append (get_or (row_streams empty) r 0) noted_now later)
+      ∙ ap (row_positions r (row_streams empty)) parts in
+      let n = sym (length-append (row_positions r (row_streams empty) noted_now)
+      (row_positions r (row_streams empty) later))
+      ∙ ap length split in
       omega (arith, n)
 
-  more-here : row_positions index empty noted_now ≡ row_positions index empty came ++ position ∷ []
-  more-here = positions-here empty index stream distinct at above came position
+  more-here : row_positions index (row_streams empty) noted_now
+      ≡ row_positions index (row_streams empty) came ++ position ∷ []
+  more-here = positions-here (row_streams empty) index stream distinct at above came position
 
-  more-there : (r : ℕ) → (index == r) ≡ false → row_positions r empty noted_now ≡ row_positions r empty came
-  more-there r t = positions-there empty index stream distinct at above came position r t
+  more-there : (r : ℕ) → (index == r) ≡ false
+      → row_positions r (row_streams empty) noted_now ≡ row_positions r (row_streams empty) came
+  more-there r t = positions-there (row_streams empty) index stream distinct at above came position r t
 
-  length-here : length (row_positions index empty noted_now) ≡ length (row_positions index empty came) + 1
-  length-here = ap length more-here ∙ length-append (row_positions index empty came) (position ∷ [])
+  length-here : length (row_positions index (row_streams empty) noted_now)
+      ≡ length (row_positions index (row_streams empty) came) + 1
+  length-here = ap length more-here ∙ length-append (row_positions index (row_streams empty) came) (position ∷ [])
 
-  place-is : row.to ≡ (get_or empty index e).from + length (row_positions index empty came)
+  place-is : row.to ≡ (get_or empty index e).from + length (row_positions index (row_streams empty) came)
   place-is = ap (λ (x : StreamRow). x.to) (filled.ranges index e known)
 
   pub place-within : row.to < length positions
@@ -135,47 +152,51 @@ module _ (empty : List StreamRow) (all came later : List (ℕ × ℕ)) (total : 
       omega (arith, here, all, end, place-is, long)
 
   ranges-more : (r : ℕ) (d : StreamRow) → r < length empty →
-      get_or (set rows index (counted row)) r d ≡ grown (get_or empty r d) (length (row_positions r empty noted_now))
+      get_or (set rows index (longer row)) r d
+      ≡ grown (get_or empty r d) (length (row_positions r (row_streams empty) noted_now))
   ranges-more r d l = by_test _ refl where
     by_test : (b : Bool) → (index == r) ≡ b →
-        get_or (set rows index (counted row)) r d ≡ grown (get_or empty r d) (length (row_positions r empty noted_now))
+        get_or (set rows index (longer row)) r d
+        ≡ grown (get_or empty r d) (length (row_positions r (row_streams empty) noted_now))
     by_test true t =
         let same = eqb-true index r t in
         let k : index < length rows = omega (arith, known, filled.long) in
-        let sum : (get_or empty index e).from + length (row_positions index empty came) + 1
-        ≡ (get_or empty index e).from + length (row_positions index empty noted_now) =
+        let sum : (get_or empty index e).from + length (row_positions index (row_streams empty) came) + 1
+        ≡ (get_or empty index e).from + length (row_positions index (row_streams empty) noted_now) =
         omega (arith, length-here) in
-        let here : get_or (set rows index (counted row)) index d
-        ≡ grown (get_or empty index d) (length (row_positions index empty noted_now)) =
-        get_or-set_same rows index (counted row) d k
-        ∙ ap counted (filled.ranges index e known)
+        let here : get_or (set rows index (longer row)) index d
+        ≡ grown (get_or empty index d) (length (row_positions index (row_streams empty) noted_now)) =
+        get_or-set_same rows index (longer row) d k
+        ∙ ap longer (filled.ranges index e known)
         ∙ ap (λ n. record { stream = (get_or empty index e).stream; from = (get_or empty index e).from; to = n }) sum
-        ∙ ap (λ x. grown x (length (row_positions index empty noted_now))) (get_or_default empty index e d known) in
-        subst (λ r. get_or (set rows index (counted row)) r d
-        ≡ grown (get_or empty r d) (length (row_positions r empty noted_now))) same here
+        ∙ ap (λ x. grown x (length (row_positions index (row_streams empty) noted_now)))
+        (get_or_default empty index e d known) in
+        subst (λ r. get_or (set rows index (longer row)) r d
+        ≡ grown (get_or empty r d) (length (row_positions r (row_streams empty) noted_now))) same here
     by_test false t =
         let apart : r ≢ index = λ p. true≢false (sym (eq-eqb index r (sym p)) ∙ t) in
-        get_or-set_other rows index r (counted row) d apart ∙ filled.ranges r d l
+        get_or-set_other rows index r (longer row) d apart ∙ filled.ranges r d l
         ∙ ap (λ p. grown (get_or empty r d) (length p)) (sym (more-there r t))
 
   filled-here : between (get_or empty index e).from
-      ((get_or empty index e).from + length (row_positions index empty noted_now))
+      ((get_or empty index e).from + length (row_positions index (row_streams empty) noted_now))
       (set positions row.to position)
-      ≡ row_positions index empty noted_now
+      ≡ row_positions index (row_streams empty) noted_now
   filled-here =
       let from = (get_or empty index e).from in
-      let end : (get_or empty index e).from + length (row_positions index empty noted_now) ≡ row.to + 1 =
+      let end : (get_or empty index e).from + length (row_positions index (row_streams empty) noted_now) ≡ row.to + 1 =
       omega (arith, length-here, place-is) in
-      let was : between (get_or empty index e).from row.to positions ≡ row_positions index empty came =
+      let was : between (get_or empty index e).from row.to positions ≡ row_positions index (row_streams empty) came =
       ap (λ n. between from n positions) place-is ∙ filled.filled index e known in
       ap (λ n. between from n (set positions row.to position)) end
       ∙ between-put positions from row.to position (omega (arith, place-is)) place-within
       ∙ ap (λ l. l ++ position ∷ []) was ∙ sym more-here
 
   others-stay : (r : ℕ) → r < length empty → (r < index) ⊎ ((r ≡ index) ⊎ (index < r)) → (index == r) ≡ false →
-      between (get_or empty r e).from ((get_or empty r e).from + length (row_positions r empty came))
+      between (get_or empty r e).from ((get_or empty r e).from + length (row_positions r (row_streams empty) came))
       (set positions row.to position)
-      ≡ between (get_or empty r e).from ((get_or empty r e).from + length (row_positions r empty came)) positions
+      ≡ between (get_or empty r e).from ((get_or empty r e).from + length (row_positions r (row_streams empty) came))
+      positions
   others-stay r l (inl p) t =
       let a = room.apart r index e p known in
       let all = positions-all r in
@@ -188,26 +209,31 @@ module _ (empty : List StreamRow) (all came later : List (ℕ × ℕ)) (total : 
       between-above positions _ _ row.to position (omega (arith, a, all, length-here, place-is))
 
   filled-more : (r : ℕ) → r < length empty →
-      between (get_or empty r e).from ((get_or empty r e).from + length (row_positions r empty noted_now))
-      (set positions row.to position) ≡ row_positions r empty noted_now
+      between (get_or empty r e).from ((get_or empty r e).from + length (row_positions r (row_streams empty) noted_now))
+      (set positions row.to position) ≡ row_positions r (row_streams empty) noted_now
   filled-more r l = by_test _ refl where
     by_test : (b : Bool) → (index == r) ≡ b →
-        between (get_or empty r e).from ((get_or empty r e).from + length (row_positions r empty noted_now))
-        (set positions row.to position) ≡ row_positions r empty noted_now
+        between (get_or empty r e).from
+        ((get_or empty r e).from + length (row_positions r (row_streams empty) noted_now))
+        (set positions row.to position)
+        ≡ row_positions r (row_streams empty) noted_now
     by_test true t =
-        subst (λ r. between (get_or empty r e).from ((get_or empty r e).from + length (row_positions r empty noted_now))
-        (set positions row.to position) ≡ row_positions r empty noted_now) (eqb-true index r t) filled-here
+        subst (λ r. between (get_or empty r e).from
+        ((get_or empty r e).from + length (row_positions r (row_streams empty) noted_now))
+        (set positions row.to position) ≡ row_positions r (row_streams empty) noted_now)
+        (eqb-true index r t) filled-here
     by_test false t =
         ap (λ p. between (get_or empty r e).from ((get_or empty r e).from + length p) (set positions row.to position))
         (more-there r t)
         ∙ others-stay r l (three r index) t ∙ filled.filled r e l ∙ sym (more-there r t)
 
-  pub placed-more : IsFilled empty noted_now (set rows index (counted row)) (set positions row.to position)
+  pub placed-more : IsFilled empty noted_now (set rows index (longer row)) (set positions row.to position)
   placed-more = record {
-    long = length-set rows index (counted row) ∙ filled.long;
+    long = length-set rows index (longer row) ∙ filled.long;
     ranges = ranges-more;
     filled = λ r d l.
-        ap (λ x. between x.from (x.from + length (row_positions r empty noted_now)) (set positions row.to position))
+        ap (λ x. between x.from (x.from + length (row_positions r (row_streams empty) noted_now))
+        (set positions row.to position))
         (get_or_default empty r d e l) ∙ filled-more r l;
   }
 
@@ -234,12 +260,12 @@ placed-none empty all total positions room = record {
 
 pub filled-streams : (empty rows : List StreamRow) (notes : List (ℕ × ℕ)) (positions : List ℕ)
     → IsFilled empty notes rows positions →
-    streams_in rows ≡ streams_in empty
+    row_streams rows ≡ row_streams empty
 filled-streams empty rows notes positions filled =
-    same_lists (streams_in rows) (streams_in empty)
-    (length-streams_in rows ∙ filled.long ∙ sym (length-streams_in empty))
+    same_lists (row_streams rows) (row_streams empty)
+    (length-row_streams rows ∙ filled.long ∙ sym (length-row_streams empty))
     (λ k d l.
-    let n = length-streams_in rows in
+    let n = length-row_streams rows in
     let m : k < length empty = omega (arith, l, n, filled.long) in
     let e : StreamRow = record { stream = 0; from = 0; to = 0 } in
     get_or-map (λ (row : StreamRow). row.stream) rows k e d (omega (arith, l, n))

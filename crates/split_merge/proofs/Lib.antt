@@ -1,11 +1,6 @@
-pub mod Numbered
-pub mod Sweep
-pub mod RoundMembers
-pub mod RoundSteps
-pub mod RoundParts
-pub mod RoundMerge
-pub mod RoundExamples
+mod Numbered
 pub mod NamedStreams
+pub mod Rising
 pub mod Visited
 pub mod Positions
 pub mod LaidOut
@@ -13,6 +8,6 @@ pub mod Placed
 pub mod Ahead
 pub mod LoudStreams
 pub mod SplitIs
+pub mod LoudLaid
 pub mod GroupRanges
 pub mod ShownMerge
-pub mod RoundCuts

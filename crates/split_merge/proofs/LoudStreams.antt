@@ -6,7 +6,7 @@ use Rattle.std.proofs.lemmas.List.{drop_more, length-append}
 use borrow.Author.Tests.{eqb-true, eq-eqb}
 use Rattle.stream_credit.specs.declared.quiet_streams.QuietStream.{QuietStream}
 use Rattle.stream_credit.specs.code.QuietStream.{opened_of}
-use Rattle.split_merge.specs.declared.splits.StreamRow.{StreamRow}
+use Rattle.split_merge.specs.declared.visits.Visited.{Visited}
 use Rattle.split_merge.specs.code.Visits.{streams_in, noted, noted_positions, total_of, is_among, NotAmong, AreDistinct}
 use Rattle.split_merge.specs.code.Loud.{loud_of, places_from, opened_in, quiet_in, ArePlaces, heard}
 use Rattle.split_merge.proofs.NamedStreams.{none_among, found_among}
@@ -14,7 +14,7 @@ use Rattle.split_merge.proofs.Visited.{noted-one, get-from_slice_get, within-fro
 
 -- ---- what holds of all holds of the loud ones
 
-pub loud-streams : (rows : List StreamRow) (quiets : List QuietStream) → streams_in (loud_of rows quiets) ≡ loud_of
+pub loud-streams : (rows : List Visited) (quiets : List QuietStream) → streams_in (loud_of rows quiets) ≡ loud_of
     (streams_in rows) quiets
 loud-streams [] quiets = refl
 loud-streams (row ∷ rows) [] = refl
@@ -43,50 +43,44 @@ loud-distinct (x ∷ xs) (quiet ∷ quiets) h = by_test quiet.is_quiet (loud-dis
   by_test true ih = ih
   by_test false ih = (loud-not_among x xs quiets h.0, ih)
 
-pub loud-total : (rows : List StreamRow) (quiets : List QuietStream) → total_of (loud_of rows quiets) ≤ total_of rows
+pub loud-total : (rows : List Visited) (quiets : List QuietStream) → total_of (loud_of rows quiets) ≤ total_of rows
 loud-total [] quiets = omega arith
 loud-total (row ∷ rows) [] = omega arith
 loud-total (row ∷ rows) (quiet ∷ quiets) = by_test quiet.is_quiet (loud-total rows quiets) where
   by_test : (b : Bool) → total_of (loud_of rows quiets) ≤ total_of rows →
-      total_of (if b then loud_of rows quiets else row ∷ loud_of rows quiets) ≤ row.to + total_of rows
+      total_of (if b then loud_of rows quiets else row ∷ loud_of rows quiets) ≤ row.count + total_of rows
   by_test true ih = omega (arith, ih)
   by_test false ih = omega (arith, ih)
 
-at-first : (P : StreamRow → Type 0) (row : StreamRow) (rows : List StreamRow) → P row →
-    ((k : ℕ) (d : StreamRow) → k < length rows → P (get_or rows k d)) →
-    (k : ℕ) (d : StreamRow) → k < length (row ∷ rows) → P (get_or (row ∷ rows) k d)
+at-first : (P : Visited → Type 0) (row : Visited) (rows : List Visited) → P row →
+    ((k : ℕ) (d : Visited) → k < length rows → P (get_or rows k d)) →
+    (k : ℕ) (d : Visited) → k < length (row ∷ rows) → P (get_or (row ∷ rows) k d)
 at-first P row rows here rest zero d l = here
 at-first P row rows here rest (suc k) d l = rest k d (omega (arith, l))
 
-pub loud-each : (P : StreamRow → Type 0) (rows : List StreamRow) (quiets : List QuietStream) →
-    ((k : ℕ) (d : StreamRow) → k < length rows → P (get_or rows k d)) →
-    (k : ℕ) (d : StreamRow) → k < length (loud_of rows quiets) → P (get_or (loud_of rows quiets) k d)
+pub loud-each : (P : Visited → Type 0) (rows : List Visited) (quiets : List QuietStream) →
+    ((k : ℕ) (d : Visited) → k < length rows → P (get_or rows k d)) →
+    (k : ℕ) (d : Visited) → k < length (loud_of rows quiets) → P (get_or (loud_of rows quiets) k d)
 loud-each P [] quiets h = λ k d l. absurd (omega (arith, l))
 loud-each P (row ∷ rows) [] h = λ k d l. absurd (omega (arith, l))
 loud-each P (row ∷ rows) (quiet ∷ quiets) h =
     by_test quiet.is_quiet (loud-each P rows quiets (λ k d l. h (suc k) d (omega (arith, l)))) where
-      by_test : (b : Bool) → ((k : ℕ) (d : StreamRow) → k < length (loud_of rows quiets)
+      by_test : (b : Bool) → ((k : ℕ) (d : Visited) → k < length (loud_of rows quiets)
           → P (get_or (loud_of rows quiets) k d)) →
-          (k : ℕ) (d : StreamRow) → k < length (if b then loud_of rows quiets else row ∷ loud_of rows quiets) →
+          (k : ℕ) (d : Visited) → k < length (if b then loud_of rows quiets else row ∷ loud_of rows quiets) →
           P (get_or (if b then loud_of rows quiets else row ∷ loud_of rows quiets) k d)
       by_test true ih = ih
       by_test false ih = at-first P row (loud_of rows quiets) (h zero row (omega arith)) ih
 
 -- ---- one row more
 
-loud-first : (x : StreamRow) (xs : List StreamRow) (quiet : QuietStream) (quiets : List QuietStream) →
+loud-first : (x : Visited) (xs : List Visited) (quiet : QuietStream) (quiets : List QuietStream) →
     loud_of (x ∷ xs) (quiet ∷ quiets) ≡ loud_of (x ∷ []) (quiet ∷ []) ++ loud_of xs quiets
 loud-first x xs quiet quiets = by_test quiet.is_quiet where
   by_test : (b : Bool) → (if b then loud_of xs quiets else x ∷ loud_of xs quiets) ≡ (if b then [] else x ∷ [])
       ++ loud_of xs quiets
   by_test true = refl
   by_test false = refl
-
-pub loud-one : (x : StreamRow) (quiet : QuietStream) → length (loud_of (x ∷ []) (quiet ∷ [])) ≤ 1
-loud-one x quiet = by_test quiet.is_quiet where
-  by_test : (b : Bool) → length (if b then [] else x ∷ []) ≤ 1
-  by_test true = omega arith
-  by_test false = omega arith
 
 opened-first : (quiet : QuietStream) (quiets : List QuietStream) →
     opened_in (quiet ∷ quiets) ≡ opened_in (quiet ∷ []) ++ opened_in quiets
@@ -100,15 +94,15 @@ opened-first quiet quiets = by_test quiet.is_quiet where
   by_test true = sym (append_assoc (option_to_list (opened_of quiet.opened)) [] (opened_in quiets))
   by_test false = refl
 
-module _ (rows : List StreamRow) (quiets : List QuietStream) (i : ℕ) (l : i < length rows) (m : i < length quiets)
-    (d : StreamRow) (e : QuietStream) where
-  abbrev row : StreamRow
+module _ (rows : List Visited) (quiets : List QuietStream) (i : ℕ) (l : i < length rows) (m : i < length quiets)
+    (d : Visited) (e : QuietStream) where
+  abbrev row : Visited
   row = get_or rows i d
 
   abbrev quiet : QuietStream
   quiet = get_or quiets i e
 
-  pub rows-more : (before after : List StreamRow) → before ++ loud_of (drop i rows) (drop i quiets)
+  pub rows-more : (before after : List Visited) → before ++ loud_of (drop i rows) (drop i quiets)
       ≡ loud_of rows quiets →
       after ≡ before ++ loud_of (get_or rows i d ∷ []) (get_or quiets i e ∷ []) →
       after ++ loud_of (drop (i + 1) rows) (drop (i + 1) quiets) ≡ loud_of rows quiets
@@ -129,27 +123,33 @@ module _ (rows : List StreamRow) (quiets : List QuietStream) (i : ℕ) (l : i < 
       ∙ ap (λ b. before ++ opened_in b) (sym (drop_more quiets i e m))
       ∙ h
 
-places-first : (at next : ℕ) (row : StreamRow) (quiet : QuietStream) (quiets : List QuietStream) →
-    next ≡ at + length (loud_of (row ∷ []) (quiet ∷ [])) →
-    places_from at (quiet ∷ quiets) ≡ places_from at (quiet ∷ []) ++ places_from next quiets
-places-first at next row quiet quiets = by_test quiet.is_quiet where
-  by_test : (b : Bool) → next ≡ at + length (if b then [] else row ∷ []) →
-      (if b then None ∷ places_from at quiets else Some at ∷ places_from (at + 1) quiets)
-      ≡ (if b then None ∷ [] else Some at ∷ []) ++ places_from next quiets
-  by_test true e = let same : at ≡ next = omega (arith, e) in ap (λ n. None ∷ places_from n quiets) same
-  by_test false e = let same : at + 1 ≡ next = omega (arith, e) in ap (λ n. Some at ∷ places_from n quiets) same
+module _ (quiets : List QuietStream) (i at : ℕ) (quiet : QuietStream) (is : quiet ≡ get_or quiets i quiet)
+    (l : i < length quiets) (before after whole : List (Option ℕ))
+    (seen : before ++ places_from at (drop i quiets) ≡ whole) where
+  next-quiet : drop i quiets ≡ quiet ∷ drop (i + 1) quiets
+  next-quiet = drop_more quiets i quiet l ∙ ap (λ q. q ∷ drop (i + 1) quiets) (sym is)
 
-pub places-more : (quiets : List QuietStream) (i at next : ℕ) (row : StreamRow) (e : QuietStream) → i < length quiets →
-    next ≡ at + length (loud_of (row ∷ []) (get_or quiets i e ∷ [])) → (before after : List (Option ℕ)) →
-    before ++ places_from at (drop i quiets) ≡ places_from 0 quiets →
-    after ≡ before ++ places_from at (get_or quiets i e ∷ []) →
-    after ++ places_from next (drop (i + 1) quiets) ≡ places_from 0 quiets
-places-more quiets i at next row e m n before after h is =
-    ap (λ a. a ++ places_from next (drop (i + 1) quiets)) is
-    ∙ append_assoc before (places_from at (get_or quiets i e ∷ [])) (places_from next (drop (i + 1) quiets))
-    ∙ ap (λ b. before ++ b) (sym (places-first at next row (get_or quiets i e) (drop (i + 1) quiets) n))
-    ∙ ap (λ b. before ++ places_from at b) (sym (drop_more quiets i e m))
-    ∙ h
+  pub place-none : quiet.is_quiet ≡ true → after ≡ before ++ None ∷ []
+      → after ++ places_from at (drop (i + 1) quiets) ≡ whole
+  place-none e more =
+      let rest = drop (i + 1) quiets in
+      let first : places_from at (quiet ∷ rest) ≡ None ∷ places_from at rest = rw e refl in
+      ap (λ a. a ++ places_from at rest) more
+      ∙ append_assoc before (None ∷ []) (places_from at rest)
+      ∙ ap (λ b. before ++ b) (sym first)
+      ∙ ap (λ b. before ++ places_from at b) (sym next-quiet)
+      ∙ seen
+
+  pub place-some : quiet.is_quiet ≡ false → after ≡ before ++ Some at ∷ []
+      → after ++ places_from (at + 1) (drop (i + 1) quiets) ≡ whole
+  place-some e more =
+      let rest = drop (i + 1) quiets in
+      let first : places_from at (quiet ∷ rest) ≡ Some at ∷ places_from (at + 1) rest = rw e refl in
+      ap (λ a. a ++ places_from (at + 1) rest) more
+      ∙ append_assoc before (Some at ∷ []) (places_from (at + 1) rest)
+      ∙ ap (λ b. before ++ b) (sym first)
+      ∙ ap (λ b. before ++ places_from at b) (sym next-quiet)
+      ∙ seen
 
 -- ---- which of the streams are loud
 

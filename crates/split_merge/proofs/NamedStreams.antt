@@ -1,13 +1,14 @@
 -- The streams that frames name, gathered one by one.
-use Rattle.std.proofs.Common.{◌≡◌, ◌≢◌, ℕ, zero, suc, Bool, true, false, not, ◌==◌, ◌||◌, ◌&&◌, List, [], ◌∷◌, ◌++◌}
-use Rattle.std.proofs.Common.{length, slice_get, filter, refl, sym, ap, ◌∙◌, subst, Some, append_assoc, true≢false}
-use Rattle.std.specs.List.{find, list_any}
-use Rattle.table_hash.specs.declared.TableHash.{TableHash}
-use Rattle.indexmap.specs.IndexSet.{IndexSet, insert_key, IsEmpty}
-use Rattle.split_merge.specs.declared.splits.StreamRow.{StreamRow}
+use Rattle.std.proofs.Common.{◌≡◌, ◌≢◌, ℕ, ◌<◌, zero, suc, Bool, true, false, not, ◌==◌, ◌||◌, ◌&&◌, List, [], ◌∷◌}
+use Rattle.std.proofs.Common.{◌++◌, length, get_or, slice_get, filter, arith, refl, sym, ap, ◌∙◌, subst, Some}
+use Rattle.std.proofs.Common.{append_assoc, true≢false}
+use Rattle.std.proofs.lemmas.List.{get_or-map}
+use Rattle.std.proofs.lemmas.Option.{slice_get-get_or}
+use Rattle.std.specs.List.{find}
+use Rattle.split_merge.specs.declared.visits.Visited.{Visited}
 use borrow.Author.Tests.{eqb-true, eq-eqb}
 use Rattle.audit_terms.specs.Pass.{first_of}
-use Rattle.split_merge.specs.code.Visits.{NotAmong, AreDistinct, IsIndex, is_among, with_stream, streams_in}
+use Rattle.split_merge.specs.code.Visits.{NotAmong, AreDistinct, is_among, with_stream, streams_in}
 
 -- the streams that are not among those seen
 abbrev pub without : List ℕ → List ℕ → List ℕ
@@ -160,19 +161,10 @@ found-passes test (y ∷ xs) x e = step _ refl (found-passes test xs x) where
       let f : find test (y ∷ xs) ≡ find test xs = rw h refl in
       later (sym f ∙ e)
 
--- the row of a stream that the set finds among its keys
-pub row-from_set : (seen : List ℕ) (set : IndexSet ℕ TableHash) → IsIndex seen set → (stream row key : ℕ) →
-    Some key ≡ find (λ other. stream == other) set.keys → slice_get set.keys row ≡ Some key →
-    slice_get seen row ≡ Some stream
-row-from_set seen set index stream row key found at =
-    let e : stream ≡ key = eqb-true stream key (found-passes (λ other. stream == other) set.keys key (sym found)) in
-    subst (λ keys. slice_get keys row ≡ Some stream) index.keys (at ∙ ap Some (sym e))
-
--- a stream that the set does not find
-pub absent-from_set : (seen : List ℕ) (set : IndexSet ℕ TableHash) → IsIndex seen set → (stream : ℕ) →
-    list_any (λ other. stream == other) set.keys ≡ false → NotAmong stream seen
-absent-from_set seen set index stream h =
-    none-from_test stream seen (ap (is_among stream) (sym index.keys) ∙ h)
+-- the key that a table finds for a stream is the stream
+pub key-found : (keys : List ℕ) (stream key : ℕ) → Some key ≡ find (λ other. stream == other) keys → stream ≡ key
+key-found keys stream key found =
+    eqb-true stream key (found-passes (λ other. stream == other) keys key (sym found))
 
 pub slice_get-append : (xs ys : List ℕ) (i x : ℕ) → slice_get xs i ≡ Some x → slice_get (xs ++ ys) i ≡ Some x
 slice_get-append [] ys i x e = cc
@@ -187,31 +179,28 @@ pub not_among-append : (q s : ℕ) (xs : List ℕ) → NotAmong q xs → q ≢ s
 not_among-append q s [] h n = (n, tt)
 not_among-append q s (x ∷ xs) h n = (h.0, not_among-append q s xs h.1 n)
 
-distinct-append : (s : ℕ) (xs : List ℕ) → NotAmong s xs → AreDistinct xs → AreDistinct (xs ++ s ∷ [])
+pub distinct-append : (s : ℕ) (xs : List ℕ) → NotAmong s xs → AreDistinct xs → AreDistinct (xs ++ s ∷ [])
 distinct-append s [] n h = (tt, tt)
 distinct-append s (x ∷ xs) n h = (not_among-append x s xs h.0 (λ e. n.0 (sym e)), distinct-append s xs n.1 h.1)
 
--- one more stream
-pub index-more : (seen : List ℕ) (before after : IndexSet ℕ TableHash) (stream : ℕ) → stream ≢ 0 → IsIndex seen before →
-    NotAmong stream seen → after.keys ≡ insert_key (λ a b. a == b) before.keys stream
-    → IsIndex (seen ++ stream ∷ []) after
-index-more seen before after stream above index new keys = record {
-  distinct = distinct-append stream seen new index.distinct;
-  above = not_among-append 0 stream seen index.above (λ e. above (sym e));
-  keys =
-      let none : is_among stream before.keys ≡ false = ap (is_among stream) index.keys ∙ none_among stream seen new in
-      let put : insert_key (λ a b. a == b) before.keys stream ≡ before.keys ++ stream ∷ [] = rw none refl in
-      keys ∙ put ∙ ap (λ l. l ++ stream ∷ []) index.keys;
-}
-
-pub streams_in-push : (rows : List StreamRow) (row : StreamRow) → streams_in (rows ++ row ∷ []) ≡ streams_in rows
+pub streams_in-push : (rows : List Visited) (row : Visited) → streams_in (rows ++ row ∷ []) ≡ streams_in rows
     ++ row.stream ∷ []
 streams_in-push [] row = refl
 streams_in-push (x ∷ rows) row = ap (λ l. x.stream ∷ l) (streams_in-push rows row)
 
-pub length-streams_in : (rows : List StreamRow) → length (streams_in rows) ≡ length rows
+pub length-streams_in : (rows : List Visited) → length (streams_in rows) ≡ length rows
 length-streams_in [] = refl
 length-streams_in (x ∷ rows) = ap suc (length-streams_in rows)
+
+pub stream-at : (rows : List Visited) (k : ℕ) (d : Visited) → k < length rows
+    → get_or (streams_in rows) k 0 ≡ (get_or rows k d).stream
+stream-at rows k d l = get_or-map (λ (row : Visited). row.stream) rows k d 0 l
+
+pub row-at : (rows : List Visited) (k : ℕ) (d : Visited) → k < length rows →
+    slice_get (streams_in rows) k ≡ Some (get_or rows k d).stream
+row-at rows k d l =
+    let n = length-streams_in rows in
+    slice_get-get_or (streams_in rows) k 0 (omega (arith, l, n)) ∙ ap Some (stream-at rows k d l)
 
 without-none : (streams : List ℕ) → without [] streams ≡ streams
 without-none [] = refl
@@ -219,11 +208,3 @@ without-none (x ∷ xs) = ap (λ l. x ∷ l) (without-none xs)
 
 pub named-first : (streams : List ℕ) → [] ++ without [] streams ≡ streams
 named-first streams = without-none streams
-
--- a set of no stream
-pub index-empty : (set : IndexSet ℕ TableHash) → IsEmpty set → IsIndex [] set
-index-empty set e = record {
-  distinct = tt;
-  above = tt;
-  keys = e;
-}

@@ -1,93 +1,10 @@
--- A frame is found by its number, since numbers rise.
-use Rattle.std.proofs.Common.{◌≡◌, ◌≢◌, ℕ, zero, suc, ◌+◌, ◌<◌, ◌≤◌, true, false, List, [], ◌∷◌, length, get_or, refl}
-use Rattle.std.proofs.Common.{arith, Some, None, nat_eq, eq-eqb, sym, subst, ⊎_elim}
-use Rattle.std.proofs.lemmas.Bool.{cases_lt}
-use Rattle.std.proofs.lemmas.Grind.{common_steps}
-use Rattle.std.specs.List.Sorted.{IsNonDecreasingBy, IsPartitionPoint}
-use Rattle.std.specs.Ordering.{nat_cmp, ordering_index}
-use Rattle.std.specs.declared.cmp.Ordering.TheVariants.{Less, Equal, Greater}
+-- Each of the frames of a connection is in range.
+use Rattle.std.proofs.Common.{ℕ, zero, suc, ◌+◌, ◌<◌, List, [], ◌∷◌, length, get_or, arith}
 use Rattle.audit_terms.specs.declared.frames.Frame.{Frame}
 use Rattle.audit_terms.specs.code.runs.Orderly.{IsInRange, IsOrderlyFrom}
-use Rattle.split_merge.specs.FrameLookup.{frame_numbered}
 
--- each frame's number is at least the bound
-pub number_at_least : (low : ℕ) (frames : List Frame) → IsOrderlyFrom low frames → (i : ℕ) (d : Frame)
-    → i < length frames → low ≤ (get_or frames i d).number
-number_at_least low [] h i d l = omega arith
-number_at_least low (x ∷ xs) h zero d l = h.0
-number_at_least low (x ∷ xs) h (suc i) d l = let later = number_at_least (x.number + 1) xs h.2 i d
-    (omega arith) in omega (arith, later, h.0)
-
--- each frame is in range
 pub in_range_at : (low : ℕ) (frames : List Frame) → IsOrderlyFrom low frames → (i : ℕ) (d : Frame) → i < length frames
     → IsInRange (get_or frames i d)
 in_range_at low [] h i d l = absurd (omega arith)
 in_range_at low (x ∷ xs) h zero d l = h.1
 in_range_at low (x ∷ xs) h (suc i) d l = in_range_at (x.number + 1) xs h.2 i d (omega arith)
-
--- a frame has its own number
-same_number : (n : ℕ) → nat_eq n n ≡ true
-same_number n = eq-eqb n n refl
-
--- the frame at an index is the one of its number
-pub frame_numbered_at : (low : ℕ) (frames : List Frame) → IsOrderlyFrom low frames → (i : ℕ) (d : Frame)
-    → i < length frames → frame_numbered frames (get_or frames i d).number ≡ Some (get_or frames i d)
-frame_numbered_at low [] h i d l = absurd (omega arith)
-frame_numbered_at low (x ∷ xs) h zero d l = rw same_number refl
-frame_numbered_at low (x ∷ xs) h (suc i) d l =
-    let later = number_at_least (x.number + 1) xs h.2 i d (omega arith) in
-    let apart : nat_eq x.number (get_or xs i d).number ≡ false = grind (arith, common_steps) in
-    rw apart (frame_numbered_at (x.number + 1) xs h.2 i d (omega arith))
-
--- there is none where no frame has the number
-pub frame_numbered_none : (frames : List Frame) (n : ℕ)
-    → ((i : ℕ) (d : Frame) → i < length frames → (get_or frames i d).number ≢ n) → frame_numbered frames n ≡ None
-frame_numbered_none [] n h = refl
-frame_numbered_none (x ∷ xs) n h =
-    let here : x.number ≢ n = h zero x (omega arith) in
-    let apart : nat_eq x.number n ≡ false = grind (arith, common_steps) in
-    rw apart (frame_numbered_none xs n (λ i d l. h (suc i) d (omega arith)))
-
--- numbers rise with the index
-numbers_rise : (low : ℕ) (frames : List Frame) → IsOrderlyFrom low frames → (i j : ℕ) (d : Frame) → i ≤ j
-    → j < length frames → (get_or frames i d).number ≤ (get_or frames j d).number
-numbers_rise low [] h i j d le l = absurd (omega arith)
-numbers_rise low (x ∷ xs) h zero zero d le l = omega arith
-numbers_rise low (x ∷ xs) h zero (suc j) d le l = let later = number_at_least (x.number + 1) xs h.2 j d
-    (omega arith) in omega (arith, later)
-numbers_rise low (x ∷ xs) h (suc i) zero d le l = absurd (omega arith)
-numbers_rise low (x ∷ xs) h (suc i) (suc j) d le l = numbers_rise (x.number + 1) xs h.2 i j d (omega arith)
-    (omega arith)
-
-equal_numbers : (a n : ℕ) → nat_cmp a n ≡ Equal → a ≡ n
-equal_numbers a n e = grind (arith, common_steps)
-
-less_apart : (a n : ℕ) → nat_cmp a n ≡ Less → a ≢ n
-less_apart a n e same = grind (arith, common_steps)
-
-greater_apart : (a n : ℕ) → nat_cmp a n ≡ Greater → a ≢ n
-greater_apart a n e same = grind (arith, common_steps)
-
-ranks_rise : (a b n : ℕ) → a ≤ b → ordering_index (nat_cmp a n) ≤ ordering_index (nat_cmp b n)
-ranks_rise a b n le = grind (arith, common_steps)
-
--- what a search by halving answers, where it finds the number
-pub frame_numbered_found : (frames : List Frame) (n i : ℕ) (d : Frame) → IsOrderlyFrom 0 frames → i < length frames
-    → ((e : Frame) → nat_cmp (get_or frames i e).number n ≡ Equal) → Some (get_or frames i d) ≡ frame_numbered frames n
-frame_numbered_found frames n i d h l at =
-    let same : (get_or frames i d).number ≡ n = equal_numbers _ _ (at d) in
-    sym (subst (λ (k : ℕ). frame_numbered frames k ≡ Some (get_or frames i d)) same
-    (frame_numbered_at 0 frames h i d l))
-
--- and where it does not
-pub frame_numbered_missed : (frames : List Frame) (n i : ℕ) → IsOrderlyFrom 0 frames
-    → (IsNonDecreasingBy (λ (y : Frame). ordering_index (nat_cmp y.number n)) frames
-    → IsPartitionPoint (λ (y : Frame). nat_cmp y.number n ≡ Less) (λ (y : Frame). nat_cmp y.number n ≡ Greater) frames
-    i)
-    → None ≡ frame_numbered frames n
-frame_numbered_missed frames n i h at =
-    let parted = at (λ a b d le l. ranks_rise _ _ n (numbers_rise 0 frames h a b d le l)) in
-    sym (frame_numbered_none frames n (λ k d l. ⊎_elim
-    (λ below. less_apart _ _ (parted.0 k d (omega arith) below))
-    (λ above. greater_apart _ _ (parted.1 k d above l))
-    (cases_lt k i)))

@@ -6,12 +6,12 @@ use Rattle.audit_terms.specs.declared.frames.Frame.{Frame}
 use Rattle.audit_terms.specs.Frame.{promised_by}
 use Rattle.split_merge.specs.declared.splits.StreamRow.{StreamRow}
 use Rattle.split_merge.specs.declared.visits.Visits.{Visits}
-use Rattle.split_merge.specs.code.Visits.{streams_in, noted, notes_from, counted, is_among, NotAmong, AreDistinct}
-use Rattle.split_merge.specs.code.Visits.{IsIndex, HasRoomFor, IsFilled}
+use Rattle.split_merge.specs.code.Visits.{streams_in, row_streams, noted, notes_from, longer, is_among, NotAmong}
+use Rattle.split_merge.specs.code.Visits.{AreDistinct, IsIndex, HasRoomFor, IsFilled}
 use Rattle.split_merge.specs.code.Loud.{heard, ArePlaces, HasPlace, IsPut}
 use Rattle.split_merge.proofs.Visited.{filter-append, append-none, row-within}
 use Rattle.split_merge.proofs.Positions.{notes-push}
-use Rattle.split_merge.proofs.LaidOut.{place-within, placed-more}
+use Rattle.split_merge.proofs.LaidOut.{length-row_streams, place-within, placed-more}
 use Rattle.split_merge.proofs.LoudStreams.{heard-none, heard-one}
 use Rattle.split_merge.proofs.Ahead.{above-at}
 
@@ -89,35 +89,36 @@ module _ (loud : List ℕ) (frames : List Frame) (i at p : ℕ) (frame : Frame) 
 -- ---- one position more, if its stream is loud
 
 module _ (empty : List StreamRow) (all came later : List (ℕ × ℕ)) (total : ℕ) (room : HasRoomFor empty all total)
-    (distinct : AreDistinct (streams_in empty)) (zero : NotAmong 0 (streams_in empty)) (stream position : ℕ)
-    (parts : (came ++ heard (streams_in empty) (noted stream position)) ++ later ≡ all)
+    (distinct : AreDistinct (row_streams empty)) (zero : NotAmong 0 (row_streams empty)) (stream position : ℕ)
+    (parts : (came ++ heard (row_streams empty) (noted stream position)) ++ later ≡ all)
     (rows : List StreamRow) (positions : List ℕ) (long : length positions ≡ total)
     (filled : IsFilled empty came rows positions) where
-  one-part : (r : ℕ) → slice_get (streams_in empty) r ≡ Some stream → (came ++ (stream, position) ∷ []) ++ later ≡ all
+  one-part : (r : ℕ) → slice_get (row_streams empty) r ≡ Some stream → (came ++ (stream, position) ∷ []) ++ later ≡ all
   one-part r at =
       ap (λ l. (came ++ l) ++ later)
-      (sym (heard-one (streams_in empty) stream position r (above-at (streams_in empty) r stream zero at) at)) ∙ parts
+      (sym (heard-one (row_streams empty) stream position r (above-at (row_streams empty) r stream zero at) at)) ∙ parts
 
   pub has-place : (o : Option ℕ) →
-      MatchOption o (NotAmong stream (streams_in empty)) (λ row. slice_get (streams_in empty) row ≡ Some stream) →
+      MatchOption o (NotAmong stream (row_streams empty)) (λ row. slice_get (row_streams empty) row ≡ Some stream) →
       HasPlace o rows (length positions)
   has-place None out = tt
   has-place (Some r) at =
-      let above = above-at (streams_in empty) r stream zero at in
-      let l = row-within empty r stream distinct at above in (
-        omega (arith, l, filled.long),
+      let above = above-at (row_streams empty) r stream zero at in
+      let l = row-within (row_streams empty) r stream distinct at above in
+      let n = length-row_streams empty in (
+        omega (arith, l, n, filled.long),
         λ d. place-within empty all came later total room r stream position distinct at above
             (one-part r at) rows positions
             long filled d,
       )
 
   pub put-filled : (o : Option ℕ) →
-      MatchOption o (NotAmong stream (streams_in empty)) (λ row. slice_get (streams_in empty) row ≡ Some stream) →
+      MatchOption o (NotAmong stream (row_streams empty)) (λ row. slice_get (row_streams empty) row ≡ Some stream) →
       (rows' : List StreamRow) (positions' : List ℕ) → IsPut o position rows positions rows' positions' →
       (length positions' ≡ total)
-      × IsFilled empty (came ++ heard (streams_in empty) (noted stream position)) rows' positions'
+      × IsFilled empty (came ++ heard (row_streams empty) (noted stream position)) rows' positions'
   put-filled None out rows' positions' put =
-      let none = heard-none (streams_in empty) stream position out in (
+      let none = heard-none (row_streams empty) stream position out in (
         ap length put.1 ∙ long,
         subst (λ l. IsFilled empty l rows' positions') (sym (ap (λ l. came ++ l) none ∙ append-none came))
             (subst (λ r. IsFilled empty came r positions') (sym put.0)
@@ -125,15 +126,15 @@ module _ (empty : List StreamRow) (all came later : List (ℕ × ℕ)) (total : 
       )
   put-filled (Some r) at rows' positions' put =
       let d : StreamRow = record { stream = 0; from = 0; to = 0 } in
-      let above = above-at (streams_in empty) r stream zero at in
+      let above = above-at (row_streams empty) r stream zero at in
       let same = put d in
       let one = placed-more empty all came later total room r stream position distinct at above
       (one-part r at) rows positions
       long filled d in (
         ap length same.1 ∙ length-set positions (get_or rows r d).to position ∙ long,
         subst (λ l. IsFilled empty (came ++ l) rows' positions')
-            (sym (heard-one (streams_in empty) stream position r above at))
+            (sym (heard-one (row_streams empty) stream position r above at))
             (subst (λ r. IsFilled empty (came ++ (stream, position) ∷ []) r positions') (sym same.0)
-            (subst (λ p. IsFilled empty (came ++ (stream, position) ∷ []) (set rows r (counted (get_or rows r d))) p)
+            (subst (λ p. IsFilled empty (came ++ (stream, position) ∷ []) (set rows r (longer (get_or rows r d))) p)
             (sym same.1) one)),
       )

@@ -10,43 +10,34 @@ use Rattle.audit_terms.specs.Pass.{streams_of}
 use Rattle.audit_terms.specs.code.runs.Streams.{frames_of, stream_run}
 use Rattle.stream_credit.specs.declared.quiet_streams.QuietStream.{QuietStream}
 use Rattle.split_merge.specs.declared.splits.StreamRow.{StreamRow}
+use Rattle.split_merge.specs.declared.visits.Visited.{Visited}
 use Rattle.split_merge.specs.declared.splits.SplitFrames.{SplitFrames}
 use Rattle.split_merge.specs.code.Split.{positions_of, IsRange, IsPartOf, IsSplit, part_of, opening_of}
-use Rattle.split_merge.specs.code.Visits.{streams_in, notes_from, noted_positions, total_of, laid_out, is_among}
-use Rattle.split_merge.specs.code.Visits.{NotAmong, AreDistinct, IsListed, HasRoomFor}
+use Rattle.split_merge.specs.code.Visits.{streams_in, row_streams, notes_from, noted_positions, total_of, laid_out}
+use Rattle.split_merge.specs.code.Visits.{is_among, NotAmong, AreDistinct, IsListed, HasRoomFor}
 use Rattle.split_merge.specs.code.Ahead.{AreHushed}
 use Rattle.split_merge.specs.code.Loud.{loud_of, opened_in, quiet_in, heard, AreCounted, IsLaid}
-use Rattle.split_merge.proofs.NamedStreams.{length-streams_in, found_among}
+use Rattle.split_merge.proofs.NamedStreams.{length-streams_in, found_among, stream-at}
 use Rattle.split_merge.proofs.Visited.{not_among-at, get-from_slice_get}
 use Rattle.split_merge.proofs.Positions.{noted-positions, frames_at-positions, positions-within}
-use Rattle.split_merge.proofs.LaidOut.{laid-streams, room-laid, filled-streams}
+use Rattle.split_merge.proofs.LaidOut.{laid-streams, length-row_streams, room-laid, filled-streams}
 use Rattle.split_merge.proofs.LoudStreams.{loud-streams, loud-not_among, loud-each, loud-filter, opened-filter}
 use Rattle.split_merge.proofs.LoudStreams.{quiet_in-at, heard-positions}
 
-stream-at : (rows : List StreamRow) (k : ℕ) (d : StreamRow) → k < length rows
-    → get_or (streams_in rows) k 0 ≡ (get_or rows k d).stream
-stream-at rows k d l = get_or-map (λ (row : StreamRow). row.stream) rows k d 0 l
-
-pub row-at : (rows : List StreamRow) (k : ℕ) (d : StreamRow) → k < length rows →
-    slice_get (streams_in rows) k ≡ Some (get_or rows k d).stream
-row-at rows k d l =
-    let n = length-streams_in rows in
-    slice_get-get_or (streams_in rows) k 0 (omega (arith, l, n)) ∙ ap Some (stream-at rows k d l)
-
-among-at : (rows : List StreamRow) (k : ℕ) → k < length rows → is_among (get_or (streams_in rows) k 0) (streams_in rows)
+among-at : (rows : List Visited) (k : ℕ) → k < length rows → is_among (get_or (streams_in rows) k 0) (streams_in rows)
     ≡ true
 among-at rows k l =
     let n = length-streams_in rows in
     found_among (get_or (streams_in rows) k 0) (streams_in rows) k
     (slice_get-get_or (streams_in rows) k 0 (omega (arith, l, n)))
 
-module _ (frames : List Frame) (rows : List StreamRow) (quiets : List QuietStream)
+module _ (frames : List Frame) (rows : List Visited) (quiets : List QuietStream)
     (listed : IsListed (notes_from 0 frames) rows) where
   -- the loud rows count their own visits
   pub loud-counted : AreCounted (loud_of rows quiets) (heard (streams_in (loud_of rows quiets)) (notes_from 0 frames))
   loud-counted = record {
     counts = λ r d l.
-        loud-each (λ row. row.to ≡ length (noted_positions row.stream (notes_from 0 frames))) rows quiets
+        loud-each (λ row. row.count ≡ length (noted_positions row.stream (notes_from 0 frames))) rows quiets
         (λ k e m. listed.counts k e m ∙ ap (λ s. length (noted_positions s (notes_from 0 frames)))
         (stream-at rows k e m)) r d l
         ∙ ap (λ s. length (noted_positions s (notes_from 0 frames))) (sym (stream-at (loud_of rows quiets) r d l))
@@ -54,7 +45,7 @@ module _ (frames : List Frame) (rows : List StreamRow) (quiets : List QuietStrea
         (get_or (streams_in (loud_of rows quiets)) r 0) (notes_from 0 frames) (among-at (loud_of rows quiets) r l)));
   }
 
-module _ (credits_shown : Bool) (changes : List Change) (frames : List Frame) (rows : List StreamRow)
+module _ (credits_shown : Bool) (changes : List Change) (frames : List Frame) (rows : List Visited)
     (quiets : List QuietStream)
     (split : SplitFrames)
     (streams : streams_in rows ≡ streams_of frames) (listed : IsListed (notes_from 0 frames) rows)
@@ -62,7 +53,7 @@ module _ (credits_shown : Bool) (changes : List Change) (frames : List Frame) (r
     (hushed : AreHushed credits_shown changes frames (streams_in rows) quiets)
     (laid : IsLaid (loud_of rows quiets) (opened_in quiets)
     (heard (streams_in (loud_of rows quiets)) (notes_from 0 frames)) split) where
-  abbrev loud : List StreamRow
+  abbrev loud : List Visited
   loud = loud_of rows quiets
 
   abbrev notes : List (ℕ × ℕ)
@@ -72,7 +63,7 @@ module _ (credits_shown : Bool) (changes : List Change) (frames : List Frame) (r
       (total_of (loud_of rows quiets))
   room = room-laid loud notes (loud-counted frames rows quiets listed).counts
 
-  same-streams : streams_in split.rows.items ≡ streams_in (loud_of rows quiets)
+  same-streams : row_streams split.rows.items ≡ streams_in (loud_of rows quiets)
   same-streams = filled-streams (laid_out 0 loud) split.rows.items notes split.positions.items laid.filled
       ∙ laid-streams 0 loud
 
@@ -87,12 +78,13 @@ module _ (credits_shown : Bool) (changes : List Change) (frames : List Frame) (r
 
   row-stream : (k : ℕ) (d : StreamRow) → k < length split.rows.items →
       (get_or split.rows.items k d).stream ≡ get_or (streams_in (loud_of rows quiets)) k 0
-  row-stream k d l = sym (stream-at split.rows.items k d l) ∙ ap (λ s. get_or s k 0) same-streams
+  row-stream k d l =
+      sym (get_or-map (λ (row : StreamRow). row.stream) split.rows.items k d 0 l) ∙ ap (λ s. get_or s k 0) same-streams
 
   within-loud : (k : ℕ) → k < length split.rows.items → k < length (loud_of rows quiets)
   within-loud k l =
       let n = ap length same-streams in
-      let m = length-streams_in split.rows.items in
+      let m = length-row_streams split.rows.items in
       let p = length-streams_in loud in
       omega (arith, l, n, m, p)
 

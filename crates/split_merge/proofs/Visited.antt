@@ -6,7 +6,7 @@ use borrow.Author.Tests.{ltb-true, ltb-false}
 use Rattle.std.proofs.lemmas.List.{map-append, length-append, length-set, get_or-set_same, get_or-set_other}
 use Rattle.std.proofs.lemmas.List.{get_or_append_left, get_or_at}
 use borrow.Author.Tests.{eqb-true, eq-eqb}
-use Rattle.split_merge.specs.declared.splits.StreamRow.{StreamRow}
+use Rattle.split_merge.specs.declared.visits.Visited.{Visited}
 use Rattle.split_merge.specs.code.Visits.{streams_in, row_positions, noted_positions, total_of, counted, with_row}
 use Rattle.split_merge.specs.code.Visits.{with_stream, noted, NotAmong, AreDistinct, is_among, IsListed}
 use Rattle.split_merge.proofs.NamedStreams.{streams_in-push, length-streams_in, none-from_test, none_among}
@@ -92,9 +92,9 @@ three r n = by_test (two r n) where
     at (inl m) = inr (inr m)
     at (inr m) = inr (inl (omega arith))
 
-module _ (notes : List (ℕ × ℕ)) (rows : List StreamRow) (listed : IsListed notes rows) (stream : ℕ) where
-  abbrev new_row : StreamRow
-  new_row = record { stream = stream; from = 0; to = 0 }
+module _ (notes : List (ℕ × ℕ)) (rows : List Visited) (listed : IsListed notes rows) (stream : ℕ) where
+  abbrev new_row : Visited
+  new_row = record { stream = stream; count = 0 }
 
   stream-front : (r : ℕ) → r < length rows → get_or (streams_in (rows ++ new_row ∷ [])) r 0 ≡ get_or
       (streams_in rows) r 0
@@ -108,16 +108,16 @@ module _ (notes : List (ℕ × ℕ)) (rows : List StreamRow) (listed : IsListed 
       ap (λ l. get_or l r 0) (streams_in-push rows new_row)
       ∙ get_or_at (streams_in rows) stream [] 0 r (length-streams_in rows ∙ e)
 
-  row-counts : NotAmong stream (streams_in rows) → (r : ℕ) (d : StreamRow) → r < length (rows ++ new_row ∷ []) →
+  row-counts : NotAmong stream (streams_in rows) → (r : ℕ) (d : Visited) → r < length (rows ++ new_row ∷ []) →
       (r < length rows) ⊎ (length rows ≤ r) →
-      (get_or (rows ++ new_row ∷ []) r d).to ≡ length (row_positions r (rows ++ new_row ∷ []) notes)
+      (get_or (rows ++ new_row ∷ []) r d).count ≡ length (row_positions r (streams_in (rows ++ new_row ∷ [])) notes)
   row-counts new r d h (inl l) =
-      ap (λ (x : StreamRow). x.to) (get_or_append_left rows (new_row ∷ []) d r l) ∙ listed.counts r d l
+      ap (λ (x : Visited). x.count) (get_or_append_left rows (new_row ∷ []) d r l) ∙ listed.counts r d l
       ∙ ap (λ s. length (noted_positions s notes)) (sym (stream-front r l))
   row-counts new r d h (inr l) =
       let m = length-append rows (new_row ∷ []) in
       let e : length rows ≡ r = omega (arith, h, m) in
-      ap (λ (x : StreamRow). x.to) (get_or_at rows new_row [] d r e)
+      ap (λ (x : Visited). x.count) (get_or_at rows new_row [] d r e)
       ∙ sym (ap length (listed.absent stream new))
       ∙ ap (λ s. length (noted_positions s notes)) (sym (stream-end r e))
 
@@ -135,101 +135,104 @@ module _ (notes : List (ℕ × ℕ)) (rows : List StreamRow) (listed : IsListed 
     by_test true e = rw e listed
     by_test false e = rw e (listed-new (none-from_test stream (streams_in rows) e))
 
-pub with_row-seen : (stream : ℕ) (rows : List StreamRow) → is_among stream (streams_in rows) ≡ true
+pub with_row-seen : (stream : ℕ) (rows : List Visited) → is_among stream (streams_in rows) ≡ true
     → rows ≡ with_row stream rows
 with_row-seen stream rows e = rw e refl
 
-pub with_row-new : (stream : ℕ) (rows : List StreamRow) → NotAmong stream (streams_in rows) →
-    rows ++ record { stream = stream; from = 0; to = 0 } ∷ [] ≡ with_row stream rows
+pub with_row-new : (stream : ℕ) (rows : List Visited) → NotAmong stream (streams_in rows) →
+    rows ++ record { stream = stream; count = 0 } ∷ [] ≡ with_row stream rows
 with_row-new stream rows h = rw (none_among stream (streams_in rows) h) refl
 
 -- ---- one more visit
 
-pub streams-counted : (rows : List StreamRow) (i : ℕ) (d : StreamRow)
+pub streams-counted : (rows : List Visited) (i : ℕ) (d : Visited)
     → streams_in (set rows i (counted (get_or rows i d))) ≡ streams_in rows
 streams-counted [] i d = refl
 streams-counted (x ∷ rows) zero d = refl
 streams-counted (x ∷ rows) (suc i) d = ap (λ l. x.stream ∷ l) (streams-counted rows i d)
 
 -- which row is a stream's
-module _ (rows : List StreamRow) (row stream : ℕ) (distinct : AreDistinct (streams_in rows))
-    (at : slice_get (streams_in rows) row ≡ Some stream) (above : stream ≢ 0) where
-  pub row-within : row < length rows
-  row-within = let l = within-from_slice_get (streams_in rows) row stream at in
-      let n = length-streams_in rows in omega (arith, l, n)
+module _ (streams : List ℕ) (row stream : ℕ) (distinct : AreDistinct streams)
+    (at : slice_get streams row ≡ Some stream) (above : stream ≢ 0) where
+  pub row-within : row < length streams
+  row-within = within-from_slice_get streams row stream at
 
-  pub same-test : (r : ℕ) → (stream == get_or (streams_in rows) r 0) ≡ (row == r)
+  pub same-test : (r : ℕ) → (stream == get_or streams r 0) ≡ (row == r)
   same-test r = by_tests _ _ refl refl where
-    by_tests : (a b : Bool) → (row == r) ≡ a → (stream == get_or (streams_in rows) r 0) ≡ b →
-        (stream == get_or (streams_in rows) r 0) ≡ (row == r)
+    by_tests : (a b : Bool) → (row == r) ≡ a → (stream == get_or streams r 0) ≡ b →
+        (stream == get_or streams r 0) ≡ (row == r)
     by_tests true b e f =
-        let g : get_or (streams_in rows) r 0 ≡ stream =
-        ap (λ i. get_or (streams_in rows) i 0) (sym (eqb-true row r e))
-        ∙ get-from_slice_get (streams_in rows) row stream at in
-        eq-eqb stream (get_or (streams_in rows) r 0) (sym g) ∙ sym e
+        let g : get_or streams r 0 ≡ stream =
+        ap (λ i. get_or streams i 0) (sym (eqb-true row r e))
+        ∙ get-from_slice_get streams row stream at in
+        eq-eqb stream (get_or streams r 0) (sym g) ∙ sym e
     by_tests false true e f =
-        let same : row ≡ r = one_index (streams_in rows) row r stream distinct
-        (get-from_slice_get (streams_in rows) row stream at) (sym (eqb-true stream _ f)) above in
+        let same : row ≡ r = one_index streams row r stream distinct
+        (get-from_slice_get streams row stream at) (sym (eqb-true stream _ f)) above in
         absurd (true≢false (sym (eq-eqb row r same) ∙ e))
     by_tests false false e f = f ∙ sym e
 
   -- one more is noted
   pub positions-push : (notes : List (ℕ × ℕ)) (position r : ℕ) →
-      row_positions r rows (notes ++ (stream, position) ∷ []) ≡ row_positions r rows notes ++ where_so
+      row_positions r streams (notes ++ (stream, position) ∷ []) ≡ row_positions r streams notes ++ where_so
       (row == r) position
   positions-push notes position r =
-      let s = get_or (streams_in rows) r 0 in
+      let s = get_or streams r 0 in
       noted_positions-append s notes ((stream, position) ∷ [])
       ∙ ap (λ l. noted_positions s notes ++ l)
       (noted_positions-one s stream position ∙ ap (λ b. where_so b position) (same-test r))
 
   pub positions-here : (notes : List (ℕ × ℕ)) (position : ℕ) →
-      row_positions row rows (notes ++ (stream, position) ∷ []) ≡ row_positions row rows notes ++ position ∷ []
+      row_positions row streams (notes ++ (stream, position) ∷ []) ≡ row_positions row streams notes ++ position ∷ []
   positions-here notes position =
       positions-push notes position row
-      ∙ ap (λ b. row_positions row rows notes ++ where_so b position) (eq-eqb row row refl)
+      ∙ ap (λ b. row_positions row streams notes ++ where_so b position) (eq-eqb row row refl)
 
   pub positions-there : (notes : List (ℕ × ℕ)) (position r : ℕ) → (row == r) ≡ false →
-      row_positions r rows (notes ++ (stream, position) ∷ []) ≡ row_positions r rows notes
+      row_positions r streams (notes ++ (stream, position) ∷ []) ≡ row_positions r streams notes
   positions-there notes position r e =
       positions-push notes position r
-      ∙ ap (λ b. row_positions r rows notes ++ where_so b position) e
-      ∙ append-none (row_positions r rows notes)
+      ∙ ap (λ b. row_positions r streams notes ++ where_so b position) e
+      ∙ append-none (row_positions r streams notes)
 
-module _ (notes : List (ℕ × ℕ)) (rows : List StreamRow) (listed : IsListed notes rows)
-    (row stream position : ℕ) (d : StreamRow) (distinct : AreDistinct (streams_in rows))
+module _ (notes : List (ℕ × ℕ)) (rows : List Visited) (listed : IsListed notes rows)
+    (row stream position : ℕ) (d : Visited) (distinct : AreDistinct (streams_in rows))
     (at : slice_get (streams_in rows) row ≡ Some stream) (above : stream ≢ 0) where
-  abbrev after : List StreamRow
+  abbrev after : List Visited
   after = set rows row (counted (get_or rows row d))
 
   abbrev more : List (ℕ × ℕ)
   more = notes ++ (stream, position) ∷ []
 
-  counts-now : (r : ℕ) (e : StreamRow) → r < length after → (get_or after r e).to ≡ length (row_positions r rows more)
+  counts-now : (r : ℕ) (e : Visited) → r < length after
+      → (get_or after r e).count ≡ length (row_positions r (streams_in rows) more)
   counts-now r e l = by_test _ refl where
     n : length after ≡ length rows
     n = length-set rows row (counted (get_or rows row d))
 
-    by_test : (b : Bool) → (row == r) ≡ b → (get_or after r e).to ≡ length (row_positions r rows more)
+    by_test : (b : Bool) → (row == r) ≡ b → (get_or after r e).count ≡ length (row_positions r (streams_in rows) more)
     by_test true t =
         let same = eqb-true row r t in
-        let inside = row-within rows row stream distinct at above in
+        let named = length-streams_in rows in
+        let inside : row < length rows =
+        omega (arith, row-within (streams_in rows) row stream distinct at above, named) in
         let here : get_or after row e ≡ counted (get_or rows row d) = get_or-set_same rows row
         (counted (get_or rows row d)) e inside in
         let count = listed.counts row d inside in
-        let long = ap length (positions-here rows row stream distinct at above notes position)
-        ∙ length-append (row_positions row rows notes) (position ∷ []) in
-        let k : (get_or after row e).to ≡ length (row_positions row rows more) =
-        ap (λ (x : StreamRow). x.to) here ∙ omega (arith, count, long) in
-        subst (λ i. (get_or after i e).to ≡ length (row_positions i rows more)) same k
+        let long = ap length (positions-here (streams_in rows) row stream distinct at above notes position)
+        ∙ length-append (row_positions row (streams_in rows) notes) (position ∷ []) in
+        let k : (get_or after row e).count ≡ length (row_positions row (streams_in rows) more) =
+        ap (λ (x : Visited). x.count) here ∙ omega (arith, count, long) in
+        subst (λ i. (get_or after i e).count ≡ length (row_positions i (streams_in rows) more)) same k
     by_test false t =
         let m : r < length rows = omega (arith, n, l) in
         let apart : r ≢ row = λ p. true≢false (sym (eq-eqb row r (sym p)) ∙ t) in
-        ap (λ (x : StreamRow). x.to) (get_or-set_other rows row r (counted (get_or rows row d)) e apart)
-        ∙ listed.counts r e m ∙ ap length (sym (positions-there rows row stream distinct at above notes position r t))
+        ap (λ (x : Visited). x.count) (get_or-set_other rows row r (counted (get_or rows row d)) e apart)
+        ∙ listed.counts r e m
+        ∙ ap length (sym (positions-there (streams_in rows) row stream distinct at above notes position r t))
 
-  visit-counts : (r : ℕ) (e : StreamRow) → r < length after
-      → (get_or after r e).to ≡ length (row_positions r after more)
+  visit-counts : (r : ℕ) (e : Visited) → r < length after
+      → (get_or after r e).count ≡ length (row_positions r (streams_in after) more)
   visit-counts r e l =
       counts-now r e l ∙ ap (λ l. length (noted_positions (get_or l r 0) more)) (sym (streams-counted rows row d))
 
@@ -265,34 +268,34 @@ module _ (notes : List (ℕ × ℕ)) (rows : List StreamRow) (listed : IsListed 
 
 -- ---- how many
 
-pub total-new : (rows : List StreamRow) (row : StreamRow) → row.to ≡ 0 → total_of (rows ++ row ∷ []) ≡ total_of rows
+pub total-new : (rows : List Visited) (row : Visited) → row.count ≡ 0 → total_of (rows ++ row ∷ []) ≡ total_of rows
 total-new [] row e = omega (arith, e)
-total-new (x ∷ rows) row e = ap (λ n. x.to + n) (total-new rows row e)
+total-new (x ∷ rows) row e = ap (λ n. x.count + n) (total-new rows row e)
 
-pub total-counted : (rows : List StreamRow) (i : ℕ) (d : StreamRow) → i < length rows →
+pub total-counted : (rows : List Visited) (i : ℕ) (d : Visited) → i < length rows →
     total_of (set rows i (counted (get_or rows i d))) ≡ total_of rows + 1
 total-counted [] i d l = absurd (omega arith)
 total-counted (x ∷ rows) zero d l = omega arith
 total-counted (x ∷ rows) (suc i) d l = let e = total-counted rows i d (omega arith) in omega (arith, e)
 
-pub count-total : (rows : List StreamRow) (i : ℕ) (d : StreamRow) → i < length rows
-    → (get_or rows i d).to ≤ total_of rows
+pub count-total : (rows : List Visited) (i : ℕ) (d : Visited) → i < length rows
+    → (get_or rows i d).count ≤ total_of rows
 count-total [] i d l = absurd (omega arith)
 count-total (x ∷ rows) zero d l = omega arith
 count-total (x ∷ rows) (suc i) d l = let e = count-total rows i d (omega arith) in omega (arith, e)
 
-pub total-row : (stream : ℕ) (rows : List StreamRow) → total_of (with_row stream rows) ≡ total_of rows
+pub total-row : (stream : ℕ) (rows : List Visited) → total_of (with_row stream rows) ≡ total_of rows
 total-row stream rows = by_test _ refl where
   by_test : (b : Bool) → is_among stream (streams_in rows) ≡ b → total_of (with_row stream rows) ≡ total_of rows
   by_test true e = rw e refl
-  by_test false e = rw e (total-new rows (record { stream = stream; from = 0; to = 0 }) refl)
+  by_test false e = rw e (total-new rows (record { stream = stream; count = 0 }) refl)
 
-pub length-row : (stream : ℕ) (rows : List StreamRow) → length (with_row stream rows) ≤ length rows + 1
+pub length-row : (stream : ℕ) (rows : List Visited) → length (with_row stream rows) ≤ length rows + 1
 length-row stream rows = by_test _ refl where
   by_test : (b : Bool) → is_among stream (streams_in rows) ≡ b → length (with_row stream rows) ≤ length rows + 1
   by_test true e = rw e omega arith
   by_test false e =
-      let m = length-append rows (record { stream = stream; from = 0; to = 0 } ∷ []) in rw e omega (arith, m)
+      let m = length-append rows (record { stream = stream; count = 0 } ∷ []) in rw e omega (arith, m)
 
 -- ---- a note
 
@@ -300,7 +303,7 @@ zero-test : (stream : ℕ) (b : Bool) → stream ≢ 0 → (stream == 0) ≡ b �
 zero-test stream true n e = absurd (n (eqb-true stream 0 e))
 zero-test stream false n e = e
 
-pub named-row : (stream : ℕ) (rows : List StreamRow) → stream ≢ 0 →
+pub named-row : (stream : ℕ) (rows : List Visited) → stream ≢ 0 →
     streams_in (with_row stream rows) ≡ with_stream stream (streams_in rows)
 named-row stream rows n = by_test _ refl where
   z : (stream == 0) ≡ false
@@ -309,12 +312,12 @@ named-row stream rows n = by_test _ refl where
   by_test : (b : Bool) → is_among stream (streams_in rows) ≡ b →
       streams_in (with_row stream rows) ≡ with_stream stream (streams_in rows)
   by_test true e = rw (z, e) refl
-  by_test false e = rw (z, e) (streams_in-push rows (record { stream = stream; from = 0; to = 0 }))
+  by_test false e = rw (z, e) (streams_in-push rows (record { stream = stream; count = 0 }))
 
 pub noted-one : (stream position : ℕ) → stream ≢ 0 → noted stream position ≡ (stream, position) ∷ []
 noted-one stream position n = rw (zero-test stream _ n refl) refl
 
-pub noted-listed : (notes : List (ℕ × ℕ)) (rows rows' : List StreamRow) (stream position row : ℕ) (d : StreamRow) →
+pub noted-listed : (notes : List (ℕ × ℕ)) (rows rows' : List Visited) (stream position row : ℕ) (d : Visited) →
     stream ≢ 0 → IsListed notes rows → rows' ≡ with_row stream rows → AreDistinct (streams_in rows') →
     slice_get (streams_in rows') row ≡ Some stream →
     IsListed (notes ++ noted stream position) (set rows' row (counted (get_or rows' row d)))
@@ -325,7 +328,7 @@ noted-listed notes rows rows' stream position row d n listed e distinct at =
     (listed-visit notes rows' before row stream position d distinct at n)
 
 -- nothing is noted yet
-pub listed-none : (rows : List StreamRow) → rows ≡ [] → IsListed [] rows
+pub listed-none : (rows : List Visited) → rows ≡ [] → IsListed [] rows
 listed-none rows e = rw e record {
   counts = λ r d l. absurd (omega arith);
   none = refl;

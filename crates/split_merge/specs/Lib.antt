@@ -1,5 +1,2 @@
-pub mod FrameLookup
-pub mod Stalls
-pub mod laws
 pub mod examples
 pub mod code

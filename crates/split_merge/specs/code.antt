@@ -1,7 +1,5 @@
-pub mod Ends
 pub mod Visits
 pub mod Ahead
 pub mod Loud
-pub mod Board
 pub mod Groups
 pub mod Split

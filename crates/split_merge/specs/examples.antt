@@ -1,3 +1,1 @@
-pub mod Rounds
 pub mod Split
-pub mod Stalls

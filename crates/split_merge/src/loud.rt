@@ -5,8 +5,7 @@ ghost use Rattle.std.specs.Prelude.{slice_get};
 ghost use Rattle.split_merge.specs.code.Visits.{IsIndex, NotAmong, streams_in};
 ghost use Rattle.split_merge.specs.code.Loud.{ArePlaces, IsKept, loud_of, opened_in, places_from};
 
-use crate::splits::StreamRow;
-use crate::visits::Visits;
+use crate::visits::{Visited, Visits};
 use std::alloc::{AllocError, Global};
 use stream_credit::QuietStream;
 
@@ -14,30 +13,21 @@ use stream_credit::QuietStream;
 #[derive(Drop)]
 pub struct Loud {
     /// Their rows, in order.
-    pub rows: Vec<StreamRow>,
-    /// For each row of the table the row here, if its stream is loud.
-    pub places: Vec<Option<u32>>,
+    pub rows: Vec<Visited>,
     /// The numbers of the frames that open the others.
     pub opened: Vec<u32>,
 }
 
 impl Loud {
     /// The loud streams of some rows.
-    pub fn of(alloc: Global, rows: &[StreamRow], quiets: &[QuietStream]) -> Result<Loud, AllocError>
+    pub fn of(alloc: Global, rows: &[Visited], quiets: &[QuietStream]) -> Result<Loud, AllocError>
         requires long { length quiets.now ≡ length rows.now }
-        requires short { length rows.now < 2 ^ 31 }
         ensures rows { IfOk result (λ loud. loud.rows.items ≡ loud_of rows.now quiets.now) }
-        ensures places { IfOk result (λ loud. loud.places.items ≡ places_from 0 quiets.now) }
         ensures opened { IfOk result (λ loud. loud.opened.items ≡ opened_in quiets.now) }
     {
         let none = Vec::new(alloc);
-        let places = Vec::with_capacity(alloc, rows.len())?;
         let opened = Vec::new(alloc);
-        let mut loud = Loud {
-            rows: none,
-            places,
-            opened,
-        };
+        let mut loud = Loud { rows: none, opened };
         for row in 0..rows.len() {
             loud.add(&rows[row], &quiets[row])?;
         }
@@ -45,25 +35,38 @@ impl Loud {
     }
 
     /// Adds the next row of the table.
-    fn add(&mut self, row: &StreamRow, quiet: &QuietStream) -> Result<(), AllocError>
-        requires { length self.old.rows.items < 2 ^ 31 }
+    fn add(&mut self, row: &Visited, quiet: &QuietStream) -> Result<(), AllocError>
         ensures rows { OnOk result (self.new.rows.items
             ≡ self.old.rows.items ++ loud_of (row.now ∷ []) (quiet.now ∷ [])) }
-        ensures places { OnOk result (self.new.places.items
-            ≡ self.old.places.items ++ places_from (length self.old.rows.items) (quiet.now ∷ [])) }
         ensures opened { OnOk result (self.new.opened.items ≡ self.old.opened.items ++ opened_in (quiet.now ∷ [])) }
     {
         if !quiet.is_quiet {
-            self.places.push(Some(self.rows.len() as u32))?;
             self.rows.push(*row)?;
             return Ok(());
         }
-        self.places.push(None)?;
         if let Some(number) = quiet.opened_at() {
             self.opened.push(number)?;
         }
         Ok(())
     }
+}
+
+/// For each row of a table the row among those of the loud streams, if its stream is loud.
+pub fn places_of(alloc: Global, quiets: &[QuietStream]) -> Result<Vec<Option<u32>>, AllocError>
+    requires { length quiets.now < 2 ^ 31 }
+    ensures { IfOk result (λ places. places.items ≡ places_from 0 quiets.now) }
+{
+    let mut places = Vec::with_capacity(alloc, quiets.len())?;
+    let mut next = 0;
+    for quiet in quiets {
+        if quiet.is_quiet {
+            places.push(None)?;
+        } else {
+            places.push(Some(next))?;
+            next += 1;
+        }
+    }
+    Ok(places)
 }
 
 /// The index of a stream's row among those of the loud ones, if it is one of them.

@@ -1,14 +1,14 @@
-ghost use Rattle.std.specs.Prelude.{◌≡◌, ◌^◌, ◌<◌, IfOk, length, set};
+ghost use Rattle.std.specs.Prelude.{◌≡◌, ◌*◌, ◌^◌, ◌<◌, IfOk, length, set};
 ghost use Rattle.audit_terms.specs.code.runs.Orderly.{IsOrderly};
 ghost use Rattle.settings_pair.specs.code.Changes.{AreOrderly, AreAcknowledged};
 ghost use Rattle.split_merge.specs.code.Split.{IsRange, IsSplit, part_of};
-ghost use Rattle.split_merge.specs.code.Loud.{AreCounted, ArePlaces, HasPlace, IsLaid, IsPut, heard};
-ghost use Rattle.split_merge.specs.code.Visits.{AreDistinct, HasRoomFor, IsFilled, IsIndex, counted, laid_out};
-ghost use Rattle.split_merge.specs.code.Visits.{notes_from, streams_in, total_of};
+ghost use Rattle.split_merge.specs.code.Loud.{ArePlaces, HasPlace, IsLaid, IsPut, heard, loud_of};
+ghost use Rattle.split_merge.specs.code.Visits.{AreDistinct, HasAtMost, HasRoomFor, IsFilled, IsIndex, IsTableOf};
+ghost use Rattle.split_merge.specs.code.Visits.{laid_out, longer, notes_from, row_streams, streams_in, total_of};
 
-use crate::loud::{Loud, place_of};
-use crate::visits::{Visits, finish};
-use audit_terms::Frame;
+use crate::loud::{Loud, place_of, places_of};
+use crate::visits::{Visited, Visits, finish};
+use audit_terms::{Change, Frame};
 use std::alloc::{AllocError, Global};
 use stream_credit::Changes;
 use table_hash::TableHash;
@@ -48,7 +48,7 @@ pub fn split(
     alloc: Global,
     hash: TableHash,
     credits_shown: bool,
-    changes: &Changes<'_>,
+    changes: &[Change],
     frames: &[Frame],
 ) -> Result<SplitFrames, AllocError>
     requires length { length frames.now < 2 ^ 28 }
@@ -57,18 +57,20 @@ pub fn split(
     requires acknowledged { AreAcknowledged frames.now changes.now }
     ensures { IfOk result (IsSplit credits_shown changes.now frames.now) }
 {
-    let mut table = Visits::of(alloc, hash, credits_shown, changes, frames)?;
+    let changes = Changes::of(alloc, changes)?;
+    let mut table = Visits::of(alloc, hash, credits_shown, &changes, frames)?;
     finish(
         table.rows.as_slice(),
         &mut table.quiets,
         credits_shown,
-        changes,
+        &changes,
     );
     let loud = Loud::of(alloc, table.rows.as_slice(), table.quiets.as_slice())?;
     laid(alloc, loud, &mut table, frames)
 }
 
-/// The rows of the loud streams, with the positions of the frames that they meet.
+/// The rows of the loud streams, with the positions of the frames that they meet. Where there is none, no frame is
+/// looked at.
 fn laid(
     alloc: Global,
     loud: Loud,
@@ -76,25 +78,23 @@ fn laid(
     frames: &[Frame],
 ) -> Result<SplitFrames, AllocError>
     requires length { length frames.now < 2 ^ 28 }
-    requires index { IsIndex (streams_in table.old.rows.items) table.old.index }
-    requires room { length table.old.rows.items < 2 ^ 31 }
-    requires places { ArePlaces (streams_in table.old.rows.items) loud.places.items (streams_in loud.rows.items) }
-    requires distinct { AreDistinct (streams_in loud.rows.items) }
-    requires total { total_of loud.rows.items < 2 ^ 32 }
-    requires counts { AreCounted loud.rows.items (heard (streams_in loud.rows.items) (notes_from 0 frames.now)) }
+    requires table { IsTableOf (notes_from 0 frames.now) table.old }
+    requires room { HasAtMost (2 * length frames.now) table.old }
+    requires long { length table.old.quiets.items ≡ length table.old.rows.items }
+    requires rows { loud.rows.items ≡ loud_of table.old.rows.items table.old.quiets.items }
     ensures { IfOk result (IsLaid loud.rows.items loud.opened.items
         (heard (streams_in loud.rows.items) (notes_from 0 frames.now))) }
 {
-    let mut rows = loud.rows;
-    let total = lay_out(&mut rows);
-    let positions = place(
-        alloc,
-        &mut rows,
-        loud.places.as_slice(),
-        table,
-        frames,
-        total,
-    )?;
+    if loud.rows.is_empty() {
+        return Ok(SplitFrames {
+            rows: Vec::new(alloc),
+            positions: Vec::new(alloc),
+            opened: loud.opened,
+        });
+    }
+    let places = places_of(alloc, table.quiets.as_slice())?;
+    let (mut rows, total) = lay_out(alloc, loud.rows.as_slice())?;
+    let positions = place(alloc, &mut rows, places.as_slice(), table, frames, total)?;
     Ok(SplitFrames {
         rows,
         positions,
@@ -103,23 +103,26 @@ fn laid(
 }
 
 /// Gives each row its range, empty as yet, with room for the visits that it counts, and answers the room in all.
-fn lay_out(rows: &mut [StreamRow]) -> u32
-    requires { total_of rows.old < 2 ^ 32 }
-    ensures rows { rows.new ≡ laid_out 0 rows.old }
-    ensures total { result ≡ total_of rows.old }
+fn lay_out(alloc: Global, loud: &[Visited]) -> Result<(Vec<StreamRow>, u32), AllocError>
+    requires { total_of loud.now < 2 ^ 32 }
+    ensures rows { IfOk result (λ made. made.0.items ≡ laid_out 0 loud.now) }
+    ensures total { IfOk result (λ made. made.1 ≡ total_of loud.now) }
 {
+    let mut rows = Vec::with_capacity(alloc, loud.len())?;
     let mut total = 0;
-    for row in rows.iter_mut() {
-        let count = row.to;
-        row.from = total;
-        row.to = total;
-        total += count;
+    for row in loud {
+        rows.push(StreamRow {
+            stream: row.stream,
+            from: total,
+            to: total,
+        })?;
+        total += row.count;
     }
-    total
+    Ok((rows, total))
 }
 
 /// The positions of the frames that the streams of the rows meet, each at the end of its row's range, which grows by
-/// it. Where there is no row, no frame is looked at.
+/// it.
 fn place(
     alloc: Global,
     rows: &mut [StreamRow],
@@ -131,17 +134,14 @@ fn place(
     requires length { length frames.now < 2 ^ 28 }
     requires index { IsIndex (streams_in table.old.rows.items) table.old.index }
     requires room { length table.old.rows.items < 2 ^ 31 }
-    requires places { ArePlaces (streams_in table.old.rows.items) places.now (streams_in rows.old) }
-    requires distinct { AreDistinct (streams_in rows.old) }
-    requires room_for { HasRoomFor rows.old (heard (streams_in rows.old) (notes_from 0 frames.now)) total }
+    requires places { ArePlaces (streams_in table.old.rows.items) places.now (row_streams rows.old) }
+    requires distinct { AreDistinct (row_streams rows.old) }
+    requires room_for { HasRoomFor rows.old (heard (row_streams rows.old) (notes_from 0 frames.now)) total }
     ensures long { IfOk result (λ positions. length positions.items ≡ total) }
     ensures filled { IfOk result (λ positions.
-        IsFilled rows.old (heard (streams_in rows.old) (notes_from 0 frames.now)) rows.new positions.items) }
+        IsFilled rows.old (heard (row_streams rows.old) (notes_from 0 frames.now)) rows.new positions.items) }
 {
     let mut positions = vec![in alloc; 0; total as usize]?;
-    if rows.is_empty() {
-        return Ok(positions);
-    }
     let mut position = 0;
     for frame in frames {
         let own = place_of(table, places, frame.stream);
@@ -169,7 +169,7 @@ fn put(positions: &mut Vec<u32>, row: &mut StreamRow, position: u32)
     requires within { row.old.to < length positions.old.items }
     requires short { length positions.old.items < 2 ^ 32 }
     ensures positions { positions.new.items ≡ set positions.old.items row.old.to position }
-    ensures row { row.new ≡ counted row.old }
+    ensures row { row.new ≡ longer row.old }
 {
     positions[row.to as usize] = position;
     row.to += 1;

@@ -12,9 +12,8 @@ ghost use Rattle.split_merge.specs.code.Visits.{streams_in, with_row, with_strea
 ghost use Rattle.split_merge.specs.code.Loud.{IsKept};
 ghost use Rattle.split_merge.specs.code.Ahead.{AreAhead, AreHushed, IsEnd, IsHushed, MeetsNext, with_next};
 
-use crate::splits::StreamRow;
+use crate::row_index::RowIndex;
 use audit_terms::{Finding, Frame};
-use indexmap::IndexSet;
 use std::alloc::{AllocError, Global};
 use stream_credit::{Changes, QuietStream};
 use table_hash::TableHash;
@@ -25,15 +24,22 @@ const HINTS: usize = 1024;
 /// Of so many frames and more rows are remembered.
 const MANY: usize = 128;
 
+/// A stream, and of how many frames it is so far: it visits each frame that it meets.
+#[derive(Clone, Copy)]
+pub struct Visited {
+    pub stream: u32,
+    pub count: u32,
+}
+
 /// The streams that meet the frames seen so far, in order of their first frames.
 #[derive(Drop)]
 pub struct Visits {
-    /// A row for each stream, whose range is as long as the stream's visits are many.
-    pub rows: Vec<StreamRow>,
+    /// A row for each stream.
+    pub rows: Vec<Visited>,
     /// The stream of each row, for as long as nothing is shown of it.
     pub quiets: Vec<QuietStream>,
-    /// The streams of the rows, each at the index of its row.
-    pub index: IndexSet<u32, TableHash>,
+    /// Where the row of each stream stands.
+    pub index: RowIndex,
     /// Rows that were sought before, by the last bits of their streams' numbers: the streams of a connection are
     /// numbered one after the other, so that those of one time seldom share a place here.
     pub hints: Vec<u32>,
@@ -67,7 +73,7 @@ impl Visits {
         let mut table = Visits {
             rows,
             quiets,
-            index: IndexSet::with_hasher(alloc, hash),
+            index: RowIndex::new(alloc, hash),
             hints,
             last: 0,
         };
@@ -152,17 +158,13 @@ impl Visits {
             → AreAhead changes all rest (streams_in self.old.rows.items) self.old.quiets.items
             → AreAhead changes all rest (streams_in self.new.rows.items) self.new.quiets.items) }
     {
-        let (row, added) = self.index.insert_full(stream)?;
+        let (row, added) = self.index.insert(self.rows.as_slice(), stream)?;
         if !added {
-            return Ok(row as u32);
+            return Ok(row);
         }
-        self.rows.push(StreamRow {
-            stream,
-            from: 0,
-            to: 0,
-        })?;
+        self.rows.push(Visited { stream, count: 0 })?;
         self.quiets.push(unmet(credits_shown))?;
-        Ok(row as u32)
+        Ok(row)
     }
 
     /// The index of a stream's row, if it has one.
@@ -180,9 +182,9 @@ impl Visits {
         if is_row_of(self.rows.as_slice(), hint, stream) {
             return Some(hint);
         }
-        let (row, _) = self.index.get_full(&stream)?;
-        remember(&mut self.hints, stream, row as u32);
-        Some(row as u32)
+        let row = self.index.find(self.rows.as_slice(), stream)?;
+        remember(&mut self.hints, stream, row);
+        Some(row)
     }
 }
 
@@ -200,7 +202,7 @@ fn unmet(credits_shown: bool) -> QuietStream
 
 /// The streams of the rows after the changes behind their last frames: each that is still quiet shows nothing.
 pub fn finish(
-    rows: &[StreamRow],
+    rows: &[Visited],
     quiets: &mut Vec<QuietStream>,
     credits_shown: bool,
     changes: &Changes<'_>,
@@ -255,7 +257,7 @@ fn remember(hints: &mut [u32], stream: u32, row: u32) {
 }
 
 /// Is the row at this index the stream's?
-fn is_row_of(rows: &[StreamRow], row: u32, stream: u32) -> bool
+fn is_row_of(rows: &[Visited], row: u32, stream: u32) -> bool
     ensures { OnTrue result (slice_get (streams_in rows.now) row ≡ Some stream) }
 {
     match rows.get(row as usize) {
@@ -265,9 +267,9 @@ fn is_row_of(rows: &[StreamRow], row: u32, stream: u32) -> bool
 }
 
 /// Counts one visit more.
-fn count(row: &mut StreamRow)
-    requires { row.old.to < 2 ^ 31 }
+fn count(row: &mut Visited)
+    requires { row.old.count < 2 ^ 31 }
     ensures { row.new ≡ counted row.old }
 {
-    row.to += 1;
+    row.count += 1;
 }

@@ -1,34 +1,7 @@
-//! Worked examples of the definitions, by proof: findings with the stalls that they tell of, frames by stream, groups,
-//! findings of several lists. The functions do nothing; each contract is the example.
+//! Worked examples of the definitions, by proof: frames by stream, groups, findings of several lists. The functions do
+//! nothing; each contract is the example.
 ghost use Rattle.split_merge.specs.examples.Split.{CutsAtFirstReportedError, GroupsOfFour, SplitsByStream};
 ghost use Rattle.split_merge.specs.examples.Split.{TellsQuietStreams};
-ghost use Rattle.split_merge.specs.examples.Stalls.{BothSidesStall, ClockGoesBack, FirstEndCounts};
-ghost use Rattle.split_merge.specs.examples.Stalls.{StallEndsThenOverrun, StallsStayOpen};
-
-/// A stall of the connection ends and another begins, and that of the stream goes on.
-pub fn stall_ends_then_overrun()
-    ensures { StallEndsThenOverrun }
-{}
-
-/// Where no end is left among the findings, as after a connection error, stalls are open.
-pub fn withdrawn_findings()
-    ensures { StallsStayOpen }
-{}
-
-/// A stall ends with the first end of its own window.
-pub fn after_end_and_reset()
-    ensures { FirstEndCounts }
-{}
-
-/// Both sides stall on one stream, each by itself.
-pub fn both_sides_stall()
-    ensures { BothSidesStall }
-{}
-
-/// The time between two frames is below zero where the capture's clock went back.
-pub fn clock_goes_back()
-    ensures { ClockGoesBack }
-{}
 
 /// Streams stand in order of first frames; a promise stands with the stream that it is on and the one that it promises.
 pub fn split_by_stream()

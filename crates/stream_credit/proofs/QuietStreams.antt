@@ -1,10 +1,10 @@
 -- A stream of which nothing is shown, from one of its frames to the next.
-use Rattle.std.proofs.Common.{◌≡◌, ℕ, zero, suc, ℤ, pos, ◌+◌, ◌-◌, ◌^◌, ◌<◌, ◌≤◌, Bool, true, false, ◌||◌, ◌==◌, nat_lt}
+use Rattle.std.proofs.Common.{◌≡◌, ℕ, zero, suc, ℤ, pos, ◌+◌, ◌-◌, ◌^◌, ◌<◌, ◌≤◌, Bool, true, false, nat_lt}
 use Rattle.std.proofs.Common.{if◌then◌else◌, List, [], ◌∷◌, ◌++◌, map, take, drop, length, slice_get, slice_index_or}
-use Rattle.std.proofs.Common.{Option, Some, None, is_some, option_map, refl, sym, ap, ◌∙◌, subst, arith}
+use Rattle.std.proofs.Common.{Option, Some, None, option_map, refl, sym, ap, ◌∙◌, subst, arith}
 use Rattle.std.specs.Bool.{OnTrue}
 use Rattle.std.proofs.lemmas.Bool.Decides.{nat_tests}
-use Rattle.std.proofs.lemmas.List.{append-nil, drop-drop, take_all}
+use Rattle.std.proofs.lemmas.List.{drop-drop, take_all}
 use Rattle.std.proofs.lemmas.List.Elements.{filter-append}
 use Rattle.std.proofs.lemmas.Option.{none-some, same_Some}
 use Rattle.audit_terms.specs.declared.lives.StreamLife.{StreamLife}
@@ -20,51 +20,46 @@ use Rattle.audit_terms.specs.InForce.{initial_in_force}
 use Rattle.audit_terms.specs.Finding.{in_order, is_shown, shown}
 use Rattle.audit_terms.specs.Stream.{idle_stream, stream_said, stream_after}
 use Rattle.audit_terms.specs.code.runs.Orderly.{IsOrderlyFrom, IsOrderly}
-use Rattle.audit_terms.specs.code.runs.Streams.{frame_step, change_step, initial_after, stream_run, stream_run_from}
-use Rattle.audit_terms.specs.code.runs.Streams.{stream_at_end, stream_after_all}
+use Rattle.audit_terms.specs.code.runs.Streams.{frame_step, change_step, initial_after, stream_run_from}
+use Rattle.audit_terms.specs.code.runs.Streams.{stream_after_all}
 use Rattle.audit_terms.proofs.FindingLists.{each-in_order}
 use Rattle.settings_pair.specs.code.Changes.{AreOrderlyFrom, AreOrderly, AreAcknowledged}
 use Rattle.stream_credit.specs.declared.quiet_streams.QuietStream.{QuietStream}
 use Rattle.stream_credit.specs.code.Looks.{is_live}
 use Rattle.stream_credit.specs.code.Left.{after_changes, after_each, passed, left_from}
-use Rattle.stream_credit.specs.code.Merged.{merged, Acknowledge}
-use Rattle.stream_credit.specs.code.QuietStream.{window_of, opened_of, stream_of, initial_at, IsMovedBy, IsPassed}
-use Rattle.stream_credit.specs.code.QuietStream.{IsNext, AreFrom, StartsAt, IsAhead, IsAheadIfQuiet, ShowsNothing}
+use Rattle.stream_credit.specs.code.Merged.{merged}
+use Rattle.stream_credit.specs.code.QuietStream.{has_credit, has_ended, window_of, opened_of, stream_of, initial_at}
+use Rattle.stream_credit.specs.code.QuietStream.{IsPassed}
+use Rattle.stream_credit.specs.code.QuietStream.{IsNext, AreFrom, StartsAt, IsAhead, HasMet, IsAheadIfQuiet}
+use Rattle.stream_credit.specs.code.QuietStream.{ShowsNothing}
 use Rattle.stream_credit.specs.declared.quiet.Move.{Move}
 use Rattle.stream_credit.specs.code.Quiet.{IsMove, IsRaised, IsQuiet}
 use Rattle.stream_credit.specs.code.Silent.{moved, IsSilent}
 use Rattle.stream_credit.proofs.QuietLemmas.{quiet-unshown, quiet-after}
 use Rattle.stream_credit.proofs.MergedLemmas.{steps_of-merged, acknowledge-all, merged_at-first, merged_at-passed}
-use Rattle.stream_credit.proofs.MergedLemmas.{below_test, below_from_test, unequal_test}
+use Rattle.stream_credit.proofs.MergedLemmas.{below_test, unequal_test}
 use Rattle.stream_credit.proofs.SilentLemmas.{IsUnshown, AreUnshown, none-shown, silent-unshown, silent-after, moved_to}
 use Rattle.stream_credit.proofs.WalkLemmas.{gone, gone-by, run-passes, entry-passes}
 
 -- ---- a stream that no frame has met
 
-abbrev pub idle_quiet : QuietStream
-idle_quiet = record {
-  opened = 0;
-  client = 0;
-  server = 0;
-  met = 0;
-  ended = record { client = false; server = false };
-  is_quiet = true;
-}
+abbrev pub idle_quiet : (met : ℕ) → QuietStream
+idle_quiet met = record { opened = 0; client = 0; server = 0; met = met; is_quiet = true }
 
-pub ahead-idle : (stream : ℕ) (changes : List Change) (all : List Frame) → stream < 2 ^ 31 → IsOrderly all
-    → AreOrderly changes → AreAcknowledged all changes → IsAheadIfQuiet stream changes all all idle_quiet
-ahead-idle stream changes all s o k a = λ _. record {
-  streamed = s;
-  met = omega arith;
-  client = omega arith;
-  server = omega arith;
-  orderly = o;
-  rise = k;
-  acknowledged = acknowledge-all all changes a;
-  shown = ap (λ steps. shown false (stream_run_from stream initial_in_force.initial idle_stream steps))
-      (steps_of-merged 0 all changes k);
-  end = ap (stream_after_all stream initial_in_force.initial idle_stream) (steps_of-merged 0 all changes k);
-}
+pub ahead-idle : (met stream : ℕ) (changes : List Change) (all : List Frame) → met ≡ 0 → stream < 2 ^ 31 → IsOrderly all
+    → AreOrderly changes → AreAcknowledged all changes → IsAheadIfQuiet stream changes all all (idle_quiet met)
+ahead-idle met stream changes all none s o k a =
+    subst (λ n. IsAheadIfQuiet stream changes all all (idle_quiet n)) (sym none)
+    (λ _. record {
+      streamed = s;
+      met = omega arith;
+      orderly = o;
+      rise = k;
+      acknowledged = acknowledge-all all changes a;
+      shown = ap (λ steps. shown false (stream_run_from stream initial_in_force.initial idle_stream steps))
+          (steps_of-merged 0 all changes k);
+      end = ap (stream_after_all stream initial_in_force.initial idle_stream) (steps_of-merged 0 all changes k);
+    })
 
 -- ---- lists of changes
 
@@ -280,7 +275,7 @@ module _ (stream : ℕ) (initial after : Sides ℕ) (change : Change) (old new :
 
   change-after : stream_of new ≡ stream_after stream initial (stream_of old) (change_step change)
   change-after =
-      rw (p.opened, p.ended, client-moved, server-moved)
+      rw (p.opened, p.client.ended, p.server.ended, client-moved, server-moved)
       (sym (silent-after stream initial (stream_of old) change.number (Some change) (window_of old.client)
       (window_of old.server) refl))
 
@@ -302,8 +297,6 @@ ahead-change stream number changes all rest old new change after h s e below a p
     record {
       streamed = h.streamed;
       met = subst (λ n. n ≤ length changes) (sym p.met) (next-within old.met changes change e);
-      client = p.client.within;
-      server = p.server.within;
       orderly = h.orderly;
       rise = h.rise;
       acknowledged = h.acknowledged;
@@ -377,8 +370,6 @@ ahead-passed stream number changes all rest old met h s dead m =
     record {
       streamed = h.streamed;
       met = omega (arith, m, fits, whole);
-      client = h.client;
-      server = h.server;
       orderly = h.orderly;
       rise = h.rise;
       acknowledged = h.acknowledged;
@@ -427,8 +418,6 @@ ahead-frame stream changes all rest frame old new h f n =
     record {
       streamed = h.streamed;
       met = subst (λ m. m ≤ length changes) (sym n.met) h.met;
-      client = n.client;
-      server = n.server;
       orderly = orderly-lower (frame.number + 1) 0 rest (omega arith) h.orderly.2;
       rise = h.rise;
       acknowledged = h.acknowledged.1;
@@ -462,13 +451,17 @@ shows-nothing stream changes all quiet h f =
 
 -- ---- a frame that moves one window
 
-pub window-some : (n : ℕ) → 0 < n → window_of n ≡ Some (pos n)
-window-some n h = let e : (n == 0) ≡ false = grind (arith, nat_tests) in rw e refl
+window-some : (standing : ℕ) → has_credit standing ≡ true → window_of standing ≡ Some (pos standing)
+window-some standing h = rw h refl
+
+ended-none : (standing : ℕ) → has_credit standing ≡ true → has_ended standing ≡ false
+ended-none standing h = grind (arith, nat_tests)
 
 abbrev move_by : Side → ℤ → Move
 move_by side amount = record { side = side; amount = amount }
 
-module _ (stream : ℕ) (initial : Sides ℕ) (frame : Frame) (old : QuietStream) (amount : ℤ) (credit : ℕ) where
+module _ (stream : ℕ) (initial : Sides ℕ) (frame : Frame) (old : QuietStream) (amount : ℤ) (credit : ℕ)
+    (left : has_credit credit ≡ true) where
   abbrev entry : Stream
   entry = stream_of old
 
@@ -478,10 +471,22 @@ module _ (stream : ℕ) (initial : Sides ℕ) (frame : Frame) (old : QuietStream
   abbrev to_server : Sides (Option ℤ)
   to_server = record { client = window_of old.client; server = Some (pos credit) }
 
+  -- the stream with a window of the client, and of the server, that ended as told
+  abbrev with_client : Bool → Option ℤ → Stream
+  with_client ended window = record {
+    life = record { opened = opened_of old.opened; ended = record { client = ended; server = has_ended old.server } };
+    window = record { client = window; server = window_of old.server };
+  }
+
+  abbrev with_server : Bool → Option ℤ → Stream
+  with_server ended window = record {
+    life = record { opened = opened_of old.opened; ended = record { client = has_ended old.client; server = ended } };
+    window = record { client = window_of old.client; server = window };
+  }
+
   client-next : IsMove stream entry.life frame (move_by Client amount) → IsRaised (pos old.client) amount (pos credit)
-      → 0 < old.client → 0 < credit → credit < 2 ^ 31 → old.server < 2 ^ 31
-      → IsNext stream initial frame old (record old { client = credit })
-  client-next m r was some within other =
+      → has_credit old.client ≡ true → IsNext stream initial frame old (record old { client = credit })
+  client-next m r was =
       let q : IsQuiet (stream_of old).window (move_by Client amount) to_client = record {
         after = pos credit;
         credit = record { before = pos old.client; live = window-some old.client was; raised = r };
@@ -490,20 +495,16 @@ module _ (stream : ℕ) (initial : Sides ℕ) (frame : Frame) (old : QuietStream
       } in
       record {
         shown = quiet-unshown stream initial entry frame (move_by Client amount) to_client m q;
-        after = ap (λ (window : Option ℤ). record {
-          life = (stream_of old).life;
-          window = record { client = window; server = window_of old.server };
-        }) (window-some credit some)
+        after = ap (λ ended. with_client ended (window_of credit))
+            (ended-none credit left ∙ sym (ended-none old.client was))
+            ∙ ap (with_client (has_ended old.client)) (window-some credit left)
             ∙ sym (quiet-after stream initial entry frame (move_by Client amount) to_client m q);
         met = refl;
-        client = within;
-        server = other;
       }
 
   server-next : IsMove stream entry.life frame (move_by Server amount) → IsRaised (pos old.server) amount (pos credit)
-      → 0 < old.server → 0 < credit → credit < 2 ^ 31 → old.client < 2 ^ 31
-      → IsNext stream initial frame old (record old { server = credit })
-  server-next m r was some within other =
+      → has_credit old.server ≡ true → IsNext stream initial frame old (record old { server = credit })
+  server-next m r was =
       let q : IsQuiet (stream_of old).window (move_by Server amount) to_server = record {
         after = pos credit;
         credit = record { before = pos old.server; live = window-some old.server was; raised = r };
@@ -512,14 +513,11 @@ module _ (stream : ℕ) (initial : Sides ℕ) (frame : Frame) (old : QuietStream
       } in
       record {
         shown = quiet-unshown stream initial entry frame (move_by Server amount) to_server m q;
-        after = ap (λ (window : Option ℤ). record {
-          life = (stream_of old).life;
-          window = record { client = window_of old.client; server = window };
-        }) (window-some credit some)
+        after = ap (λ ended. with_server ended (window_of credit))
+            (ended-none credit left ∙ sym (ended-none old.server was))
+            ∙ ap (with_server (has_ended old.server)) (window-some credit left)
             ∙ sym (quiet-after stream initial entry frame (move_by Server amount) to_server m q);
         met = refl;
-        client = other;
-        server = within;
       }
 
 same-move : (one : Move) (side : Side) → one.side ≡ side → one ≡ move_by side one.amount
@@ -527,23 +525,21 @@ same-move one side e = ap (λ s. move_by s one.amount) e
 
 pub next-client : (stream : ℕ) (frame : Frame) (old : QuietStream) (life : StreamLife) (one : Move) (credit : ℕ)
     → life ≡ (stream_of old).life → IsMove stream life frame one → one.side ≡ Client
-    → IsRaised (pos old.client) one.amount (pos credit) → 0 < old.client → 0 < credit → credit < 2 ^ 31
-    → old.server < 2 ^ 31
+    → IsRaised (pos old.client) one.amount (pos credit) → has_credit old.client ≡ true → has_credit credit ≡ true
     → (initial : Sides ℕ) → IsNext stream initial frame old (record old { client = credit })
-next-client stream frame old life one credit l m e r was some within other initial =
-    client-next stream initial frame old one.amount credit
+next-client stream frame old life one credit l m e r was left initial =
+    client-next stream initial frame old one.amount credit left
     (subst (IsMove stream (stream_of old).life frame) (same-move one Client e)
-    (subst (λ (n : StreamLife). IsMove stream n frame one) l m)) r was some within other
+    (subst (λ (n : StreamLife). IsMove stream n frame one) l m)) r was
 
 pub next-server : (stream : ℕ) (frame : Frame) (old : QuietStream) (life : StreamLife) (one : Move) (credit : ℕ)
     → life ≡ (stream_of old).life → IsMove stream life frame one → one.side ≡ Server
-    → IsRaised (pos old.server) one.amount (pos credit) → 0 < old.server → 0 < credit → credit < 2 ^ 31
-    → old.client < 2 ^ 31
+    → IsRaised (pos old.server) one.amount (pos credit) → has_credit old.server ≡ true → has_credit credit ≡ true
     → (initial : Sides ℕ) → IsNext stream initial frame old (record old { server = credit })
-next-server stream frame old life one credit l m e r was some within other initial =
-    server-next stream initial frame old one.amount credit
+next-server stream frame old life one credit l m e r was left initial =
+    server-next stream initial frame old one.amount credit left
     (subst (IsMove stream (stream_of old).life frame) (same-move one Server e)
-    (subst (λ (n : StreamLife). IsMove stream n frame one) l m)) r was some within other
+    (subst (λ (n : StreamLife). IsMove stream n frame one) l m)) r was
 
 -- ---- the tails of calls
 
@@ -559,27 +555,23 @@ frame-tail stream changes all rest frame old mid new initial e i f n h =
     (subst (λ (now : Sides ℕ). IsNext stream now frame mid new) i n)
 
 pub finish-tail : (b : Bool) (stream : ℕ) (changes : List Change) (old new : QuietStream)
-    → OnTrue b ((stream : ℕ) (all rest : List Frame) → StartsAt (2 ^ 32 - 1) rest
-    → IsAhead stream changes all rest old → IsAhead stream changes all rest new)
-    → OnTrue b (AreFrom (2 ^ 32 - 1) (drop new.met changes))
-    → (all : List Frame) → IsAhead stream changes all [] old → OnTrue b (ShowsNothing stream changes all new.opened)
-finish-tail true stream changes old new a f all h = shows-nothing stream changes all new (a stream all [] tt h) f
-finish-tail false stream changes old new a f all h = tt
+    → OnTrue b (HasMet (2 ^ 32 - 1) changes old new) → (all : List Frame) → IsAhead stream changes all [] old
+    → OnTrue b (ShowsNothing stream changes all new.opened)
+finish-tail true stream changes old new met all h =
+    shows-nothing stream changes all new (met.ahead stream all [] tt h) met.passed
+finish-tail false stream changes old new met all h = tt
 
-pub step-tail : (b : Bool) (stream : ℕ) (initial : Sides ℕ) (frame : Frame) (old new : QuietStream) (entry : Stream)
-    (found : List Finding) → OnTrue b (stream_of new ≡ entry) → OnTrue b (new.met ≡ old.met)
-    → OnTrue b (new.client < 2 ^ 31)
-    → OnTrue b (new.server < 2 ^ 31) → found ≡ stream_said stream initial (stream_of old) (frame_step frame)
-    → entry ≡ stream_after stream initial (stream_of old) (frame_step frame) → shown false found ≡ []
+pub step-tail : (b : Bool) (stream : ℕ) (initial : Sides ℕ) (frame : Frame) (old new : QuietStream) (next : Stream)
+    (found : List Finding) → OnTrue b (stream_of new ≡ next) → OnTrue b (new.met ≡ old.met)
+    → found ≡ stream_said stream initial (stream_of old) (frame_step frame)
+    → next ≡ stream_after stream initial (stream_of old) (frame_step frame) → shown false found ≡ []
     → OnTrue b (IsNext stream initial frame old new)
-step-tail true stream initial frame old new entry found is met client server said after none = record {
+step-tail true stream initial frame old new next found is met said after none = record {
   shown = subst (λ l. shown false (in_order l) ≡ []) said (none-in_order found none);
   after = is ∙ after;
   met = met;
-  client = client;
-  server = server;
 }
-step-tail false stream initial frame old new entry found is met client server said after none = tt
+step-tail false stream initial frame old new next found is met said after none = tt
 
 -- whether it is quiet says nothing of where it stands
 pub ahead-told : (stream : ℕ) (changes : List Change) (all rest : List Frame) (quiet : QuietStream) (is_quiet : Bool)
@@ -587,8 +579,6 @@ pub ahead-told : (stream : ℕ) (changes : List Change) (all rest : List Frame) 
 ahead-told stream changes all rest quiet is_quiet h = record {
   streamed = h.streamed;
   met = h.met;
-  client = h.client;
-  server = h.server;
   orderly = h.orderly;
   rise = h.rise;
   acknowledged = h.acknowledged;

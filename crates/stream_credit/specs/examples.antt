@@ -1,1 +1,3 @@
+pub mod Script
+pub mod Life
 pub mod Run

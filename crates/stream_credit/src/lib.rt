@@ -18,17 +18,23 @@
 //!   each would wait for the memory before the next one begins.
 //! - Where credits are not shown, frames and changes that only move windows, without a stall or an overflow, are
 //!   counted without a list of findings.
+//! - A [`QuietStream`] is what is known of a stream of which nothing is shown so far, where credits are not shown. It
+//!   meets the stream's frames one by one, beside all other streams. What is quiet after its last frame shows nothing,
+//!   and its opening is known: so it needs no run.
 //! - No sum wraps, for any increments and settings that a frame can hold: 2^28 steps of less than 2^32 fit a signed
 //!   word.
-//! - [`worked_examples`] are short runs of the definitions: windows below zero, settings that reach open and later
-//!   streams, windows that open at 0, overruns, both overflows, a promised stream, a run that ends at a stop.
+//! - [`worked_examples`] are short runs of the definitions: ends of both sides, resets, promises and where they stand
+//!   wrongly, windows below zero, settings that reach open and later streams, windows that open at 0, overruns, both
+//!   overflows, a promised stream, a run that ends at a stop.
 //!
 //! Asked of the caller: rising numbers, and that a frame with the number of a change is an acknowledgement, as
 //! `settings_pair` gives them.
 //!
 //! Wrong bodies that the prover refuses: settings that reach open streams only, a run that never looks, looks once or
 //! looks ahead of its work, one that leaves out all once it is stopped, one that counts a side's last DATA as any
-//! other. Tested, in `crate_tests`: that `stream_run` succeeds where there is memory.
+//! other, a quiet stream whose credit is used up. Tested, in `crate_tests`: that `stream_run` succeeds where there is
+//! memory; in `threads_test.py` ("quiet streams are in no group"): that a stream which shows nothing stays quiet, which
+//! no contract says.
 #![tactic(auto)]
 
 mod changes;

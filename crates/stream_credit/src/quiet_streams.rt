@@ -1,8 +1,7 @@
 //! Streams of which nothing is shown, where credits are not shown: most are of this kind. Such a stream is told by its
 //! frames in the order of the capture, beside all others, and need not be gone through by itself.
 
-ghost use Rattle.std.specs.Prelude.{◌≡◌, ℕ, pos, ◌+◌, ◌^◌, ◌<◌, ◌≤◌, ◌∷◌, [], drop, length, true, false, List, OnOk};
-ghost use Rattle.std.specs.Prelude.{IfOk};
+ghost use Rattle.std.specs.Prelude.{◌≡◌, ℕ, pos, ◌+◌, ◌^◌, ◌<◌, true, false, List, [], ◌∷◌, drop, OnOk, IfOk};
 ghost use Rattle.std.specs.Bool.{OnTrue, OnFalse};
 ghost use Rattle.std.specs.Option.{ForSome};
 ghost use Rattle.audit_terms.specs.declared.frames.Frame.{Frame as FrameTerm};
@@ -12,44 +11,66 @@ ghost use Rattle.audit_terms.specs.code.runs.Orderly.{IsOrderly, IsInRange};
 ghost use Rattle.settings_pair.specs.code.Changes.{AreOrderly, AreAcknowledged};
 ghost use Rattle.stream_credit.specs.code.Looks.{is_live};
 ghost use Rattle.audit_terms.specs.code.Room.{HasRoom};
-ghost use Rattle.stream_credit.specs.code.QuietStream.{AreFrom, IsAhead, IsAheadIfQuiet, IsCreditOf, IsMovedBy, IsNext};
-ghost use Rattle.stream_credit.specs.code.QuietStream.{IsPassed, ShowsNothing, StartsAt, opened_of, stream_of};
-ghost use Rattle.stream_credit.specs.code.QuietStream.{window_of};
+ghost use Rattle.stream_credit.specs.code.QuietStream.{AreFrom, CanMeet, HasMet, IsAhead, IsAheadIfQuiet, IsCreditOf};
+ghost use Rattle.stream_credit.specs.code.QuietStream.{IsMovedBy, IsNext, IsPassed, ShowsNothing, opened_of, stream_of};
+ghost use Rattle.stream_credit.specs.code.QuietStream.{has_credit, has_ended, window_of, IsStanding};
 ghost use Rattle.stream_credit.specs.code.Quiet.{IsRaised};
 
 use crate::changes::Changes;
 use crate::quiet::{Move, move_of};
 use audit_terms::{
-    Finding, Frame, LARGEST_WINDOW, Side, Sides, Step, Stream, StreamLife, initial_after,
+    Finding, Frame, LARGEST_WINDOW, Length, Side, Sides, Step, Stream, StreamLife, initial_after,
     keep_shown,
 };
 use std::alloc::AllocError;
 
-/// A stream between two of its frames, for as long as nothing is shown of it: then each live window has credit.
+/// What stands for a credit where the side has ended the stream: its window is not live then.
+const ENDED: u32 = LARGEST_WINDOW + 1;
+
+/// The most changes that a stream is followed through: more do not fit its count.
+const MOST_MET: u32 = 0xff_ffff;
+
+/// A stream between two of its frames, for as long as nothing is shown of it: then each live window has credit, so one
+/// number says how a side stands. A connection keeps many: it takes 16 bytes, what needs no alignment last.
 #[derive(Clone, Copy)]
 pub struct QuietStream {
     /// The number of the frame that opened it, 0 where none did.
     pub opened: u32,
-    /// The credit in bytes of the client's window, 0 where it is not live.
+    /// The client: the credit in bytes of its window, 0 where that is not live, and one more than any credit where the
+    /// client has ended the stream.
     pub client: u32,
-    /// The credit in bytes of the server's window, 0 where it is not live.
+    /// The server, likewise.
     pub server: u32,
     /// How many of the connection's changes it has met.
-    pub met: u32,
-    /// Has this side ended it?
-    pub ended: Sides<bool>,
+    pub met: Length,
     /// Is nothing shown of it so far? If something may be, the rest says nothing of it.
     pub is_quiet: bool,
 }
 
-/// The window whose credit is in store.
-fn window_of(credit: u32) -> Option<i64>
-    ensures { result ≡ window_of credit }
+const _: () = prove!(size_of::<QuietStream>() == 16);
+
+/// Does a side that stands so have a live window?
+fn has_credit(standing: u32) -> bool
+    ensures { result ≡ has_credit standing }
 {
-    if credit == 0 {
-        None
+    0 < standing && standing < ENDED
+}
+
+/// Has a side that stands so ended the stream?
+fn has_ended(standing: u32) -> bool
+    ensures { result ≡ has_ended standing }
+{
+    standing == ENDED
+}
+
+/// The window of a side that stands so.
+fn window_of(standing: u32) -> Option<i64>
+    ensures { result ≡ window_of standing }
+{
+    if has_credit(standing) {
+        Some(i64::from(standing))
     } else {
-        Some(i64::from(credit))
+        None
     }
 }
 
@@ -63,40 +84,48 @@ fn kept(credit: i64) -> Option<u32>
     Some(credit as u32)
 }
 
-/// A window as it is kept, under the same conditions.
-fn kept_window(window: &Option<i64>) -> Option<u32>
-    ensures { ForSome result (λ credit. (window_of credit ≡ window.now) × (credit < 2 ^ 31)) }
+/// How a side stands, under the same conditions. Where it has ended the stream, its window is not live.
+fn standing_of(window: &Option<i64>, ended: bool) -> Option<u32>
+    ensures { ForSome result (IsStanding window.now ended) }
 {
     match window {
+        Some(_) if ended => None,
         Some(credit) => kept(*credit),
-        None => Some(0),
+        None => Some(if ended { ENDED } else { 0 }),
     }
 }
 
-/// A credit after a change of the initial window, under the same conditions (6.9.2).
-fn moved(credit: u32, before: u32, after: u32) -> Option<u32>
-    requires { credit < 2 ^ 31 }
-    ensures { ForSome result (IsMovedBy before after credit) }
+/// How a side stands after a change of the initial window, under the same conditions (6.9.2).
+fn moved(standing: u32, before: u32, after: u32) -> Option<u32>
+    ensures { ForSome result (IsMovedBy before after standing) }
 {
-    if credit == 0 {
-        return Some(0);
+    if !has_credit(standing) {
+        return Some(standing);
     }
-    kept(i64::from(credit) + i64::from(after) - i64::from(before))
+    kept(i64::from(standing) + i64::from(after) - i64::from(before))
 }
 
 /// A credit after a frame moves it by an amount, if it is live, under the same conditions.
 fn raised(credit: u32, amount: &i64) -> Option<u32>
     requires amount { HasRoom (2 ^ 32) amount.now }
-    requires within { credit < 2 ^ 31 }
     ensures raised { ForSome result (λ after. IsRaised (pos credit) amount.now (pos after)) }
-    ensures some { ForSome result (λ after. 0 < after) }
-    ensures within { ForSome result (λ after. after < 2 ^ 31) }
-    ensures live { ForSome result (λ after. 0 < credit) }
+    ensures live { ForSome result (λ after. has_credit credit ≡ true) }
+    ensures left { ForSome result (λ after. has_credit after ≡ true) }
 {
-    if credit == 0 {
+    if !has_credit(credit) {
         return None;
     }
     kept(i64::from(credit) + *amount)
+}
+
+/// A number of changes as it is kept, if it fits.
+fn kept_met(met: u32) -> Option<Length>
+    ensures { ForSome result (λ kept. kept ≡ met) }
+{
+    if met > MOST_MET {
+        return None;
+    }
+    Some(Length::of(met))
 }
 
 impl QuietStream {
@@ -109,11 +138,7 @@ impl QuietStream {
             opened: 0,
             client: 0,
             server: 0,
-            met: 0,
-            ended: Sides {
-                client: false,
-                server: false,
-            },
+            met: Length::of(0),
             is_quiet: true,
         }
     }
@@ -135,7 +160,10 @@ impl QuietStream {
     {
         StreamLife {
             opened: self.opened_at(),
-            ended: self.ended,
+            ended: Sides {
+                client: has_ended(self.client),
+                server: has_ended(self.server),
+            },
         }
     }
 
@@ -156,28 +184,25 @@ impl QuietStream {
     fn is_live(&self) -> bool
         ensures { result ≡ is_live (stream_of self.now) }
     {
-        self.client != 0 || self.server != 0
+        has_credit(self.client) || has_credit(self.server)
     }
 
     /// Becomes what stands for a stream, if each live window has credit and no more than the largest.
     fn becomes(&mut self, entry: &Stream) -> bool
         ensures stream { OnTrue result (stream_of self.new ≡ entry.now) }
         ensures met { OnTrue result (self.new.met ≡ self.old.met) }
-        ensures client { OnTrue result (self.new.client < 2 ^ 31) }
-        ensures server { OnTrue result (self.new.server < 2 ^ 31) }
     {
         let opened = entry.life.opened.unwrap_or(0);
         if entry.life.opened.is_some() && opened == 0 {
             return false;
         }
         let (Some(client), Some(server)) = (
-            kept_window(&entry.window.client),
-            kept_window(&entry.window.server),
+            standing_of(&entry.window.client, entry.life.ended.client),
+            standing_of(&entry.window.server, entry.life.ended.server),
         ) else {
             return false;
         };
         self.opened = opened;
-        self.ended = entry.life.ended;
         self.client = client;
         self.server = server;
         true
@@ -186,34 +211,30 @@ impl QuietStream {
     /// Meets a change that moves its windows from one initial window to another, and answers whether nothing of that
     /// may be shown.
     fn meet_change(&mut self, before: &Sides<u32>, after: &Sides<u32>) -> bool
-        requires client { self.old.client < 2 ^ 31 }
-        requires server { self.old.server < 2 ^ 31 }
-        requires met { self.old.met < 2 ^ 28 }
+        requires { self.old.met < 2 ^ 28 }
         ensures { OnTrue result (IsPassed before.now after.now self.old self.new) }
     {
-        let (Some(client), Some(server)) = (
+        let (Some(client), Some(server), Some(met)) = (
             moved(self.client, before.client, after.client),
             moved(self.server, before.server, after.server),
+            kept_met(self.met.get() + 1),
         ) else {
             return false;
         };
         self.client = client;
         self.server = server;
-        self.met += 1;
+        self.met = met;
         true
     }
 
     /// Meets the changes before a number while a window lives, one by one, and answers whether nothing of them may be
     /// shown.
     fn meet_each(&mut self, changes: &Changes<'_>, number: u32) -> bool
-        requires { (stream : ℕ) × (all rest : List FrameTerm) × StartsAt number rest
-            × IsAhead stream changes.now all rest self.old }
-        ensures ahead { OnTrue result ((stream : ℕ) (all rest : List FrameTerm) → StartsAt number rest
-            → IsAhead stream changes.now all rest self.old → IsAhead stream changes.now all rest self.new) }
-        ensures passed { OnTrue result (AreFrom number (drop self.new.met changes.now)) }
+        requires { CanMeet number changes.now self.old }
+        ensures { OnTrue result (HasMet number changes.now self.old self.new) }
     {
-        while let Some(change) = changes.before(self.met, number) {
-            let initial = changes.initial_at(self.met);
+        while let Some(change) = changes.before(self.met.get(), number) {
+            let initial = changes.initial_at(self.met.get());
             if !self.meet_change(&initial, &initial_after(&Some(change), &initial)) {
                 return false;
             }
@@ -224,24 +245,22 @@ impl QuietStream {
     /// Meets the changes before a number, and answers whether nothing of them may be shown. A change that finds no live
     /// window is passed over.
     fn meet_changes(&mut self, changes: &Changes<'_>, number: u32) -> bool
-        requires { (stream : ℕ) × (all rest : List FrameTerm) × StartsAt number rest
-            × IsAhead stream changes.now all rest self.old }
-        ensures ahead { OnTrue result ((stream : ℕ) (all rest : List FrameTerm) → StartsAt number rest
-            → IsAhead stream changes.now all rest self.old → IsAhead stream changes.now all rest self.new) }
-        ensures passed { OnTrue result (AreFrom number (drop self.new.met changes.now)) }
+        requires { CanMeet number changes.now self.old }
+        ensures { OnTrue result (HasMet number changes.now self.old self.new) }
     {
         if self.is_live() {
             return self.meet_each(changes, number);
         }
-        self.met = changes.passed(self.met, number);
+        let Some(met) = kept_met(changes.passed(self.met.get(), number)) else {
+            return false;
+        };
+        self.met = met;
         true
     }
 
     /// Moves a window by what a frame sends or grants, if it does nothing else and nothing of that is shown, and
     /// answers whether it did.
     fn moves(&mut self, stream: u32, frame: &Frame) -> bool
-        requires client { self.old.client < 2 ^ 31 }
-        requires server { self.old.server < 2 ^ 31 }
         ensures moved { OnTrue result ((initial : SidesTerm ℕ) → IsNext stream initial frame.now self.old self.new) }
         ensures kept { OnFalse result (self.new ≡ self.old) }
     {
@@ -276,8 +295,6 @@ impl QuietStream {
     ) -> Result<bool, AllocError>
         requires streamed { stream < 2 ^ 31 }
         requires frame { IsInRange frame.now }
-        requires client { self.old.client < 2 ^ 31 }
-        requires server { self.old.server < 2 ^ 31 }
         ensures { IfOk result (λ quiet. OnTrue quiet (IsNext stream initial.now frame.now self.old self.new)) }
     {
         said.clear();
@@ -309,13 +326,13 @@ impl QuietStream {
             → IsAhead stream changes.now all (frame.now ∷ rest) self.old
             → IsAhead stream changes.now all rest self.new)) }
     {
-        if changes.is_at(self.met, frame.number) {
+        if changes.is_at(self.met.get(), frame.number) {
             return Ok(false);
         }
         if self.moves(stream, frame) {
             return Ok(true);
         }
-        let initial = changes.initial_at(self.met);
+        let initial = changes.initial_at(self.met.get());
         self.meet_step(said, stream, &initial, frame)
     }
 

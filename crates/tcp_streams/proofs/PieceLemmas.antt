@@ -108,7 +108,7 @@ module _ (initial_number : ℕ) (s : Segment) where
             ∙ sym (ap (λ l. at l o) list)
       ]
 
-  stretch-interval : (skipped from upto : ℕ) → upto ≤ end_of_offsets → s.lo + skipped + (upto - from) ≤ 2 ^ 62
+  stretch-interval : (skipped from upto : ℕ) → upto ≤ end_of_offsets → s.lo + skipped + (upto - from) < 2 ^ 32
       → IfSome (stretch s skipped from upto) IsInterval
   stretch-interval skipped from upto counts room =
       elim (lt_cases from upto) as (λ _. IfSome (stretch s skipped from upto) IsInterval) [

@@ -24,7 +24,7 @@ struct Laid<'a> {
     pieces: Vec<&'a [u8]>,
     arrivals: Vec<Arrival>,
     /// How many bytes the pieces have.
-    end: u64,
+    end: u32,
 }
 
 impl<'a> Laid<'a> {
@@ -37,8 +37,8 @@ impl<'a> Laid<'a> {
         ensures arrivals { OnOk result (self.new.arrivals.items ≡ self.old.arrivals.items ++ arrival_with x.now ∷ []) }
         ensures end { OnOk result (self.new.end ≡ x.now.upto) }
     {
-        let width = (x.upto - x.from) as usize;
-        capture.pieces(x.index, x.index + width, &mut self.pieces)?;
+        let (index, width) = (x.index as usize, (x.upto - x.from) as usize);
+        capture.pieces(index, index + width, &mut self.pieces)?;
         self.arrivals.push(arrival_with(x))?;
         self.end = x.upto;
         Ok(())

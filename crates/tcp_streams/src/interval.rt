@@ -1,15 +1,15 @@
 ghost use Rattle.std.specs.Prelude.{◌≡◌, ◌+◌, ◌-◌, ◌<◌, ◌≤◌, ◌^◌};
 
 /// The first offset that doesn't count: a flow is shorter than this.
-pub const END_OF_OFFSETS: u64 = 0x8000_0000;
+pub const END_OF_OFFSETS: u32 = 0x8000_0000;
 
 /// Offsets of a stream that follow each other and come from one segment, with the index of the first
 /// one's byte in the capture.
 #[derive(Clone, Copy)]
 pub struct Interval {
-    pub from: u64,
-    pub upto: u64,
-    pub index: usize,
+    pub from: u32,
+    pub upto: u32,
+    pub index: u32,
     pub rec: u32,
     pub nanos: u64,
 }
@@ -18,7 +18,7 @@ impl Interval {
     ghost use Rattle.tcp_streams.specs.code.Interval.{IsInterval, part_of};
 
     /// The part between two offsets of the interval.
-    pub fn part(&self, low: u64, high: u64) -> Interval
+    pub fn part(&self, low: u32, high: u32) -> Interval
         requires interval { IsInterval self.now }
         requires low { self.now.from ≤ low }
         requires some { low < high }
@@ -26,11 +26,10 @@ impl Interval {
         ensures part { result ≡ part_of self.now low high }
         ensures interval { IsInterval result }
     {
-        let skipped = (low - self.from) as usize;
         Interval {
             from: low,
             upto: high,
-            index: self.index + skipped,
+            index: self.index + (low - self.from),
             rec: self.rec,
             nanos: self.nanos,
         }

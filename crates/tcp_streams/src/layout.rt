@@ -67,8 +67,8 @@ fn pieces_in<'a>(
 {
     let mut pieces = Vec::with_capacity(alloc, run.len())?;
     for x in run {
-        let width = (x.upto - x.from) as usize;
-        capture.pieces(x.index, x.index + width, &mut pieces)?;
+        let (index, width) = (x.index as usize, (x.upto - x.from) as usize);
+        capture.pieces(index, index + width, &mut pieces)?;
     }
     Ok(pieces)
 }

@@ -78,7 +78,7 @@ fn add_kept(
     out: &mut Vec<Interval>,
     later: &[Interval],
     first: usize,
-    low: u64,
+    low: u32,
     x: &Interval,
 ) -> Result<usize, AllocError>
     requires spans { Spans 0 later.now (2 ^ 31) }
@@ -100,8 +100,8 @@ fn fill(
     out: &mut Vec<Interval>,
     later: &[Interval],
     first: usize,
-    low: u64,
-    high: u64,
+    low: u32,
+    high: u32,
 ) -> Result<usize, AllocError>
     requires spans { Spans 0 later.now (2 ^ 31) }
     requires first { first ≤ length later.now }
@@ -123,7 +123,7 @@ fn fill(
 }
 
 /// Adds the part between two offsets, if there is any.
-fn push_part(out: &mut Vec<Interval>, y: &Interval, low: u64, high: u64) -> Result<(), AllocError>
+fn push_part(out: &mut Vec<Interval>, y: &Interval, low: u32, high: u32) -> Result<(), AllocError>
     requires { IsInterval y.now }
     ensures { OnOk result (out.new.items ≡ out.old.items ++ clipped low high (y.now ∷ [])) }
 {

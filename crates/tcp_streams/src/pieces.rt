@@ -81,8 +81,9 @@ fn piece_of(initial_number: u32, segment: &Segment) -> Option<Interval>
 {
     let start = start_of(initial_number, segment.seq, segment.syn);
     let upto = start + (segment.hi - segment.lo) as u64;
-    if start < END_OF_OFFSETS {
-        stretch(segment, 0, start, upto.min(END_OF_OFFSETS))
+    let end = END_OF_OFFSETS as u64;
+    if start < end {
+        stretch(segment, 0, start, upto.min(end))
     } else {
         stretch(segment, MODULUS - start, 0, upto.saturating_sub(MODULUS))
     }
@@ -98,16 +99,17 @@ fn start_of(initial_number: u32, seq: u32, syn: bool) -> u64
 
 /// The offsets from one up to another, from the payload byte `skipped` on, if there are any.
 fn stretch(segment: &Segment, skipped: u64, from: u64, upto: u64) -> Option<Interval>
-    requires index { segment.now.lo + skipped < 2 ^ 33 }
+    requires index { segment.now.lo + skipped < 2 ^ 32 }
+    requires upto { upto ≤ 2 ^ 31 }
     ensures { result ≡ stretch segment.now skipped from upto }
 {
     if from < upto {
         Some(Interval {
-            from,
-            upto,
-            index: segment.lo + skipped as usize,
+            from: from as u32,
+            upto: upto as u32,
+            index: segment.lo + skipped as u32,
             rec: segment.rec,
-            nanos: segment.nanos,
+            nanos: segment.nanos.get(),
         })
     } else {
         None

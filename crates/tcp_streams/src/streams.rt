@@ -8,12 +8,14 @@ use std::alloc::Global;
 #[derive(Clone, Copy, Debug, PartialEq, Eq)]
 pub struct Arrival {
     /// The offset past the last byte of this arrival.
-    pub upto: u64,
+    pub upto: u32,
     /// The record that brought it.
     pub rec: u32,
     /// When that record was captured, in nanoseconds.
     pub nanos: u64,
 }
+
+const _: () = prove!(size_of::<Arrival>() == 16);
 
 /// What one side of a connection sent, as far as the capture shows it without a hole.
 #[derive(Drop)]
@@ -61,7 +63,7 @@ pub(crate) fn end_of(arrivals: &[Arrival]) -> u64
     ensures { (high : ℕ) → Rises 0 0 arrivals.now high → result ≡ high }
 {
     match arrivals.last() {
-        Some(last) => last.upto,
+        Some(last) => last.upto as u64,
         None => 0,
     }
 }

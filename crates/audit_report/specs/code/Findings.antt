@@ -8,7 +8,7 @@ use Rattle.audit_terms.specs.declared.frames.Frame.{Frame}
 use Rattle.audit_terms.specs.Kind.{kind_name}
 use Rattle.audit_terms.specs.Place.{place_stream}
 use Rattle.audit_terms.specs.Side.{side_name}
-use Rattle.split_merge.specs.FrameLookup.{nanos_at}
+use Rattle.audit_report.specs.FrameLookup.{nanos_at}
 
 -- `frame N record R time T`
 abbrev pub moment_text : List Frame → ℕ → List ℕ

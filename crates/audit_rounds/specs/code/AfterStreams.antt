@@ -7,7 +7,7 @@ use Rattle.stop_desk.specs.code.Stop.{IsStop}
 use Rattle.job_crew.specs.declared.settling.Settled.{Settled}
 use Rattle.job_crew.specs.code.Settling.{HasSettled}
 use Rattle.audit_rounds.specs.declared.prepared.Prepared.{Prepared}
-use Rattle.stream_groups.specs.declared.streams.Streams.{Streams}
+use Rattle.audit_rounds.specs.declared.streams.Streams.{Streams}
 use Rattle.audit_rounds.specs.code.Within.{IsAfterStreams}
 use Rattle.audit_rounds.specs.code.StreamRound.{IsFirstStop, IsStreamsOf}
 use Rattle.audit_rounds.specs.code.StreamJobs.{Makes, job_of, plan_from}

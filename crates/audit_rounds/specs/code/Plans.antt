@@ -9,7 +9,7 @@ use Rattle.audit_terms.specs.code.runs.Blocks.{block_run}
 use Rattle.audit_terms.specs.Finding.{shown}
 use Rattle.audit_terms.specs.code.runs.Look.{Asked}
 use Rattle.conn_scan.specs.code.Items.{items_in}
-use Rattle.split_merge.specs.code.Board.{Job, IsSettled, findings_of_jobs}
+use Rattle.job_crew.specs.code.Board.{Job, IsSettled, findings_of_jobs}
 use Rattle.job_crew.specs.declared.parts.Part.{Part}
 use Rattle.job_crew.specs.code.Heeding.{RunLooks}
 use Rattle.job_crew.specs.code.Laid.{part_of, board_with}

@@ -8,7 +8,7 @@ use Rattle.audit_terms.specs.Finding.{shown}
 use Rattle.audit_terms.specs.Connection.{connection_start}
 use Rattle.audit_terms.specs.Pass.{streams_of}
 use Rattle.audit_terms.specs.code.runs.Blocks.{block_runs}
-use Rattle.stream_groups.specs.code.Streams.{shown_of}
+use Rattle.audit_rounds.specs.code.Streams.{shown_of}
 
 -- what is shown of the streams, and what is shown of the blocks
 abbrev pub streams_shown : (credits_shown : Bool) → List Frame → List Finding

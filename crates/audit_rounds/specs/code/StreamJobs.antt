@@ -7,10 +7,10 @@ use Rattle.audit_terms.specs.code.runs.Look.{Asked}
 use Rattle.settings_pair.specs.code.Changes.{AreOrderly}
 use Rattle.split_merge.specs.declared.splits.StreamRow.{StreamRow}
 use Rattle.split_merge.specs.code.Groups.{groups}
-use Rattle.split_merge.specs.code.Board.{Job}
-use Rattle.stream_groups.specs.declared.streams.Streams.{Streams}
+use Rattle.job_crew.specs.code.Board.{Job}
+use Rattle.audit_rounds.specs.declared.streams.Streams.{Streams}
 use Rattle.audit_rounds.specs.declared.stream_plan.StreamJob.{StreamJob}
-use Rattle.stream_groups.specs.code.Streams.{IsRow, AreOpenedUpTo, RowsLook, rows_shown, rows_opened}
+use Rattle.audit_rounds.specs.code.Streams.{IsRow, AreOpenedUpTo, RowsLook, rows_shown, rows_opened}
 
 -- the streams of a connection that may be gone through
 pub record IsReady (streams : Streams) : Type 0 where

@@ -2,9 +2,9 @@
 use Rattle.std.specs.Prelude.{◌≡◌, List, map, Option, ℕ}
 use Rattle.audit_terms.specs.declared.items.Change.{Change}
 use Rattle.audit_terms.specs.declared.findings.Finding.{Finding}
-use Rattle.split_merge.specs.code.Board.{IsLeast, StopsAt}
+use Rattle.job_crew.specs.code.Board.{IsLeast, StopsAt}
 use Rattle.audit_rounds.specs.declared.prepared.Prepared.{Prepared}
-use Rattle.stream_groups.specs.declared.streams.Streams.{Streams}
+use Rattle.audit_rounds.specs.declared.streams.Streams.{Streams}
 
 -- the changes of each connection
 abbrev pub changes_in : List Prepared → List (List Change)

@@ -1,5 +1,6 @@
 -- The summary of changes obeys the laws.
-use Rattle.std.proofs.Common.{◌≡◌, ℤ, pos, ◌*◌, ◌^◌, ◌+ℤ◌, ◌<ℤ◌, ◌≤ℤ◌, int_lt, ◌≤◌, List, [], ◌∷◌, ◌++◌, length, refl, sym, subst, ◌∙◌, arith}
+use Rattle.std.proofs.Common.{◌≡◌, ℤ, pos, ◌*◌, ◌^◌, ◌+ℤ◌, ◌<ℤ◌, ◌≤ℤ◌, int_lt, ◌≤◌, List, [], ◌∷◌, ◌++◌, length, refl}
+use Rattle.std.proofs.Common.{sym, subst, ◌∙◌, arith}
 use Rattle.std.proofs.Common.{length-append}
 use Rattle.std.specs.Prelude.{true, false, if◌then◌else◌}
 use Rattle.std.specs.Int.{int_max, int_min}
@@ -103,7 +104,11 @@ total-room (x ∷ a) h =
 pub first_fit : (s : ℤ) (a b : List ℤ) → ChangesFit s (a ++ b) → ChangesFit s a
 first_fit s a b f =
     let n = f.number in let l = f.room.0 in let u = f.room.1 in let e = length-append a b in
-    record { number = omega arith; sizes = all-front (HasRoom (2 ^ 32)) a b f.sizes; room = (omega (arith, ints), omega (arith, ints)) }
+    record {
+      number = omega arith;
+      sizes = all-front (HasRoom (2 ^ 32)) a b f.sizes;
+      room = (omega (arith, ints), omega (arith, ints));
+    }
 
 pub rest_fits : (s : ℤ) (a b : List ℤ) → ChangesFit s (a ++ b) → ChangesFit (state_after ◌+ℤ◌ s a) b
 rest_fits s a b f =

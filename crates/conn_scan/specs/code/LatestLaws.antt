@@ -58,7 +58,8 @@ longest-append d (x ∷ a) b = ap (max (length_by d x.frame)) (longest-append d 
 
 zero-append : (a b : List Item) → some_zero_grant (a ++ b) ≡ some_zero_grant a || some_zero_grant b
 zero-append [] b = refl
-zero-append (x ∷ a) b = ap (λ t. grants_zero x.frame || t) (zero-append a b) ∙ sym (or_assoc (grants_zero x.frame) (some_zero_grant a)
+zero-append (x ∷ a) b = ap (λ t. grants_zero x.frame || t) (zero-append a b) ∙ sym
+    (or_assoc (grants_zero x.frame) (some_zero_grant a)
     (some_zero_grant b))
 
 odd-append : (a b : List Item) → some_odd_promise (a ++ b) ≡ some_odd_promise a || some_odd_promise b

@@ -17,7 +17,7 @@ pub struct PlainFlow {
 /// A byte at an offset that counts.
 #[derive(Clone, Copy)]
 struct Covered {
-    offset: u64,
+    offset: u32,
     byte: u8,
     rec: u32,
     nanos: u64,
@@ -63,14 +63,14 @@ fn cover(
         number = number.wrapping_add(1);
     }
     for index in segment.lo..segment.hi {
-        let offset = u64::from(number.wrapping_sub(initial_number).wrapping_sub(1));
-        let byte = capture.get(index).copied().unwrap_or(0);
+        let offset = number.wrapping_sub(initial_number).wrapping_sub(1);
+        let byte = capture.get(index as usize).copied().unwrap_or(0);
         if offset < 0x8000_0000 && !is_covered(covered, offset) {
             covered.push(Covered {
                 offset,
                 byte,
                 rec: segment.rec,
-                nanos: segment.nanos,
+                nanos: segment.nanos.get(),
             })?;
         }
         number = number.wrapping_add(1);
@@ -78,7 +78,7 @@ fn cover(
     Ok(())
 }
 
-fn is_covered(covered: &[Covered], offset: u64) -> bool {
+fn is_covered(covered: &[Covered], offset: u32) -> bool {
     for c in covered {
         if c.offset == offset {
             return true;
@@ -94,7 +94,7 @@ fn lay_out(alloc: Global, covered: &[Covered]) -> Result<PlainFlow, AllocError> 
     for _ in covered {
         let next = bytes.len() as u64;
         for c in covered {
-            if c.offset == next {
+            if u64::from(c.offset) == next {
                 bytes.push(c.byte)?;
                 note(&mut arrivals, c)?;
             }
@@ -103,7 +103,7 @@ fn lay_out(alloc: Global, covered: &[Covered]) -> Result<PlainFlow, AllocError> 
     let length = bytes.len() as u64;
     let mut gap = None;
     for c in covered {
-        if c.offset > length {
+        if u64::from(c.offset) > length {
             gap = Some(length);
         }
     }

@@ -72,7 +72,7 @@ pub fn overlaps_and_gap(rt: &(impl Sync + Threads), alloc: Global) -> Answer {
     let Some(flow) = flow_of(rt, alloc, capture.as_slice())? else {
         return Ok(false);
     };
-    let arrival = |upto: u64, rec: u32, nanos: u64| Arrival { upto, rec, nanos };
+    let arrival = |upto: u32, rec: u32, nanos: u64| Arrival { upto, rec, nanos };
     let arrivals = [arrival(6, 4, 4000), arrival(7, 5, 5000)];
     Ok(
         flow.started

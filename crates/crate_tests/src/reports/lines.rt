@@ -9,7 +9,7 @@ use audit_report::{capture_lines, connection_lines, finding_line};
 use audit_terms::{Body, Finding, Frame, Kind, Length, Place, Side, Sides, Word};
 use h2_frames::Cut;
 use packet_heads::{Endpoint, Packet, Packets, Refusal, Segment, Skip};
-use pcap_records::{Record, Records};
+use pcap_records::{Nanos, Record, Records};
 use std::alloc::{AllocError, Global};
 use tcp_streams::{Arrival, Connection, Flow, Stray};
 
@@ -27,7 +27,7 @@ const SERVER: Endpoint = Endpoint {
 fn segment(rec: u32, snapped: bool) -> Packet {
     Packet::Segment(Segment {
         rec,
-        nanos: 0,
+        nanos: Nanos::of(0),
         from: SERVER,
         to: CLIENT,
         seq: 0,
@@ -74,7 +74,7 @@ pub fn each_kind_of_packet(alloc: Global) -> Answer {
     let mut rows = Vec::new(alloc);
     for _ in 0..13 {
         rows.push(Record {
-            nanos: 0,
+            nanos: Nanos::of(0),
             original: 14,
             start: 40,
             length: 14,
@@ -85,14 +85,15 @@ pub fn each_kind_of_packet(alloc: Global) -> Answer {
         rows,
         cut: Some(14),
     };
-    let strays = [Stray {
+    let mut strays = Vec::new(alloc);
+    strays.push(Stray {
         from: SERVER,
         to: CLIENT,
         segments: 2,
-    }];
+    })?;
     let packets = Packets::cut(alloc, &packets)?;
-    let text = capture_lines(alloc, &records, &packets, &strays)?;
-    Ok(text.as_slice() == CAPTURE_LINES.as_bytes())
+    let text = capture_lines(alloc, records, &packets, strays)?;
+    Ok(text.as_str() == CAPTURE_LINES)
 }
 
 /// A flow of these bytes, which one record brought.
@@ -104,7 +105,7 @@ fn flow<'a>(alloc: Global, bytes: &'a [u8], gap: Option<u64>) -> Result<Flow<'a>
     pieces.extend_from_slice(&[bytes])?;
     let mut arrivals = Vec::new(alloc);
     arrivals.push(Arrival {
-        upto: bytes.len() as u64,
+        upto: bytes.len() as u32,
         rec: 1,
         nanos: 0,
     })?;

@@ -24,7 +24,7 @@ use Rattle.tcp_streams.specs.declared.streams.Flow.{Flow}
 use Rattle.tcp_streams.specs.Bytes.{bytes_of}
 use Rattle.tcp_streams.specs.Members.{side_segments}
 use Rattle.tcp_streams.specs.declared.members.Connection.{Connection}
-use Rattle.split_merge.specs.code.Board.{Job}
+use Rattle.job_crew.specs.code.Board.{Job}
 
 -- a connection of a capture, with the capture's packets
 pub record AreSources (capture : List ℕ) (packets : List Packet) (connection : Connection) : Type 0 where

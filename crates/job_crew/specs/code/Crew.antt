@@ -2,7 +2,7 @@
 use Rattle.std.specs.Prelude.{◌≡◌, ℕ, ◌+◌, List, [], ◌∷◌, Option, map, drop, Contains}
 use Rattle.stop_desk.specs.code.Stop.{place_at}
 use Rattle.stop_desk.specs.code.Desk.{DeskId, ClosedView, final_stop}
-use Rattle.split_merge.specs.code.Board.{Job, IsSettled}
+use Rattle.job_crew.specs.code.Board.{Job, IsSettled}
 use Rattle.job_crew.specs.declared.parts.Part.{Part}
 use Rattle.job_crew.specs.code.Laid.{part_of, board_with}
 

@@ -1,6 +1,6 @@
 -- Parts as they stand on the board of a round.
 use Rattle.std.specs.Prelude.{ℕ, List, Option}
-use Rattle.split_merge.specs.code.Board.{Part as BoardPart, Board}
+use Rattle.job_crew.specs.code.Board.{Part as BoardPart, Board}
 use Rattle.job_crew.specs.declared.parts.Part.{Part}
 
 -- the part without what was made of it

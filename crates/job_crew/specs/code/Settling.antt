@@ -1,7 +1,7 @@
 -- What a round of workers leaves, in the order of its jobs.
 use Rattle.std.specs.Prelude.{◌≡◌, ℕ, ◌≤◌, List, Option, Some, All, map, length, slice_get, Contains}
 use Rattle.stop_desk.specs.code.Stop.{IsStop}
-use Rattle.split_merge.specs.code.Board.{Job, IsSettled, stop_of}
+use Rattle.job_crew.specs.code.Board.{Job, IsSettled, stop_of}
 use Rattle.job_crew.specs.declared.parts.Part.{Part}
 use Rattle.job_crew.specs.declared.settling.Settled.{Settled}
 use Rattle.job_crew.specs.code.Laid.{part_of, board_with}

@@ -4,7 +4,7 @@ use Rattle.audit_terms.specs.declared.findings.Finding.{Finding}
 use Rattle.audit_terms.specs.Finding.{stops}
 use Rattle.stop_desk.specs.code.Counts.{times}
 use Rattle.stop_desk.specs.code.Desk.{DeskId, PassView, pass_of, pass_draws, IsConnection}
-use Rattle.split_merge.specs.code.Board.{Job, StopsAt, IsPartOf, parts_of}
+use Rattle.job_crew.specs.code.Board.{Job, StopsAt, IsPartOf, parts_of}
 use Rattle.job_crew.specs.declared.parts.Part.{Part}
 use Rattle.job_crew.specs.code.Laid.{part_of}
 

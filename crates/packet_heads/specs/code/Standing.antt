@@ -1,5 +1,5 @@
 -- What one packet keeps of its record, from which the order of all packets is proved.
-use Rattle.std.specs.Prelude.{◌≡◌, ℕ, ◌+◌, ◌-◌, ◌<◌, ◌≤◌, List, [], ◌∷◌, length}
+use Rattle.std.specs.Prelude.{◌≡◌, ℕ, ◌+◌, ◌-◌, ◌^◌, ◌<◌, ◌≤◌, List, [], ◌∷◌, length}
 use Rattle.parted_list.specs.Parts.{joined}
 use Rattle.pcap_records.specs.declared.capture.Record.{Record}
 use Rattle.packet_heads.specs.declared.packets.Packet.{Packet}
@@ -41,9 +41,9 @@ pub record AreDecidedParts (link number : ℕ) (rows : List Record) (capture : L
   pub decided : AreDecided link number rows capture (joined parts)
   pub cut : AreCut (length rows) parts
 
--- the captured bytes of a record end within a capture of this size
+-- the captured bytes of a record end within a capture of this size, at an offset of 31 bits
 abbrev pub EndsWithin : ℕ → Record → Type 0
-EndsWithin size row = row.start + row.length ≤ size
+EndsWithin size row = (row.start + row.length ≤ size) × (row.start + row.length < 2 ^ 31)
 
 -- skipped or refused
 abbrev pub IsPassedOver : Packet → Type 0

@@ -9,10 +9,10 @@ abbrev pub RiseFrom : ℕ → ℕ → List Record → Type 0
 RiseFrom from size [] = from ≤ size
 RiseFrom from size (r ∷ rs) = (from ≤ r.start) × RiseFrom (r.start + r.length) size rs
 
--- the records lie behind the file header of a capture of this size, and are fewer than 2 ^ 27, so that 32 bits number
--- them
+-- the records lie behind the file header of a capture of this size, which is below 2 ^ 31, so that 32 bits hold where
+-- each ends; and they are fewer than 2 ^ 27, so that 32 bits number them
 abbrev pub AreWithin : ℕ → List Record → Type 0
-AreWithin size rows = (length rows < 2 ^ 27) × RiseFrom 24 size rows
+AreWithin size rows = (size < 2 ^ 31) × (length rows < 2 ^ 27) × RiseFrom 24 size rows
 
 -- each time fits a signed number of 64 bits
 abbrev pub AreTimely : List Record → Type 0

@@ -5,8 +5,10 @@ use Rattle.stream_credit.specs.declared.quiet_streams.QuietStream.{QuietStream}
 use Rattle.stream_credit.specs.code.QuietStream.{opened_of}
 use Rattle.split_merge.specs.declared.splits.StreamRow.{StreamRow}
 use Rattle.split_merge.specs.declared.splits.SplitFrames.{SplitFrames}
+use Rattle.split_merge.specs.declared.visits.Visited.{Visited}
 use Rattle.split_merge.specs.declared.visits.Visits.{Visits}
-use Rattle.split_merge.specs.code.Visits.{NotAmong, is_among, row_positions, counted, total_of, laid_out, IsFilled}
+use Rattle.split_merge.specs.code.Visits.{NotAmong, is_among, row_positions, longer, streams_in, total_of, laid_out}
+use Rattle.split_merge.specs.code.Visits.{IsFilled}
 
 -- those of some items whose streams are not quiet
 abbrev pub loud_of : {X : Type 0} → List X → List QuietStream → List X
@@ -59,15 +61,16 @@ HasPlace (Some row) rows total = (row < length rows) × ((d : StreamRow) → (ge
 abbrev pub IsPut : (row : Option ℕ) (position : ℕ) → List StreamRow → List ℕ → List StreamRow → List ℕ → Type 0
 IsPut None position rows positions rows' positions' = (rows' ≡ rows) × (positions' ≡ positions)
 IsPut (Some row) position rows positions rows' positions' =
-    (d : StreamRow) → (rows' ≡ set rows row (counted (get_or rows row d)))
+    (d : StreamRow) → (rows' ≡ set rows row (longer (get_or rows row d)))
     × (positions' ≡ set positions (get_or rows row d).to position)
 
 -- the rows count what was noted of their streams
-pub record AreCounted (rows : List StreamRow) (notes : List (ℕ × ℕ)) : Type 0 where
-  pub counts : (r : ℕ) (d : StreamRow) → r < length rows → (get_or rows r d).to ≡ length (row_positions r rows notes)
+pub record AreCounted (rows : List Visited) (notes : List (ℕ × ℕ)) : Type 0 where
+  pub counts : (r : ℕ) (d : Visited) → r < length rows
+      → (get_or rows r d).count ≡ length (row_positions r (streams_in rows) notes)
 
 -- the rows, laid out, with the positions of what was noted
-pub record IsLaid (rows : List StreamRow) (numbers : List ℕ) (notes : List (ℕ × ℕ)) (split : SplitFrames) : Type 0 where
+pub record IsLaid (rows : List Visited) (numbers : List ℕ) (notes : List (ℕ × ℕ)) (split : SplitFrames) : Type 0 where
   pub long : length split.positions.items ≡ total_of rows
   pub filled : IsFilled (laid_out 0 rows) notes split.rows.items split.positions.items
   pub opened : split.opened.items ≡ numbers

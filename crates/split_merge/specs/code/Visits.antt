@@ -1,17 +1,21 @@
 -- What the table of streams says that a split fills as it walks over the frames.
-use Rattle.std.specs.Prelude.{◌≡◌, ◌≢◌, ℕ, ◌+◌, ◌<◌, ◌≤◌, ◌==◌, ◌||◌, if◌then◌else◌, Bool, List, [], ◌∷◌, ◌++◌, map}
-use Rattle.std.specs.Prelude.{filter, length, get_or}
+use Rattle.std.specs.Prelude.{◌≡◌, ◌≢◌, ℕ, ◌+◌, ◌<◌, ◌≤◌, ◌==◌, ◌||◌, if◌then◌else◌, Bool, true, false, List, [], ◌∷◌}
+use Rattle.std.specs.Prelude.{◌++◌, map, filter, length, get_or, slice_get, drop, Some}
 use Rattle.std.specs.List.{between, list_any}
-use Rattle.table_hash.specs.declared.TableHash.{TableHash}
-use Rattle.indexmap.specs.IndexSet.{IndexSet}
 use Rattle.audit_terms.specs.declared.frames.Frame.{Frame}
 use Rattle.audit_terms.specs.Frame.{promised_by}
+use Rattle.split_merge.specs.declared.row_index.RowIndex.{RowIndex}
 use Rattle.split_merge.specs.declared.splits.StreamRow.{StreamRow}
+use Rattle.split_merge.specs.declared.visits.Visited.{Visited}
 use Rattle.split_merge.specs.declared.visits.Visits.{Visits}
 
--- the streams of the rows
-abbrev pub streams_in : List StreamRow → List ℕ
-streams_in rows = map (λ (row : StreamRow). row.stream) rows
+-- the streams of the table's rows
+abbrev pub streams_in : List Visited → List ℕ
+streams_in rows = map (λ (row : Visited). row.stream) rows
+
+-- the streams of rows that have their ranges
+abbrev pub row_streams : List StreamRow → List ℕ
+row_streams rows = map (λ (row : StreamRow). row.stream) rows
 
 -- a stream that meets a frame, by the frame's position, unless the stream is 0
 abbrev pub noted : (stream position : ℕ) → List (ℕ × ℕ)
@@ -28,13 +32,13 @@ abbrev pub noted_positions : (stream : ℕ) → List (ℕ × ℕ) → List ℕ
 noted_positions stream notes = map (λ (n : ℕ × ℕ). n.1) (filter (λ (n : ℕ × ℕ). n.0 == stream) notes)
 
 -- the positions of a row's stream among these
-abbrev pub row_positions : (row : ℕ) → List StreamRow → List (ℕ × ℕ) → List ℕ
-row_positions row rows notes = noted_positions (get_or (streams_in rows) row 0) notes
+abbrev pub row_positions : (row : ℕ) → (streams : List ℕ) → List (ℕ × ℕ) → List ℕ
+row_positions row streams notes = noted_positions (get_or streams row 0) notes
 
 -- how many visits the rows count
-abbrev pub total_of : List StreamRow → ℕ
+abbrev pub total_of : List Visited → ℕ
 total_of [] = 0
-total_of (row ∷ rows) = row.to + total_of rows
+total_of (row ∷ rows) = row.count + total_of rows
 
 -- the stream is not among these
 abbrev pub NotAmong : ℕ → List ℕ → Type 0
@@ -54,25 +58,43 @@ is_among stream streams = list_any (λ other. stream == other) streams
 abbrev pub with_stream : ℕ → List ℕ → List ℕ
 with_stream stream streams = if (stream == 0) || is_among stream streams then streams else streams ++ stream ∷ []
 
--- the set has these streams in this order; 0 is none of them
-pub record IsIndex (streams : List ℕ) (index : IndexSet ℕ TableHash) : Type 0 where
+-- the index tells where each stream stands among these: those at the front rise, the others are in its table, in order;
+-- 0 is none of them
+pub record IsIndex (streams : List ℕ) (index : RowIndex) : Type 0 where
   pub distinct : AreDistinct streams
   pub above : NotAmong 0 streams
-  pub keys : index.keys ≡ streams
+  pub within : index.rising ≤ length streams
+  pub rises : (i j : ℕ) → i < j → j < index.rising → get_or streams i 0 < get_or streams j 0
+  pub others : index.others.keys ≡ drop index.rising streams
+
+-- the stream is above each of these
+abbrev pub AreBelow : (stream : ℕ) → List ℕ → Type 0
+AreBelow stream streams = (i : ℕ) → i < length streams → get_or streams i 0 < stream
+
+-- the stream is none of so many at the front
+abbrev pub NotBefore : (many stream : ℕ) → List ℕ → Type 0
+NotBefore many stream streams = (i : ℕ) → i < many → get_or streams i 0 ≢ stream
+
+-- where the stream stands among these, or, if it is new, is to stand behind them
+abbrev pub IsRowOf : (is_new : Bool) (stream row : ℕ) → List ℕ → RowIndex → Type 0
+IsRowOf false stream row streams index = (slice_get streams row ≡ Some stream) × IsIndex streams index
+IsRowOf true stream row streams index =
+    (row ≡ length streams) × NotAmong stream streams × IsIndex (streams ++ stream ∷ []) index
 
 -- the rows, and one of the stream where it has none
-abbrev pub with_row : (stream : ℕ) → List StreamRow → List StreamRow
+abbrev pub with_row : (stream : ℕ) → List Visited → List Visited
 with_row stream rows =
     if is_among stream (streams_in rows) then rows
-    else rows ++ record { stream = stream; from = 0; to = 0 } ∷ []
+    else rows ++ record { stream = stream; count = 0 } ∷ []
 
 -- a row that counts one visit more
-abbrev pub counted : StreamRow → StreamRow
-counted row = record { stream = row.stream; from = row.from; to = row.to + 1 }
+abbrev pub counted : Visited → Visited
+counted row = record { stream = row.stream; count = row.count + 1 }
 
--- rows say what was noted: each counts the visits of its stream from 0
-pub record IsListed (notes : List (ℕ × ℕ)) (rows : List StreamRow) : Type 0 where
-  pub counts : (r : ℕ) (d : StreamRow) → r < length rows → (get_or rows r d).to ≡ length (row_positions r rows notes)
+-- rows say what was noted: each counts the visits of its stream
+pub record IsListed (notes : List (ℕ × ℕ)) (rows : List Visited) : Type 0 where
+  pub counts : (r : ℕ) (d : Visited) → r < length rows
+      → (get_or rows r d).count ≡ length (row_positions r (streams_in rows) notes)
   pub none : noted_positions 0 notes ≡ []
   pub absent : (stream : ℕ) → NotAmong stream (streams_in rows) → noted_positions stream notes ≡ []
 
@@ -87,18 +109,22 @@ pub record HasAtMost (many : ℕ) (table : Visits) : Type 0 where
   pub visits : total_of table.rows.items ≤ many
 
 -- each row with its range, empty as yet, from this position of the list on
-abbrev pub laid_out : (from : ℕ) → List StreamRow → List StreamRow
+abbrev pub laid_out : (from : ℕ) → List Visited → List StreamRow
 laid_out from [] = []
 laid_out from (row ∷ rows) =
-    record { stream = row.stream; from = from; to = from } ∷ laid_out (from + row.to) rows
+    record { stream = row.stream; from = from; to = from } ∷ laid_out (from + row.count) rows
+
+-- a row whose range is longer by one position
+abbrev pub longer : StreamRow → StreamRow
+longer row = record { stream = row.stream; from = row.from; to = row.to + 1 }
 
 -- the ranges of the rows are empty, and have room for what was noted, apart from one another
 pub record HasRoomFor (rows : List StreamRow) (notes : List (ℕ × ℕ)) (total : ℕ) : Type 0 where
   pub empty : (r : ℕ) (d : StreamRow) → r < length rows → (get_or rows r d).to ≡ (get_or rows r d).from
   pub apart : (r s : ℕ) (d : StreamRow) → r < s → s < length rows →
-      (get_or rows r d).from + length (row_positions r rows notes) ≤ (get_or rows s d).from
+      (get_or rows r d).from + length (row_positions r (row_streams rows) notes) ≤ (get_or rows s d).from
   pub within : (r : ℕ) (d : StreamRow) → r < length rows →
-      (get_or rows r d).from + length (row_positions r rows notes) ≤ total
+      (get_or rows r d).from + length (row_positions r (row_streams rows) notes) ≤ total
 
 -- a row whose range has grown from that of an empty one by so many positions
 abbrev pub grown : StreamRow → ℕ → StreamRow
@@ -109,7 +135,8 @@ pub record IsFilled (empty : List StreamRow) (notes : List (ℕ × ℕ)) (rows :
     (positions : List ℕ) : Type 0 where
   pub long : length rows ≡ length empty
   pub ranges : (r : ℕ) (d : StreamRow) → r < length empty →
-      get_or rows r d ≡ grown (get_or empty r d) (length (row_positions r empty notes))
+      get_or rows r d ≡ grown (get_or empty r d) (length (row_positions r (row_streams empty) notes))
   pub filled : (r : ℕ) (d : StreamRow) → r < length empty →
-      between (get_or empty r d).from ((get_or empty r d).from + length (row_positions r empty notes)) positions
-      ≡ row_positions r empty notes
+      between (get_or empty r d).from ((get_or empty r d).from + length (row_positions r (row_streams empty) notes))
+      positions
+      ≡ row_positions r (row_streams empty) notes

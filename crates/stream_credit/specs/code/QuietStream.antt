@@ -1,6 +1,6 @@
 -- A stream of which nothing was shown so far, where credits are not shown.
-use Rattle.std.specs.Prelude.{◌≡◌, ℕ, ℤ, pos, ◌+◌, ◌^◌, ◌<◌, ◌≤◌, ◌==◌, if◌then◌else◌, true, false, List, [], ◌∷◌, take}
-use Rattle.std.specs.Prelude.{drop, length, Option, Some, None, option_map}
+use Rattle.std.specs.Prelude.{◌≡◌, ℕ, ℤ, pos, ◌+◌, ◌^◌, ◌<◌, ◌≤◌, Bool, ◌==◌, ◌&&◌, nat_lt, if◌then◌else◌, true, false}
+use Rattle.std.specs.Prelude.{List, [], ◌∷◌, take, drop, length, Option, Some, None, option_map}
 use Rattle.audit_terms.specs.declared.sides.Sides.{Sides}
 use Rattle.audit_terms.specs.declared.frames.Frame.{Frame}
 use Rattle.audit_terms.specs.declared.items.Change.{Change}
@@ -17,9 +17,20 @@ use Rattle.stream_credit.specs.code.Left.{after_changes}
 use Rattle.stream_credit.specs.code.Merged.{merged, Acknowledge}
 use Rattle.stream_credit.specs.code.Silent.{moved, IsSilent}
 
--- the window whose credit is in store: 0 stands for none, since a credit of 0 would be shown
-abbrev pub window_of : (credit : ℕ) → Option ℤ
-window_of credit = if credit == 0 then None else Some (pos credit)
+-- how a side stands, in one number: the credit of its live window, which is more than 0, since a credit of 0 would be
+-- shown; 0 where its window is not live; and this where it has ended the stream
+abbrev pub ended_mark : ℕ
+ended_mark = 2 ^ 31
+
+abbrev pub has_credit : (standing : ℕ) → Bool
+has_credit standing = nat_lt 0 standing && nat_lt standing ended_mark
+
+abbrev pub has_ended : (standing : ℕ) → Bool
+has_ended standing = standing == ended_mark
+
+-- the window of a side that stands so
+abbrev pub window_of : (standing : ℕ) → Option ℤ
+window_of standing = if has_credit standing then Some (pos standing) else None
 
 -- the number of the opening frame: 0 stands for none
 abbrev pub opened_of : (number : ℕ) → Option ℕ
@@ -28,7 +39,10 @@ opened_of number = if number == 0 then None else Some number
 -- the stream that stands for it
 abbrev pub stream_of : QuietStream → Stream
 stream_of quiet = record {
-  life = record { opened = opened_of quiet.opened; ended = quiet.ended };
+  life = record {
+    opened = opened_of quiet.opened;
+    ended = record { client = has_ended quiet.client; server = has_ended quiet.server };
+  };
   window = record { client = window_of quiet.client; server = window_of quiet.server };
 }
 
@@ -42,18 +56,22 @@ pub record IsCreditOf (credit : ℤ) (kept : ℕ) : Type 0 where
   pub some : 0 < kept
   pub within : kept < 2 ^ 31
 
--- a credit that is kept, after the initial window in force goes from one value to another: nothing of that is shown
-pub record IsMovedBy (before after credit next : ℕ) : Type 0 where
-  pub moved : window_of next ≡ option_map (moved before after) (window_of credit)
-  pub silent : IsSilent (window_of credit) (window_of next)
-  pub within : next < 2 ^ 31
+-- a side stands so, by its window and whether it has ended the stream
+pub record IsStanding (window : Option ℤ) (ended : Bool) (standing : ℕ) : Type 0 where
+  pub window_is : window_of standing ≡ window
+  pub ended_is : has_ended standing ≡ ended
+
+-- how a side stands after the initial window in force goes from one value to another: nothing of that is shown
+pub record IsMovedBy (before after standing next : ℕ) : Type 0 where
+  pub moved : window_of next ≡ option_map (moved before after) (window_of standing)
+  pub silent : IsSilent (window_of standing) (window_of next)
+  pub ended : has_ended next ≡ has_ended standing
 
 -- what a change does to it, which takes the initial windows in force from `before` to `after`
 pub record IsPassed (before after : Sides ℕ) (old new : QuietStream) : Type 0 where
   pub client : IsMovedBy before.client after.client old.client new.client
   pub server : IsMovedBy before.server after.server old.server new.server
   pub opened : new.opened ≡ old.opened
-  pub ended : new.ended ≡ old.ended
   pub met : new.met ≡ old.met + 1
 
 -- what a frame without a change does to it
@@ -61,8 +79,6 @@ pub record IsNext (stream : ℕ) (initial : Sides ℕ) (frame : Frame) (old new 
   pub shown : shown false (in_order (stream_said stream initial (stream_of old) (frame_step frame))) ≡ []
   pub after : stream_of new ≡ stream_after stream initial (stream_of old) (frame_step frame)
   pub met : new.met ≡ old.met
-  pub client : new.client < 2 ^ 31
-  pub server : new.server < 2 ^ 31
 
 -- the first change, if there is one, is not before the number
 abbrev pub AreFrom : (number : ℕ) → List Change → Type 0
@@ -79,8 +95,6 @@ StartsAt number (frame ∷ frames) = frame.number ≡ number
 pub record IsAhead (stream : ℕ) (changes : List Change) (all rest : List Frame) (quiet : QuietStream) : Type 0 where
   pub streamed : stream < 2 ^ 31
   pub met : quiet.met ≤ length changes
-  pub client : quiet.client < 2 ^ 31
-  pub server : quiet.server < 2 ^ 31
   pub orderly : IsOrderly rest
   pub rise : AreOrderly changes
   pub acknowledged : Acknowledge rest changes
@@ -89,6 +103,20 @@ pub record IsAhead (stream : ℕ) (changes : List Change) (all rest : List Frame
       (merged rest (drop quiet.met changes)))
   pub end : stream_at_end stream all changes
       ≡ stream_after_all stream (initial_at quiet.met changes) (stream_of quiet) (merged rest (drop quiet.met changes))
+
+-- it stands before some rest of its frames that begins at the number, so it can meet the changes before that
+pub record CanMeet (number : ℕ) (changes : List Change) (quiet : QuietStream) : Type 0 where
+  pub stream : ℕ
+  pub all : List Frame
+  pub rest : List Frame
+  pub starts : StartsAt number rest
+  pub ahead : IsAhead stream changes all rest quiet
+
+-- it has met the changes before the number: none of them is left, and it still stands before such a rest
+pub record HasMet (number : ℕ) (changes : List Change) (old new : QuietStream) : Type 0 where
+  pub passed : AreFrom number (drop new.met changes)
+  pub ahead : (stream : ℕ) (all rest : List Frame) → StartsAt number rest → IsAhead stream changes all rest old
+      → IsAhead stream changes all rest new
 
 -- the same for as long as it is quiet
 abbrev pub IsAheadIfQuiet : (stream : ℕ) → List Change → (all rest : List Frame) → QuietStream → Type 0

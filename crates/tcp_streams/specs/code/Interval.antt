@@ -17,7 +17,7 @@ use Rattle.tcp_streams.specs.Sequence.{Source, end_of_offsets, modulus, payload_
 pub record IsInterval (x : Interval) : Type 0 where
   pub some : x.from < x.upto
   pub counts : x.upto ≤ end_of_offsets
-  pub room : x.index + (x.upto - x.from) ≤ 2 ^ 62
+  pub room : x.index + (x.upto - x.from) < 2 ^ 32
 
 abbrev pub holds : Interval → ℕ → Bool
 holds x o = nat_le x.from o && nat_lt o x.upto

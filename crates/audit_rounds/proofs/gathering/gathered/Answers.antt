@@ -3,7 +3,7 @@ use Rattle.std.proofs.Common.{Global}
 use Rattle.audit_terms.specs.declared.findings.Finding.{Finding}
 use Rattle.std.proofs.lemmas.List.{map-append}
 use Rattle.std.specs.Vec.Iter.{into_iter_items}
-use Rattle.split_merge.specs.code.Board.{findings_of_parts}
+use Rattle.job_crew.specs.code.Board.{findings_of_parts}
 use Rattle.job_crew.specs.code.Laid.{part_of}
 use Rattle.audit_rounds.proofs.Drawn.{taken-more, taken-holds, taken-all}
 use Rattle.audit_rounds.proofs.PartsKept.{gathered-more}

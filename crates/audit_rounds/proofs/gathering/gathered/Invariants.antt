@@ -1,6 +1,6 @@
 use Rattle.std.proofs.Common.{◌≡◌, ℕ, ◌++◌, ◌<◌, map, length, get_or}
 use Rattle.std.specs.Vec.Iter.{into_iter_items}
-use Rattle.split_merge.specs.code.Board.{findings_of_parts}
+use Rattle.job_crew.specs.code.Board.{findings_of_parts}
 use Rattle.job_crew.specs.code.Laid.{part_of}
 use Rattle.audit_rounds.proofs.gathering.gathered.Given as goal
 

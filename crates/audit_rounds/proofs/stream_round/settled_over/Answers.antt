@@ -2,7 +2,7 @@ use Rattle.std.proofs.Common.{length, All, Option, ℕ, List, sym, ap, ◌∙◌
 use Rattle.std.proofs.lemmas.Slice.Zip.{AllZip-long}
 use Rattle.audit_terms.specs.declared.findings.Finding.{Finding}
 use Rattle.stop_desk.specs.code.Stop.{IsStop}
-use Rattle.stream_groups.specs.declared.streams.Streams.{Streams}
+use Rattle.audit_rounds.specs.declared.streams.Streams.{Streams}
 use Rattle.audit_rounds.specs.code.AfterStreams.{HaveSettled}
 use Rattle.audit_rounds.specs.code.StreamJobs.{IsReady}
 use Rattle.audit_rounds.specs.code.StreamRound.{IsStreamsOf, IsFirstStop}

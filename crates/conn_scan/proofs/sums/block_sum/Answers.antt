@@ -66,8 +66,10 @@ loop-frame-preserved c =
     let news = changes_from n c.loop-frame.changes.now in
     let first : item ≡ item_at frame marks news =
     c.item_at.ensures ∙ (λ i. item_at frame (c.numbers_from-opened.ensures i) (c.changes_from-changes.ensures i)) in
-    let marks' = c.numbers_from-opened-else-frame-due.ensures ∙ ap (numbers_from (n + 1)) c.numbers_from-opened.ensures in
-    let news' = c.changes_from-changes-else-frame-due.ensures ∙ ap (changes_from (n + 1)) c.changes_from-changes.ensures in
+    let marks' = c.numbers_from-opened-else-frame-due.ensures
+    ∙ ap (numbers_from (n + 1)) c.numbers_from-opened.ensures in
+    let news' = c.changes_from-changes-else-frame-due.ensures
+    ∙ ap (changes_from (n + 1)) c.changes_from-changes.ensures in
     let rest = (λ i. walked (marks' i) (news' i) later) ∙ sym (walked-from (n + 1) marks news later orderly.2) in
     record {
       low = n + 1;

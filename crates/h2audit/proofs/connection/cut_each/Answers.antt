@@ -1,5 +1,5 @@
 use Rattle.std.proofs.Common.{◌≡◌, ◌<◌, length, sym, ◌∙◌, subst, All, arith}
-use Rattle.split_merge.specs.code.Board.{Job}
+use Rattle.job_crew.specs.code.Board.{Job}
 use Rattle.h2audit.specs.code.Flows.{flow_jobs}
 use Rattle.h2audit.proofs.Flows.{flow_jobs-within, flow_jobs-length, are-cuts}
 use Rattle.h2audit.proofs.connection.cut_each.Goals as goal

@@ -34,7 +34,7 @@ returns-clause-few g c =
     if_ok c.made_by_workers.result _ _ c.made_by_workers.ensures (λ v h.
     let all = joined (map (λ part. part.items) v.items) in
     let stand = subst (λ xs. AllStand 1 xs all) c.deref.ensures.value h.decided.stand in
-    omega (arith, AllStand-length 1 rows all stand, c.requires.within.0))
+    omega (arith, AllStand-length 1 rows all stand, c.requires.within.1))
 
 pub returns-clause-numbered : goal.returns-clause-numbered
 returns-clause-numbered g c =
@@ -48,7 +48,7 @@ returns-clause-payloads g c =
     if_ok c.made_by_workers.result _ _ c.made_by_workers.ensures (λ v h.
     let all = joined (map (λ part. part.items) v.items) in
     let stand = subst (λ xs. AllStand 1 xs all) c.deref.ensures.value h.decided.stand in
-    AllStand-rise 1 24 0 size rows all (omega arith) c.requires.within.1 stand)
+    AllStand-rise 1 24 0 size rows all (omega arith) c.requires.within.2 stand)
 
 pub returns-clause-times : goal.returns-clause-times
 returns-clause-times g c =

@@ -14,9 +14,9 @@ in_front start count most front capture is room =
     (omega (arith, room, ap length is, length-take most (drop start capture)))
     ∙ ap (λ (n : ℕ). take n (drop start capture)) (omega arith)
 
-pub returns-then-row-front-clause-decided : goal.returns-then-row-front-clause-decided
+pub returns-then-length-front-clause-decided : goal.returns-then-length-front-clause-decided
 unfolding packet_decision
-returns-then-row-front-clause-decided c =
+returns-then-length-front-clause-decided c =
     let row = c.args.row.now in
     c.decision_on.ensures.decided
     ∙ ap (decision_on c.args.link c.args.number row) (in_front row.start row.length

@@ -1,7 +1,7 @@
 use Rattle.std.proofs.Common.{take, refl, sym, ◌∙◌, subst, arith}
 use Rattle.audit_terms.specs.declared.frames.Frame.{Frame}
 use Rattle.audit_terms.specs.Frame.{promised_by}
-use Rattle.split_merge.specs.code.Visits.{streams_in, notes_from, IsFilled}
+use Rattle.split_merge.specs.code.Visits.{row_streams, notes_from, IsFilled}
 use Rattle.split_merge.specs.code.Loud.{heard}
 use Rattle.split_merge.proofs.Placed.{kept-places, first-parts, second-parts, heard-more, has-place, put-filled}
 use Rattle.split_merge.proofs.splits.place.Goals as goal
@@ -9,7 +9,7 @@ use Rattle.split_merge.proofs.splits.place.Goals as goal
 pub put_visit-requires-clause-place : goal.put_visit-requires-clause-place
 put_visit-requires-clause-place c =
     let rows = c.args.rows.now in
-    let loud = streams_in rows in
+    let loud = row_streams rows in
     let frames = c.args.frames.now in
     let i = c.loop-frame.frame-index in
     let at = c.loop-frame.position in
@@ -27,7 +27,7 @@ put_visit-requires-clause-place c =
 pub put_visit-requires-in-loop-frame-clause-place : goal.put_visit-requires-in-loop-frame-clause-place
 put_visit-requires-in-loop-frame-clause-place c =
     let rows = c.args.rows.now in
-    let loud = streams_in rows in
+    let loud = row_streams rows in
     let frames = c.args.frames.now in
     let i = c.loop-frame.frame-index in
     let at = c.loop-frame.position in
@@ -58,7 +58,7 @@ put_visit-requires-in-loop-frame-clause-place c =
 pub put_visit-requires-in-loop-frame-clause-short : goal.put_visit-requires-in-loop-frame-clause-short
 put_visit-requires-in-loop-frame-clause-short c =
     let rows = c.args.rows.now in
-    let loud = streams_in rows in
+    let loud = row_streams rows in
     let frames = c.args.frames.now in
     let i = c.loop-frame.frame-index in
     let at = c.loop-frame.position in
@@ -80,7 +80,7 @@ put_visit-requires-in-loop-frame-clause-short c =
 pub loop-frame-preserved : goal.loop-frame-preserved
 loop-frame-preserved c =
     let rows = c.args.rows.now in
-    let loud = streams_in rows in
+    let loud = row_streams rows in
     let frames = c.args.frames.now in
     let i = c.loop-frame.frame-index in
     let at = c.loop-frame.position in

@@ -1,5 +1,5 @@
 use Rattle.std.proofs.Common.{◌≡◌, length, take}
-use Rattle.split_merge.specs.code.Visits.{IsFilled, notes_from, streams_in}
+use Rattle.split_merge.specs.code.Visits.{IsFilled, notes_from, row_streams}
 use Rattle.split_merge.specs.code.Loud.{heard}
 use Rattle.split_merge.proofs.splits.place.Given as goal
 
@@ -9,6 +9,6 @@ invariant-loop-frame l = record {
   rows_kept : l.table.rows ≡ l.fn.table.rows;
   index_kept : l.table.index ≡ l.fn.table.index;
   long : length l.positions.items ≡ l.total;
-  filled : IsFilled l.fn.rows (heard (streams_in l.fn.rows) (notes_from 0 (take l.frame-index l.frames)))
+  filled : IsFilled l.fn.rows (heard (row_streams l.fn.rows) (notes_from 0 (take l.frame-index l.frames)))
       l.rows l.positions.items;
 }

@@ -1,11 +1,10 @@
 use Rattle.std.proofs.Common.{[], get_or, sym, subst, arith}
 use Rattle.audit_terms.specs.code.runs.Streams.{frames_of}
 use Rattle.stream_credit.specs.code.QuietStream.{IsAheadIfQuiet}
-use Rattle.split_merge.specs.declared.splits.StreamRow.{StreamRow}
+use Rattle.split_merge.specs.declared.visits.Visited.{Visited}
 use Rattle.split_merge.specs.code.Visits.{streams_in}
-use Rattle.split_merge.proofs.NamedStreams.{length-streams_in}
+use Rattle.split_merge.proofs.NamedStreams.{length-streams_in, row-at}
 use Rattle.split_merge.proofs.Ahead.{ended-none, ended-more, ended-all}
-use Rattle.split_merge.proofs.SplitIs.{row-at}
 use Rattle.split_merge.proofs.visits.finish.Goals as goal
 
 pub loop-row-init : goal.loop-row-init
@@ -16,8 +15,8 @@ pub end-requires : goal.end-requires
 end-requires c =
     let rows = c.args.rows.now in
     let i = c.loop-row.row in
-    let row : StreamRow = get_or rows i (record { stream = 0; from = 0; to = 0 }) in
-    let at = row-at rows i (record { stream = 0; from = 0; to = 0 }) c.loop-row-test.true in
+    let row : Visited = get_or rows i (record { stream = 0; count = 0 }) in
+    let at = row-at rows i (record { stream = 0; count = 0 }) c.loop-row-test.true in
     let all = c.requires.all in
     let part = c.loop-row.invariant all c.requires.ahead in (
       frames_of row.stream all,
@@ -30,8 +29,8 @@ pub loop-row-preserved : goal.loop-row-preserved
 loop-row-preserved c = λ all h.
     let rows = c.args.rows.now in
     let i = c.loop-row.row in
-    let row : StreamRow = get_or rows i (record { stream = 0; from = 0; to = 0 }) in
-    let at = row-at rows i (record { stream = 0; from = 0; to = 0 }) c.loop-row-test.true in
+    let row : Visited = get_or rows i (record { stream = 0; count = 0 }) in
+    let at = row-at rows i (record { stream = 0; count = 0 }) c.loop-row-test.true in
     let part = c.loop-row.invariant all h in
     let done = c.end.ensures (frames_of row.stream all)
     (subst (λ q. IsAheadIfQuiet row.stream c.args.changes.now (frames_of row.stream all) [] q)

@@ -32,6 +32,8 @@ loop-packet-preserved c =
     let same = λ (d : Packet).
     sym (element_is packets c.from-together.result.now _ c.loop-at.at c.from-together.ensures.front
     c.loop-packet.packet-index d c.loop-packet-test.true) in
+    let item : get_or packets i c.packet-item.result ≡ c.packet-item.result =
+    same c.packet-item.result ∙ sym c.packet-item.is in
     let one_more = λ (d p : Packet) (is : get_or packets i d ≡ p).
     ap (λ n. past_of (take n packets))
     (let next : c.loop-at.at + (c.loop-packet.packet-index + 1) ≡ i + 1 = omega arith in next)
@@ -40,14 +42,14 @@ loop-packet-preserved c =
       | in-Segment+in_ok-add w ↦
           subst (λ (t : Table). IsTableOf (past_of (take (c.loop-at.at + (c.loop-packet.packet-index + 1)) packets)) t)
           (sym w.table-is)
-          (subst (λ (l : List Segment). IsTableOf l w.add.new.self) (sym (one_more _ _ (same _ ∙ w.in-Segment.is)))
+          (subst (λ (l : List Segment). IsTableOf l w.add.new.self) (sym (one_more _ _ (item ∙ w.in-Segment.is)))
           (w.in_ok-add.ensures _ c.loop-packet.invariant
-          (Falls-next packets i _ _ c.requires.numbered lt (same _ ∙ w.in-Segment.is))))
+          (Falls-next packets i _ _ c.requires.numbered lt (item ∙ w.in-Segment.is))))
       | in_default w ↦
           subst (λ (t : Table). IsTableOf (past_of (take (c.loop-at.at + (c.loop-packet.packet-index + 1)) packets)) t)
           (sym w.table-is)
           (subst (λ (l : List Segment). IsTableOf l c.loop-packet.table)
-          (sym (one_more _ _ (same _) ∙ with_packet-other _ _ w.in_default.not-Segment)) c.loop-packet.invariant)
+          (sym (one_more _ _ item ∙ with_packet-other _ _ w.in_default.not-Segment)) c.loop-packet.invariant)
     ]
 
 pub returns-clause-opened : goal.returns-clause-opened

@@ -2,7 +2,7 @@ use Rattle.std.proofs.Common.{◌≡◌, ◌<◌, length, map, sym, subst, arith
 use Rattle.std.proofs.lemmas.List.{length-map}
 use Rattle.std.proofs.lemmas.Option.{get_or_from_slice_get}
 use Rattle.audit_terms.specs.declared.frames.Frame.{Frame}
-use Rattle.split_merge.specs.code.Board.{Job, IsCut}
+use Rattle.job_crew.specs.code.Board.{Job, IsCut}
 use Rattle.job_crew.specs.code.Heeding.{RunLooks}
 use Rattle.audit_rounds.specs.declared.block_plans.ReadyBlock.{ReadyBlock}
 use Rattle.audit_rounds.specs.code.Plans.{block_job}

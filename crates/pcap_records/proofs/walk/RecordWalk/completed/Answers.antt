@@ -42,6 +42,7 @@ returns-clause-reading c =
 pub returns-clause-placed : goal.returns-clause-placed
 returns-clause-placed c =
     let read = c.advance.ensures.walk.read in (
+      c.requires.short,
       omega (arith, read.few, read.high, c.requires.short),
       RiseFrom-widen 24 c.advance.new.self.at (length c.args.capture.now) c.advance.new.self.rows.items
           read.placed read.high,

@@ -17,7 +17,7 @@ count-requires c =
     let n = length-streams_in rows in
     let low = count-total rows c.in_ok-row.row c.index_mut.result.now (omega (arith, l, n)) in
     let total = ap total_of c.in_ok-row.ensures.rows ∙ total-row c.args.stream c.args.self.now.rows.items in
-    let is = ap (λ x. x.to) c.index_mut.ensures.value in
+    let is = ap (λ x. x.count) c.index_mut.ensures.value in
     omega (arith, low, total, is, c.requires.room.visits)
 
 pub returns-clause-named : goal.returns-clause-named

@@ -7,7 +7,7 @@ use Rattle.audit_terms.specs.code.runs.Orderly.{IsInRange}
 use Rattle.audit_terms.specs.code.runs.Streams.{frames_of}
 use Rattle.split_merge.specs.code.Visits.{streams_in, with_stream, noted, notes_from, total_of, IsTableOf}
 use Rattle.split_merge.specs.code.Ahead.{AreAhead, with_next}
-use Rattle.split_merge.proofs.NamedStreams.{without, named-more, named-first, index-empty}
+use Rattle.split_merge.proofs.NamedStreams.{without, named-more, named-first}
 use Rattle.split_merge.proofs.Numbered.{in_range_at}
 use Rattle.split_merge.proofs.Visited.{listed-none}
 use Rattle.split_merge.proofs.Positions.{notes-push}
@@ -20,7 +20,7 @@ loop-frame-init c =
     let unmet = c.new-quiets.ensures.items in
     record {
       table = record {
-        index = rw none (index-empty c.with_hasher.result c.with_hasher.ensures.empty);
+        index = rw none c.new.ensures;
         listed = listed-none c.new-rows.result.items none;
       };
       named = rw none (named-first (streams_of c.args.frames.now));

@@ -1,18 +1,9 @@
-use Rattle.std.proofs.Common.{rules, ◌≡◌, ◌+◌, ◌<◌, ◌≤◌, List, IfOk, Some, None, slice_get, length, drop, ℕ, ◌-◌, ◌*◌}
-use Rattle.std.proofs.Common.{◌/◌, ◌%◌, Bool, true, false, nat_eq, nat_lt, [], ◌∷◌, ◌++◌, slice_index_or, slice_set}
-use Rattle.std.proofs.Common.{bit_and, bit_or, Fits, w8, w32, w64, Bor, MutBor}
-use Rattle.std.specs.Bool.{OnFalse}
-use Rattle.std.specs.Option.{ForSome}
+use Rattle.std.proofs.Common.{rules, ◌+◌, ◌≤◌, List, length, drop, ◌-◌, nat_lt, sym, ap, ◌∙◌, subst, arith, take}
 use Rattle.audit_terms.specs.declared.items.Change.{Change}
-use Rattle.audit_terms.specs.InForce.{initial_in_force}
-use Rattle.settings_pair.specs.code.Changes.{AreOrderly}
-use Rattle.stream_credit.specs.code.Left.{after_each, passed}
-use Rattle.stream_credit.specs.code.QuietStream.{AreFrom, initial_at}
-use Rattle.std.proofs.Common.{sym, ap, ◌∙◌, subst, arith, take}
+use Rattle.stream_credit.specs.code.Left.{passed}
 use Rattle.settings_pair.specs.code.Changes.{AreOrderlyFrom}
 use Rattle.std.proofs.lemmas.List.{length-take-le}
 use Rattle.std.proofs.lemmas.List.Sorted.{IsPartitionPoint-from_clause}
-use Rattle.audit_terms.specs.declared.items.Change.{Change}
 use Rattle.stream_credit.proofs.LeftLemmas.{orderly-parted, parts-at_point}
 use Rattle.stream_credit.proofs.QuietStreams.{few-changes, length-drop_le, orderly-drop, rest-is}
 use Rattle.stream_credit.proofs.changes.Changes.passed.Goals as goal

@@ -1,30 +1,19 @@
-use Rattle.std.proofs.Common.{rules, ◌≡◌, ℕ, pos, ◌+◌, ◌^◌, ◌<◌, ◌≤◌, ◌∷◌, [], drop, length, true, false, List, OnOk}
-use Rattle.std.proofs.Common.{IfOk, ◌-◌, ◌*◌, ◌/◌, ◌%◌, Bool, nat_eq, nat_lt, ◌++◌, slice_index_or, slice_set, bit_and}
-use Rattle.std.proofs.Common.{bit_or, Fits, w8, w32, w64, Bor, MutBor}
-use Rattle.std.specs.Bool.{OnTrue, OnFalse}
-use Rattle.std.specs.Option.{ForSome}
-use Rattle.audit_terms.specs.declared.frames.Frame.{Frame as FrameTerm}
-use Rattle.audit_terms.specs.declared.items.Change.{Change as ChangeTerm}
-use Rattle.audit_terms.specs.declared.sides.Sides.{Sides as SidesTerm}
-use Rattle.audit_terms.specs.code.runs.Orderly.{IsOrderly, IsInRange}
-use Rattle.settings_pair.specs.code.Changes.{AreOrderly, AreAcknowledged}
-use Rattle.stream_credit.specs.code.Looks.{is_live}
-use Rattle.audit_terms.specs.code.Room.{HasRoom}
-use Rattle.stream_credit.specs.code.QuietStream.{AreFrom, IsAhead, IsAheadIfQuiet, IsCreditOf, IsMovedBy, IsNext}
-use Rattle.stream_credit.specs.code.QuietStream.{IsPassed, ShowsNothing, StartsAt, opened_of, stream_of, window_of}
-use Rattle.stream_credit.specs.code.Quiet.{IsRaised}
-use Rattle.std.proofs.Common.{sym, ◌∙◌}
+use Rattle.std.proofs.Common.{◌≡◌, ◌+◌, drop, length, sym, ◌∙◌, subst}
+use Rattle.stream_credit.specs.code.Left.{passed}
 use Rattle.stream_credit.proofs.QuietStreams.{ahead-passed, from-passed}
 use Rattle.stream_credit.proofs.quiet_streams.QuietStream.meet_changes.Goals as goal
 
--- src/quiet_streams.rt:223:5
-pub returns-clause-ahead : goal.returns-clause-ahead
-returns-clause-ahead c =
-    λ stream all rest s h.
-    ahead-passed stream c.args.number c.args.changes.now all rest c.args.self.now c.passed-self.result h s
-    (sym c.is_live.ensures ∙ c.if-is_live.false) c.passed-self.ensures
-
--- src/quiet_streams.rt:223:5
-pub returns-clause-passed : goal.returns-clause-passed
-returns-clause-passed c =
-    from-passed c.args.number c.args.self.now.met c.args.changes.now c.passed-self.result c.passed-self.ensures
+pub returns : goal.returns
+returns c =
+    let changes = c.args.changes.now in
+    let old = c.args.self.now in
+    let met = c.in-Some.met in
+    let is : met ≡ old.met + length (passed c.args.number (drop old.met changes)) =
+    subst (λ n. met ≡ n + length (passed c.args.number (drop n changes))) c.get.ensures
+    (c.kept_met.ensures met c.in-Some.is ∙ c.passed.ensures) in
+    record {
+      passed = from-passed c.args.number old.met changes met is;
+      ahead = λ stream all rest s h.
+          ahead-passed stream c.args.number changes all rest old met h s
+          (sym c.is_live.ensures ∙ c.if-is_live.false) is;
+    }

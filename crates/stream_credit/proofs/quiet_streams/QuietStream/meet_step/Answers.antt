@@ -1,19 +1,4 @@
-use Rattle.std.proofs.Common.{rules, ◌≡◌, ℕ, pos, ◌+◌, ◌^◌, ◌<◌, ◌≤◌, ◌∷◌, [], drop, length, true, false, List, OnOk}
-use Rattle.std.proofs.Common.{IfOk, ◌-◌, ◌*◌, ◌/◌, ◌%◌, Bool, nat_eq, nat_lt, ◌++◌, slice_index_or, slice_set, bit_and}
-use Rattle.std.proofs.Common.{bit_or, Fits, w8, w32, w64, Bor, MutBor}
-use Rattle.std.specs.Bool.{OnTrue, OnFalse}
-use Rattle.std.specs.Option.{ForSome}
-use Rattle.audit_terms.specs.declared.frames.Frame.{Frame as FrameTerm}
-use Rattle.audit_terms.specs.declared.items.Change.{Change as ChangeTerm}
-use Rattle.audit_terms.specs.declared.sides.Sides.{Sides as SidesTerm}
-use Rattle.audit_terms.specs.code.runs.Orderly.{IsOrderly, IsInRange}
-use Rattle.settings_pair.specs.code.Changes.{AreOrderly, AreAcknowledged}
-use Rattle.stream_credit.specs.code.Looks.{is_live}
-use Rattle.audit_terms.specs.code.Room.{HasRoom}
-use Rattle.stream_credit.specs.code.QuietStream.{AreFrom, IsAhead, IsAheadIfQuiet, IsCreditOf, IsMovedBy, IsNext}
-use Rattle.stream_credit.specs.code.QuietStream.{IsPassed, ShowsNothing, StartsAt, opened_of, stream_of, window_of}
-use Rattle.stream_credit.specs.code.Quiet.{IsRaised}
-use Rattle.std.proofs.Common.{sym, ap, ◌∙◌, arith}
+use Rattle.std.proofs.Common.{◌≡◌, ◌++◌, sym, ap, ◌∙◌, arith}
 use Rattle.std.proofs.lemmas.Bool.Decides.{nat_tests}
 use Rattle.std.proofs.lemmas.List.{nil_from_length}
 use Rattle.audit_terms.specs.declared.streams.Stream.{Stream}
@@ -22,7 +7,6 @@ use Rattle.audit_terms.specs.code.runs.Streams.{frame_step}
 use Rattle.stream_credit.proofs.QuietStreams.{step-tail}
 use Rattle.stream_credit.proofs.quiet_streams.QuietStream.meet_step.Goals as goal
 
--- src/quiet_streams.rt:267:5
 pub returns : goal.returns
 returns c =
     let step = frame_step c.args.frame.now in
@@ -35,6 +19,4 @@ returns c =
     let empty = nil_from_length c.keep_shown.new.found.items (sym c.keep_shown.new.found.ok.0 ∙ none) in
     step-tail c.becomes.result c.args.stream c.args.initial.now c.args.frame.now c.args.self.now c.becomes.new.self
     c.meet.new.self
-    c.meet.new.found.items c.becomes.ensures.stream c.becomes.ensures.met c.becomes.ensures.client
-    c.becomes.ensures.server
-    said after (sym c.keep_shown.ensures ∙ empty)
+    c.meet.new.found.items c.becomes.ensures.stream c.becomes.ensures.met said after (sym c.keep_shown.ensures ∙ empty)

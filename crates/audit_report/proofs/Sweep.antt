@@ -1,0 +1,73 @@
+-- The sweep from the back meets the stalls in reverse.
+use Rattle.std.proofs.Common.{◌≡◌, ℕ, ◌+◌, ◌-◌, ◌<◌, ◌≤◌, Bool, true, false, if◌then◌else◌, List, [], ◌∷◌, ◌++◌}
+use Rattle.std.proofs.Common.{reverse, drop, length, get_or, ap, subst, sym, ◌∙◌, arith, Option, Some}
+use Rattle.std.proofs.lemmas.List.{reverse-append, drop_more}
+use Rattle.audit_terms.specs.declared.sides.Side.{Side}
+use Rattle.audit_terms.specs.declared.findings.Finding.{Finding}
+use Rattle.audit_terms.specs.declared.frames.Frame.{Frame}
+use Rattle.audit_terms.specs.Place.{place_stream}
+use Rattle.audit_report.specs.code.Ends.{end_in, begun_by}
+use Rattle.audit_terms.specs.Kind.{begins_stall}
+use Rattle.audit_report.specs.Stalls.{is_end_of, first_end, stall_of, stalls}
+use Rattle.audit_report.specs.declared.ends.Ends.{Ends}
+use Rattle.audit_report.specs.declared.stalls.Stall.{Stall}
+
+-- the table has the first end of each window among the findings
+pub record HasFirstEnds (ends : Ends) (later : List Finding) : Type 0 where
+  pub at : (side : Side) (stream : ℕ) → end_in ends side stream ≡ first_end side stream later
+
+-- the sweep has come down to the findings that are later
+pub record HasSweptTo (frames : List Frame) (later : List Finding) (ends : Ends) (met : List Stall) : Type 0 where
+  pub first : HasFirstEnds ends later
+  pub reversed : reverse met ≡ stalls frames later
+
+put_before : (begins : Bool) (stall : Stall) (met rest : List Stall) → reverse met ≡ rest
+    → reverse (if begins then stall ∷ [] else []) ++ reverse met ≡ (if begins then stall ∷ rest else rest)
+put_before true stall met rest e = ap (λ l. stall ∷ l) e
+put_before false stall met rest e = e
+
+-- one more finding
+pub swept_more : (frames : List Frame) (found : Finding) (later : List Finding) (ends ends' : Ends) (met : List Stall)
+    → HasSweptTo frames later ends met
+    → ((side : Side) (stream : ℕ)
+    → end_in ends' side stream ≡ (if is_end_of side stream found then Some found else end_in ends side stream))
+    → HasSweptTo frames (found ∷ later) ends' (met ++ begun_by frames ends found)
+swept_more frames found later ends ends' met swept ended = record {
+  first = record {
+    at = λ side stream. ended side stream
+        ∙ ap (λ (o : Option Finding). if is_end_of side stream found then Some found else o)
+        (swept.first.at side stream);
+  };
+  reversed = reverse-append met (begun_by frames ends found)
+      ∙ ap (λ (o : Option Finding). reverse (if begins_stall found.kind then stall_of frames found o ∷ [] else [])
+      ++ reverse met) (swept.first.at found.side (place_stream found.place))
+      ∙ put_before (begins_stall found.kind)
+      (stall_of frames found (first_end found.side (place_stream found.place) later)) met
+      (stalls frames later) swept.reversed;
+}
+
+-- what is left of a list from one place before
+drop_one_less : (findings : List Finding) (left : ℕ) (found : Finding) → 0 < left → left ≤ length findings
+    → found ≡ get_or findings (left - 1) found
+    → drop (left - 1) findings ≡ found ∷ drop left findings
+drop_one_less findings left found positive within here =
+    let same : left - 1 + 1 ≡ left = omega arith in
+    drop_more findings (left - 1) found (omega arith)
+    ∙ ap (λ (n : ℕ). get_or findings (left - 1) found ∷ drop n findings) same
+    ∙ ap (λ (f : Finding). f ∷ drop left findings) (sym here)
+
+-- one step down the list
+pub swept_down : (frames : List Frame) (findings : List Finding) (left : ℕ) (found : Finding) (ends ends' : Ends)
+    (met met' : List Stall)
+    → 0 < left → left ≤ length findings → found ≡ get_or findings (left - 1) found
+    → HasSweptTo frames (drop left findings) ends met
+    → ((side : Side) (stream : ℕ)
+    → end_in ends' side stream ≡ (if is_end_of side stream found then Some found else end_in ends side stream))
+    → met' ≡ met ++ begun_by frames ends found
+    → HasSweptTo frames (drop (left - 1) findings) ends' met'
+swept_down frames findings left found ends ends' met met' positive within here swept ended begun =
+    let P : List Finding → List Stall → Type 0 = λ later m. HasSweptTo frames later ends' m in
+    let stepped : P (found ∷ drop left findings) (met ++ begun_by frames ends found) =
+    swept_more frames found (drop left findings) ends ends' met swept ended in
+    subst (λ (l : List Finding). P l met') (sym (drop_one_less findings left found positive within here))
+    (subst (λ (m : List Stall). P (found ∷ drop left findings) m) (sym begun) stepped)

@@ -1,0 +1,17 @@
+ghost use Rattle.std.specs.Prelude.{◌≡◌, ◌<◌, ◌^◌, IfSome};
+ghost use Rattle.audit_terms.specs.code.runs.Orderly.{IsOrderly};
+ghost use Rattle.audit_report.specs.FrameLookup.{frame_numbered};
+
+use audit_terms::Frame;
+
+/// The frame of this number, found by halving.
+pub fn frame_at(frames: &[Frame], number: u32) -> Option<Frame>
+    requires { IsOrderly frames.now }
+    ensures value { result ≡ frame_numbered frames.now number }
+    ensures timely { IfSome result (λ frame. frame.nanos < 2 ^ 63) }
+{
+    match frames.binary_search_by_key(&number, |frame| frame.number) {
+        Ok(at) => Some(frames[at]),
+        Err(_) => None,
+    }
+}

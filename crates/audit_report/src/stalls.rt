@@ -1,0 +1,104 @@
+ghost use Rattle.std.specs.Prelude.{◌≡◌, ℕ, ◌++◌, if◌then◌else◌, IfOk, OnOk, pos, Some};
+ghost use Rattle.audit_terms.specs.code.runs.Orderly.{IsOrderly};
+ghost use Rattle.audit_terms.specs.Place.{place_stream};
+ghost use Rattle.audit_report.specs.FrameLookup.{nanos_at};
+ghost use Rattle.audit_report.specs.Stalls.{is_end_of, stall_of, stalls};
+ghost use Rattle.audit_report.specs.code.Ends.{end_in, begun_by};
+ghost use Rattle.audit_terms.specs.declared.sides.Side.{Side};
+
+use crate::ends::Ends;
+use crate::lookup::frame_at;
+use audit_terms::{Finding, Frame, Side};
+use std::alloc::{AllocError, Global};
+
+/// A time during which a window had no credit.
+#[derive(Clone, Copy, PartialEq, Eq)]
+pub struct Stall {
+    /// The side that sends through the window.
+    pub side: Side,
+    /// The window's stream; 0 is the connection.
+    pub stream: u32,
+    /// The number of the frame that used the credit up.
+    pub from: u32,
+    /// The number of the frame from which there is credit again.
+    pub to: Option<u32>,
+    /// The time between the two frames in nanoseconds, below zero where the capture's clock went back; 0 without an
+    /// end.
+    pub nanos: i64,
+}
+
+/// The stalls that these findings of one connection tell of, in the order in which they begin. Each ends with the first
+/// end of its window that stands after it. `frames` has the times; a frame that is not there counts as time 0.
+pub fn stall_pairs(
+    alloc: Global,
+    findings: &[Finding],
+    frames: &[Frame],
+) -> Result<Vec<Stall>, AllocError>
+    requires { IsOrderly frames.now }
+    ensures { IfOk result (λ v. v.items ≡ stalls frames.now findings.now) }
+{
+    let mut ends = Ends::new(alloc);
+    let mut stalls = Vec::new(alloc);
+    let mut left = findings.len();
+    while left > 0 {
+        left -= 1;
+        take_in(&findings[left], frames, &mut ends, &mut stalls)?;
+    }
+    stalls.reverse();
+    Ok(stalls)
+}
+
+// One step of the sweep from the back: `ends` has the first end of each window among the findings after this one.
+fn take_in(
+    found: &Finding,
+    frames: &[Frame],
+    ends: &mut Ends,
+    stalls: &mut Vec<Stall>,
+) -> Result<(), AllocError>
+    requires { IsOrderly frames.now }
+    ensures begun { OnOk result (stalls.new.items ≡ stalls.old.items ++ begun_by frames.now ends.old found.now) }
+    ensures ended { OnOk result ((side : Side) (stream : ℕ) → end_in ends.new side stream
+        ≡ (if is_end_of side stream found.now then Some found.now else end_in ends.old side stream)) }
+{
+    if found.kind.begins_stall() {
+        stalls.push(begun_stall(*found, frames, ends))?;
+    }
+    if found.kind.ends_stall() {
+        ends.put(*found)?;
+    }
+    Ok(())
+}
+
+// The stall that the finding begins.
+fn begun_stall(found: Finding, frames: &[Frame], ends: &Ends) -> Stall
+    requires { IsOrderly frames.now }
+    ensures { result ≡ stall_of frames.now found (end_in ends.now found.side (place_stream found.place)) }
+{
+    stall_between(frames, found, ends.of(found.side, found.place.stream()))
+}
+
+fn stall_between(frames: &[Frame], begin: Finding, end: Option<Finding>) -> Stall
+    requires { IsOrderly frames.now }
+    ensures { result ≡ stall_of frames.now begin end }
+{
+    let from = begin.place.number();
+    let to = end.map(|end| end.place.number());
+    Stall {
+        side: begin.side,
+        stream: begin.place.stream(),
+        from,
+        to,
+        nanos: to.map_or(0, |to| time_of(frames, to) - time_of(frames, from)),
+    }
+}
+
+// The time of a frame, which fits the signed type.
+fn time_of(frames: &[Frame], number: u32) -> i64
+    requires { IsOrderly frames.now }
+    ensures { result ≡ pos (nanos_at frames.now number) }
+{
+    match frame_at(frames, number) {
+        Some(frame) => frame.nanos as i64,
+        None => 0,
+    }
+}

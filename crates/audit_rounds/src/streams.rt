@@ -1,0 +1,95 @@
+//! The streams of a connection, each by itself.
+
+ghost use Rattle.std.specs.Prelude.{◌≡◌, ◌++◌, ◌<◌, IfOk, OnOk, All};
+ghost use Rattle.std.specs.Option.{option_to_list};
+ghost use Rattle.settings_pair.specs.code.Changes.{AreOrderly};
+ghost use Rattle.audit_rounds.specs.code.Streams.{IsRow, IsWork, RowLooks, RowsLook, lesser, row_shown, row_opened};
+ghost use Rattle.audit_rounds.specs.code.Streams.{rows_shown, rows_opened};
+
+use audit_terms::{Frame, Look, Place, put_in_order};
+use job_crew::Work;
+use split_merge::{SplitFrames, StreamRow};
+use std::alloc::{AllocError, Global};
+use stream_credit::{Changes, StreamPart, StreamRun, stream_run};
+
+/// A connection's frames by stream, and the changes that settings bring to it.
+#[derive(Clone, Copy)]
+pub struct Streams<'a> {
+    pub frames: &'a [Frame],
+    pub split: &'a SplitFrames,
+    pub changes: &'a Changes<'a>,
+}
+
+/// What one stream shows, with a look.
+fn run_of_row<L: Look>(
+    alloc: Global,
+    streams: &Streams<'_>,
+    row: &StreamRow,
+    credits_shown: bool,
+    look: &mut L,
+) -> Result<StreamRun, AllocError>
+    requires changes { AreOrderly streams.now.changes.now }
+    requires row { IsRow streams.now row.now }
+    ensures { IfOk result (λ run. IsWork L.answers (RowLooks credits_shown streams.now row.now) look.old look.new
+        (row_shown credits_shown streams.now row.now) (option_to_list (row_opened streams.now row.now)) run.upto
+        run.findings.items (option_to_list run.opened_at)) }
+{
+    let part = StreamPart {
+        stream: row.stream,
+        frames: streams.frames,
+        positions: streams.split.positions_of(row),
+    };
+    stream_run(alloc, &part, streams.changes, credits_shown, look)
+}
+
+/// The lesser of two places up to which runs went.
+pub fn lesser(one: &Option<Place>, other: &Option<Place>) -> Option<Place>
+    ensures { result ≡ lesser one.now other.now }
+{
+    match (one, other) {
+        (Some(one), Some(other)) => Some(*one.min(other)),
+        (Some(one), None) => Some(*one),
+        (None, other) => *other,
+    }
+}
+
+/// Adds what one stream shows.
+fn add(work: &mut Work<Vec<u32>>, mut run: StreamRun) -> Result<(), AllocError>
+    ensures findings { OnOk result (work.new.findings.items ≡ work.old.findings.items ++ run.findings.items) }
+    ensures upto { OnOk result (work.new.upto ≡ lesser work.old.upto run.upto) }
+    ensures opened { OnOk result (work.new.made.items ≡ work.old.made.items ++ option_to_list run.opened_at) }
+{
+    work.findings.append(&mut run.findings)?;
+    work.upto = lesser(&work.upto, &run.upto);
+    if let Some(number) = run.opened_at {
+        work.made.push(number)?;
+    }
+    Ok(())
+}
+
+/// What a group of streams shows, one stream after the other, put in order.
+pub fn run_of_rows<L: Look>(
+    alloc: Global,
+    streams: &Streams<'_>,
+    rows: &[StreamRow],
+    credits_shown: bool,
+    look: &mut L,
+) -> Result<Work<Vec<u32>>, AllocError>
+    requires changes { AreOrderly streams.now.changes.now }
+    requires rows { All (IsRow streams.now) rows.now }
+    ensures { IfOk result (λ work. IsWork L.answers (RowsLook credits_shown streams.now rows.now) look.old look.new
+        (rows_shown credits_shown streams.now rows.now) (rows_opened streams.now rows.now) work.upto
+        work.findings.items work.made.items) }
+{
+    let mut work = Work {
+        findings: Vec::new(alloc),
+        upto: None,
+        made: Vec::new(alloc),
+    };
+    for row in rows {
+        let run = run_of_row(alloc, streams, row, credits_shown, look)?;
+        add(&mut work, run)?;
+    }
+    put_in_order(&mut work.findings)?;
+    Ok(work)
+}

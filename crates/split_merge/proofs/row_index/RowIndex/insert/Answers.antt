@@ -1,0 +1,21 @@
+use Rattle.std.proofs.Common.{◌+◌, length, refl, sym, ◌∙◌}
+use Rattle.split_merge.specs.declared.row_index.RowIndex.{RowIndex}
+use Rattle.split_merge.specs.code.Visits.{streams_in}
+use Rattle.split_merge.proofs.NamedStreams.{length-streams_in}
+use Rattle.split_merge.proofs.Rising.{row-above, row-in_table}
+use Rattle.split_merge.proofs.row_index.RowIndex.insert.Goals as goal
+
+pub returns-then-is_above : goal.returns-then-is_above
+returns-then-is_above c =
+    let n = length-streams_in c.args.rows.now in
+    let after : RowIndex = record { rising = c.args.self.now.rising + 1; others = c.args.self.now.others } in
+    row-above (streams_in c.args.rows.now) c.args.self.now after c.requires.index c.args.stream
+    (length c.args.rows.now) c.requires.above (c.if-is_above.ensures.rising ∙ sym n) c.if-is_above.ensures.above refl
+    refl (sym n)
+
+pub returns : goal.returns
+returns c =
+    let after : RowIndex = record { rising = c.args.self.now.rising; others = c.insert_full.new.self } in
+    row-in_table (streams_in c.args.rows.now) c.args.self.now after c.requires.index c.args.stream c.in_ok-place.place
+    c.requires.above c.in_default.ensures refl c.in_ok-place.ensures.keys c.in_ok-place.ensures.index
+    c.in_ok-place.ensures.stored c.in_ok-place.added c.in_ok-place.ensures.added

@@ -1,0 +1,8 @@
+use Rattle.std.proofs.Common.{sym}
+use Rattle.split_merge.proofs.Rising.{all-below}
+use Rattle.split_merge.proofs.row_index.RowIndex.is_above.Goals as goal
+
+pub returns-in-Some-clause-above : goal.returns-in-Some-clause-above
+returns-in-Some-clause-above c =
+    all-below c.args.rows.now c.args.self.now c.args.stream c.in-Some.last.now c.requires c.if-self-rows.false
+    (sym c.in-Some.ensures.value)

@@ -1,2 +1,0 @@
-pub mod StreamOrder
-pub mod StreamWork
