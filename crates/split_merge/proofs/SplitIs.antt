@@ -130,7 +130,6 @@ module _ (credits_shown : Bool) (changes : List Change) (frames : List Frame) (r
         client = 0;
         server = 0;
         met = 0;
-        ended = record { client = false; server = false };
         is_quiet = false;
       } in
       let at : slice_get (streams_in rows) k ≡ Some (get_or (streams_of frames) k d) =
