@@ -19,17 +19,18 @@ pub struct Loud {
 }
 
 impl Loud {
-    /// The loud streams of some rows.
-    pub fn of(alloc: Global, rows: &[Visited], quiets: &[QuietStream]) -> Result<Loud, AllocError>
-        requires long { length quiets.now ≡ length rows.now }
-        ensures rows { IfOk result (λ loud. loud.rows.items ≡ loud_of rows.now quiets.now) }
-        ensures opened { IfOk result (λ loud. loud.opened.items ≡ opened_in quiets.now) }
+    /// The loud streams of a table.
+    pub fn of(alloc: Global, table: &Visits) -> Result<Loud, AllocError>
+        requires { length table.now.quiets.items ≡ length table.now.rows.items }
+        ensures rows { IfOk result (λ loud. loud.rows.items
+            ≡ loud_of table.now.rows.items table.now.quiets.items) }
+        ensures opened { IfOk result (λ loud. loud.opened.items ≡ opened_in table.now.quiets.items) }
     {
         let none = Vec::new(alloc);
         let opened = Vec::new(alloc);
         let mut loud = Loud { rows: none, opened };
-        for row in 0..rows.len() {
-            loud.add(&rows[row], &quiets[row])?;
+        for row in 0..table.rows.len() {
+            loud.add(&table.rows[row], &table.quiets[row])?;
         }
         Ok(loud)
     }

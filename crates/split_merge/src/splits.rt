@@ -65,7 +65,7 @@ pub fn split(
         credits_shown,
         &changes,
     );
-    let loud = Loud::of(alloc, table.rows.as_slice(), table.quiets.as_slice())?;
+    let loud = Loud::of(alloc, &table)?;
     laid(alloc, loud, &mut table, frames)
 }
 

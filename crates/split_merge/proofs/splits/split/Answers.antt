@@ -1,28 +1,12 @@
-use Rattle.std.proofs.Common.{◌≡◌, [], length, sym, ap, ◌∙◌, subst}
+use Rattle.std.proofs.Common.{[], sym, subst}
 use Rattle.std.specs.Prelude.{IfOk, Result, Ok, Err}
 use Rattle.split_merge.specs.declared.splits.SplitFrames.{SplitFrames}
 use Rattle.split_merge.specs.code.Split.{IsSplit}
 use Rattle.split_merge.specs.code.Visits.{streams_in, notes_from}
 use Rattle.split_merge.specs.code.Ahead.{AreAhead, AreHushed}
-use Rattle.split_merge.specs.code.Loud.{loud_of, opened_in, heard, IsLaid}
-use Rattle.split_merge.proofs.NamedStreams.{length-streams_in}
+use Rattle.split_merge.specs.code.Loud.{opened_in, heard, IsLaid}
 use Rattle.split_merge.proofs.SplitIs.{split-is}
 use Rattle.split_merge.proofs.splits.split.Goals as goal
-
-pub laid-requires-clause-rows : goal.laid-requires-clause-rows
-laid-requires-clause-rows c =
-    c.in_ok-loud.ensures.rows ∙ ap (λ l. loud_of l c.as_slice-3.result.now) c.as_slice-2.ensures.value
-    ∙ ap (loud_of c.in_ok-table.table.rows.items) c.as_slice-3.ensures.value
-
-pub laid-requires-clause-long : goal.laid-requires-clause-long
-laid-requires-clause-long c =
-    let rows = c.in_ok-table.table.rows.items in
-    let hushed = c.finish.ensures c.args.frames.now
-    (subst (λ l. AreAhead c.in_ok-changes.changes c.args.frames.now (λ s. []) (streams_in l)
-    c.in_ok-table.table.quiets.items)
-    (sym c.as_slice.ensures.value) c.in_ok-table.ensures.ahead) in
-    let n = length-streams_in c.as_slice.result.now in
-    hushed.long ∙ n ∙ ap length c.as_slice.ensures.value
 
 if-more : {E : Type 0} (P Q : SplitFrames → Type 0) (r : Result SplitFrames E) → ((x : SplitFrames) → P x → Q x)
     → IfOk r P → IfOk r Q
@@ -40,11 +24,6 @@ returns c =
     (c.finish.ensures frames
     (subst (λ l. AreAhead changes frames (λ s. []) (streams_in l) c.in_ok-table.table.quiets.items)
     (sym c.as_slice.ensures.value) c.in_ok-table.ensures.ahead)) in
-    let loud : c.in_ok-loud.loud.rows.items ≡ loud_of c.in_ok-table.table.rows.items c.finish.new.quiets.items =
-    c.in_ok-loud.ensures.rows ∙ ap (λ l. loud_of l c.as_slice-3.result.now) c.as_slice-2.ensures.value
-    ∙ ap (loud_of rows) c.as_slice-3.ensures.value in
-    let opened : c.in_ok-loud.loud.opened.items ≡ opened_in c.finish.new.quiets.items =
-    c.in_ok-loud.ensures.opened ∙ ap opened_in c.as_slice-3.ensures.value in
     let table = c.in_ok-table.ensures.table in
     subst (λ l. IfOk c.laid.result (IsSplit c.args.credits_shown l frames)) c.in_ok-changes.ensures
     (if-more (IsLaid c.in_ok-loud.loud.rows.items c.in_ok-loud.loud.opened.items
@@ -53,8 +32,9 @@ returns c =
     (λ split is. split-is c.args.credits_shown changes frames rows quiets split c.in_ok-table.ensures.streams
     table.listed
     table.index.distinct table.index.above hushed
-    (subst (λ l. IsLaid l (opened_in quiets) (heard (streams_in l) (notes_from 0 frames)) split) loud
+    (subst (λ l. IsLaid l (opened_in quiets) (heard (streams_in l) (notes_from 0 frames)) split)
+    c.in_ok-loud.ensures.rows
     (subst (λ o. IsLaid c.in_ok-loud.loud.rows.items o
     (heard (streams_in c.in_ok-loud.loud.rows.items) (notes_from 0 frames)) split)
-    opened is)))
+    c.in_ok-loud.ensures.opened is)))
     c.laid.ensures)
