@@ -39,8 +39,8 @@
 //! in place of the worker's, in the round over streams and in that over blocks; what the blocks show, lost where
 //! nothing was found before; openings of quiet streams, lost; streams split as if credits were not shown; what is found
 //! of a connection, given to another; of the places up to which runs went, the greater taken for the lesser. Those of
-//! single rounds stand in the crates below. Tested by whole reports, in many mixes of workers, groups and block lengths:
-//! that the call succeeds where there is memory. Trusted: the port of `itertools`.
+//! single rounds stand in the crates below. Tested by whole reports, in many mixes of workers, groups and block
+//! lengths: that the call succeeds where there is memory. Trusted: the port of `itertools`.
 #![tactic(auto)]
 
 mod beginnings;
