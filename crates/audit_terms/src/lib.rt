@@ -27,8 +27,7 @@
 //! no sum wraps; that bound is bookkeeping of code (`specs/code/`).
 //!
 //! Wrong bodies that the prover refuses: a cut by the frame, an order with the server first, padding that does not
-//! count, an overflowing grant that is added, a window that is live after the other side's reset, a misplaced promise
-//! that is not said. That calls succeed where there is memory is tested by those above them.
+//! count, an overflowing grant that is added. That calls succeed where there is memory is tested by those above them.
 #![tactic(auto)]
 
 mod connections;
