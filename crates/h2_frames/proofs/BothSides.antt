@@ -1,10 +1,9 @@
 -- The frames of both sides make an HTTP/2 connection's cut.
-use Rattle.std.proofs.Common.{◌≡◌, ℕ, ◌+◌, List, length, ap, ap₂, ◌∙◌, arith, length-append}
+use Rattle.std.proofs.Common.{◌≡◌, ℕ, ◌+◌, List, length, refl, ap, ap₂, ◌∙◌, arith, length-append}
 use Rattle.tcp_streams.specs.declared.streams.Flow.{Flow}
 use Rattle.tcp_streams.specs.Bytes.{bytes_of}
 use Rattle.tcp_streams.specs.code.Orderly.{IsOrderly}
 use Rattle.audit_terms.specs.declared.sides.Side.TheVariants.{Client, Server}
-use Rattle.audit_terms.specs.declared.sides.Sides.{Sides}
 use Rattle.audit_terms.specs.declared.frames.Frame.{Frame}
 use Rattle.h2_frames.specs.CaptureOrder.{numbered}
 use Rattle.h2_frames.specs.Preface.{preface, BeginsWithPreface}
@@ -13,19 +12,15 @@ use Rattle.h2_frames.specs.code.Merge.{merged}
 use Rattle.h2_frames.specs.code.Unread.{AreAhead}
 use Rattle.h2_frames.proofs.Merging.{captured-in_order, merged-capture_order}
 
-abbrev tails_of : ℕ → ℕ → Sides ℕ
-tails_of client server = record { client = client; server = server }
-
-pub http2-is : (client server : Flow) (rest : List ℕ) (sent answered all frames : List Frame)
-    (sent_tail answered_tail : List ℕ) (sent_length answered_length : ℕ) →
+pub http2-is : (client server : Flow) (rest : List ℕ) (sent answered all : List Frame)
+    (sent_tail answered_tail : List ℕ) →
     BeginsWithPreface (bytes_of client) rest → IsOrderly client → IsOrderly server →
     AreAhead Client client.arrivals.items 1 24 rest sent sent_tail →
     AreAhead Server server.arrivals.items 1 0 (bytes_of server) answered answered_tail →
-    all ≡ merged sent answered → frames ≡ numbered 1 all →
-    sent_length ≡ length sent_tail → answered_length ≡ length answered_tail →
-    IsHttp2 client server frames (tails_of sent_length answered_length)
-http2-is client server rest sent answered all frames sent_tail answered_tail sent_length answered_length
-    begins client_flow server_flow first second all_are frames_are sent_size answered_size =
+    all ≡ merged sent answered →
+    IsHttp2 client server (numbered 1 all) (record { client = length sent_tail; server = length answered_tail })
+http2-is client server rest sent answered all sent_tail answered_tail begins client_flow server_flow first second
+    all_are =
     let size : length (bytes_of client) ≡ 24 + length rest = ap length begins ∙ length-append preface rest in
     let sent_order = captured-in_order Client client.arrivals.items (length (bytes_of client)) client_flow.rises 24
     first.0 rest sent_tail first.1 (omega arith) in
@@ -40,8 +35,7 @@ http2-is client server rest sent answered all frames sent_tail answered_tail sen
       client_begins = begins;
       client_spells = first.1;
       server_spells = second.1;
-      in_order = frames_are
-          ∙ ap (numbered 1) (all_are ∙ ap₂ merged first.2 second.2)
+      in_order = ap (numbered 1) (all_are ∙ ap₂ merged first.2 second.2)
           ∙ merged-capture_order _ _ sent_order answered_order;
-      tails_are = ap₂ tails_of sent_size answered_size;
+      tails_are = refl;
     }

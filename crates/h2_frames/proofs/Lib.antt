@@ -6,4 +6,5 @@ pub mod Gathering
 pub mod Merging
 pub mod Taking
 pub mod BothSides
+pub mod Walking
 pub mod Uniqueness

@@ -1,8 +1,7 @@
 -- Frames that stand in order are merged into order.
-use Rattle.std.proofs.Common.{◌≡◌, ℕ, suc, ◌+◌, ◌-◌, ◌^◌, ◌<◌, ◌≤◌, Bool, true, false, cond, List, [], ◌∷◌, ◌++◌}
+use Rattle.std.proofs.Common.{◌≡◌, ℕ, ◌+◌, ◌-◌, ◌<◌, ◌≤◌, Bool, true, false, cond, List, [], ◌∷◌, ◌++◌}
 use Rattle.std.proofs.Common.{length, refl, ap, sym, ◌∙◌, arith, length-append}
 use Rattle.std.specs.Prelude.{nat_lt, ◌==◌, ◌&&◌, ◌||◌}
-use Rattle.std.specs.List.{AllByRecursion}
 use Rattle.std.proofs.lemmas.Bool.Decides.{nat_tests}
 use Rattle.tcp_streams.specs.declared.streams.Arrival.{Arrival}
 use Rattle.tcp_streams.specs.Arrivals.{Rises}
@@ -10,9 +9,7 @@ use Rattle.audit_terms.specs.declared.sides.Side.{Side}
 use Rattle.audit_terms.specs.declared.frames.Frame.{Frame}
 use Rattle.audit_terms.specs.Order.{put_by, ordered_by}
 use Rattle.audit_terms.specs.Side.{side_order}
-use Rattle.audit_terms.specs.code.runs.Orderly.{IsOrderlyFrom}
 use Rattle.h2_frames.specs.code.Merge.{merged, merged_with}
-use Rattle.h2_frames.specs.code.Steps.{IsReadable}
 use Rattle.h2_frames.specs.declared.spelling.Spelled.{Spelled}
 use Rattle.h2_frames.specs.Spelling.{Spells}
 use Rattle.h2_frames.specs.CaptureOrder.{byte_arrival, captured, captured_from, comes_after, numbered, capture_order}
@@ -168,25 +165,3 @@ captured-in_order side arrivals high rises offset (s ∷ later) bytes tail spell
 pub merged-capture_order : (client server : List Frame) → IsAscending client → IsAscending server →
     numbered 1 (merged client server) ≡ capture_order client server
 merged-capture_order client server h k = ap (numbered 1) (sym (ordered-merge client server h k))
-
--- frames in range, numbered upwards, are orderly
-pub numbered-orderly : (low number : ℕ) (frames : List Frame) → AllByRecursion IsReadable (numbered number frames)
-    → low ≤ number →
-    number + length frames < 2 ^ 28 → IsOrderlyFrom low (numbered number frames)
-numbered-orderly low number [] all h k = tt
-numbered-orderly low number (f ∷ frames) all h k =
-    let readable : IsReadable (record f { number = number }) = all.0 in (
-      h,
-      record {
-        number = omega arith;
-        stream = readable.stream;
-        promised = readable.promised;
-        length = readable.length;
-        nanos = readable.nanos;
-      },
-      numbered-orderly (number + 1) (number + 1) frames all.1 (omega arith) (omega arith),
-    )
-
-pub length-numbered : (number : ℕ) (frames : List Frame) → length (numbered number frames) ≡ length frames
-length-numbered number [] = refl
-length-numbered number (f ∷ frames) = ap suc (length-numbered (number + 1) frames)

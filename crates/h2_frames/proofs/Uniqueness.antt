@@ -1,5 +1,5 @@
 -- Bytes have one spelling, flows one cut.
-use Rattle.std.specs.Prelude.{Result, Ok, Err, IfOk, IsTrue}
+use Rattle.std.specs.Prelude.{Result, Ok, Err, IfOk}
 use Rattle.std.specs.declared.alloc.AllocError.{AllocError}
 use Rattle.h2_frames.specs.declared.connections.Cut.{Cut}
 use Rattle.std.proofs.Common.{◌≡◌, ℕ, ◌+◌, ◌<◌, List, [], ◌∷◌, ◌++◌, length, take, drop, refl, ap, ap₂, sym, ◌∙◌, subst}
@@ -22,7 +22,6 @@ use Rattle.h2_frames.specs.Spelling.{HoldsNoFrame, Makes, Spells}
 use Rattle.h2_frames.specs.CaptureOrder.{captured_from, capture_order}
 use Rattle.h2_frames.specs.Preface.{preface, IsPrefaceCutShort, BeginsWithPreface}
 use Rattle.h2_frames.specs.Cut.{IsCut, IsHttp2}
-use Rattle.h2_frames.specs.code.Steps.{IsHttp2Cut}
 use Rattle.h2_frames.specs.laws.Unique.{SpellingIsUnique, IsSameFlow, CutIsUnique}
 use Rattle.h2_frames.specs.code.SameCut.{IsSameCut}
 
@@ -195,13 +194,8 @@ only-cut client server cut other first second =
     same : (flow : Flow) → IsSameFlow flow flow
     same flow = record { started = refl; bytes = refl; arrivals = refl }
 
--- the same of a cut into frames, where there is one
-pub only-http2 : (client server : Flow) (result : Result Cut AllocError) → IsTrue server.started
-    → IfOk result (IsHttp2Cut client server) →
+-- the same of a cut that is found
+pub only-found : (client server : Flow) (result : Result Cut AllocError) → IfOk result (IsCut client server) →
     IfOk result (λ found. (other : Cut) → IsCut client server other → IsSameCut found other)
-only-http2 client server (Ok (Http2 frames tails)) started is = λ other second. only-cut client server
-    (Http2 frames tails) other (started, is) second
-only-http2 client server (Ok NotHttp2) started is = absurd is
-only-http2 client server (Ok NoPreface) started is = absurd is
-only-http2 client server (Ok NoHandshake) started is = absurd is
-only-http2 client server (Err e) started is = tt
+only-found client server (Ok cut) is = λ other second. only-cut client server cut other is second
+only-found client server (Err e) is = tt

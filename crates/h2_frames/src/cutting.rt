@@ -1,50 +1,33 @@
 ghost use Rattle.std.specs.Prelude.{◌≡◌, ℕ, ◌+◌, ◌<◌, ◌^◌, List, length, IsTrue, IfOk, OnErr};
+ghost use Rattle.tcp_streams.specs.declared.streams.Flow.{Flow};
 ghost use Rattle.tcp_streams.specs.code.Orderly.{IsOrderly};
 ghost use Rattle.tcp_streams.specs.Bytes.{bytes_of};
 ghost use Rattle.h2_frames.specs.Cut.{IsCut};
 ghost use Rattle.h2_frames.specs.code.SameCut.{IsSameCut};
 ghost use Rattle.h2_frames.specs.code.Orderly.{HasOrderlyFrames};
-ghost use Rattle.h2_frames.specs.code.Steps.{IsHttp2Cut};
+ghost use Rattle.h2_frames.specs.code.Walk.{IsFreshWalk, IsReadyWalk};
 ghost use Rattle.h2_frames.specs.declared.connections.Cut.{Cut};
 ghost use Rattle.h2_frames.specs.Preface.{BeginsWithPreface};
-ghost use Rattle.h2_frames.specs.code.Pieces.{bytes_of as bytes_left, IsCounted};
 
-use crate::beginning::{Beginning, PREFACE, beginning_of};
 use crate::connections::Cut;
-use crate::order::in_capture_order;
-use crate::pieces::Pieces;
-use crate::unread::Unread;
-use audit_terms::{Frame, Side, Sides};
+use crate::walk::{Begun, FrameWalk, begin};
+use audit_terms::Frame;
 use std::alloc::{AllocError, Global};
 use tcp_streams::Flow;
 
-/// The frames of both sides in capture order, where `rest` follows the client's preface.
-fn http2(
-    alloc: Global,
-    rest: Pieces<'_>,
-    client: &Flow,
-    server: &Flow,
-    room: Vec<Frame>,
-) -> Result<Cut, AllocError>
-    requires counted { IsCounted rest }
-    requires begins { BeginsWithPreface (bytes_of client.now) (bytes_left rest) }
-    requires client { IsOrderly client.now }
-    requires server { IsOrderly server.now }
-    requires together { length (bytes_of client.now) + length (bytes_of server.now) < 2 ^ 31 }
-    ensures is { IfOk result (IsHttp2Cut client.now server.now) }
-    ensures orderly { IfOk result HasOrderlyFrames }
+/// All frames of a walk that none was taken of, put in the memory of `room`, and the tails.
+fn all_of(walk: FrameWalk<'_>, room: Vec<Frame>) -> Result<Cut, AllocError>
+    requires { IsReadyWalk walk }
+    ensures is { (client server : Flow) → IsFreshWalk client server walk.entry → IfOk result (IsCut client server) }
+    ensures orderly { (client server : Flow) → IsFreshWalk client server walk.entry → IfOk result HasOrderlyFrames }
 {
-    let offset = PREFACE.len() as u64;
-    let arrivals = client.arrivals.as_slice();
-    let mut sent = Unread::of(alloc, Side::Client, rest, offset, arrivals)?;
-    let arrivals = server.arrivals.as_slice();
-    let answers = Pieces::of(server.pieces.as_slice());
-    let mut answered = Unread::of(alloc, Side::Server, answers, 0, arrivals)?;
-    let frames = in_capture_order(&mut sent, &mut answered, room)?;
-    let tails = Sides {
-        client: sent.tail(),
-        server: answered.tail(),
-    };
+    let mut walk = walk;
+    let mut frames = room;
+    frames.clear();
+    while let Some(frame) = walk.take_next()? {
+        frames.push(frame)?;
+    }
+    let tails = walk.tails();
     Ok(Cut::Http2 { frames, tails })
 }
 
@@ -76,13 +59,10 @@ pub fn cut(alloc: Global, client: &Flow, server: &Flow, room: Vec<Frame>) -> Res
     ensures memory { OnErr result (IsTrue server.now.started × (rest : List ℕ)
         × BeginsWithPreface (bytes_of client.now) rest) }
 {
-    if !server.started {
-        return Ok(Cut::NoHandshake);
-    }
-    let bytes = Pieces::of(client.pieces.as_slice());
-    match beginning_of(bytes) {
-        Beginning::CutShort => Ok(Cut::NoPreface),
-        Beginning::Other => Ok(Cut::NotHttp2),
-        Beginning::Preface(rest) => http2(alloc, rest, client, server, room),
+    match begin(alloc, client, server) {
+        Begun::NoHandshake => Ok(Cut::NoHandshake),
+        Begun::NoPreface => Ok(Cut::NoPreface),
+        Begun::NotHttp2 => Ok(Cut::NotHttp2),
+        Begun::Http2(walk) => all_of(walk, room),
     }
 }

@@ -7,25 +7,32 @@
 //! unreadable. What is left over at the end of a flow, less than a whole frame, is its tail. The frames of both sides
 //! come in capture order, numbered from 1: a frame is there when its last byte arrives.
 //!
+//! [`begin`] decides the same, and gives a [`FrameWalk`] over the frames in place of a list: they are taken out one by
+//! one, for a reader that need not have them all. [`cut`] is a loop over it.
+//!
 //! - The contract of [`cut`] is exactly this: `specs/Spelling.antt` says what spells a frame, `specs/Body.antt` what
 //!   its payload says, `specs/CaptureOrder.antt` what the order is, and `specs/Cut.antt` puts them together.
 //! - No other answer meets it for the same flows (clause `only`), and [`laws`] say so without the code: one list of
 //!   bytes has one spelling, two flows have one cut.
+//! - The contract of [`FrameWalk::take_next`] speaks of both flows too, whichever they are (`specs/code/Walk.antt`):
+//!   the frames that were taken, with what is left, make the connection's; where there is none left, those that were
+//!   taken are all of its frames, and [`FrameWalk::tails`] says what follows them.
 //! - The frames are orderly, as the calls on frames ask: numbers rise, streams have 31 bits and lengths 24, times are
-//!   below 2^63.
-//! - Want of memory, its one error, is answered only for a connection that is HTTP/2. The two flows together are
+//!   below 2^63. So are those that were taken, at each step of a walk.
+//! - Want of memory, the one error, is answered only for a connection that is HTTP/2. The two flows together are
 //!   shorter than 2^31 bytes, so that frame numbers stay below 2^28 - 1.
 //!
 //! The definition of a spelling is a grammar by cases on the list of frames, and the order an insertion sort. The code
-//! follows neither: it reads both flows through cursors, each with its next frame read ahead, and the frame that stands
-//! first goes into the one list, for which the caller has the memory ready, or gives an empty list, which grows. No
-//! contract speaks of that memory. A cursor takes bytes that lie in pieces; a frame within one piece is read in place;
-//! another's header and payload are put together in a buffer first, but for data with no padding, whose payload no one
-//! looks at.
+//! follows neither: it reads both flows through cursors. A step of the walk reads the next frame ahead of each side
+//! where that was not done yet, which is one side but at the first step, and hands out the one that stands first.
+//! [`cut`] puts it into the one list, for which the caller has the memory ready, or gives an empty list, which grows.
+//! No contract speaks of that memory. A cursor takes bytes that lie in pieces; a frame within one piece is read in
+//! place; another's header and payload are put together in a buffer first, but for data with no padding, whose payload
+//! no one looks at.
 //!
-//! Wrong bodies that the prover refuses: padding as long as the payload, an order by first bytes. Worked examples of
-//! bodies, headers and order are proved in `crate_tests`. Tested by whole reports: that `cut` succeeds where there is
-//! memory, on connections of each of the four kinds.
+//! Wrong bodies that the prover refuses: padding as long as the payload, an order by first bytes, tails exchanged.
+//! Worked examples of bodies, headers and order are proved in `crate_tests`. Tested by whole reports: that `cut`
+//! succeeds where there is memory, on connections of each of the four kinds.
 #![tactic(auto)]
 
 mod beginning;
@@ -39,6 +46,8 @@ mod pieces;
 mod settings;
 mod spelling;
 mod unread;
+mod walk;
 
 pub use connections::Cut;
 pub use cutting::cut;
+pub use walk::{Begun, FrameWalk, begin};

@@ -1,4 +1,5 @@
 ghost use Rattle.std.specs.Prelude.{◌≡◌, ◌+◌, ◌-◌, ◌*◌, ◌<◌, ◌≤◌, ◌^◌, ℕ, List, ◌∷◌, length, IfOk, IfSome, IfNone};
+ghost use Rattle.h2_frames.specs.declared.unread.Next.TheVariants.{Over, Read};
 ghost use Rattle.tcp_streams.specs.code.Orderly.{AreTimely};
 ghost use Rattle.tcp_streams.specs.Arrivals.{Rises};
 ghost use Rattle.audit_terms.specs.declared.frames.Frame.{Frame};
@@ -56,13 +57,23 @@ impl Spelled {
     }
 }
 
-/// What one side sent, as far as it was not taken yet: frames, of which the next is read ahead, and a tail.
+/// What is known of the next frame of a side.
+#[derive(Clone, Copy)]
+pub(crate) enum Next {
+    /// It was not read yet. Where there is one, it has this number within the side.
+    Unread(u32),
+    /// It is this one, numbered within the side.
+    Read(Frame),
+    /// The bytes hold no further one.
+    Over,
+}
+
+/// What one side sent, as far as it was not taken yet: frames, of which the next may be read ahead, and a tail.
 #[derive(Drop)]
 pub(crate) struct Unread<'a> {
     pub side: Side,
-    /// The next frame, numbered within the side; none where the bytes hold no further one.
-    pub next: Option<Frame>,
-    /// The bytes after it.
+    pub next: Next,
+    /// The bytes from the next frame on, or after it where it is read.
     pub bytes: Pieces<'a>,
     /// Their offset in the side's flow.
     pub offset: u64,
@@ -73,74 +84,90 @@ pub(crate) struct Unread<'a> {
 }
 
 impl<'a> Unread<'a> {
-    ghost use Rattle.h2_frames.specs.code.Unread.{AreAhead, AreLeft, IsPlaced, IsReady, weight};
+    ghost use Rattle.h2_frames.specs.code.Unread.{AreAhead, AreLeft, IsKnown, IsPlaced, IsReady, weight};
 
-    /// A side's bytes from this offset of its flow on, and the flow's arrivals.
+    /// A side's bytes from this offset of its flow on, and the flow's arrivals. Nothing is read.
     pub fn of(
         alloc: Global,
         side: Side,
         bytes: Pieces<'a>,
         offset: u64,
         arrivals: &'a [Arrival],
-    ) -> Result<Unread<'a>, AllocError>
+    ) -> Unread<'a>
         requires counted { IsCounted bytes }
         requires short { offset + length (bytes_of bytes) < 2 ^ 31 }
         requires rises { Rises 0 0 arrivals.now (offset + length (bytes_of bytes)) }
         requires timely { AreTimely arrivals.now }
-        ensures ready { IfOk result IsReady }
-        ensures left { IfOk result (λ unread. (frames : List Frame) → (tail : List ℕ) →
-            AreLeft unread frames tail → AreAhead side arrivals.now 1 offset (bytes_of bytes.entry) frames tail) }
-        ensures weight { IfOk result (λ unread. weight unread ≤ length (bytes_of bytes.entry)) }
+        ensures ready { IsReady result }
+        ensures left { (frames : List Frame) → (tail : List ℕ) →
+            AreLeft result frames tail → AreAhead side arrivals.now 1 offset (bytes_of bytes.entry) frames tail }
+        ensures weight { weight result ≡ length (bytes_of bytes.entry) }
     {
-        let mut unread = Unread {
+        Unread {
             side,
-            next: None,
+            next: Next::Unread(1),
             bytes,
             offset,
             arrivals,
             gathered: Vec::new(alloc),
-        };
-        unread.read(1)?;
-        Ok(unread)
+        }
     }
 
-    /// Reads the frame ahead that the bytes begin with, which gets this number within the side.
+    /// Reads the frame that the bytes begin with, which gets this number within the side.
     fn read(&mut self, number: u32) -> Result<(), AllocError>
         requires placed { IsPlaced self.old }
         requires number { 9 * number ≤ self.old.offset + 9 }
         ensures ready { IfOk result (λ done. IsReady self.new) }
+        ensures known { IfOk result (λ done. IsKnown self.new.next) }
         ensures left { IfOk result (λ done. (frames : List Frame) → (tail : List ℕ) → AreLeft self.new frames tail →
             AreAhead self.old.side self.old.arrivals.now number self.old.offset (bytes_of self.old.bytes)
             frames tail) }
         ensures weight { IfOk result (λ done. weight self.new ≤ length (bytes_of self.old.bytes)) }
     {
         let Some(spelled) = self.bytes.take_frame(&mut self.gathered)? else {
-            self.next = None;
+            self.next = Next::Over;
             return Ok(());
         };
         let length = HEADER_LENGTH as u64 + spelled.header.length as u64;
         let to_come = arrivals_of_frame(self.arrivals, self.offset, length);
-        self.next = Some(spelled.captured(self.side, number, to_come[0]));
+        self.next = Next::Read(spelled.captured(self.side, number, to_come[0]));
         self.offset += length;
         self.arrivals = to_come;
         Ok(())
     }
 
-    /// Takes the next frame out.
-    pub fn take_next(&mut self) -> Result<Option<Frame>, AllocError>
+    /// Reads the next frame ahead, where that was not done yet.
+    pub fn read_ahead(&mut self) -> Result<(), AllocError>
         requires { IsReady self.old }
-        ensures ready { IfOk result (λ taken. IsReady self.new) }
-        ensures next { IfOk result (λ taken. taken ≡ self.old.next) }
-        ensures none { IfOk result (λ taken. IfNone taken (self.new ≡ self.old)) }
-        ensures left { IfOk result (λ taken. IfSome taken (λ frame. (frames : List Frame) → (tail : List ℕ) →
-            AreLeft self.new frames tail → AreLeft self.old (frame ∷ frames) tail)) }
-        ensures weight { IfOk result (λ taken. IfSome taken (λ frame. weight self.new + 9 ≤ weight self.old)) }
+        ensures ready { IfOk result (λ done. IsReady self.new) }
+        ensures known { IfOk result (λ done. IsKnown self.new.next) }
+        ensures left { IfOk result (λ done. (frames : List Frame) → (tail : List ℕ) → AreLeft self.new frames tail →
+            AreLeft self.old frames tail) }
+        ensures weight { IfOk result (λ done. weight self.new ≤ weight self.old) }
     {
-        let Some(taken) = self.next else {
-            return Ok(None);
+        if let Next::Unread(number) = self.next {
+            self.read(number)?;
+        }
+        Ok(())
+    }
+
+    /// Takes the next frame out, which is read ahead where there is one.
+    pub fn take(&mut self) -> Option<Frame>
+        requires ready { IsReady self.old }
+        requires known { IsKnown self.old.next }
+        ensures ready { IsReady self.new }
+        ensures some { IfSome result (λ frame. self.old.next ≡ Read frame) }
+        ensures left { IfSome result (λ frame. (frames : List Frame) → (tail : List ℕ) →
+            AreLeft self.new frames tail → AreLeft self.old (frame ∷ frames) tail) }
+        ensures weight { IfSome result (λ frame. weight self.new + 9 ≡ weight self.old) }
+        ensures none { IfNone result (self.old.next ≡ Over) }
+        ensures same { IfNone result (self.new ≡ self.old) }
+    {
+        let Next::Read(frame) = self.next else {
+            return None;
         };
-        self.read(taken.number + 1)?;
-        Ok(Some(taken))
+        self.next = Next::Unread(frame.number + 1);
+        Some(frame)
     }
 
     /// How many bytes follow the last frame, once all frames are taken.

@@ -1,6 +1,9 @@
--- Frames of two sides, each side's in order, put in order by what stands first. No public clause cites this.
-use Rattle.std.specs.Prelude.{Bool, true, false, List, [], ◌∷◌, if◌then◌else◌, Option, Some, None}
+-- Frames of two sides, each side's in order, put in order by what stands first. Public clauses cite this
+-- only through Walk.
+use Rattle.std.specs.Prelude.{Bool, true, false, List, [], ◌∷◌, if◌then◌else◌}
 use Rattle.audit_terms.specs.declared.frames.Frame.{Frame}
+use Rattle.h2_frames.specs.declared.unread.Next.{Next}
+use Rattle.h2_frames.specs.declared.unread.Next.TheVariants.{Read}
 use Rattle.h2_frames.specs.CaptureOrder.{comes_after}
 
 -- the first frame of one side, and how its later ones go with the other's
@@ -14,7 +17,7 @@ merged [] ys = ys
 merged (x ∷ xs) ys = merged_with x (merged xs) ys
 
 -- does the server's next frame come before the client's?
-abbrev pub is_server_first : (client server : Option Frame) → Bool
-is_server_first (Some x) (Some y) = comes_after x y
-is_server_first (Some x) None = false
-is_server_first None server = true
+abbrev pub is_server_first : (client server : Next) → Bool
+is_server_first (Read x) (Read y) = comes_after x y
+is_server_first (Read x) _ = false
+is_server_first _ server = true

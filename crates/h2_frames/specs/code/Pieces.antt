@@ -1,4 +1,4 @@
--- Bytes that lie in pieces. No public clause cites this.
+-- Bytes that lie in pieces. Public clauses cite this only through Walk.
 use Rattle.std.specs.Prelude.{◌≡◌, ℕ, ◌<◌, ◌^◌, List, ◌++◌, length, map, Option, Some, None}
 use Rattle.std.specs.List.{concat}
 use Rattle.std.specs.Borrow.{Bor}

@@ -1,15 +1,11 @@
--- What single steps of the code leave. No public clause cites these.
+-- What single steps of the code leave. Public clauses cite these only through Walk.
 use Rattle.std.specs.Prelude.{ℕ, ◌<◌, ◌^◌, List, [], ◌∷◌, nat_lt, ◌&&◌, not, ◌==◌, if◌then◌else◌, Some, is_none}
 use Rattle.tcp_streams.specs.declared.streams.Arrival.{Arrival}
-use Rattle.tcp_streams.specs.declared.streams.Flow.{Flow}
 use Rattle.audit_terms.specs.declared.frames.Frame.{Frame}
 use Rattle.audit_terms.specs.declared.settings.Settings.{Settings}
 use Rattle.audit_terms.specs.Frame.{promised_in}
 use Rattle.h2_frames.specs.declared.settings.Setting.{Setting}
 use Rattle.h2_frames.specs.Settings.{is_in_range}
-use Rattle.h2_frames.specs.declared.connections.Cut.{Cut}
-use Rattle.h2_frames.specs.declared.connections.Cut.TheVariants.{Http2}
-use Rattle.h2_frames.specs.Cut.{IsHttp2}
 
 -- the settings with one more pair, which comes after those that they hold
 abbrev pub with_setting : Settings → Setting → Settings
@@ -31,8 +27,3 @@ pub record IsReadable (frame : Frame) : Type 0 where
   pub promised : promised_in frame.body < 2 ^ 31
   pub length : frame.length < 2 ^ 24
   pub nanos : frame.nanos < 2 ^ 63
-
--- an HTTP/2 connection's cut
-abbrev pub IsHttp2Cut : (client server : Flow) → Cut → Type 0
-IsHttp2Cut client server (Http2 frames tails) = IsHttp2 client server frames.items tails
-IsHttp2Cut client server _ = ⊥

@@ -1,11 +1,13 @@
--- What is still to be read of a side. No public clause cites this.
-use Rattle.std.specs.Prelude.{◌≡◌, ℕ, ◌+◌, ◌*◌, ◌<◌, ◌≤◌, ◌^◌, List, [], ◌∷◌, length, Option, Some, None}
+-- What is still to be read of a side. Public clauses cite this only through Walk.
+use Rattle.std.specs.Prelude.{◌≡◌, ℕ, ◌+◌, ◌*◌, ◌<◌, ◌≤◌, ◌^◌, List, [], ◌∷◌, length}
 use Rattle.std.specs.List.{AllByRecursion}
 use Rattle.tcp_streams.specs.declared.streams.Arrival.{Arrival}
 use Rattle.tcp_streams.specs.Arrivals.{Rises}
 use Rattle.audit_terms.specs.declared.sides.Side.{Side}
 use Rattle.audit_terms.specs.declared.frames.Frame.{Frame}
 use Rattle.h2_frames.specs.declared.spelling.Spelled.{Spelled}
+use Rattle.h2_frames.specs.declared.unread.Next.{Next}
+use Rattle.h2_frames.specs.declared.unread.Next.TheVariants.{Over, Read, Unread as ToRead}
 use Rattle.h2_frames.specs.declared.unread.Unread.{Unread}
 use Rattle.h2_frames.specs.Spelling.{HoldsNoFrame, Spells}
 use Rattle.h2_frames.specs.CaptureOrder.{captured_from}
@@ -19,10 +21,12 @@ abbrev pub AreAhead : Side → List Arrival → (number offset : ℕ) → (bytes
 AreAhead side arrivals number offset bytes frames tail =
     (spelled : List Spelled) × Spells bytes spelled tail × (frames ≡ captured_from side arrivals number offset spelled)
 
--- the next frame, if there is one, and then those that the bytes hold
-abbrev pub AreLeftAfter : Option Frame → Unread → List Frame → (tail : List ℕ) → Type 0
-AreLeftAfter None unread frames tail = (frames ≡ []) × Spells (bytes_of unread.bytes) [] tail
-AreLeftAfter (Some frame) unread frames tail =
+-- the next frame, if it is read, and then those that the bytes hold
+abbrev pub AreLeftAfter : Next → Unread → List Frame → (tail : List ℕ) → Type 0
+AreLeftAfter (ToRead number) unread frames tail =
+    AreAhead unread.side unread.arrivals.now number unread.offset (bytes_of unread.bytes) frames tail
+AreLeftAfter Over unread frames tail = (frames ≡ []) × Spells (bytes_of unread.bytes) [] tail
+AreLeftAfter (Read frame) unread frames tail =
     (later : List Frame) × (frames ≡ frame ∷ later)
     × AreAhead unread.side unread.arrivals.now (frame.number + 1) unread.offset (bytes_of unread.bytes) later tail
 
@@ -40,18 +44,24 @@ pub record IsPlaced (unread : Unread) : Type 0 where
   pub short : unread.offset + length (bytes_of unread.bytes) < 2 ^ 31
 
 -- a frame that is in range, its number no higher than frames fit before the offset; without one the bytes hold none
-abbrev pub IsNext : Option Frame → Unread → Type 0
-IsNext None unread = HoldsNoFrame (bytes_of unread.bytes)
-IsNext (Some frame) unread = IsReadable frame × (9 * frame.number ≤ unread.offset)
+abbrev pub IsNext : Next → Unread → Type 0
+IsNext (ToRead number) unread = 9 * number ≤ unread.offset + 9
+IsNext Over unread = HoldsNoFrame (bytes_of unread.bytes)
+IsNext (Read frame) unread = IsReadable frame × (9 * frame.number ≤ unread.offset)
 
 pub record IsReady (unread : Unread) : Type 0 where
   pub placed : IsPlaced unread
   pub next : IsNext unread.next unread
 
--- the bytes to come, with nine for the next frame: no frame is shorter
-abbrev pub weight_after : Option Frame → Unread → ℕ
-weight_after None unread = length (bytes_of unread.bytes)
-weight_after (Some frame) unread = 9 + length (bytes_of unread.bytes)
+-- is the next frame read, or known not to be there?
+abbrev pub IsKnown : Next → Type 0
+IsKnown (ToRead number) = ⊥
+IsKnown _ = Unit {0}
+
+-- the bytes to come, with nine for a frame that is read: no frame is shorter
+abbrev pub weight_after : Next → Unread → ℕ
+weight_after (Read frame) unread = 9 + length (bytes_of unread.bytes)
+weight_after _ unread = length (bytes_of unread.bytes)
 
 abbrev pub weight : Unread → ℕ
 weight unread = weight_after unread.next unread

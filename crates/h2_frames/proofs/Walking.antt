@@ -1,0 +1,70 @@
+-- A walk over the frames of both sides goes on by one frame, or is over.
+use Rattle.std.proofs.Common.{◌≡◌, ℕ, ◌+◌, ◌≤◌, List, [], ◌∷◌, ◌++◌, length, ap, sym, ◌∙◌, arith, append_assoc}
+use Rattle.std.proofs.lemmas.List.{append-nil, length_push}
+use Rattle.tcp_streams.specs.declared.streams.Flow.{Flow}
+use Rattle.audit_terms.specs.declared.frames.Frame.{Frame}
+use Rattle.audit_terms.specs.code.runs.Orderly.{IsInRange, IsOrderlyFrom}
+use Rattle.h2_frames.specs.declared.walk.FrameWalk.{FrameWalk}
+use Rattle.h2_frames.specs.Cut.{IsHttp2}
+use Rattle.h2_frames.specs.CaptureOrder.{numbered}
+use Rattle.h2_frames.specs.code.Unread.{AreMerged}
+use Rattle.h2_frames.specs.code.Walk.{IsWalkAfter, taken_of}
+
+-- one frame more is numbered
+numbered_push : (k : ℕ) (frames : List Frame) (f : Frame) →
+    numbered k (frames ++ f ∷ []) ≡ numbered k frames ++ record f { number = k + length frames } ∷ []
+numbered_push k [] f =
+    let number : k ≡ k + length {A = Frame} [] = omega arith in
+    ap (λ (n : ℕ). record f { number = n } ∷ []) number
+numbered_push k (x ∷ frames) f =
+    let number : (k + 1) + length frames ≡ k + length (x ∷ frames) = omega arith in
+    ap (λ (fs : List Frame). record x { number = k } ∷ fs) (numbered_push (k + 1) frames f
+    ∙ ap (λ (n : ℕ). numbered (k + 1) frames ++ record f { number = n } ∷ []) number)
+
+-- with one frame more they are orderly
+orderly_push : (low k : ℕ) (frames : List Frame) (f : Frame) → IsOrderlyFrom low frames → numbered k frames ≡ frames →
+    low ≤ k → IsInRange f → f.number ≡ k + length frames → IsOrderlyFrom low (frames ++ f ∷ [])
+orderly_push low k [] f orderly numbers above range number_is = (omega arith, range, tt)
+orderly_push low k (x ∷ frames) f orderly numbers above range number_is =
+    let first : record x { number = k } ≡ x = cc in
+    let rest : numbered (k + 1) frames ≡ frames = cc in
+    let number : k ≡ x.number = ap (λ (g : Frame). g.number) first in (
+      orderly.0,
+      orderly.1,
+      orderly_push (x.number + 1) (k + 1) frames f orderly.2 rest (omega arith) range (omega arith),
+    )
+
+-- one frame is taken
+pub walk-turn : (client server : Flow) (walk walk' : FrameWalk) (frames : List Frame) (f frame : Frame) →
+    taken_of walk' ≡ taken_of walk + 1 → frame ≡ record f { number = taken_of walk + 1 } → IsInRange frame →
+    ((later : List Frame) → (tail other : List ℕ) → AreMerged walk'.client walk'.server later tail other →
+    AreMerged walk.client walk.server (f ∷ later) tail other) →
+    IsWalkAfter client server frames walk → IsWalkAfter client server (frames ++ frame ∷ []) walk'
+walk-turn client server walk walk' frames f frame counted frame_is range first before =
+    let count = before.count in
+    let size : length (frames ++ frame ∷ []) ≡ length frames + 1 = length_push frames frame in
+    let number_is : frame.number ≡ 1 + length frames = omega (arith, ap (λ (g : Frame). g.number) frame_is) in
+    record {
+      count = omega arith;
+      numbers = numbered_push 1 frames frame
+          ∙ ap (λ (n : ℕ). numbered 1 frames ++ record frame { number = n } ∷ []) (sym number_is)
+          ∙ ap (λ (fs : List Frame). fs ++ frame ∷ []) before.numbers;
+      orderly = orderly_push 0 1 frames frame before.orderly before.numbers (omega arith) range number_is;
+      whole = λ later tail other merged_are.
+          let all = before.whole (f ∷ later) tail other (first later tail other merged_are) in
+          let next : frame ≡ record f { number = length frames + 1 } = frame_is
+          ∙ ap (λ (n : ℕ). record f { number = n + 1 }) count in
+          let same : (frames ++ frame ∷ []) ++ numbered (length (frames ++ frame ∷ []) + 1) later
+          ≡ frames ++ numbered (length frames + 1) (f ∷ later) =
+          append_assoc frames (frame ∷ []) _
+          ∙ ap (λ (n : ℕ). frames ++ frame ∷ numbered (n + 1) later) size
+          ∙ ap (λ (g : Frame). frames ++ g ∷ numbered ((length frames + 1) + 1) later) next in
+          rw same all;
+    }
+
+-- no frame is left
+pub walk-over : (client server : Flow) (walk : FrameWalk) (frames : List Frame) (tail other : List ℕ) →
+    AreMerged walk.client walk.server [] tail other → IsWalkAfter client server frames walk →
+    IsHttp2 client server frames (record { client = length tail; server = length other })
+walk-over client server walk frames tail other over before =
+    rw (append-nil frames) at (before.whole [] tail other over)

@@ -1,0 +1,138 @@
+ghost use Rattle.std.specs.Prelude.{◌≡◌, ◌+◌, ◌<◌, ◌^◌, ◌++◌, ◌∷◌, [], List, length, IfOk, IfSome, IfNone};
+ghost use Rattle.tcp_streams.specs.declared.streams.Flow.{Flow};
+ghost use Rattle.tcp_streams.specs.code.Orderly.{IsOrderly};
+ghost use Rattle.tcp_streams.specs.Bytes.{bytes_of};
+ghost use Rattle.audit_terms.specs.declared.frames.Frame.{Frame};
+ghost use Rattle.audit_terms.specs.code.runs.Orderly.{IsInRange};
+ghost use Rattle.h2_frames.specs.Cut.{IsHttp2};
+ghost use Rattle.h2_frames.specs.Preface.{BeginsWithPreface};
+ghost use Rattle.h2_frames.specs.code.Pieces.{bytes_of as bytes_left, IsCounted};
+ghost use Rattle.h2_frames.specs.code.Walk.{IsBegun, IsReadyWalk, IsWalkAfter, taken_of, tails_of, weight_of};
+
+use crate::beginning::{Beginning, PREFACE, beginning_of};
+use crate::order::take_first;
+use crate::pieces::Pieces;
+use crate::unread::Unread;
+use audit_terms::{Frame, Side, Sides};
+use std::alloc::{AllocError, Global};
+use tcp_streams::Flow;
+
+/// The frames of both sides of a connection, taken out one by one in capture order.
+#[derive(Drop)]
+pub struct FrameWalk<'a> {
+    client: Unread<'a>,
+    server: Unread<'a>,
+    taken: u32,
+}
+
+/// What the two flows of a connection begin with: which kind of [`crate::Cut`] they have.
+#[derive(Drop)]
+pub enum Begun<'a> {
+    /// The preface, and then what this walk goes over.
+    Http2(FrameWalk<'a>),
+    /// The client's bytes do not begin with the connection preface.
+    NotHttp2,
+    /// The client's bytes end within the connection preface.
+    NoPreface,
+    /// The server's SYN ACK was not captured.
+    NoHandshake,
+}
+
+impl<'a> FrameWalk<'a> {
+    /// The walk over the frames of both sides, where `rest` follows the client's preface.
+    fn of(
+        alloc: Global,
+        rest: Pieces<'a>,
+        client: &'a Flow<'a>,
+        server: &'a Flow<'a>,
+    ) -> FrameWalk<'a>
+        requires counted { IsCounted rest }
+        requires begins { BeginsWithPreface (bytes_of client.now) (bytes_left rest) }
+        requires client { IsOrderly client.now }
+        requires server { IsOrderly server.now }
+        requires together { length (bytes_of client.now) + length (bytes_of server.now) < 2 ^ 31 }
+        ensures ready { IsReadyWalk result }
+        ensures whole { IsWalkAfter client.now server.now [] result }
+    {
+        let offset = PREFACE.len() as u64;
+        let arrivals = client.arrivals.as_slice();
+        let sent = Unread::of(alloc, Side::Client, rest, offset, arrivals);
+        let arrivals = server.arrivals.as_slice();
+        let answers = Pieces::of(server.pieces.as_slice());
+        let answered = Unread::of(alloc, Side::Server, answers, 0, arrivals);
+        FrameWalk {
+            client: sent,
+            server: answered,
+            taken: 0,
+        }
+    }
+
+    /// Takes the next frame out, numbered from 1 in capture order.
+    ///
+    /// The frames that were taken and those to come are the connection's; once there is none left, those that were
+    /// taken are all of them. Only the side whose frame was taken before reads on: a frame is copied only where it
+    /// lies in several pieces and its payload matters. After an error, for want of memory, nothing is known of the
+    /// walk.
+    pub fn take_next(&mut self) -> Result<Option<Frame>, AllocError>
+        requires { IsReadyWalk self.old }
+        ensures ready { IfOk result (λ taken. IsReadyWalk self.new) }
+        ensures weight { IfOk result (λ taken. IfSome taken (λ frame. weight_of self.new < weight_of self.old)) }
+        ensures range { IfOk result (λ taken. IfSome taken IsInRange) }
+        ensures number { IfOk result (λ taken. IfSome taken (λ frame. frame.number ≡ taken_of self.old + 1)) }
+        ensures same { IfOk result (λ taken. IfNone taken (taken_of self.new ≡ taken_of self.old)) }
+        ensures next { IfOk result (λ taken. IfSome taken (λ frame.
+            (client server : Flow) → (frames : List Frame) →
+            IsWalkAfter client server frames self.old →
+            IsWalkAfter client server (frames ++ frame ∷ []) self.new)) }
+        ensures over { IfOk result (λ taken. IfNone taken
+            ((client server : Flow) → (frames : List Frame) →
+            IsWalkAfter client server frames self.old → IsHttp2 client server frames (tails_of self.new))) }
+    {
+        let Some(frame) = take_first(&mut self.client, &mut self.server)? else {
+            return Ok(None);
+        };
+        self.taken += 1;
+        Ok(Some(Frame {
+            number: self.taken,
+            ..frame
+        }))
+    }
+
+    /// How many frames were taken.
+    pub fn taken(&self) -> u32
+        ensures { result ≡ taken_of self.now }
+    {
+        self.taken
+    }
+
+    /// How many bytes each side's flow has after its last frame, once there is no frame left.
+    pub fn tails(&self) -> Sides<u32>
+        requires { IsReadyWalk self.now }
+        ensures { result ≡ tails_of self.now }
+    {
+        Sides {
+            client: self.client.tail(),
+            server: self.server.tail(),
+        }
+    }
+}
+
+/// Begins to go over the frames of a connection's client and server: decides whether it is HTTP/2, and reads none yet.
+///
+/// The flows are to be as [`crate::cut`] asks, and its four kinds are these.
+pub fn begin<'a>(alloc: Global, client: &'a Flow<'a>, server: &'a Flow<'a>) -> Begun<'a>
+    requires client { IsOrderly client.now }
+    requires server { IsOrderly server.now }
+    requires together { length (bytes_of client.now) + length (bytes_of server.now) < 2 ^ 31 }
+    ensures { IsBegun client.now server.now result }
+{
+    if !server.started {
+        return Begun::NoHandshake;
+    }
+    let bytes = Pieces::of(client.pieces.as_slice());
+    match beginning_of(bytes) {
+        Beginning::CutShort => Begun::NoPreface,
+        Beginning::Other => Begun::NotHttp2,
+        Beginning::Preface(rest) => Begun::Http2(FrameWalk::of(alloc, rest, client, server)),
+    }
+}
