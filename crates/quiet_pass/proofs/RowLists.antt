@@ -1,0 +1,224 @@
+-- Lists of rows: where one is replaced, where one is added, and where all are moved.
+use Rattle.std.proofs.Common.{◌≡◌, ◌≢◌, ℕ, zero, suc, ◌+◌, ◌-◌, ◌<◌, ◌==◌, nat_lt, Bool, true, false, List, [], ◌∷◌}
+use Rattle.std.proofs.Common.{◌++◌, length}
+use Rattle.std.proofs.Common.{if◌then◌else◌, slice_get, slice_index_or, slice_set, take, drop, Some, refl, sym, ap, ◌∙◌}
+use Rattle.std.proofs.Common.{subst, arith}
+use Rattle.std.specs.Bool.{OnTrue}
+use Rattle.std.proofs.lemmas.Bool.Decides.{nat_tests}
+use Rattle.std.proofs.lemmas.List.{append-nil, take_all, drop_all}
+use Rattle.std.proofs.lemmas.Option.{none-some, same_Some}
+use Rattle.audit_terms.specs.declared.sides.Sides.{Sides}
+use Rattle.audit_terms.specs.declared.frames.Frame.{Frame}
+use Rattle.audit_terms.specs.declared.streams.Stream.{Stream}
+use Rattle.audit_terms.specs.Life.{is_opening}
+use Rattle.audit_terms.specs.Stream.{idle_stream, stream_said, stream_after}
+use Rattle.audit_terms.specs.code.runs.Streams.{frame_step}
+use Rattle.quiet_pass.specs.declared.rows.Row.{Row}
+use Rattle.quiet_pass.specs.code.Standing.{AreUnshown}
+use Rattle.quiet_pass.specs.code.Rows.{stream_of, entry_in, AreRisingFrom, AreRising, IsPast, IsRowOf, IsRowAfter}
+use Rattle.quiet_pass.specs.code.Rows.{IsOpened}
+use Rattle.quiet_pass.specs.code.Rows.{HasMet, IsRowMoved, AreMoved}
+
+same-stream : (a b : ℕ) → a ≡ b → (a == b) ≡ true
+same-stream a b e = grind (arith, nat_tests)
+
+other-stream : (a b : ℕ) → (a ≡ b → ⊥) → (a == b) ≡ false
+other-stream a b e = grind (arith, nat_tests)
+
+-- ---- the row of a stream
+
+pub above-low : (low : ℕ) (rows : List Row) (at : ℕ) (row : Row) → AreRisingFrom low rows → slice_get rows at ≡ Some row
+    → low < row.stream
+above-low low [] at row h e = absurd (none-some row e)
+above-low low (one ∷ rows) zero row h e =
+    subst (λ (r : Row). low < r.stream) (same_Some one row e) h.0
+above-low low (one ∷ rows) (suc at) row h e =
+    let above = above-low one.stream rows at row h.1 e in omega (arith, above, h.0)
+
+pub entry-there : (low : ℕ) (rows : List Row) (at : ℕ) (row : Row) → AreRisingFrom low rows
+    → slice_get rows at ≡ Some row → entry_in rows row.stream ≡ stream_of row
+entry-there low [] at row h e = absurd (none-some row e)
+entry-there low (one ∷ rows) zero row h e =
+    let is = same_Some one row e in
+    rw (same-stream one.stream row.stream (ap (λ (r : Row). r.stream) is)) (ap stream_of is)
+entry-there low (one ∷ rows) (suc at) row h e =
+    let above = above-low one.stream rows at row h.1 e in
+    let differ : (one.stream ≡ row.stream → ⊥) = λ same. omega (arith, above, same) in
+    rw (other-stream one.stream row.stream differ) (entry-there one.stream rows at row h.1 e)
+
+-- what an index reads
+pub read-there : (rows : List Row) (at : ℕ) (row d : Row) → slice_get rows at ≡ Some row
+    → slice_index_or rows at d ≡ row
+read-there [] at row d e = absurd (none-some row e)
+read-there (one ∷ rows) zero row d e = same_Some one row e
+read-there (one ∷ rows) (suc at) row d e = read-there rows at row d e
+
+pub there-read : (rows : List Row) (at : ℕ) (d : Row) → at < length rows
+    → slice_get rows at ≡ Some (slice_index_or rows at d)
+there-read [] at d h = absurd (omega (arith, h))
+there-read (one ∷ rows) zero d h = refl
+there-read (one ∷ rows) (suc at) d h = there-read rows at d (omega (arith, h))
+
+-- ---- one row replaced
+
+module _ (row next : Row) (same : next.stream ≡ row.stream) where
+  pub set-there : (rows : List Row) (at : ℕ) → slice_get rows at ≡ Some row
+      → slice_get (slice_set rows at next) at ≡ Some next
+  set-there [] at e = absurd (none-some row e)
+  set-there (one ∷ rows) zero e = refl
+  set-there (one ∷ rows) (suc at) e = set-there rows at e
+
+  pub set-others : (rows : List Row) (at other : ℕ) → slice_get rows at ≡ Some row → other ≢ row.stream
+      → entry_in (slice_set rows at next) other ≡ entry_in rows other
+  set-others [] at other e differ = absurd (none-some row e)
+  set-others (one ∷ rows) zero other e differ =
+      let is = same_Some one row e in
+      let new : (next.stream == other) ≡ false = other-stream next.stream other (λ x. differ (sym x ∙ same)) in
+      let old : (one.stream == other) ≡ false =
+      other-stream one.stream other (λ x. differ (sym x ∙ ap (λ (r : Row). r.stream) is)) in
+      rw (new, old) refl
+  set-others (one ∷ rows) (suc at) other e differ =
+      ap (λ (entry : Stream). if one.stream == other then stream_of one else entry) (set-others rows at other e differ)
+
+  pub set-rising : (low : ℕ) (rows : List Row) (at : ℕ) → slice_get rows at ≡ Some row → AreRisingFrom low rows
+      → AreRisingFrom low (slice_set rows at next)
+  set-rising low [] at e h = absurd (none-some row e)
+  set-rising low (one ∷ rows) zero e h =
+      let is : one.stream ≡ next.stream = ap (λ (r : Row). r.stream) (same_Some one row e) ∙ sym same in
+      (subst (λ n. low < n) is h.0, subst (λ n. AreRisingFrom n rows) is h.1)
+  set-rising low (one ∷ rows) (suc at) e h = (h.0, set-rising one.stream rows at e h.1)
+
+pub row-met : (rows : List Row) (at : ℕ) (frame : Frame) (next : Row) (of : IsRowOf rows frame.stream at)
+    → IsRowAfter frame of.row next → AreRising rows → (initial : Sides ℕ)
+    → HasMet frame.stream initial frame false rows (slice_set rows at next)
+row-met rows at frame next of after rising initial =
+    let row = of.row in
+    let old : entry_in rows frame.stream ≡ stream_of row =
+    ap (entry_in rows) (sym of.same) ∙ entry-there 0 rows at row rising of.there in
+    let risen = set-rising row next after.same 0 rows at of.there rising in
+    let new : entry_in (slice_set rows at next) frame.stream ≡ stream_of next =
+    ap (entry_in (slice_set rows at next)) (sym of.same ∙ sym after.same)
+    ∙ entry-there 0 (slice_set rows at next) at next risen (set-there row next after.same rows at of.there) in
+    record {
+      opening = ap (λ (entry : Stream). is_opening frame.stream entry.life frame) old ∙ after.unopened;
+      said = subst (λ (entry : Stream). AreUnshown (stream_said frame.stream initial entry (frame_step frame)))
+          (sym old)
+          (after.said initial);
+      after = new ∙ after.after initial
+          ∙ ap (λ (entry : Stream). stream_after frame.stream initial entry (frame_step frame)) (sym old);
+      others = λ other differ.
+          set-others row next after.same rows at other of.there (λ x. differ (x ∙ of.same));
+      rising = risen;
+    }
+
+-- ---- a row added
+
+pub past-idle : (rows : List Row) (stream : ℕ) → IsPast rows stream → entry_in rows stream ≡ idle_stream
+past-idle [] stream h = refl
+past-idle (row ∷ rows) stream h =
+    let differ : (row.stream ≡ stream → ⊥) = λ e. omega (arith, h.0, e) in
+    rw (other-stream row.stream stream differ) (past-idle rows stream h.1)
+
+push-own : (rows : List Row) (row : Row) (stream : ℕ) → IsPast rows stream → row.stream ≡ stream
+    → entry_in (rows ++ row ∷ []) stream ≡ stream_of row
+push-own [] row stream h e = rw (same-stream row.stream stream e) refl
+push-own (one ∷ rows) row stream h e =
+    let differ : (one.stream ≡ stream → ⊥) = λ x. omega (arith, h.0, x) in
+    rw (other-stream one.stream stream differ) (push-own rows row stream h.1 e)
+
+push-others : (rows : List Row) (row : Row) (other : ℕ) → (row.stream ≡ other → ⊥)
+    → entry_in (rows ++ row ∷ []) other ≡ entry_in rows other
+push-others [] row other h = rw (other-stream row.stream other h) refl
+push-others (one ∷ rows) row other h =
+    ap (λ (entry : Stream). if one.stream == other then stream_of one else entry) (push-others rows row other h)
+
+push-rising : (low : ℕ) (rows : List Row) (row : Row) → AreRisingFrom low rows → IsPast rows row.stream
+    → low < row.stream → AreRisingFrom low (rows ++ row ∷ [])
+push-rising low [] row h p below = (below, tt)
+push-rising low (one ∷ rows) row h p below = (h.0, push-rising one.stream rows row h.1 p.1 p.0)
+
+past-above : (rows : List Row) (stream : ℕ) → IsPast rows stream → 0 < stream
+past-above [] stream h = h
+past-above (row ∷ rows) stream h = omega (arith, h.0)
+
+pub row-opened : (rows : List Row) (stream : ℕ) (initial : Sides ℕ) (frame : Frame) (row : Row) → IsPast rows stream
+    → IsOpened stream initial frame row → AreRising rows
+    → HasMet stream initial frame true rows (rows ++ row ∷ [])
+row-opened rows stream initial frame row past opened rising =
+    let old : entry_in rows stream ≡ idle_stream = past-idle rows stream past in
+    record {
+      opening = ap (λ (entry : Stream). is_opening stream entry.life frame) old ∙ opened.opening;
+      said = subst (λ (entry : Stream). AreUnshown (stream_said stream initial entry (frame_step frame))) (sym old)
+          opened.said;
+      after = push-own rows row stream past opened.same ∙ opened.after
+          ∙ ap (λ (entry : Stream). stream_after stream initial entry (frame_step frame)) (sym old);
+      others = λ other differ. push-others rows row other (λ e. differ (sym e ∙ opened.same));
+      rising = push-rising 0 rows row rising (subst (IsPast rows) (sym opened.same) past)
+          (subst (λ n. 0 < n) (sym opened.same) (past-above rows stream past));
+    }
+
+-- a stream past the last row of rows that rise
+pub past-last : (low : ℕ) (rows : List Row) (at : ℕ) (row : Row) (stream : ℕ) → AreRisingFrom low rows
+    → slice_get rows at ≡ Some row → at + 1 ≡ length rows → row.stream < stream → IsPast rows stream
+past-last low [] at row stream h e last below = absurd (none-some row e)
+past-last low (one ∷ []) zero row stream h e last below =
+    (subst (λ (r : Row). r.stream < stream) (sym (same_Some one row e)) below, past-none)
+  where
+    past-none : 0 < stream
+    past-none = omega (arith, below)
+past-last low (one ∷ []) (suc at) row stream h e last below = absurd (none-some row e)
+past-last low (one ∷ two ∷ rows) zero row stream h e last below = absurd (omega (arith, last))
+past-last low (one ∷ two ∷ rows) (suc at) row stream h e last below =
+    let rest = past-last one.stream (two ∷ rows) at row stream h.1 e (omega (arith, last)) below in
+    (omega (arith, h.1.0, rest.0), rest)
+
+pub past-last-told : (rows : List Row) (row : Row) (stream : ℕ) (told : Bool) → nat_lt row.stream stream ≡ told
+    → slice_get rows (length rows - 1) ≡ Some row → OnTrue told (AreRising rows → IsPast rows stream)
+past-last-told [] row stream true t e = absurd (none-some row e)
+past-last-told (one ∷ rows) row stream true t e = λ rising.
+    past-last 0 (one ∷ rows) (suc (length rows) - 1) row stream rising e (omega arith) (grind (arith, nat_tests))
+past-last-told rows row stream false t e = tt
+
+-- ---- all rows moved
+
+-- the first so many are moved, and the others are as they were
+abbrev pub AreMovedTo : (before after : Sides ℕ) → (count : ℕ) → (old new : List Row) → Type 0
+AreMovedTo before after zero old new = old ≡ new
+AreMovedTo before after (suc count) [] [] = Unit {0}
+AreMovedTo before after (suc count) (row ∷ rows) (next ∷ nexts) = IsRowMoved before after row next
+    × AreMovedTo before after count rows nexts
+AreMovedTo before after (suc count) _ _ = ⊥
+
+module _ (before after : Sides ℕ) where
+  pub moved-more : (count : ℕ) (old new : List Row) (row next : Row) → AreMovedTo before after count old new
+      → slice_get new count ≡ Some row → IsRowMoved before after row next
+      → AreMovedTo before after (suc count) old (slice_set new count next)
+  moved-more zero [] [] row next h e m = absurd (none-some row e)
+  moved-more zero (one ∷ old) [] row next h e m = absurd (none-some row e)
+  moved-more zero [] (two ∷ new) row next h e m = cc
+  moved-more zero (one ∷ old) (two ∷ new) row next h e m =
+      let first : two ≡ one = cc in
+      let rest : old ≡ new = cc in
+      (subst (λ (r : Row). IsRowMoved before after r next) (sym (same_Some two row e) ∙ first) m, rest)
+  moved-more (suc count) [] [] row next h e m = absurd (none-some row e)
+  moved-more (suc count) [] (two ∷ new) row next h e m = absurd h
+  moved-more (suc count) (one ∷ old) [] row next h e m = absurd h
+  moved-more (suc count) (one ∷ old) (two ∷ new) row next h e m =
+      (h.0, moved-more count old new row next h.1 e m)
+
+  pub moved-all : (count : ℕ) (old new : List Row) → AreMovedTo before after count old new → count ≡ length new
+      → AreMoved before after old new
+  moved-all zero [] [] h e = tt
+  moved-all zero (one ∷ old) [] h e = cc
+  moved-all zero old (two ∷ new) h e = absurd (omega (arith, e))
+  moved-all (suc count) [] [] h e = tt
+  moved-all (suc count) [] (two ∷ new) h e = absurd h
+  moved-all (suc count) (one ∷ old) [] h e = absurd h
+  moved-all (suc count) (one ∷ old) (two ∷ new) h e = (h.0, moved-all count old new h.1 (omega (arith, e)))
+
+pub written-back : (len : ℕ) (new old : List Row) → length new ≡ length old → len ≡ length old
+    → take len (new ++ drop (length new) old) ≡ new
+written-back len new old same whole =
+    let none : drop (length new) old ≡ [] = rw same (drop_all (length old) old (omega arith)) in
+    ap (λ l. take len (new ++ l)) none ∙ ap (take len) (append-nil new)
+    ∙ take_all len new (omega (arith, same, whole))

@@ -1,0 +1,63 @@
+-- The connection between two frames, as it is kept while nothing of it is shown. No public clause cites this.
+use Rattle.std.specs.Prelude.{◌≡◌, ℕ, ◌^◌, ◌<◌, false, pos, ◌+ℤ◌, ◌-ℤ◌, max, Bool, if◌then◌else◌, [], Option}
+use Rattle.audit_terms.specs.declared.sides.Side.{Side}
+use Rattle.audit_terms.specs.declared.frames.Frame.{Frame}
+use Rattle.audit_terms.specs.declared.items.Change.{Change}
+use Rattle.audit_terms.specs.declared.items.Item.{Item}
+use Rattle.audit_terms.specs.declared.connections.ConnectionState.{ConnectionState}
+use Rattle.audit_terms.specs.Frame.{promised_in, content_by, grant_to, grants_nothing}
+use Rattle.audit_terms.specs.Connection.{connection_said, connection_after, connection_window_said, credit_after}
+use Rattle.audit_terms.specs.Connection.{is_opened_by_headers, is_even_promise, opening_order_said}
+use Rattle.audit_terms.specs.Connection.{promise_order_said, push_said}
+use Rattle.quiet_pass.specs.declared.connections.QuietConnection.{QuietConnection}
+use Rattle.quiet_pass.specs.code.Standing.{AreUnshown}
+
+-- the connection that is kept so
+abbrev pub connection_of : QuietConnection → ConnectionState
+connection_of now = record {
+  credit = record { client = pos now.credit.client; server = pos now.credit.server };
+  opened = now.opened;
+  promised = now.promised;
+  push = now.push;
+  limit = now.limit;
+}
+
+-- a frame with what the connection meets beside it
+abbrev pub item_of : Frame → (opens : Bool) → Option Change → Item
+item_of frame opens change = record { frame = frame; opens = opens; change = change }
+
+-- the connection after a frame: nothing of that is shown
+pub record IsConnectionAfter (frame : Frame) (opens : Bool) (change : Option Change)
+    (old new : QuietConnection) : Type 0 where
+  pub said : AreUnshown (connection_said (connection_of old) (item_of frame opens change))
+  pub after : connection_of new ≡ connection_after (connection_of old) (item_of frame opens change)
+
+-- a credit after a frame, where some is left before and after it, and no more than the largest
+pub record IsCountedCredit (d : Side) (frame : Frame) (before after : ℕ) : Type 0 where
+  pub moved : pos after ≡ pos before +ℤ (pos (grant_to d 0 frame) -ℤ pos (content_by d frame))
+  pub some : 0 < before
+  pub left : 0 < after
+  pub within : after < 2 ^ 31
+
+-- a credit after a frame: nothing of that is shown
+pub record IsCreditAfter (d : Side) (frame : Frame) (before after : ℕ) : Type 0 where
+  pub moved : pos after ≡ credit_after d (pos before) frame
+  pub said : AreUnshown (connection_window_said d (pos before) frame)
+
+-- the frame moves no credit of side d
+pub record IsUnmoved (d : Side) (frame : Frame) : Type 0 where
+  pub grant : grant_to d 0 frame ≡ 0
+  pub nothing : grants_nothing d 0 frame ≡ false
+  pub content : content_by d frame ≡ 0
+
+-- the greatest stream opened by the client after a frame: nothing of that is shown
+pub record IsOpenedAfter (frame : Frame) (opens : Bool) (before after : ℕ) : Type 0 where
+  pub opened : (change : Option Change)
+      → after ≡ (if is_opened_by_headers (item_of frame opens change) then max before frame.stream else before)
+  pub said : (change : Option Change) → opening_order_said before (item_of frame opens change) ≡ []
+
+-- the greatest even stream promised by the server after a frame: nothing of that is shown
+pub record IsPromisedAfter (frame : Frame) (push before after : ℕ) : Type 0 where
+  pub promised : after ≡ (if is_even_promise frame then max before (promised_in frame.body) else before)
+  pub order_said : promise_order_said before frame ≡ []
+  pub allowed : push_said push frame ≡ []

@@ -1,0 +1,26 @@
+-- The SETTINGS that each side sent, as they are kept. No public clause cites this.
+use Rattle.std.specs.Prelude.{◌≡◌, List, Option}
+use Rattle.audit_terms.specs.declared.sides.Side.{Side}
+use Rattle.audit_terms.specs.declared.sides.Side.TheVariants.{Client, Server}
+use Rattle.audit_terms.specs.declared.settings.Settings.{Settings}
+use Rattle.audit_terms.specs.declared.frames.Frame.{Frame}
+use Rattle.audit_terms.specs.declared.items.Change.{Change}
+use Rattle.audit_terms.specs.InForce.{InForce, change_of, in_force_after}
+use Rattle.quiet_pass.specs.declared.pending.Pending.{Pending}
+
+-- all SETTINGS that a side sent
+abbrev pub sent_by : Side → Pending → List Settings
+sent_by Client pending = pending.client.items
+sent_by Server pending = pending.server.items
+
+-- what is kept of the settings that stand
+pub record IsPending (now : InForce) (pending : Pending) : Type 0 where
+  pub client : pending.client.items ≡ now.sent.client
+  pub server : pending.server.items ≡ now.sent.server
+  pub by_client : pending.taken.client ≡ now.paired.client
+  pub by_server : pending.taken.server ≡ now.paired.server
+
+-- the change that a frame brings, and what is kept after it
+pub record IsBrought (now : InForce) (frame : Frame) (change : Option Change) (pending : Pending) : Type 0 where
+  pub brings : change_of now frame ≡ change
+  pub kept : IsPending (in_force_after now frame) pending

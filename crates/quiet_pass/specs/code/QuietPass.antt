@@ -1,0 +1,69 @@
+-- What the machine that meets a connection's frames stands for, for as long as nothing is shown. The contract of its
+-- `meet` cites this.
+use Rattle.std.specs.Prelude.{◌≡◌, ℕ, ◌<◌, Bool, false, ◌&&◌, List, [], Option, is_none}
+use Rattle.std.specs.List.{AllByRecursion}
+use Rattle.audit_terms.specs.declared.frames.Frame.{Frame}
+use Rattle.audit_terms.specs.declared.items.Change.{Change}
+use Rattle.audit_terms.specs.declared.streams.Stream.{Stream}
+use Rattle.audit_terms.specs.Frame.{is_ack, settings_in}
+use Rattle.audit_terms.specs.Life.{is_opening}
+use Rattle.audit_terms.specs.InForce.{InForce}
+use Rattle.audit_terms.specs.Pass.{PassState, pass_start, next, said, full_from}
+use Rattle.audit_terms.specs.code.runs.States.{state_after}
+use Rattle.audit_terms.specs.code.runs.Streams.{initial_after}
+use Rattle.quiet_pass.specs.declared.passes.QuietPass.{QuietPass}
+use Rattle.quiet_pass.specs.code.Standing.{AreUnshown}
+use Rattle.quiet_pass.specs.code.LastFrame.{last_of}
+use Rattle.quiet_pass.specs.code.Pending.{IsPending, IsBrought}
+use Rattle.quiet_pass.specs.code.Connection.{connection_of, IsConnectionAfter}
+use Rattle.quiet_pass.specs.code.Streams.{AreStreams, AreMet, AreAllMoved}
+
+-- the machine stands for a state of the pass
+pub record StandsFor (machine : QuietPass) (state : PassState) : Type 0 where
+  pub client : machine.last.client ≡ last_of state.previous.client
+  pub server : machine.last.server ≡ last_of state.previous.server
+  pub pending : IsPending state.in_force machine.pending
+  pub initial : machine.initial ≡ state.in_force.initial
+  pub connection : connection_of machine.connection ≡ state.connection
+  pub streams : AreStreams state.streams machine.streams
+
+-- streams other than 0
+abbrev pub AreNamed : List ℕ → Type 0
+AreNamed streams = AllByRecursion (λ stream. 0 < stream) streams
+
+-- the frame is no SETTINGS and no acknowledgement
+pub record IsPlain (frame : Frame) : Type 0 where
+  pub ack : is_ack frame.body ≡ false
+  pub settings : settings_in frame.body ≡ []
+
+-- the initial windows of a change are in force, and all rows are moved: nothing of that is shown
+pub record IsBroughtInto (change : Option Change) (old new : QuietPass) : Type 0 where
+  pub initial : new.initial ≡ initial_after change old.initial
+  pub moved : AreAllMoved old.initial new.initial old.streams new.streams
+  pub connection : new.connection ≡ old.connection
+  pub last : new.last ≡ old.last
+  pub pending : new.pending ≡ old.pending
+
+-- the settings, the connection and the streams have met a frame: nothing of that is shown
+pub record IsRestMet (frame : Frame) (old new : QuietPass) : Type 0 where
+  pub change : Option Change
+  pub opens : Bool
+  pub brought : (now : InForce) → IsPending now old.pending → IsBrought now frame change new.pending
+  pub answered : (is_ack frame.body && is_none change) ≡ false
+  pub connection : IsConnectionAfter frame opens change old.connection new.connection
+  pub opening : (streams : ℕ → Stream) → AreStreams streams old.streams
+      → is_opening frame.stream (streams frame.stream).life frame ≡ opens
+  pub streams : (streams : ℕ → Stream) → AreStreams streams old.streams
+      → AreMet old.initial frame change streams new.streams
+  pub initial : new.initial ≡ initial_after change old.initial
+  pub last : new.last ≡ old.last
+
+-- a frame shows nothing, and the machine stands for the state after it
+pub record IsQuietStep (state : PassState) (frame : Frame) (machine : QuietPass) : Type 0 where
+  pub shown : (streams : List ℕ) → AreNamed streams → AreUnshown (said streams state frame)
+  pub stands : StandsFor machine (next state frame)
+
+-- the frames show nothing, whichever streams are looked at, and the machine stands for the state after them
+pub record IsQuietAfter (frames : List Frame) (machine : QuietPass) : Type 0 where
+  pub shown : (streams : List ℕ) → AreNamed streams → AreUnshown (full_from streams pass_start frames)
+  pub stands : StandsFor machine (state_after frames)

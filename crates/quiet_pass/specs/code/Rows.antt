@@ -1,0 +1,88 @@
+-- The rows of the streams that were opened. No public clause cites this.
+use Rattle.std.specs.Prelude.{◌≡◌, ◌≢◌, ℕ, ◌<◌, Bool, true, false, ◌==◌, if◌then◌else◌, List, [], ◌∷◌, Some}
+use Rattle.std.specs.Prelude.{slice_get}
+use Rattle.audit_terms.specs.declared.sides.Sides.{Sides}
+use Rattle.audit_terms.specs.declared.frames.Frame.{Frame}
+use Rattle.audit_terms.specs.declared.lives.StreamLife.{StreamLife}
+use Rattle.audit_terms.specs.declared.streams.Stream.{Stream}
+use Rattle.audit_terms.specs.Life.{idle_life, is_opening}
+use Rattle.audit_terms.specs.Stream.{idle_stream, stream_said, stream_after}
+use Rattle.audit_terms.specs.code.runs.Streams.{frame_step}
+use Rattle.stream_credit.specs.code.QuietStream.{opened_of, has_ended, window_of, IsMovedBy}
+use Rattle.quiet_pass.specs.declared.rows.Row.{Row}
+use Rattle.quiet_pass.specs.code.Standing.{AreUnshown}
+
+-- the opening and the ends of a row's stream
+abbrev pub life_of : Row → StreamLife
+life_of row = record {
+  opened = opened_of row.opened;
+  ended = record { client = has_ended row.client; server = has_ended row.server };
+}
+
+-- the stream of a row
+abbrev pub stream_of : Row → Stream
+stream_of row = record {
+  life = life_of row;
+  window = record { client = window_of row.client; server = window_of row.server };
+}
+
+-- a stream by its identifier: one without a row is not opened
+abbrev pub entry_in : List Row → (stream : ℕ) → Stream
+entry_in [] stream = idle_stream
+entry_in (row ∷ rows) stream = if row.stream == stream then stream_of row else entry_in rows stream
+
+-- the identifiers rise, all past the first given
+abbrev pub AreRisingFrom : (low : ℕ) → List Row → Type 0
+AreRisingFrom low [] = Unit {0}
+AreRisingFrom low (row ∷ rows) = (low < row.stream) × AreRisingFrom row.stream rows
+
+abbrev pub AreRising : List Row → Type 0
+AreRising rows = AreRisingFrom 0 rows
+
+-- each row's identifier is below this one, which is not 0
+abbrev pub IsPast : List Row → (stream : ℕ) → Type 0
+IsPast [] stream = 0 < stream
+IsPast (row ∷ rows) stream = (row.stream < stream) × IsPast rows stream
+
+-- the row of a stream stands there
+pub record IsRowOf (rows : List Row) (stream at : ℕ) : Type 0 where
+  pub row : Row
+  pub there : slice_get rows at ≡ Some row
+  pub same : row.stream ≡ stream
+
+-- a row after a frame on its stream: nothing of that is shown
+pub record IsRowAfter (frame : Frame) (old new : Row) : Type 0 where
+  pub same : new.stream ≡ old.stream
+  pub unopened : is_opening frame.stream (life_of old) frame ≡ false
+  pub said : (initial : Sides ℕ) → AreUnshown (stream_said frame.stream initial (stream_of old) (frame_step frame))
+  pub after : (initial : Sides ℕ) → stream_of new
+      ≡ stream_after frame.stream initial (stream_of old) (frame_step frame)
+
+-- the row of a stream that a frame opens: nothing of that is shown
+pub record IsOpened (stream : ℕ) (initial : Sides ℕ) (frame : Frame) (row : Row) : Type 0 where
+  pub same : row.stream ≡ stream
+  pub opening : is_opening stream idle_life frame ≡ true
+  pub said : AreUnshown (stream_said stream initial idle_stream (frame_step frame))
+  pub after : stream_of row ≡ stream_after stream initial idle_stream (frame_step frame)
+
+-- a stream meets a frame, which opens it or not, by the rows before it and after it: nothing of that is shown, and no
+-- other stream changes
+pub record HasMet (stream : ℕ) (initial : Sides ℕ) (frame : Frame) (opens : Bool) (old new : List Row) : Type 0 where
+  pub opening : is_opening stream (entry_in old stream).life frame ≡ opens
+  pub said : AreUnshown (stream_said stream initial (entry_in old stream) (frame_step frame))
+  pub after : entry_in new stream ≡ stream_after stream initial (entry_in old stream) (frame_step frame)
+  pub others : (other : ℕ) → other ≢ stream → entry_in new other ≡ entry_in old other
+  pub rising : AreRising new
+
+-- a row after the initial windows in force go from some to others: nothing of that is shown
+pub record IsRowMoved (before after : Sides ℕ) (old new : Row) : Type 0 where
+  pub same : new.stream ≡ old.stream
+  pub opened : new.opened ≡ old.opened
+  pub client : IsMovedBy before.client after.client old.client new.client
+  pub server : IsMovedBy before.server after.server old.server new.server
+
+-- each row after that
+abbrev pub AreMoved : (before after : Sides ℕ) → (old new : List Row) → Type 0
+AreMoved before after [] [] = Unit {0}
+AreMoved before after (row ∷ rows) (next ∷ nexts) = IsRowMoved before after row next × AreMoved before after rows nexts
+AreMoved before after _ _ = ⊥

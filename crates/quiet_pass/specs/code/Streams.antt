@@ -1,0 +1,61 @@
+-- All streams, as they are kept in rows. No public clause cites this.
+use Rattle.std.specs.Prelude.{◌≡◌, ℕ, ◌%◌, ◌<◌, Bool, if◌then◌else◌, Option, Some, None, option_map}
+use Rattle.audit_terms.specs.declared.sides.Sides.{Sides}
+use Rattle.audit_terms.specs.declared.frames.Frame.{Frame}
+use Rattle.audit_terms.specs.declared.items.Change.{Change}
+use Rattle.audit_terms.specs.declared.items.Step.{Step}
+use Rattle.audit_terms.specs.declared.streams.Stream.{Stream}
+use Rattle.audit_terms.specs.Frame.{meets}
+use Rattle.audit_terms.specs.Life.{is_opening}
+use Rattle.audit_terms.specs.Stream.{stream_said, stream_after}
+use Rattle.stream_credit.specs.code.Silent.{moved, IsSilent}
+use Rattle.quiet_pass.specs.declared.streams.Streams.{Streams}
+use Rattle.quiet_pass.specs.code.Standing.{AreUnshown}
+use Rattle.quiet_pass.specs.code.Rows.{entry_in, AreRising, AreMoved}
+
+-- the rows are those of the streams: of the odd ones, which the client opens, and of the even ones, which the server
+-- promises (RFC 9113, 5.1.1)
+pub record AreStreams (streams : ℕ → Stream) (kept : Streams) : Type 0 where
+  pub odd : (stream : ℕ) → stream % 2 ≡ 1 → streams stream ≡ entry_in kept.opened.items stream
+  pub even : (stream : ℕ) → stream % 2 ≡ 0 → 0 < stream → streams stream ≡ entry_in kept.promised.items stream
+  pub opened : AreRising kept.opened.items
+  pub promised : AreRising kept.promised.items
+
+-- what a stream meets at a frame that brings a change, or none
+abbrev pub step_at : Frame → Option Change → (stream : ℕ) → Step
+step_at frame change stream = record {
+  number = frame.number;
+  frame = (if meets stream frame then Some frame else None);
+  change = change;
+}
+
+-- a stream before and after such a step: nothing of that is shown
+pub record IsStep (stream : ℕ) (initial : Sides ℕ) (step : Step) (entry next : Stream) : Type 0 where
+  pub said : AreUnshown (stream_said stream initial entry step)
+  pub after : next ≡ stream_after stream initial entry step
+
+-- the streams after a frame that brings a change, or none: nothing of that is shown
+pub record AreMet (initial : Sides ℕ) (frame : Frame) (change : Option Change) (streams : ℕ → Stream)
+    (kept : Streams) : Type 0 where
+  pub said : (stream : ℕ) → 0 < stream
+      → AreUnshown (stream_said stream initial (streams stream) (step_at frame change stream))
+  pub after : AreStreams (λ stream. stream_after stream initial (streams stream) (step_at frame change stream)) kept
+
+-- the same of a frame on a stream, which opens it or not
+pub record AreMetOn (initial : Sides ℕ) (frame : Frame) (opens : Bool) (streams : ℕ → Stream)
+    (kept : Streams) : Type 0 where
+  pub opening : is_opening frame.stream (streams frame.stream).life frame ≡ opens
+  pub met : AreMet initial frame None streams kept
+
+-- all rows after the initial windows in force go from some to others
+pub record AreAllMoved (before after : Sides ℕ) (old new : Streams) : Type 0 where
+  pub opened : AreMoved before after old.opened.items new.opened.items
+  pub promised : AreMoved before after old.promised.items new.promised.items
+
+-- a stream after that
+pub record IsEntryMoved (before after : Sides ℕ) (entry next : Stream) : Type 0 where
+  pub life : next.life ≡ entry.life
+  pub client : next.window.client ≡ option_map (moved before.client after.client) entry.window.client
+  pub server : next.window.server ≡ option_map (moved before.server after.server) entry.window.server
+  pub client_silent : IsSilent entry.window.client next.window.client
+  pub server_silent : IsSilent entry.window.server next.window.server

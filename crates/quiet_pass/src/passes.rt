@@ -1,0 +1,192 @@
+//! The machine that meets a connection's frames one by one.
+
+ghost use Rattle.std.specs.Prelude.{◌≡◌, ◌<◌, ◌&&◌, if◌then◌else◌, [], ◌∷◌, ◌++◌, List, Option, is_none, IfOk};
+ghost use Rattle.std.specs.Bool.{OnTrue, OnFalse};
+ghost use Rattle.audit_terms.specs.declared.frames.Frame.{Frame as FrameTerm};
+ghost use Rattle.audit_terms.specs.Pass.{PassState};
+ghost use Rattle.audit_terms.specs.Side.{is_side};
+ghost use Rattle.audit_terms.specs.Frame.{is_ack};
+ghost use Rattle.quiet_pass.specs.code.LastFrame.{last_of};
+ghost use Rattle.quiet_pass.specs.code.QuietPass.{StandsFor, IsQuietStep, IsQuietAfter, IsPlain, IsRestMet};
+ghost use Rattle.quiet_pass.specs.code.QuietPass.{IsBroughtInto};
+
+use crate::connections::QuietConnection;
+use crate::last_frames::LastFrame;
+use crate::pending::Pending;
+use crate::streams::Streams;
+use audit_terms::{Body, Change, FIRST_WINDOW, Frame, Side, Sides, initial_after};
+use std::alloc::{AllocError, Global};
+
+/// The most changes that move windows: each goes over all rows, so that frames cost a bounded time each.
+const MOST_MOVES: u32 = 64;
+
+/// A connection between two of its frames, for as long as nothing of it is shown where credits are not shown.
+#[derive(Drop)]
+pub struct QuietPass {
+    /// What is kept of the last frame of each side.
+    last: Sides<LastFrame>,
+    /// The SETTINGS sent.
+    pending: Pending,
+    /// The initial windows in force, in bytes.
+    initial: Sides<u32>,
+    connection: QuietConnection,
+    streams: Streams,
+    /// How many more changes may move windows.
+    moves_left: u32,
+}
+
+impl QuietPass {
+    /// A connection before any frame.
+    pub fn begin(alloc: Global) -> Self
+        ensures { IsQuietAfter [] result }
+    {
+        QuietPass {
+            last: Sides {
+                client: LastFrame::Missing,
+                server: LastFrame::Missing,
+            },
+            pending: Pending::new(alloc),
+            initial: Sides {
+                client: FIRST_WINDOW,
+                server: FIRST_WINDOW,
+            },
+            connection: QuietConnection::start(),
+            streams: Streams::new(alloc),
+            moves_left: MOST_MOVES,
+        }
+    }
+
+    /// Meets the next frame, and answers whether nothing of it is shown where credits are not shown. Where something
+    /// may be shown it gives up: the answer is no, and the machine stands for nothing any more.
+    ///
+    /// # Errors
+    ///
+    /// Without memory for a stream or for settings; the machine then stands for nothing any more.
+    pub fn meet(&mut self, frame: &Frame) -> Result<bool, AllocError>
+        ensures { IfOk result (λ met. OnTrue met ((frames : List FrameTerm) → IsQuietAfter frames self.old
+            → IsQuietAfter (frames ++ frame.now ∷ []) self.new)) }
+    {
+        let is_quiet = self.step(frame)?;
+        Ok(is_quiet)
+    }
+
+    /// The same, by the states of the pass.
+    fn step(&mut self, frame: &Frame) -> Result<bool, AllocError>
+        ensures { IfOk result (λ met. OnTrue met ((state : PassState) → StandsFor self.old state
+            → IsQuietStep state frame.now self.new)) }
+    {
+        if !self.last.of(frame.side).is_followed(frame) {
+            return Ok(false);
+        }
+        let is_quiet = self.meet_rest(frame)?;
+        self.last = last_after(&self.last, frame);
+        Ok(is_quiet)
+    }
+
+    /// Meets a frame beside what it shows by itself.
+    fn meet_rest(&mut self, frame: &Frame) -> Result<bool, AllocError>
+        ensures { IfOk result (λ met. OnTrue met (IsRestMet frame.now self.old self.new)) }
+    {
+        if is_of_settings(frame) {
+            return self.meet_settings(frame);
+        }
+        if frame.stream == 0 {
+            return Ok(self.meet_connection(frame));
+        }
+        self.meet_stream(frame)
+    }
+
+    /// The same of a frame on a stream.
+    fn meet_stream(&mut self, frame: &Frame) -> Result<bool, AllocError>
+        requires streamed { 0 < frame.now.stream }
+        requires plain { IsPlain frame.now }
+        ensures { IfOk result (λ met. OnTrue met (IsRestMet frame.now self.old self.new)) }
+    {
+        let Some(opens) = self.streams.meet(&self.initial, frame)? else {
+            return Ok(false);
+        };
+        if opens || frame.is_server_promise() {
+            let is_quiet = self.connection.meet(frame, opens, &None);
+            return Ok(is_quiet);
+        }
+        let is_quiet = self.connection.meet_plain(frame);
+        Ok(is_quiet)
+    }
+
+    /// The same of a frame on stream 0.
+    fn meet_connection(&mut self, frame: &Frame) -> bool
+        requires streamed { frame.now.stream ≡ 0 }
+        requires plain { IsPlain frame.now }
+        ensures { OnTrue result (IsRestMet frame.now self.old self.new) }
+    {
+        if frame.is_server_promise() {
+            return false;
+        }
+        self.connection.meet_plain(frame)
+    }
+
+    /// The same of SETTINGS and acknowledgements.
+    fn meet_settings(&mut self, frame: &Frame) -> Result<bool, AllocError>
+        ensures { IfOk result (λ met. OnTrue met (IsRestMet frame.now self.old self.new)) }
+    {
+        let change = self.pending.meet(frame)?;
+        if frame.stream != 0 || is_unmatched(frame, &change) || frame.is_server_promise() {
+            return Ok(false);
+        }
+        if !self.connection.meet(frame, false, &change) {
+            return Ok(false);
+        }
+        let is_quiet = self.bring(&change);
+        Ok(is_quiet)
+    }
+
+    /// Brings the initial windows of a change into force, and answers whether nothing of that may be shown (RFC 9113,
+    /// 6.9.2).
+    fn bring(&mut self, change: &Option<Change>) -> bool
+        ensures { OnTrue result (IsBroughtInto change.now self.old self.new) }
+    {
+        let after = initial_after(change, &self.initial);
+        if after.client == self.initial.client && after.server == self.initial.server {
+            return true;
+        }
+        if self.moves_left == 0 || !self.streams.move_windows(&self.initial, &after) {
+            return false;
+        }
+        self.moves_left -= 1;
+        self.initial = after;
+        true
+    }
+}
+
+/// Is it a SETTINGS or an acknowledgement? Other frames bring no change.
+fn is_of_settings(frame: &Frame) -> bool
+    ensures { OnFalse result (IsPlain frame.now) }
+{
+    matches!(frame.body, Body::Settings(_) | Body::SettingsAck)
+}
+
+/// Is it an acknowledgement that takes no SETTINGS (RFC 9113, 6.5.3)?
+fn is_unmatched(frame: &Frame, change: &Option<Change>) -> bool
+    ensures { result ≡ (is_ack frame.now.body && is_none change.now) }
+{
+    frame.body.is_ack() && change.is_none()
+}
+
+/// What is kept of the last frame of each side after a frame.
+fn last_after(last: &Sides<LastFrame>, frame: &Frame) -> Sides<LastFrame>
+    ensures client { result.client ≡ (if is_side Side.Client frame.now.side then last_of (Option.Some frame.now)
+        else last.now.client) }
+    ensures server { result.server ≡ (if is_side Side.Server frame.now.side then last_of (Option.Some frame.now)
+        else last.now.server) }
+{
+    match frame.side {
+        Side::Client => Sides {
+            client: LastFrame::of(frame),
+            server: last.server,
+        },
+        Side::Server => Sides {
+            client: last.client,
+            server: LastFrame::of(frame),
+        },
+    }
+}

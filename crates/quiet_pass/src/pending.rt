@@ -1,0 +1,99 @@
+//! The SETTINGS that each side sent, and how many of them are acknowledged (RFC 9113, 6.5.3).
+
+ghost use Rattle.std.specs.Prelude.{◌≡◌, true, [], slice_get, IfOk};
+ghost use Rattle.audit_terms.specs.declared.sides.Side.{Side as SideTerm};
+ghost use Rattle.audit_terms.specs.Side.{other};
+ghost use Rattle.audit_terms.specs.Sides.{side_of};
+ghost use Rattle.audit_terms.specs.Frame.{is_ack};
+ghost use Rattle.audit_terms.specs.Change.{change_by};
+ghost use Rattle.audit_terms.specs.InForce.{InForce};
+ghost use Rattle.quiet_pass.specs.code.Pending.{sent_by, IsPending, IsBrought};
+
+use audit_terms::{Body, Change, Frame, PackedSettings, Settings, Side, Sides};
+use std::alloc::{AllocError, Global};
+
+/// The SETTINGS of a connection so far: a few, as connections go.
+#[derive(Drop)]
+pub(crate) struct Pending {
+    /// All that the client sent.
+    client: Vec<PackedSettings>,
+    /// All that the server sent.
+    server: Vec<PackedSettings>,
+    /// How many acknowledgements of each side took one of the other side's.
+    taken: Sides<usize>,
+}
+
+impl Pending {
+    pub(crate) fn new(alloc: Global) -> Self
+        ensures client { result.client.items ≡ [] }
+        ensures server { result.server.items ≡ [] }
+        ensures taken { (d : SideTerm) → side_of d result.taken ≡ 0 }
+    {
+        Pending {
+            client: Vec::new(alloc),
+            server: Vec::new(alloc),
+            taken: Sides {
+                client: 0,
+                server: 0,
+            },
+        }
+    }
+
+    /// What the next acknowledgement of a side takes.
+    fn next(&self, side: Side) -> Option<Settings>
+        ensures { result ≡ slice_get (sent_by (other side) self.now) (side_of side self.now.taken) }
+    {
+        let sent = match side {
+            Side::Client => &self.server,
+            Side::Server => &self.client,
+        };
+        match sent.get(self.taken.of(side)) {
+            Some(settings) => Some(settings.settings()),
+            None => None,
+        }
+    }
+
+    /// The change that a frame brings, if it is an acknowledgement that takes a SETTINGS; and what stands after it.
+    pub(crate) fn meet(&mut self, frame: &Frame) -> Result<Option<Change>, AllocError>
+        ensures { IfOk result (λ change. (now : InForce) → IsPending now self.old
+            → IsBrought now frame.now change self.new) }
+    {
+        match frame.body {
+            Body::Settings(settings) => {
+                match frame.side {
+                    Side::Client => self.client.push(settings)?,
+                    Side::Server => self.server.push(settings)?,
+                }
+                Ok(None)
+            }
+            Body::SettingsAck => Ok(self.take(frame)),
+            _ => Ok(None),
+        }
+    }
+
+    /// The same of an acknowledgement.
+    fn take(&mut self, frame: &Frame) -> Option<Change>
+        requires { is_ack frame.now.body ≡ true }
+        ensures { (now : InForce) → IsPending now self.old → IsBrought now frame.now result self.new }
+    {
+        let settings = self.next(frame.side)?;
+        match frame.side {
+            Side::Client => self.taken.client += 1,
+            Side::Server => self.taken.server += 1,
+        }
+        Some(change_by(frame, settings))
+    }
+}
+
+/// What an acknowledgement brings into force that answers these settings.
+fn change_by(frame: &Frame, settings: Settings) -> Change
+    ensures { result ≡ change_by frame.now settings }
+{
+    Change {
+        number: frame.number,
+        side: frame.side,
+        initial: settings.initial,
+        max_frame: settings.max_frame,
+        push: settings.push,
+    }
+}

@@ -1,0 +1,191 @@
+//! The streams that were opened, of each a row: in the order of their identifiers, which is that of their opening
+//! (RFC 9113, 5.1.1).
+
+ghost use Rattle.std.specs.Prelude.{◌≡◌, ℕ, true, false, IfOk};
+ghost use Rattle.std.specs.Bool.{OnTrue};
+ghost use Rattle.std.specs.Option.{ForSome};
+ghost use Rattle.audit_terms.specs.declared.sides.Sides.{Sides as SidesTerm};
+ghost use Rattle.quiet_pass.specs.code.Rows.{life_of, IsRowOf, IsRowAfter, IsOpened, AreRising, HasMet};
+ghost use Rattle.quiet_pass.specs.code.Rows.{AreMoved, IsPast, IsRowMoved};
+
+use crate::standings::{has_ended, moved, opening_standing, standing_after};
+use audit_terms::{Frame, Side, Sides, StreamLife};
+use std::alloc::AllocError;
+
+/// A stream that is opened, between two frames: 16 bytes.
+#[derive(Clone, Copy)]
+pub(crate) struct Row {
+    /// Its identifier.
+    pub(crate) stream: u32,
+    /// The number of the frame that opened it, which is not 0.
+    pub(crate) opened: u32,
+    /// How the client stands.
+    pub(crate) client: u32,
+    /// How the server stands.
+    pub(crate) server: u32,
+}
+
+const _: () = prove!(size_of::<Row>() == 16);
+
+impl Row {
+    /// Its opening and its ends.
+    fn life(&self) -> StreamLife
+        ensures { result ≡ life_of self.now }
+    {
+        StreamLife {
+            opened: if self.opened == 0 {
+                None
+            } else {
+                Some(self.opened)
+            },
+            ended: Sides {
+                client: has_ended(self.client),
+                server: has_ended(self.server),
+            },
+        }
+    }
+
+    /// The row after a frame on its stream, if nothing of that is shown.
+    #[inline]
+    fn after(&self, frame: &Frame) -> Option<Row>
+        requires { frame.now.stream ≡ self.now.stream }
+        ensures { ForSome result (IsRowAfter frame.now self.now) }
+    {
+        let life = self.life();
+        if self.opened == 0
+            || life.is_not_opened(self.stream, frame)
+            || life.is_after_end(frame)
+            || frame.body.is_zero_grant()
+        {
+            return None;
+        }
+        Some(Row {
+            stream: self.stream,
+            opened: self.opened,
+            client: standing_after(self.client, Side::Client, frame)?,
+            server: standing_after(self.server, Side::Server, frame)?,
+        })
+    }
+
+    /// The row of a stream that a frame opens, if it does and nothing but credits is shown of that.
+    pub(crate) fn opened(stream: u32, initial: &Sides<u32>, frame: &Frame) -> Option<Row>
+        ensures { ForSome result (IsOpened stream initial.now frame.now) }
+    {
+        let idle = StreamLife::idle();
+        if frame.number == 0
+            || !idle.is_opening(stream, frame)
+            || idle.is_not_opened(stream, frame)
+        {
+            return None;
+        }
+        let client_ends = frame.is_last_of(Side::Client, stream);
+        let server_ends = frame.is_last_of(Side::Server, stream);
+        Some(Row {
+            stream,
+            opened: frame.number,
+            client: opening_standing(initial.client, client_ends)?,
+            server: opening_standing(initial.server, server_ends)?,
+        })
+    }
+
+    /// The row after a change of the initial windows in force, if nothing of that is shown (RFC 9113, 6.9.2).
+    fn moved(&self, before: &Sides<u32>, after: &Sides<u32>) -> Option<Row>
+        ensures { ForSome result (IsRowMoved before.now after.now self.now) }
+    {
+        Some(Row {
+            stream: self.stream,
+            opened: self.opened,
+            client: moved(self.client, before.client, after.client)?,
+            server: moved(self.server, before.server, after.server)?,
+        })
+    }
+}
+
+/// Where the row of a stream stands. Clients mostly open every odd stream, so a guess finds most.
+#[inline]
+pub(crate) fn find(rows: &[Row], stream: u32) -> Option<usize>
+    ensures { ForSome result (IsRowOf rows.now stream) }
+{
+    let Some(first) = rows.first() else {
+        return None;
+    };
+    let guess = stream.wrapping_sub(first.stream) as usize / 2;
+    match rows.get(guess) {
+        Some(row) if row.stream == stream => Some(guess),
+        _ => search(rows, stream),
+    }
+}
+
+/// The same by halving.
+fn search(rows: &[Row], stream: u32) -> Option<usize>
+    ensures { ForSome result (IsRowOf rows.now stream) }
+{
+    let at = rows.partition_point(|row| row.stream < stream);
+    match rows.get(at) {
+        Some(row) if row.stream == stream => Some(at),
+        _ => None,
+    }
+}
+
+/// Meets a frame on the stream of a row, and answers whether nothing of that may be shown.
+#[inline]
+pub(crate) fn meet(rows: &mut Vec<Row>, at: usize, frame: &Frame) -> bool
+    requires { IsRowOf rows.old.items frame.now.stream at }
+    ensures { OnTrue result (AreRising rows.old.items → (initial : SidesTerm ℕ)
+        → HasMet frame.now.stream initial frame.now false rows.old.items rows.new.items) }
+{
+    let row = rows[at];
+    match row.after(frame) {
+        Some(next) => {
+            rows[at] = next;
+            true
+        }
+        None => false,
+    }
+}
+
+/// Is a stream past those of all rows?
+pub(crate) fn is_past(rows: &[Row], stream: u32) -> bool
+    ensures { OnTrue result (AreRising rows.now → IsPast rows.now stream) }
+{
+    match rows.last() {
+        Some(row) => row.stream < stream,
+        None => 0 < stream,
+    }
+}
+
+/// Opens a stream past those of all rows by a frame, if it does and nothing but credits is shown of that; and answers
+/// whether it did.
+pub(crate) fn open(
+    rows: &mut Vec<Row>,
+    stream: u32,
+    initial: &Sides<u32>,
+    frame: &Frame,
+) -> Result<bool, AllocError>
+    ensures { IfOk result (λ opened. OnTrue opened (AreRising rows.old.items
+        → HasMet stream initial.now frame.now true rows.old.items rows.new.items)) }
+{
+    if !is_past(rows.as_slice(), stream) {
+        return Ok(false);
+    }
+    match Row::opened(stream, initial, frame) {
+        Some(row) => {
+            rows.push(row)?;
+            Ok(true)
+        }
+        None => Ok(false),
+    }
+}
+
+/// Meets a change of the initial windows in force, and answers whether nothing of that may be shown.
+pub(crate) fn move_all(rows: &mut Vec<Row>, before: &Sides<u32>, after: &Sides<u32>) -> bool
+    ensures { OnTrue result (AreMoved before.now after.now rows.old.items rows.new.items) }
+{
+    for row in rows.iter_mut() {
+        let Some(next) = row.moved(before, after) else {
+            return false;
+        };
+        *row = next;
+    }
+    true
+}
