@@ -2,3 +2,4 @@ pub mod Joins
 pub mod Pairs
 pub mod FrameNumbers
 pub mod Sweep
+pub mod Standing

@@ -1,5 +1,7 @@
+pub mod Contents
 pub mod Ends
 pub mod Findings
 pub mod Packets
+pub mod Reported
 pub mod Roles
 pub mod Tally

@@ -1,8 +1,8 @@
-ghost use Rattle.std.specs.Prelude.{◌≡◌, ◌++◌, OnOk, IfOk};
+ghost use Rattle.std.specs.Prelude.{◌≡◌, ◌++◌, OnOk, IfOk, length};
 ghost use Rattle.std.specs.String.{string_bytes};
-ghost use Rattle.audit_report.specs.CaptureLine.{capture_line};
+ghost use Rattle.pcap_records.specs.declared.capture.Records.{Records};
 ghost use Rattle.audit_report.specs.CutRecordLine.{cut_record_line};
-ghost use Rattle.audit_report.specs.code.Packets.{packet_counts};
+ghost use Rattle.audit_report.specs.code.Packets.{AreRecordsOf, counts_line, packet_counts, packets_text};
 ghost use Rattle.audit_report.specs.CaptureLines.{capture_text};
 
 use crate::numbered::push_record_lines;
@@ -10,53 +10,50 @@ use crate::tally::Tally;
 use crate::unopened::push_unopened_lines;
 use crate::words::{push_field, push_word};
 use packet_heads::Packets;
-use pcap_records::Records;
 use std::alloc::{AllocError, Global};
 use tcp_streams::Stray;
 
 /// What the report says of the capture itself: the capture line, then a line for each fragment, each refused packet,
 /// the record that the capture's end cuts, and each pair of endpoints whose opening was not captured.
 ///
-/// No other line tells of records and strays, so they are taken, and their memory is free from here on.
+/// There is a packet for each record, so no more of the records is needed than the number of the one that is cut. No
+/// other line tells of strays, so they are taken, and their memory is free from here on.
 pub fn capture_lines(
     alloc: Global,
-    records: Records,
+    cut: Option<u32>,
     packets: &Packets<'_>,
     strays: Vec<Stray>,
 ) -> Result<String, AllocError>
-    ensures { IfOk result (λ text. string_bytes text ≡ capture_text records packets.now strays.items) }
+    ensures { IfOk result (λ text. (records : Records) → AreRecordsOf packets.now cut records
+        → string_bytes text ≡ capture_text records packets.now strays.items) }
 {
     let mut out = String::new(alloc);
-    push_capture_text(&mut out, &records, packets, strays.as_slice())?;
+    push_capture_text(&mut out, cut, packets, strays.as_slice())?;
     Ok(out)
 }
 
 #[tactic(auto, using(crate::proofs::Joins::joins))]
 fn push_capture_text(
     out: &mut String,
-    records: &Records,
+    cut: Option<u32>,
     packets: &Packets<'_>,
     strays: &[Stray],
 ) -> Result<(), AllocError>
     ensures { OnOk result (string_bytes out.new ≡ string_bytes out.old
-        ++ capture_text records.now packets.now strays.now) }
+        ++ packets_text (length packets.now) cut packets.now strays.now) }
 {
-    push_capture_line(out, records, packets)?;
+    push_capture_line(out, packets)?;
     push_record_lines(out, packets)?;
-    push_cut_record_line(out, records.cut)?;
+    push_cut_record_line(out, cut)?;
     push_unopened_lines(out, strays)
 }
 
 #[tactic(auto, using(crate::proofs::Joins::joins))]
-fn push_capture_line(
-    out: &mut String,
-    records: &Records,
-    packets: &Packets<'_>,
-) -> Result<(), AllocError>
+fn push_capture_line(out: &mut String, packets: &Packets<'_>) -> Result<(), AllocError>
     ensures { OnOk result (string_bytes out.new ≡ string_bytes out.old
-        ++ capture_line records.now.rows.items packets.now) }
+        ++ counts_line (length packets.now) packets.now) }
 {
-    push_field(out, "capture records ", records.rows.len() as u64)?;
+    push_field(out, "capture records ", packets.len() as u64)?;
     push_packet_counts(out, packets)?;
     push_word(out, "\n")
 }

@@ -2,12 +2,14 @@ ghost use Rattle.std.specs.Prelude.{◌≡◌, ◌++◌, OnOk, IfOk};
 ghost use Rattle.std.specs.String.{string_bytes};
 ghost use Rattle.packet_heads.specs.declared.packets.Endpoint.{Endpoint};
 ghost use Rattle.audit_terms.specs.declared.sides.Side.{Side};
-ghost use Rattle.audit_report.specs.ConnectionLine.{contents_text, heading_text, connection_line};
-ghost use Rattle.audit_report.specs.FlowLine.{extents_of, gap_text, flow_line, tail_of};
+ghost use Rattle.audit_report.specs.ConnectionLine.{heading_text};
+ghost use Rattle.audit_report.specs.FlowLine.{extents_of, gap_text, flow_line};
 ghost use Rattle.audit_report.specs.Section.{connection_text};
+ghost use Rattle.audit_report.specs.code.Contents.{contents_words, opening_line, opening_text};
 ghost use Rattle.audit_report.specs.code.Roles.{roles_text};
 ghost use Rattle.tcp_streams.specs.code.Orderly.{IsOrderly};
 
+use crate::contents::{Contents, contents_of, tail_in};
 use crate::endpoints::push_endpoint;
 use crate::extents::Extent;
 use crate::words::{push_field, push_number, push_word};
@@ -33,39 +35,41 @@ pub fn connection_lines(
 {
     let mut out = String::new(alloc);
     let extents = Extent::of_both(client, server);
-    push_connection_text(&mut out, k as u64, connection, &extents, cut)?;
+    push_opening_text(&mut out, k as u64, connection, &extents, contents_of(cut))?;
     Ok(out.into_bytes())
 }
 
 /// Adds the same to a text.
 #[tactic(auto, using(crate::proofs::Joins::joins))]
-pub fn push_connection_text(
+pub fn push_opening_text(
     out: &mut String,
     k: u64,
     connection: &Connection,
     extents: &Sides<Extent>,
-    cut: &Cut,
+    contents: Contents,
 ) -> Result<(), AllocError>
-    ensures { OnOk result (string_bytes out.new ≡ string_bytes out.old ++ connection_text k connection.now
-        extents.now cut.now) }
+    ensures { OnOk result (string_bytes out.new ≡ string_bytes out.old ++ opening_text k connection.now
+        extents.now contents) }
 {
-    push_connection_line(out, k, connection, cut)?;
-    push_flow_line(out, Side::Client, extents.client, tail(cut, Side::Client))?;
-    push_flow_line(out, Side::Server, extents.server, tail(cut, Side::Server))
+    push_opening_line(out, k, connection, contents)?;
+    let tail = tail_in(contents, Side::Client);
+    push_flow_line(out, Side::Client, extents.client, tail)?;
+    let tail = tail_in(contents, Side::Server);
+    push_flow_line(out, Side::Server, extents.server, tail)
 }
 
 #[tactic(auto, using(crate::proofs::Joins::joins))]
-fn push_connection_line(
+fn push_opening_line(
     out: &mut String,
     k: u64,
     connection: &Connection,
-    cut: &Cut,
+    contents: Contents,
 ) -> Result<(), AllocError>
-    ensures { OnOk result (string_bytes out.new ≡ string_bytes out.old ++ connection_line k connection.now cut.now) }
+    ensures { OnOk result (string_bytes out.new ≡ string_bytes out.old ++ opening_line k connection.now contents) }
 {
     push_heading(out, k, connection)?;
     push_word(out, " ")?;
-    push_contents(out, cut)?;
+    push_contents(out, contents)?;
     push_word(out, "\n")
 }
 
@@ -88,14 +92,14 @@ fn push_roles(out: &mut String, client: Endpoint, server: Endpoint) -> Result<()
     push_endpoint(out, server)
 }
 
-fn push_contents(out: &mut String, cut: &Cut) -> Result<(), AllocError>
-    ensures { OnOk result (string_bytes out.new ≡ string_bytes out.old ++ contents_text cut.now) }
+fn push_contents(out: &mut String, contents: Contents) -> Result<(), AllocError>
+    ensures { OnOk result (string_bytes out.new ≡ string_bytes out.old ++ contents_words contents) }
 {
-    match cut {
-        Cut::Http2 { frames, .. } => push_field(out, "http2 frames ", frames.len() as u64),
-        Cut::NotHttp2 => push_word(out, "not-http2"),
-        Cut::NoPreface => push_word(out, "no-preface"),
-        Cut::NoHandshake => push_word(out, "no-handshake"),
+    match contents {
+        Contents::Http2 { frames, .. } => push_field(out, "http2 frames ", frames),
+        Contents::NotHttp2 => push_word(out, "not-http2"),
+        Contents::NoPreface => push_word(out, "no-preface"),
+        Contents::NoHandshake => push_word(out, "no-handshake"),
     }
 }
 
@@ -118,15 +122,5 @@ fn push_gap(out: &mut String, gap: Option<u64>) -> Result<(), AllocError>
     match gap {
         None => push_word(out, "none"),
         Some(offset) => push_number(out, offset),
-    }
-}
-
-// How many bytes of the side are left over after its last frame.
-fn tail(cut: &Cut, side: Side) -> u32
-    ensures { result ≡ tail_of side cut.now }
-{
-    match cut {
-        Cut::Http2 { tails, .. } => tails.of(side),
-        _ => 0,
     }
 }

@@ -7,28 +7,31 @@
 //! - [`stall_pairs`] and [`frame_at`] say which stalls findings tell of, and which frame each of them is about. The
 //!   definition (`specs/Stalls.antt`) looks forward from each beginning for the first end of the same side and stream;
 //!   the code goes over the list once, from the back, with the nearest end of each window in a table.
-//! - [`Audited`] is what a report needs of a connection. Of a flow that is its [`Extent`], length and gap: its bytes
-//!   are gone once its frames are cut.
+//! - [`Told`] is what is kept of a connection from its flows on. Of a flow that is its [`Reach`], length and gap. Of
+//!   frames it is their number where nothing is shown of them ([`QuietConnection`]), and else the frames and what was
+//!   found in them ([`AuditedFrames`]). It stands for an [`Audited`], which the definitions are over, and of which it
+//!   has all that the text tells (`AreToldOf` of `specs/code/Reported.antt`): the text is that of any such audits.
 //!
 //! Every word, number, sign, space and line end is in the contracts, the order of lines, and which findings are shown:
 //! credits are left out by their kind, unless they are asked for. Counts are over packets, one for each record, so they
 //! add up. The last finding alone decides how an audit ended. Want of memory is the one error.
 //!
-//! Asked of the caller: one audit for each connection, and orderly frames; nothing of the findings. A finding whose
+//! Asked of the caller: one outcome for each connection, and orderly frames; nothing of the findings. A finding whose
 //! frame is not there would have record 0 and time 0, which no report meets. A finding's frame is looked for at its own
 //! number first, since frame n stands at n - 1, then by halving; lines go onto one growing text.
 //!
 //! [`worked_examples`] shows stalls: of both sides, of several windows, without an end, by a clock that went back.
 //!
-//! Wrong bodies that the prover refuses: the cut record left out, tails exchanged, a sign left out, no connections, a
-//! frame looked up by its record, an end of a stall that was withdrawn. Tested, in `crate_tests`: that each call of the
-//! text succeeds where there is memory, on a snapped capture with a gap, a negative window, and one packet of each
-//! kind. Trusted: std's statement of what `write!` of a number writes.
+//! Wrong bodies that the prover refuses: the cut record left out, tails exchanged, frames not counted, a sign left out,
+//! no connections, a frame looked up by its record, an end of a stall that was withdrawn. Tested, in `crate_tests`:
+//! that each call of the text succeeds where there is memory, on a snapped capture with a gap, a negative window, and
+//! one packet of each kind. Trusted: std's statement of what `write!` of a number writes.
 #![tactic(auto)]
 
 mod audited;
 mod capture;
 mod connections;
+mod contents;
 mod endings;
 mod endpoints;
 mod ends;
@@ -39,6 +42,7 @@ mod numbered;
 mod reports;
 mod stalls;
 mod tally;
+mod told;
 mod unopened;
 mod words;
 pub mod worked_examples;
@@ -46,8 +50,9 @@ pub mod worked_examples;
 pub use audited::Audited;
 pub use capture::capture_lines;
 pub use connections::connection_lines;
-pub use extents::Extent;
+pub use extents::{Extent, Reach};
 pub use findings::finding_line;
 pub use lookup::frame_at;
 pub use reports::report;
 pub use stalls::{Stall, stall_pairs};
+pub use told::{AuditedFrames, Outcome, QuietConnection, Told};

@@ -1,41 +1,61 @@
-ghost use Rattle.std.specs.Prelude.{◌≡◌, ◌++◌, ◌+◌, ◌<◌, ◌^◌, OnOk, IfOk, All, length};
+ghost use Rattle.std.specs.Prelude.{◌≡◌, ◌++◌, ◌+◌, ◌<◌, ◌^◌, [], List, OnOk, IfOk, All, length};
 ghost use Rattle.std.specs.String.{string_bytes};
 ghost use Rattle.audit_terms.specs.code.runs.Orderly.{IsOrderly};
-ghost use Rattle.h2_frames.specs.code.Orderly.{HasOrderlyFrames};
 ghost use Rattle.audit_report.specs.EndLine.{end_line};
 ghost use Rattle.audit_report.specs.FindingLine.{finding_lines};
-ghost use Rattle.audit_report.specs.Section.{connection_text, findings_text, sections_text};
+ghost use Rattle.audit_report.specs.Section.{sections_text};
 ghost use Rattle.audit_report.specs.StallLine.{stall_lines};
 ghost use Rattle.audit_report.specs.Stalls.{stalls};
+ghost use Rattle.audit_report.specs.code.Contents.{contents_in, opening_text};
+ghost use Rattle.audit_report.specs.code.Reported.{AreToldOf, HasOrderlyOutcome, extents_in, outcome_text, told_text};
 ghost use Rattle.audit_report.specs.declared.audited.Audited.{Audited};
+ghost use Rattle.audit_report.specs.declared.told.Told.{Told};
 
-use crate::audited::Audited;
-use crate::connections::push_connection_text;
+use crate::connections::push_opening_text;
+use crate::contents::contents_in;
 use crate::endings::{push_end_line, push_stall_lines};
+use crate::extents::Reach;
 use crate::findings::push_finding_lines;
 use crate::stalls::stall_pairs;
+use crate::told::{Outcome, Told};
 use audit_terms::{Finding, Frame};
-use h2_frames::Cut;
 use std::alloc::{AllocError, Global};
 use tcp_streams::Connection;
 
 /// The whole report: behind the capture's lines, as [`crate::capture_lines`] gives them, those of each connection, in
-/// order of opening. `audited` has what was found in each of them, in the same order. Credits are told only with
-/// `frames_shown`.
+/// order of opening. `told` has what came of each of them, in the same order, and the text is that of any audits that
+/// these outcomes stand for. Credits are told only with `frames_shown`.
 pub fn report(
     alloc: Global,
     capture_lines: String,
     connections: &[Connection],
-    audited: &[Audited],
+    told: &[Told],
     frames_shown: bool,
 ) -> Result<Vec<u8>, AllocError>
-    requires each { length audited.now ≡ length connections.now }
-    requires orderly { All (λ (a : Audited). HasOrderlyFrames a.cut) audited.now }
+    requires each { length told.now ≡ length connections.now }
+    requires orderly { All (λ (t : Told). HasOrderlyOutcome t.outcome) told.now }
+    ensures { IfOk result (λ text. (audited : List Audited) → AreToldOf told.now audited → text.items
+        ≡ string_bytes capture_lines ++ sections_text frames_shown 1 connections.now audited) }
+{
+    let text = told_report(alloc, capture_lines, connections, told, frames_shown)?;
+    Ok(text)
+}
+
+/// The same, in the words of what is told.
+fn told_report(
+    alloc: Global,
+    capture_lines: String,
+    connections: &[Connection],
+    told: &[Told],
+    frames_shown: bool,
+) -> Result<Vec<u8>, AllocError>
+    requires each { length told.now ≡ length connections.now }
+    requires orderly { All (λ (t : Told). HasOrderlyOutcome t.outcome) told.now }
     ensures { IfOk result (λ text. text.items
-        ≡ string_bytes capture_lines ++ sections_text frames_shown 1 connections.now audited.now) }
+        ≡ string_bytes capture_lines ++ told_text frames_shown 1 connections.now told.now) }
 {
     let mut out = capture_lines;
-    push_sections(alloc, &mut out, connections, audited, frames_shown)?;
+    push_sections(alloc, &mut out, connections, told, frames_shown)?;
     Ok(out.into_bytes())
 }
 
@@ -43,23 +63,16 @@ fn push_sections(
     alloc: Global,
     out: &mut String,
     connections: &[Connection],
-    audited: &[Audited],
+    told: &[Told],
     frames_shown: bool,
 ) -> Result<(), AllocError>
-    requires each { length audited.now ≡ length connections.now }
-    requires orderly { All (λ (a : Audited). HasOrderlyFrames a.cut) audited.now }
+    requires each { length told.now ≡ length connections.now }
+    requires orderly { All (λ (t : Told). HasOrderlyOutcome t.outcome) told.now }
     ensures { OnOk result (string_bytes out.new ≡ string_bytes out.old
-        ++ sections_text frames_shown 1 connections.now audited.now) }
+        ++ told_text frames_shown 1 connections.now told.now) }
 {
     for (i, connection) in connections.iter().enumerate() {
-        push_section(
-            alloc,
-            out,
-            i as u64 + 1,
-            connection,
-            &audited[i],
-            frames_shown,
-        )?;
+        push_section(alloc, out, i as u64 + 1, connection, &told[i], frames_shown)?;
     }
     Ok(())
 }
@@ -70,31 +83,38 @@ fn push_section(
     out: &mut String,
     k: u64,
     connection: &Connection,
-    audited: &Audited,
+    told: &Told,
     frames_shown: bool,
 ) -> Result<(), AllocError>
-    requires { HasOrderlyFrames audited.now.cut }
+    requires { HasOrderlyOutcome told.now.outcome }
     ensures { OnOk result (string_bytes out.new ≡ string_bytes out.old
-        ++ (connection_text k connection.now audited.now.extents audited.now.cut
-        ++ findings_text frames_shown audited.now.cut audited.now.findings.items)) }
+        ++ (opening_text k connection.now (extents_in told.now.reach) (contents_in told.now.outcome)
+        ++ outcome_text frames_shown told.now.outcome)) }
 {
-    push_connection_text(out, k, connection, &audited.extents, &audited.cut)?;
-    push_findings(alloc, out, &audited.cut, &audited.findings, frames_shown)
+    let extents = Reach::extents(&told.reach);
+    let contents = contents_in(&told.outcome);
+    push_opening_text(out, k, connection, &extents, contents)?;
+    push_outcome(alloc, out, &told.outcome, frames_shown)
 }
 
-fn push_findings(
+fn push_outcome(
     alloc: Global,
     out: &mut String,
-    cut: &Cut,
-    findings: &[Finding],
+    outcome: &Outcome,
     frames_shown: bool,
 ) -> Result<(), AllocError>
-    requires { HasOrderlyFrames cut.now }
-    ensures { OnOk result (string_bytes out.new ≡ string_bytes out.old
-        ++ findings_text frames_shown cut.now findings.now) }
+    requires { HasOrderlyOutcome outcome.now }
+    ensures { OnOk result (string_bytes out.new ≡ string_bytes out.old ++ outcome_text frames_shown outcome.now) }
 {
-    match cut {
-        Cut::Http2 { frames, .. } => push_audit(alloc, out, frames, findings, frames_shown),
+    match outcome {
+        Outcome::Quiet(_) => push_end_line(out, &[]),
+        Outcome::Audited(audited) => push_audit(
+            alloc,
+            out,
+            &audited.frames,
+            &audited.findings,
+            frames_shown,
+        ),
         _ => Ok(()),
     }
 }

@@ -4,9 +4,7 @@ use Rattle.std.proofs.Common.{take-append-drop, Option, Some, None, IfSome, sym,
 use Rattle.std.specs.Io.KnownBytes.{Consumes, IsAtEnd}
 use Rattle.std.proofs.KnownBytes.{Consumes-trans}
 use Rattle.std.proofs.lemmas.List.{append-nil, append_assoc, length-take-le, nil_from_length, take-take}
-use Rattle.pcap_records.proofs.Walking.{more_bytes_keep_a_walk_lem}
-use Rattle.pcap_records.specs.code.Walk.{IsWalkIn}
-use Rattle.pcap_records.specs.declared.walk.RecordWalk.{RecordWalk}
+use Rattle.pcap_records.specs.code.Front.{Lasts}
 use Rattle.byte_accounts.specs.Account.{HaveGiven, OfGiven, kept}
 use Rattle.byte_accounts.specs.code.Reading.{HasConsumed}
 use Rattle.byte_accounts.specs.declared.capture_reader.CaptureReader.{CaptureReader}
@@ -110,11 +108,12 @@ module _ {R : Type 0} where
       ∙ ap (take (length (kept first))) (now ∙ made)
       ∙ before
 
--- a walk over what was kept stays one over what is kept, where that stands in front
-pub walk_stays : (first new : List ℕ) (walk : RecordWalk) → take (length first) new ≡ first → IsWalkIn first walk
-    → IsWalkIn new walk
-walk_stays first new walk front is =
-    let whole : first ++ drop (length first) new ≡ new =
-    ap (λ (l : List ℕ). l ++ drop (length first) new) (sym front) ∙ take-append-drop (length first) new in
-    subst (λ (bytes : List ℕ). IsWalkIn bytes walk) whole
-    (more_bytes_keep_a_walk_lem first (drop (length first) new) walk is)
+-- a walk that stands of what was kept stands of what is kept, where that has it in front
+pub walk_stays : {W : Type 0} (stands : List ℕ → W → Type 0) (first new : List ℕ) (walk : W)
+    → take (length first) new ≡ first → Lasts stands first walk → Lasts stands new walk
+walk_stays stands first new walk front is more =
+    let later : List ℕ = drop (length first) new in
+    let whole : first ++ later ≡ new =
+    ap (λ (l : List ℕ). l ++ later) (sym front) ∙ take-append-drop (length first) new in
+    subst (λ bytes. stands bytes walk)
+    (sym (append_assoc first later more) ∙ ap (λ (l : List ℕ). l ++ more) whole) (is (later ++ more))

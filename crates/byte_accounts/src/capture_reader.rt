@@ -1,14 +1,14 @@
 ghost use Rattle.std.specs.Prelude.{◌≡◌, ◌+◌, ◌^◌, ◌<◌, ◌≤◌, length, take, drop, true, false, IfErr, IfOk, OnOk, OnErr};
 ghost use Rattle.std.specs.Bool.{Decides};
 ghost use Rattle.std.specs.Io.KnownBytes.{Consumes, IsAtEnd};
-ghost use Rattle.pcap_records.specs.code.Walk.{IsWalkIn};
+ghost use Rattle.pcap_records.specs.code.Front.{Lasts};
 ghost use Rattle.byte_accounts.specs.Account.{IsUnread, kept};
 ghost use Rattle.byte_accounts.specs.code.Reading.{IsReadingFault, IsSound};
 
 use crate::fault::ReadFault;
 use crate::kept_bytes::KeptBytes;
 use crate::parts_ahead::PartsAhead;
-use pcap_records::{Capture, RecordWalk};
+use pcap_records::{Capture, FrontWalk};
 use std::alloc::{AllocError, Global};
 use std::io::Read;
 use std::thread::Threads;
@@ -19,10 +19,9 @@ pub const LIMIT: usize = 2_147_483_648;
 /// A reader of a capture, with an account of what its reads answered.
 ///
 /// A type of reader tells which bytes it will give, if any, and not whether a read failed; of a file or
-/// a pipe it tells nothing. The account does: `read_once`, `read_beside` and `pass_once` enter what a read
-/// answered. `pass_once` calls `read` itself, the others through `read_once`, `read_beside`, `read_and_walk` and
-/// `read_into` of `kept_bytes`, of which `read_into` calls it. `make_room`, `read_beside` and `lack_memory` enter want
-/// of memory. Nothing else changes an account.
+/// a pipe it tells nothing. The account does: `read_once` and `pass_once` enter what a read answered.
+/// `pass_once` calls `read` itself, the other through `read_once` and `read_into` of `kept_bytes`, of which `read_into`
+/// calls it. `make_room`, `read_and_walk` and `lack_memory` enter want of memory. Nothing else changes an account.
 #[derive(Drop)]
 pub struct CaptureReader<R> {
     reader: R,
@@ -166,11 +165,11 @@ impl<R: Read> CaptureReader<R> {
         }
     }
 
-    /// The same. Where it begins a part, another thread walks over the records in what is kept.
-    pub(crate) fn read_beside<T: Threads>(
+    /// The same. Where no room is left then, a walk goes on over what is kept, while the part is hot.
+    pub(crate) fn read_and_walk<W: FrontWalk>(
         &mut self,
-        ahead: &PartsAhead<'_, T>,
-        walk: &mut RecordWalk,
+        alloc: Global,
+        walk: &mut W,
     ) -> Result<usize, ReadFault>
         requires room { length (kept self.old) < self.old.bytes.room }
         requires unpassed { self.old.passed ≡ 0 }
@@ -178,7 +177,7 @@ impl<R: Read> CaptureReader<R> {
         requires unfailed { self.old.has_failed ≡ false }
         requires memory { self.old.lacked_memory ≡ false }
         requires most { self.old.bytes.room ≤ 2 ^ 31 }
-        requires walk { IsWalkIn (kept self.old) walk.old }
+        requires walk { Lasts W.stands (kept self.old) walk.old }
         ensures front { take (length (kept self.old)) (kept self.new) ≡ kept self.old }
         ensures room { self.new.bytes.room ≡ self.old.bytes.room }
         ensures grown { length (kept self.old) ≤ length (kept self.new) }
@@ -192,17 +191,14 @@ impl<R: Read> CaptureReader<R> {
         ensures ok { OnOk result (IsSound self.new) }
         ensures err { IfErr result (λ e. IsReadingFault e self.new) }
         ensures passed { self.new.passed ≡ self.old.passed }
-        ensures walk { IsWalkIn (kept self.old) walk.new }
+        ensures walk { OnOk result (Lasts W.stands (kept self.new) walk.new) }
     {
-        let (read, walked) = self.bytes.read_beside(ahead, &mut self.reader, walk);
-        let Ok(count) = read else {
-            self.has_failed = true;
-            return Err(ReadFault::Failed);
-        };
-        self.has_ended = count == 0;
-        if walked.is_err() {
-            self.lacked_memory = true;
-            return Err(ReadFault::OutOfMemory);
+        let count = self.read_once()?;
+        if self.bytes.is_filled() {
+            if self.bytes.walk_on(alloc, walk).is_err() {
+                self.lacked_memory = true;
+                return Err(ReadFault::OutOfMemory);
+            }
         }
         Ok(count)
     }

@@ -1,18 +1,15 @@
 //! The bytes that are kept of a capture, in parts of one length.
 
-ghost use Rattle.std.specs.Prelude.{◌≡◌, ◌+◌, ◌*◌, ◌++◌, ◌^◌, ◌<◌, ◌≤◌, [], length, map, take, drop, vec_len, IfOk};
-ghost use Rattle.std.specs.Prelude.{OnOk};
+ghost use Rattle.std.specs.Prelude.{◌≡◌, ◌+◌, ◌^◌, ◌<◌, ◌≤◌, [], length, take, drop, vec_len, IfOk, OnOk};
 ghost use Rattle.std.specs.Io.KnownBytes.{Consumes, IsAtEnd};
-ghost use Rattle.std.specs.List.{All};
-ghost use Rattle.parted_list.specs.Parts.{joined};
-ghost use Rattle.pcap_records.specs.code.Walk.{IsWalkIn};
+ghost use Rattle.pcap_records.specs.code.Front.{Lasts};
 
 use crate::parts_ahead::PartsAhead;
-use pcap_records::{CAPTURE_PART, Capture, RecordWalk};
+use pcap_records::{CAPTURE_PART, Capture, FrontWalk};
 use std::alloc::{AllocError, Global};
 use std::io::Read;
 use std::marker::Model;
-use std::thread::{Threads, join_mut};
+use std::thread::Threads;
 use std::{io, mem};
 
 /// The number of bytes for which room is made at a time in the first part.
@@ -131,82 +128,24 @@ impl KeptBytes {
         Ok(count)
     }
 
-    /// The same. Where it begins a part, another thread walks over the records in the parts before it.
-    pub(crate) fn read_beside<T: Threads, R: Read>(
-        &mut self,
-        ahead: &PartsAhead<'_, T>,
-        reader: &mut R,
-        walk: &mut RecordWalk,
-    ) -> (io::Result<usize>, Result<(), AllocError>)
-        requires room { length self.old.kept < self.old.room }
-        requires walk { IsWalkIn self.old.kept walk.old }
-        ensures front { take (length self.old.kept) self.new.kept ≡ self.old.kept }
-        ensures grown { length self.old.kept ≤ length self.new.kept }
-        ensures room { self.new.room ≡ self.old.room }
-        ensures within { length self.new.kept ≤ self.new.room }
-        ensures count { IfOk result.0 (λ n. length self.new.kept ≡ length self.old.kept + n) }
-        ensures bytes { IfOk result.0 (λ n. Consumes (R.remaining reader.old) (R.remaining reader.new)
-            (drop (length self.old.kept) self.new.kept)) }
-        ensures end { IfOk result.0 (λ n. n ≡ 0 → IsAtEnd (R.remaining reader.new)) }
-        ensures walk { IsWalkIn self.old.kept walk.new }
+    /// Whether there is no room for a byte more.
+    pub(crate) fn is_filled(&self) -> bool {
+        self.filled == self.last.len()
+    }
+
+    /// Lets a walk go on over the bytes.
+    pub(crate) fn walk_on<W: FrontWalk>(
+        &self,
+        alloc: Global,
+        walk: &mut W,
+    ) -> Result<(), AllocError>
+        requires walk { Lasts W.stands self.now.kept walk.old }
+        requires short { length self.now.kept ≤ 2 ^ 31 }
+        ensures { OnOk result (Lasts W.stands self.now.kept walk.new) }
     {
-        if self.filled > 0 {
-            return (self.read_once(reader), Ok(()));
-        }
-        let (read, walked) = read_and_walk(ahead, reader, &mut self.last, &self.full, walk);
-        match read {
-            Ok(count) => {
-                self.filled = count;
-                (Ok(count), walked)
-            }
-            Err(error) => (Err(error), walked),
-        }
+        let capture = self.capture(alloc)?;
+        walk.advance(alloc, &capture)
     }
-}
-
-/// Reads once into an empty part, while another thread walks over the records in the parts before it.
-///
-/// Where there is one worker, the one comes after the other.
-fn read_and_walk<T: Threads, R: Read>(
-    ahead: &PartsAhead<'_, T>,
-    reader: &mut R,
-    part: &mut Vec<u8>,
-    full: &[Vec<u8>],
-    walk: &mut RecordWalk,
-) -> (io::Result<usize>, Result<(), AllocError>)
-    requires room { 0 < vec_len part.old }
-    requires full { All (λ part. vec_len part ≡ 1048576) full.now }
-    requires length { length full.now * 1048576 ≤ 2 ^ 31 }
-    requires walk { IsWalkIn (joined (map (λ part. part.items) full.now)) walk.old }
-    ensures length { vec_len part.new ≡ vec_len part.old }
-    ensures fits { IfOk result.0 (λ n. n ≤ vec_len part.new) }
-    ensures bytes { IfOk result.0 (λ n. Consumes (R.remaining reader.old) (R.remaining reader.new)
-        (take n part.new.items)) }
-    ensures end { IfOk result.0 (λ n. n ≡ 0 → IsAtEnd (R.remaining reader.new)) }
-    ensures walk { IsWalkIn (joined (map (λ part. part.items) full.now)) walk.new }
-{
-    let alloc = ahead.alloc;
-    if ahead.is_alone() {
-        let walked = walk_over(alloc, full, walk);
-        return (read_into(reader, part, 0), walked);
-    }
-    let (walked, read) = join_mut(
-        ahead.rt,
-        &mut || walk_over(alloc, full, walk),
-        &mut || read_into(reader, part, 0),
-    );
-    (read, walked)
-}
-
-/// Walks over the records in these parts.
-fn walk_over(alloc: Global, full: &[Vec<u8>], walk: &mut RecordWalk) -> Result<(), AllocError>
-    requires full { All (λ part. vec_len part ≡ 1048576) full.now }
-    requires length { length full.now * 1048576 ≤ 2 ^ 31 }
-    requires walk { IsWalkIn (joined (map (λ part. part.items) full.now)) walk.old }
-    ensures walk { IsWalkIn (joined (map (λ part. part.items) full.now)) walk.new }
-{
-    let capture = Capture::with_last(alloc, full, &[])?;
-    walk.advance(alloc, &capture)
 }
 
 /// Reads once into a part, behind the bytes with which it is filled.

@@ -1,13 +1,13 @@
 ghost use Rattle.std.specs.Prelude.{◌≡◌, ◌+◌, ◌^◌, ◌≤◌, List, Option, true, false, length, take, IfErr, OnOk};
 ghost use Rattle.std.specs.Io.KnownBytes.{IsAtEnd};
-ghost use Rattle.pcap_records.specs.code.Walk.{IsWalkIn};
+ghost use Rattle.pcap_records.specs.code.Front.{Lasts};
 ghost use Rattle.byte_accounts.specs.Account.{kept};
 ghost use Rattle.byte_accounts.specs.code.Reading.{HasConsumed, IsReadingFault, IsSound};
 
 use crate::capture_reader::{CaptureReader, LIMIT};
 use crate::fault::ReadFault;
 use crate::parts_ahead::PartsAhead;
-use pcap_records::RecordWalk;
+use pcap_records::FrontWalk;
 use std::io::Read;
 use std::thread::Threads;
 
@@ -47,19 +47,20 @@ pub fn keep_up_to<T: Threads, R: Read>(
     Ok(())
 }
 
-/// Reads to the end, or until there are 2^31 bytes, and keeps them, while a walk goes on over the records in them.
+/// Reads to the end, or until there are 2^31 bytes, and keeps them, while a walk goes on over them.
 ///
-/// Each part is walked over while the next one is read. What is read last is left to the end of the walk.
-pub fn keep_and_walk<T: Threads, R: Read>(
+/// The thread that reads walks over each part that it has filled: another one would have to fetch it first. What is
+/// read last is left to the end of the walk.
+pub fn keep_and_walk<T: Threads, R: Read, W: FrontWalk>(
     ahead: &mut PartsAhead<'_, T>,
     reader: &mut CaptureReader<R>,
-    walk: &mut RecordWalk,
+    walk: &mut W,
 ) -> Result<(), ReadFault>
     requires sound { IsSound reader.old }
     requires room { reader.old.bytes.room ≤ 2 ^ 31 }
     requires unpassed { reader.old.passed ≡ 0 }
     requires unended { reader.old.has_ended ≡ false }
-    requires walk { IsWalkIn (kept reader.old) walk.old }
+    requires walk { Lasts W.stands (kept reader.old) walk.old }
     ensures sound { OnOk result (IsSound reader.new) }
     ensures unpassed { reader.new.passed ≡ 0 }
     ensures front { take (length (kept reader.old)) (kept reader.new) ≡ kept reader.old }
@@ -68,12 +69,12 @@ pub fn keep_and_walk<T: Threads, R: Read>(
     ensures bytes { OnOk result ((before : Option (List _))
         → HasConsumed before (R.remaining reader.old.reader) reader.old
         → HasConsumed before (R.remaining reader.new.reader) reader.new) }
-    ensures walk { OnOk result (IsWalkIn (kept reader.new) walk.new) }
+    ensures walk { OnOk result (Lasts W.stands (kept reader.new) walk.new) }
     ensures err { IfErr result (λ e. IsReadingFault e reader.new) }
 {
     while !reader.has_kept(LIMIT) {
         reader.make_room(LIMIT, ahead)?;
-        if reader.read_beside(ahead, walk)? == 0 {
+        if reader.read_and_walk(ahead.alloc, walk)? == 0 {
             return Ok(());
         }
     }

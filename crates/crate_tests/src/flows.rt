@@ -9,15 +9,11 @@ use keys::drawn_keys;
 use segments::{overlaps_and_gap, random_segments};
 use std::alloc::Global;
 use std::random::RandomSource;
-use std::thread::Threads;
 
-pub fn answers(
-    rt: &(impl Sync + Threads + RandomSource),
-    alloc: Global,
-) -> [(&'static str, Answer); 3] {
+pub fn answers(rt: &impl RandomSource, alloc: Global) -> [(&'static str, Answer); 3] {
     [
-        ("overlaps_and_gap", overlaps_and_gap(rt, alloc)),
-        ("random_segments", random_segments(rt, alloc)),
+        ("overlaps_and_gap", overlaps_and_gap(alloc)),
+        ("random_segments", random_segments(alloc)),
         ("drawn_keys", drawn_keys(rt)),
     ]
 }

@@ -1,25 +1,33 @@
--- The jobs of the first round.
-use Rattle.std.proofs.Common.{◌≡◌, ℕ, zero, suc, ◌+◌, ◌<◌, ◌≤◌, List, [], ◌∷◌, length, get_or, slice_get, Some, None}
-use Rattle.std.proofs.Common.{All, refl, ap, ◌∙◌, arith}
-use Rattle.std.proofs.Common.{Bool, map, Vec, Global, Bor}
+-- The jobs of the first round, and what their parts keep of flows.
+use Rattle.std.proofs.Common.{◌≡◌, ℕ, zero, suc, ◌+◌, ◌<◌, ◌≤◌, Bool, List, [], ◌∷◌, ◌++◌, length, get_or, slice_get}
+use Rattle.std.proofs.Common.{All, IfOk, Ok, Err, Result, Option, Some, None, Bor, map, refl, sym, subst, ap, ◌∙◌}
+use Rattle.std.proofs.Common.{arith}
 use Rattle.std.proofs.lemmas.List.Elements.{All-cons, All-head, All-nil, All-tail}
-use Rattle.audit_terms.specs.declared.frames.Frame.{Frame}
-use Rattle.audit_terms.specs.declared.findings.Finding.{Finding}
-use Rattle.audit_terms.specs.code.runs.Orderly.{IsOrderly}
+use Rattle.audit_report.specs.code.Reported.{HasGapAtEnd, HasOrderlyOutcome}
+use Rattle.audit_report.specs.declared.told.Outcome.{Outcome}
+use Rattle.audit_report.specs.declared.told.Outcome.TheVariants as outcome
+use Rattle.audit_report.specs.declared.told.Told.{Told}
 use Rattle.audit_terms.specs.Finding.{shown}
 use Rattle.audit_terms.specs.Pass.{pass}
-use Rattle.packet_heads.specs.declared.packets.Packet.{Packet}
+use Rattle.audit_terms.specs.code.runs.Orderly as runs
+use Rattle.audit_terms.specs.declared.frames.Frame.{Frame}
+use Rattle.audit_terms.specs.declared.sides.Sides.{Sides}
+use Rattle.h2_frames.specs.Cut as h2
+use Rattle.h2_frames.specs.code.Orderly.{HasOrderlyFrames}
 use Rattle.h2_frames.specs.declared.connections.Cut.{Cut}
 use Rattle.h2_frames.specs.declared.connections.Cut.TheVariants.{Http2, NotHttp2, NoPreface, NoHandshake}
-use Rattle.h2_frames.specs.code.Orderly.{HasOrderlyFrames}
-use Rattle.job_crew.specs.declared.parts.Part.{Part}
-use Rattle.audit_report.specs.declared.audited.Audited.{Audited}
-use Rattle.h2audit.specs.declared.flow_round.ConnectionCut.{ConnectionCut}
-use Rattle.h2audit.specs.Audited.{AreAudited, findings_of}
-use Rattle.tcp_streams.specs.declared.members.Connection.{Connection}
+use Rattle.h2audit.specs.Audited.{IsFlowFrom}
+use Rattle.h2audit.specs.code.Flows.{AreToldFlows, IsHeldBy, IsToldFlows, KeepsCut, flow_jobs}
+use Rattle.h2audit.specs.code.Found.{frames_of, kept_in}
 use Rattle.job_crew.specs.code.Board.{Job, IsCut}
-use Rattle.h2audit.specs.code.Flows.{IsConnectionCut, flow_jobs, AreConnectionCuts, frames_in, frames_each, found_in}
-use Rattle.h2audit.specs.code.Flows.{audits_of}
+use Rattle.job_crew.specs.declared.parts.Part.{Part}
+use Rattle.packet_heads.specs.declared.packets.Packet.{Packet}
+use Rattle.packet_heads.specs.declared.packets.Segment.{Segment}
+use Rattle.tcp_streams.specs.Bytes.{bytes_of}
+use Rattle.tcp_streams.specs.Flow.{IsGap}
+use Rattle.tcp_streams.specs.Sequence.{Source, source}
+use Rattle.tcp_streams.specs.declared.members.Connection.{Connection}
+use Rattle.tcp_streams.specs.declared.streams.Flow.{Flow}
 
 pub flow_jobs-length : (first : ℕ) (connections : List Connection)
     → length (flow_jobs first connections) ≡ length connections
@@ -59,93 +67,89 @@ flow_jobs-within first count (c ∷ connections) fit =
     All-cons (λ (job : Job). job.connection < count) (record { connection = first; findings = [] })
     (flow_jobs (first + 1) connections) (omega arith) (flow_jobs-within (first + 1) count connections (omega arith))
 
-module _ (capture : List ℕ) (packets : List Packet) where
-  pub are-cuts : (opened : List Connection) (parts : List (Part ConnectionCut)) → length parts ≡ length opened
-      → ((n : ℕ) (part : Part ConnectionCut) (connection : Connection) → slice_get parts n ≡ Some part
-      → slice_get opened n ≡ Some connection → IsConnectionCut capture packets connection part.made)
-      → AreConnectionCuts capture packets opened parts
-  are-cuts [] [] same each = tt
-  are-cuts [] (p ∷ parts) same each = absurd (omega arith)
-  are-cuts (c ∷ opened) [] same each = absurd (omega arith)
-  are-cuts (c ∷ opened) (p ∷ parts) same each =
-      (each 0 p c refl refl, are-cuts opened parts (omega arith) (λ n. each (suc n)))
+module _ (credits : Bool) (capture : List ℕ) (packets : List Packet) where
+  pub are-told : (opened : List Connection) (parts : List (Part Told)) → length parts ≡ length opened
+      → ((n : ℕ) (part : Part Told) (connection : Connection) → slice_get parts n ≡ Some part
+      → slice_get opened n ≡ Some connection → IsToldFlows credits capture packets connection part.made)
+      → AreToldFlows credits capture packets opened parts
+  are-told [] [] same each = tt
+  are-told [] (p ∷ parts) same each = absurd (omega arith)
+  are-told (c ∷ opened) [] same each = absurd (omega arith)
+  are-told (c ∷ opened) (p ∷ parts) same each =
+      (each 0 p c refl refl, are-told opened parts (omega arith) (λ n. each (suc n)))
 
-  pub cuts-orderly : (opened : List Connection) (parts : List (Part ConnectionCut))
-      → AreConnectionCuts capture packets opened parts
-      → All (λ (cut : Part ConnectionCut). HasOrderlyFrames cut.made.cut) parts
-  cuts-orderly [] [] are = All-nil (λ (cut : Part ConnectionCut). HasOrderlyFrames cut.made.cut)
-  cuts-orderly [] (p ∷ parts) are = absurd are
-  cuts-orderly (c ∷ opened) [] are = absurd are
-  cuts-orderly (c ∷ opened) (p ∷ parts) are =
-      All-cons (λ (cut : Part ConnectionCut). HasOrderlyFrames cut.made.cut) p parts are.0.orderly
-      (cuts-orderly opened parts are.1)
+  held-orderly : (client server : Flow) (o : Outcome) → IsHeldBy credits client server o → HasOrderlyOutcome o
+  held-orderly client server (outcome.Audited audited) held = held.2
+  held-orderly client server _ held = tt
 
-  pub audited-each : (credits : Bool) (opened : List Connection) (parts : List (Part ConnectionCut))
-      (found : List (Vec Finding Global)) → AreConnectionCuts capture packets opened parts
-      → map (λ one. one.items) found ≡ found_in credits parts
-      → AreAudited credits capture packets opened (audits_of parts found)
-  audited-each credits [] [] found are same = tt
-  audited-each credits [] (p ∷ parts) found are same = absurd are
-  audited-each credits (c ∷ opened) [] found are same = absurd are
-  audited-each credits (c ∷ opened) (p ∷ parts) [] are same = cc
-  audited-each credits (c ∷ opened) (p ∷ parts) (f ∷ found) are same =
-      let mine : f.items ≡ findings_of credits p.made.cut = cc in
-      let rest : map (λ (one : Vec Finding Global). one.items) found ≡ found_in credits parts = cc in (
-        record {
-          flows = are.0.flows;
-          client = are.0.client;
-          server = are.0.server;
-          extents = are.0.extents;
-          cut = are.0.cut;
-          findings = mine;
-        },
-        audited-each credits opened parts found are.1 rest,
-      )
+  pub told-orderly : (opened : List Connection) (parts : List (Part Told))
+      → AreToldFlows credits capture packets opened parts
+      → All (λ (part : Part Told). HasOrderlyOutcome part.made.outcome) parts
+  told-orderly [] [] are = All-nil (λ (part : Part Told). HasOrderlyOutcome part.made.outcome)
+  told-orderly [] (p ∷ parts) are = absurd are
+  told-orderly (c ∷ opened) [] are = absurd are
+  told-orderly (c ∷ opened) (p ∷ parts) are =
+      All-cons (λ (part : Part Told). HasOrderlyOutcome part.made.outcome) p parts
+      (held-orderly are.0.flows.client are.0.flows.server p.made.outcome are.0.told.held)
+      (told-orderly opened parts are.1)
 
-pub audits-orderly : (parts : List (Part ConnectionCut)) (found : List (Vec Finding Global))
-    → All (λ (cut : Part ConnectionCut). HasOrderlyFrames cut.made.cut) parts
-    → All (λ (a : Audited). HasOrderlyFrames a.cut) (audits_of parts found)
-audits-orderly [] found all = All-nil (λ (a : Audited). HasOrderlyFrames a.cut)
-audits-orderly (p ∷ parts) [] all = All-nil (λ (a : Audited). HasOrderlyFrames a.cut)
-audits-orderly (p ∷ parts) (f ∷ found) all =
-    let whole = λ (cut : Part ConnectionCut). HasOrderlyFrames cut.made.cut in
-    All-cons (λ (a : Audited). HasOrderlyFrames a.cut)
-    (record { extents = p.made.extents; cut = p.made.cut; findings = f }) (audits_of parts found)
-    (All-head whole p parts all) (audits-orderly parts found (All-tail whole p parts all))
+-- what is kept of a cut is held by the flows that it is the cut of
+held-in : (credits : Bool) (client server : Flow) (o : Outcome) (cut : Cut) → KeepsCut o cut
+    → h2.IsCut client server cut → HasOrderlyFrames cut → IsHeldBy credits client server o
+held-in credits client server (outcome.Audited audited) (Http2 frames tails) keeps is orderly = (
+  is.0,
+  subst (λ l. h2.IsHttp2 client server l audited.value.tails) (sym keeps.0)
+      (subst (λ (t : Sides ℕ). h2.IsHttp2 client server frames.items t) (sym keeps.1) is.1),
+  subst (λ l. runs.IsOrderly l) (sym keeps.0) orderly,
+)
+held-in credits client server outcome.NotHttp2 NotHttp2 keeps is orderly = is
+held-in credits client server outcome.NoPreface NoPreface keeps is orderly = is
+held-in credits client server outcome.NoHandshake NoHandshake keeps is orderly = is
+held-in credits client server _ _ keeps is orderly = absurd keeps
 
-orderly-in : (cut : Cut) → HasOrderlyFrames cut → IsOrderly (frames_in cut)
-orderly-in (Http2 frames tails) is = is
-orderly-in NotHttp2 is = tt
-orderly-in NoPreface is = tt
-orderly-in NoHandshake is = tt
+pub held-if : {E : Type 0} (credits : Bool) (client server : Flow) (made : Result Outcome E) (cut : Cut)
+    → IfOk made (λ o. KeepsCut o cut) → h2.IsCut client server cut → HasOrderlyFrames cut
+    → IfOk made (IsHeldBy credits client server)
+held-if credits client server (Ok o) cut keeps is orderly = held-in credits client server o cut keeps is orderly
+held-if credits client server (Err e) cut keeps is orderly = tt
 
-pub frames-orderly : (parts : List (Part ConnectionCut))
-    → All (λ (cut : Part ConnectionCut). HasOrderlyFrames cut.made.cut) parts → All IsOrderly (frames_each parts)
-frames-orderly [] all = All-nil IsOrderly
-frames-orderly (p ∷ parts) all =
-    let whole = λ (cut : Part ConnectionCut). HasOrderlyFrames cut.made.cut in
-    All-cons IsOrderly (frames_in p.made.cut) (frames_each parts) (orderly-in p.made.cut (All-head whole p parts all))
-    (frames-orderly parts (All-tail whole p parts all))
+gap-from : (sources : ℕ → Option Source) (n : ℕ) (gap : Option ℕ) → IsGap sources n gap
+    → (offset : ℕ) → gap ≡ Some offset → offset ≡ n
+gap-from sources n None is offset at = cc
+gap-from sources n (Some g) is offset at = let same : g ≡ offset = cc in sym same ∙ is.0
 
-found-in : (credits : Bool) (cut : Cut) → shown credits (pass (frames_in cut)) ≡ findings_of credits cut
-found-in credits (Http2 frames tails) = refl
-found-in credits NotHttp2 = refl
-found-in credits NoPreface = refl
-found-in credits NoHandshake = refl
+-- the flow of a side has its gap at its end
+pub gap-at-end : (initial : Option ℕ) (capture : List ℕ) (segments : List Segment) (flow : Flow)
+    → IsFlowFrom initial capture segments flow → HasGapAtEnd flow
+gap-at-end (Some isn) capture segments flow is =
+    gap-from (source isn segments) (length (bytes_of flow)) flow.gap is.1.gap_is
+gap-at-end None capture segments flow is = λ offset at. let none : None ≡ Some offset = sym is.3 ∙ at in absurd cc
 
-pub found-each : (credits : Bool) (parts : List (Part ConnectionCut))
-    → map (λ frames. shown credits (pass frames)) (frames_each parts) ≡ found_in credits parts
-found-each credits [] = refl
-found-each credits (p ∷ parts) = rw (found-in credits p.made.cut, found-each credits parts) refl
+kept-first : (o : Outcome) (rest : List (List Frame)) → HasOrderlyOutcome o → All runs.IsOrderly rest
+    → All runs.IsOrderly (frames_of o ++ rest)
+kept-first (outcome.Audited audited) rest orderly all =
+    All-cons runs.IsOrderly audited.value.frames.items rest orderly all
+kept-first (outcome.Quiet quiet) rest orderly all = all
+kept-first outcome.NotHttp2 rest orderly all = all
+kept-first outcome.NoPreface rest orderly all = all
+kept-first outcome.NoHandshake rest orderly all = all
+
+pub kept-orderly : (parts : List (Part Told)) → All (λ (part : Part Told). HasOrderlyOutcome part.made.outcome) parts
+    → All runs.IsOrderly (kept_in parts)
+kept-orderly [] all = All-nil runs.IsOrderly
+kept-orderly (p ∷ parts) all =
+    let whole = λ (part : Part Told). HasOrderlyOutcome part.made.outcome in
+    kept-first p.made.outcome (kept_in parts) (All-head whole p parts all)
+    (kept-orderly parts (All-tail whole p parts all))
 
 -- a fact of what each of some references stands for
-pub All-lent : (lent : List (Bor (List Frame))) → All IsOrderly (map (λ frames. frames.now) lent)
-    → All (λ frames. IsOrderly frames.now) lent
-All-lent [] all = All-nil (λ (frames : Bor (List Frame)). IsOrderly frames.now)
+pub All-lent : (lent : List (Bor (List Frame))) → All runs.IsOrderly (map (λ frames. frames.now) lent)
+    → All (λ frames. runs.IsOrderly frames.now) lent
+All-lent [] all = All-nil (λ (frames : Bor (List Frame)). runs.IsOrderly frames.now)
 All-lent (x ∷ lent) all =
-    All-cons (λ (frames : Bor (List Frame)). IsOrderly frames.now) x lent
-    (All-head IsOrderly x.now (map (λ (frames : Bor (List Frame)). frames.now) lent) all)
-    (All-lent lent (All-tail IsOrderly x.now (map (λ (frames : Bor (List Frame)). frames.now) lent) all))
+    All-cons (λ (frames : Bor (List Frame)). runs.IsOrderly frames.now) x lent
+    (All-head runs.IsOrderly x.now (map (λ (frames : Bor (List Frame)). frames.now) lent) all)
+    (All-lent lent (All-tail runs.IsOrderly x.now (map (λ (frames : Bor (List Frame)). frames.now) lent) all))
 
 pub found-lent : (credits : Bool) (lent : List (Bor (List Frame)))
     → map (λ frames. shown credits (pass frames.now)) lent

@@ -1,7 +1,8 @@
 mod Kept
 mod Leaving
-mod Audits
 mod OneReport
 mod Flows
+mod Found
 mod Opened
 mod Turns
+mod Walked

@@ -1,2 +1,4 @@
 pub mod Reading
 pub mod Flows
+pub mod Found
+pub mod Quiet

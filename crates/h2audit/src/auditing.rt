@@ -1,18 +1,17 @@
-ghost use Rattle.std.specs.Prelude.{◌≡◌, ◌<◌, ◌^◌, IfOk, IfErr, IsTrue, length};
-ghost use Rattle.pcap_records.specs.LinkType.{is_read};
-ghost use Rattle.pcap_records.specs.code.Place.{AreTimely, AreWithin};
-ghost use Rattle.pcap_records.specs.code.Walk.{IsWalkIn};
-ghost use Rattle.h2audit.specs.Report.{IsNoReport, IsReport, IsReportOn};
+ghost use Rattle.std.specs.Prelude.{◌≡◌, ◌<◌, ◌^◌, IfOk, IfErr, None, length};
+ghost use Rattle.pcap_records.specs.Refusal.{refusal};
+ghost use Rattle.packet_heads.specs.code.Walk.{AreInOrder, ArePacketsOf, IsPacketWalkIn};
+ghost use Rattle.h2audit.specs.Report.{IsNoReport, IsReport};
 
-use crate::connection::{audit_each, verdict_on};
+use crate::connection::{audit_each, flows_each, verdict_on};
 use crate::division::division;
 use crate::fault::AuditFault;
 use crate::verdict::Verdict;
 use audit_report::{capture_lines, report};
 use command_line::Options;
 use job_crew::Gate;
-use packet_heads::{Packets, decode_all};
-use pcap_records::{Capture, PcapFault, RecordWalk, Records};
+use packet_heads::{CapturePackets, PacketWalk, Packets};
+use pcap_records::{Capture, PcapFault};
 use std::alloc::{AllocError, Global};
 use std::random::RandomSource;
 use std::thread::Threads;
@@ -34,7 +33,7 @@ pub fn audit(
     ensures refused { IfErr result (λ e. IsNoReport capture.now e) }
 {
     // A refusal takes no memory, so it comes before the parts.
-    let walk = match RecordWalk::begin(alloc, capture) {
+    let walk = match PacketWalk::begin(alloc, capture) {
         Ok(walk) => walk,
         Err(refusal) => return Err(AuditFault::Pcap(refusal)),
     };
@@ -44,16 +43,16 @@ pub fn audit(
     }
 }
 
-/// The report of a capture that is held in parts, and its verdict. The walk read a front of the capture's records.
+/// The report of a capture that is held in parts, and its verdict. The walk made a front of the capture's packets.
 pub(crate) fn audit_parts(
     rt: &(impl Threads + Sync + RandomSource),
     alloc: Global,
     options: &Options,
-    walk: RecordWalk,
+    walk: PacketWalk,
     capture: &Capture<'_>,
     gate: &impl Gate,
 ) -> Result<(Vec<u8>, Verdict), AuditFault>
-    requires { IsWalkIn capture.now walk }
+    requires { IsPacketWalkIn capture.now walk }
     ensures report { IfOk result
         (λ r. IsReport capture.now options.now.frames_shown r.0.items r.1) }
     ensures refused { IfErr result (λ e. IsNoReport capture.now e) }
@@ -68,46 +67,41 @@ pub(crate) fn audit_parts(
     }
 }
 
-/// The report of a capture whose records are these, and its verdict.
+/// The report of a capture whose packets are these, and its verdict.
 fn audit_records(
     rt: &(impl Threads + Sync + RandomSource),
     alloc: Global,
-    found: Records,
+    found: CapturePackets,
     capture: &Capture<'_>,
     options: &Options,
     gate: &impl Gate,
 ) -> Result<(Vec<u8>, Verdict), AllocError>
     requires size { length capture.now < 2 ^ 31 }
-    requires linked { IsTrue (is_read found.link) }
-    requires within { AreWithin (length capture.now) found.rows.items }
-    requires timely { AreTimely found.rows.items }
-    ensures { IfOk result (λ r. IsReportOn capture.now found options.now.frames_shown
-        r.0.items r.1) }
+    requires taken { refusal capture.now ≡ None }
+    requires packets { ArePacketsOf capture.now found }
+    requires order { AreInOrder (length capture.now) found }
+    ensures { IfOk result (λ r. IsReport capture.now options.now.frames_shown r.0.items r.1) }
 {
-    let made = decode_all(rt, alloc, options.workers(), &found, capture)?;
+    let CapturePackets { parts: made, cut } = found;
     let packets = Packets::of(alloc, made.as_slice())?;
     let division = division(options, TableHash::drawn(rt));
     let connections = connections(alloc, division.hash, &packets)?;
     let Connections { opened, strays } = connections;
-    // From here on there are no records, whose memory frames may take.
-    let begun = capture_lines(alloc, found, &packets, strays)?;
-    let audited = audit_each(
-        rt,
-        alloc,
-        options,
-        &division,
-        capture,
-        &packets,
-        opened.as_slice(),
-        gate,
-    )?;
+    // From here on there are no strays, whose memory frames may take.
+    let begun = capture_lines(alloc, cut, &packets, strays)?;
+    let opened = opened.as_slice();
+    let parts = flows_each(rt, alloc, options, capture, &packets, opened, gate)?;
+    // Nor are there packets once there are flows.
+    drop(packets);
+    drop(made);
+    let told = audit_each(rt, alloc, options, &division, parts, gate)?;
     let text = report(
         alloc,
         begun,
-        opened.as_slice(),
-        audited.as_slice(),
+        opened,
+        told.as_slice(),
         options.frames_shown(),
     )?;
-    let verdict = verdict_on(audited.as_slice());
+    let verdict = verdict_on(told.as_slice());
     Ok((text, verdict))
 }

@@ -1,181 +1,181 @@
 //! The audits of all connections of a capture: their flows, what these hold, and what is found in the frames.
 
-ghost use Rattle.std.specs.Prelude.{◌≡◌, ◌<◌, ◌^◌, All, IfOk, length, map};
+ghost use Rattle.std.specs.Prelude.{◌≡◌, ◌<◌, ◌^◌, All, IfOk, List, length, map};
+ghost use Rattle.std.specs.List.{list_any};
+ghost use Rattle.std.specs.Vec.Iter.{into_iter_items};
 ghost use Rattle.packet_heads.specs.code.Order.{AreNumberedFrom, PayloadsRise, TimesFit};
 ghost use Rattle.tcp_streams.specs.code.Orderly.{AreMembers};
 ghost use Rattle.tcp_streams.specs.declared.members.Connection.{Connection};
+ghost use Rattle.job_crew.specs.declared.parts.Part.{Part};
+ghost use Rattle.audit_report.specs.code.Reported.{AreToldOf, HasOrderlyOutcome};
 ghost use Rattle.audit_report.specs.declared.audited.Audited.{Audited};
-ghost use Rattle.h2_frames.specs.code.Orderly.{HasOrderlyFrames};
-ghost use Rattle.h2audit.specs.Audited.{AreAudited, findings_of, has_fault, verdict_of};
-ghost use Rattle.h2audit.specs.code.Flows.{AreConnectionCuts, frames_in, found_in, audit_with, audits_of};
-ghost use Rattle.audit_terms.specs.declared.findings.Finding.{Finding};
+ghost use Rattle.audit_report.specs.declared.told.Told.{Told};
 ghost use Rattle.audit_terms.specs.Kind.{is_fault};
-ghost use Rattle.std.specs.List.{list_any};
+ghost use Rattle.audit_terms.specs.declared.findings.Finding.{Finding};
+ghost use Rattle.h2audit.specs.Audited.{verdict_of};
+ghost use Rattle.h2audit.specs.code.Flows.{AreToldFlows};
+ghost use Rattle.h2audit.specs.code.Found.{AreFound, all_with, found_in, has_fault_in, kept_in, left_after, with_next};
 
-use crate::flow_round::{ConnectionCut, FlowRound};
+use crate::flow_round::FlowRound;
 use crate::verdict::Verdict;
-use audit_report::Audited;
+use audit_report::{Outcome, Told};
 use audit_rounds::{Division, findings_of_each};
 use audit_terms::{Finding, Frame, Place};
 use command_line::Options;
-use h2_frames::Cut;
 use job_crew::{Gate, Part, settle};
 use packet_heads::Packets;
 use pcap_records::Capture;
 use std::alloc::{AllocError, Global};
 use std::thread::Threads;
+use std::vec::IntoIter;
 use tcp_streams::Connection;
 
-/// The audits of the connections of a capture, in order.
-pub(crate) fn audit_each(
+/// What the flows of each connection hold, in order.
+pub(crate) fn flows_each(
     rt: &(impl Threads + Sync),
     alloc: Global,
     options: &Options,
-    division: &Division,
     capture: &Capture<'_>,
     packets: &Packets<'_>,
     opened: &[Connection],
     gate: &impl Gate,
-) -> Result<Vec<Audited>, AllocError>
-    requires workers { 0 < division.now.workers }
+) -> Result<Vec<Part<Told>>, AllocError>
     requires size { length capture.now < 2 ^ 31 }
     requires few { length opened.now < 2 ^ 32 }
     requires numbered { AreNumberedFrom 1 packets.now }
     requires payloads { PayloadsRise 0 (length capture.now) packets.now }
     requires times { TimesFit packets.now }
     requires members { All (λ (c : Connection). AreMembers 0 packets.now c.members.items) opened.now }
-    ensures audits { IfOk result (λ each. AreAudited options.now.frames_shown capture.now
-        packets.now opened.now each.items) }
-    ensures orderly { IfOk result (λ each. All (λ (a : Audited). HasOrderlyFrames a.cut) each.items) }
-{
-    let cuts = cut_each(rt, alloc, division, capture, packets, opened, gate)?;
-    let found = find_each(rt, alloc, options, division, cuts.as_slice(), gate)?;
-    let each = together(alloc, cuts, found)?;
-    Ok(each)
-}
-
-/// What the flows of each connection hold, in order.
-fn cut_each(
-    rt: &(impl Threads + Sync),
-    alloc: Global,
-    division: &Division,
-    capture: &Capture<'_>,
-    packets: &Packets<'_>,
-    opened: &[Connection],
-    gate: &impl Gate,
-) -> Result<Vec<Part<ConnectionCut>>, AllocError>
-    requires workers { 0 < division.now.workers }
-    requires size { length capture.now < 2 ^ 31 }
-    requires few { length opened.now < 2 ^ 32 }
-    requires numbered { AreNumberedFrom 1 packets.now }
-    requires payloads { PayloadsRise 0 (length capture.now) packets.now }
-    requires times { TimesFit packets.now }
-    requires members { All (λ (c : Connection). AreMembers 0 packets.now c.members.items) opened.now }
-    ensures { IfOk result (λ cuts. AreConnectionCuts capture.now packets.now opened.now cuts.items) }
+    ensures { IfOk result (λ parts. AreToldFlows options.now.frames_shown capture.now packets.now opened.now
+        parts.items) }
 {
     let mut stops: Vec<Option<Place>> = Vec::new(alloc);
     stops.resize(opened.len(), None)?;
-    let workers = division.workers as usize;
+    let workers = options.workers();
     let round = FlowRound {
         rt,
-        threads: workers.checked_div(opened.len()).unwrap_or(1),
+        threads: (workers as usize).checked_div(opened.len()).unwrap_or(1),
+        credits_shown: options.frames_shown(),
         capture,
         packets,
         opened,
     };
-    let settled = settle(
-        rt,
-        alloc,
-        division.workers,
-        gate,
-        FLOWS,
-        stops.as_slice(),
-        &round,
-    )?;
+    let settled = settle(rt, alloc, workers, gate, FLOWS, stops.as_slice(), &round)?;
     Ok(settled.parts)
 }
 
 /// The number of the first round.
 const FLOWS: u8 = 0;
 
-/// What is found in the frames of each connection, in order.
+/// What is told of each connection, in order, from what its flows hold.
+pub(crate) fn audit_each(
+    rt: &(impl Threads + Sync),
+    alloc: Global,
+    options: &Options,
+    division: &Division,
+    parts: Vec<Part<Told>>,
+    gate: &impl Gate,
+) -> Result<Vec<Told>, AllocError>
+    requires { All (λ (part : Part Told). HasOrderlyOutcome part.made.outcome) parts.items }
+    ensures { IfOk result (λ told. AreFound options.now.frames_shown parts.items told.items) }
+{
+    let found = find_each(rt, alloc, options, division, parts.as_slice(), gate)?;
+    together(alloc, parts, found)
+}
+
+/// What is found in the frames of each connection of which they are kept, in order.
 fn find_each(
     rt: &(impl Threads + Sync),
     alloc: Global,
     options: &Options,
     division: &Division,
-    cuts: &[Part<ConnectionCut>],
+    parts: &[Part<Told>],
     gate: &impl Gate,
 ) -> Result<Vec<Vec<Finding>>, AllocError>
-    requires { All (λ cut. HasOrderlyFrames cut.made.cut) cuts.now }
+    requires { All (λ (part : Part Told). HasOrderlyOutcome part.made.outcome) parts.now }
     ensures { IfOk result (λ found. map (λ one. one.items) found.items
-        ≡ found_in options.now.frames_shown cuts.now) }
+        ≡ found_in options.now.frames_shown parts.now) }
 {
-    let mut frames = Vec::with_capacity(alloc, cuts.len())?;
-    for cut in cuts {
-        frames.push(frames_in(&cut.made.cut))?;
-    }
+    let kept = kept_in(alloc, parts)?;
     let credits_shown = options.frames_shown();
-    let found = findings_of_each(rt, alloc, division, gate, credits_shown, frames.as_slice())?;
+    let found = findings_of_each(rt, alloc, division, gate, credits_shown, kept.as_slice())?;
     Ok(found)
 }
 
-/// The frames of a connection, if it is one of HTTP/2.
-fn frames_in(cut: &Cut) -> &[Frame]
-    ensures { result.now ≡ frames_in cut.now }
+/// The frames that are kept, of each connection that has some.
+fn kept_in<'a>(alloc: Global, parts: &'a [Part<Told>]) -> Result<Vec<&'a [Frame]>, AllocError>
+    ensures { IfOk result (λ kept. map (λ frames. frames.now) kept.items ≡ kept_in parts.now) }
 {
-    match cut {
-        Cut::Http2 { frames, .. } => frames.as_slice(),
-        _ => &[],
+    let mut kept = Vec::new(alloc);
+    for part in parts {
+        if let Outcome::Audited(audited) = &part.made.outcome {
+            kept.push(audited.frames.as_slice())?;
+        }
+    }
+    Ok(kept)
+}
+
+/// What is told of each connection: what its flows hold, with what was found in the frames that are kept.
+fn together(
+    alloc: Global,
+    parts: Vec<Part<Told>>,
+    found: Vec<Vec<Finding>>,
+) -> Result<Vec<Told>, AllocError>
+    ensures { IfOk result (λ told. told.items ≡ all_with parts.items found.items) }
+{
+    let mut all = Vec::with_capacity(alloc, parts.len())?;
+    let mut rest = found.into_iter();
+    for part in parts {
+        all.push(with_next(part.made, &mut rest))?;
+    }
+    Ok(all)
+}
+
+/// What is told of a connection, with the next findings where its frames are kept.
+fn with_next(told: Told, found: &mut IntoIter<Vec<Finding>>) -> Told
+    ensures with { result ≡ with_next told (into_iter_items found.old) }
+    ensures left { into_iter_items found.new ≡ left_after told.outcome (into_iter_items found.old) }
+{
+    let Told { reach, outcome } = told;
+    match outcome {
+        Outcome::Audited(mut audited) => {
+            if let Some(findings) = found.next() {
+                audited.findings = findings;
+            }
+            let outcome = Outcome::Audited(audited);
+            Told { reach, outcome }
+        }
+        outcome => Told { reach, outcome },
     }
 }
 
-/// The audit of each connection, from what its flows hold and what is found in its frames.
-fn together(
-    alloc: Global,
-    cuts: Vec<Part<ConnectionCut>>,
-    found: Vec<Vec<Finding>>,
-) -> Result<Vec<Audited>, AllocError>
-    requires number { length found.items ≡ length cuts.items }
-    ensures audits { IfOk result (λ each. each.items ≡ audits_of cuts.items found.items) }
-{
-    cuts.into_iter()
-        .zip(found)
-        .map(
-            |pair: (Part<ConnectionCut>, Vec<Finding>)| -> Audited
-                ensures { result ≡ audit_with pair }
-            {
-                let (part, findings) = pair;
-                Audited {
-                    extents: part.made.extents,
-                    cut: part.made.cut,
-                    findings,
-                }
-            },
-        )
-        .collect(alloc)
-}
-
 /// Faults where some connection has a finding that is a fault.
-pub(crate) fn verdict_on(audited: &[Audited]) -> Verdict
-    ensures { result ≡ verdict_of audited.now }
+pub(crate) fn verdict_on(told: &[Told]) -> Verdict
+    ensures { (audited : List Audited) → AreToldOf told.now audited → result ≡ verdict_of audited }
 {
-    if any_has_fault(audited) {
+    if any_has_fault(told) {
         Verdict::Faults
     } else {
         Verdict::Clean
     }
 }
 
-fn any_has_fault(audited: &[Audited]) -> bool
-    ensures { result ≡ list_any has_fault audited.now }
+fn any_has_fault(told: &[Told]) -> bool
+    ensures { result ≡ list_any (λ (one : Told). has_fault_in one.outcome) told.now }
 {
-    audited
-        .iter()
-        .any(|audit| has_fault_in(audit.findings.as_slice()))
+    told.iter().any(|one| has_fault_in(&one.outcome))
 }
 
-fn has_fault_in(findings: &[Finding]) -> bool
+fn has_fault_in(outcome: &Outcome) -> bool
+    ensures { result ≡ has_fault_in outcome.now }
+{
+    match outcome {
+        Outcome::Audited(audited) => has_fault(audited.findings.as_slice()),
+        _ => false,
+    }
+}
+
+fn has_fault(findings: &[Finding]) -> bool
     ensures { result ≡ list_any (λ (finding : Finding). is_fault finding.kind) findings.now }
 {
     findings.iter().any(|finding| finding.kind.is_fault())

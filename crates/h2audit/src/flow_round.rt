@@ -1,13 +1,16 @@
 //! The first round: both flows of each connection, and what they hold.
 
-ghost use Rattle.std.specs.Prelude.{◌≡◌, IfOk};
+ghost use Rattle.std.specs.Prelude.{◌≡◌, ◌+◌, ◌<◌, ◌^◌, IfOk, length};
+ghost use Rattle.audit_report.specs.code.Reported.{HasGapAtEnd};
 ghost use Rattle.audit_terms.specs.declared.sides.Side.{Side};
 ghost use Rattle.audit_terms.specs.declared.sides.Side.TheVariants.{Client, Server};
-ghost use Rattle.h2audit.specs.code.Flows.{AreFlows, AreSources, IsConnectionCut, IsSideFlow};
+ghost use Rattle.h2audit.specs.code.Flows.{AreFlows, AreSources, IsHeldBy, IsSideFlow, IsToldOfFlows, KeepsCut};
+ghost use Rattle.tcp_streams.specs.Bytes.{bytes_of};
+ghost use Rattle.tcp_streams.specs.code.Orderly.{IsOrderly};
 
-use crate::room::{begin_room, finish_room};
-use audit_report::Extent;
-use audit_terms::{Look, Side, Sides};
+use crate::quiet::quiet_connection;
+use audit_report::{AuditedFrames, Outcome, Reach, Told};
+use audit_terms::{Look, Side};
 use h2_frames::{Cut, cut};
 use job_crew::{Round, Work};
 use packet_heads::Packets;
@@ -16,13 +19,6 @@ use std::alloc::{AllocError, Global};
 use std::marker::Model;
 use std::thread::{Threads, join};
 use tcp_streams::{Connection, Flow, assemble};
-
-/// What the two flows of a connection hold, and how far they reach.
-#[derive(Drop)]
-pub(crate) struct ConnectionCut {
-    pub(crate) extents: Sides<Extent>,
-    pub(crate) cut: Cut,
-}
 
 /// What is made for each side of a connection.
 ///
@@ -94,8 +90,10 @@ impl<'a, 'b> ForSides for Sources<'a, 'b> {
 #[derive(Drop)]
 pub(crate) struct FlowRound<'a, R: Threads + Sync> {
     pub(crate) rt: &'a R,
-    /// How many threads there are for each connection: two make its flows, and a third room for its frames.
+    /// How many threads there are for each connection: two make its flows.
     pub(crate) threads: usize,
+    /// Are credits shown? Then all frames are kept.
+    pub(crate) credits_shown: bool,
     pub(crate) capture: &'a Capture<'a>,
     pub(crate) packets: &'a Packets<'a>,
     pub(crate) opened: &'a [Connection],
@@ -106,9 +104,15 @@ impl<'a, R: Threads + Sync> Model for FlowRound<'a, R> {
 
     ghost Value = { FlowView };
 
-    ghost view = { λ r. record { capture = r.capture.now; packets = r.packets.now; opened = r.opened.now } };
+    ghost view = { λ r. record {
+      credits_shown = r.credits_shown;
+      capture = r.capture.now;
+      packets = r.packets.now;
+      opened = r.opened.now;
+    } };
 
     ghost invariant = { λ r. IsFlowView (record {
+      credits_shown = r.credits_shown;
       capture = r.capture.now;
       packets = r.packets.now;
       opened = r.opened.now;
@@ -116,16 +120,16 @@ impl<'a, R: Threads + Sync> Model for FlowRound<'a, R> {
 }
 
 impl<R: Threads + Sync> Round for FlowRound<'_, R> {
-    type Made = ConnectionCut;
+    type Made = Told;
 
     ghost use Rattle.std.specs.Prelude.{◌≡◌, [], slice_get, Some};
     ghost use Rattle.tcp_streams.specs.declared.members.Connection.{Connection};
-    ghost use Rattle.h2audit.specs.code.Flows.{IsConnectionCut, flow_jobs};
+    ghost use Rattle.h2audit.specs.code.Flows.{IsToldFlows, flow_jobs};
 
     ghost jobs = { λ s. flow_jobs 0 s.opened };
 
     ghost makes = { λ s job upto made. (connection : Connection) → slice_get s.opened job ≡ Some connection
-        → IsConnectionCut s.capture s.packets connection made };
+        → IsToldFlows s.credits_shown s.capture s.packets connection made };
 
     ghost looks = { λ s job asked upto. asked ≡ [] };
 
@@ -142,15 +146,23 @@ impl<R: Threads + Sync> Round for FlowRound<'_, R> {
         alloc: Global,
         job: u32,
         _look: &mut L,
-    ) -> Result<Work<ConnectionCut>, AllocError> {
+    ) -> Result<Work<Told>, AllocError> {
         let connection = &self.opened[job as usize];
-        let made = cut_connection(
+        let flows = flows_of(
             self.rt,
             alloc,
             self.threads,
             self.capture,
             self.packets,
             connection,
+        )?;
+        let made = told_of(
+            self.rt,
+            alloc,
+            self.threads,
+            self.credits_shown,
+            &flows.0,
+            &flows.1,
         )?;
         Ok(Work {
             findings: Vec::new(alloc),
@@ -160,33 +172,69 @@ impl<R: Threads + Sync> Round for FlowRound<'_, R> {
     }
 }
 
-/// What the flows of one connection hold.
-fn cut_connection<R: Threads>(
+/// What the flows of one connection hold, with nothing found yet.
+fn told_of<R: Threads>(
     rt: &R,
     alloc: Global,
     threads: usize,
-    capture: &Capture<'_>,
-    packets: &Packets<'_>,
-    connection: &Connection,
-) -> Result<ConnectionCut, AllocError>
-    requires { AreSources capture.now packets.now connection.now }
-    ensures { IfOk result (IsConnectionCut capture.now packets.now connection.now) }
+    credits_shown: bool,
+    client: &Flow,
+    server: &Flow,
+) -> Result<Told, AllocError>
+    requires client { IsOrderly client.now }
+    requires server { IsOrderly server.now }
+    requires client_gap { HasGapAtEnd client.now }
+    requires server_gap { HasGapAtEnd server.now }
+    requires together { length (bytes_of client.now) + length (bytes_of server.now) < 2 ^ 31 }
+    ensures { IfOk result (IsToldOfFlows credits_shown client.now server.now) }
 {
-    let maker = if 3 <= threads {
-        begin_room(rt, alloc, connection)
-    } else {
-        None
-    };
-    let flows = flows_of(rt, alloc, threads, capture, packets, connection);
-    // The room is waited for also where the flows want memory.
-    let room = finish_room(rt, alloc, maker);
-    let (client, server) = flows?;
-    let cut = cut(alloc, &client, &server, room)?;
-    // Of the flows the report needs their extents alone.
-    Ok(ConnectionCut {
-        extents: Extent::of_both(&client, &server),
-        cut,
+    // Of the flows the report needs their reach alone.
+    Ok(Told {
+        reach: Reach::of_both(client, server),
+        outcome: outcome_of(rt, alloc, threads, credits_shown, client, server)?,
     })
+}
+
+/// The same, without the reach. No list of frames is made where it shows on the way that nothing is shown of them.
+fn outcome_of<R: Threads>(
+    rt: &R,
+    alloc: Global,
+    threads: usize,
+    credits_shown: bool,
+    client: &Flow,
+    server: &Flow,
+) -> Result<Outcome, AllocError>
+    requires client { IsOrderly client.now }
+    requires server { IsOrderly server.now }
+    requires together { length (bytes_of client.now) + length (bytes_of server.now) < 2 ^ 31 }
+    ensures { IfOk result (IsHeldBy credits_shown client.now server.now) }
+{
+    if !credits_shown {
+        if let Some(quiet) = quiet_connection(rt, alloc, threads, client, server)? {
+            return Ok(Outcome::Quiet(quiet));
+        }
+    }
+    let cut = cut(alloc, client, server, Vec::new(alloc))?;
+    outcome_in(alloc, cut)
+}
+
+/// What a cut holds, with nothing found yet.
+fn outcome_in(alloc: Global, cut: Cut) -> Result<Outcome, AllocError>
+    ensures { IfOk result (λ outcome. KeepsCut outcome cut) }
+{
+    match cut {
+        Cut::Http2 { frames, tails } => {
+            let audited = AuditedFrames {
+                frames,
+                tails,
+                findings: Vec::new(alloc),
+            };
+            Ok(Outcome::Audited(Box::new(alloc, audited)?))
+        }
+        Cut::NotHttp2 => Ok(Outcome::NotHttp2),
+        Cut::NoPreface => Ok(Outcome::NoPreface),
+        Cut::NoHandshake => Ok(Outcome::NoHandshake),
+    }
 }
 
 /// The flows of both sides, by two threads where there are as many.

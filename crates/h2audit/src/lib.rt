@@ -28,14 +28,16 @@
 //!
 //! 2^31 bytes, at which reading stops, are refused as the whole is. Where the file header refuses a capture, it alone
 //! is kept (`brief`), since what follows changes no answer (`pcap_records::laws::header_refuses`). What is kept and its
-//! packets stand in parts, and nothing is copied from part to part. Round 0 has a job for each connection, which
-//! assembles both of its flows and cuts them; another thread may make room for the frames meanwhile. `audit_rounds` has
-//! the rounds after it.
+//! packets stand in parts, and nothing is copied from part to part. Packets are made of each part as it has been read,
+//! by the thread that reads. Round 0 has a job for each connection, which assembles both of its flows. Where credits
+//! are not shown, their frames are met one by one (`quiet_pass`), and where nothing is shown of them, as mostly, the
+//! number of frames and the tails are all that is kept. Else the flows are cut into a list of frames, and
+//! `audit_rounds` has the rounds that these go through.
 //!
 //! Wrong bodies that the prover refuses: an empty report, a verdict by errors alone, words always refused, options not
-//! heeded, "read failed" whatever FILE gave, standard input read though FILE is named. Tested, in
-//! `crate_tests`: the texts of faults; in `tests/` at the root: what the program answers to words, whole reports, long
-//! captures.
+//! heeded, "read failed" whatever FILE gave, standard input read though FILE is named, credits left out where they are
+//! asked for. Tested, in `crate_tests`: the texts of faults; in `tests/` at the root: what the program answers to
+//! words, whole reports, long captures.
 #![tactic(auto)]
 
 mod auditing;
@@ -45,8 +47,8 @@ mod fault;
 mod flow_round;
 pub mod laws;
 mod program;
+mod quiet;
 mod reading;
-mod room;
 mod running;
 mod status;
 mod verdict;

@@ -1,6 +1,6 @@
 ghost use Rattle.std.specs.Prelude.{◌≡◌, ◌^◌, IfErr, IfOk, IfSome, OnOk, Some, take};
 ghost use Rattle.pcap_records.specs.Refusal.{refusal};
-ghost use Rattle.pcap_records.specs.code.Walk.{IsWalkIn};
+ghost use Rattle.packet_heads.specs.code.Walk.{IsPacketWalkIn};
 ghost use Rattle.byte_accounts.specs.Account.{HaveGiven, IsReadToEnd, IsUnread, OfGiven, kept};
 ghost use Rattle.byte_accounts.specs.code.Reading as accounted;
 ghost use Rattle.h2audit.specs.Account.{IsBrief};
@@ -8,7 +8,8 @@ ghost use Rattle.h2audit.specs.code.Reading.{AnswersFor, IsReadingFault};
 
 use crate::fault::AuditFault;
 use byte_accounts::{CaptureReader, PartsAhead, ReadFault, keep_and_walk, keep_up_to, pass_over};
-use pcap_records::{PcapFault, RecordWalk};
+use packet_heads::PacketWalk;
+use pcap_records::PcapFault;
 use std::alloc::Global;
 use std::io::Read;
 use std::thread::Threads;
@@ -17,22 +18,22 @@ use std::thread::Threads;
 const HEADER: usize = 24;
 
 /// Reads to the end, or until there are 2^31 bytes, and keeps what its answer can depend on: all of it, or the file
-/// header alone where that refuses it. Answers that refusal, or a walk over the records so far.
+/// header alone where that refuses it. Answers that refusal, or a walk that has made the packets so far.
 ///
-/// Other workers make room ahead of the reads, and walk.
+/// Other workers make room ahead of the reads.
 pub(crate) fn read_capture<R: Read>(
     rt: &(impl Threads + Sync),
     alloc: Global,
     workers: u32,
     reader: &mut CaptureReader<R>,
-) -> Result<Result<RecordWalk, PcapFault>, AuditFault>
+) -> Result<Result<PacketWalk, PcapFault>, AuditFault>
     requires { IsUnread reader.old }
     ensures bytes { OnOk result (IfSome (R.remaining reader.old.reader)
         (λ all. HaveGiven reader.new (take (2 ^ 31) all))) }
     ensures ok { OnOk result (IsReadToEnd reader.new) }
     ensures answers { OnOk result (OfGiven reader.new (AnswersFor (kept reader.new))) }
     ensures brief { OnOk result (IsBrief reader.new) }
-    ensures walk { IfOk result (λ read. IfOk read (IsWalkIn (kept reader.new))) }
+    ensures walk { IfOk result (λ read. IfOk read (IsPacketWalkIn (kept reader.new))) }
     ensures refused { IfOk result (λ read. IfErr read (λ e. refusal (kept reader.new) ≡ Some e)) }
     ensures err { IfErr result (λ e. IsReadingFault e reader.new) }
 {
@@ -51,19 +52,19 @@ fn read_in_parts<T: Threads, R: Read>(
     alloc: Global,
     ahead: &mut PartsAhead<'_, T>,
     reader: &mut CaptureReader<R>,
-) -> Result<Result<RecordWalk, PcapFault>, ReadFault>
+) -> Result<Result<PacketWalk, PcapFault>, ReadFault>
     requires { IsUnread reader.old }
     ensures bytes { OnOk result (IfSome (R.remaining reader.old.reader)
         (λ all. HaveGiven reader.new (take (2 ^ 31) all))) }
     ensures ok { OnOk result (IsReadToEnd reader.new) }
     ensures answers { OnOk result (OfGiven reader.new (AnswersFor (kept reader.new))) }
     ensures brief { OnOk result (IsBrief reader.new) }
-    ensures walk { IfOk result (λ read. IfOk read (IsWalkIn (kept reader.new))) }
+    ensures walk { IfOk result (λ read. IfOk read (IsPacketWalkIn (kept reader.new))) }
     ensures refused { IfOk result (λ read. IfErr read (λ e. refusal (kept reader.new) ≡ Some e)) }
     ensures err { IfErr result (λ e. accounted.IsReadingFault e reader.new) }
 {
     keep_up_to(ahead, reader, HEADER)?;
-    let begun = RecordWalk::begin(alloc, reader.together());
+    let begun = PacketWalk::begin(alloc, reader.together());
     if reader.has_ended() {
         return Ok(begun);
     }

@@ -1,7 +1,7 @@
 ghost use Rattle.std.specs.Prelude.{◌≡◌, IfErr, IfOk, Some};
 ghost use Rattle.std.specs.Io.KnownBytes.{Appends};
 ghost use Rattle.pcap_records.specs.Refusal.{refusal};
-ghost use Rattle.pcap_records.specs.code.Walk.{IsWalkIn};
+ghost use Rattle.packet_heads.specs.code.Walk.{IsPacketWalkIn};
 ghost use Rattle.byte_accounts.specs.Account.{IsReadToEnd, IsUnread, IsUnwritten, kept, written};
 ghost use Rattle.h2audit.specs.Account.{HasGiven, IsBrief, Tells};
 ghost use Rattle.h2audit.specs.Report.{IsNoReport, IsReport};
@@ -13,7 +13,8 @@ use crate::verdict::Verdict;
 use byte_accounts::{CaptureReader, ReportWriter, write_report};
 use command_line::Options;
 use job_crew::Gate;
-use pcap_records::{PcapFault, RecordWalk};
+use packet_heads::PacketWalk;
+use pcap_records::PcapFault;
 use std::alloc::{AllocError, Global};
 use std::io::{Read, Write};
 use std::random::RandomSource;
@@ -68,10 +69,10 @@ fn audit_kept<R: Read>(
     alloc: Global,
     options: &Options,
     reader: &CaptureReader<R>,
-    read: Result<RecordWalk, PcapFault>,
+    read: Result<PacketWalk, PcapFault>,
     gate: &impl Gate,
 ) -> Result<Result<(Vec<u8>, Verdict), AuditFault>, AllocError>
-    requires walk { IfOk read (IsWalkIn (kept reader.now)) }
+    requires walk { IfOk read (IsPacketWalkIn (kept reader.now)) }
     requires refused { IfErr read (λ e. refusal (kept reader.now) ≡ Some e) }
     ensures report { IfOk result (λ answer. IfOk answer
         (λ r. IsReport (kept reader.now) options.now.frames_shown r.0.items r.1)) }

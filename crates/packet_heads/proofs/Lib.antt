@@ -1,7 +1,7 @@
 mod Bits
-mod Halves
 mod Headers
+mod LastPart
 mod Placing
-mod Progress
 mod Rows
 mod Table
+mod Walking

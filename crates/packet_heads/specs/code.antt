@@ -4,3 +4,4 @@ pub mod Link
 pub mod Standing
 pub mod Tcp
 pub mod Order
+pub mod Walk

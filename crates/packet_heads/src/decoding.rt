@@ -6,7 +6,7 @@ ghost use Rattle.packet_heads.specs.Decision.{decision_on, packet_decision, segm
 ghost use Rattle.packet_heads.specs.Ipv4.{segment_bytes};
 ghost use Rattle.packet_heads.specs.code.Ipv4 as ipv4_code;
 ghost use Rattle.packet_heads.specs.code.Tcp as tcp_code;
-ghost use Rattle.packet_heads.specs.code.Standing.{EndsWithin, StandsIn};
+ghost use Rattle.packet_heads.specs.code.Standing.{StandsIn};
 
 use crate::packets::{Endpoint, Packet, Segment};
 use crate::{ipv4, link, tcp};
@@ -46,6 +46,8 @@ fn segment_of(number: u32, row: &Record, partial: bool, at: usize, datagram: &[u
 }
 
 /// What a record with these captured bytes holds: the first line of the table that applies.
+// Called once for each record that lies together, and from one other place.
+#[inline(always)]
 fn decision_on(link: u16, number: u32, row: &Record, packet: &[u8]) -> Packet
     requires linked { IsTrue (is_read link) }
     requires captured { length packet.now ≡ row.now.length }
@@ -82,7 +84,8 @@ pub fn decode(
     capture: &Capture<'_>,
 ) -> Result<Packet, AllocError>
     requires linked { IsTrue (is_read link) }
-    requires inside { EndsWithin (length capture.now) row.now }
+    requires inside { row.now.start + row.now.length ≤ length capture.now }
+    requires short { length capture.now ≤ 2 ^ 31 }
     ensures decided { IfOk result (λ packet. packet ≡ packet_decision link number row.now capture.now) }
     ensures placed { IfOk result (StandsIn number row.now) }
 {
@@ -94,6 +97,25 @@ pub fn decode(
             return Ok(decision_on(link, number, row, &front[..length]));
         }
     }
-    let packet = capture.gathered(alloc, start, start + length)?;
+    decode_gathered(alloc, link, number, row, capture)
+}
+
+/// The same of captured bytes in which parts of the capture meet: they are gathered first.
+#[cold]
+fn decode_gathered(
+    alloc: Global,
+    link: u16,
+    number: u32,
+    row: &Record,
+    capture: &Capture<'_>,
+) -> Result<Packet, AllocError>
+    requires linked { IsTrue (is_read link) }
+    requires inside { row.now.start + row.now.length ≤ length capture.now }
+    requires short { length capture.now ≤ 2 ^ 31 }
+    ensures decided { IfOk result (λ packet. packet ≡ packet_decision link number row.now capture.now) }
+    ensures placed { IfOk result (StandsIn number row.now) }
+{
+    let start = row.start as usize;
+    let packet = capture.gathered(alloc, start, start + row.length as usize)?;
     Ok(decision_on(link, number, row, &packet))
 }

@@ -1,15 +1,18 @@
 -- What the loop over the records keeps.
 use Rattle.std.proofs.Common.{◌≡◌, ◌≤◌, ◌<◌, ◌+◌, ◌-◌, ◌*◌, ◌^◌, ℕ, List, [], ◌∷◌, ◌++◌, length, drop, refl, sym, ap}
-use Rattle.std.proofs.Common.{subst, ◌∙◌, arith, length-append, length-drop, append_assoc, append-nil}
+use Rattle.std.proofs.Common.{Some, subst, ◌∙◌, arith, length-append, length-drop, append_assoc, append-nil}
 use Rattle.std.proofs.lemmas.List.{drop-append-le, take-append-le}
 use Rattle.std.proofs.Math.Seq.{drop-drop}
-use Rattle.pcap_records.specs.FileHeader.{ByteOrder, format_of, number_of}
+use Rattle.pcap_records.specs.FileHeader.{ByteOrder, format_of, header_of, link_of, number_of}
 use Rattle.pcap_records.specs.laws.Readings.{MoreBytesKeepAWalk}
 use Rattle.pcap_records.specs.code.Place.{AreTimely, RiseFrom}
 use Rattle.pcap_records.specs.Record.{AreRecords, BeginsWithRecord, captured_length, record_at}
-use Rattle.pcap_records.specs.code.Walk.{AreRead, Completes}
+use Rattle.pcap_records.specs.Reading.{IsReading, cut_after}
+use Rattle.pcap_records.specs.code.Walk.{AreRead, Completes, HasPassed, IsNextRecord, IsThrough}
 use Rattle.pcap_records.proofs.Fronts.{ReadsFirst, in_front, same_record}
 use Rattle.pcap_records.specs.declared.capture.Record.{Record}
+use Rattle.pcap_records.specs.declared.capture.Records.{Records}
+use Rattle.pcap_records.specs.declared.walk.RecordWalk.{RecordWalk}
 
 -- one more record that begins at the end
 RiseFrom-push : (from end : ℕ) (rows : List Record) (r : Record) → RiseFrom from end rows → end ≤ r.start
@@ -138,8 +141,47 @@ AreRead-more number unit front more rows at read = record {
 
 -- and so does a walk
 pub more_bytes_keep_a_walk_lem : MoreBytesKeepAWalk
-more_bytes_keep_a_walk_lem front more walk is = record {
-  magic = ap format_of (take-append-le 24 front more (omega (arith, is.read.few, is.read.high))) ∙ is.magic;
-  unit = is.unit;
-  read = AreRead-more (number_of walk.format.endian) walk.format.unit front more walk.rows.items walk.at is.read;
+more_bytes_keep_a_walk_lem front more rows walk is =
+    let header : header_of (front ++ more) ≡ header_of front =
+    take-append-le 24 front more (omega (arith, is.read.few, is.read.high)) in
+    record {
+      magic = ap format_of header ∙ is.magic;
+      unit = is.unit;
+      link = is.link ∙ ap (link_of (number_of walk.format.endian)) (sym header);
+      linked = is.linked;
+      read = AreRead-more (number_of walk.format.endian) walk.format.unit front more rows walk.at is.read;
+    }
+
+-- a walk steps over the record that it found
+pub steps-over : (number : ByteOrder) → ReadsFirst number → (front : List ℕ) (rows : List Record) (old new : RecordWalk)
+    (row : Record)
+    → number ≡ number_of old.format.endian
+    → new ≡ record old { at = row.start + row.length }
+    → IsNextRecord number old.format.unit old.at (drop old.at front) (Some row)
+    → HasPassed front rows old → HasPassed front (rows ++ row ∷ []) new
+steps-over number first front rows old new row order moved found passed =
+    let endian : ByteOrder = number_of old.format.endian in
+    let found : IsNextRecord endian old.format.unit old.at (drop old.at front) (Some row) =
+    subst (λ (n : ByteOrder). IsNextRecord n old.format.unit old.at (drop old.at front) (Some row)) order found in
+    subst (HasPassed front (rows ++ row ∷ [])) (sym moved) (record {
+      magic = passed.magic;
+      unit = passed.unit;
+      link = passed.link;
+      linked = passed.linked;
+      read = AreRead-push endian (subst ReadsFirst order first) old.format.unit front rows old.at row passed.read
+          found.0 found.1 found.2;
+    })
+
+-- where a walk is through, its records are a reading of the capture
+pub all_passed : (capture : List ℕ) (walk : RecordWalk) (found : Records) → HasPassed capture found.rows.items walk
+    → IsThrough capture walk → found.link ≡ walk.link
+    → found.cut ≡ cut_after found.rows.items (drop walk.at capture) → IsReading capture found
+all_passed capture walk found passed through link cut = record {
+  format = walk.format;
+  rest = drop walk.at capture;
+  magic = passed.magic;
+  link = link ∙ passed.link;
+  rows = AreRead-end (number_of walk.format.endian) walk.format.unit capture found.rows.items walk.at passed.read
+      through;
+  cut = cut;
 }

@@ -1,3 +1,4 @@
+pub mod Front
 pub mod Nanos
 pub mod Walk
 pub mod Place

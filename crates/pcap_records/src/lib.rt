@@ -6,8 +6,9 @@
 //! in the order of the numbers of [`PcapFault`]. A [`Capture`] is held in parts; a record's header is read where it
 //! lies, and only one in which two parts meet is copied.
 //!
-//! [`RecordWalk`] does the same in steps: a program that reads a capture piece by piece goes on over the records that
-//! have come, and [`RecordWalk::finish`] answers what `records` does. `records` is such a walk in one step.
+//! [`RecordWalk`] does the same in steps, and keeps no record: a program that reads a capture piece by piece is handed
+//! each record that has come. `records` is such a walk that keeps them. What goes on over a capture while it is read,
+//! whatever it makes of the records, is a [`FrontWalk`].
 //!
 //! The contract pins both answers to definitions that go by the bytes alone: `refusal` of `specs/Refusal.antt` looks at
 //! the header and the length, and `IsReading` of `specs/Reading.antt` is a relation by cases, a record of 16 header
@@ -26,13 +27,14 @@
 //!   cut records.
 //!
 //! Wrong bodies that the prover refuses: the original length of a record taken for the captured one; a walk that begins
-//! with the file header, goes on in another order of bytes, or finishes where the capture is refused. Tested, in
+//! with the file header, or goes on in another order of bytes; a refusal left out. Tested, in
 //! `crate_tests`: that `records` succeeds where there is memory, and how faults print.
 #![tactic(auto)]
 
 mod capture;
 mod faults;
 mod format;
+mod front;
 mod header;
 pub mod laws;
 mod nanos;
@@ -43,6 +45,7 @@ pub mod worked_examples;
 
 pub use capture::{CAPTURE_PART, Capture, ETHERNET, RAW_IP, Record, Records};
 pub use faults::PcapFault;
+pub use front::FrontWalk;
 pub use nanos::Nanos;
-pub use reading::{records, refusal};
+pub use reading::{records, refusal, refusal_in_parts};
 pub use walk::RecordWalk;

@@ -1,6 +1,8 @@
-ghost use Rattle.std.specs.Prelude.{◌≡◌, ◌<◌, ◌^◌, ◌⊎◌, IfOk, IfErr, IfSome, IsTrue, None, OnOk, Some, length};
+ghost use Rattle.std.specs.Prelude.{◌≡◌, ◌<◌, ◌^◌, ◌⊎◌, IfOk, IfErr, IfNone, IfSome, IsTrue, None, OnOk, Some, length};
+ghost use Rattle.std.specs.Prelude.{List, []};
 ghost use Rattle.pcap_records.specs.LinkType.{is_read};
 ghost use Rattle.pcap_records.specs.code.Place.{AreWithin, AreTimely};
+ghost use Rattle.pcap_records.specs.code.Walk.{HasPassed};
 ghost use Rattle.pcap_records.specs.Reading.{IsReading};
 ghost use Rattle.pcap_records.specs.Refusal.{refusal};
 
@@ -8,13 +10,21 @@ use crate::capture::{Capture, Records};
 use crate::faults::PcapFault;
 use crate::header::{format_or_refusal, header, header_in_parts};
 use crate::walk::RecordWalk;
-use std::alloc::Global;
+use std::alloc::{AllocError, Global};
 
 /// Why a capture with these bytes is refused, if it is: by its header and its length alone.
 pub fn refusal(capture: &[u8]) -> Option<PcapFault>
     ensures { result ≡ refusal capture.now }
 {
     format_or_refusal(header(capture), capture.len()).err()
+}
+
+/// The same of a capture in parts.
+pub fn refusal_in_parts(capture: &Capture<'_>) -> Option<PcapFault>
+    ensures is { result ≡ refusal capture.now }
+    ensures short { IfNone result (length capture.now < 2 ^ 31) }
+{
+    format_or_refusal(header_in_parts(capture), capture.len()).err()
 }
 
 /// The records of a capture (file format version 2.4), or the first refusal that applies.
@@ -39,9 +49,31 @@ pub fn records(alloc: Global, capture: &Capture<'_>) -> Result<Records, PcapFaul
     ensures linked { IfOk result (λ found. IsTrue (is_read found.link)) }
     ensures short { OnOk result (length capture.now < 2 ^ 31) }
 {
-    let format = format_or_refusal(header_in_parts(capture), capture.len())?;
-    match RecordWalk::of(alloc, format).completed(alloc, capture) {
+    let header = header_in_parts(capture);
+    let format = format_or_refusal(header, capture.len())?;
+    match passed(alloc, RecordWalk::of(format, header), capture) {
         Ok(found) => Ok(found),
         Err(_) => Err(PcapFault::OutOfMemory),
     }
+}
+
+/// All that a capture holds, of which this walk has passed no record yet.
+fn passed(alloc: Global, mut walk: RecordWalk, capture: &Capture<'_>) -> Result<Records, AllocError>
+    requires walk { HasPassed capture.now [] walk }
+    requires short { length capture.now < 2 ^ 31 }
+    ensures reading { IfOk result (IsReading capture.now) }
+    ensures placed { IfOk result (λ found. AreWithin (length capture.now) found.rows.items) }
+    ensures timely { IfOk result (λ found. AreTimely found.rows.items) }
+    ensures linked { IfOk result (λ found. IsTrue (is_read found.link)) }
+{
+    let mut rows = Vec::new(alloc);
+    while let Some(record) = walk.next(alloc, capture)? {
+        rows.push(record)?;
+    }
+    let cut = walk.cut(capture, rows.len() as u32);
+    Ok(Records {
+        link: walk.link(),
+        rows,
+        cut,
+    })
 }

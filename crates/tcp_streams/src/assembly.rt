@@ -25,8 +25,8 @@ use std::alloc::{AllocError, Global};
 /// them. Where segments overlap, the first record that brings a byte wins. A side whose initial number is
 /// not known has an empty flow that is not started.
 ///
-/// `packets` are to be those of `capture`, as `packet_heads::decode_all` gives them, of a capture that
-/// `pcap_records::records` does not refuse; `connection` is to be one of theirs, as [`connections`] gives it.
+/// `packets` are to be those of `capture`, as `packet_heads::PacketWalk` gives them, of a capture that
+/// is not refused; `connection` is to be one of theirs, as [`connections`] gives it.
 ///
 /// [`connections`]: crate::connections
 pub fn assemble<'a>(

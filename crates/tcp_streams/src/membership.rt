@@ -15,7 +15,7 @@ use table_hash::TableHash;
 /// the pair's last opening (RFC 9293, 3.5). Each segment belongs to the last opening of its pair at or
 /// before it; one without such an opening is a stray.
 ///
-/// `packets` are to be those of a capture, as `packet_heads::decode_all` gives them.
+/// `packets` are to be those of a capture, as `packet_heads::PacketWalk` gives them.
 pub fn connections(
     alloc: Global,
     hash: TableHash,

@@ -5,10 +5,9 @@ use crate::answer::Answer;
 use crate::captures::Capture;
 use crate::random::next;
 use audit_terms::Side;
-use packet_heads::{Packets, decode_all};
+use packet_heads::{PacketWalk, Packets};
 use pcap_records::records;
 use std::alloc::{AllocError, Global};
-use std::thread::Threads;
 use table_hash::TableHash;
 use tcp_streams::{Arrival, Flow, assemble, connections};
 
@@ -33,17 +32,21 @@ fn is_plain(alloc: Global, flow: &Flow, plain: &PlainFlow) -> Result<bool, Alloc
 }
 
 /// The client's flow in the first connection, where the plain program finds the same.
-fn flow_of(
-    rt: &(impl Sync + Threads),
-    alloc: Global,
-    capture: &[u8],
-) -> Result<Option<PlainFlow>, AllocError> {
+fn flow_of(alloc: Global, capture: &[u8]) -> Result<Option<PlainFlow>, AllocError> {
     let parts = pcap_records::Capture::cut(alloc, capture)?;
-    let Ok(found) = records(alloc, &parts) else {
+    let Ok(read) = records(alloc, &parts) else {
         return Ok(None);
     };
-    let made = decode_all(rt, alloc, 2, &found, &parts)?;
-    let packets = Packets::of(alloc, made.as_slice())?;
+    let Ok(walk) = PacketWalk::begin(alloc, capture) else {
+        return Ok(None);
+    };
+    let Ok(found) = walk.finish(alloc, &parts) else {
+        return Ok(None);
+    };
+    let packets = Packets::of(alloc, found.parts.as_slice())?;
+    if packets.len() != read.rows.len() || found.cut != read.cut {
+        return Ok(None);
+    }
     let streams = connections(alloc, TableHash::Keyless, &packets)?;
     if streams.opened.is_empty() || capture.len() >= 0x8000_0000 {
         return Ok(None);
@@ -67,9 +70,9 @@ fn overlaps(alloc: Global) -> Result<Capture, AllocError> {
     Ok(capture)
 }
 
-pub fn overlaps_and_gap(rt: &(impl Sync + Threads), alloc: Global) -> Answer {
+pub fn overlaps_and_gap(alloc: Global) -> Answer {
     let capture = overlaps(alloc)?;
-    let Some(flow) = flow_of(rt, alloc, capture.as_slice())? else {
+    let Some(flow) = flow_of(alloc, capture.as_slice())? else {
         return Ok(false);
     };
     let arrival = |upto: u32, rec: u32, nanos: u64| Arrival { upto, rec, nanos };
@@ -99,11 +102,11 @@ fn random_capture(alloc: Global, state: &mut u64) -> Result<Capture, AllocError>
     Ok(capture)
 }
 
-pub fn random_segments(rt: &(impl Sync + Threads), alloc: Global) -> Answer {
+pub fn random_segments(alloc: Global) -> Answer {
     let mut state = 1;
     for _ in 0..60 {
         let capture = random_capture(alloc, &mut state)?;
-        if flow_of(rt, alloc, capture.as_slice())?.is_none() {
+        if flow_of(alloc, capture.as_slice())?.is_none() {
             return Ok(false);
         }
     }

@@ -9,7 +9,7 @@ use audit_report::{capture_lines, connection_lines, finding_line};
 use audit_terms::{Body, Finding, Frame, Kind, Length, Place, Side, Sides, Word};
 use h2_frames::Cut;
 use packet_heads::{Endpoint, Packet, Packets, Refusal, Segment, Skip};
-use pcap_records::{Nanos, Record, Records};
+use pcap_records::Nanos;
 use std::alloc::{AllocError, Global};
 use tcp_streams::{Arrival, Connection, Flow, Stray};
 
@@ -71,20 +71,6 @@ pub fn each_kind_of_packet(alloc: Global) -> Answer {
         Packet::Refused(Refusal::BadDataOffset),
         segment(13, false),
     ];
-    let mut rows = Vec::new(alloc);
-    for _ in 0..13 {
-        rows.push(Record {
-            nanos: Nanos::of(0),
-            original: 14,
-            start: 40,
-            length: 14,
-        })?;
-    }
-    let records = Records {
-        link: 1,
-        rows,
-        cut: Some(14),
-    };
     let mut strays = Vec::new(alloc);
     strays.push(Stray {
         from: SERVER,
@@ -92,7 +78,7 @@ pub fn each_kind_of_packet(alloc: Global) -> Answer {
         segments: 2,
     })?;
     let packets = Packets::cut(alloc, &packets)?;
-    let text = capture_lines(alloc, records, &packets, strays)?;
+    let text = capture_lines(alloc, Some(14), &packets, strays)?;
     Ok(text.as_str() == CAPTURE_LINES)
 }
 

@@ -1,30 +1,30 @@
 -- The jobs of the first round: one for each connection, which finds nothing.
-use Rattle.std.specs.Prelude.{◌≡◌, ℕ, ◌+◌, ◌^◌, ◌<◌, ◌≤◌, Bool, List, [], ◌∷◌, map, length, All}
-use Rattle.std.specs.List.{zip}
-use Rattle.std.specs.declared.vec.Vec.{Vec}
-use Rattle.std.specs.declared.alloc.Global.{Global}
-use Rattle.audit_terms.specs.declared.frames.Frame.{Frame}
-use Rattle.audit_terms.specs.declared.findings.Finding.{Finding}
-use Rattle.packet_heads.specs.declared.packets.Packet.{Packet}
-use Rattle.packet_heads.specs.code.Order.{AreNumberedFrom, PayloadsRise, TimesFit}
-use Rattle.tcp_streams.specs.code.Orderly.{AreMembers, IsOrderly, payload_sum}
-use Rattle.h2_frames.specs.declared.connections.Cut.{Cut}
-use Rattle.h2_frames.specs.declared.connections.Cut.TheVariants.{Http2}
-use Rattle.job_crew.specs.declared.parts.Part.{Part}
-use Rattle.audit_report.specs.declared.audited.Audited.{Audited}
-use Rattle.h2audit.specs.declared.flow_round.ConnectionCut.{ConnectionCut}
+use Rattle.std.specs.List.{AllZip}
+use Rattle.std.specs.Prelude.{◌≡◌, ℕ, ◌+◌, ◌^◌, ◌<◌, ◌≤◌, Bool, false, List, [], ◌∷◌, length, All, IsTrue}
 use Rattle.audit_report.specs.FlowLine.{extents_of}
-use Rattle.audit_terms.specs.declared.sides.Sides.{Sides}
-use Rattle.h2_frames.specs.Cut.{IsCut}
-use Rattle.h2_frames.specs.code.Orderly.{HasOrderlyFrames}
-use Rattle.h2audit.specs.Audited.{IsFlowOf, findings_of}
+use Rattle.audit_report.specs.code.Reported.{AreToldOf, HasOrderlyOutcome, extents_in}
+use Rattle.audit_report.specs.declared.audited.Audited.{Audited}
+use Rattle.audit_report.specs.declared.told.Outcome.{Outcome}
+use Rattle.audit_report.specs.declared.told.Outcome.TheVariants as outcome
+use Rattle.audit_report.specs.declared.told.Told.{Told}
+use Rattle.audit_terms.specs.code.runs.Orderly as runs
 use Rattle.audit_terms.specs.declared.sides.Side.{Side}
 use Rattle.audit_terms.specs.declared.sides.Side.TheVariants.{Client, Server}
-use Rattle.tcp_streams.specs.declared.streams.Flow.{Flow}
+use Rattle.audit_terms.specs.declared.sides.Sides.{Sides}
+use Rattle.h2_frames.specs.Cut.{IsCut, IsHttp2}
+use Rattle.h2_frames.specs.declared.connections.Cut.{Cut}
+use Rattle.h2_frames.specs.declared.connections.Cut.TheVariants.{Http2, NotHttp2, NoPreface, NoHandshake}
+use Rattle.h2audit.specs.Audited.{AreAudited, IsFlowOf}
+use Rattle.h2audit.specs.code.Quiet.{IsQuietOf}
+use Rattle.job_crew.specs.code.Board.{Job}
+use Rattle.job_crew.specs.declared.parts.Part.{Part}
+use Rattle.packet_heads.specs.code.Order.{AreNumberedFrom, PayloadsRise, TimesFit}
+use Rattle.packet_heads.specs.declared.packets.Packet.{Packet}
 use Rattle.tcp_streams.specs.Bytes.{bytes_of}
 use Rattle.tcp_streams.specs.Members.{side_segments}
+use Rattle.tcp_streams.specs.code.Orderly.{AreMembers, IsOrderly, payload_sum}
 use Rattle.tcp_streams.specs.declared.members.Connection.{Connection}
-use Rattle.job_crew.specs.code.Board.{Job}
+use Rattle.tcp_streams.specs.declared.streams.Flow.{Flow}
 
 -- a connection of a capture, with the capture's packets
 pub record AreSources (capture : List ℕ) (packets : List Packet) (connection : Connection) : Type 0 where
@@ -46,51 +46,62 @@ abbrev pub AreFlows : List ℕ → List Packet → Connection → Flow × Flow �
 AreFlows capture packets connection flows =
     IsSideFlow capture packets connection Client flows.0 × IsSideFlow capture packets connection Server flows.1
 
--- what the two flows of a connection hold, and how far they reach
-pub record IsConnectionCut (capture : List ℕ) (packets : List Packet) (connection : Connection) (made : ConnectionCut)
+-- what an outcome keeps of a cut
+abbrev pub KeepsCut : Outcome → Cut → Type 0
+KeepsCut (outcome.Audited audited) (Http2 frames tails) =
+    (audited.value.frames.items ≡ frames.items) × (audited.value.tails ≡ tails)
+KeepsCut outcome.NotHttp2 NotHttp2 = Unit {0}
+KeepsCut outcome.NoPreface NoPreface = Unit {0}
+KeepsCut outcome.NoHandshake NoHandshake = Unit {0}
+KeepsCut _ _ = ⊥
+
+-- what an outcome keeps of two flows, before anything is found in frames
+abbrev pub IsHeldBy : (credits_shown : Bool) → (client server : Flow) → Outcome → Type 0
+IsHeldBy credits_shown client server (outcome.Quiet quiet) = (credits_shown ≡ false) × IsQuietOf client server quiet
+IsHeldBy credits_shown client server (outcome.Audited audited) =
+    IsTrue server.started × IsHttp2 client server audited.value.frames.items audited.value.tails
+    × runs.IsOrderly audited.value.frames.items
+IsHeldBy credits_shown client server outcome.NotHttp2 = IsCut client server NotHttp2
+IsHeldBy credits_shown client server outcome.NoPreface = IsCut client server NoPreface
+IsHeldBy credits_shown client server outcome.NoHandshake = IsCut client server NoHandshake
+
+-- the same, and how far the flows reach
+pub record IsToldOfFlows (credits_shown : Bool) (client server : Flow) (told : Told) : Type 0 where
+  pub extents : extents_in told.reach ≡ extents_of client server
+  pub held : IsHeldBy credits_shown client server told.outcome
+
+-- what is told of a connection, before anything is found in frames
+pub record IsToldFlows
+    (credits_shown : Bool) (capture : List ℕ) (packets : List Packet) (connection : Connection) (made : Told)
     : Type 0 where
   pub flows : Sides Flow
   pub client : IsFlowOf capture packets connection Client flows.client
   pub server : IsFlowOf capture packets connection Server flows.server
-  pub extents : made.extents ≡ extents_of flows.client flows.server
-  pub cut : IsCut flows.client flows.server made.cut
-  pub orderly : HasOrderlyFrames made.cut
+  pub told : IsToldOfFlows credits_shown flows.client flows.server made
 
 abbrev pub flow_jobs : (first : ℕ) → List Connection → List Job
 flow_jobs first [] = []
 flow_jobs first (connection ∷ connections) =
     record { connection = first; findings = [] } ∷ flow_jobs (first + 1) connections
 
--- each part is what the flows of its connection hold
-abbrev pub AreConnectionCuts : List ℕ → List Packet → List Connection → List (Part ConnectionCut) → Type 0
-AreConnectionCuts capture packets [] [] = Unit {0}
-AreConnectionCuts capture packets (connection ∷ connections) (part ∷ parts) =
-    IsConnectionCut capture packets connection part.made × AreConnectionCuts capture packets connections parts
-AreConnectionCuts capture packets _ _ = ⊥
+-- each part tells of its connection
+abbrev pub AreToldFlows : (credits_shown : Bool) → List ℕ → List Packet → List Connection → List (Part Told) → Type 0
+AreToldFlows credits_shown capture packets =
+    AllZip (λ (connection : Connection) (part : Part Told).
+    IsToldFlows credits_shown capture packets connection part.made)
 
--- the frames of a connection, if it is one of HTTP/2
-abbrev pub frames_in : Cut → List Frame
-frames_in (Http2 frames tails) = frames.items
-frames_in _ = []
-
--- the frames of each connection
-abbrev pub frames_each : List (Part ConnectionCut) → List (List Frame)
-frames_each cuts = map (λ (cut : Part ConnectionCut). frames_in cut.made.cut) cuts
-
--- what is found in the frames of each connection
-abbrev pub found_in : (credits_shown : Bool) → List (Part ConnectionCut) → List (List Finding)
-found_in credits_shown cuts = map (λ (cut : Part ConnectionCut). findings_of credits_shown cut.made.cut) cuts
-
--- the audit of a connection with these findings
-abbrev pub audit_with : Part ConnectionCut × Vec Finding Global → Audited
-audit_with pair = record { extents = pair.0.made.extents; cut = pair.0.made.cut; findings = pair.1 }
-
--- the audits of all
-abbrev pub audits_of : List (Part ConnectionCut) → List (Vec Finding Global) → List Audited
-audits_of cuts found = map audit_with (zip cuts found)
+-- audits of the connections, for which this stands
+pub record AreToldAudits
+    (credits_shown : Bool) (capture : List ℕ) (packets : List Packet) (opened : List Connection) (told : List Told)
+    : Type 0 where
+  pub audited : List Audited
+  pub audits : AreAudited credits_shown capture packets opened audited
+  pub stands : AreToldOf told audited
+  pub orderly : All (λ (one : Told). HasOrderlyOutcome one.outcome) told
 
 -- what a round over the flows of connections has
 pub record FlowView : Type 0 where
+  pub credits_shown : Bool
   pub capture : List ℕ
   pub packets : List Packet
   pub opened : List Connection

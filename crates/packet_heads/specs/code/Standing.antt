@@ -1,6 +1,5 @@
 -- What one packet keeps of its record, from which the order of all packets is proved.
-use Rattle.std.specs.Prelude.{◌≡◌, ℕ, ◌+◌, ◌-◌, ◌^◌, ◌<◌, ◌≤◌, List, [], ◌∷◌, length}
-use Rattle.parted_list.specs.Parts.{joined}
+use Rattle.std.specs.Prelude.{◌≡◌, ℕ, ◌+◌, ◌≤◌, List, [], ◌∷◌}
 use Rattle.pcap_records.specs.declared.capture.Record.{Record}
 use Rattle.packet_heads.specs.declared.packets.Packet.{Packet}
 use Rattle.packet_heads.specs.declared.packets.Packet.TheVariants.{Segment}
@@ -28,22 +27,6 @@ AllStand number _ _ = ⊥
 pub record AreDecided (link number : ℕ) (rows : List Record) (capture : List ℕ) (packets : List Packet) : Type 0 where
   pub exact : packets ≡ decisions_from link number rows capture
   pub stand : AllStand number rows packets
-
--- so many packets, in parts: each but the last is full
-abbrev pub AreCut : ℕ → List (List Packet) → Type 0
-AreCut count [] = ⊥
-AreCut count (part ∷ []) = (length part ≡ count) × (count ≤ 8192)
-AreCut count (part ∷ next ∷ later) = (length part ≡ 8192) × (8192 < count) × AreCut (count - 8192) (next ∷ later)
-
--- the decisions on these records in parts, of which the first has this number
-pub record AreDecidedParts (link number : ℕ) (rows : List Record) (capture : List ℕ)
-    (parts : List (List Packet)) : Type 0 where
-  pub decided : AreDecided link number rows capture (joined parts)
-  pub cut : AreCut (length rows) parts
-
--- the captured bytes of a record end within a capture of this size, at an offset of 31 bits
-abbrev pub EndsWithin : ℕ → Record → Type 0
-EndsWithin size row = (row.start + row.length ≤ size) × (row.start + row.length < 2 ^ 31)
 
 -- skipped or refused
 abbrev pub IsPassedOver : Packet → Type 0

@@ -1,4 +1,4 @@
-use Rattle.std.proofs.Common.{◌≡◌, ℕ, List, ◌++◌, OnOk, length, subst, append_assoc, arith}
+use Rattle.std.proofs.Common.{◌≡◌, ℕ, List, ◌++◌, OnOk, subst, append_assoc}
 use Rattle.std.specs.Prelude.{codes, count_by}
 use Rattle.std.specs.String.{string_bytes}
 use Rattle.packet_heads.specs.declared.packets.Packet.{Packet}
@@ -34,13 +34,11 @@ pub returns : goal.returns
 unfolding counted
 returns c =
     let packets = c.args.packets.now in
-    let rows = c.args.records.now.rows in
     let front = λ (n : ℕ). field (codes "capture records ") n in
-    let count : c.len.result ≡ length rows.items = omega (arith, c.len.ensures, rows.ok.0) in
     let pushed = three c.push_word.result _ _ _ _ (front c.len.result) (packet_counts packets) (codes "\n")
     c.in_ok-push_field.ensures c.in_ok-push_packet_counts.ensures c.push_word.ensures in
     subst (λ n. OnOk c.push_word.result (string_bytes c.push_word.new.out ≡ string_bytes c.args.out.now
-    ++ (counted (front n) packets ++ codes "\n"))) count
+    ++ (counted (front n) packets ++ codes "\n"))) c.len.ensures
     (subst (λ l. OnOk c.push_word.result
     (string_bytes c.push_word.new.out ≡ string_bytes c.args.out.now ++ (l ++ codes "\n")))
     (counted-is (front c.len.result) packets) pushed)

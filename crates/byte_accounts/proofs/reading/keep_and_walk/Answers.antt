@@ -1,15 +1,14 @@
 use Rattle.std.proofs.Common.{rules}
-use Rattle.byte_accounts.specs.Account.{kept}
-use Rattle.byte_accounts.proofs.Kept.{consumed_read, front_stays, walk_stays}
+use Rattle.byte_accounts.proofs.Kept.{consumed_read, front_stays}
 use Rattle.byte_accounts.proofs.reading.keep_and_walk.Goals as goal
 
 pub loop-reader-preserved : goal.loop-reader-preserved
 loop-reader-preserved g c =
     let old = c.loop-reader.reader in
     let roomy = c.make_room.new.self in
-    let now = c.read_beside.new.self in
+    let now = c.read_and_walk.new.self in
     let room = c.in_ok-make_room.ensures.ok in
-    let more = c.in_ok-read_beside.ensures in
+    let more = c.in_ok-read_and_walk.ensures in
     record {
       sound = search rules;
       room = search rules;
@@ -17,34 +16,28 @@ loop-reader-preserved g c =
       has_ended = search rules;
       grown = search rules;
       front = front_stays c.args.reader.now old roomy now c.loop-reader.invariant.grown c.make_room.ensures.kept
-          c.read_beside.ensures.front c.loop-reader.invariant.front;
+          c.read_and_walk.ensures.front c.loop-reader.invariant.front;
       read = λ before was.
           consumed_read g.R.Read.remaining before old roomy now room c.make_room.ensures.kept
-          c.loop-reader.invariant.passed c.read_beside.ensures.passed c.read_beside.ensures.front more.bytes
+          c.loop-reader.invariant.passed c.read_and_walk.ensures.passed c.read_and_walk.ensures.front more.bytes
           (c.loop-reader.invariant.read before was);
-      walk = walk_stays (kept roomy) (kept now) c.read_beside.new.walk
-          c.read_beside.ensures.front c.read_beside.ensures.walk;
+      walk = more.walk;
     }
 
 pub returns-then-branch-eq0-clause-bytes : goal.returns-then-branch-eq0-clause-bytes
 returns-then-branch-eq0-clause-bytes g c = λ before was.
     let old = c.loop-reader.reader in
-    let more = c.in_ok-read_beside.ensures in
-    consumed_read g.R.Read.remaining before old c.make_room.new.self c.read_beside.new.self c.in_ok-make_room.ensures.ok
-    c.make_room.ensures.kept c.loop-reader.invariant.passed c.read_beside.ensures.passed c.read_beside.ensures.front
-    more.bytes (c.loop-reader.invariant.read before was)
+    let more = c.in_ok-read_and_walk.ensures in
+    consumed_read g.R.Read.remaining before old c.make_room.new.self c.read_and_walk.new.self
+    c.in_ok-make_room.ensures.ok c.make_room.ensures.kept c.loop-reader.invariant.passed
+    c.read_and_walk.ensures.passed c.read_and_walk.ensures.front more.bytes (c.loop-reader.invariant.read before was)
 
-pub returns-then-branch-eq0-clause-walk : goal.returns-then-branch-eq0-clause-walk
-returns-then-branch-eq0-clause-walk g c =
-    walk_stays (kept c.make_room.new.self) (kept c.read_beside.new.self) c.read_beside.new.walk
-    c.read_beside.ensures.front c.read_beside.ensures.walk
-
-pub returns-in_err-read_beside-clause-front : goal.returns-in_err-read_beside-clause-front
-returns-in_err-read_beside-clause-front g c =
-    front_stays c.args.reader.now c.loop-reader.reader c.make_room.new.self c.read_beside.new.self
-    c.loop-reader.invariant.grown c.make_room.ensures.kept c.read_beside.ensures.front c.loop-reader.invariant.front
+pub returns-in_err-read_and_walk-clause-front : goal.returns-in_err-read_and_walk-clause-front
+returns-in_err-read_and_walk-clause-front g c =
+    front_stays c.args.reader.now c.loop-reader.reader c.make_room.new.self c.read_and_walk.new.self
+    c.loop-reader.invariant.grown c.make_room.ensures.kept c.read_and_walk.ensures.front c.loop-reader.invariant.front
 
 pub returns-then-branch-eq0-clause-front : goal.returns-then-branch-eq0-clause-front
 returns-then-branch-eq0-clause-front g c =
-    front_stays c.args.reader.now c.loop-reader.reader c.make_room.new.self c.read_beside.new.self
-    c.loop-reader.invariant.grown c.make_room.ensures.kept c.read_beside.ensures.front c.loop-reader.invariant.front
+    front_stays c.args.reader.now c.loop-reader.reader c.make_room.new.self c.read_and_walk.new.self
+    c.loop-reader.invariant.grown c.make_room.ensures.kept c.read_and_walk.ensures.front c.loop-reader.invariant.front

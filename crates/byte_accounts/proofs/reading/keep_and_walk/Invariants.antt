@@ -1,5 +1,5 @@
 use Rattle.std.proofs.Common.{◌≡◌, ◌-◌, ◌^◌, ◌≤◌, ℕ, List, Option, false, take, length}
-use Rattle.pcap_records.specs.code.Walk.{IsWalkIn}
+use Rattle.pcap_records.specs.code.Front.{Lasts}
 use Rattle.byte_accounts.specs.Account.{kept}
 use Rattle.byte_accounts.specs.code.Reading.{HasConsumed, IsSound}
 use Rattle.byte_accounts.proofs.reading.keep_and_walk.Given as goal
@@ -14,7 +14,7 @@ invariant-loop-reader g l = record {
   front : take (length (kept l.initial.reader)) (kept l.reader) ≡ kept l.initial.reader;
   read : (before : Option (List ℕ)) → HasConsumed before (g.R.Read.remaining l.initial.reader.reader) l.initial.reader
       → HasConsumed before (g.R.Read.remaining l.reader.reader) l.reader;
-  walk : IsWalkIn (kept l.reader) l.walk;
+  walk : Lasts g.W.FrontWalk.stands (kept l.reader) l.walk;
 }
 
 abbrev pub decreases-loop-reader : goal.decreases-loop-reader

@@ -1,75 +1,121 @@
-use Rattle.std.proofs.Common.{◌≡◌, ℕ, arith, ◌∙◌, sym, Bool, List, ◌++◌, length, map, subst, ap, Vec, Global}
+use Rattle.std.proofs.Common.{◌≡◌, ℕ, arith, ◌∙◌, sym, Bool, List, ◌++◌, length, map, subst, ap, All, Vec, Global}
+use Rattle.std.specs.List.{enumerate_from}
+use Rattle.std.proofs.lemmas.List.{length-map}
+use Rattle.std.proofs.lemmas.List.FromFn.{length-enumerate_from}
 use Rattle.parted_list.specs.Parts.{joined}
-use Rattle.audit_report.specs.declared.audited.Audited.{Audited}
 use Rattle.audit_report.specs.CaptureLines.{capture_text}
 use Rattle.audit_report.specs.Section.{sections_text}
-use Rattle.audit_report.specs.ReportText.{report_text}
+use Rattle.audit_report.specs.code.Reported.{AreToldOf, HasOrderlyOutcome}
+use Rattle.audit_report.specs.code.Packets.{AreRecordsOf}
+use Rattle.audit_report.specs.declared.told.Told.{Told}
+use Rattle.packet_heads.specs.Decision.{packet_decision, packet_decisions}
+use Rattle.packet_heads.specs.code.Walk.{packets_in}
 use Rattle.packet_heads.specs.declared.packets.Packet.{Packet}
+use Rattle.pcap_records.specs.declared.capture.Record.{Record}
 use Rattle.tcp_streams.specs.declared.members.Connection.{Connection}
 use Rattle.tcp_streams.specs.declared.members.Stray.{Stray}
 use Rattle.tcp_streams.specs.Membership.{AreConnections, strays_of}
-use Rattle.h2audit.specs.Audited.{AreAudited, verdict_of}
 use Rattle.h2audit.specs.Report.{packets_of}
+use Rattle.h2audit.specs.Audited.{IsAudited}
+use Rattle.h2audit.specs.code.Flows.{AreToldAudits}
+use Rattle.audit_report.specs.code.Reported.{IsToldOf}
 use Rattle.h2audit.proofs.Opened.{opened-few}
-use Rattle.h2audit.proofs.Audits.{AreAudited-length}
+use Rattle.h2audit.proofs.Flows.{told-orderly}
+use Rattle.h2audit.proofs.Found.{found-audits, zip-length}
 use Rattle.h2audit.proofs.auditing.audit_records.Goals as goal
 
-pub audit_each-requires-clause-few : goal.audit_each-requires-clause-few
-audit_each-requires-clause-few g c κs within =
+-- there is a packet for each record
+decisions-length : (link : ℕ) (rows : List Record) (capture : List ℕ)
+    → length (packet_decisions link rows capture) ≡ length rows
+decisions-length link rows capture =
+    length-map (enumerate_from 1 rows)
+    (λ (numbered : ℕ × Record). packet_decision link numbered.0 numbered.1 capture)
+    ∙ length-enumerate_from 1 rows
+
+pub flows_each-requires-clause-few : goal.flows_each-requires-clause-few
+flows_each-requires-clause-few g c κs within =
     let packets = c.in_ok-packets.packets in
     let few = opened-few packets c.in_ok-connections.connections.opened.items c.in_ok-connections.ensures.opened in
-    let same : length packets ≡ length
-    (joined (map (λ (part : Vec Packet Global). part.items) c.in_ok-made.made.items)) =
+    let same : length packets ≡ length (packets_in c.args.found) =
     ap length c.in_ok-packets.ensures
     ∙ ap (λ (parts : List (Vec Packet Global)). length (joined (map (λ (part : Vec Packet Global). part.items) parts)))
     c.as_slice.ensures.value in
-    let lent : length c.as_slice-2.result.now ≡ length c.in_ok-connections.connections.opened.items =
-    ap length c.as_slice-2.ensures.value in
-    let all = c.in_ok-made.ensures.few in
+    let lent : length c.as_slice-opened.result.now ≡ length c.in_ok-connections.connections.opened.items =
+    ap length c.as_slice-opened.ensures.value in
+    let all = c.requires.order.few in
     omega (arith, few, same, lent, all)
+
+pub audit_each-requires-after_bounds : goal.audit_each-requires-after_bounds
+audit_each-requires-after_bounds g c κs within =
+    told-orderly c.args.options.now.frames_shown c.args.capture.now c.in_ok-packets.packets
+    c.as_slice-opened.result.now c.in_ok-parts.parts.items c.in_ok-parts.ensures
 
 pub report-requires-clause-each : goal.report-requires-clause-each
 report-requires-clause-each g c =
-    ap length c.as_slice-4.ensures.value ∙ AreAudited-length c.args.options.now.frames_shown c.args.capture.now
-    c.in_ok-packets.packets c.as_slice-2.result.now c.in_ok-audited.audited.items c.in_ok-audited.ensures.audits
-    ∙ ap length c.as_slice-2.ensures.value
-    ∙ sym (ap length c.as_slice-3.ensures.value)
+    let credits = c.args.options.now.frames_shown in
+    let packets = c.in_ok-packets.packets in
+    let opened = c.as_slice-opened.result.now in
+    let audits = found-audits credits c.args.capture.now packets opened c.in_ok-parts.parts.items
+    c.in_ok-told.told.items c.in_ok-parts.ensures c.in_ok-told.ensures in
+    ap length c.as_slice-2.ensures.value
+    ∙ zip-length IsToldOf c.in_ok-told.told.items audits.audited audits.stands
+    ∙ sym (zip-length (IsAudited credits c.args.capture.now packets) opened audits.audited audits.audits)
+
+pub report-requires-clause-orderly : goal.report-requires-clause-orderly
+report-requires-clause-orderly g c =
+    let audits = found-audits c.args.options.now.frames_shown c.args.capture.now c.in_ok-packets.packets
+    c.as_slice-opened.result.now c.in_ok-parts.parts.items c.in_ok-told.told.items c.in_ok-parts.ensures
+    c.in_ok-told.ensures in
+    subst (λ (l : List Told). All (λ (t : Told). HasOrderlyOutcome t.outcome) l) (sym c.as_slice-2.ensures.value)
+    audits.orderly
 
 pub returns : goal.returns
 returns g c =
     let credits = c.args.options.now.frames_shown in
     let capture = c.args.capture.now in
-    let found = c.args.found in
+    let found = c.requires.packets.records in
     let packets = packets_of capture found in
     let opened = c.in_ok-connections.connections.opened.items in
     let strays = c.in_ok-connections.connections.strays.items in
-    let audited = c.in_ok-audited.audited.items in
+    let told = c.in_ok-told.told.items in
     let given : c.in_ok-packets.packets ≡ packets = c.in_ok-packets.ensures
     ∙ ap (λ (parts : List (Vec Packet Global)). joined (map (λ (part : Vec Packet Global). part.items) parts))
     c.as_slice.ensures.value
-    ∙ c.in_ok-made.ensures.exact in
-    let by_packets = subst (λ (p : List Packet). AreAudited credits capture p c.as_slice-2.result.now audited) given
-    c.in_ok-audited.ensures.audits in
+    ∙ c.requires.packets.exact in
+    let lent = c.as_slice-opened.ensures.value in
+    let audits : AreToldAudits credits capture packets opened told =
+    subst (λ (p : List Packet). AreToldAudits credits capture p opened told) given
+    (subst (λ (cs : List Connection). AreToldAudits credits capture c.in_ok-packets.packets cs told) lent
+    (found-audits credits capture c.in_ok-packets.packets c.as_slice-opened.result.now c.in_ok-parts.parts.items told
+    c.in_ok-parts.ensures c.in_ok-told.ensures)) in
+    let audited = audits.audited in
+    let are : AreRecordsOf c.in_ok-packets.packets c.args.found.cut found = record {
+      count = sym (ap length given ∙ decisions-length found.link found.rows.items capture);
+      cut_is = c.requires.packets.cut;
+    } in
     record {
-      opened = opened;
-      audited = audited;
-      connections = subst (λ (p : List Packet). AreConnections p opened) given c.in_ok-connections.ensures.opened;
-      audits = subst (λ (cs : List Connection). AreAudited credits capture packets cs audited)
-          c.as_slice-2.ensures.value by_packets;
-      spelled = c.in_ok-text.ensures
-          ∙ ap (λ (l : List ℕ). l ++ sections_text c.frames_shown.result 1 c.as_slice-3.result.now
-          c.as_slice-4.result.now)
-          c.in_ok-begun.ensures
-          ∙ ap (λ (b : Bool). capture_text found c.in_ok-packets.packets strays
-          ++ sections_text b 1 c.as_slice-3.result.now c.as_slice-4.result.now) c.frames_shown.ensures
-          ∙ ap (λ (p : List Packet). capture_text found p strays
-          ++ sections_text credits 1 c.as_slice-3.result.now c.as_slice-4.result.now) given
-          ∙ ap (λ (s : List Stray). capture_text found packets s
-          ++ sections_text credits 1 c.as_slice-3.result.now c.as_slice-4.result.now)
-          (c.in_ok-connections.ensures.strays ∙ ap strays_of given)
-          ∙ ap (λ (cs : List Connection). capture_text found packets (strays_of packets)
-          ++ sections_text credits 1 cs c.as_slice-4.result.now) c.as_slice-3.ensures.value
-          ∙ ap (λ (a : List Audited). report_text found packets (strays_of packets) opened a credits)
-          c.as_slice-4.ensures.value;
-      judged = c.verdict_on-verdict.ensures ∙ ap verdict_of c.as_slice-5.ensures.value;
+      found = found;
+      taken = c.requires.taken;
+      reading = c.requires.packets.reading;
+      report = record {
+        opened = opened;
+        audited = audited;
+        connections = subst (λ (p : List Packet). AreConnections p opened) given c.in_ok-connections.ensures.opened;
+        audits = audits.audits;
+        spelled = c.in_ok-text.ensures audited
+            (subst (λ (l : List Told). AreToldOf l audited) (sym c.as_slice-2.ensures.value) audits.stands)
+            ∙ ap (λ (l : List ℕ). l ++ sections_text c.frames_shown.result 1 c.as_slice-opened.result.now audited)
+            (c.in_ok-begun.ensures found are)
+            ∙ ap (λ (b : Bool). capture_text found c.in_ok-packets.packets strays
+            ++ sections_text b 1 c.as_slice-opened.result.now audited) c.frames_shown.ensures
+            ∙ ap (λ (p : List Packet). capture_text found p strays
+            ++ sections_text credits 1 c.as_slice-opened.result.now audited) given
+            ∙ ap (λ (s : List Stray). capture_text found packets s
+            ++ sections_text credits 1 c.as_slice-opened.result.now audited)
+            (c.in_ok-connections.ensures.strays ∙ ap strays_of given)
+            ∙ ap (λ (cs : List Connection). capture_text found packets (strays_of packets)
+            ++ sections_text credits 1 cs audited) lent;
+        judged = c.verdict_on-verdict.ensures audited
+            (subst (λ (l : List Told). AreToldOf l audited) (sym c.as_slice-3.ensures.value) audits.stands);
+      };
     }

@@ -1,4 +1,6 @@
-use Rattle.std.proofs.Common.{rules, ◌≡◌, ◌∙◌, ◌≤◌, length, sym, ap, None, arith}
+use Rattle.std.proofs.Common.{rules, ◌≡◌, ◌∙◌, ◌≤◌, ◌<◌, ◌+◌, ◌^◌, length, sym, ap, None, inl, inr, arith}
+use Rattle.std.specs.Io.KnownBytes.{IsAtEnd}
+use Rattle.std.proofs.lemmas.Bool.{cases_Bool}
 use Rattle.pcap_records.specs.Refusal.{refusal}
 use Rattle.byte_accounts.specs.Account.{kept}
 use Rattle.byte_accounts.proofs.Kept.{consumed_none, gave_all, gave_front}
@@ -12,17 +14,20 @@ returns-in_ok-keep_and_walk-in-Ok-clause-bytes g c =
     let now = c.keep_and_walk.new.reader in
     let header = c.in_ok-keep_up_to.ensures.bytes before
     (consumed_none before first c.requires.kept c.requires.passed) in
-    let read = c.in_ok-keep_and_walk-in-Ok.ensures.bytes before header in
-    gave_front before (g.R.Read.remaining now.reader) now c.in_ok-keep_and_walk-in-Ok.ensures.sound.limit
-    (λ short. search rules) read
+    let read = c.in_ok-keep_and_walk-in-Ok.ensures in
+    let end : length (kept now) + now.passed < 2 ^ 31 → IsAtEnd (g.R.Read.remaining now.reader) =
+    λ short. elim (cases_Bool now.has_ended) [
+      | inl ended ↦ read.end ended
+      | inr unended ↦ absurd (omega (arith, read.whole unended, short))
+    ] in
+    gave_front before (g.R.Read.remaining now.reader) now read.sound.limit end (read.bytes before header)
 
 pub returns-in_ok-keep_and_walk-in-Ok-clause-brief : goal.returns-in_ok-keep_and_walk-in-Ok-clause-brief
 returns-in_ok-keep_and_walk-in-Ok-clause-brief g c = λ refused.
     let header = c.keep_up_to.new.reader in
     let now = c.keep_and_walk.new.reader in
-    let read = c.in-Ok.ensures.ok.read in
     let same : c.together.result.now ≡ kept header = c.together.ensures in
-    let long : 24 ≤ length (kept header) = omega (arith, ap length same, read.few, read.high) in
+    let long : 24 ≤ length (kept header) = omega (arith, ap length same, c.in-Ok.ensures.whole) in
     let short : length (kept header) ≤ 24 =
     omega (arith, c.in_ok-keep_up_to.ensures.sound.within, c.keep_up_to.ensures.room) in
     let filled : length (kept header) ≡ 24 = omega (arith, long, short) in

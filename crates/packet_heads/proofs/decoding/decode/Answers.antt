@@ -22,9 +22,3 @@ returns-then-length-front-clause-decided c =
     ∙ ap (decision_on c.args.link c.args.number row) (in_front row.start row.length
     (min (1048576 - row.start % 1048576) (length c.args.capture.now - row.start)) c.from-front.result.now
     c.args.capture.now c.from-front.ensures.front (omega arith))
-
-pub returns-clause-decided : goal.returns-clause-decided
-unfolding packet_decision
-returns-clause-decided c =
-    c.decision_on-2.ensures.decided
-    ∙ ap (decision_on c.args.link c.args.number c.args.row.now) (c.deref.ensures.value ∙ c.in_ok-packet.ensures)

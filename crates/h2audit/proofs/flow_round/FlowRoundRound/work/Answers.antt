@@ -1,11 +1,13 @@
-use Rattle.std.proofs.Common.{◌<◌, length, ap, sym, ◌∙◌, subst}
-use Rattle.h2audit.specs.code.Flows.{FlowView}
+use Rattle.std.proofs.Common.{◌<◌, length, get_or, ap, sym, ◌∙◌, subst, arith}
 use Rattle.std.proofs.lemmas.List.Elements.{All-get_or}
 use Rattle.std.specs.List.{slice_get}
+use Rattle.audit_terms.specs.declared.sides.Side.TheVariants.{Client, Server}
+use Rattle.tcp_streams.specs.Members.{initial_of, side_segments}
 use Rattle.tcp_streams.specs.declared.members.Connection.{Connection}
 use Rattle.tcp_streams.specs.code.Orderly.{AreMembers}
-use Rattle.h2audit.specs.code.Flows.{IsConnectionCut}
-use Rattle.h2audit.proofs.Flows.{flow_jobs-at, flow_jobs-length, nothing-cut, get-is}
+use Rattle.tcp_streams.proofs.FlowLemmas.{sides-fit}
+use Rattle.h2audit.specs.code.Flows.{FlowView, IsToldFlows}
+use Rattle.h2audit.proofs.Flows.{flow_jobs-at, flow_jobs-length, nothing-cut, get-is, gap-at-end}
 use Rattle.h2audit.proofs.flow_round.FlowRoundRound.work.Goals as goal
 
 pub bounds-self-inside-job : goal.bounds-self-inside-job
@@ -17,8 +19,8 @@ pub returns-clause-cut : goal.returns-clause-cut
 returns-clause-cut g c = λ one is. rw (c.new.ensures.items)
     (nothing-cut one (flow_jobs-at 0 c.args.self.now.opened c.args.job one is).1)
 
-pub cut_connection-requires : goal.cut_connection-requires
-cut_connection-requires g c = record {
+pub flows_of-requires : goal.flows_of-requires
+flows_of-requires g c = record {
   size = c.self.invariant.size;
   numbered = c.self.invariant.numbered;
   payloads = c.self.invariant.payloads;
@@ -30,12 +32,43 @@ cut_connection-requires g c = record {
       ∙ sym (ap (λ (v : FlowView). length v.opened) c.self.view_is)) c.requires) c.self.invariant.members;
 }
 
+pub told_of-requires : goal.told_of-requires
+told_of-requires g c =
+    let capture = c.self.inside.capture.now in
+    let packets = c.self.inside.packets.now in
+    let opened = c.self.inside.opened.now in
+    let connection = get_or opened c.args.job c.index-self-job.result in
+    let client = c.in_ok-flows.ensures.0 in
+    let server = c.in_ok-flows.ensures.1 in
+    let within = subst (λ n. c.args.job < n) (flow_jobs-length 0 c.args.self.now.opened
+    ∙ sym (ap (λ (v : FlowView). length v.opened) c.self.view_is)) c.requires in
+    let fit = sides-fit packets (length capture) connection c.self.invariant.payloads
+    (All-get_or (λ (one : Connection). AreMembers 0 packets one.members.items) opened c.args.job
+    c.index-self-job.result within c.self.invariant.members) in
+    let size = c.self.invariant.size in
+    let shorter = client.within in
+    let short = server.within in
+    record {
+      client = client.orderly;
+      server = server.orderly;
+      client_gap = gap-at-end (initial_of connection Client) capture (side_segments packets connection Client)
+          c.in_ok-flows.flows.0 client.is;
+      server_gap = gap-at-end (initial_of connection Server) capture (side_segments packets connection Server)
+          c.in_ok-flows.flows.1 server.is;
+      together = omega (arith, fit, shorter, short, size);
+    }
+
 pub returns-clause-made : goal.returns-clause-made
 returns-clause-made g c = λ connection is.
     let view = c.self.view_is in
     let there = ap (λ (v : FlowView). slice_get v.opened c.args.job) view ∙ is in
-    subst (λ (v : FlowView). IsConnectionCut v.capture v.packets connection c.in_ok-made.made) view
-    (subst (λ (one : Connection). IsConnectionCut c.self.inside.capture.now c.self.inside.packets.now one
-    c.in_ok-made.made)
+    subst (λ (v : FlowView). IsToldFlows v.credits_shown v.capture v.packets connection c.in_ok-made.made) view
+    (subst (λ (one : Connection). IsToldFlows c.self.inside.credits_shown c.self.inside.capture.now
+    c.self.inside.packets.now one c.in_ok-made.made)
     (get-is c.self.inside.opened.now c.args.job connection c.index-self-job.result there)
-    c.in_ok-made.ensures)
+    (record {
+      flows = record { client = c.in_ok-flows.flows.0; server = c.in_ok-flows.flows.1 };
+      client = c.in_ok-flows.ensures.0.is;
+      server = c.in_ok-flows.ensures.1.is;
+      told = c.in_ok-made.ensures;
+    }))

@@ -1,0 +1,60 @@
+-- What is kept of connections makes the text of the audits that it stands for.
+use Rattle.std.proofs.Common.{◌≡◌, ℕ, ◌+◌, Bool, List, [], ◌∷◌, ◌++◌, ◌∙◌, refl, ap}
+use Rattle.audit_report.specs.Section.{connection_text, findings_text, sections_text}
+use Rattle.audit_report.specs.code.Contents.{contents_in, contents_of, opening_text}
+use Rattle.audit_report.specs.code.Reported.{AreToldOf, IsOutcomeOf, outcome_text, told_text}
+use Rattle.audit_report.specs.declared.audited.Audited.{Audited}
+use Rattle.audit_report.specs.declared.extents.Extent.{Extent}
+use Rattle.audit_report.specs.declared.told.Outcome.{Outcome}
+use Rattle.audit_report.specs.declared.told.Outcome.TheVariants as outcome
+use Rattle.audit_report.specs.declared.told.Told.{Told}
+use Rattle.audit_terms.specs.declared.findings.Finding.{Finding}
+use Rattle.audit_terms.specs.declared.sides.Sides.{Sides}
+use Rattle.h2_frames.specs.declared.connections.Cut.{Cut}
+use Rattle.h2_frames.specs.declared.connections.Cut.TheVariants.{Http2, NotHttp2, NoPreface, NoHandshake}
+use Rattle.tcp_streams.specs.declared.members.Connection.{Connection}
+
+-- the lines of a connection need of its cut the contents alone
+pub opening-is : (k : ℕ) (c : Connection) (e : Sides Extent) (cut : Cut)
+    → opening_text k c e (contents_of cut) ≡ connection_text k c e cut
+opening-is k c e (Http2 frames tails) = refl
+opening-is k c e NotHttp2 = refl
+opening-is k c e NoPreface = refl
+opening-is k c e NoHandshake = refl
+
+contents-same : (o : Outcome) (cut : Cut) (findings : List Finding) → IsOutcomeOf o cut findings
+    → contents_in o ≡ contents_of cut
+contents-same (outcome.Quiet quiet) (Http2 frames tails) findings h = rw (h.0, h.1) refl
+contents-same (outcome.Audited audited) (Http2 frames tails) findings h = rw (h.0, h.1) refl
+contents-same outcome.NotHttp2 NotHttp2 findings h = refl
+contents-same outcome.NoPreface NoPreface findings h = refl
+contents-same outcome.NoHandshake NoHandshake findings h = refl
+contents-same _ _ findings h = absurd h
+
+outcome-same : (shown : Bool) (o : Outcome) (cut : Cut) (findings : List Finding) → IsOutcomeOf o cut findings
+    → outcome_text shown o ≡ findings_text shown cut findings
+outcome-same shown (outcome.Quiet quiet) (Http2 frames tails) findings h = rw h.2 refl
+outcome-same shown (outcome.Audited audited) (Http2 frames tails) findings h = rw (h.0, h.2) refl
+outcome-same shown outcome.NotHttp2 NotHttp2 findings h = refl
+outcome-same shown outcome.NoPreface NoPreface findings h = refl
+outcome-same shown outcome.NoHandshake NoHandshake findings h = refl
+outcome-same shown _ _ findings h = absurd h
+
+pub told-same : (shown : Bool) (k : ℕ) (connections : List Connection) (told : List Told) (audited : List Audited)
+    → AreToldOf told audited
+    → told_text shown k connections told ≡ sections_text shown k connections audited
+told-same shown k [] told audited h = refl
+told-same shown k (c ∷ cs) [] [] h = refl
+told-same shown k (c ∷ cs) [] (a ∷ audited) h = absurd h
+told-same shown k (c ∷ cs) (t ∷ told) [] h = absurd h
+told-same shown k (c ∷ cs) (t ∷ told) (a ∷ audited) h =
+    let findings = a.findings.items in
+    ap (λ e. (opening_text k c e (contents_in t.outcome) ++ outcome_text shown t.outcome)
+    ++ told_text shown (k + 1) cs told) h.0.extents
+    ∙ ap (λ held. (opening_text k c a.extents held ++ outcome_text shown t.outcome)
+    ++ told_text shown (k + 1) cs told) (contents-same t.outcome a.cut findings h.0.outcome)
+    ∙ ap (λ l. (l ++ outcome_text shown t.outcome) ++ told_text shown (k + 1) cs told) (opening-is k c a.extents a.cut)
+    ∙ ap (λ l. (connection_text k c a.extents a.cut ++ l) ++ told_text shown (k + 1) cs told)
+    (outcome-same shown t.outcome a.cut findings h.0.outcome)
+    ∙ ap (λ l. (connection_text k c a.extents a.cut ++ findings_text shown a.cut findings) ++ l)
+    (told-same shown (k + 1) cs told audited h.1)

@@ -1,0 +1,54 @@
+-- What the lines of a connection and of its flows say that these hold, by the number of frames alone.
+use Rattle.std.specs.Prelude.{ℕ, List, ◌++◌, length, codes}
+use Rattle.audit_report.specs.ConnectionLine.{heading_text}
+use Rattle.audit_report.specs.FlowLine.{flow_line}
+use Rattle.audit_report.specs.Line.{line, field}
+use Rattle.audit_report.specs.declared.contents.Contents.{Contents}
+use Rattle.audit_report.specs.declared.contents.Contents.TheVariants as contents
+use Rattle.audit_report.specs.declared.extents.Extent.{Extent}
+use Rattle.audit_report.specs.declared.told.Outcome.{Outcome}
+use Rattle.audit_report.specs.declared.told.Outcome.TheVariants as outcome
+use Rattle.audit_terms.specs.Sides.{side_of}
+use Rattle.audit_terms.specs.declared.sides.Side.{Side}
+use Rattle.audit_terms.specs.declared.sides.Side.TheVariants.{Client, Server}
+use Rattle.audit_terms.specs.declared.sides.Sides.{Sides}
+use Rattle.h2_frames.specs.declared.connections.Cut.{Cut}
+use Rattle.h2_frames.specs.declared.connections.Cut.TheVariants.{Http2, NotHttp2, NoPreface, NoHandshake}
+use Rattle.tcp_streams.specs.declared.members.Connection.{Connection}
+
+-- the contents of a cut
+abbrev pub contents_of : Cut → Contents
+contents_of (Http2 frames tails) = contents.Http2 (length frames.items) tails
+contents_of NotHttp2 = contents.NotHttp2
+contents_of NoPreface = contents.NoPreface
+contents_of NoHandshake = contents.NoHandshake
+
+-- the contents of an outcome
+abbrev pub contents_in : Outcome → Contents
+contents_in (outcome.Quiet quiet) = contents.Http2 quiet.frames quiet.tails
+contents_in (outcome.Audited audited) = contents.Http2 (length audited.value.frames.items) audited.value.tails
+contents_in outcome.NotHttp2 = contents.NotHttp2
+contents_in outcome.NoPreface = contents.NoPreface
+contents_in outcome.NoHandshake = contents.NoHandshake
+
+-- how many bytes of a side are left over after its last frame
+abbrev pub tail_in : Side → Contents → ℕ
+tail_in side (contents.Http2 frames tails) = side_of side tails
+tail_in side _ = 0
+
+-- as the line of the connection has it
+abbrev pub contents_words : Contents → List ℕ
+contents_words (contents.Http2 frames tails) = field (codes "http2 frames ") frames
+contents_words contents.NotHttp2 = codes "not-http2"
+contents_words contents.NoPreface = codes "no-preface"
+contents_words contents.NoHandshake = codes "no-handshake"
+
+-- the line of the connection
+abbrev pub opening_line : (k : ℕ) → Connection → Contents → List ℕ
+opening_line k connection held = line (heading_text k connection ++ codes " " ++ contents_words held)
+
+-- the lines of the connection and of its two flows
+abbrev pub opening_text : (k : ℕ) → Connection → (flows : Sides Extent) → Contents → List ℕ
+opening_text k connection flows held = opening_line k connection held
+    ++ flow_line Client flows.client (tail_in Client held)
+    ++ flow_line Server flows.server (tail_in Server held)

@@ -1,0 +1,197 @@
+-- The audits for which what is told of connections stands.
+use Rattle.std.proofs.Common.{◌≡◌, ℕ, suc, ◌+◌, ◌<◌, ◌≤◌, ◌^◌, ◌||◌, Bool, List, [], ◌∷◌, ◌++◌, length, Vec, Global}
+use Rattle.std.proofs.Common.{refl, sym, ap, ◌∙◌, subst, arith, map}
+use Rattle.std.proofs.lemmas.List.{map-append}
+use Rattle.std.proofs.lemmas.List.Elements.{All-cons, All-nil}
+use Rattle.std.specs.List.{AllZip, list_any}
+use Rattle.audit_report.specs.FlowLine.{extents_of}
+use Rattle.audit_report.specs.code.Reported.{AreToldOf, HasOrderlyOutcome, IsOutcomeOf, IsToldOf, extents_in}
+use Rattle.audit_report.specs.declared.audited.Audited.{Audited as Audit}
+use Rattle.audit_report.specs.declared.extents.Reach.{Reach}
+use Rattle.audit_report.specs.declared.told.Outcome.{Outcome}
+use Rattle.audit_report.specs.declared.told.Outcome.TheVariants.{Quiet, Audited, NotHttp2, NoPreface, NoHandshake}
+use Rattle.audit_report.specs.declared.told.Told.{Told}
+use Rattle.audit_terms.specs.Finding.{shown}
+use Rattle.audit_terms.specs.Kind.{is_fault}
+use Rattle.audit_terms.specs.Pass.{pass}
+use Rattle.audit_terms.specs.code.runs.Orderly.{IsOrderlyFrom}
+use Rattle.audit_terms.specs.declared.findings.Finding.{Finding}
+use Rattle.audit_terms.specs.declared.frames.Frame.{Frame}
+use Rattle.audit_terms.specs.declared.sides.Side.TheVariants.{Client, Server}
+use Rattle.audit_terms.specs.declared.sides.Sides.{Sides}
+use Rattle.h2_frames.specs.Cut.{IsCut}
+use Rattle.h2_frames.specs.declared.connections.Cut.{Cut}
+use Rattle.h2_frames.specs.declared.connections.Cut.TheVariants as cut
+use Rattle.h2audit.specs.Audited.{IsAudited, IsFlowOf, findings_of, has_fault}
+use Rattle.h2audit.specs.code.Flows.{AreToldAudits, AreToldFlows, IsHeldBy}
+use Rattle.h2audit.specs.code.Found.{AreFound, all_with, found_in, frames_of, has_fault_in, kept_in, left_after, put_in}
+use Rattle.h2audit.specs.code.Found.{with_next}
+use Rattle.job_crew.specs.declared.parts.Part.{Part}
+use Rattle.packet_heads.specs.declared.packets.Packet.{Packet}
+use Rattle.tcp_streams.specs.declared.members.Connection.{Connection}
+use Rattle.tcp_streams.specs.declared.streams.Flow.{Flow}
+
+-- orderly frames are few enough for a list in memory
+orderly-few : (low : ℕ) (frames : List Frame) → IsOrderlyFrom low frames → low < 2 ^ 28
+    → low + length frames ≤ 2 ^ 28
+orderly-few low [] orderly below = omega arith
+orderly-few low (f ∷ frames) orderly below =
+    let from = orderly.0 in
+    let range = orderly.1.number in
+    let rest = orderly-few (f.number + 1) frames orderly.2 (omega arith) in
+    omega arith
+
+-- a list in memory of these items, in the place of another one
+abbrev list-of : {X Y : Type 0} → Vec X Global → (items : List Y) → length items < 2 ^ 63 → Vec Y Global
+list-of place items few = record {
+  ptr = place.ptr;
+  len = length items;
+  cap = length items;
+  alloc = place.alloc;
+  items = items;
+  ok = (refl, omega arith);
+  small = few;
+}
+
+-- what one connection adds: its audit, and the findings that are left for those after it
+pub record Step
+    (credits : Bool) (capture : List ℕ) (packets : List Packet) (connection : Connection) (told : Told)
+    (found : List (Vec Finding Global)) (rest : List (List Finding))
+    : Type 0 where
+  pub audited : Audit
+  pub audits : IsAudited credits capture packets connection audited
+  pub stands : IsToldOf (with_next told found) audited
+  pub orderly : HasOrderlyOutcome (with_next told found).outcome
+  pub left : map (λ (one : Vec Finding Global). one.items) (left_after told.outcome found) ≡ rest
+
+abbrev items : Vec Finding Global → List Finding
+items one = one.items
+
+same-head : (a b : List Finding) (cs ds : List (List Finding)) → a ∷ cs ≡ b ∷ ds → a ≡ b
+same-head a b cs ds e = cc
+
+same-tail : (a b : List Finding) (cs ds : List (List Finding)) → a ∷ cs ≡ b ∷ ds → cs ≡ ds
+same-tail a b cs ds e = cc
+
+module _ (credits : Bool) (capture : List ℕ) (packets : List Packet) (c : Connection) (flows : Sides Flow)
+    (client : IsFlowOf capture packets c Client flows.client) (server : IsFlowOf capture packets c Server flows.server)
+    (reach : Sides Reach) (reaches : extents_in reach ≡ extents_of flows.client flows.server)
+    (rest : List (List Finding)) where
+  -- a connection of which no frames are kept
+  unkept : (o : Outcome) (held : Cut) (findings : Vec Finding Global) → findings.items ≡ []
+      → IsCut flows.client flows.server held → findings_of credits held ≡ []
+      → (found : List (Vec Finding Global)) → map items found ≡ rest → left_after o found ≡ found
+      → IsOutcomeOf (put_in o found) held [] → HasOrderlyOutcome (put_in o found)
+      → Step credits capture packets c (record { reach = reach; outcome = o }) found rest
+  unkept o held findings none is nothing found same left stands orderly = record {
+    audited = record { extents = extents_of flows.client flows.server; cut = held; findings = findings };
+    audits = record {
+      flows = flows;
+      client = client;
+      server = server;
+      extents = refl;
+      cut = is;
+      findings = none ∙ sym nothing;
+    };
+    stands = record { extents = reaches; outcome = subst (IsOutcomeOf (put_in o found) held) (sym none) stands };
+    orderly = orderly;
+    left = ap (map items) left ∙ same;
+  }
+
+  pub step-of : (o : Outcome) → IsHeldBy credits flows.client flows.server o → (found : List (Vec Finding Global))
+      → map items found ≡ map (λ frames. shown credits (pass frames)) (frames_of o) ++ rest
+      → Step credits capture packets c (record { reach = reach; outcome = o }) found rest
+  step-of (Quiet quiet) held found same =
+      let is = held.1 in
+      let fit = orderly-few 0 is.frames is.orderly (omega arith) in
+      let frames = list-of c.members is.frames (omega arith) in
+      unkept (Quiet quiet) (cut.Http2 frames quiet.tails) (list-of c.members [] (omega arith)) refl
+      (is.started, is.http2)
+      (ap (λ b. shown b (pass is.frames)) held.0 ∙ is.silent) found same refl
+      (is.count, refl, refl) tt
+  step-of (Audited audited) held [] same = absurd cc
+  step-of (Audited audited) held (findings ∷ found) same = record {
+    audited = record {
+      extents = extents_of flows.client flows.server;
+      cut = cut.Http2 audited.value.frames audited.value.tails;
+      findings = findings;
+    };
+    audits = record {
+      flows = flows;
+      client = client;
+      server = server;
+      extents = refl;
+      cut = (held.0, held.1);
+      findings = same-head _ _ _ _ same;
+    };
+    stands = record { extents = reaches; outcome = (refl, refl, refl) };
+    orderly = held.2;
+    left = same-tail _ _ _ _ same;
+  }
+  step-of NotHttp2 held found same =
+      unkept NotHttp2 cut.NotHttp2 (list-of c.members [] (omega arith)) refl held refl found same refl refl tt
+  step-of NoPreface held found same =
+      unkept NoPreface cut.NoPreface (list-of c.members [] (omega arith)) refl held refl found same refl refl tt
+  step-of NoHandshake held found same =
+      unkept NoHandshake cut.NoHandshake (list-of c.members [] (omega arith)) refl held refl found same refl refl tt
+
+module _ (credits : Bool) (capture : List ℕ) (packets : List Packet) where
+  pub told-audits : (opened : List Connection) (parts : List (Part Told)) (found : List (Vec Finding Global))
+      → AreToldFlows credits capture packets opened parts → map items found ≡ found_in credits parts
+      → AreToldAudits credits capture packets opened (all_with parts found)
+  told-audits [] [] found are same = record {
+    audited = [];
+    audits = tt;
+    stands = tt;
+    orderly = All-nil (λ (one : Told). HasOrderlyOutcome one.outcome);
+  }
+  told-audits [] (p ∷ parts) found are same = absurd are
+  told-audits (c ∷ opened) [] found are same = absurd are
+  told-audits (c ∷ opened) (p ∷ parts) found are same =
+      let flows = are.0.flows in
+      let made = p.made in
+      let step = step-of credits capture packets c flows are.0.client are.0.server made.reach
+      are.0.told.extents (found_in credits parts) made.outcome are.0.told.held found
+      (same ∙ map-append (λ frames. shown credits (pass frames)) (frames_of made.outcome) (kept_in parts)) in
+      let rest = told-audits opened parts (left_after made.outcome found) are.1 step.left in
+      record {
+        audited = step.audited ∷ rest.audited;
+        audits = (step.audits, rest.audits);
+        stands = (step.stands, rest.stands);
+        orderly = All-cons (λ (one : Told). HasOrderlyOutcome one.outcome) (with_next made found)
+            (all_with parts (left_after made.outcome found)) step.orderly rest.orderly;
+      }
+
+  pub found-audits : (opened : List Connection) (parts : List (Part Told)) (told : List Told)
+      → AreToldFlows credits capture packets opened parts → AreFound credits parts told
+      → AreToldAudits credits capture packets opened told
+  found-audits opened parts told are found =
+      subst (AreToldAudits credits capture packets opened) (sym found.put)
+      (told-audits opened parts found.found are found.are)
+
+pub zip-length : {A B : Type 0} (R : A → B → Type 0) (xs : List A) (ys : List B) → AllZip R xs ys
+    → length xs ≡ length ys
+zip-length R [] [] are = refl
+zip-length R [] (y ∷ ys) are = absurd are
+zip-length R (x ∷ xs) [] are = absurd are
+zip-length R (x ∷ xs) (y ∷ ys) are = ap suc (zip-length R xs ys are.1)
+
+-- a fault is in what is told exactly where it is in the findings
+fault-same : (o : Outcome) (held : Cut) (findings : List Finding) → IsOutcomeOf o held findings
+    → has_fault_in o ≡ list_any (λ (finding : Finding). is_fault finding.kind) findings
+fault-same (Quiet quiet) (cut.Http2 frames tails) findings h = rw h.2 refl
+fault-same (Audited audited) (cut.Http2 frames tails) findings h = rw h.2 refl
+fault-same NotHttp2 cut.NotHttp2 findings h = rw h refl
+fault-same NoPreface cut.NoPreface findings h = rw h refl
+fault-same NoHandshake cut.NoHandshake findings h = rw h refl
+fault-same _ _ findings h = absurd h
+
+pub faults-same : (told : List Told) (audited : List Audit) → AreToldOf told audited
+    → list_any (λ (one : Told). has_fault_in one.outcome) told ≡ list_any has_fault audited
+faults-same [] [] h = refl
+faults-same [] (a ∷ audited) h = absurd h
+faults-same (t ∷ told) [] h = absurd h
+faults-same (t ∷ told) (a ∷ audited) h =
+    ap (λ b. b || list_any (λ (one : Told). has_fault_in one.outcome) told)
+    (fault-same t.outcome a.cut a.findings.items h.0.outcome)
+    ∙ ap (λ b. has_fault a || b) (faults-same told audited h.1)

@@ -1,0 +1,15 @@
+use Rattle.std.proofs.Common.{◌+◌, if◌then◌else◌, []}
+use Rattle.h2_frames.specs.code.Walk.{IsReadyWalk, IsWalkAfter, weight_of}
+use Rattle.h2audit.specs.code.Quiet.{IsMetButFor}
+use Rattle.h2audit.proofs.quiet.quiet_in_batches.Given as goal
+use Rattle.tcp_streams.specs.declared.streams.Flow.{Flow}
+
+abbrev pub invariant-loop-more : goal.invariant-loop-more
+invariant-loop-more g l = record {
+  ready : IsReadyWalk l.walk;
+  met : (client server : Flow) → IsWalkAfter client server [] l.fn.walk
+      → IsMetButFor l.batch.items l.more client server l.walk l.pass;
+}
+
+abbrev pub decreases-loop-more : goal.decreases-loop-more
+decreases-loop-more g l = if l.more then weight_of l.walk + 1 else 0

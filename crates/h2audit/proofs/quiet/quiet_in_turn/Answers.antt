@@ -1,0 +1,31 @@
+use Rattle.std.proofs.Common.{[], ◌∷◌, ◌++◌}
+use Rattle.h2audit.proofs.Walked.{whole-at_end}
+use Rattle.h2audit.proofs.quiet.quiet_in_turn.Goals as goal
+
+pub loop-pass-init : goal.loop-pass-init
+loop-pass-init c = record {
+  ready = c.requires;
+  met = λ client server before. record { frames = []; taken = before; quiet = c.begin-pass.ensures };
+}
+
+pub loop-pass-preserved : goal.loop-pass-preserved
+loop-pass-preserved c = record {
+  ready = c.in_ok-frame.ensures.ready;
+  met = λ client server before.
+      let next = rw c.in-Some.is at c.in_ok-frame.ensures.next in
+      let met = c.loop-pass.invariant.met client server before in
+      record {
+        frames = met.frames ++ c.in-Some.frame ∷ [];
+        taken = next client server met.frames met.taken;
+        quiet = (rw c.if-not-branch.false at c.in_ok-meet.ensures) met.frames met.quiet;
+      };
+}
+
+pub returns : goal.returns
+returns c = λ client server fresh.
+    let met = c.loop-pass.invariant.met client server fresh.whole in
+    let same = rw c.in_default.is at c.in_ok-frame.ensures.same in
+    let over = rw c.in_default.is at c.in_ok-frame.ensures.over in
+    c.quiet_by.ensures client server met.frames _ fresh.started
+    (whole-at_end _ _ client server met.frames met.taken same (over client server met.frames met.taken))
+    met.quiet

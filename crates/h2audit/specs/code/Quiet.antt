@@ -1,0 +1,46 @@
+-- A connection of which nothing is shown.
+use Rattle.std.specs.Prelude.{◌≡◌, Bool, true, false, List, [], ◌++◌, length, IsTrue}
+use Rattle.audit_report.specs.declared.told.QuietConnection.{QuietConnection}
+use Rattle.audit_terms.specs.Finding.{shown}
+use Rattle.audit_terms.specs.Pass.{pass}
+use Rattle.audit_terms.specs.code.runs.Orderly as runs
+use Rattle.audit_terms.specs.declared.frames.Frame.{Frame}
+use Rattle.h2_frames.specs.Cut.{IsHttp2}
+use Rattle.h2_frames.specs.code.Walk.{IsWalkAfter, tails_of, taken_of}
+use Rattle.h2_frames.specs.declared.walk.FrameWalk.{FrameWalk}
+use Rattle.quiet_pass.specs.code.QuietPass.{IsQuietAfter}
+use Rattle.quiet_pass.specs.declared.passes.QuietPass.{QuietPass}
+use Rattle.tcp_streams.specs.declared.streams.Flow.{Flow}
+
+-- the flows hold so many frames, and tails; one pass over the frames shows nothing, where credits are not shown
+pub record IsQuietOf (client server : Flow) (quiet : QuietConnection) : Type 0 where
+  pub frames : List Frame
+  pub started : IsTrue server.started
+  pub http2 : IsHttp2 client server frames quiet.tails
+  pub orderly : runs.IsOrderly frames
+  pub count : quiet.frames ≡ length frames
+  pub silent : shown false (pass frames) ≡ []
+
+-- of the connection's frames those that were taken were met, and show nothing
+pub record IsMetUpTo (client server : Flow) (walk : FrameWalk) (machine : QuietPass) : Type 0 where
+  pub frames : List Frame
+  pub taken : IsWalkAfter client server frames walk
+  pub quiet : IsQuietAfter frames machine
+
+-- these are all frames of the connection, and the walk tells how many they are, and the tails
+pub record IsWholeWalk (client server : Flow) (frames : List Frame) (walk : FrameWalk) : Type 0 where
+  pub http2 : IsHttp2 client server frames (tails_of walk)
+  pub orderly : runs.IsOrderly frames
+  pub count : taken_of walk ≡ length frames
+
+-- the frames taken so far: the connection's first ones where there may be more, and all of them else
+abbrev pub AreTaken : (more : Bool) → (client server : Flow) → List Frame → FrameWalk → Type 0
+AreTaken true client server frames walk = IsWalkAfter client server frames walk
+AreTaken false client server frames walk = IsWholeWalk client server frames walk
+
+-- of the frames taken so far all but a batch were met, and show nothing
+pub record IsMetButFor (batch : List Frame) (more : Bool) (client server : Flow) (walk : FrameWalk)
+    (machine : QuietPass) : Type 0 where
+  pub frames : List Frame
+  pub taken : AreTaken more client server (frames ++ batch) walk
+  pub quiet : IsQuietAfter frames machine

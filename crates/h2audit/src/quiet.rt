@@ -1,0 +1,170 @@
+//! Connections of which nothing is shown: no list of their frames is made.
+
+ghost use Rattle.std.specs.Prelude.{◌≡◌, ◌+◌, ◌<◌, ◌^◌, ◌++◌, IfOk, IfSome, IsTrue, List, length};
+ghost use Rattle.std.specs.Bool.{OnTrue};
+ghost use Rattle.audit_terms.specs.declared.frames.Frame.{Frame as FrameTerm};
+ghost use Rattle.h2_frames.specs.code.Walk.{IsFreshWalk, IsReadyWalk, IsWalkAfter, weight_of};
+ghost use Rattle.h2audit.specs.code.Quiet.{AreTaken, IsQuietOf, IsWholeWalk};
+ghost use Rattle.quiet_pass.specs.code.QuietPass.{IsQuietAfter};
+ghost use Rattle.quiet_pass.specs.declared.passes.QuietPass.{QuietPass as PassTerm};
+ghost use Rattle.tcp_streams.specs.Bytes.{bytes_of};
+ghost use Rattle.tcp_streams.specs.code.Orderly.{IsOrderly};
+ghost use Rattle.tcp_streams.specs.declared.streams.Flow.{Flow};
+
+use audit_report::QuietConnection;
+use audit_terms::Frame;
+use h2_frames::{Begun, FrameWalk, begin};
+use quiet_pass::QuietPass;
+use quiet_pass::laws::quiet_frames_show_nothing;
+use std::alloc::{AllocError, Global};
+use std::mem;
+use std::thread::{Threads, join_mut};
+use tcp_streams::Flow;
+
+/// How many frames are taken at a time where two threads work on a connection.
+const BATCH: usize = 8_192;
+
+/// How many bytes both flows have together where two threads work on them: below this the frames are met before a
+/// second thread has begun.
+const LONG: u64 = 1_048_576;
+
+/// The number of frames and the tails of a connection of HTTP/2 of which nothing is shown, where credits are not.
+///
+/// The frames are taken out of the flows one by one, and met by a machine that keeps none of them. It gives up at the
+/// first frame of which something may be shown. Where there is no answer, the flows may hold anything, and something
+/// may be shown or not. With two `threads` or more, two work on long flows.
+pub(crate) fn quiet_connection<R: Threads>(
+    rt: &R,
+    alloc: Global,
+    threads: usize,
+    client: &Flow,
+    server: &Flow,
+) -> Result<Option<QuietConnection>, AllocError>
+    requires client { IsOrderly client.now }
+    requires server { IsOrderly server.now }
+    requires together { length (bytes_of client.now) + length (bytes_of server.now) < 2 ^ 31 }
+    ensures { IfOk result (λ found. IfSome found (IsQuietOf client.now server.now)) }
+{
+    let Begun::Http2(walk) = begin(alloc, client, server) else {
+        return Ok(None);
+    };
+    if 2 <= threads && LONG <= client.length() + server.length() {
+        quiet_in_batches(rt, alloc, walk)
+    } else {
+        quiet_in_turn(alloc, walk)
+    }
+}
+
+/// The same of a walk that no frame was taken of: each frame is met as it is taken.
+fn quiet_in_turn(alloc: Global, walk: FrameWalk<'_>) -> Result<Option<QuietConnection>, AllocError>
+    requires { IsReadyWalk walk }
+    ensures { (client server : Flow) → IsFreshWalk client server walk.entry
+        → IfOk result (λ found. IfSome found (IsQuietOf client server)) }
+{
+    let mut walk = walk;
+    let mut pass = QuietPass::begin(alloc);
+    while let Some(frame) = walk.take_next()? {
+        if !pass.meet(&frame)? {
+            return Ok(None);
+        }
+    }
+    Ok(Some(quiet_by(&walk)))
+}
+
+/// The same, in batches: while one thread meets a batch, another takes the next one.
+fn quiet_in_batches<R: Threads>(
+    rt: &R,
+    alloc: Global,
+    walk: FrameWalk<'_>,
+) -> Result<Option<QuietConnection>, AllocError>
+    requires { IsReadyWalk walk }
+    ensures { (client server : Flow) → IsFreshWalk client server walk.entry
+        → IfOk result (λ found. IfSome found (IsQuietOf client server)) }
+{
+    let mut walk = walk;
+    let mut pass = QuietPass::begin(alloc);
+    let mut batch = Vec::new(alloc);
+    let mut next = Vec::new(alloc);
+    let mut more = take_batch(&mut walk, &mut batch)?;
+    while more {
+        let (met, taken) = meet_and_take(rt, &mut pass, batch.as_slice(), &mut walk, &mut next);
+        if !met? {
+            return Ok(None);
+        }
+        more = taken?;
+        mem::swap(&mut batch, &mut next);
+    }
+    if !meet_batch(&mut pass, batch.as_slice())? {
+        return Ok(None);
+    }
+    Ok(Some(quiet_by(&walk)))
+}
+
+/// Meets a batch on a thread of its own, where one can be had, and takes the next one meanwhile.
+fn meet_and_take<R: Threads>(
+    rt: &R,
+    pass: &mut QuietPass,
+    batch: &[Frame],
+    walk: &mut FrameWalk<'_>,
+    next: &mut Vec<Frame>,
+) -> (Result<bool, AllocError>, Result<bool, AllocError>)
+    requires { IsReadyWalk walk.old }
+    ensures met { IfOk result.0 (λ met. OnTrue met ((frames : List FrameTerm) → IsQuietAfter frames pass.old
+        → IsQuietAfter (frames ++ batch.now) pass.new)) }
+    ensures ready { IfOk result.1 (λ more. IsReadyWalk walk.new) }
+    ensures weight { IfOk result.1 (λ more. OnTrue more (weight_of walk.new < weight_of walk.old)) }
+    ensures taken { IfOk result.1 (λ more. (client server : Flow) → (frames : List FrameTerm)
+        → IsWalkAfter client server frames walk.old
+        → AreTaken more client server (frames ++ next.new.items) walk.new) }
+{
+    join_mut(
+        rt,
+        &mut || meet_batch(pass, batch),
+        &mut || take_batch(walk, next),
+    )
+}
+
+/// Takes the next batch of frames out. Is it full? Else these are the last ones.
+fn take_batch(walk: &mut FrameWalk<'_>, batch: &mut Vec<Frame>) -> Result<bool, AllocError>
+    requires { IsReadyWalk walk.old }
+    ensures ready { IfOk result (λ more. IsReadyWalk walk.new) }
+    ensures weight { IfOk result (λ more. OnTrue more (weight_of walk.new < weight_of walk.old)) }
+    ensures taken { IfOk result (λ more. (client server : Flow) → (frames : List FrameTerm)
+        → IsWalkAfter client server frames walk.old
+        → AreTaken more client server (frames ++ batch.new.items) walk.new) }
+{
+    batch.clear();
+    while batch.len() < BATCH {
+        let Some(frame) = walk.take_next()? else {
+            return Ok(false);
+        };
+        batch.extend_from_slice(&[frame])?;
+    }
+    Ok(true)
+}
+
+/// Meets a batch of frames. Is nothing of them shown?
+fn meet_batch(pass: &mut QuietPass, batch: &[Frame]) -> Result<bool, AllocError>
+    ensures { IfOk result (λ met. OnTrue met ((frames : List FrameTerm) → IsQuietAfter frames pass.old
+        → IsQuietAfter (frames ++ batch.now) pass.new)) }
+{
+    for frame in batch {
+        if !pass.meet(frame)? {
+            return Ok(false);
+        }
+    }
+    Ok(true)
+}
+
+/// What is told of a connection all of whose frames were taken, where the pass over them stayed quiet.
+fn quiet_by(walk: &FrameWalk<'_>) -> QuietConnection
+    requires { IsReadyWalk walk.now }
+    ensures { (client server : Flow) → (frames : List FrameTerm) → (pass : PassTerm) → IsTrue server.started
+        → IsWholeWalk client server frames walk.now → IsQuietAfter frames pass → IsQuietOf client server result }
+{
+    quiet_frames_show_nothing();
+    QuietConnection {
+        frames: walk.taken(),
+        tails: walk.tails(),
+    }
+}

@@ -1,0 +1,11 @@
+use Rattle.std.proofs.lemmas.Result.{on_ok_weaker}
+use Rattle.packet_heads.proofs.Walking.{lasts, stands_now}
+use Rattle.packet_heads.proofs.walk.PacketWalkFrontWalk.advance.Goals as goal
+
+pub go_on-requires-clause-walk : goal.go_on-requires-clause-walk
+go_on-requires-clause-walk c = stands_now c.args.capture.now c.args.self.now c.requires.walk
+
+pub returns : goal.returns
+returns c =
+    on_ok_weaker c.go_on.result
+    (λ made. lasts c.more_bytes_keep_a_walk.ensures c.args.capture.now c.go_on.new.self made) c.go_on.ensures.made

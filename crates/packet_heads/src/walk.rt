@@ -1,0 +1,125 @@
+//! The packets of a capture, made while it is read.
+
+ghost use Rattle.std.specs.Prelude.{◌≡◌, ◌<◌, ◌≤◌, ◌^◌, ◌⊎◌, IfErr, IfOk, IfSome, None, OnOk, Some, length};
+ghost use Rattle.pcap_records.specs.Refusal.{refusal};
+ghost use Rattle.pcap_records.specs.code.Walk.{IsThrough};
+ghost use Rattle.packet_heads.specs.code.Walk.{AreInOrder, ArePacketsOf, HasMade, IsPacketWalkIn};
+
+use crate::decoding::decode;
+use crate::growing::GrowingPackets;
+use crate::packets::Packet;
+use pcap_records::laws::more_bytes_keep_a_walk;
+use pcap_records::{Capture, FrontWalk, PcapFault, RecordWalk, refusal_in_parts};
+use std::alloc::{AllocError, Global};
+
+/// What a capture holds.
+#[derive(Drop)]
+pub struct CapturePackets {
+    /// What each record holds, in order, in parts of [`PACKET_PART`](crate::PACKET_PART) packets.
+    pub parts: Vec<Vec<Packet>>,
+    /// The number of the record that the end of the capture cuts, if there is one.
+    pub cut: Option<u32>,
+}
+
+/// The packets of a front of a capture, behind which more bytes may come.
+///
+/// A program that reads a capture lets the walk go on over each part as it has come. No record is kept beside its
+/// packet.
+#[derive(Drop)]
+pub struct PacketWalk {
+    records: RecordWalk,
+    /// How many records the walk has passed.
+    count: u32,
+    packets: GrowingPackets,
+}
+
+impl PacketWalk {
+    /// A walk that stands behind the file header, or the refusal of these bytes.
+    pub fn begin(alloc: Global, front: &[u8]) -> Result<PacketWalk, PcapFault>
+        ensures ok { IfOk result (IsPacketWalkIn front.now) }
+        ensures taken { OnOk result (refusal front.now ≡ None) }
+        ensures whole { OnOk result (24 ≤ length front.now) }
+        ensures err { IfErr result (λ e. refusal front.now ≡ Some e) }
+    {
+        more_bytes_keep_a_walk();
+        let records = RecordWalk::begin(front)?;
+        Ok(PacketWalk {
+            records,
+            count: 0,
+            packets: GrowingPackets::new(alloc),
+        })
+    }
+
+    /// Makes the packet of each record that the capture has by now.
+    ///
+    /// Memory can be wanting for the packets, or for a record in which parts of the capture meet.
+    fn go_on(&mut self, alloc: Global, capture: &Capture<'_>) -> Result<(), AllocError>
+        requires walk { HasMade capture.now self.old }
+        requires short { length capture.now ≤ 2 ^ 31 }
+        ensures made { OnOk result (HasMade capture.now self.new) }
+        ensures through { OnOk result (IsThrough capture.now self.new.records) }
+    {
+        while let Some(row) = self.records.next(alloc, capture)? {
+            self.count += 1;
+            let packet = decode(alloc, self.records.link(), self.count, &row, capture)?;
+            self.packets.push(alloc, packet)?;
+        }
+        Ok(())
+    }
+
+    /// What the capture holds, of which this walk made a front, or the first refusal that applies.
+    ///
+    /// Refusals are tested in the order of their numbers, from the header and the length alone. A capture that is not
+    /// refused is read whole: bytes at its end that hold no whole record are the cut record, and all before it is kept.
+    /// [`PcapFault::OutOfMemory`] comes only where memory for packets, or for a record in which parts of the capture
+    /// meet, was wanting.
+    pub fn finish(self, alloc: Global, capture: &Capture<'_>) -> Result<CapturePackets, PcapFault>
+        requires walk { IsPacketWalkIn capture.now self }
+        // Nothing refuses the capture, and there is a packet for each of its records: the decision on it.
+        ensures ok { IfOk result (λ found. (refusal capture.now ≡ None) × ArePacketsOf capture.now found) }
+        // What is refused is refused by the first refusal that applies, whatever memory there is.
+        ensures refused { IfSome (refusal capture.now) (λ e. result ≡ Err e) }
+        // Each fault other than want of memory is that refusal.
+        ensures err { IfErr result (λ e. (e ≡ PcapFault.OutOfMemory) ⊎ (refusal capture.now ≡ Some e)) }
+
+        // For those who go on from the packets.
+        ensures order { IfOk result (AreInOrder (length capture.now)) }
+        ensures short { OnOk result (length capture.now < 2 ^ 31) }
+    {
+        if let Some(fault) = refusal_in_parts(capture) {
+            return Err(fault);
+        }
+        match self.completed(alloc, capture) {
+            Ok(found) => Ok(found),
+            Err(_) => Err(PcapFault::OutOfMemory),
+        }
+    }
+
+    /// What a capture that is not refused holds, of which this walk made a front.
+    fn completed(
+        mut self,
+        alloc: Global,
+        capture: &Capture<'_>,
+    ) -> Result<CapturePackets, AllocError>
+        requires walk { IsPacketWalkIn capture.now self }
+        requires short { length capture.now < 2 ^ 31 }
+        ensures packets { IfOk result (ArePacketsOf capture.now) }
+        ensures order { IfOk result (AreInOrder (length capture.now)) }
+    {
+        self.go_on(alloc, capture)?;
+        let cut = self.records.cut(capture, self.count);
+        Ok(CapturePackets {
+            parts: self.packets.into_parts()?,
+            cut,
+        })
+    }
+}
+
+impl FrontWalk for PacketWalk {
+    ghost stands = { HasMade };
+
+    fn advance(&mut self, alloc: Global, capture: &Capture<'_>) -> Result<(), AllocError> {
+        more_bytes_keep_a_walk();
+        self.go_on(alloc, capture)
+    }
+}

@@ -1,0 +1,6 @@
+-- A walk over the front of a capture, behind which more bytes may come.
+use Rattle.std.specs.Prelude.{ℕ, List, ◌++◌}
+
+-- the walk stands of this front, whatever bytes come behind it
+abbrev pub Lasts : {W : Type 0} → (List ℕ → W → Type 0) → List ℕ → W → Type 0
+Lasts stands front walk = (more : List ℕ) → stands (front ++ more) walk
