@@ -22,65 +22,63 @@ from captures import PREFACE, SERVER, SYN, SYN_ACK, Capture, capture_of, frame_o
 SETTINGS, SETTINGS_ACK = frame_of(["SETTINGS"]), frame_of(["ACK"])
 
 
-def pings(frames: int) -> bytes:
-    """One connection of so many frames: the four with which it is opened, and PINGs, 87 bytes a record."""
-    return capture_of("opened\n" + "C PING\n" * (frames - 4))
+def pings(frames: int, first: str = "C PING") -> bytes:
+    """One connection of so many frames: the four with which it is opened, a fifth, and PINGs, 87 bytes a record."""
+    return capture_of(f"opened\n{first}\n" + "C PING\n" * (frames - 5))
 
 
-def error_at_once(frames: int) -> bytes:
-    """The same, whose fifth frame is an error of the connection."""
-    return capture_of("opened\nS WINDOW_UPDATE 9 1\n" + "C PING\n" * (frames - 5))
-
-
-def connections(count: int) -> bytes:
-    """So many connections of six records and four frames each, in 480 bytes."""
+def connections(count: int, last: bytes = b"") -> bytes:
+    """So many connections of six records and four frames each, in 480 bytes, and what the server sends last."""
     capture = Capture()
     for port in range(1000, 1000 + count):
         client = (0x0A000001, port)
         capture.ends = {"C": (client, SERVER), "S": (SERVER, client)}
         capture.syn("C", 1000, SYN)
         capture.syn("S", 5000, SYN_ACK)
-        for side, payload in (("C", PREFACE + SETTINGS), ("S", SETTINGS), ("C", SETTINGS_ACK), ("S", SETTINGS_ACK)):
+        for side, payload in (
+            ("C", PREFACE + SETTINGS), ("S", SETTINGS), ("C", SETTINGS_ACK), ("S", SETTINGS_ACK + last),
+        ):
             capture.send(side, payload)
     return bytes(capture.bytes)
 
 
-ONE_STREAM = capture_of("opened\nC HEADERS 1\nC DATA 1 100\n")
 TWO_STREAMS = capture_of("opened\nC HEADERS 1\nC HEADERS 3\n")
 TWO_LOUD_STREAMS = capture_of("opened\nC HEADERS 1\nC HEADERS 3\nS WINDOW_UPDATE 1 0\nS WINDOW_UPDATE 3 0\n")
-SHORT, LONG, LONGER = pings(3904), pings(4096), pings(20004)
+# An acknowledgement that answers nothing, which is told and ends nothing: so frames go through the rounds.
+UNMATCHED, AT_ONCE = SETTINGS_ACK, "C ACK"
+SHORT, LONG, LONGER = pings(3904, AT_ONCE), pings(4096, AT_ONCE), pings(20004, AT_ONCE)
 
 # The words, the capture, and how many threads each way adds beside the one at hand.
 ROWS = [
-    ("--workers 2", ONE_STREAM, {"one side's flow": 1}),
-    ("--workers 4", ONE_STREAM, {"one side's flow": 1, "room for frames": 1}),
-    ("--workers 2", TWO_STREAMS, {"one side's flow": 1, "quiet streams are in no group": 0}),
+    ("--workers 2", TWO_STREAMS, {"one side's flow": 1, "nothing is shown, so there is no round": 0}),
     ("--workers 2 --frames", TWO_STREAMS, {"one side's flow": 1, "one of two groups": 1}),
     ("--workers 2", TWO_LOUD_STREAMS, {"one side's flow": 1, "one of two groups": 1}),
     ("--workers 2", SHORT, {"a part ahead, from 256 KiB on": 1, "one side's flow": 1}),
-    ("--workers 4 --block 64", SHORT, {
-        "a part ahead": 1, "one side's flow": 1, "room for frames": 1, "61 blocks are summed": 3}),
+    ("--workers 4 --block 64", SHORT, {"a part ahead": 1, "one side's flow": 1, "61 blocks are summed": 3}),
     ("--workers 4", LONG, {
-        "a part ahead": 1, "one side's flow": 1, "room for frames": 1,
-        "faults beside the split, from 4,096 frames on": 1}),
+        "a part ahead": 1, "one side's flow": 1, "faults beside the split, from 4,096 frames on": 1}),
     ("--workers 4 --block 64", LONG, {
-        "a part ahead": 1, "one side's flow": 1, "room for frames": 1, "faults beside the split": 1,
+        "a part ahead": 1, "one side's flow": 1, "faults beside the split": 1,
         "two blocks of a front of 128 frames": 1, "64 blocks are summed": 3}),
-    ("--workers 4 --block 64", error_at_once(4096), {
-        "a part ahead": 1, "one side's flow": 1, "room for frames": 1, "nothing behind an error in the front": 0}),
+    ("--workers 4 --block 64", pings(4096, "S WINDOW_UPDATE 9 1"), {
+        "a part ahead": 1, "one side's flow": 1, "nothing behind an error in the front": 0}),
     ("--workers 4", LONGER, {
-        "parts ahead, one at each 256 KiB of the first MiB": 4, "a walk beside the second part": 1,
-        "three parts of packets are decoded": 2, "one side's flow": 1, "room for frames": 1,
-        "faults beside the split": 1,
+        "parts ahead, one at each 256 KiB of the first MiB": 4, "one side's flow": 1, "faults beside the split": 1,
         "faults in three pieces": 2, "five blocks are summed": 3}),
-    ("--workers 2", connections(2), {"flows of one": 1, "one is made ready": 1, "one of two blocks is summed": 1}),
-    ("--workers 4", connections(63), {"flows": 3, "made ready by halves": 3, "blocks are summed": 3}),
-    ("--workers 4", connections(64), {
+    ("--workers 4", pings(70_000), {
+        "parts ahead": 4, "one more at each MiB from the second on": 4, "one side's flow": 1,
+        "each of eight batches of 8,192 frames is met while the next one is taken": 8}),
+    ("--workers 2", connections(2), {"flows of one": 1, "nothing is shown, so there is no round": 0}),
+    ("--workers 2", connections(2, UNMATCHED), {
+        "flows of one": 1, "one is made ready": 1, "one of two blocks is summed": 1}),
+    ("--workers 4", connections(63), {"flows": 3}),
+    ("--workers 4", connections(63, UNMATCHED), {"flows": 3, "made ready by halves": 3, "blocks are summed": 3}),
+    ("--workers 4", connections(64, UNMATCHED), {
         "flows": 3, "halves, from 64 connections on": 1, "each is made ready by halves": 2,
         "blocks of each are summed": 2}),
-    ("--workers 4", connections(5000), {
-        "parts ahead": 4, "one more at the second MiB": 1, "walks beside the second part and the third": 2,
-        "four parts of packets are decoded": 3, "flows": 3, "halves of one batch, and halves of these": 3}),
+    ("--workers 4", connections(5000, UNMATCHED), {
+        "parts ahead": 4, "one more at the second MiB": 1, "flows": 3,
+        "halves of one batch, and halves of these": 3}),
 ]
 
 
