@@ -108,12 +108,17 @@ module _ {R : Type 0} where
       ∙ ap (take (length (kept first))) (now ∙ made)
       ∙ before
 
+-- a walk that stands of some bytes stands of more
+pub walk_lasts : {W : Type 0} (stands : List ℕ → W → Type 0) (first later : List ℕ) (walk : W)
+    → Lasts stands first walk → Lasts stands (first ++ later) walk
+walk_lasts stands first later walk is more =
+    subst (λ bytes. stands bytes walk) (sym (append_assoc first later more)) (is (later ++ more))
+
 -- a walk that stands of what was kept stands of what is kept, where that has it in front
 pub walk_stays : {W : Type 0} (stands : List ℕ → W → Type 0) (first new : List ℕ) (walk : W)
     → take (length first) new ≡ first → Lasts stands first walk → Lasts stands new walk
-walk_stays stands first new walk front is more =
+walk_stays stands first new walk front is =
     let later : List ℕ = drop (length first) new in
     let whole : first ++ later ≡ new =
     ap (λ (l : List ℕ). l ++ later) (sym front) ∙ take-append-drop (length first) new in
-    subst (λ bytes. stands bytes walk)
-    (sym (append_assoc first later more) ∙ ap (λ (l : List ℕ). l ++ more) whole) (is (later ++ more))
+    subst (λ bytes. Lasts stands bytes walk) whole (walk_lasts stands first later walk is)

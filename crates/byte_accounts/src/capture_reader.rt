@@ -165,10 +165,10 @@ impl<R: Read> CaptureReader<R> {
         }
     }
 
-    /// The same. Where no room is left then, a walk goes on over what is kept, while the part is hot.
-    pub(crate) fn read_and_walk<W: FrontWalk>(
+    /// The same, while a walk goes on over what is kept, part by part.
+    pub(crate) fn read_and_walk<T: Threads, W: FrontWalk + Send>(
         &mut self,
-        alloc: Global,
+        ahead: &PartsAhead<'_, T>,
         walk: &mut W,
     ) -> Result<usize, ReadFault>
         requires room { length (kept self.old) < self.old.bytes.room }
@@ -193,12 +193,15 @@ impl<R: Read> CaptureReader<R> {
         ensures passed { self.new.passed ≡ self.old.passed }
         ensures walk { OnOk result (Lasts W.stands (kept self.new) walk.new) }
     {
-        let count = self.read_once()?;
-        if self.bytes.is_filled() {
-            if self.bytes.walk_on(alloc, walk).is_err() {
-                self.lacked_memory = true;
-                return Err(ReadFault::OutOfMemory);
-            }
+        let (read, walked) = self.bytes.read_and_walk(ahead, &mut self.reader, walk);
+        let Ok(count) = read else {
+            self.has_failed = true;
+            return Err(ReadFault::Failed);
+        };
+        self.has_ended = count == 0;
+        if walked.is_err() {
+            self.lacked_memory = true;
+            return Err(ReadFault::OutOfMemory);
         }
         Ok(count)
     }

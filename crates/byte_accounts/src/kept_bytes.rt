@@ -1,7 +1,9 @@
 //! The bytes that are kept of a capture, in parts of one length.
 
-ghost use Rattle.std.specs.Prelude.{◌≡◌, ◌+◌, ◌^◌, ◌<◌, ◌≤◌, [], length, take, drop, vec_len, IfOk, OnOk};
+ghost use Rattle.std.specs.Prelude.{◌≡◌, ◌+◌, ◌*◌, ◌^◌, ◌<◌, ◌≤◌, [], length, map, take, drop, vec_len, IfOk, OnOk};
 ghost use Rattle.std.specs.Io.KnownBytes.{Consumes, IsAtEnd};
+ghost use Rattle.std.specs.List.{All};
+ghost use Rattle.parted_list.specs.Parts.{joined};
 ghost use Rattle.pcap_records.specs.code.Front.{Lasts};
 
 use crate::parts_ahead::PartsAhead;
@@ -9,7 +11,7 @@ use pcap_records::{CAPTURE_PART, Capture, FrontWalk};
 use std::alloc::{AllocError, Global};
 use std::io::Read;
 use std::marker::Model;
-use std::thread::Threads;
+use std::thread::{Threads, join_mut};
 use std::{io, mem};
 
 /// The number of bytes for which room is made at a time in the first part.
@@ -128,24 +130,101 @@ impl KeptBytes {
         Ok(count)
     }
 
-    /// Whether there is no room for a byte more.
-    pub(crate) fn is_filled(&self) -> bool {
-        self.filled == self.last.len()
+    /// The same, while a walk goes on over the parts that are full: where a part begins, on another thread, and where
+    /// there is one worker, on the thread at hand as soon as a part is full.
+    pub(crate) fn read_and_walk<T: Threads, R: Read, W: FrontWalk + Send>(
+        &mut self,
+        ahead: &PartsAhead<'_, T>,
+        reader: &mut R,
+        walk: &mut W,
+    ) -> (io::Result<usize>, Result<(), AllocError>)
+        requires room { length self.old.kept < self.old.room }
+        requires short { self.old.room ≤ 2 ^ 31 }
+        requires walk { Lasts W.stands self.old.kept walk.old }
+        ensures front { take (length self.old.kept) self.new.kept ≡ self.old.kept }
+        ensures grown { length self.old.kept ≤ length self.new.kept }
+        ensures room { self.new.room ≡ self.old.room }
+        ensures within { length self.new.kept ≤ self.new.room }
+        ensures count { IfOk result.0 (λ n. length self.new.kept ≡ length self.old.kept + n) }
+        ensures bytes { IfOk result.0 (λ n. Consumes (R.remaining reader.old) (R.remaining reader.new)
+            (drop (length self.old.kept) self.new.kept)) }
+        ensures end { IfOk result.0 (λ n. n ≡ 0 → IsAtEnd (R.remaining reader.new)) }
+        ensures walk { OnOk result.1 (Lasts W.stands self.new.kept walk.new) }
+    {
+        if ahead.is_alone() {
+            let read = self.read_once(reader);
+            let walked = self.walk_where_filled(ahead.alloc, walk);
+            return (read, walked);
+        }
+        if self.filled > 0 {
+            return (self.read_once(reader), Ok(()));
+        }
+        let (read, walked) = read_beside(ahead, reader, &mut self.last, &self.full, walk);
+        match read {
+            Ok(count) => {
+                self.filled = count;
+                (Ok(count), walked)
+            }
+            Err(error) => (Err(error), walked),
+        }
     }
 
-    /// Lets a walk go on over the bytes.
-    pub(crate) fn walk_on<W: FrontWalk>(
-        &self,
-        alloc: Global,
-        walk: &mut W,
-    ) -> Result<(), AllocError>
+    /// Lets a walk go on over the bytes, where there is no room for one more.
+    fn walk_where_filled<W: FrontWalk>(&self, alloc: Global, walk: &mut W) -> Result<(), AllocError>
         requires walk { Lasts W.stands self.now.kept walk.old }
         requires short { length self.now.kept ≤ 2 ^ 31 }
         ensures { OnOk result (Lasts W.stands self.now.kept walk.new) }
     {
+        if self.filled < self.last.len() {
+            return Ok(());
+        }
         let capture = self.capture(alloc)?;
         walk.advance(alloc, &capture)
     }
+}
+
+/// Reads once into an empty part, while another thread lets a walk go on over the parts before it.
+fn read_beside<T: Threads, R: Read, W: FrontWalk + Send>(
+    ahead: &PartsAhead<'_, T>,
+    reader: &mut R,
+    part: &mut Vec<u8>,
+    full: &[Vec<u8>],
+    walk: &mut W,
+) -> (io::Result<usize>, Result<(), AllocError>)
+    requires room { 0 < vec_len part.old }
+    requires full { All (λ part. vec_len part ≡ 1048576) full.now }
+    requires length { length full.now * 1048576 ≤ 2 ^ 31 }
+    requires walk { Lasts W.stands (joined (map (λ part. part.items) full.now)) walk.old }
+    ensures length { vec_len part.new ≡ vec_len part.old }
+    ensures fits { IfOk result.0 (λ n. n ≤ vec_len part.new) }
+    ensures bytes { IfOk result.0 (λ n. Consumes (R.remaining reader.old) (R.remaining reader.new)
+        (take n part.new.items)) }
+    ensures end { IfOk result.0 (λ n. n ≡ 0 → IsAtEnd (R.remaining reader.new)) }
+    ensures walk { OnOk result.1 (Lasts W.stands (joined (map (λ part. part.items) full.now)) walk.new) }
+{
+    let alloc = ahead.alloc;
+    let (walked, read) = join_mut(
+        ahead.rt,
+        &mut || -> Result<(), AllocError>
+            requires { All (λ part. vec_len part ≡ 1048576) full.now × (length full.now * 1048576 ≤ 2 ^ 31)
+                × Lasts W.stands (joined (map (λ part. part.items) full.now)) walk.now }
+            ensures { OnOk result
+                (Lasts W.stands (joined (map (λ part. part.items) full.entry.now)) walk.exit.now) }
+        { walk_over(alloc, full, walk) },
+        &mut || read_into(reader, part, 0),
+    );
+    (read, walked)
+}
+
+/// Lets a walk go on over these parts.
+fn walk_over<W: FrontWalk>(alloc: Global, full: &[Vec<u8>], walk: &mut W) -> Result<(), AllocError>
+    requires full { All (λ part. vec_len part ≡ 1048576) full.now }
+    requires length { length full.now * 1048576 ≤ 2 ^ 31 }
+    requires walk { Lasts W.stands (joined (map (λ part. part.items) full.now)) walk.old }
+    ensures { OnOk result (Lasts W.stands (joined (map (λ part. part.items) full.now)) walk.new) }
+{
+    let capture = Capture::with_last(alloc, full, &[])?;
+    walk.advance(alloc, &capture)
 }
 
 /// Reads once into a part, behind the bytes with which it is filled.

@@ -19,7 +19,7 @@ const PAGE: usize = 4096;
 /// know nothing of a capture, so no byte that is read depends on them.
 #[derive(Drop)]
 pub struct PartsAhead<'a, T: Threads> {
-    rt: &'a T,
+    pub(crate) rt: &'a T,
     pub(crate) alloc: Global,
     /// How many parts may be in the making.
     most: usize,
@@ -39,6 +39,11 @@ impl<'a, T: Threads> PartsAhead<'a, T> {
             },
             making: VecDeque::new(alloc),
         }
+    }
+
+    /// Whether there is no worker beside the thread that reads.
+    pub(crate) fn is_alone(&self) -> bool {
+        self.most == 0
     }
 
     /// Begins a part, where fewer than `count` are in the making and there is a worker for it.

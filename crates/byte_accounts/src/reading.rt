@@ -51,7 +51,7 @@ pub fn keep_up_to<T: Threads, R: Read>(
 ///
 /// The thread that reads walks over each part that it has filled: another one would have to fetch it first. What is
 /// read last is left to the end of the walk.
-pub fn keep_and_walk<T: Threads, R: Read, W: FrontWalk>(
+pub fn keep_and_walk<T: Threads, R: Read, W: FrontWalk + Send>(
     ahead: &mut PartsAhead<'_, T>,
     reader: &mut CaptureReader<R>,
     walk: &mut W,
@@ -74,7 +74,7 @@ pub fn keep_and_walk<T: Threads, R: Read, W: FrontWalk>(
 {
     while !reader.has_kept(LIMIT) {
         reader.make_room(LIMIT, ahead)?;
-        if reader.read_and_walk(ahead.alloc, walk)? == 0 {
+        if reader.read_and_walk(ahead, walk)? == 0 {
             return Ok(());
         }
     }
