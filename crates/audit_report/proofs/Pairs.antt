@@ -5,7 +5,7 @@ use Rattle.std.proofs.lemmas.List.{drop_more}
 use Rattle.audit_report.specs.code.Contents.{contents_in, opening_text}
 use Rattle.audit_report.specs.code.Reported.{extents_in, outcome_text, told_text}
 use Rattle.audit_report.specs.declared.told.Told.{Told}
-use Rattle.tcp_streams.specs.declared.members.Connection.{Connection}
+use Rattle.audit_report.specs.declared.headings.Heading.{Heading}
 
 -- a list from the index of an element
 from_here : {X : Type 0} (xs : List X) (i : ℕ) (x : X) → i < length xs → x ≡ get_or xs i x
@@ -13,14 +13,15 @@ from_here : {X : Type 0} (xs : List X) (i : ℕ) (x : X) → i < length xs → x
 from_here xs i x l here = drop_more xs i x l ∙ ap (λ y. y ∷ drop (i + 1) xs) (sym here)
 
 -- the lines from the index of a connection
-pub sections_from_here : (shown : Bool) (k i : ℕ) (connections : List Connection) (told : List Told)
-    (c : Connection) (t : Told)
-    → i < length connections → i < length told → c ≡ get_or connections i c → t ≡ get_or told i t
-    → told_text shown k (drop i connections) (drop i told)
-    ≡ (opening_text k c (extents_in t.reach) (contents_in t.outcome) ++ outcome_text shown t.outcome)
-    ++ told_text shown (k + 1) (drop (i + 1) connections) (drop (i + 1) told)
-sections_from_here shown k i connections told c t lc la here there =
-    rw (from_here connections i c lc here, from_here told i t la there) refl
+pub sections_from_here : (shown : Bool) (k i : ℕ) (headings : List Heading) (told : List Told)
+    (other : Heading) (t : Told)
+    → i < length headings → i < length told → t ≡ get_or told i t
+    → told_text shown k (drop i headings) (drop i told)
+    ≡ (opening_text k (get_or headings i other) (extents_in t.reach) (contents_in t.outcome)
+    ++ outcome_text shown t.outcome)
+    ++ told_text shown (k + 1) (drop (i + 1) headings) (drop (i + 1) told)
+sections_from_here shown k i headings told other t lc la there =
+    rw (drop_more headings i other lc, from_here told i t la there) refl
 
 -- one piece more of a text of which the rest is to come
 pub written_more : (o o' piece rest all whole : List ℕ) → o' ≡ o ++ piece → all ≡ piece ++ rest → o ++ all ≡ whole

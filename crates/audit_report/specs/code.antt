@@ -1,6 +1,7 @@
 pub mod Contents
 pub mod Ends
 pub mod Findings
+pub mod Heading
 pub mod Packets
 pub mod Reported
 pub mod Roles

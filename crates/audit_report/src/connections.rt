@@ -2,16 +2,17 @@ ghost use Rattle.std.specs.Prelude.{◌≡◌, ◌++◌, OnOk, IfOk};
 ghost use Rattle.std.specs.String.{string_bytes};
 ghost use Rattle.packet_heads.specs.declared.packets.Endpoint.{Endpoint};
 ghost use Rattle.audit_terms.specs.declared.sides.Side.{Side};
-ghost use Rattle.audit_report.specs.ConnectionLine.{heading_text};
 ghost use Rattle.audit_report.specs.FlowLine.{extents_of, gap_text, flow_line};
 ghost use Rattle.audit_report.specs.Section.{connection_text};
 ghost use Rattle.audit_report.specs.code.Contents.{contents_words, opening_line, opening_text};
+ghost use Rattle.audit_report.specs.code.Heading.{headed_text};
 ghost use Rattle.audit_report.specs.code.Roles.{roles_text};
 ghost use Rattle.tcp_streams.specs.code.Orderly.{IsOrderly};
 
 use crate::contents::{Contents, contents_of, tail_in};
 use crate::endpoints::push_endpoint;
 use crate::extents::Extent;
+use crate::headings::Heading;
 use crate::words::{push_field, push_number, push_word};
 use audit_terms::{Side, Sides};
 use h2_frames::Cut;
@@ -35,7 +36,8 @@ pub fn connection_lines(
 {
     let mut out = String::new(alloc);
     let extents = Extent::of_both(client, server);
-    push_opening_text(&mut out, k as u64, connection, &extents, contents_of(cut))?;
+    let heading = Heading::of(connection);
+    push_opening_text(&mut out, k as u64, heading, &extents, contents_of(cut))?;
     Ok(out.into_bytes())
 }
 
@@ -44,14 +46,14 @@ pub fn connection_lines(
 pub fn push_opening_text(
     out: &mut String,
     k: u64,
-    connection: &Connection,
+    heading: Heading,
     extents: &Sides<Extent>,
     contents: Contents,
 ) -> Result<(), AllocError>
-    ensures { OnOk result (string_bytes out.new ≡ string_bytes out.old ++ opening_text k connection.now
+    ensures { OnOk result (string_bytes out.new ≡ string_bytes out.old ++ opening_text k heading
         extents.now contents) }
 {
-    push_opening_line(out, k, connection, contents)?;
+    push_opening_line(out, k, heading, contents)?;
     let tail = tail_in(contents, Side::Client);
     push_flow_line(out, Side::Client, extents.client, tail)?;
     let tail = tail_in(contents, Side::Server);
@@ -62,24 +64,24 @@ pub fn push_opening_text(
 fn push_opening_line(
     out: &mut String,
     k: u64,
-    connection: &Connection,
+    heading: Heading,
     contents: Contents,
 ) -> Result<(), AllocError>
-    ensures { OnOk result (string_bytes out.new ≡ string_bytes out.old ++ opening_line k connection.now contents) }
+    ensures { OnOk result (string_bytes out.new ≡ string_bytes out.old ++ opening_line k heading contents) }
 {
-    push_heading(out, k, connection)?;
+    push_heading(out, k, heading)?;
     push_word(out, " ")?;
     push_contents(out, contents)?;
     push_word(out, "\n")
 }
 
 #[tactic(auto, using(crate::proofs::Joins::joins))]
-fn push_heading(out: &mut String, k: u64, connection: &Connection) -> Result<(), AllocError>
-    ensures { OnOk result (string_bytes out.new ≡ string_bytes out.old ++ heading_text k connection.now) }
+fn push_heading(out: &mut String, k: u64, heading: Heading) -> Result<(), AllocError>
+    ensures { OnOk result (string_bytes out.new ≡ string_bytes out.old ++ headed_text k heading) }
 {
     push_field(out, "connection ", k)?;
-    push_roles(out, connection.client, connection.server)?;
-    push_field(out, " record ", connection.rec as u64)
+    push_roles(out, heading.client, heading.server)?;
+    push_field(out, " record ", heading.rec as u64)
 }
 
 #[tactic(auto, using(crate::proofs::Joins::joins), unfolding(crate::specs::code::Roles::roles_text))]

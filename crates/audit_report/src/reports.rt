@@ -1,4 +1,4 @@
-ghost use Rattle.std.specs.Prelude.{◌≡◌, ◌++◌, ◌+◌, ◌<◌, ◌^◌, [], List, OnOk, IfOk, All, length};
+ghost use Rattle.std.specs.Prelude.{◌≡◌, ◌++◌, ◌+◌, ◌<◌, ◌^◌, [], List, OnOk, IfOk, All, length, map};
 ghost use Rattle.std.specs.String.{string_bytes};
 ghost use Rattle.audit_terms.specs.code.runs.Orderly.{IsOrderly};
 ghost use Rattle.audit_report.specs.EndLine.{end_line};
@@ -7,37 +7,40 @@ ghost use Rattle.audit_report.specs.Section.{sections_text};
 ghost use Rattle.audit_report.specs.StallLine.{stall_lines};
 ghost use Rattle.audit_report.specs.Stalls.{stalls};
 ghost use Rattle.audit_report.specs.code.Contents.{contents_in, opening_text};
+ghost use Rattle.audit_report.specs.code.Heading.{heading_of};
 ghost use Rattle.audit_report.specs.code.Reported.{AreToldOf, HasOrderlyOutcome, extents_in, outcome_text, told_text};
 ghost use Rattle.audit_report.specs.declared.audited.Audited.{Audited};
 ghost use Rattle.audit_report.specs.declared.told.Told.{Told};
+ghost use Rattle.tcp_streams.specs.declared.members.Connection.{Connection};
 
 use crate::connections::push_opening_text;
 use crate::contents::contents_in;
 use crate::endings::{push_end_line, push_stall_lines};
 use crate::extents::Reach;
 use crate::findings::push_finding_lines;
+use crate::headings::Heading;
 use crate::stalls::stall_pairs;
 use crate::told::{Outcome, Told};
 use audit_terms::{Finding, Frame};
 use std::alloc::{AllocError, Global};
-use tcp_streams::Connection;
 
 /// The whole report: behind the capture's lines, as [`crate::capture_lines`] gives them, those of each connection, in
-/// order of opening. `told` has what came of each of them, in the same order, and the text is that of any audits that
-/// these outcomes stand for. Credits are told only with `frames_shown`.
+/// order of opening, each under its heading. `told` has what came of each of them, in the same order, and the text is
+/// that of any connections and audits that these stand for. Credits are told only with `frames_shown`.
 pub fn report(
     alloc: Global,
     capture_lines: String,
-    connections: &[Connection],
+    headings: &[Heading],
     told: &[Told],
     frames_shown: bool,
 ) -> Result<Vec<u8>, AllocError>
-    requires each { length told.now ≡ length connections.now }
+    requires each { length told.now ≡ length headings.now }
     requires orderly { All (λ (t : Told). HasOrderlyOutcome t.outcome) told.now }
-    ensures { IfOk result (λ text. (audited : List Audited) → AreToldOf told.now audited → text.items
-        ≡ string_bytes capture_lines ++ sections_text frames_shown 1 connections.now audited) }
+    ensures { IfOk result (λ text. (connections : List Connection) → (audited : List Audited)
+        → headings.now ≡ map heading_of connections → AreToldOf told.now audited → text.items
+        ≡ string_bytes capture_lines ++ sections_text frames_shown 1 connections audited) }
 {
-    let text = told_report(alloc, capture_lines, connections, told, frames_shown)?;
+    let text = told_report(alloc, capture_lines, headings, told, frames_shown)?;
     Ok(text)
 }
 
@@ -45,34 +48,34 @@ pub fn report(
 fn told_report(
     alloc: Global,
     capture_lines: String,
-    connections: &[Connection],
+    headings: &[Heading],
     told: &[Told],
     frames_shown: bool,
 ) -> Result<Vec<u8>, AllocError>
-    requires each { length told.now ≡ length connections.now }
+    requires each { length told.now ≡ length headings.now }
     requires orderly { All (λ (t : Told). HasOrderlyOutcome t.outcome) told.now }
     ensures { IfOk result (λ text. text.items
-        ≡ string_bytes capture_lines ++ told_text frames_shown 1 connections.now told.now) }
+        ≡ string_bytes capture_lines ++ told_text frames_shown 1 headings.now told.now) }
 {
     let mut out = capture_lines;
-    push_sections(alloc, &mut out, connections, told, frames_shown)?;
+    push_sections(alloc, &mut out, headings, told, frames_shown)?;
     Ok(out.into_bytes())
 }
 
 fn push_sections(
     alloc: Global,
     out: &mut String,
-    connections: &[Connection],
+    headings: &[Heading],
     told: &[Told],
     frames_shown: bool,
 ) -> Result<(), AllocError>
-    requires each { length told.now ≡ length connections.now }
+    requires each { length told.now ≡ length headings.now }
     requires orderly { All (λ (t : Told). HasOrderlyOutcome t.outcome) told.now }
     ensures { OnOk result (string_bytes out.new ≡ string_bytes out.old
-        ++ told_text frames_shown 1 connections.now told.now) }
+        ++ told_text frames_shown 1 headings.now told.now) }
 {
-    for (i, connection) in connections.iter().enumerate() {
-        push_section(alloc, out, i as u64 + 1, connection, &told[i], frames_shown)?;
+    for (i, heading) in headings.iter().enumerate() {
+        push_section(alloc, out, i as u64 + 1, heading, &told[i], frames_shown)?;
     }
     Ok(())
 }
@@ -82,18 +85,18 @@ fn push_section(
     alloc: Global,
     out: &mut String,
     k: u64,
-    connection: &Connection,
+    heading: &Heading,
     told: &Told,
     frames_shown: bool,
 ) -> Result<(), AllocError>
     requires { HasOrderlyOutcome told.now.outcome }
     ensures { OnOk result (string_bytes out.new ≡ string_bytes out.old
-        ++ (opening_text k connection.now (extents_in told.now.reach) (contents_in told.now.outcome)
+        ++ (opening_text k heading.now (extents_in told.now.reach) (contents_in told.now.outcome)
         ++ outcome_text frames_shown told.now.outcome)) }
 {
     let extents = Reach::extents(&told.reach);
     let contents = contents_in(&told.outcome);
-    push_opening_text(out, k, connection, &extents, contents)?;
+    push_opening_text(out, k, *heading, &extents, contents)?;
     push_outcome(alloc, out, &told.outcome, frames_shown)
 }
 

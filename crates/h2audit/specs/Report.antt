@@ -1,5 +1,5 @@
 -- The report of a capture.
-use Rattle.std.specs.Prelude.{◌≡◌, ℕ, Bool, List, map, None, Some}
+use Rattle.std.specs.Prelude.{◌≡◌, ℕ, Bool, List, None, Some}
 use Rattle.pcap_records.specs.Refusal.{refusal}
 use Rattle.pcap_records.specs.Reading.{IsReading}
 use Rattle.pcap_records.specs.declared.capture.Records.{Records}

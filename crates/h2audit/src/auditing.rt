@@ -7,7 +7,7 @@ use crate::connection::{audit_each, flows_each, verdict_on};
 use crate::division::division;
 use crate::fault::AuditFault;
 use crate::verdict::Verdict;
-use audit_report::{capture_lines, report};
+use audit_report::{capture_lines, headings_of, report};
 use command_line::Options;
 use job_crew::Gate;
 use packet_heads::{CapturePackets, PacketWalk, Packets};
@@ -89,16 +89,17 @@ fn audit_records(
     let Connections { opened, strays } = connections;
     // From here on there are no strays, whose memory frames may take.
     let begun = capture_lines(alloc, cut, &packets, strays)?;
-    let opened = opened.as_slice();
-    let parts = flows_each(rt, alloc, options, capture, &packets, opened, gate)?;
-    // Nor are there packets once there are flows.
+    let lent = opened.as_slice();
+    let parts = flows_each(rt, alloc, options, capture, &packets, lent, gate)?;
+    // Nor are there packets and lists of members once there are flows.
     drop(packets);
     drop(made);
+    let headings = headings_of(alloc, opened)?;
     let told = audit_each(rt, alloc, options, &division, parts, gate)?;
     let text = report(
         alloc,
         begun,
-        opened,
+        headings.as_slice(),
         told.as_slice(),
         options.frames_shown(),
     )?;

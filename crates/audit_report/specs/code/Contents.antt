@@ -1,11 +1,12 @@
 -- What the lines of a connection and of its flows say that these hold, by the number of frames alone.
 use Rattle.std.specs.Prelude.{ℕ, List, ◌++◌, length, codes}
-use Rattle.audit_report.specs.ConnectionLine.{heading_text}
 use Rattle.audit_report.specs.FlowLine.{flow_line}
 use Rattle.audit_report.specs.Line.{line, field}
+use Rattle.audit_report.specs.code.Heading.{headed_text}
 use Rattle.audit_report.specs.declared.contents.Contents.{Contents}
 use Rattle.audit_report.specs.declared.contents.Contents.TheVariants as contents
 use Rattle.audit_report.specs.declared.extents.Extent.{Extent}
+use Rattle.audit_report.specs.declared.headings.Heading.{Heading}
 use Rattle.audit_report.specs.declared.told.Outcome.{Outcome}
 use Rattle.audit_report.specs.declared.told.Outcome.TheVariants as outcome
 use Rattle.audit_terms.specs.Sides.{side_of}
@@ -14,7 +15,6 @@ use Rattle.audit_terms.specs.declared.sides.Side.TheVariants.{Client, Server}
 use Rattle.audit_terms.specs.declared.sides.Sides.{Sides}
 use Rattle.h2_frames.specs.declared.connections.Cut.{Cut}
 use Rattle.h2_frames.specs.declared.connections.Cut.TheVariants.{Http2, NotHttp2, NoPreface, NoHandshake}
-use Rattle.tcp_streams.specs.declared.members.Connection.{Connection}
 
 -- the contents of a cut
 abbrev pub contents_of : Cut → Contents
@@ -44,11 +44,11 @@ contents_words contents.NoPreface = codes "no-preface"
 contents_words contents.NoHandshake = codes "no-handshake"
 
 -- the line of the connection
-abbrev pub opening_line : (k : ℕ) → Connection → Contents → List ℕ
-opening_line k connection held = line (heading_text k connection ++ codes " " ++ contents_words held)
+abbrev pub opening_line : (k : ℕ) → Heading → Contents → List ℕ
+opening_line k heading held = line (headed_text k heading ++ codes " " ++ contents_words held)
 
 -- the lines of the connection and of its two flows
-abbrev pub opening_text : (k : ℕ) → Connection → (flows : Sides Extent) → Contents → List ℕ
-opening_text k connection flows held = opening_line k connection held
+abbrev pub opening_text : (k : ℕ) → Heading → (flows : Sides Extent) → Contents → List ℕ
+opening_text k heading flows held = opening_line k heading held
     ++ flow_line Client flows.client (tail_in Client held)
     ++ flow_line Server flows.server (tail_in Server held)

@@ -9,6 +9,7 @@ use Rattle.audit_report.specs.code.Contents.{contents_in, opening_text}
 use Rattle.audit_report.specs.declared.audited.Audited.{Audited}
 use Rattle.audit_report.specs.declared.extents.Extent.{Extent}
 use Rattle.audit_report.specs.declared.extents.Reach.{Reach}
+use Rattle.audit_report.specs.declared.headings.Heading.{Heading}
 use Rattle.audit_report.specs.declared.told.Outcome.{Outcome}
 use Rattle.audit_report.specs.declared.told.Outcome.TheVariants as outcome
 use Rattle.audit_report.specs.declared.told.Told.{Told}
@@ -18,7 +19,6 @@ use Rattle.audit_terms.specs.code.runs.Orderly.{IsOrderly}
 use Rattle.h2_frames.specs.declared.connections.Cut.{Cut}
 use Rattle.h2_frames.specs.declared.connections.Cut.TheVariants.{Http2, NotHttp2, NoPreface, NoHandshake}
 use Rattle.tcp_streams.specs.Bytes.{bytes_of}
-use Rattle.tcp_streams.specs.declared.members.Connection.{Connection}
 use Rattle.tcp_streams.specs.declared.streams.Flow.{Flow}
 
 -- bytes are missing nowhere but at the end of a flow
@@ -68,9 +68,9 @@ outcome_text credits_shown (outcome.Audited audited) =
 outcome_text credits_shown _ = []
 
 -- all that the report says of the k-th connection, and of those after it
-abbrev pub told_text : (credits_shown : Bool) (k : ℕ) → List Connection → List Told → List ℕ
-told_text credits_shown k (connection ∷ connections) (told ∷ rest) =
-    (opening_text k connection (extents_in told.reach) (contents_in told.outcome)
+abbrev pub told_text : (credits_shown : Bool) (k : ℕ) → List Heading → List Told → List ℕ
+told_text credits_shown k (heading ∷ headings) (told ∷ rest) =
+    (opening_text k heading (extents_in told.reach) (contents_in told.outcome)
     ++ outcome_text credits_shown told.outcome)
-    ++ told_text credits_shown (k + 1) connections rest
+    ++ told_text credits_shown (k + 1) headings rest
 told_text credits_shown k _ _ = []

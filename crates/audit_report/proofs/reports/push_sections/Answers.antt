@@ -4,7 +4,6 @@ use Rattle.audit_report.proofs.reports.push_sections.Goals as goal
 
 pub loop-i-preserved : goal.loop-i-preserved
 loop-i-preserved c = written_more _ _ _ _ _ _ c.in_ok-push_section.ensures
-    (sections_from_here c.args.frames_shown (c.loop-i.i + 1) c.loop-i.i c.args.connections.now c.args.told.now
-    c.index-connections-i.result c.index-told-i.result c.loop-i-test.true (omega arith) c.index-connections-i.is
-    c.index-told-i.is)
+    (sections_from_here c.args.frames_shown (c.loop-i.i + 1) c.loop-i.i c.args.headings.now c.args.told.now
+    _ c.index-told-i.result c.loop-i-test.true (omega arith) c.index-told-i.is)
     c.loop-i.invariant

@@ -5,6 +5,6 @@ use Rattle.audit_report.proofs.reports.push_sections.Given as goal
 
 -- what is written, with the lines of the connections to come, is the whole
 abbrev pub invariant-loop-i : goal.invariant-loop-i
-invariant-loop-i l = string_bytes l.out ++ told_text l.frames_shown (l.i + 1) (drop l.i l.connections)
+invariant-loop-i l = string_bytes l.out ++ told_text l.frames_shown (l.i + 1) (drop l.i l.headings)
     (drop l.i l.told)
-    ≡ string_bytes l.initial.out ++ told_text l.frames_shown 1 l.connections l.told
+    ≡ string_bytes l.initial.out ++ told_text l.frames_shown 1 l.headings l.told

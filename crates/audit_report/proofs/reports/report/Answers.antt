@@ -1,10 +1,13 @@
 use Rattle.std.proofs.Common.{◌++◌, ℕ, List, ap, ◌∙◌}
 use Rattle.std.specs.String.{string_bytes}
+use Rattle.audit_report.specs.code.Reported.{told_text}
 use Rattle.audit_report.proofs.Standing.{told-same}
 use Rattle.audit_report.proofs.reports.report.Goals as goal
 
 pub returns : goal.returns
-returns c = λ audited stand.
+returns c = λ connections audited headed stand.
+    let before = string_bytes c.args.capture_lines in
+    let shown = c.args.frames_shown in
     c.in_ok-text.ensures
-    ∙ ap (λ (l : List ℕ). string_bytes c.args.capture_lines ++ l)
-    (told-same c.args.frames_shown 1 c.args.connections.now c.args.told.now audited stand)
+    ∙ ap (λ headings. before ++ told_text shown 1 headings c.args.told.now) headed
+    ∙ ap (λ (l : List ℕ). before ++ l) (told-same shown 1 connections c.args.told.now audited stand)

@@ -5,6 +5,7 @@ use Rattle.std.proofs.lemmas.List.FromFn.{length-enumerate_from}
 use Rattle.parted_list.specs.Parts.{joined}
 use Rattle.audit_report.specs.CaptureLines.{capture_text}
 use Rattle.audit_report.specs.Section.{sections_text}
+use Rattle.audit_report.specs.code.Heading.{heading_of}
 use Rattle.audit_report.specs.code.Reported.{AreToldOf, HasOrderlyOutcome}
 use Rattle.audit_report.specs.code.Packets.{AreRecordsOf}
 use Rattle.audit_report.specs.declared.told.Told.{Told}
@@ -40,33 +41,38 @@ flows_each-requires-clause-few g c κs within =
     ap length c.in_ok-packets.ensures
     ∙ ap (λ (parts : List (Vec Packet Global)). length (joined (map (λ (part : Vec Packet Global). part.items) parts)))
     c.as_slice.ensures.value in
-    let lent : length c.as_slice-opened.result.now ≡ length c.in_ok-connections.connections.opened.items =
-    ap length c.as_slice-opened.ensures.value in
+    let lent : length c.as_slice-lent.result.now ≡ length c.in_ok-connections.connections.opened.items =
+    ap length c.as_slice-lent.ensures.value in
     let all = c.requires.order.few in
     omega (arith, few, same, lent, all)
 
 pub audit_each-requires-after_bounds : goal.audit_each-requires-after_bounds
 audit_each-requires-after_bounds g c κs within =
     told-orderly c.args.options.now.frames_shown c.args.capture.now c.in_ok-packets.packets
-    c.as_slice-opened.result.now c.in_ok-parts.parts.items c.in_ok-parts.ensures
+    c.as_slice-lent.result.now c.in_ok-parts.parts.items c.in_ok-parts.ensures
 
 pub report-requires-clause-each : goal.report-requires-clause-each
 report-requires-clause-each g c =
     let credits = c.args.options.now.frames_shown in
     let packets = c.in_ok-packets.packets in
-    let opened = c.as_slice-opened.result.now in
-    let audits = found-audits credits c.args.capture.now packets opened c.in_ok-parts.parts.items
+    let lent = c.as_slice-lent.result.now in
+    let opened = c.in_ok-connections.connections.opened.items in
+    let audits = found-audits credits c.args.capture.now packets lent c.in_ok-parts.parts.items
     c.in_ok-told.told.items c.in_ok-parts.ensures c.in_ok-told.ensures in
-    ap length c.as_slice-2.ensures.value
+    ap length c.as_slice-3.ensures.value
     ∙ zip-length IsToldOf c.in_ok-told.told.items audits.audited audits.stands
-    ∙ sym (zip-length (IsAudited credits c.args.capture.now packets) opened audits.audited audits.audits)
+    ∙ sym (zip-length (IsAudited credits c.args.capture.now packets) lent audits.audited audits.audits)
+    ∙ ap length c.as_slice-lent.ensures.value
+    ∙ sym (length-map opened heading_of)
+    ∙ sym (ap length c.in_ok-headings.ensures)
+    ∙ sym (ap length c.as_slice-2.ensures.value)
 
 pub report-requires-clause-orderly : goal.report-requires-clause-orderly
 report-requires-clause-orderly g c =
     let audits = found-audits c.args.options.now.frames_shown c.args.capture.now c.in_ok-packets.packets
-    c.as_slice-opened.result.now c.in_ok-parts.parts.items c.in_ok-told.told.items c.in_ok-parts.ensures
+    c.as_slice-lent.result.now c.in_ok-parts.parts.items c.in_ok-told.told.items c.in_ok-parts.ensures
     c.in_ok-told.ensures in
-    subst (λ (l : List Told). All (λ (t : Told). HasOrderlyOutcome t.outcome) l) (sym c.as_slice-2.ensures.value)
+    subst (λ (l : List Told). All (λ (t : Told). HasOrderlyOutcome t.outcome) l) (sym c.as_slice-3.ensures.value)
     audits.orderly
 
 pub returns : goal.returns
@@ -82,11 +88,11 @@ returns g c =
     ∙ ap (λ (parts : List (Vec Packet Global)). joined (map (λ (part : Vec Packet Global). part.items) parts))
     c.as_slice.ensures.value
     ∙ c.requires.packets.exact in
-    let lent = c.as_slice-opened.ensures.value in
+    let lent = c.as_slice-lent.ensures.value in
     let audits : AreToldAudits credits capture packets opened told =
     subst (λ (p : List Packet). AreToldAudits credits capture p opened told) given
     (subst (λ (cs : List Connection). AreToldAudits credits capture c.in_ok-packets.packets cs told) lent
-    (found-audits credits capture c.in_ok-packets.packets c.as_slice-opened.result.now c.in_ok-parts.parts.items told
+    (found-audits credits capture c.in_ok-packets.packets c.as_slice-lent.result.now c.in_ok-parts.parts.items told
     c.in_ok-parts.ensures c.in_ok-told.ensures)) in
     let audited = audits.audited in
     let are : AreRecordsOf c.in_ok-packets.packets c.args.found.cut found = record {
@@ -102,20 +108,18 @@ returns g c =
         audited = audited;
         connections = subst (λ (p : List Packet). AreConnections p opened) given c.in_ok-connections.ensures.opened;
         audits = audits.audits;
-        spelled = c.in_ok-text.ensures audited
-            (subst (λ (l : List Told). AreToldOf l audited) (sym c.as_slice-2.ensures.value) audits.stands)
-            ∙ ap (λ (l : List ℕ). l ++ sections_text c.frames_shown.result 1 c.as_slice-opened.result.now audited)
+        spelled = c.in_ok-text.ensures opened audited (c.as_slice-2.ensures.value ∙ c.in_ok-headings.ensures)
+            (subst (λ (l : List Told). AreToldOf l audited) (sym c.as_slice-3.ensures.value) audits.stands)
+            ∙ ap (λ (l : List ℕ). l ++ sections_text c.frames_shown.result 1 opened audited)
             (c.in_ok-begun.ensures found are)
             ∙ ap (λ (b : Bool). capture_text found c.in_ok-packets.packets strays
-            ++ sections_text b 1 c.as_slice-opened.result.now audited) c.frames_shown.ensures
+            ++ sections_text b 1 opened audited) c.frames_shown.ensures
             ∙ ap (λ (p : List Packet). capture_text found p strays
-            ++ sections_text credits 1 c.as_slice-opened.result.now audited) given
+            ++ sections_text credits 1 opened audited) given
             ∙ ap (λ (s : List Stray). capture_text found packets s
-            ++ sections_text credits 1 c.as_slice-opened.result.now audited)
-            (c.in_ok-connections.ensures.strays ∙ ap strays_of given)
-            ∙ ap (λ (cs : List Connection). capture_text found packets (strays_of packets)
-            ++ sections_text credits 1 cs audited) lent;
+            ++ sections_text credits 1 opened audited)
+            (c.in_ok-connections.ensures.strays ∙ ap strays_of given);
         judged = c.verdict_on-verdict.ensures audited
-            (subst (λ (l : List Told). AreToldOf l audited) (sym c.as_slice-3.ensures.value) audits.stands);
+            (subst (λ (l : List Told). AreToldOf l audited) (sym c.as_slice-4.ensures.value) audits.stands);
       };
     }

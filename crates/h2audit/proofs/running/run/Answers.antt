@@ -1,4 +1,4 @@
-use Rattle.std.proofs.Common.{rules, ◌≡◌, ◌^◌, ℕ, take, Ok, Err, subst, sym}
+use Rattle.std.proofs.Common.{rules, ◌≡◌, ◌^◌, ℕ, take, subst, sym}
 use Rattle.byte_accounts.specs.Account.{HaveGiven, IsFlushed, IsUnwritten, HasWriteFailed, kept, written}
 use Rattle.byte_accounts.specs.declared.capture_reader.CaptureReader.{CaptureReader}
 use Rattle.h2audit.specs.Report.{IsNoReport, IsReport}
