@@ -19,9 +19,10 @@ pub const LIMIT: usize = 2_147_483_648;
 /// A reader of a capture, with an account of what its reads answered.
 ///
 /// A type of reader tells which bytes it will give, if any, and not whether a read failed; of a file or
-/// a pipe it tells nothing. The account does: `read_once` and `pass_once` enter what a read answered.
-/// `pass_once` calls `read` itself, the other through `read_once` and `read_into` of `kept_bytes`, of which `read_into`
-/// calls it. `make_room`, `read_and_walk` and `lack_memory` enter want of memory. Nothing else changes an account.
+/// a pipe it tells nothing. The account does: `read_once`, `read_and_walk` and `pass_once` enter what a read answered.
+/// `pass_once` calls `read` itself, the others through `read_once`, `read_and_walk`, `read_beside` and `read_into` of
+/// `kept_bytes`, of which `read_into` calls it. `make_room`, `read_and_walk` and `lack_memory` enter want of memory.
+/// Nothing else changes an account.
 #[derive(Drop)]
 pub struct CaptureReader<R> {
     reader: R,

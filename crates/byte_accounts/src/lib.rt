@@ -11,13 +11,14 @@
 //! may be moved as it does; no byte behind it is moved once it was read. Later parts are made ahead by other threads
 //! ([`PartsAhead`]), since most of the time of reading goes into memory that is used for the first time; where no
 //! thread can be had, the one that reads makes them. [`keep_and_walk`] has a `pcap_records::FrontWalk` go on over each
-//! part that was filled, on the thread that reads, and knows no more of it.
+//! part that was filled, on another thread while the next part is read, and knows no more of it.
 //!
-//! The accounts are as honest as the code that enters them: their fields are private. `read_once` and `pass_once` of
-//! [`CaptureReader`] enter what a read gave, over `read_once` and `read_into` of `kept_bytes`; `write_once` and
-//! `flush_once` of [`ReportWriter`] enter what a write took; they ask that none follows one that failed. `read_into`,
-//! `pass_once`, `write_once` and `flush_once` alone call `read`, `write` and `flush`. `make_room`, `read_and_walk` and
-//! `lack_memory` enter want of memory. A reader sees this at once; no contract says it.
+//! The accounts are as honest as the code that enters them: their fields are private. `read_once`, `read_and_walk` and
+//! `pass_once` of [`CaptureReader`] enter what a read gave, over `read_once`, `read_and_walk`, `read_beside` and
+//! `read_into` of `kept_bytes`; `write_once` and `flush_once` of [`ReportWriter`] enter what a write took; they ask
+//! that none follows one that failed. `read_into`, `pass_once`, `write_once` and `flush_once` alone call `read`,
+//! `write` and `flush`. `make_room`, `read_and_walk` and `lack_memory` enter want of memory. A reader sees this at
+//! once; no contract says it.
 //!
 //! Wrong bodies that the prover refuses: a read or a write that is told to have filled or taken all; a reading that
 //! ends at half of 2^31 bytes. Tested, in `crate_tests`: which calls readers and writers get. Trusted: that a file or a
