@@ -85,6 +85,14 @@ fn fork<R: Threads + Sync, G: Gate, P: Round>(
     together(shift.desk, mine, theirs)
 }
 
+/// A worker's share of the jobs with a little over, since some draw more than others; of a sole worker, all jobs.
+fn share_of(jobs: u32, workers: u32) -> usize
+    requires { 0 < workers }
+{
+    let even = u64::from(jobs / workers);
+    (even + even / 8 + 1).min(u64::from(jobs)) as usize
+}
+
 /// Has workers do all jobs of a round, and closes the desk. `Err` only where memory runs out.
 ///
 /// Each worker passes the gate before each of its jobs.
@@ -110,6 +118,7 @@ pub fn crew<R: Threads + Sync, G: Gate, P: Round>(
         gate,
         round,
         plan,
+        share: share_of(desk.jobs(), workers),
     };
     let (parts, last) = fork(rt, alloc, workers, &shift, pass)?;
     Ok((parts, desk.close(last)))

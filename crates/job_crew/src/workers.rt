@@ -22,6 +22,8 @@ pub(crate) struct Shift<'a, G: Gate, P: Round> {
     pub gate: &'a G,
     pub round: u8,
     pub plan: &'a P,
+    /// For how many parts each worker makes room before it draws.
+    pub share: usize,
     ghost counted: { desk.now.jobs ≡ length (P.jobs plan.now) },
     ghost there: { All (λ (job : Job). IsConnection desk.now.id job.connection) (P.jobs plan.now) },
 }
@@ -84,7 +86,7 @@ pub(crate) fn work<G: Gate, P: Round>(
         shift.now.desk.now.id shift.now.round (shift.now.desk.now.jobs + 1) r.0.items r.1) }
 {
     let mut pass = mine;
-    let mut parts = Vec::new(alloc);
+    let mut parts = Vec::with_capacity(alloc, shift.share)?;
     while let Claim::Job(job) = pass.claim(shift.desk) {
         shift.gate.enter(shift.round, job);
         let (part, rest) = do_job(alloc, shift, job, pass)?;

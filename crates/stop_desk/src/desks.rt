@@ -41,7 +41,7 @@ impl Model for Desk {
 fn opening_words(alloc: Global, stops: &[Option<Place>]) -> Result<Vec<u64>, AllocError>
     ensures { IfOk result (λ v. v.items ≡ 0 ∷ map stop_word stops.now) }
 {
-    let mut words = Vec::new(alloc);
+    let mut words = Vec::with_capacity(alloc, stops.len() + 1)?;
     words.push(0)?;
     for stop in stops {
         words.push(word_of(stop))?;
