@@ -16,9 +16,9 @@ use crate::stream_jobs::StreamsRound;
 use crate::stream_plan::stream_plan;
 use crate::streams::Streams;
 use audit_terms::{Finding, Place};
-use job_crew::{Gate, Settled, settle};
 use std::alloc::{AllocError, Global};
 use std::thread::Threads;
+use stop_desk::{Gate, Settled, settle};
 
 /// The number of the round over streams.
 const STREAM_ROUND: u8 = 1;

@@ -9,7 +9,7 @@ use Rattle.stop_desk.specs.code.Desk.{DeskId, PassView, pass_of}
 use Rattle.stop_desk.specs.code.Calls.{IsLook}
 use Rattle.stop_desk.specs.code.Rule.{share}
 use Rattle.stop_desk.specs.code.Plays.{PassState, Sees, Lowers}
-use Rattle.stop_desk.proofs.Settling.{place_at-none, at_most-stop}
+use Rattle.stop_desk.proofs.LastPass.{place_at-none, at_most-stop}
 
 abbrev desk_in : TableId → PassState → DeskId
 desk_in t me = record { table = t; opened = me.0.opened }

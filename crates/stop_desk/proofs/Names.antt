@@ -6,7 +6,7 @@ use lib.ListN.{get_elem?}
 use Rattle.stop_desk.specs.code.Stop.{IsPlace, IsStop, place_at, stop_word}
 use Rattle.audit_terms.specs.Place.{place_of}
 use Rattle.stop_desk.specs.code.Desk.{DeskView, PassView, all_draws, pass_draws}
-use Rattle.stop_desk.proofs.Settling.{place_at-place}
+use Rattle.stop_desk.proofs.LastPass.{place_at-place}
 
 -- p and d are what the fields show of the pass q and the desk e
 pub same_desk : (p q : PassView) (d e : DeskView) → p ≡ q → q.desk ≡ e.id → d ≡ e → p.desk ≡ d.id

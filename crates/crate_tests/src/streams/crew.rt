@@ -10,9 +10,9 @@ ghost use Rattle.crate_tests.specs.code.StreamJobs.{job_of};
 
 use crate::answer::Answer;
 use audit_terms::{Body, Finding, Frame, Kind, Length, Look, Place, Side};
-use job_crew::{NoGate, Round, Settled, Work, settle};
 use std::alloc::{AllocError, Global};
 use std::thread::Threads;
+use stop_desk::{NoGate, Round, Settled, Work, settle};
 use stream_credit::{Changes, StreamPart, stream_run};
 
 /// A frame without payload.

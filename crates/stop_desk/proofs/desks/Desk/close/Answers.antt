@@ -3,7 +3,7 @@ use Rattle.std.specs.Slots.{slots_items}
 use Rattle.stop_desk.specs.code.Desk.{DeskId, PassView, closed_of}
 use Rattle.stop_desk.specs.code.Settled.{Settled}
 use Rattle.stop_desk.proofs.Names.{same_desk, same_draws}
-use Rattle.stop_desk.proofs.Settling.{Whole, closes, settles}
+use Rattle.stop_desk.proofs.LastPass.{Whole, closes, settles}
 use Rattle.stop_desk.proofs.desks.Desk.close.Goals as goal
 
 -- the last pass has the whole of what the desk was opened with
