@@ -1,19 +1,110 @@
--- The board of a closed desk is settled.
-use Rattle.std.proofs.Common.{◌≡◌, ℕ, ◌+◌, ◌<◌, ◌≤◌, ◌⊎◌, inl, inr, List, length, map, Option, Some, None, refl, sym}
-use Rattle.std.proofs.Common.{subst, ◌∙◌, arith, Contains, slice_get, All}
+-- The stops of a desk one by one, and that the board of a closed desk is settled.
+use Rattle.std.proofs.Common.{◌≡◌, ℕ, zero, suc, ◌+◌, ◌<◌, ◌≤◌, ◌⊎◌, inl, inr, ⊎_elim, List, [], ◌∷◌, length, drop, map}
+use Rattle.std.proofs.Common.{get_or, Option, Some, None, refl, sym, ap, subst, ◌∙◌, arith, Contains, slice_get, All}
+use Rattle.std.proofs.Common.{Bool, true, false, nat_lt, if◌then◌else◌, ltb-true}
 use Rattle.std.proofs.lemmas.Bool.{cases_lt}
-use Rattle.stop_desk.specs.code.Counts.{marks, once_below}
+use Rattle.std.proofs.lemmas.Bool.Decides.{nat_tests}
+use Rattle.std.proofs.lemmas.List.{length-map, length-drop, get_or-map, get_or-drop, get_or_past, same_lists}
+use Rattle.stop_desk.specs.declared.parts.Part.{Part}
+use Rattle.stop_desk.specs.code.Counts.{marks, is_mark, once_below}
+use Rattle.stop_desk.specs.code.Stop.{place_at, past_places, IsStop}
 use Rattle.stop_desk.specs.code.Desk.{DeskId, PassView, ClosedView, closed_of, IsConnection, opening_stop, final_stop}
 use Rattle.stop_desk.specs.code.Calls.{IsAtMost}
 use Rattle.stop_desk.specs.code.Settled.{IsLeast as IsLeastOnDesk, Settled}
 use Rattle.stop_desk.specs.code.Board.{Job, Round, Part as BoardPart, IsLeast, IsPartOf, parts_of, stop_of, IsGiven}
-use Rattle.stop_desk.specs.code.Board.{IsSettled}
-use Rattle.stop_desk.specs.declared.parts.Part.{Part}
-use Rattle.stop_desk.specs.code.Laid.{part_of, board_with}
-use Rattle.stop_desk.specs.code.Crew.{opening_stops, last_stops, IsDone}
-use Rattle.stop_desk.specs.code.Worked.{IsAllWorked, IsReal}
-use Rattle.stop_desk.proofs.Marked.{contains-marks, marks-contains, map-contains, opening-at, opening-past, final-at}
-use Rattle.stop_desk.proofs.Marked.{final-past, below-cases}
+use Rattle.stop_desk.specs.code.Laid.{part_of}
+use Rattle.stop_desk.specs.code.Crew.{opening_stops, last_stops_from, last_stops, IsDone}
+use Rattle.stop_desk.specs.code.Worked.{IsAllWorked}
+use Rattle.stop_desk.proofs.Marks.{mark-cases, mark-here}
+use Rattle.stop_desk.proofs.RoundMembers.{contains-none, contains-first, contains-later, contains-cases, map-contains}
+
+-- marks counted, and marks in a list
+contains-marks : (c p : ℕ) (ms : List (ℕ × ℕ)) → Contains ms (c, p) → 0 < marks c p ms
+contains-marks c p [] h = absurd (contains-none (c, p) h)
+contains-marks c p (m ∷ ms) h = ⊎_elim
+    (λ same. let one = mark-here c p in let is = ap (is_mark c p) same in omega arith)
+    (λ k. let rest = contains-marks c p ms k in omega arith)
+    (contains-cases m ms (c, p) h)
+
+marks-contains : (c p : ℕ) (ms : List (ℕ × ℕ)) → 0 < marks c p ms → Contains ms (c, p)
+marks-contains c p [] h = absurd (omega arith)
+marks-contains c p (m ∷ ms) h = ⊎_elim
+    (λ none. contains-later m ms (c, p) (marks-contains c p ms (omega arith)))
+    (λ same. contains-first m ms (c, p) (λ i. (sym same.0 i, sym same.1 i)))
+    (mark-cases c p m)
+
+-- the first word is the next number, and the others are stops
+rest-at : (words : List ℕ) (c : ℕ) → get_or (drop 1 words) c 0 ≡ get_or words (c + 1) 0
+rest-at words c = get_or-drop 1 words c 0 ∙ ap (λ n. get_or words n 0) (omega arith)
+
+opening-at : (desk : DeskId) (c : ℕ) → IsConnection desk c → stop_of (opening_stops desk) c ≡ opening_stop desk c
+opening-at desk c there =
+    get_or-map place_at (drop 1 desk.opened) c 0 None (omega (arith, length-drop 1 desk.opened))
+    ∙ ap place_at (rest-at desk.opened c)
+
+opening-past : (desk : DeskId) (c : ℕ) → length desk.opened ≤ c + 1 → stop_of (opening_stops desk) c ≡ None
+opening-past desk c past =
+    get_or_past (opening_stops desk) c None
+    (omega (arith, length-map (drop 1 desk.opened) place_at, length-drop 1 desk.opened))
+
+length-last_stops_from : (closed : ClosedView) (first : ℕ) (words : List ℕ) →
+    length (last_stops_from closed first words) ≡ length words
+length-last_stops_from closed first [] = refl
+length-last_stops_from closed first (w ∷ ws) = ap suc (length-last_stops_from closed (first + 1) ws)
+
+last-at : (closed : ClosedView) (first : ℕ) (words : List ℕ) (c : ℕ) (d : Option ℕ) → c < length words →
+    get_or (last_stops_from closed first words) c d ≡ final_stop closed (first + c)
+last-at closed first [] c d lt = absurd (omega arith)
+last-at closed first (w ∷ ws) zero d lt = ap (final_stop closed) (omega arith)
+last-at closed first (w ∷ ws) (suc c) d lt =
+    last-at closed (first + 1) ws c d (omega arith) ∙ ap (final_stop closed) (omega arith)
+
+pub length-last_stops : (closed : ClosedView) → length (last_stops closed) ≡ length (opening_stops closed.desk)
+length-last_stops closed =
+    length-last_stops_from closed 0 (drop 1 closed.desk.opened) ∙ sym (length-map (drop 1 closed.desk.opened) place_at)
+
+final-at : (closed : ClosedView) (c : ℕ) (d : Option ℕ) → IsConnection closed.desk c →
+    get_or (last_stops closed) c d ≡ final_stop closed c
+final-at closed c d there =
+    last-at closed 0 (drop 1 closed.desk.opened) c d (omega (arith, length-drop 1 closed.desk.opened))
+    ∙ ap (final_stop closed) (omega arith)
+
+-- a list with the stop of each connection is all
+pub last_stops-all : (closed : ClosedView) (n : ℕ) (stops : List (Option ℕ)) → length closed.desk.opened ≡ n + 1 →
+    length stops ≡ n → ((k : ℕ) (d : Option ℕ) → k < n → get_or stops k d ≡ final_stop closed k) →
+    stops ≡ last_stops closed
+last_stops-all closed n stops wide long each =
+    same_lists stops (last_stops closed)
+    (omega (arith, length-last_stops_from closed 0 (drop 1 closed.desk.opened), length-drop 1 closed.desk.opened))
+    (λ k d lt. each k d (omega arith) ∙ sym (final-at closed k d (omega arith)))
+
+final-past : (closed : ClosedView) (c : ℕ) → length closed.desk.opened ≤ c + 1 → stop_of (last_stops closed) c ≡ None
+final-past closed c past =
+    get_or_past (last_stops closed) c None (omega (
+      arith,
+      length-last_stops_from closed 0 (drop 1 closed.desk.opened),
+      length-drop 1 closed.desk.opened,
+    ))
+
+is_stop-if : (b : Bool) (n : ℕ) → nat_lt n past_places ≡ b → IsStop (if b then Some n else None)
+is_stop-if true n e = ltb-true n past_places e
+is_stop-if false n e = tt
+
+-- each last stop is none or a place
+pub last_stops-places : (closed : ClosedView) → All IsStop (last_stops closed)
+last_stops-places closed k d lt =
+    let long = length-last_stops_from closed 0 (drop 1 closed.desk.opened) in
+    subst IsStop (sym (last-at closed 0 (drop 1 closed.desk.opened) k d (omega arith))) (is_stop-if _ _ refl)
+
+some-below : (x n : ℕ) → 0 < once_below x n → x < n
+some-below x n some = grind (arith, nat_tests)
+
+below-one : (x n : ℕ) → x < n → once_below x n ≡ 1
+below-one x n low = grind (arith, nat_tests)
+
+at_most : (q : ℕ) (stop : Option ℕ) (place : ℕ) → stop ≡ Some place → IsAtMost q stop → q ≤ place
+at_most q None place e k = cc
+at_most q (Some stop) place e k = let same : stop ≡ place = cc in omega arith
 
 module _ {M : Type 0} (makes : ℕ → Option ℕ → M → Type 0) (jobs : List Job) (round whole : ℕ) (desk : DeskId)
     (all : All (λ (job : Job). IsConnection desk job.connection) jobs) (parts : List (Part M)) (last : PassView)
@@ -25,19 +116,19 @@ module _ {M : Type 0} (makes : ℕ → Option ℕ → M → Type 0) (jobs : List
   abbrev the_round : Round
   the_round = record { jobs = jobs; opening_stops = opening_stops desk }
 
+  abbrev Given : (connection place : ℕ) → Type 0
+  Given connection place = IsGiven the_round last.lowered connection place
+
+  -- a number past all jobs was drawn, and so were all before it
   one_each : (job : ℕ) → job < length jobs → parts_of job (map part_of parts) ≡ 1
   one_each job lt =
-      by_cases (below-cases h.1.0 (length last.drawn)) (below-cases job (length last.drawn)) where
-        by_cases : ((h.1.0 < length last.drawn) × (once_below h.1.0 (length last.drawn) ≡ 1))
-            ⊎ ((length last.drawn ≤ h.1.0) × (once_below h.1.0 (length last.drawn) ≡ 0)) →
-            ((job < length last.drawn) × (once_below job (length last.drawn) ≡ 1))
-            ⊎ ((length last.drawn ≤ job) × (once_below job (length last.drawn) ≡ 0)) →
-            parts_of job (map part_of parts) ≡ 1
-        by_cases (inl past) (inl below) =
-            let d = h.0.drawn job lt in let n = s.numbers job in let b = below.1 in omega arith
-        by_cases (inl past) (inr above) = let a = past.0 in let b = above.0 in let c = h.1.1 in absurd (omega arith)
-        by_cases (inr none) below =
-            let n = s.numbers h.1.0 in let z = none.1 in let some = h.1.2 in absurd (omega arith)
+      let (n, past, some) = h.1 in
+      let numbers = s.numbers n in
+      let low = some-below n (length last.drawn) (omega arith) in
+      let one = below-one job (length last.drawn) (omega arith) in
+      let number = s.numbers job in
+      let drawn = h.0.drawn job lt in
+      omega arith
 
   parts_are : (part : BoardPart) → Contains (map part_of parts) part →
       (job : Job) × (slice_get jobs part.job ≡ Some job) × IsPartOf last.seen last.lowered job part
@@ -48,56 +139,52 @@ module _ {M : Type 0} (makes : ℕ → Option ℕ → M → Type 0) (jobs : List
       m.2 (l.job, l.is_job, l.of_job)
 
   given-from : (c p : ℕ) → IsConnection desk c → (opening_stop desk c ≡ Some p) ⊎ (0 < marks c p last.lowered) →
-      IsGiven the_round last.lowered c p
-  given-from c p there (inl e) = inl (opening-at desk c there ∙ e)
-  given-from c p there (inr k) = inr (marks-contains c p last.lowered k)
+      Given c p
+  given-from c p there given =
+      ⊎_elim (λ e. inl (opening-at desk c there ∙ e)) (λ k. inr (marks-contains c p last.lowered k)) given
 
   least-there : (c : ℕ) → IsConnection desk c → (stop : Option ℕ) → IsLeastOnDesk desk last.lowered c stop →
-      IsLeast (IsGiven the_round last.lowered c) stop
-  least-there c there None l = λ place. none place where
-    none : (place : ℕ) → IsGiven the_round last.lowered c place → ⊥
-    none place (inl e) = let same = sym (opening-at desk c there) ∙ e in let no = l.0 in cc
-    none place (inr k) = l.1 place (contains-marks c place last.lowered k)
-  least-there c there (Some q) l = (given-from c q there l.2, λ place. above place) where
-    at_most : (stop : Option ℕ) (place : ℕ) → stop ≡ Some place → IsAtMost q stop → q ≤ place
-    at_most None place e k = cc
-    at_most (Some stop) place e k = let same : stop ≡ place = cc in omega arith
+      IsLeast (Given c) stop
+  least-there c there None l = λ place given. ⊎_elim
+      (λ e. let same = sym (opening-at desk c there) ∙ e in let no = l.0 in cc)
+      (λ k. l.1 place (contains-marks c place last.lowered k))
+      given
+  least-there c there (Some q) l = (
+    given-from c q there l.2,
+    λ place given. ⊎_elim
+        (λ e. at_most q (opening_stop desk c) place (sym (opening-at desk c there) ∙ e) l.0)
+        (λ k. l.1 place (contains-marks c place last.lowered k))
+        given,
+  )
 
-    above : (place : ℕ) → IsGiven the_round last.lowered c place → q ≤ place
-    above place (inl e) = at_most (opening_stop desk c) place (sym (opening-at desk c there) ∙ e) l.0
-    above place (inr k) = l.1 place (contains-marks c place last.lowered k)
+  -- of no other connection is there a place
+  not-past : (c : ℕ) → length desk.opened ≤ c + 1 → (place : ℕ) → Given c place → ⊥
+  not-past c past place given = ⊎_elim
+      (λ e. let no = sym (opening-past desk c past) ∙ e in cc)
+      (λ k.
+      let (job, (n, lt, is), same, stops) = h.0.lowered_real c place k in
+      let there = subst (IsConnection desk) same
+      (subst (λ (j : Job). IsConnection desk j.connection) is (all n job lt)) in
+      absurd (omega arith))
+      given
 
-  real-there : (c p : ℕ) → IsReal jobs c p → IsConnection desk c
-  real-there c p real = subst (IsConnection desk) real.2
-      (subst (λ (j : Job). IsConnection desk j.connection) real.1.2 (all real.1.0 real.0 real.1.1))
-
-  not-past : (c : ℕ) → length desk.opened ≤ c + 1 → (place : ℕ) → IsGiven the_round last.lowered c place → ⊥
-  not-past c past place (inl e) = let none = opening-past desk c past in let no = sym none ∙ e in cc
-  not-past c past place (inr k) =
-      let there = real-there c place (h.0.lowered_real c place k) in absurd (omega arith)
-
-  least : (c : ℕ) → (c + 1 < length desk.opened) ⊎ (length desk.opened ≤ c + 1) →
-      IsLeast (IsGiven the_round last.lowered c) (stop_of (last_stops closed) c)
-  least c (inl there) =
-      subst (IsLeast (IsGiven the_round last.lowered c)) (sym (final-at closed c there))
-      (least-there c there (final_stop closed c) (s.stops c there))
-  least c (inr past) =
-      subst (IsLeast (IsGiven the_round last.lowered c)) (sym (final-past closed c past)) (not-past c past)
-
-  settled : IsSettled the_round (board_with (map part_of parts) last.seen last.lowered (last_stops closed))
-  settled = record {
-    one_part_each = one_each;
-    parts_of_jobs = parts_are;
-    lowered_real = h.0.lowered_real;
-    seen_given = λ c p k.
-        given-from c p (h.0.seen_there c p k) (s.given c p (contains-marks c p last.seen k));
-    stops_least = λ c. least c (cases_lt (c + 1) (length desk.opened));
-  }
+  least : (c : ℕ) → IsLeast (Given c) (stop_of (last_stops closed) c)
+  least c = ⊎_elim
+      (λ there. rw (final-at closed c None there) (least-there c there (final_stop closed c) (s.stops c there)))
+      (λ past. rw (final-past closed c past) (not-past c past))
+      (cases_lt (c + 1) (length desk.opened))
 
   done : IsDone makes jobs desk round parts closed
   done = record {
     desk_is = refl;
-    board = settled;
+    board = record {
+      one_part_each = one_each;
+      parts_of_jobs = parts_are;
+      lowered_real = h.0.lowered_real;
+      seen_given = λ c p k.
+          given-from c p (h.0.seen_there c p k) (s.given c p (contains-marks c p last.seen k));
+      stops_least = least;
+    };
     made = λ part k. let l = h.0.laid part k in (l.in_round, l.made);
   }
 

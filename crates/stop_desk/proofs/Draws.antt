@@ -1,24 +1,71 @@
 -- What a worker has done after one draw more, and when no job is left.
-use Rattle.std.proofs.Common.{◌≡◌, ℕ, ◌+◌, ◌<◌, ◌≤◌, ◌⊎◌, inl, inr, List, [], ◌∷◌, ◌++◌, length, length-append, map}
-use Rattle.std.proofs.Common.{Option, refl, sym, ap, subst, ◌∙◌, arith, Contains}
+use Rattle.std.proofs.Common.{◌≡◌, ℕ, zero, suc, ◌+◌, ◌<◌, ◌≤◌, ⊎_elim, List, [], ◌∷◌, ◌++◌, length, length-append, map}
+use Rattle.std.proofs.Common.{Option, refl, sym, ap, subst, ◌∙◌, arith, Contains, eq-eqb, ne_eqb, if◌then◌else◌, ◌==◌}
+use Rattle.std.proofs.lemmas.Bool.{cases_lt}
+use Rattle.std.proofs.lemmas.List.{map-append}
 use Rattle.std.proofs.lemmas.List.Elements.{Contains-append_left, Contains-append_right, Contains-append_cases}
+use Rattle.std.proofs.lemmas.List.Elements.{Contains-push_cases}
+use Rattle.std.proofs.lemmas.List.Sums.{sum_by-append}
+use mathlib.Core.Logic.{dite}
+use native.Mathlib.Decide.{ℕ_discrete}
 use Rattle.stop_desk.specs.declared.claims.Claim.{Claim}
 use Rattle.stop_desk.specs.declared.claims.Claim.TheVariants.{Spent, Job, Done}
+use Rattle.stop_desk.specs.declared.parts.Part.{Part}
 use Rattle.stop_desk.specs.code.Counts.{is_number, times}
 use Rattle.stop_desk.specs.code.Desk.{DeskId, PassView, pass_of, pass_draws, IsConnection}
 use Rattle.stop_desk.specs.code.Calls.{Draws, IsClaim}
-use Rattle.stop_desk.proofs.Weights.{weigh-append, weigh-snoc}
-use Rattle.stop_desk.specs.code.Board.{Job as BoardJob, parts_of}
-use Rattle.stop_desk.proofs.RoundMembers.{contains-none, contains-cases}
-use Rattle.stop_desk.proofs.RoundSteps.{parts_of-cons}
-use Rattle.stop_desk.specs.declared.parts.Part.{Part}
+use Rattle.stop_desk.specs.code.Board.{Job as BoardJob, Part as BoardPart, parts_of}
 use Rattle.stop_desk.specs.code.Laid.{part_of}
-use Rattle.stop_desk.specs.code.Worked.{IsLaid, IsReal, DoesJob, IsWorked, IsAllWorked, DrewJobs}
-use Rattle.stop_desk.proofs.Counting.{number-cases, number-here, pigeonhole}
+use Rattle.stop_desk.specs.code.Worked.{IsLaid, DoesJob, IsWorked, IsAllWorked, DrewJobs}
+use Rattle.stop_desk.proofs.Weights.{weigh-append, weigh-snoc}
+use Rattle.stop_desk.proofs.RoundMembers.{contains-none, count-cons}
+use Rattle.stop_desk.proofs.RoundSteps.{part-grows}
+
+number-here : (x n : ℕ) → n ≡ x → is_number x n ≡ 1
+number-here x n same = rw (eq-eqb n x same) refl
+
+number-apart : (x n : ℕ) → (n ≡ x → ⊥) → is_number x n ≡ 0
+number-apart x n apart = rw (ne_eqb n x apart) refl
+
+-- f of each number below n, added up
+abbrev total : ℕ → (ℕ → ℕ) → ℕ
+total zero f = 0
+total (suc n) f = total n f + f n
+
+total-sum : (n : ℕ) (f g : ℕ → ℕ) → total n (λ x. f x + g x) ≡ total n f + total n g
+total-sum zero f g = refl
+total-sum (suc n) f g = let rest = total-sum n f g in omega arith
+
+total-below : (n : ℕ) (f : ℕ → ℕ) → ((x : ℕ) → f x ≤ 1) → total n f ≤ n
+total-below zero f below = omega arith
+total-below (suc n) f below = let rest = total-below n f below in let last = below n in omega arith
+
+total-number : (n y : ℕ) → y < n → 1 ≤ total n (λ x. is_number x y)
+total-number zero y lt = absurd (omega arith)
+total-number (suc n) y lt = dite (ℕ_discrete y n)
+    (λ same. let one = number-here n y same in omega arith)
+    (λ apart. let before = total-number n y (omega arith) in omega arith)
+
+counted : (n : ℕ) (xs : List ℕ) → ((x : ℕ) → n ≤ x → times x xs ≡ 0) → length xs ≤ total n (λ x. times x xs)
+counted n [] none = omega arith
+counted n (y ∷ ys) none =
+    let rest = counted n ys (λ x past. let h = none x past in omega arith) in
+    let low : y < n = ⊎_elim
+    (λ lt. lt)
+    (λ past. let h = none y past in let one = number-here y y refl in absurd (omega arith))
+    (cases_lt y n) in
+    let here = total-number n y low in
+    let sum = total-sum n (λ x. is_number x y) (λ x. times x ys) in
+    omega arith
+
+-- different numbers below a bound are at most so many
+pigeonhole : (n : ℕ) (xs : List ℕ) → ((x : ℕ) → n ≤ x → times x xs ≡ 0) → ((x : ℕ) → times x xs ≤ 1) → length xs ≤ n
+pigeonhole n xs none once =
+    let all = counted n xs none in let below = total-below n (λ x. times x xs) once in omega arith
 
 module _ {M : Type 0} (makes : ℕ → Option ℕ → M → Type 0) (jobs : List BoardJob) (round : ℕ) where
   -- a part stays one where more was seen and lowered
-  pub laid-grows : (seen lowered seen' lowered' : List (ℕ × ℕ)) (part : Part M) →
+  laid-grows : (seen lowered seen' lowered' : List (ℕ × ℕ)) (part : Part M) →
       ((c p : ℕ) → Contains seen (c, p) → Contains seen' (c, p)) →
       ((c p : ℕ) → Contains lowered (c, p) → Contains lowered' (c, p)) →
       IsLaid makes jobs round seen lowered part → IsLaid makes jobs round seen' lowered' part
@@ -27,12 +74,7 @@ module _ {M : Type 0} (makes : ℕ → Option ℕ → M → Type 0) (jobs : List
     made = h.made;
     job = h.job;
     is_job = h.is_job;
-    of_job = record {
-      of_connection = h.of_job.of_connection;
-      cut = h.of_job.cut;
-      upto_seen = λ place e. more part.connection place (h.of_job.upto_seen place e);
-      stops_lowered = λ place k. less part.connection place (h.of_job.stops_lowered place k);
-    };
+    of_job = part-grows seen lowered seen' lowered' h.job (part_of part) more less h.of_job;
   }
 
   -- nothing is done yet
@@ -47,129 +89,100 @@ module _ {M : Type 0} (makes : ℕ → Option ℕ → M → Type 0) (jobs : List
     lowered_real = λ c p k. absurd (contains-none (c, p) k);
   }
 
-  pub parts_of-append : (job : ℕ) (parts more : List (Part M)) →
+  parts_of-append : (job : ℕ) (parts more : List (Part M)) →
       parts_of job (map part_of (parts ++ more)) ≡ parts_of job (map part_of parts) + parts_of job (map part_of more)
-  parts_of-append job [] more = omega arith
-  parts_of-append job (part ∷ parts) more =
-      let rest = parts_of-append job parts more in
-      let one = parts_of-cons job (part_of part) (map part_of (parts ++ more)) in
-      let other = parts_of-cons job (part_of part) (map part_of parts) in
-      omega arith
+  parts_of-append job parts more =
+      ap (parts_of job) (map-append part_of parts more)
+      ∙ sum_by-append (λ (p : BoardPart). if p.job == job then 1 else 0) (map part_of parts) (map part_of more)
 
-  parts_of-snoc : (job : ℕ) (parts : List (Part M)) (part : Part M) →
-      parts_of job (map part_of (parts ++ part ∷ [])) ≡ parts_of job (map part_of parts) + is_number job part.job
-  parts_of-snoc job parts part =
-      let sum = parts_of-append job parts (part ∷ []) in
-      let one = parts_of-cons job (part_of part) [] in
-      omega arith
+  module _ (desk : DeskId) (whole : ℕ) (parts : List (Part M)) (before : PassView) (n left : ℕ)
+      (h : IsWorked makes jobs desk round whole parts before) (paid : before.allowance ≡ left + 1) where
+    -- one number more was drawn
+    abbrev drew : PassView
+    drew = pass_of before.desk left (before.drawn ++ n ∷ []) before.seen before.lowered
 
-  module _ (desk : DeskId) (whole : ℕ) (parts : List (Part M)) (before claimed : PassView) (n : ℕ)
-      (h : IsWorked makes jobs desk round whole parts before) (draws : Draws before n claimed) where
-    claimed-desk : claimed.desk ≡ desk
-    claimed-desk = ap (λ (v : PassView). v.desk) draws.added ∙ h.desk_is
+    drew-whole : pass_draws drew ≡ whole
+    drew-whole = let sum = length-append before.drawn (n ∷ []) in let all = h.whole_is in omega arith
 
-    claimed-whole : pass_draws claimed ≡ whole
-    claimed-whole =
-        let length_is = ap (λ (v : PassView). length v.drawn) draws.added in
-        let sum = length-append before.drawn (n ∷ []) in
-        let all = h.whole_is in
-        let paid = draws.paid in
-        omega arith
+    drew-times : (x : ℕ) → times x drew.drawn ≡ times x before.drawn + is_number x n
+    drew-times x = weigh-snoc (is_number x) before.drawn n
 
-    claimed-times : (x : ℕ) → times x claimed.drawn ≡ times x before.drawn + is_number x n
-    claimed-times x =
-        ap (λ (v : PassView). times x v.drawn) draws.added ∙ weigh-snoc (is_number x) before.drawn n
-
-    claimed-seen : claimed.seen ≡ before.seen
-    claimed-seen = ap (λ (v : PassView). v.seen) draws.added
-
-    claimed-lowered : claimed.lowered ≡ before.lowered
-    claimed-lowered = ap (λ (v : PassView). v.lowered) draws.added
-
-    -- a number past all jobs was drawn
-    pub worked-past : length jobs ≤ n → IsAllWorked makes jobs desk round whole parts claimed
-    worked-past past = (
+    -- a number past all jobs
+    drew-past : length jobs ≤ n → IsAllWorked makes jobs desk round whole parts drew
+    drew-past past = (
       record {
-        desk_is = claimed-desk;
-        whole_is = claimed-whole;
-        drawn = λ job lt. still job lt (number-cases job n);
-        laid = λ part k.
-            subst (λ lowered. IsLaid makes jobs round claimed.seen lowered part) (sym claimed-lowered)
-            (subst (λ seen. IsLaid makes jobs round seen before.lowered part) (sym claimed-seen) (h.laid part k));
-        seen_there = λ c p k. h.seen_there c p (subst (λ seen. Contains seen (c, p)) claimed-seen k);
-        lowered_real = λ c p k. h.lowered_real c p (subst (λ lowered. Contains lowered (c, p)) claimed-lowered k);
+        desk_is = h.desk_is;
+        whole_is = drew-whole;
+        drawn = λ job lt.
+            let t = drew-times job in
+            let d = h.drawn job lt in
+            let apart = number-apart job n (λ e. omega arith) in
+            omega arith;
+        laid = h.laid;
+        seen_there = h.seen_there;
+        lowered_real = h.lowered_real;
       },
-      (n, past, (let t = claimed-times n in let one = number-here n in omega arith)),
-    ) where
-      still : (job : ℕ) → job < length jobs → (is_number job n ≡ 0) ⊎ ((n ≡ job) × (is_number job n ≡ 1)) →
-          times job claimed.drawn ≡ parts_of job (map part_of parts)
-      still job lt (inl none) = let t = claimed-times job in let d = h.drawn job lt in omega arith
-      still job lt (inr same) = let e = same.0 in absurd (omega arith)
+      (n, past, (let t = drew-times n in let one = number-here n n refl in omega arith)),
+    )
 
-    -- a job was drawn and is done
-    module _ (part : Part M) (after : PassView) (lt : n < length jobs)
-        (does : DoesJob makes jobs round n claimed part after) where
-      after-drawn : after.drawn ≡ claimed.drawn
-      after-drawn = ap (λ (v : PassView). v.drawn) does.1.kept
-
-      laid : (other : Part M) → Contains parts other ⊎ Contains (part ∷ []) other →
-          IsLaid makes jobs round after.seen after.lowered other
-      laid other (inl k) =
-          laid-grows before.seen before.lowered after.seen after.lowered other
-          (λ c p l. does.1.seen_kept c p (subst (λ seen. Contains seen (c, p)) (sym claimed-seen) l))
-          (λ c p l. does.1.lowered_kept c p (subst (λ lowered. Contains lowered (c, p)) (sym claimed-lowered) l))
-          (h.laid other k)
-      laid other (inr k) = last (contains-cases part [] other k) where
-        last : (part ≡ other) ⊎ Contains [] other → IsLaid makes jobs round after.seen after.lowered other
-        last (inl same) = subst (IsLaid makes jobs round after.seen after.lowered) same does.2
-        last (inr none) = absurd (contains-none other none)
-
-      seen_there : (c p : ℕ) → Contains claimed.seen (c, p) ⊎ IsConnection claimed.desk c → IsConnection desk c
-      seen_there c p (inl k) = h.seen_there c p (subst (λ seen. Contains seen (c, p)) claimed-seen k)
-      seen_there c p (inr there) = subst (λ d. IsConnection d c) claimed-desk there
-
-      lowered_real : (c p : ℕ) → Contains claimed.lowered (c, p) ⊎ IsReal jobs c p → IsReal jobs c p
-      lowered_real c p (inl k) = h.lowered_real c p (subst (λ lowered. Contains lowered (c, p)) claimed-lowered k)
-      lowered_real c p (inr real) = real
+    -- a job, which is done
+    module _ (part : Part M) (after : PassView) (does : DoesJob makes jobs round n drew part after) where
+      after-times : (x : ℕ) → times x after.drawn ≡ times x before.drawn + is_number x n
+      after-times x = ap (λ (v : PassView). times x v.drawn) does.1.kept ∙ drew-times x
 
       worked-more : IsWorked makes jobs desk round whole (parts ++ part ∷ []) after
       worked-more = record {
-        desk_is = ap (λ (v : PassView). v.desk) does.1.kept ∙ claimed-desk;
-        whole_is = ap pass_draws does.1.kept ∙ claimed-whole;
-        drawn = λ job below.
-            let t = claimed-times job in
-            let d = h.drawn job below in
-            let same = ap (times job) after-drawn in
-            let p = parts_of-snoc job parts part in
-            let e = ap (is_number job) does.0 in
+        desk_is = ap (λ (v : PassView). v.desk) does.1.kept ∙ h.desk_is;
+        whole_is = ap pass_draws does.1.kept ∙ drew-whole;
+        drawn = λ job lt.
+            let t = after-times job in
+            let d = h.drawn job lt in
+            let more = parts_of-append job parts (part ∷ []) in
+            let one = count-cons (λ (p : BoardPart). p.job == job) (part_of part) [] in
+            let same = ap (is_number job) does.0 in
             omega arith;
-        laid = λ other k. laid other (Contains-append_cases parts (part ∷ []) other k);
-        seen_there = λ c p k. seen_there c p (does.1.seen_there c p k);
-        lowered_real = λ c p k. lowered_real c p (does.1.lowered_real c p k);
+        laid = λ other k. ⊎_elim
+            (λ old. laid-grows before.seen before.lowered after.seen after.lowered other does.1.seen_kept
+            does.1.lowered_kept (h.laid other old))
+            (λ new. subst (IsLaid makes jobs round after.seen after.lowered) new does.2)
+            (Contains-push_cases parts part other k);
+        seen_there = λ c p k. ⊎_elim
+            (h.seen_there c p)
+            (λ there. subst (λ d. IsConnection d c) h.desk_is there)
+            (does.1.seen_there c p k);
+        lowered_real = λ c p k. ⊎_elim (h.lowered_real c p) (λ real. real) (does.1.lowered_real c p k);
       }
 
-      drew-more : DrewJobs jobs before → DrewJobs jobs after
-      drew-more drew = ((λ x past. none x past (number-cases x n)), (λ x. once x (number-cases x n))) where
-        none : (x : ℕ) → length jobs ≤ x → (is_number x n ≡ 0) ⊎ ((n ≡ x) × (is_number x n ≡ 1)) →
-            times x after.drawn ≡ 0
-        none x past (inl apart) =
-            let t = claimed-times x in let same = ap (times x) after-drawn in let b = drew.0 x past in omega arith
-        none x past (inr is) = let e = is.0 in absurd (omega arith)
+      drew-more : n < length jobs → times n before.drawn ≡ 0 → DrewJobs jobs before → DrewJobs jobs after
+      drew-more lt fresh drew = (
+        (λ x past.
+            let t = after-times x in
+            let none = drew.0 x past in
+            let apart = number-apart x n (λ e. omega arith) in
+            omega arith),
+        (λ x. let t = after-times x in dite (ℕ_discrete n x)
+            (λ is.
+            let one = number-here x n is in
+            let none : times x before.drawn ≡ 0 = subst (λ y. times y before.drawn ≡ 0) is fresh in
+            omega arith)
+            (λ apart. let none = number-apart x n apart in let once = drew.1 x in omega arith)),
+      )
 
-        once : (x : ℕ) → (is_number x n ≡ 0) ⊎ ((n ≡ x) × (is_number x n ≡ 1)) → times x after.drawn ≤ 1
-        once x (inl apart) =
-            let t = claimed-times x in let same = ap (times x) after-drawn in let b = drew.1 x in omega arith
-        once x (inr is) =
-            let t = claimed-times x in
-            let same = ap (times x) after-drawn in
-            let fresh = draws.fresh in
-            let e = ap (λ y. times y before.drawn) is.0 in
-            let one = is.1 in
-            omega arith
+  module _ (desk : DeskId) (whole : ℕ) (parts : List (Part M)) (before claimed : PassView) (n : ℕ)
+      (h : IsWorked makes jobs desk round whole parts before) (draws : Draws before n claimed) where
+    worked-past : length jobs ≤ n → IsAllWorked makes jobs desk round whole parts claimed
+    worked-past past =
+        subst (IsAllWorked makes jobs desk round whole parts) (sym draws.added)
+        (drew-past desk whole parts before n claimed.allowance h draws.paid past)
 
-      pub worked-job : DrewJobs jobs before → IsWorked makes jobs desk round whole (parts ++ part ∷ []) after
-          × DrewJobs jobs after
-      worked-job drew = (worked-more, drew-more drew)
+    pub worked-job : (part : Part M) (after : PassView) → n < length jobs →
+        DoesJob makes jobs round n claimed part after → DrewJobs jobs before →
+        IsWorked makes jobs desk round whole (parts ++ part ∷ []) after × DrewJobs jobs after
+    worked-job part after lt does drew =
+        let does' = subst (λ v. DoesJob makes jobs round n v part after) draws.added does in (
+          worked-more desk whole parts before n claimed.allowance h draws.paid part after does',
+          drew-more desk whole parts before n claimed.allowance h draws.paid part after does' lt draws.fresh drew,
+        )
 
   -- no job is left: a worker whose allowance is one more than the jobs never runs out of it
   pub worked-ends : (desk : DeskId) (count : ℕ) (parts : List (Part M)) (before after : PassView) (claim : Claim) →
@@ -191,46 +204,35 @@ module _ {M : Type 0} (makes : ℕ → Option ℕ → M → Type 0) (jobs : List
       joined ≡ pass_of mine.desk (mine.allowance + theirs.allowance) (mine.drawn ++ theirs.drawn)
       (mine.seen ++ theirs.seen) (mine.lowered ++ theirs.lowered) →
       IsAllWorked makes jobs desk round (one + other) (parts ++ more) joined
-  worked-both desk one other parts more mine theirs joined h k is =
+  worked-both desk one other parts more mine theirs joined (w, (n, past, some)) (v, _) is =
+      let seen = mine.seen ++ theirs.seen in
+      let lowered = mine.lowered ++ theirs.lowered in
       subst (IsAllWorked makes jobs desk round (one + other) (parts ++ more)) (sym is) (
         record {
-          desk_is = h.0.desk_is;
+          desk_is = w.desk_is;
           whole_is =
-              let a = h.0.whole_is in
-              let b = k.0.whole_is in
+              let a = w.whole_is in
+              let b = v.whole_is in
               let sum = length-append mine.drawn theirs.drawn in
               omega arith;
           drawn = λ job lt.
-              let a = h.0.drawn job lt in
-              let b = k.0.drawn job lt in
+              let a = w.drawn job lt in
+              let b = v.drawn job lt in
               let sum = weigh-append (is_number job) mine.drawn theirs.drawn in
               let sum' = parts_of-append job parts more in
               omega arith;
-          laid = λ part l. laid part (Contains-append_cases parts more part l);
-          seen_there = λ c p l. seen_there c p (Contains-append_cases mine.seen theirs.seen (c, p) l);
-          lowered_real = λ c p l. lowered_real c p (Contains-append_cases mine.lowered theirs.lowered (c, p) l);
+          laid = λ part l. ⊎_elim
+              (λ k. laid-grows mine.seen mine.lowered seen lowered part
+              (λ c p. Contains-append_left mine.seen theirs.seen (c, p))
+              (λ c p. Contains-append_left mine.lowered theirs.lowered (c, p)) (w.laid part k))
+              (λ k. laid-grows theirs.seen theirs.lowered seen lowered part
+              (λ c p. Contains-append_right mine.seen theirs.seen (c, p))
+              (λ c p. Contains-append_right mine.lowered theirs.lowered (c, p)) (v.laid part k))
+              (Contains-append_cases parts more part l);
+          seen_there = λ c p l. ⊎_elim (w.seen_there c p) (v.seen_there c p)
+              (Contains-append_cases mine.seen theirs.seen (c, p) l);
+          lowered_real = λ c p l. ⊎_elim (w.lowered_real c p) (v.lowered_real c p)
+              (Contains-append_cases mine.lowered theirs.lowered (c, p) l);
         },
-        (
-          h.1.0,
-          h.1.1,
-          (let a = h.1.2 in let sum = weigh-append (is_number h.1.0) mine.drawn theirs.drawn in omega arith),
-        ),
-      ) where
-        laid : (part : Part M) → Contains parts part ⊎ Contains more part →
-            IsLaid makes jobs round (mine.seen ++ theirs.seen) (mine.lowered ++ theirs.lowered) part
-        laid part (inl l) =
-            laid-grows mine.seen mine.lowered (mine.seen ++ theirs.seen) (mine.lowered ++ theirs.lowered) part
-            (λ c p m. Contains-append_left mine.seen theirs.seen (c, p) m)
-            (λ c p m. Contains-append_left mine.lowered theirs.lowered (c, p) m) (h.0.laid part l)
-        laid part (inr l) =
-            laid-grows theirs.seen theirs.lowered (mine.seen ++ theirs.seen) (mine.lowered ++ theirs.lowered) part
-            (λ c p m. Contains-append_right mine.seen theirs.seen (c, p) m)
-            (λ c p m. Contains-append_right mine.lowered theirs.lowered (c, p) m) (k.0.laid part l)
-
-        seen_there : (c p : ℕ) → Contains mine.seen (c, p) ⊎ Contains theirs.seen (c, p) → IsConnection desk c
-        seen_there c p (inl l) = h.0.seen_there c p l
-        seen_there c p (inr l) = k.0.seen_there c p l
-
-        lowered_real : (c p : ℕ) → Contains mine.lowered (c, p) ⊎ Contains theirs.lowered (c, p) → IsReal jobs c p
-        lowered_real c p (inl l) = h.0.lowered_real c p l
-        lowered_real c p (inr l) = k.0.lowered_real c p l
+        (n, past, let sum = weigh-append (is_number n) mine.drawn theirs.drawn in omega arith),
+      )

@@ -1,15 +1,131 @@
--- A job that is done: what its looks and its stops do to the pass.
-use Rattle.std.proofs.Common.{◌≡◌, ℕ, ◌<◌, List, [], ◌++◌, length, refl, sym, ap, subst, ◌∙◌, ◌⊎◌, inl, inr, Option}
-use Rattle.std.proofs.Common.{Some, Contains, slice_get, get_or, All}
+-- A job that is done: what its looks, and the places at which its findings end the connection, do to the pass.
+use Rattle.std.proofs.Common.{◌≡◌, ℕ, ◌<◌, Bool, true, false, List, [], ◌∷◌, ◌++◌, length, refl, sym, ap, subst, ◌∙◌}
+use Rattle.std.proofs.Common.{◌⊎◌, inl, inr, ⊎_elim, Option, Some, None, Contains, slice_get, get_or, All}
 use Rattle.std.proofs.lemmas.Option.{slice_get-get_or}
 use Rattle.std.proofs.lemmas.List.Elements.{Contains-append_left, Contains-append_right, Contains-append_cases}
-use Rattle.audit_terms.specs.code.runs.Look.{Asked}
-use Rattle.stop_desk.specs.code.Desk.{DeskId, PassView, pass_of, IsConnection}
-use Rattle.stop_desk.specs.code.Board.{Job, StopsAt, IsCut}
-use Rattle.stop_desk.proofs.RoundMembers.{contains-got}
+use Rattle.std.proofs.lemmas.List.Elements.{Contains-push, Contains-push_cases}
+use Rattle.audit_terms.specs.declared.findings.Finding.{Finding}
+use Rattle.audit_terms.specs.Finding.{stops}
+use Rattle.audit_terms.specs.code.runs.Look.{Asked, Looked}
 use Rattle.stop_desk.specs.declared.parts.Part.{Part}
-use Rattle.stop_desk.specs.code.Worked.{stops_on, IsReal, Goes, DoesJob}
-use Rattle.stop_desk.proofs.StopsLowered.{Watched, contains-stops_on, stops_on-contains, cut-stops}
+use Rattle.stop_desk.specs.code.Desk.{DeskId, PassView, pass_of, IsConnection}
+use Rattle.stop_desk.specs.code.Calls.{IsLook}
+use Rattle.stop_desk.specs.code.Board.{Job, StopsAt, IsCut}
+use Rattle.stop_desk.specs.code.Worked.{stops_on, Goes, DoesJob}
+use Rattle.stop_desk.proofs.RoundMembers.{pair, contains-none, contains-here, contains-first, contains-later}
+use Rattle.stop_desk.proofs.RoundMembers.{contains-cases, contains-got, contains-in_order}
+use Rattle.stop_desk.proofs.RoundMembers.{in_order-contains}
+
+-- an error of the connection is one of the places
+contains-stops_on : (connection : ℕ) (found : Finding) (findings : List Finding) → Contains findings found →
+    stops found ≡ true → Contains (stops_on connection findings) (connection, found.place)
+contains-stops_on connection found [] h s = absurd (contains-none found h)
+contains-stops_on connection found (first ∷ rest) h s =
+    by_test _ refl (λ k. contains-stops_on connection found rest k s) (contains-cases first rest found h) where
+      by_test : (b : Bool) → stops first ≡ b →
+          (Contains rest found → Contains (stops_on connection rest) (connection, found.place)) →
+          (first ≡ found) ⊎ Contains rest found → Contains (stops_on connection (first ∷ rest))
+          (connection, found.place)
+      by_test true e ih (inl same) =
+          rw e (contains-first (connection, first.place) (stops_on connection rest) (connection, found.place)
+          (ap (λ (f : Finding). pair connection f.place) same))
+      by_test true e ih (inr k) =
+          rw e (contains-later (connection, first.place) (stops_on connection rest) (connection, found.place) (ih k))
+      by_test false e ih (inl same) = let t : stops first ≡ true = ap stops same ∙ s in cc
+      by_test false e ih (inr k) = rw e (ih k)
+
+-- each of the places is an error of the connection
+stops_on-contains : (connection : ℕ) (findings : List Finding) (c p : ℕ) →
+    Contains (stops_on connection findings) (c, p) → (connection ≡ c) × StopsAt findings p
+stops_on-contains connection [] c p h = absurd (contains-none (c, p) h)
+stops_on-contains connection (first ∷ rest) c p h = by_test _ refl (stops_on-contains connection rest c p) h where
+  later : (connection ≡ c) × StopsAt rest p → (connection ≡ c) × StopsAt (first ∷ rest) p
+  later (is, (found, among, s, at)) = (is, (found, contains-later first rest found among, s, at))
+
+  by_test : (b : Bool) → stops first ≡ b →
+      (Contains (stops_on connection rest) (c, p) → (connection ≡ c) × StopsAt rest p) →
+      Contains (stops_on connection (first ∷ rest)) (c, p) → (connection ≡ c) × StopsAt (first ∷ rest) p
+  by_test true e ih k =
+      let l : Contains (pair connection first.place ∷ stops_on connection rest) (c, p) = simp e at k in ⊎_elim
+      (λ same. (
+        ap (λ (x : ℕ × ℕ). x.0) same,
+        (first, contains-here first rest, e, ap (λ (x : ℕ × ℕ). x.1) same),
+      ))
+      (λ m. later (ih m))
+      (contains-cases (connection, first.place) (stops_on connection rest) (c, p) l)
+  by_test false e ih k = let l : Contains (stops_on connection rest) (c, p) = simp e at k in later (ih l)
+
+-- what is kept of a job stops only where the job does
+cut-stops : (whole : List Finding) (upto : Option ℕ) (kept : List Finding) (place : ℕ) → IsCut whole upto kept →
+    StopsAt kept place → StopsAt whole place
+cut-stops whole upto kept place cut (found, among, s, at) =
+    let both = contains-in_order (kept ++ cut.left_out) found
+    (Contains-append_left kept cut.left_out found among) in
+    (found, in_order-contains whole found (subst (λ xs. Contains xs found) cut.together both), s, at)
+
+-- what looks at one connection do to a pass
+pub record Watched (c : ℕ) (before after : PassView) (asked : List Asked) : Type 0 where
+  pub kept : after ≡ pass_of before.desk before.allowance before.drawn after.seen before.lowered
+  pub seen_kept : (d p : ℕ) → Contains before.seen (d, p) → Contains after.seen (d, p)
+  pub seen_from : (d p : ℕ) → Contains after.seen (d, p) → Contains before.seen (d, p) ⊎ (c ≡ d)
+  pub answered : (one : Asked) (p : ℕ) → Contains asked one → one.answer ≡ Some p → Contains after.seen (c, p)
+
+watched-none : (c : ℕ) (pass : PassView) → Watched c pass pass []
+watched-none c pass = record {
+  kept = refl;
+  seen_kept = λ d p k. k;
+  seen_from = λ d p k. inl k;
+  answered = λ one p k e. absurd (contains-none one k);
+}
+
+-- one look more, before the others
+watched-first : (c : ℕ) (before between after : PassView) (first : Asked) (rest : List Asked) →
+    IsLook c before first.answer between → Watched c between after rest → Watched c before after (first ∷ rest)
+watched-first c before between after first rest look w = by_answer first.answer refl look where
+  by_answer : (answer : Option ℕ) → first.answer ≡ answer → IsLook c before answer between →
+      Watched c before after (first ∷ rest)
+  by_answer None e l = subst (λ (v : PassView). Watched c v after (first ∷ rest)) l.0 (record {
+    kept = w.kept;
+    seen_kept = w.seen_kept;
+    seen_from = w.seen_from;
+    answered = λ one p k f. ⊎_elim
+        (λ same. let g = ap (λ (a : Asked). a.answer) same in cc)
+        (λ m. w.answered one p m f)
+        (contains-cases first rest one k);
+  })
+  by_answer (Some q) e l =
+      let same : between ≡ pass_of before.desk before.allowance before.drawn (before.seen ++ (c, q) ∷ [])
+      before.lowered = l.3 in
+      let seen = ap (λ (v : PassView). v.seen) same in record {
+        kept = w.kept ∙ ap (λ (v : PassView). pass_of v.desk v.allowance v.drawn after.seen v.lowered) same;
+        seen_kept = λ d p k.
+            w.seen_kept d p (rw seen (Contains-append_left before.seen ((c, q) ∷ []) (d, p) k));
+        seen_from = λ d p k. ⊎_elim
+            (λ m. ⊎_elim
+            (λ old. inl old)
+            (λ new. inr (ap (λ (x : ℕ × ℕ). x.0) new))
+            (Contains-push_cases before.seen (c, q) (d, p) (subst (λ xs. Contains xs (d, p)) seen m)))
+            (λ f. inr f)
+            (w.seen_from d p k);
+        answered = λ one p k f. ⊎_elim
+            (λ is.
+            let g = ap (λ (a : Asked). a.answer) is in
+            let at : q ≡ p = cc in
+            w.seen_kept c p (rw (seen, ← at) (Contains-push before.seen (c, q))))
+            (λ m. w.answered one p m f)
+            (contains-cases first rest one k);
+      }
+
+module _ {L : Type 0} (answers : L → List Finding → Option ℕ → L → Type 0) (pass : L → PassView) (c : ℕ)
+    (IsOn : L → Type 0)
+    (is_look : (s : L) (found : List Finding) (answer : Option ℕ) (t : L) → IsOn s → answers s found answer t →
+    IsOn t × IsLook c (pass s) answer (pass t)) where
+  pub watched : (before : L) (asked : List Asked) (after : L) → IsOn before → Looked answers before asked after →
+      Watched c (pass before) (pass after) asked
+  watched before [] after on h = subst (λ s. Watched c (pass before) (pass s) []) h (watched-none c (pass before))
+  watched before (first ∷ rest) after on h =
+      let step = is_look before first.handed first.answer h.0 on h.1 in
+      watched-first c (pass before) (pass h.0) (pass after) first rest step.1 (watched h.0 rest after step.0 h.2)
 
 pub no_job : Job
 no_job = record { connection = 0; findings = [] }
@@ -30,92 +146,65 @@ module _ {M : Type 0} (makes : ℕ → Option ℕ → M → Type 0) (jobs : List
     (all : All (λ (job : Job). IsConnection desk job.connection) jobs)
     (connection_is : part.connection ≡ (job_at jobs part.job).connection)
     (cut : IsCut (job_at jobs part.job).findings part.upto part.findings.items)
-    (made : makes part.job part.upto part.made) (in_round : part.round ≡ round)
-    (before watched after : PassView) (asked : List Asked) (own : before.desk ≡ desk)
-    (w : Watched part.connection before watched asked)
+    (made : makes part.job part.upto part.made) (in_round : part.round ≡ round) (before watched : PassView)
+    (asked : List Asked) (own : before.desk ≡ desk) (w : Watched part.connection before watched asked)
     (answered : (place : ℕ) → part.upto ≡ Some place → (one : Asked) × Contains asked one × (one.answer ≡ Some place))
-    (lowers : after ≡ pass_of watched.desk watched.allowance watched.drawn watched.seen
-    (watched.lowered ++ stops_on part.connection part.findings.items)) where
-  same_lowered : after.lowered ≡ before.lowered ++ stops_on part.connection part.findings.items
-  same_lowered =
-      ap (λ (v : PassView). v.lowered) lowers
-      ∙ ap (λ (v : PassView). v.lowered ++ stops_on part.connection part.findings.items) w.kept
+  where
+    abbrev errors : List (ℕ × ℕ)
+    errors = stops_on part.connection part.findings.items
 
-  same_seen : watched.seen ≡ after.seen
-  same_seen = sym (ap (λ (v : PassView). v.seen) lowers)
+    -- the pass after the looks, with the places lowered
+    abbrev lowers : PassView
+    lowers = pass_of before.desk before.allowance before.drawn watched.seen (before.lowered ++ errors)
 
-  kept : after ≡ pass_of before.desk before.allowance before.drawn after.seen after.lowered
-  kept =
-      lowers
-      ∙ ap (λ (v : PassView). pass_of v.desk v.allowance v.drawn watched.seen
-      (watched.lowered ++ stops_on part.connection part.findings.items)) w.kept
-      ∙ ap (λ seen. pass_of before.desk before.allowance before.drawn seen
-      (watched.lowered ++ stops_on part.connection part.findings.items)) same_seen
-      ∙ ap (λ lowered. pass_of before.desk before.allowance before.drawn after.seen lowered)
-      (ap (λ (v : PassView). v.lowered ++ stops_on part.connection part.findings.items) w.kept ∙ sym same_lowered)
+    goes : Goes jobs desk before lowers
+    goes = record {
+      kept = refl;
+      seen_kept = w.seen_kept;
+      lowered_kept = λ c p k. Contains-append_left before.lowered errors (c, p) k;
+      seen_there = λ c p k. ⊎_elim
+          (λ old. inl old)
+          (λ e. inr (subst (IsConnection desk) e (job-there desk jobs part.job part.connection lt all connection_is)))
+          (w.seen_from c p k);
+      lowered_real = λ c p k. ⊎_elim
+          (λ old. inl old)
+          (λ new.
+          let job = job_at jobs part.job in
+          let (is, stopping) = stops_on-contains part.connection part.findings.items c p new in
+          inr (
+            job,
+            contains-got jobs part.job job (at-job jobs part.job lt),
+            sym connection_is ∙ is,
+            cut-stops job.findings part.upto part.findings.items p cut stopping,
+          ))
+          (Contains-append_cases before.lowered errors (c, p) k);
+    }
 
-  there : IsConnection desk part.connection
-  there = job-there desk jobs part.job part.connection lt all connection_is
+    does : DoesJob makes jobs round part.job before part lowers
+    does = (
+      refl,
+      subst (λ d. Goes jobs d before lowers) (sym own) goes,
+      record {
+        in_round = in_round;
+        made = made;
+        job = job_at jobs part.job;
+        is_job = at-job jobs part.job lt;
+        of_job = record {
+          of_connection = connection_is;
+          cut = cut;
+          upto_seen = λ place e. let (one, among, is) = answered place e in w.answered one place among is;
+          stops_lowered = λ place (found, among, s, at).
+              Contains-append_right before.lowered errors (part.connection, place)
+              (subst (λ p. Contains errors (part.connection, p)) at
+              (contains-stops_on part.connection found part.findings.items among s));
+        };
+      },
+    )
 
-  seen_there : (c p : ℕ) → Contains before.seen (c, p) ⊎ (part.connection ≡ c) →
-      Contains before.seen (c, p) ⊎ IsConnection desk c
-  seen_there c p (inl k) = inl k
-  seen_there c p (inr e) = inr (subst (IsConnection desk) e there)
-
-  lowered_real : (c p : ℕ) → Contains before.lowered (c, p) ⊎ Contains (stops_on part.connection part.findings.items)
-      (c, p) →
-      Contains before.lowered (c, p) ⊎ IsReal jobs c p
-  lowered_real c p (inl k) = inl k
-  lowered_real c p (inr k) =
-      let is = stops_on-contains part.connection part.findings.items c p k in
-      inr (
-        job_at jobs part.job,
-        contains-got jobs part.job (job_at jobs part.job) (at-job jobs part.job lt),
-        sym connection_is ∙ is.0,
-        cut-stops (job_at jobs part.job).findings part.upto part.findings.items p cut is.1,
-      )
-
-  upto_seen : (place : ℕ) → part.upto ≡ Some place → Contains after.seen (part.connection, place)
-  upto_seen place e =
-      let a = answered place e in
-      subst (λ seen. Contains seen (part.connection, place)) same_seen (w.answered a.0 place a.1 a.2)
-
-  stops_lowered : (place : ℕ) → StopsAt part.findings.items place → Contains after.lowered (part.connection, place)
-  stops_lowered place h =
-      subst (λ lowered. Contains lowered (part.connection, place)) (sym same_lowered)
-      (Contains-append_right before.lowered (stops_on part.connection part.findings.items) (part.connection, place)
-      (subst (λ p. Contains (stops_on part.connection part.findings.items) (part.connection, p)) h.3
-      (contains-stops_on part.connection h.0 part.findings.items h.1 h.2)))
-
-  goes : Goes jobs desk before after
-  goes = record {
-    kept = kept;
-    seen_kept = λ c p k. subst (λ seen. Contains seen (c, p)) same_seen (w.seen_kept c p k);
-    lowered_kept = λ c p k.
-        subst (λ lowered. Contains lowered (c, p)) (sym same_lowered)
-        (Contains-append_left before.lowered (stops_on part.connection part.findings.items) (c, p) k);
-    seen_there = λ c p k.
-        seen_there c p (w.seen_from c p (subst (λ seen. Contains seen (c, p)) (sym same_seen) k));
-    lowered_real = λ c p k.
-        lowered_real c p
-        (Contains-append_cases before.lowered (stops_on part.connection part.findings.items) (c, p)
-        (subst (λ lowered. Contains lowered (c, p)) same_lowered k));
-  }
-
-  pub job-done : DoesJob makes jobs round part.job before part after
-  job-done = (
-    refl,
-    subst (λ d. Goes jobs d before after) (sym own) goes,
-    record {
-      in_round = in_round;
-      made = made;
-      job = job_at jobs part.job;
-      is_job = at-job jobs part.job lt;
-      of_job = record {
-        of_connection = connection_is;
-        cut = cut;
-        upto_seen = upto_seen;
-        stops_lowered = stops_lowered;
-      };
-    },
-  )
+    pub job-done : (after : PassView) →
+        after ≡ pass_of watched.desk watched.allowance watched.drawn watched.seen (watched.lowered ++ errors) →
+        DoesJob makes jobs round part.job before part after
+    job-done after is =
+        subst (DoesJob makes jobs round part.job before part)
+        (sym (is ∙ ap (λ (v : PassView). pass_of v.desk v.allowance v.drawn watched.seen (v.lowered ++ errors)) w.kept))
+        does

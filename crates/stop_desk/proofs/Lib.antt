@@ -11,11 +11,7 @@ pub mod RoundParts
 pub mod RoundMerge
 pub mod RoundExamples
 pub mod RoundCuts
-pub mod StopsLowered
 pub mod Jobs
-pub mod Counting
 pub mod Draws
-pub mod Marked
 pub mod CrewDone
-pub mod Ordered
 pub mod Placed

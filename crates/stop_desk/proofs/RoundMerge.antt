@@ -1,8 +1,8 @@
 -- A settled board gives, up to the stop, what the whole jobs give: each place seen is a real error, so none lies below
 -- the least; each part has everything up to the least; so the least is kept and was lowered.
-use Rattle.std.proofs.Common.{◌≡◌, ℕ, zero, suc, ◌+◌, ◌<◌, ◌≤◌, Bool, true, false, List, [], ◌∷◌, ◌++◌, length, refl}
-use Rattle.std.proofs.Common.{sym, ap, subst, ◌∙◌, arith, append_assoc, ◌⊎◌, inl, inr, Contains, Option, Some, None}
-use Rattle.std.proofs.Common.{eqb-true, eq-eqb, if◌then◌else◌, ◌==◌}
+use Rattle.std.proofs.Common.{◌≡◌, ℕ, zero, suc, ◌<◌, ◌≤◌, Bool, true, false, List, [], ◌∷◌, ◌++◌, refl}
+use Rattle.std.proofs.Common.{sym, ap, subst, ◌∙◌, arith, append_assoc, ◌⊎◌, inl, inr, ⊎_elim, Contains, Option, Some}
+use Rattle.std.proofs.Common.{None, eqb-true, eq-eqb, if◌then◌else◌, ◌==◌}
 use Rattle.std.proofs.lemmas.List.Elements.{Contains-append_left, Contains-append_right, Contains-append_cases}
 use Rattle.std.specs.declared.cmp.Ordering.{Ordering}
 use Rattle.std.specs.declared.cmp.Ordering.TheVariants.{Greater}
@@ -15,12 +15,13 @@ use Rattle.audit_terms.specs.Order.{put_by}
 use Rattle.audit_terms.specs.Finding.{stops, comes_after, in_order, upto_stop}
 use Rattle.audit_terms.proofs.OrderedLists.{NoneBefore, IsInOrder, in_order-ordered}
 use Rattle.audit_terms.proofs.FindingOrder.{comes_after_is, in_order-append_comm, in_order-alike}
-use Rattle.stop_desk.specs.code.Board.{Job, Round, Part, Board, stop_of, StopsAt, IsLeast, IsGiven, JobStopsAt}
+use Rattle.stop_desk.specs.code.Board.{Round, Part, Board, stop_of, StopsAt, IsLeast, IsGiven, JobStopsAt}
 use Rattle.stop_desk.specs.code.Board.{IsSettled, parts_of, findings_of_jobs, findings_of_parts}
 use Rattle.stop_desk.specs.laws.Rounds.{Merges, BoardMerges}
 use Rattle.stop_desk.proofs.RoundMembers.{contains-none, contains-here, contains-later, contains-cases}
 use Rattle.stop_desk.proofs.RoundMembers.{contains-flat_map, flat_map-contains, contains-in_order, in_order-contains}
-use Rattle.stop_desk.proofs.RoundParts.{IsWholeWith, IsOneOf, whole-parts}
+use Rattle.stop_desk.proofs.RoundParts.{IsWholeWith, whole-parts, of_part, of_job}
+use Rattle.stop_desk.proofs.RoundSteps.{least-holds}
 
 -- what stands at a later place comes after
 later-first : (a b : Ordering) → a ≡ Greater → is_gt (ordering_then a b) ≡ true
@@ -35,33 +36,22 @@ after-place x y l =
 
 -- an element of a list does not stand before one of which none does
 after-none : (x : Finding) (ys : List Finding) (y : Finding) → NoneBefore comes_after comes_after_is x ys →
-    Contains ys y →
-    comes_after x y ≡ false
+    Contains ys y → comes_after x y ≡ false
 after-none x [] y o h = absurd (contains-none y h)
-after-none x (z ∷ ys) y o h = by_case (after-none x ys y o.1) (contains-cases z ys y h) where
-  by_case : (Contains ys y → comes_after x y ≡ false) → (z ≡ y) ⊎ Contains ys y → comes_after x y ≡ false
-  by_case ih (inl e) = subst (λ u. comes_after x u ≡ false) e o.0
-  by_case ih (inr k) = ih k
+after-none x (z ∷ ys) y o h = ⊎_elim
+    (λ e. subst (λ u. comes_after x u ≡ false) e o.0)
+    (after-none x ys y o.1)
+    (contains-cases z ys y h)
 
 -- what comes after a finding that stops is cut
 cut-put : (x y : Finding) (zs : List Finding) → IsInOrder comes_after comes_after_is zs → Contains zs y →
     stops y ≡ true → comes_after x y ≡ true → upto_stop (put_by comes_after x zs) ≡ upto_stop zs
 cut-put x y [] o h s l = absurd (contains-none y h)
-cut-put x y (z ∷ zs) o h s l = by_case (λ k. cut-put x y zs o.1 k s l) (contains-cases z zs y h) where
-  past : (b : Bool) → stops z ≡ b → upto_stop (put_by comes_after x zs) ≡ upto_stop zs →
-      upto_stop (z ∷ put_by comes_after x zs) ≡ upto_stop (z ∷ zs)
-  past true e ih = rw e refl
-  past false e ih = rw e (ap (λ us. z ∷ us) ih)
-
-  by_case : (Contains zs y → upto_stop (put_by comes_after x zs) ≡ upto_stop zs) → (z ≡ y) ⊎ Contains zs y →
-      upto_stop (put_by comes_after x (z ∷ zs)) ≡ upto_stop (z ∷ zs)
-  by_case ih (inl same) =
-      let t : stops z ≡ true = subst (λ u. stops u ≡ true) (sym same) s in
-      let a : comes_after x z ≡ true = subst (λ u. comes_after x u ≡ true) (sym same) l in
-      rw (a, t) refl
-  by_case ih (inr k) =
-      let a : comes_after x z ≡ true = comes_after_is.above x z y l (after-none z zs y o.0 k) in
-      rw a (past _ refl (ih k))
+cut-put x y (z ∷ zs) o h s l = ⊎_elim
+    (λ same. rw (subst (λ u. comes_after x u ≡ true) (sym same) l, subst (λ u. stops u ≡ true) (sym same) s) refl)
+    (λ k. rw (comes_after_is.above x z y l (after-none z zs y o.0 k))
+    (ap (λ us. if stops z then z ∷ [] else z ∷ us) (cut-put x y zs o.1 k s l)))
+    (contains-cases z zs y h)
 
 -- so it is with all that comes after it
 pub cut-all : (xs ys : List Finding) →
@@ -69,16 +59,11 @@ pub cut-all : (xs ys : List Finding) →
     upto_stop (in_order (xs ++ ys)) ≡ upto_stop (in_order ys)
 cut-all [] ys h = refl
 cut-all (x ∷ xs) ys h =
-    let s = h x (contains-here x xs) in
-    let y = s.1.0 in
-    let l : y.place < x.place = let e = s.1.3 in let m = s.2 in omega arith in
+    let (place, (y, among, stopping, at), low) = h x (contains-here x xs) in
+    let l : y.place < x.place = omega arith in
     cut-put x y (in_order (xs ++ ys)) (in_order-ordered comes_after comes_after_is (xs ++ ys))
-    (contains-in_order (xs ++ ys) y (Contains-append_right xs ys y s.1.1)) s.1.2 (after-place x y l)
+    (contains-in_order (xs ++ ys) y (Contains-append_right xs ys y among)) stopping (after-place x y l)
     ∙ cut-all xs ys (λ z k. h z (contains-later x xs z k))
-
-least-holds : (Holds : ℕ → Type 0) (stop : Option ℕ) (place : ℕ) → stop ≡ Some place → IsLeast Holds stop → Holds place
-least-holds Holds None place e h = cc
-least-holds Holds (Some least) place e h = let same : least ≡ place = cc in subst Holds same h.0
 
 stops-left : (xs ys : List Finding) (place : ℕ) → StopsAt xs place → StopsAt (xs ++ ys) place
 stops-left xs ys place h = (h.0, Contains-append_left xs ys h.0 h.1, h.2, h.3)
@@ -87,24 +72,20 @@ stops-right : (xs ys : List Finding) (place : ℕ) → StopsAt ys place → Stop
 stops-right xs ys place h = (h.0, Contains-append_right xs ys h.0 h.1, h.2, h.3)
 
 stops-cases : (xs ys : List Finding) (place : ℕ) → StopsAt (xs ++ ys) place → StopsAt xs place ⊎ StopsAt ys place
-stops-cases xs ys place h = by_case (Contains-append_cases xs ys h.0 h.1) where
-  by_case : Contains xs h.0 ⊎ Contains ys h.0 → StopsAt xs place ⊎ StopsAt ys place
-  by_case (inl k) = inl (h.0, k, h.2, h.3)
-  by_case (inr k) = inr (h.0, k, h.2, h.3)
+stops-cases xs ys place h = ⊎_elim
+    (λ k. inl (h.0, k, h.2, h.3))
+    (λ k. inr (h.0, k, h.2, h.3))
+    (Contains-append_cases xs ys h.0 h.1)
 
 -- what a job of the connection finds is among all findings of its jobs
 stops-job : (round : Round) (connection place : ℕ) → JobStopsAt round connection place →
     StopsAt (findings_of_jobs connection round.jobs) place
-stops-job round connection place h = (h.3.0, among, h.3.2, h.3.3) where
-  is : (h.0.connection == connection) ≡ true
-  is = eq-eqb h.0.connection connection h.2
-
-  own : Contains (if h.0.connection == connection then h.0.findings else []) h.3.0
-  own = rw is h.3.1
-
-  among : Contains (findings_of_jobs connection round.jobs) h.3.0
-  among = contains-flat_map (λ (job : Job). if job.connection == connection then job.findings else []) round.jobs h.0
-      h.3.0 h.1 own
+stops-job round connection place (job, among, is, (found, own, stopping, at)) = (
+  found,
+  contains-flat_map (of_job connection) round.jobs job found among (rw (eq-eqb job.connection connection is) own),
+  stopping,
+  at,
+)
 
 module _ (round : Round) (board : Board) (settled : IsSettled round board) (connection : ℕ) (earlier : List Finding)
     (opening : IsLeast (StopsAt earlier) (stop_of round.opening_stops connection)) where
@@ -115,48 +96,39 @@ module _ (round : Round) (board : Board) (settled : IsSettled round board) (conn
   kept = findings_of_parts connection board.parts
 
   parts : IsWholeWith board.seen connection kept whole
-  parts = whole-parts board.seen board.lowered connection 0 round.jobs board.parts one are where
-    one : (at : ℕ) → at < length round.jobs → parts_of (0 + at) board.parts ≡ 1
-    one at l = let e : 0 + at ≡ at = omega arith in rw e (settled.one_part_each at l)
-
-    are : (part : Part) → Contains board.parts part → IsOneOf board.seen board.lowered 0 round.jobs part
-    are part h = let p = settled.parts_of_jobs part h in (part.job, p.0, omega arith, p.1, p.2)
+  parts =
+      whole-parts board.seen board.lowered connection 0 round.jobs board.parts
+      (λ at l. subst (λ n. parts_of n board.parts ≡ 1) (omega arith) (settled.one_part_each at l))
+      (λ part h. let p = settled.parts_of_jobs part h in (part.job, p.0, omega arith, p.1, p.2))
 
   -- a place given is an error
   real : (place : ℕ) → IsGiven round board.lowered connection place → StopsAt (earlier ++ whole) place
-  real place (inl e) =
-      stops-left earlier whole place
-      (least-holds (StopsAt earlier) (stop_of round.opening_stops connection) place e opening)
-  real place (inr k) =
-      stops-right earlier whole place (stops-job round connection place (settled.lowered_real connection place k))
+  real place given = ⊎_elim
+      (λ e. stops-left earlier whole place
+      (least-holds (StopsAt earlier) (stop_of round.opening_stops connection) place e opening))
+      (λ k. stops-right earlier whole place (stops-job round connection place
+      (settled.lowered_real connection place k)))
+      given
 
   -- at or before each error there is one that was kept
   abbrev HasKeptBefore : ℕ → Type 0
   HasKeptBefore place = (least : ℕ) × (least ≤ place) × StopsAt (earlier ++ kept) least
 
-  kept_before : (bound place : ℕ) → place < bound → StopsAt (earlier ++ whole) place →
-      HasKeptBefore place
+  kept_before : (bound place : ℕ) → place < bound → StopsAt (earlier ++ whole) place → HasKeptBefore place
   kept_before zero place l h = absurd (omega arith)
-  kept_before (suc bound) place l h =
-      by_case (λ q m k. kept_before bound q m k) (stops-cases earlier whole place h) where
-        out : ((q : ℕ) → q < bound → StopsAt (earlier ++ whole) q → HasKeptBefore q) →
-            (found : Finding) → stops found ≡ true → found.place ≡ place →
-            Contains kept found ⊎ Contains parts.left_out found → HasKeptBefore place
-        out ih found s e (inl k) = (place, omega arith, stops-right earlier kept place (found, k, s, e))
-        out ih found s e (inr k) =
-            let b = parts.beyond found k in
-            let m = b.2 in
-            let r = ih b.0 (omega arith) (real b.0 (settled.seen_given connection b.0 b.1)) in
-            let n = r.1 in
-            (r.0, omega arith, r.2)
-
-        by_case : ((q : ℕ) → q < bound → StopsAt (earlier ++ whole) q → HasKeptBefore q) →
-            StopsAt earlier place ⊎ StopsAt whole place → HasKeptBefore place
-        by_case ih (inl k) = (place, omega arith, stops-left earlier kept place k)
-        by_case ih (inr k) =
-            out ih k.0 k.2 k.3 (Contains-append_cases kept parts.left_out k.0
-            (in_order-contains (kept ++ parts.left_out) k.0
-            (subst (λ xs. Contains xs k.0) (sym parts.together) (contains-in_order whole k.0 k.1))))
+  kept_before (suc bound) place l h = ⊎_elim
+      (λ k. (place, omega arith, stops-left earlier kept place k))
+      (λ k. ⊎_elim
+      (λ own. (place, omega arith, stops-right earlier kept place (k.0, own, k.2, k.3)))
+      (λ left.
+      let (stop, seen, low) = parts.beyond k.0 left in
+      let at = k.3 in
+      let (least, before, there) = kept_before bound stop (omega arith)
+      (real stop (settled.seen_given connection stop seen)) in
+      (least, omega arith, there))
+      (Contains-append_cases kept parts.left_out k.0 (in_order-contains (kept ++ parts.left_out) k.0
+      (subst (λ xs. Contains xs k.0) (sym parts.together) (contains-in_order whole k.0 k.1)))))
+      (stops-cases earlier whole place h)
 
   before : (place : ℕ) → StopsAt (earlier ++ whole) place → HasKeptBefore place
   before place h = kept_before (suc place) place (omega arith) h
@@ -165,11 +137,9 @@ module _ (round : Round) (board : Board) (settled : IsSettled round board) (conn
   beyond_stop : (found : Finding) → Contains parts.left_out found →
       (place : ℕ) × StopsAt (earlier ++ kept) place × (place < found.place)
   beyond_stop found k =
-      let b = parts.beyond found k in
-      let r = before b.0 (real b.0 (settled.seen_given connection b.0 b.1)) in
-      let l = b.2 in
-      let m = r.1 in
-      (r.0, r.2, omega arith)
+      let (stop, seen, low) = parts.beyond found k in
+      let (least, first, there) = before stop (real stop (settled.seen_given connection stop seen)) in
+      (least, there, omega arith)
 
   merged : upto_stop (in_order (earlier ++ kept)) ≡ upto_stop (in_order (earlier ++ whole))
   merged =
@@ -179,78 +149,70 @@ module _ (round : Round) (board : Board) (settled : IsSettled round board) (conn
       ∙ in_order-alike earlier earlier (kept ++ parts.left_out) whole refl parts.together)
 
   -- where a part stops was lowered
+  lowered_part : (part : Part) (found : Finding) (b : Bool) → Contains board.parts part →
+      (part.connection == connection) ≡ b → Contains (if b then part.findings else []) found → stops found ≡ true →
+      Contains board.lowered (connection, found.place)
+  lowered_part part found true among t own s =
+      subst (λ c. Contains board.lowered (c, found.place)) (eqb-true part.connection connection t)
+      ((settled.parts_of_jobs part among).2.stops_lowered found.place (found, own, s, refl))
+  lowered_part part found false among t own s = absurd (contains-none found own)
+
   lowered_kept : (place : ℕ) → StopsAt kept place → Contains board.lowered (connection, place)
-  lowered_kept place h =
-      let from = flat_map-contains (λ (part : Part). if part.connection == connection then part.findings else [])
-      board.parts h.0 h.1 in
-      by_test from.0 from.1 _ refl from.2 where
-        by_test : (part : Part) → Contains board.parts part → (b : Bool) → (part.connection == connection) ≡ b →
-            Contains (if part.connection == connection then part.findings else []) h.0 →
-            Contains board.lowered (connection, place)
-        by_test part among true t k =
-            let e : part.connection ≡ connection = eqb-true part.connection connection t in
-            let own : Contains part.findings h.0 = simp t at k in
-            subst (λ c. Contains board.lowered (c, place)) e
-            ((settled.parts_of_jobs part among).2.stops_lowered place (h.0, own, h.2, h.3))
-        by_test part among false t k =
-            let own : Contains [] h.0 = simp t at k in
-            absurd (contains-none h.0 own)
+  lowered_kept place (found, among, s, at) =
+      let (part, there, own) = flat_map-contains (of_part connection) board.parts found among in
+      subst (λ p. Contains board.lowered (connection, p)) at (lowered_part part found _ there refl own s)
 
   -- an error that was kept is given
-  given : (place : ℕ) → StopsAt (earlier ++ kept) place →
-      (least : ℕ) × (least ≤ place) × IsGiven round board.lowered connection least
-  given place h = by_case (stops-cases earlier kept place h) where
-    opened : (stop : Option ℕ) → stop_of round.opening_stops connection ≡ stop → IsLeast (StopsAt earlier) stop →
-        StopsAt earlier place → (least : ℕ) × (least ≤ place) × IsGiven round board.lowered connection least
-    opened None e o k = absurd (o place k)
-    opened (Some least) e o k = (least, o.1 place k, inl e)
+  abbrev HasGivenBefore : ℕ → Type 0
+  HasGivenBefore place = (least : ℕ) × (least ≤ place) × IsGiven round board.lowered connection least
 
-    by_case : StopsAt earlier place ⊎ StopsAt kept place →
-        (least : ℕ) × (least ≤ place) × IsGiven round board.lowered connection least
-    by_case (inl k) = opened _ refl opening k
-    by_case (inr k) = (place, omega arith, inr (lowered_kept place k))
+  opened : (stop : Option ℕ) (place : ℕ) → stop_of round.opening_stops connection ≡ stop →
+      IsLeast (StopsAt earlier) stop → StopsAt earlier place → HasGivenBefore place
+  opened None place e o k = absurd (o place k)
+  opened (Some least) place e o k = (least, o.1 place k, inl e)
+
+  given : (place : ℕ) → StopsAt (earlier ++ kept) place → HasGivenBefore place
+  given place h = ⊎_elim
+      (opened (stop_of round.opening_stops connection) place refl opening)
+      (λ k. (place, omega arith, inr (lowered_kept place k)))
+      (stops-cases earlier kept place h)
+
+  given_before : (place : ℕ) → StopsAt (earlier ++ whole) place → HasGivenBefore place
+  given_before place k =
+      let (first, low, there) = before place k in
+      let (least, lower, is) = given first there in
+      (least, omega arith, is)
 
   -- the board's stop is the least error of all
   stop_least : (stop : Option ℕ) → IsLeast (IsGiven round board.lowered connection) stop →
       IsLeast (StopsAt (earlier ++ whole)) stop
-  stop_least None h = λ place k.
-      let r = before place k in
-      let g = given r.0 r.2 in
-      h g.0 g.2
+  stop_least None h = λ place k. let g = given_before place k in h g.0 g.2
   stop_least (Some least) h = (
     real least h.0,
-    λ place k.
-        let r = before place k in
-        let g = given r.0 r.2 in
-        let a = h.1 g.0 g.2 in
-        let b = g.1 in
-        let c = r.1 in
-        omega arith,
+    λ place k. let (first, low, is) = given_before place k in let a = h.1 first is in omega arith,
   )
 
   -- what is kept is found
   found_kept : (place : ℕ) → StopsAt (earlier ++ kept) place → StopsAt (earlier ++ whole) place
-  found_kept place h = by_case (stops-cases earlier kept place h) where
-    by_case : StopsAt earlier place ⊎ StopsAt kept place → StopsAt (earlier ++ whole) place
-    by_case (inl k) = stops-left earlier whole place k
-    by_case (inr k) =
-        stops-right earlier whole place (
-          k.0,
-          in_order-contains whole k.0 (subst (λ xs. Contains xs k.0) parts.together
-              (contains-in_order (kept ++ parts.left_out) k.0 (Contains-append_left kept parts.left_out k.0 k.1))),
-          k.2,
-          k.3,
-        )
+  found_kept place h = ⊎_elim
+      (stops-left earlier whole place)
+      (λ k. stops-right earlier whole place (
+        k.0,
+        in_order-contains whole k.0 (subst (λ xs. Contains xs k.0) parts.together
+            (contains-in_order (kept ++ parts.left_out) k.0 (Contains-append_left kept parts.left_out k.0 k.1))),
+        k.2,
+        k.3,
+      ))
+      (stops-cases earlier kept place h)
 
   -- and of what was kept
   kept_least : (stop : Option ℕ) → IsLeast (StopsAt (earlier ++ whole)) stop → IsLeast (StopsAt (earlier ++ kept)) stop
   kept_least None h = λ place k. h place (found_kept place k)
   kept_least (Some least) h = (
-    (let r = before least h.0 in
-        let l = h.1 r.0 (found_kept r.0 r.2) in
-        let m = r.1 in
-        let same : r.0 ≡ least = omega arith in
-        subst (StopsAt (earlier ++ kept)) same r.2),
+    let (first, low, there) = before least h.0 in
+        let l = h.1 first (found_kept first there) in
+        let same : first ≡ least = omega arith in
+        subst (StopsAt (earlier ++ kept)) same there,
     λ place k. h.1 place (found_kept place k),
   )
 

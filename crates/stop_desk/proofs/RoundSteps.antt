@@ -1,58 +1,50 @@
 -- What the machine of workers keeps true after each event, from which a finished run is settled.
-use Rattle.std.proofs.Common.{◌≡◌, ◌≢◌, ℕ, zero, suc, ◌+◌, ◌<◌, ◌≤◌, min, Bool, true, false, List, [], ◌∷◌, length}
-use Rattle.std.proofs.Common.{refl, sym, ap, subst, ◌∙◌, arith, ◌⊎◌, inl, inr, Contains, Option, Some, None, slice_get}
-use Rattle.std.proofs.Common.{slice_set, eqb-true, eq-eqb, ltb-true, ltb-false, true≢false, nat_lt, if◌then◌else◌, ◌==◌}
-use Rattle.std.proofs.Common.{length-set, get_or-set_same, get_or-set_other}
-use Rattle.std.proofs.lemmas.List.Sums.{sum_by-cons}
+use Rattle.std.proofs.Common.{◌≡◌, ℕ, ◌<◌, ◌≤◌, min, List, [], ◌∷◌, length, refl, sym, ap}
+use Rattle.std.proofs.Common.{subst, ◌∙◌, arith, ◌⊎◌, inl, inr, ⊎_elim, Contains, Option, Some, None, slice_get}
+use Rattle.std.proofs.Common.{slice_set, eqb-true, eq-eqb, ne_eqb, ◌==◌, length-set, get_or-set_same, get_or-set_other}
+use Rattle.std.proofs.lemmas.Bool.{cases_lt}
+use mathlib.Core.Logic.{dite}
+use native.Mathlib.Decide.{ℕ_discrete}
 use Rattle.stop_desk.specs.code.Board.{Job, Round, Part, stop_of, IsLeast, IsPartOf, parts_of, JobStopsAt, IsGiven}
-use Rattle.stop_desk.specs.code.Board.{IsSettled}
 use Rattle.stop_desk.specs.laws.Machine.{RoundState, Event, Draw, Look, Lower, Finish, by_worker, by_all, round_start}
 use Rattle.stop_desk.specs.laws.Machine.{IsAtWork, IsAllowed, lesser, after_event, after_events, AreAllowed}
-use Rattle.stop_desk.specs.laws.Machine.{IsFinished, board_of}
 use Rattle.stop_desk.specs.laws.Rounds.{HasConnections, RunSettles}
 use Rattle.stop_desk.proofs.RoundMembers.{pair, contains-none, contains-here, contains-later, contains-cases}
-use Rattle.stop_desk.proofs.RoundMembers.{contains-own, contains-all, contains-got}
+use Rattle.stop_desk.proofs.RoundMembers.{own-all, contains-own, map-contains, count-true, count-false, count-some}
+use Rattle.stop_desk.proofs.RoundMembers.{some-count, contains-got}
 
-pub parts_of-cons : (job : ℕ) (part : Part) (parts : List Part) →
-    parts_of job (part ∷ parts) ≡ (if part.job == job then 1 else 0) + parts_of job parts
-parts_of-cons job part parts = sum_by-cons (λ (p : Part). if p.job == job then 1 else 0) part parts
+-- each number was drawn by one worker, and each job has at most one part, of its drawer
+record AreDrawn (next : ℕ) (drawn : List (ℕ × ℕ)) (parts : List (ℕ × Part)) : Type 0 where
+  below : (worker number : ℕ) → Contains drawn (worker, number) → number < next
+  by_one : (one other number : ℕ) → Contains drawn (one, number) → Contains drawn (other, number) → one ≡ other
+  parts_drawn : (worker : ℕ) (part : Part) → Contains parts (worker, part) → Contains drawn (worker, part.job)
+  parts_once : (job : ℕ) → parts_of job (by_all parts) ≤ 1
 
-pub parts_of-true : (job : ℕ) (part : Part) (parts : List Part) → (part.job == job) ≡ true →
-    parts_of job (part ∷ parts) ≡ 1 + parts_of job parts
-parts_of-true job part parts t =
-    parts_of-cons job part parts ∙ ap (λ (b : Bool). (if b then 1 else 0) + parts_of job parts) t
+-- a part is one of a job
+abbrev IsRight : Round → (seen lowered : List (ℕ × ℕ)) → Part → Type 0
+IsRight round seen lowered part =
+    (job : Job) × (slice_get round.jobs part.job ≡ Some job) × IsPartOf seen lowered job part
 
-pub parts_of-false : (job : ℕ) (part : Part) (parts : List Part) → (part.job == job) ≡ false →
-    parts_of job (part ∷ parts) ≡ 0 + parts_of job parts
-parts_of-false job part parts t =
-    parts_of-cons job part parts ∙ ap (λ (b : Bool). (if b then 1 else 0) + parts_of job parts) t
+-- each place is one that may be known, and each stop the least of them
+record ArePlaces (round : Round) (seen lowered : List (ℕ × ℕ)) (stops : List (Option ℕ)) : Type 0 where
+  lowered_right : (connection place : ℕ) → Contains lowered (connection, place) → JobStopsAt round connection place
+  seen_right : (connection place : ℕ) → Contains seen (connection, place) → IsGiven round lowered connection place
+  stops_right : (connection : ℕ) → IsLeast (IsGiven round lowered connection) (stop_of stops connection)
+  wide : length stops ≡ length round.opening_stops
 
--- what holds of the board at every moment of a run
+-- what holds at every moment of a run
 record IsKept (round : Round) (state : RoundState) : Type 0 where
-  drawn_below : (worker number : ℕ) → Contains state.drawn (worker, number) → number < state.next
-  drawn_by_one : (one other number : ℕ) → Contains state.drawn (one, number) → Contains state.drawn (other, number) →
-      one ≡ other
-  parts_drawn : (worker : ℕ) (part : Part) → Contains state.parts (worker, part) →
-      Contains state.drawn (worker, part.job)
-  parts_once : (job : ℕ) → parts_of job (by_all state.parts) ≤ 1
-  parts_right : (part : Part) → Contains (by_all state.parts) part →
-      (job : Job) × (slice_get round.jobs part.job ≡ Some job)
-      × IsPartOf (by_all state.seen) (by_all state.lowered) job part
-  lowered_right : (connection place : ℕ) → Contains (by_all state.lowered) (connection, place) →
-      JobStopsAt round connection place
-  seen_right : (connection place : ℕ) → Contains (by_all state.seen) (connection, place) →
-      IsGiven round (by_all state.lowered) connection place
-  stops_right : (connection : ℕ) →
-      IsLeast (IsGiven round (by_all state.lowered) connection) (stop_of state.stops connection)
-  wide : length state.stops ≡ length round.opening_stops
+  draws : AreDrawn state.next state.drawn state.parts
+  parts : (part : Part) → Contains (by_all state.parts) part →
+      IsRight round (by_all state.seen) (by_all state.lowered) part
+  places : ArePlaces round (by_all state.seen) (by_all state.lowered) state.stops
 
 -- more places are known
 abbrev Grows : List (ℕ × ℕ) → List (ℕ × ℕ) → Type 0
 Grows xs ys = (connection place : ℕ) → Contains xs (connection, place) → Contains ys (connection, place)
 
-part-grows : (seen lowered seen' lowered' : List (ℕ × ℕ)) (job : Job) (part : Part) → Grows seen seen' →
-    Grows lowered lowered' →
-    IsPartOf seen lowered job part → IsPartOf seen' lowered' job part
+pub part-grows : (seen lowered seen' lowered' : List (ℕ × ℕ)) (job : Job) (part : Part) → Grows seen seen' →
+    Grows lowered lowered' → IsPartOf seen lowered job part → IsPartOf seen' lowered' job part
 part-grows seen lowered seen' lowered' job part s l h = record {
   of_connection = h.of_connection;
   cut = h.cut;
@@ -60,77 +52,74 @@ part-grows seen lowered seen' lowered' job part s l h = record {
   stops_lowered = λ place k. l part.connection place (h.stops_lowered place k);
 }
 
-given-grows : (round : Round) (lowered lowered' : List (ℕ × ℕ)) (connection place : ℕ) → Grows lowered lowered' →
-    IsGiven round lowered connection place →
-    IsGiven round lowered' connection place
-given-grows round lowered lowered' connection place l (inl e) = inl e
-given-grows round lowered lowered' connection place l (inr k) = inr (l connection place k)
+right-grows : (round : Round) (seen lowered seen' lowered' : List (ℕ × ℕ)) (part : Part) → Grows seen seen' →
+    Grows lowered lowered' → IsRight round seen lowered part → IsRight round seen' lowered' part
+right-grows round seen lowered seen' lowered' part s l h =
+    (h.0, h.1, part-grows seen lowered seen' lowered' h.0 part s l h.2)
 
-own-all : {X : Type 0} (worker : ℕ) (entries : List (ℕ × X)) (x : X) → Contains (by_worker worker entries) x →
-    Contains (by_all entries) x
-own-all worker entries x h = contains-all entries worker x (contains-own worker entries x h)
+grows : (connection place : ℕ) (xs : List (ℕ × ℕ)) → Grows xs ((connection, place) ∷ xs)
+grows connection place xs c q k = contains-later (connection, place) xs (c, q) k
 
 -- at the start
 start-kept : (round : Round) → IsKept round (round_start round)
 start-kept round = record {
-  drawn_below = λ worker number h. absurd (contains-none (worker, number) h);
-  drawn_by_one = λ one other number h k. absurd (contains-none (one, number) h);
-  parts_drawn = λ worker part h. absurd (contains-none (worker, part) h);
-  parts_once = λ job. omega arith;
-  parts_right = λ part h. absurd (contains-none part h);
-  lowered_right = λ connection place h. absurd (contains-none (connection, place) h);
-  seen_right = λ connection place h. absurd (contains-none (connection, place) h);
-  stops_right = λ connection. at_start connection (stop_of round.opening_stops connection) refl;
-  wide = refl;
+  draws = record {
+    below = λ worker number h. absurd (contains-none (worker, number) h);
+    by_one = λ one other number h k. absurd (contains-none (one, number) h);
+    parts_drawn = λ worker part h. absurd (contains-none (worker, part) h);
+    parts_once = λ job. omega arith;
+  };
+  parts = λ part h. absurd (contains-none part h);
+  places = record {
+    lowered_right = λ connection place h. absurd (contains-none (connection, place) h);
+    seen_right = λ connection place h. absurd (contains-none (connection, place) h);
+    stops_right = λ connection. at_start connection (stop_of round.opening_stops connection) refl;
+    wide = refl;
+  };
 } where
   at_start : (connection : ℕ) (stop : Option ℕ) → stop_of round.opening_stops connection ≡ stop →
       IsLeast (IsGiven round [] connection) stop
-  at_start connection None e = λ place. none place where
-    none : (place : ℕ) → IsGiven round [] connection place → ⊥
-    none place (inl f) = cc
-    none place (inr k) = contains-none (connection, place) k
-  at_start connection (Some least) e = (inl e, λ place. above place) where
-    above : (place : ℕ) → IsGiven round [] connection place → least ≤ place
-    above place (inl f) = let same : Some least ≡ Some place = sym e ∙ f in let is : least ≡ place = cc in omega arith
-    above place (inr k) = absurd (contains-none (connection, place) k)
+  at_start connection None e = λ place given. ⊎_elim (λ f. cc) (contains-none (connection, place)) given
+  at_start connection (Some least) e = (
+    inl e,
+    λ place given. ⊎_elim
+        (λ f. let is : least ≡ place = cc in omega arith)
+        (λ k. absurd (contains-none (connection, place) k))
+        given,
+  )
 
 -- a number is drawn
 draw-kept : (round : Round) (state : RoundState) (worker number : ℕ) → number ≡ state.next → IsKept round state →
     IsKept round (after_event state (Draw worker number))
 draw-kept round state worker number e h = record {
-  drawn_below = λ w n k. below w n (contains-cases (worker, number) state.drawn (w, n) k);
-  drawn_by_one = λ v w n j k.
-      by_one v w n (contains-cases (worker, number) state.drawn (v, n) j)
-      (contains-cases (worker, number) state.drawn (w, n) k);
-  parts_drawn = λ w part k. contains-later (worker, number) state.drawn (w, part.job) (h.parts_drawn w part k);
-  parts_once = h.parts_once;
-  parts_right = h.parts_right;
-  lowered_right = h.lowered_right;
-  seen_right = h.seen_right;
-  stops_right = h.stops_right;
-  wide = h.wide;
+  draws = record {
+    below = λ w n k. ⊎_elim
+        (λ same. let is = ap (λ (x : ℕ × ℕ). x.1) same in omega arith)
+        (λ l. let is = h.draws.below w n l in omega arith)
+        (cases w n k);
+    by_one = λ v w n j k. ⊎_elim
+        (λ p. ⊎_elim
+        (λ q. ap (λ (x : ℕ × ℕ). x.0) (sym p ∙ q))
+        (λ l. let is = ap (λ (x : ℕ × ℕ). x.1) p in let low = h.draws.below w n l in absurd (omega arith))
+        (cases w n k))
+        (λ l. ⊎_elim
+        (λ q. let is = ap (λ (x : ℕ × ℕ). x.1) q in let low = h.draws.below v n l in absurd (omega arith))
+        (h.draws.by_one v w n l)
+        (cases w n k))
+        (cases v n j);
+    parts_drawn = λ w part k. contains-later (worker, number) state.drawn (w, part.job) (h.draws.parts_drawn w part k);
+    parts_once = h.draws.parts_once;
+  };
+  parts = h.parts;
+  places = h.places;
 } where
-  the_number : (w n : ℕ) → pair worker number ≡ (w, n) → number ≡ n
-  the_number w n p = ap (λ (x : ℕ × ℕ). x.1) p
-
-  the_worker : (w n : ℕ) → pair worker number ≡ (w, n) → worker ≡ w
-  the_worker w n p = ap (λ (x : ℕ × ℕ). x.0) p
-
-  below : (w n : ℕ) → (pair worker number ≡ (w, n)) ⊎ Contains state.drawn (w, n) → n < state.next + 1
-  below w n (inl p) = let m = the_number w n p in omega arith
-  below w n (inr k) = let m = h.drawn_below w n k in omega arith
-
-  by_one : (v w n : ℕ) → (pair worker number ≡ (v, n)) ⊎ Contains state.drawn (v, n) →
-      (pair worker number ≡ (w, n)) ⊎ Contains state.drawn (w, n) → v ≡ w
-  by_one v w n (inl p) (inl q) = sym (the_worker v n p) ∙ the_worker w n q
-  by_one v w n (inl p) (inr k) =
-      let m = the_number v n p in let l = h.drawn_below w n k in absurd (omega arith)
-  by_one v w n (inr j) (inl q) =
-      let m = the_number w n q in let l = h.drawn_below v n j in absurd (omega arith)
-  by_one v w n (inr j) (inr k) = h.drawn_by_one v w n j k
+  cases : (w n : ℕ) → Contains ((worker, number) ∷ state.drawn) (w, n) →
+      (pair worker number ≡ (w, n)) ⊎ Contains state.drawn (w, n)
+  cases w n k = contains-cases (worker, number) state.drawn (w, n) k
 
 -- a least place is one of those
-least-holds : (Holds : ℕ → Type 0) (stop : Option ℕ) (place : ℕ) → stop ≡ Some place → IsLeast Holds stop → Holds place
+pub least-holds : (Holds : ℕ → Type 0) (stop : Option ℕ) (place : ℕ) → stop ≡ Some place → IsLeast Holds stop →
+    Holds place
 least-holds Holds None place e h = cc
 least-holds Holds (Some least) place e h = let same : least ≡ place = cc in subst Holds same h.0
 
@@ -139,48 +128,39 @@ look-kept : (round : Round) (state : RoundState) (worker connection : ℕ) (stop
     stop ≡ stop_of state.stops connection → IsKept round state →
     IsKept round (after_event state (Look worker connection stop))
 look-kept round state worker connection None e h = h
-look-kept round state worker connection (Some place) e h = record {
-  drawn_below = h.drawn_below;
-  drawn_by_one = h.drawn_by_one;
-  parts_drawn = h.parts_drawn;
-  parts_once = h.parts_once;
-  parts_right = λ part k.
-      let p = h.parts_right part k in (
-        p.0,
-        p.1,
-        part-grows (by_all state.seen) (by_all state.lowered)
-            ((connection, place) ∷ by_all state.seen) (by_all state.lowered) p.0 part
-            (λ c q. contains-later (connection, place) (by_all state.seen) (c, q)) (λ c q l. l) p.2,
-      );
-  lowered_right = h.lowered_right;
-  seen_right = λ c q k. given c q (contains-cases (connection, place) (by_all state.seen) (c, q) k);
-  stops_right = h.stops_right;
-  wide = h.wide;
-} where
-  given : (c q : ℕ) → (pair connection place ≡ (c, q)) ⊎ Contains (by_all state.seen) (c, q) →
-      IsGiven round (by_all state.lowered) c q
-  given c q (inl same) =
-      subst (λ (x : ℕ × ℕ). IsGiven round (by_all state.lowered) x.0 x.1) same
-      (least-holds (IsGiven round (by_all state.lowered) connection) (stop_of state.stops connection) place (sym e)
-      (h.stops_right connection))
-  given c q (inr k) = h.seen_right c q k
+look-kept round state worker connection (Some place) e h =
+    let seen = by_all state.seen in
+    let lowered = by_all state.lowered in record {
+      draws = h.draws;
+      parts = λ part k.
+          right-grows round seen lowered ((connection, place) ∷ seen) lowered part
+          (grows connection place seen) (λ c q l. l) (h.parts part k);
+      places = record {
+        lowered_right = h.places.lowered_right;
+        seen_right = λ c q k. ⊎_elim
+            (λ same. subst (λ (x : ℕ × ℕ). IsGiven round lowered x.0 x.1) same
+            (least-holds (IsGiven round lowered connection) (stop_of state.stops connection) place (sym e)
+            (h.places.stops_right connection)))
+            (h.places.seen_right c q)
+            (contains-cases (connection, place) seen (c, q) k);
+        stops_right = h.places.stops_right;
+        wide = h.places.wide;
+      };
+    }
 
 -- the least of some places and one more
-least-lesser : (Holds Holds' : ℕ → Type 0) (stop : Option ℕ) (place : ℕ) →
-    ((q : ℕ) → Holds q → Holds' q) → Holds' place → ((q : ℕ) → Holds' q → (place ≡ q) ⊎ Holds q) → IsLeast Holds stop →
+least-lesser : (Holds Holds' : ℕ → Type 0) (stop : Option ℕ) (place : ℕ) → ((q : ℕ) → Holds q → Holds' q) →
+    Holds' place → ((q : ℕ) → Holds' q → (place ≡ q) ⊎ Holds q) → IsLeast Holds stop →
     IsLeast Holds' (Some (lesser stop place))
-least-lesser Holds Holds' None place more here back h = (here, λ q k. above q (back q k)) where
-  above : (q : ℕ) → (place ≡ q) ⊎ Holds q → place ≤ q
-  above q (inl e) = omega arith
-  above q (inr k) = absurd (h q k)
-least-lesser Holds Holds' (Some stop) place more here back h = (there _ refl, λ q k. above q (back q k)) where
-  there : (b : Bool) → nat_lt stop place ≡ b → Holds' (min stop place)
-  there true t = let l = ltb-true stop place t in let e : min stop place ≡ stop = omega arith in rw e (more stop h.0)
-  there false t = let l = ltb-false stop place t in let e : min stop place ≡ place = omega arith in rw e here
-
-  above : (q : ℕ) → (place ≡ q) ⊎ Holds q → min stop place ≤ q
-  above q (inl e) = omega arith
-  above q (inr k) = let l = h.1 q k in omega arith
+least-lesser Holds Holds' None place more here back h =
+    (here, λ q k. ⊎_elim (λ e. omega arith) (λ l. absurd (h q l)) (back q k))
+least-lesser Holds Holds' (Some stop) place more here back h = (
+  ⊎_elim
+      (λ low. let e : min stop place ≡ stop = omega arith in rw e (more stop h.0))
+      (λ high. let e : min stop place ≡ place = omega arith in rw e here)
+      (cases_lt stop place),
+  λ q k. ⊎_elim (λ e. omega arith) (λ l. let least = h.1 q l in omega arith) (back q k),
+)
 
 least-alike : (Holds Holds' : ℕ → Type 0) (stop : Option ℕ) → ((q : ℕ) → Holds q → Holds' q) →
     ((q : ℕ) → Holds' q → Holds q) → IsLeast Holds stop → IsLeast Holds' stop
@@ -190,169 +170,118 @@ least-alike Holds Holds' (Some least) to from h = (to least h.0, λ q k. h.1 q (
 -- a stop is lowered
 module _ (round : Round) (state : RoundState) (worker connection place : ℕ) (real : JobStopsAt round connection place)
     (within : connection < length round.opening_stops) (h : IsKept round state) where
-  lowered_grows : Grows (by_all state.lowered) ((connection, place) ∷ by_all state.lowered)
-  lowered_grows c q k = contains-later (connection, place) (by_all state.lowered) (c, q) k
+  abbrev before : List (ℕ × ℕ)
+  before = by_all state.lowered
 
-  lowered_real : (c q : ℕ) → (pair connection place ≡ (c, q)) ⊎ Contains (by_all state.lowered) (c, q) →
-      JobStopsAt round c q
-  lowered_real c q (inl same) = subst (λ (x : ℕ × ℕ). JobStopsAt round x.0 x.1) same real
-  lowered_real c q (inr k) = h.lowered_right c q k
+  abbrev now : List (ℕ × ℕ)
+  now = (connection, place) ∷ before
 
-  given_back : (c q : ℕ) → (connection ≡ c → place ≡ q → ⊥) →
-      IsGiven round ((connection, place) ∷ by_all state.lowered) c q → IsGiven round (by_all state.lowered) c q
-  given_back c q n (inl e) = inl e
-  given_back c q n (inr k) = by_case (contains-cases (connection, place) (by_all state.lowered) (c, q) k) where
-    by_case : (pair connection place ≡ (c, q)) ⊎ Contains (by_all state.lowered) (c, q) →
-        IsGiven round (by_all state.lowered) c q
-    by_case (inl same) = absurd (n (ap (λ (x : ℕ × ℕ). x.0) same) (ap (λ (x : ℕ × ℕ). x.1) same))
-    by_case (inr l) = inr l
+  abbrev stops_now : List (Option ℕ)
+  stops_now = slice_set state.stops connection (Some (lesser (stop_of state.stops connection) place))
 
-  given_here : (q : ℕ) → IsGiven round ((connection, place) ∷ by_all state.lowered) connection q →
-      (place ≡ q) ⊎ IsGiven round (by_all state.lowered) connection q
-  given_here q (inl e) = inr (inl e)
-  given_here q (inr k) = by_case (contains-cases (connection, place) (by_all state.lowered) (connection, q) k) where
-    by_case : (pair connection place ≡ (connection, q)) ⊎ Contains (by_all state.lowered) (connection, q) →
-        (place ≡ q) ⊎ IsGiven round (by_all state.lowered) connection q
-    by_case (inl same) = inl (ap (λ (x : ℕ × ℕ). x.1) same)
-    by_case (inr l) = inr (inr l)
+  given_more : (c q : ℕ) → IsGiven round before c q → IsGiven round now c q
+  given_more c q given = ⊎_elim (λ e. inl e) (λ k. inr (grows connection place before c q k)) given
 
-  abbrev new_stops : List (Option ℕ)
-  new_stops = slice_set state.stops connection (Some (lesser (stop_of state.stops connection) place))
+  given_cases : (c q : ℕ) → IsGiven round now c q → ((connection ≡ c) × (place ≡ q)) ⊎ IsGiven round before c q
+  given_cases c q given = ⊎_elim
+      (λ e. inr (inl e))
+      (λ k. ⊎_elim
+      (λ same. inl (ap (λ (x : ℕ × ℕ). x.0) same, ap (λ (x : ℕ × ℕ). x.1) same))
+      (λ l. inr (inr l))
+      (contains-cases (connection, place) before (c, q) k))
+      given
 
-  stops_least : (c : ℕ) (b : Bool) → (connection == c) ≡ b →
-      IsLeast (IsGiven round ((connection, place) ∷ by_all state.lowered) c) (stop_of new_stops c)
-  stops_least c true t =
-      let same : connection ≡ c = eqb-true connection c t in
-      let wide : connection < length state.stops = let e = h.wide in omega arith in
-      let is : stop_of new_stops connection ≡ Some (lesser (stop_of state.stops connection) place)
+  stops_least : (c : ℕ) → IsLeast (IsGiven round now c) (stop_of stops_now c)
+  stops_least c = dite (ℕ_discrete connection c)
+      (λ same.
+      let wide : connection < length state.stops = let e = h.places.wide in omega arith in
+      let is : stop_of stops_now connection ≡ Some (lesser (stop_of state.stops connection) place)
       = get_or-set_same state.stops connection _ None wide in
-      subst (λ d. IsLeast (IsGiven round ((connection, place) ∷ by_all state.lowered) d) (stop_of new_stops d)) same
-      (rw is (least-lesser (IsGiven round (by_all state.lowered) connection)
-      (IsGiven round ((connection, place) ∷ by_all state.lowered) connection)
-      (stop_of state.stops connection) place
-      (λ q. given-grows round (by_all state.lowered) ((connection, place) ∷ by_all state.lowered) connection q
-      lowered_grows)
-      (inr (contains-here (connection, place) (by_all state.lowered)))
-      given_here
-      (h.stops_right connection)))
-  stops_least c false t =
-      let other : connection ≡ c → ⊥ = λ e. true≢false (sym (eq-eqb connection c e) ∙ t) in
-      let is : stop_of new_stops c ≡ stop_of state.stops c
+      subst (λ d. IsLeast (IsGiven round now d) (stop_of stops_now d)) same
+      (rw is (least-lesser (IsGiven round before connection) (IsGiven round now connection)
+      (stop_of state.stops connection) place (given_more connection)
+      (inr (contains-here (connection, place) before))
+      (λ q k. ⊎_elim (λ new. inl new.1) (λ old. inr old) (given_cases connection q k))
+      (h.places.stops_right connection))))
+      (λ other.
+      let is : stop_of stops_now c ≡ stop_of state.stops c
       = get_or-set_other state.stops connection c _ None (λ e. other (sym e)) in
-      rw is (least-alike (IsGiven round (by_all state.lowered) c)
-      (IsGiven round ((connection, place) ∷ by_all state.lowered) c)
-      (stop_of state.stops c)
-      (λ q. given-grows round (by_all state.lowered) ((connection, place) ∷ by_all state.lowered) c q lowered_grows)
-      (λ q. given_back c q (λ e f. other e))
-      (h.stops_right c))
+      rw is (least-alike (IsGiven round before c) (IsGiven round now c) (stop_of state.stops c) (given_more c)
+      (λ q k. ⊎_elim (λ new. absurd (other new.0)) (λ old. old) (given_cases c q k))
+      (h.places.stops_right c)))
 
   lower-kept : IsKept round (after_event state (Lower worker connection place))
   lower-kept = record {
-    drawn_below = h.drawn_below;
-    drawn_by_one = h.drawn_by_one;
-    parts_drawn = h.parts_drawn;
-    parts_once = h.parts_once;
-    parts_right = λ part k.
-        let p = h.parts_right part k in (
-          p.0,
-          p.1,
-          part-grows (by_all state.seen) (by_all state.lowered) (by_all state.seen)
-              ((connection, place) ∷ by_all state.lowered) p.0 part (λ c q l. l) lowered_grows p.2,
-        );
-    lowered_right = λ c q k. lowered_real c q (contains-cases (connection, place) (by_all state.lowered) (c, q) k);
-    seen_right = λ c q k.
-        given-grows round (by_all state.lowered) ((connection, place) ∷ by_all state.lowered) c q lowered_grows
-        (h.seen_right c q k);
-    stops_right = λ c. stops_least c _ refl;
-    wide = length-set state.stops connection _ ∙ h.wide;
+    draws = h.draws;
+    parts = λ part k.
+        right-grows round (by_all state.seen) before (by_all state.seen) now part (λ c q l. l)
+        (grows connection place before) (h.parts part k);
+    places = record {
+      lowered_right = λ c q k. ⊎_elim
+          (λ same. subst (λ (x : ℕ × ℕ). JobStopsAt round x.0 x.1) same real)
+          (h.places.lowered_right c q)
+          (contains-cases (connection, place) before (c, q) k);
+      seen_right = λ c q k. given_more c q (h.places.seen_right c q k);
+      stops_right = stops_least;
+      wide = length-set state.stops connection _ ∙ h.places.wide;
+    };
   }
-
--- a job that its drawer has not finished is finished by nobody
-none-of : (entries : List (ℕ × Part)) (worker job : ℕ) →
-    ((other : ℕ) (part : Part) → Contains entries (other, part) → part.job ≡ job → other ≡ worker) →
-    parts_of job (by_worker worker entries) ≡ 0 → parts_of job (by_all entries) ≡ 0
-none-of [] worker job by_one e = refl
-none-of (entry ∷ entries) worker job by_one e =
-    by_tests (none-of entries worker job
-    (λ other part k j. by_one other part (contains-later entry entries (other, part) k) j)) _ _ refl refl e where
-      by_tests : (parts_of job (by_worker worker entries) ≡ 0 → parts_of job (by_all entries) ≡ 0) → (a b : Bool) →
-          (entry.0 == worker) ≡ a → (entry.1.job == job) ≡ b → parts_of job (by_worker worker (entry ∷ entries)) ≡ 0 →
-          parts_of job (by_all (entry ∷ entries)) ≡ 0
-      by_tests rest true true p q z =
-          let own : parts_of job (entry.1 ∷ by_worker worker entries) ≡ 0 = simp p at z in
-          let c = parts_of-true job entry.1 (by_worker worker entries) q in
-          absurd (omega arith)
-      by_tests rest true false p q z =
-          let own : parts_of job (entry.1 ∷ by_worker worker entries) ≡ 0 = simp p at z in
-          let c = parts_of-false job entry.1 (by_worker worker entries) q in
-          let d = parts_of-false job entry.1 (by_all entries) q in
-          let r = rest (omega arith) in
-          omega arith
-      by_tests rest false true p q z =
-          let j : entry.1.job ≡ job = eqb-true entry.1.job job q in
-          let w : entry.0 ≡ worker = by_one entry.0 entry.1 (contains-here entry entries) j in
-          absurd (true≢false (sym (eq-eqb entry.0 worker w) ∙ p))
-      by_tests rest false false p q z =
-          let own : parts_of job (by_worker worker entries) ≡ 0 = simp p at z in
-          let d = parts_of-false job entry.1 (by_all entries) q in
-          let r = rest own in
-          omega arith
 
 -- a job is finished
 module _ (round : Round) (state : RoundState) (worker : ℕ) (part : Part) (job : Job)
     (work : IsAtWork state worker part.job) (is_job : slice_get round.jobs part.job ≡ Some job)
     (is_part : IsPartOf (by_worker worker state.seen) (by_worker worker state.lowered) job part)
     (h : IsKept round state) where
-  drawn : (w : ℕ) (p : Part) → (pair worker part ≡ (w, p)) ⊎ Contains state.parts (w, p) →
-      Contains state.drawn (w, p.job)
-  drawn w p (inl same) = subst (λ (x : ℕ × Part). Contains state.drawn (x.0, x.1.job)) same work.0
-  drawn w p (inr k) = h.parts_drawn w p k
-
+  -- nobody has finished it: who did would have drawn it, and so is its drawer, who has not
   unfinished : parts_of part.job (by_all state.parts) ≡ 0
-  unfinished =
-      none-of state.parts worker part.job
-      (λ other p k e. h.drawn_by_one other worker part.job
-      (subst (λ n. Contains state.drawn (other, n)) e (h.parts_drawn other p k)) work.0)
-      work.1
+  unfinished = ⊎_elim
+      (λ some.
+      let test = λ (p : Part). p.job == part.job in
+      let (found, among, is) = count-some test (by_all state.parts) some in
+      let (entry, there, same) = map-contains (λ (e : ℕ × Part). e.1) state.parts found among in
+      let number : entry.1.job ≡ part.job = ap (λ (p : Part). p.job) same ∙ eqb-true found.job part.job is in
+      let who : entry.0 ≡ worker = h.draws.by_one entry.0 worker part.job
+      (subst (λ n. Contains state.drawn (entry.0, n)) number (h.draws.parts_drawn entry.0 entry.1 there)) work.0 in
+      let own = contains-own worker state.parts entry.1 (subst (λ w. Contains state.parts (w, entry.1)) who there) in
+      let one = some-count test (by_worker worker state.parts) entry.1 own (eq-eqb entry.1.job part.job number) in
+      let none = work.1 in
+      absurd (omega arith))
+      (λ none. omega arith)
+      (cases_lt 0 (parts_of part.job (by_all state.parts)))
 
-  once : (number : ℕ) (b : Bool) → (part.job == number) ≡ b → parts_of number (part ∷ by_all state.parts) ≤ 1
-  once number true t =
-      let e : part.job ≡ number = eqb-true part.job number t in
-      let z : parts_of number (by_all state.parts) ≡ 0
-      = subst (λ n. parts_of n (by_all state.parts) ≡ 0) e unfinished in
-      let c = parts_of-true number part (by_all state.parts) t in
-      omega arith
-  once number false t =
-      let o = h.parts_once number in
-      let c = parts_of-false number part (by_all state.parts) t in
-      omega arith
+  once : (number : ℕ) → parts_of number (part ∷ by_all state.parts) ≤ 1
+  once number = dite (ℕ_discrete part.job number)
+      (λ same.
+      let none = subst (λ n. parts_of n (by_all state.parts) ≡ 0) same unfinished in
+      let c = count-true (λ (p : Part). p.job == number) part (by_all state.parts) (eq-eqb part.job number same) in
+      omega arith)
+      (λ other.
+      let old = h.draws.parts_once number in
+      let c = count-false (λ (p : Part). p.job == number) part (by_all state.parts) (ne_eqb part.job number other) in
+      omega arith)
 
-  abbrev IsRight : Part → Type 0
-  IsRight p =
-      (j : Job) × (slice_get round.jobs p.job ≡ Some j) × IsPartOf (by_all state.seen) (by_all state.lowered) j p
-
-  right : (p : Part) → (part ≡ p) ⊎ Contains (by_all state.parts) p → IsRight p
-  right p (inl same) =
-      subst IsRight same (
-        job,
-        is_job,
-        part-grows (by_worker worker state.seen) (by_worker worker state.lowered) (by_all state.seen)
-            (by_all state.lowered) job part (λ c q. own-all worker state.seen (c, q))
-            (λ c q. own-all worker state.lowered (c, q)) is_part,
-      )
-  right p (inr k) = h.parts_right p k
+  abbrev IsRightNow : Part → Type 0
+  IsRightNow p = IsRight round (by_all state.seen) (by_all state.lowered) p
 
   finish-kept : IsKept round (after_event state (Finish worker part))
   finish-kept = record {
-    drawn_below = h.drawn_below;
-    drawn_by_one = h.drawn_by_one;
-    parts_drawn = λ w p k. drawn w p (contains-cases (worker, part) state.parts (w, p) k);
-    parts_once = λ number. once number _ refl;
-    parts_right = λ p k. right p (contains-cases part (by_all state.parts) p k);
-    lowered_right = h.lowered_right;
-    seen_right = h.seen_right;
-    stops_right = h.stops_right;
-    wide = h.wide;
+    draws = record {
+      below = h.draws.below;
+      by_one = h.draws.by_one;
+      parts_drawn = λ w p k. ⊎_elim
+          (λ same. subst (λ (x : ℕ × Part). Contains state.drawn (x.0, x.1.job)) same work.0)
+          (h.draws.parts_drawn w p)
+          (contains-cases (worker, part) state.parts (w, p) k);
+      parts_once = once;
+    };
+    parts = λ p k. ⊎_elim
+        (λ same. subst IsRightNow same (right-grows round (by_worker worker state.seen)
+        (by_worker worker state.lowered) (by_all state.seen) (by_all state.lowered) part
+        (λ c q. own-all worker state.seen (c, q)) (λ c q. own-all worker state.lowered (c, q))
+        (job, is_job, is_part)))
+        (h.parts p)
+        (contains-cases part (by_all state.parts) p k);
+    places = h.places;
   }
 
 event-kept : (round : Round) → HasConnections round → (state : RoundState) (event : Event) →
@@ -371,20 +300,13 @@ events-kept round has state [] a h = h
 events-kept round has state (event ∷ events) a h =
     events-kept round has (after_event state event) events a.1 (event-kept round has state event a.0 h)
 
-settled-kept : (round : Round) (state : RoundState) → IsFinished round state → IsKept round state →
-    IsSettled round (board_of state)
-settled-kept round state finished h = record {
-  one_part_each = λ job l. once (parts_of job (by_all state.parts)) (h.parts_once job) (finished job l);
-  parts_of_jobs = h.parts_right;
-  lowered_real = h.lowered_right;
-  seen_given = h.seen_right;
-  stops_least = h.stops_right;
-} where
-  once : (count : ℕ) → count ≤ 1 → count ≢ 0 → count ≡ 1
-  once zero l n = absurd (n refl)
-  once (suc count) l n = omega arith
-
 pub run_settles_lem : RunSettles
 run_settles_lem round has events allowed finished =
-    settled-kept round _ finished
-    (events-kept round has (round_start round) events allowed (start-kept round))
+    let state = after_events (round_start round) events in
+    let h = events-kept round has (round_start round) events allowed (start-kept round) in record {
+      one_part_each = λ job l. let n = finished job l in let once = h.draws.parts_once job in omega arith;
+      parts_of_jobs = h.parts;
+      lowered_real = h.places.lowered_right;
+      seen_given = h.places.seen_right;
+      stops_least = h.places.stops_right;
+    }

@@ -6,8 +6,7 @@ use Rattle.stop_desk.specs.code.Calls.{IsLook}
 use Rattle.stop_desk.specs.declared.desk_looks.DeskLook.{DeskLook}
 use Rattle.stop_desk.specs.code.Heeding.{Heeds}
 use Rattle.stop_desk.specs.code.Worked.{stops_on}
-use Rattle.stop_desk.proofs.StopsLowered.{Watched, watched}
-use Rattle.stop_desk.proofs.Jobs.{job_at, at-job, job-there, job-done}
+use Rattle.stop_desk.proofs.Jobs.{Watched, watched, job_at, at-job, job-there, job-done}
 use Rattle.stop_desk.proofs.workers.do_job.Goals as goal
 
 pub invariant_of-look : goal.invariant_of-look
@@ -43,8 +42,8 @@ returns g c =
     let job = job_at jobs c.args.job in
     let at = at-job jobs c.args.job c.requires.job in
     job-done (g.P.Round.makes shift.plan.now) jobs shift.round _ shift.desk.now.id c.requires.job shift.there
-    (c.connection-connection.ensures job at) (told.cut job at) told.made refl c.args.pass watched c.lower_stops.new.pass
-    told.looks.asked c.requires.desk (desk-watched _ _ _ _ told.looks) told.looks.answered
+    (c.connection-connection.ensures job at) (told.cut job at) told.made refl c.args.pass watched told.looks.asked
+    c.requires.desk (desk-watched _ _ _ _ told.looks) told.looks.answered c.lower_stops.new.pass
     (subst (λ (found : List Finding). c.lower_stops.new.pass ≡ pass_of watched.desk watched.allowance watched.drawn
     watched.seen (watched.lowered ++ stops_on c.connection-connection.result found)) c.as_slice.ensures.value
     c.lower_stops.ensures)
