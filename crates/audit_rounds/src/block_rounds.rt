@@ -29,7 +29,7 @@ use audit_terms::{Finding, Place};
 use conn_scan::{Block, ConnSum};
 use std::alloc::{AllocError, Global};
 use std::thread::Threads;
-use stop_desk::{Gate, Part, settle};
+use stop_desk::{Gate, Part, Team, settle};
 
 /// The number of the round in which blocks are summed.
 const SUM_ROUND: u8 = 2;
@@ -64,8 +64,13 @@ fn sums_of<R: Threads + Sync, G: Gate>(
     ensures { IfOk result (λ sums. AreSums blocks.now sums.items) }
 {
     let round = SumRound { blocks };
-    let workers = division.workers.max(1);
-    let settled = settle(rt, alloc, workers, gate, SUM_ROUND, stops, &round)?;
+    let team = Team {
+        rt,
+        alloc,
+        workers: division.workers.max(1),
+        gate,
+    };
+    let settled = settle(&team, SUM_ROUND, stops, &round)?;
     summaries(alloc, settled.parts)
 }
 
@@ -90,8 +95,13 @@ fn parts_of<R: Threads + Sync, G: Gate>(
         plan,
         credits_shown,
     };
-    let workers = division.workers.max(1);
-    let settled = settle(rt, alloc, workers, gate, BLOCK_ROUND, stops, &round)?;
+    let team = Team {
+        rt,
+        alloc,
+        workers: division.workers.max(1),
+        gate,
+    };
+    let settled = settle(&team, BLOCK_ROUND, stops, &round)?;
     Ok(settled.parts)
 }
 

@@ -27,7 +27,7 @@ use pcap_records::Capture;
 use std::alloc::{AllocError, Global};
 use std::thread::Threads;
 use std::vec::IntoIter;
-use stop_desk::{Gate, Part, settle};
+use stop_desk::{Gate, Part, Team, settle};
 use tcp_streams::Connection;
 
 /// What the flows of each connection hold, in order.
@@ -60,7 +60,13 @@ pub(crate) fn flows_each(
         packets,
         opened,
     };
-    let settled = settle(rt, alloc, workers, gate, FLOWS, stops.as_slice(), &round)?;
+    let team = Team {
+        rt,
+        alloc,
+        workers,
+        gate,
+    };
+    let settled = settle(&team, FLOWS, stops.as_slice(), &round)?;
     Ok(settled.parts)
 }
 

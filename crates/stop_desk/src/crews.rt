@@ -13,6 +13,7 @@ use crate::gate::Gate;
 use crate::parts::Part;
 use crate::passes::Pass;
 use crate::rounds::Round;
+use crate::teams::Team;
 use crate::workers::{Shift, work};
 use std::alloc::{AllocError, Global};
 use std::thread::{Threads, join};
@@ -99,17 +100,13 @@ fn share_of(jobs: u32, workers: u32) -> usize
 ///
 /// Each worker passes the gate before each of its jobs.
 pub fn crew<R: Threads + Sync, G: Gate, P: Round>(
-    rt: &R,
-    alloc: Global,
-    workers: u32,
+    team: &Team<'_, R, G>,
     desk: Desk,
     pass: Pass,
-    gate: &G,
     round: u8,
     plan: &P,
 ) -> Result<(Vec<Part<P::Made>>, Closed), AllocError>
-    requires some { 0 < workers }
-    requires workers { desk.workers ≡ workers }
+    requires workers { desk.workers ≡ team.now.workers }
     requires jobs { desk.jobs ≡ length (P.jobs plan.now) }
     requires first { pass ≡ pass_of desk.id (all_draws desk) [] [] [] }
     requires connections { All (λ (job : Job). IsConnection desk.id job.connection) (P.jobs plan.now) }
@@ -117,11 +114,11 @@ pub fn crew<R: Threads + Sync, G: Gate, P: Round>(
 {
     let shift = Shift {
         desk: &desk,
-        gate,
+        gate: team.gate,
         round,
         plan,
-        share: share_of(desk.jobs(), workers),
+        share: share_of(desk.jobs(), team.workers),
     };
-    let (parts, last) = fork(rt, alloc, workers, &shift, pass)?;
+    let (parts, last) = fork(team.rt, team.alloc, team.workers, &shift, pass)?;
     Ok((parts, desk.close(last)))
 }

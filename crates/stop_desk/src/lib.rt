@@ -4,9 +4,9 @@
 //!
 //! # The round
 //!
-//! A [`Round`] says what its jobs are, as if nothing stopped them, and [`settle`] has workers do them all: each worker
-//! draws jobs, hands each a [`Look`](audit_terms::Look) at the stop of its connection, lowers the stop where a finding
-//! ends the connection, and lays down a [`Part`]. There are no more workers than jobs.
+//! A [`Round`] says what its jobs are, as if nothing stopped them, and [`settle`] has a [`Team`] do them all: each
+//! worker draws jobs, hands each a [`Look`](audit_terms::Look) at the stop of its connection, lowers the stop where a
+//! finding ends the connection, and lays down a [`Part`]. There are no more workers than jobs.
 //!
 //! - [`crew`] works on a desk that is given, and answers the parts and the closed desk. What is left is a settled board
 //!   (`IsSettled` of `specs/code/Board.antt`), for every number of workers and by whichever order they ran in: one part
@@ -89,6 +89,7 @@ mod rounds;
 mod rule;
 mod settling;
 mod stops;
+mod teams;
 pub mod worked_rounds;
 mod workers;
 
@@ -101,3 +102,4 @@ pub use parts::Part;
 pub use passes::Pass;
 pub use rounds::{Round, Work};
 pub use settling::{Settled, settle};
+pub use teams::Team;

@@ -12,6 +12,7 @@ use crate::desks::Desk;
 use crate::gate::Gate;
 use crate::parts::Part;
 use crate::rounds::Round;
+use crate::teams::Team;
 use audit_terms::Place;
 use std::alloc::{AllocError, Global};
 use std::thread::Threads;
@@ -51,15 +52,11 @@ fn stops_of(
 ///
 /// `Err` only where memory runs out. There are at most as many workers as jobs.
 pub fn settle<R: Threads + Sync, G: Gate, P: Round>(
-    rt: &R,
-    alloc: Global,
-    workers: u32,
-    gate: &G,
+    team: &Team<'_, R, G>,
     round: u8,
     stops: &[Option<Place>],
     plan: &P,
 ) -> Result<Settled<P::Made>, AllocError>
-    requires workers { 0 < workers }
     requires places { All IsStop stops.now }
     requires connections { All (λ (job : Job). job.connection < length stops.now) (P.jobs plan.now) }
     ensures settled { IfOk result (λ settled. HasSettled (P.makes plan.now) (P.jobs plan.now) stops.now settled) }
@@ -67,10 +64,16 @@ pub fn settle<R: Threads + Sync, G: Gate, P: Round>(
         → part.round ≡ round) }
 {
     let jobs = plan.count();
-    let workers = workers.min(jobs).max(1);
-    let (desk, pass) = Desk::make(alloc, jobs, stops, workers)?;
-    let (mut parts, closed) = crew(rt, alloc, workers, desk, pass, gate, round, plan)?;
+    let workers = team.workers.min(jobs).max(1);
+    let (desk, pass) = Desk::make(team.alloc, jobs, stops, workers)?;
+    let team = Team {
+        rt: team.rt,
+        alloc: team.alloc,
+        workers,
+        gate: team.gate,
+    };
+    let (mut parts, closed) = crew(&team, desk, pass, round, plan)?;
     put_in_order(&mut parts);
-    let stops = stops_of(alloc, &closed, stops)?;
+    let stops = stops_of(team.alloc, &closed, stops)?;
     Ok(Settled { parts, stops })
 }
