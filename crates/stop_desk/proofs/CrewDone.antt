@@ -1,7 +1,7 @@
 -- The stops of a desk one by one, and that the board of a closed desk is settled.
-use Rattle.std.proofs.Common.{◌≡◌, ℕ, zero, suc, ◌+◌, ◌<◌, ◌≤◌, ◌⊎◌, inl, inr, ⊎_elim, List, [], ◌∷◌, length, drop, map}
-use Rattle.std.proofs.Common.{get_or, Option, Some, None, refl, sym, ap, subst, ◌∙◌, arith, Contains, slice_get, All}
-use Rattle.std.proofs.Common.{Bool, true, false, nat_lt, if◌then◌else◌, ltb-true}
+use Rattle.std.proofs.Common.{◌≡◌, ℕ, zero, suc, ◌+◌, ◌<◌, ◌≤◌, ◌⊎◌, inl, inr, ⊎_elim, List, [], ◌∷◌, length, drop}
+use Rattle.std.proofs.Common.{map, get_or, Option, Some, None, refl, sym, ap, subst, ◌∙◌, arith, Contains, slice_get}
+use Rattle.std.proofs.Common.{All, Bool, true, false, nat_lt, if◌then◌else◌, ltb-true}
 use Rattle.std.proofs.lemmas.Bool.{cases_lt}
 use Rattle.std.proofs.lemmas.Bool.Decides.{nat_tests}
 use Rattle.std.proofs.lemmas.List.{length-map, length-drop, get_or-map, get_or-drop, get_or_past, same_lists}
@@ -15,7 +15,7 @@ use Rattle.stop_desk.specs.code.Board.{Job, Round, Part as BoardPart, IsLeast, I
 use Rattle.stop_desk.specs.code.Laid.{part_of}
 use Rattle.stop_desk.specs.code.Crew.{opening_stops, last_stops_from, last_stops, IsDone}
 use Rattle.stop_desk.specs.code.Worked.{IsAllWorked}
-use Rattle.stop_desk.proofs.Marks.{mark-cases, mark-here}
+use Rattle.stop_desk.proofs.Weights.{mark-cases, mark-here}
 use Rattle.stop_desk.proofs.RoundMembers.{contains-none, contains-first, contains-later, contains-cases, map-contains}
 
 -- marks counted, and marks in a list

@@ -18,7 +18,7 @@ use Rattle.stop_desk.specs.code.Board.{Job as BoardJob, Part as BoardPart, parts
 use Rattle.stop_desk.specs.code.Laid.{part_of}
 use Rattle.stop_desk.specs.code.Worked.{IsLaid, DoesJob, IsWorked, IsAllWorked, DrewJobs}
 use Rattle.stop_desk.proofs.Weights.{weigh-append, weigh-snoc}
-use Rattle.stop_desk.proofs.RoundMembers.{contains-none, count-cons}
+use Rattle.stop_desk.proofs.RoundMembers.{count-cons}
 use Rattle.stop_desk.proofs.RoundSteps.{part-grows}
 
 number-here : (x n : ℕ) → n ≡ x → is_number x n ≡ 1
@@ -75,18 +75,6 @@ module _ {M : Type 0} (makes : ℕ → Option ℕ → M → Type 0) (jobs : List
     job = h.job;
     is_job = h.is_job;
     of_job = part-grows seen lowered seen' lowered' h.job (part_of part) more less h.of_job;
-  }
-
-  -- nothing is done yet
-  pub worked-none : (desk : DeskId) (allowance : ℕ) →
-      IsWorked makes jobs desk round allowance [] (pass_of desk allowance [] [] [])
-  worked-none desk allowance = record {
-    desk_is = refl;
-    whole_is = omega arith;
-    drawn = λ job lt. refl;
-    laid = λ part k. absurd (contains-none part k);
-    seen_there = λ c p k. absurd (contains-none (c, p) k);
-    lowered_real = λ c p k. absurd (contains-none (c, p) k);
   }
 
   parts_of-append : (job : ℕ) (parts more : List (Part M)) →

@@ -1,6 +1,6 @@
 -- A job that is done: what its looks, and the places at which its findings end the connection, do to the pass.
-use Rattle.std.proofs.Common.{◌≡◌, ℕ, ◌<◌, Bool, true, false, List, [], ◌∷◌, ◌++◌, length, refl, sym, ap, subst, ◌∙◌}
-use Rattle.std.proofs.Common.{◌⊎◌, inl, inr, ⊎_elim, Option, Some, None, Contains, slice_get, get_or, All}
+use Rattle.std.proofs.Common.{◌≡◌, ℕ, ◌<◌, true, List, [], ◌∷◌, ◌++◌, length, refl, sym, ap, subst, ◌∙◌}
+use Rattle.std.proofs.Common.{◌⊎◌, inl, inr, ⊎_elim, Option, Some, None, Contains, slice_get, get_or, All, filter}
 use Rattle.std.proofs.lemmas.Option.{slice_get-get_or}
 use Rattle.std.proofs.lemmas.List.Elements.{Contains-append_left, Contains-append_right, Contains-append_cases}
 use Rattle.std.proofs.lemmas.List.Elements.{Contains-push, Contains-push_cases}
@@ -12,48 +12,24 @@ use Rattle.stop_desk.specs.code.Desk.{DeskId, PassView, pass_of, IsConnection}
 use Rattle.stop_desk.specs.code.Calls.{IsLook}
 use Rattle.stop_desk.specs.code.Board.{Job, StopsAt, IsCut}
 use Rattle.stop_desk.specs.code.Worked.{stops_on, Goes, DoesJob}
-use Rattle.stop_desk.proofs.RoundMembers.{pair, contains-none, contains-here, contains-first, contains-later}
-use Rattle.stop_desk.proofs.RoundMembers.{contains-cases, contains-got, contains-in_order}
-use Rattle.stop_desk.proofs.RoundMembers.{in_order-contains}
+use Rattle.stop_desk.proofs.RoundMembers.{pair, contains-none}
+use Rattle.stop_desk.proofs.RoundMembers.{contains-cases, contains-got, contains-in_order, contains-map, map-contains}
+use Rattle.stop_desk.proofs.RoundMembers.{in_order-contains, contains-filter, filter-contains}
 
 -- an error of the connection is one of the places
 contains-stops_on : (connection : ℕ) (found : Finding) (findings : List Finding) → Contains findings found →
     stops found ≡ true → Contains (stops_on connection findings) (connection, found.place)
-contains-stops_on connection found [] h s = absurd (contains-none found h)
-contains-stops_on connection found (first ∷ rest) h s =
-    by_test _ refl (λ k. contains-stops_on connection found rest k s) (contains-cases first rest found h) where
-      by_test : (b : Bool) → stops first ≡ b →
-          (Contains rest found → Contains (stops_on connection rest) (connection, found.place)) →
-          (first ≡ found) ⊎ Contains rest found → Contains (stops_on connection (first ∷ rest))
-          (connection, found.place)
-      by_test true e ih (inl same) =
-          rw e (contains-first (connection, first.place) (stops_on connection rest) (connection, found.place)
-          (ap (λ (f : Finding). pair connection f.place) same))
-      by_test true e ih (inr k) =
-          rw e (contains-later (connection, first.place) (stops_on connection rest) (connection, found.place) (ih k))
-      by_test false e ih (inl same) = let t : stops first ≡ true = ap stops same ∙ s in cc
-      by_test false e ih (inr k) = rw e (ih k)
+contains-stops_on connection found findings h s =
+    contains-map (λ (f : Finding). pair connection f.place) (filter stops findings) found
+    (contains-filter stops findings found h s)
 
 -- each of the places is an error of the connection
 stops_on-contains : (connection : ℕ) (findings : List Finding) (c p : ℕ) →
     Contains (stops_on connection findings) (c, p) → (connection ≡ c) × StopsAt findings p
-stops_on-contains connection [] c p h = absurd (contains-none (c, p) h)
-stops_on-contains connection (first ∷ rest) c p h = by_test _ refl (stops_on-contains connection rest c p) h where
-  later : (connection ≡ c) × StopsAt rest p → (connection ≡ c) × StopsAt (first ∷ rest) p
-  later (is, (found, among, s, at)) = (is, (found, contains-later first rest found among, s, at))
-
-  by_test : (b : Bool) → stops first ≡ b →
-      (Contains (stops_on connection rest) (c, p) → (connection ≡ c) × StopsAt rest p) →
-      Contains (stops_on connection (first ∷ rest)) (c, p) → (connection ≡ c) × StopsAt (first ∷ rest) p
-  by_test true e ih k =
-      let l : Contains (pair connection first.place ∷ stops_on connection rest) (c, p) = simp e at k in ⊎_elim
-      (λ same. (
-        ap (λ (x : ℕ × ℕ). x.0) same,
-        (first, contains-here first rest, e, ap (λ (x : ℕ × ℕ). x.1) same),
-      ))
-      (λ m. later (ih m))
-      (contains-cases (connection, first.place) (stops_on connection rest) (c, p) l)
-  by_test false e ih k = let l : Contains (stops_on connection rest) (c, p) = simp e at k in later (ih l)
+stops_on-contains connection findings c p h =
+    let (found, among, at) = map-contains (λ (f : Finding). pair connection f.place) (filter stops findings) (c, p) h in
+    let (there, stopping) = filter-contains stops findings found among in
+    (ap (λ (x : ℕ × ℕ). x.0) at, (found, there, stopping, ap (λ (x : ℕ × ℕ). x.1) at))
 
 -- what is kept of a job stops only where the job does
 cut-stops : (whole : List Finding) (upto : Option ℕ) (kept : List Finding) (place : ℕ) → IsCut whole upto kept →

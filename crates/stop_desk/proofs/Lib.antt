@@ -1,10 +1,6 @@
 pub mod Weights
-pub mod Marks
-pub mod Keeping
 pub mod Steps
-pub mod LastPass
-pub mod Names
-pub mod Looking
+pub mod PassViews
 pub mod RoundMembers
 pub mod RoundSteps
 pub mod RoundParts

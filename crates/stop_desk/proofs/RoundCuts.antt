@@ -2,7 +2,7 @@
 use Rattle.std.proofs.Common.{◌≡◌, Bool, true, false, nat_le, cond, List, [], ◌∷◌, ◌++◌, refl, sym, ap, subst, ◌∙◌}
 use Rattle.std.proofs.Common.{append-nil, ⊎_elim, filter, not, leb-false}
 use Rattle.std.proofs.lemmas.Bool.{not-true}
-use Rattle.std.proofs.lemmas.List.Elements.{Contains-append_cases, All-contains, filter_passes}
+use Rattle.std.proofs.lemmas.List.Elements.{Contains-append_cases}
 use Rattle.std.proofs.lemmas.List.Sorted.{IsPermutation-filter_both}
 use Rattle.audit_terms.specs.declared.findings.Finding.{Finding}
 use Rattle.audit_terms.specs.Order.{put_by}
@@ -11,7 +11,7 @@ use Rattle.audit_terms.proofs.OrderedLists.{NoneBefore, IsInOrder, ordered-in_or
 use Rattle.audit_terms.proofs.FindingOrder.{comes_after_is, in_order-append_comm, in_order-append_left}
 use Rattle.audit_terms.proofs.FindingOrder.{in_order-alike, in_order-in_order, in_order-permutation}
 use Rattle.stop_desk.specs.laws.Cuts.{FrontIsCut, WholeIsCut, CutsJoin, StopsJoin}
-use Rattle.stop_desk.proofs.RoundMembers.{contains-none}
+use Rattle.stop_desk.proofs.RoundMembers.{contains-none, filter-contains}
 use Rattle.stop_desk.proofs.RoundParts.{swap-middle}
 
 -- a filter keeps the order
@@ -47,9 +47,7 @@ front_is_cut_lem whole upto e =
           in_order-permutation whole (filter before whole ++ filter past whole)
           (IsPermutation-filter_both before past (λ found. refl) whole);
       past = λ found h.
-          leb-false found.place upto (not-true (nat_le found.place upto)
-          (All-contains (λ (x : Finding). not (nat_le x.place upto) ≡ true) (filter past whole) found
-          (filter_passes past whole) h));
+          leb-false found.place upto (not-true (nat_le found.place upto) (filter-contains past whole found h).1);
     }
 
 pub whole_is_cut_lem : WholeIsCut

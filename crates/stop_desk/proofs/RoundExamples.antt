@@ -1,6 +1,8 @@
 -- The worked examples of a round of two workers.
 use Rattle.std.proofs.Common.{◌≡◌, ℕ, zero, suc, ◌<◌, false, List, [], ◌∷◌, refl, sym, ap, subst, ◌∙◌, arith}
 use Rattle.std.proofs.Common.{true≢false, ⊎_elim, Contains, Some, None, slice_get}
+use Rattle.std.specs.List.{AllByRecursion}
+use Rattle.std.proofs.lemmas.List.Elements.{All-contains, All-from_recursion}
 use Rattle.audit_terms.specs.declared.findings.Finding.{Finding}
 use Rattle.audit_terms.specs.Finding.{stops, in_order}
 use Rattle.stop_desk.specs.code.Board.{Job, StopsAt, IsCut, IsPartOf}
@@ -28,8 +30,10 @@ abbrev the_place : List (ℕ × ℕ)
 the_place = (0, (error 7 3).place) ∷ []
 
 -- no stop among these
-none_stops : (x : Finding) (place : ℕ) → stops x ≡ false → StopsAt (x ∷ []) place → ⊥
-none_stops x place f (found, among, s, at) = true≢false (sym s ∙ ap stops (sym (contains-one x found among)) ∙ f)
+none_stops : (xs : List Finding) (place : ℕ) → AllByRecursion (λ (x : Finding). stops x ≡ false) xs → StopsAt xs place → ⊥
+none_stops xs place none (found, among, s, at) =
+    let all = All-from_recursion (λ (x : Finding). stops x ≡ false) xs none in
+    true≢false (sym s ∙ All-contains (λ (x : Finding). stops x ≡ false) xs found all among)
 
 -- the place of the error, whichever name it has
 among-one : (place : ℕ) → (error 7 3).place ≡ place → Contains the_place (0, place)
@@ -47,7 +51,7 @@ part_0 = record {
         let p = ap (λ (x : Finding). x.place) (contains-one (overrun 9 1) found h) in omega arith;
   };
   upto_seen = λ place e. among-one place cc;
-  stops_lowered = λ place h. absurd (none_stops (overrun 6 1) place refl h);
+  stops_lowered = λ place h. absurd (none_stops (overrun 6 1 ∷ []) place (refl, tt) h);
 }
 
 -- of job 1 all is kept, and the error was lowered
@@ -58,7 +62,7 @@ part_1 = record {
   upto_seen = λ place e. cc;
   stops_lowered = λ place h. ⊎_elim
       (λ e. among-one place (ap (λ (x : Finding). x.place) e ∙ h.3))
-      (λ k. absurd (none_stops (overrun 8 3) place refl (h.0, k, h.2, h.3)))
+      (λ k. absurd (none_stops (overrun 8 3 ∷ []) place (refl, tt) (h.0, k, h.2, h.3)))
       (contains-cases (error 7 3) (overrun 8 3 ∷ []) h.0 h.1);
 }
 
@@ -68,7 +72,7 @@ part_2 = record {
   of_connection = refl;
   cut = whole_is_cut_lem (overrun 10 1 ∷ []) None refl;
   upto_seen = λ place e. cc;
-  stops_lowered = λ place h. absurd (none_stops (overrun 10 1) place refl h);
+  stops_lowered = λ place h. absurd (none_stops (overrun 10 1 ∷ []) place (refl, tt) h);
 }
 
 -- the error of job 1
@@ -108,15 +112,10 @@ pub two_workers_finish : TwoWorkersFinish
 two_workers_finish = record { allowed = allowed; finished = finished; left = refl }
 
 connections : HasConnections example
-connections j h = ⊎_elim
-    (λ e. of_job job_0 e (omega arith))
-    (λ k. ⊎_elim
-    (λ e. of_job job_1 e (omega arith))
-    (λ l. of_job job_2 (contains-one job_2 j l) (omega arith))
-    (contains-cases job_1 (job_2 ∷ []) j k))
-    (contains-cases job_0 (job_1 ∷ job_2 ∷ []) j h) where
-      of_job : (k : Job) → k ≡ j → k.connection < 2 → j.connection < 2
-      of_job k e l = subst (λ (x : Job). x.connection < 2) e l
+connections j h =
+    let small = λ (k : Job). k.connection < 2 in
+    All-contains small example.jobs j (All-from_recursion small example.jobs
+    (pair (omega arith) (pair (omega arith) (pair (omega arith) tt)))) h
 
 pub two_workers_settle : TwoWorkersSettle
 two_workers_settle = run_settles_lem example connections example_events allowed finished
@@ -149,18 +148,11 @@ skipped j same cut =
 pub all_skipped : AllSkipped
 all_skipped (drawn, (drawn', (lowered, (seen, ((j, at_work, is, right), rest))))) = skipped j (cc) right.cut
 
--- nothing of job 0 stops
-no_stop : (place : ℕ) → StopsAt job_0.findings place → ⊥
-no_stop place h = ⊎_elim
-    (λ e. true≢false (sym h.2 ∙ ap stops (sym e)))
-    (λ k. none_stops (overrun 9 1) place refl (h.0, k, h.2, h.3))
-    (contains-cases (overrun 6 1) (overrun 9 1 ∷ []) h.0 h.1)
-
 lowered-wrong : (number : ℕ) (j : Job) → 0 ≡ number → slice_get example.jobs number ≡ Some j →
     StopsAt j.findings (overrun 6 1).place → ⊥
 lowered-wrong zero j e got h =
     let same : job_0 ≡ j = cc in
-    no_stop (overrun 6 1).place (subst (λ (k : Job). StopsAt k.findings (overrun 6 1).place) (sym same) h)
+    none_stops job_0.findings (overrun 6 1).place (pair refl (pair refl tt)) (subst (λ (k : Job). StopsAt k.findings (overrun 6 1).place) (sym same) h)
 lowered-wrong (suc number) j e got h = absurd (omega arith)
 
 pub overrun_lowered : OverrunLowered

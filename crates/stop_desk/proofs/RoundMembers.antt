@@ -1,13 +1,15 @@
 -- Membership in lists, in what one worker or all did, and in lists put in order.
-use Rattle.std.proofs.Common.{◌≡◌, ℕ, zero, suc, Bool, true, false, List, [], ◌∷◌, refl, sym, ap, subst, ◌∙◌}
+use Rattle.std.proofs.Common.{◌≡◌, ℕ, zero, suc, Bool, true, false, List, [], ◌∷◌, refl, sym, ap, subst, ◌∙◌, ◌++◌}
 use Rattle.std.proofs.Common.{arith, ◌⊎◌, inl, inr, ⊎_elim, Contains, Some, slice_get, eq-eqb, true≢false}
-use Rattle.std.proofs.Common.{if◌then◌else◌, ◌==◌, ◌+◌, ◌<◌, flat_map, map, count_by}
+use Rattle.std.proofs.Common.{if◌then◌else◌, ◌==◌, ◌+◌, ◌<◌, flat_map, map, filter, not, count_by}
+use Rattle.std.proofs.lemmas.Bool.{not-true}
 use Rattle.std.specs.List.Sorted.{IsPermutation}
 use Rattle.std.proofs.lemmas.List.Elements.{Contains-append_left, Contains-append_right, Contains-append_cases}
 use Rattle.std.proofs.lemmas.List.Sums.{sum_by-cons}
 use Rattle.std.proofs.lemmas.List.Sorted.{IsPermutation-refl, IsPermutation-sym, IsPermutation-cons}
 use Rattle.std.proofs.lemmas.List.Sorted.{IsPermutation-trans, IsPermutation-to_front, IsPermutation-append_left}
-use Rattle.std.proofs.lemmas.List.Sorted.{Contains-permutation}
+use Rattle.std.proofs.lemmas.List.Elements.{All-contains, All-contains_itself, All-filter, filter_passes}
+use Rattle.std.proofs.lemmas.List.Sorted.{Contains-permutation, IsPermutation-filter_both}
 use Rattle.audit_terms.specs.declared.findings.Finding.{Finding}
 use Rattle.audit_terms.specs.Finding.{comes_after, in_order}
 use Rattle.audit_terms.specs.Order.{put_by}
@@ -135,6 +137,27 @@ module _ {X : Type 0} (test : X → Bool) where
       (λ same. let c = count-true y ys (ap test same ∙ t) in omega arith)
       (λ k. let c = count-cons y ys in let r = some-count ys x k t in omega arith)
       (contains-cases y ys x h)
+
+-- what passes a test, and no other
+pub contains-filter : {X : Type 0} (test : X → Bool) (xs : List X) (x : X) → Contains xs x → test x ≡ true →
+    Contains (filter test xs) x
+contains-filter {X} test xs x h t =
+    let fails = λ (y : X). not (test y) in ⊎_elim
+    (λ k. k)
+    (λ k.
+    let f = not-true (test x) (All-contains (λ (y : X). fails y ≡ true) (filter fails xs) x
+    (filter_passes fails xs) k) in
+    absurd (true≢false (sym t ∙ f)))
+    (Contains-append_cases (filter test xs) (filter fails xs) x
+    (Contains-permutation xs (filter test xs ++ filter fails xs) x
+    (IsPermutation-filter_both test fails (λ y. refl) xs) h))
+
+pub filter-contains : {X : Type 0} (test : X → Bool) (xs : List X) (x : X) → Contains (filter test xs) x →
+    Contains xs x × (test x ≡ true)
+filter-contains {X} test xs x h = (
+  All-contains (Contains xs) (filter test xs) x (All-filter test (Contains xs) xs (All-contains_itself xs)) h,
+  All-contains (λ (y : X). test y ≡ true) (filter test xs) x (filter_passes test xs) h,
+)
 
 -- putting in order keeps the elements
 put-moves : (x : Finding) (ys : List Finding) → IsPermutation (x ∷ ys) (put_by comes_after x ys)

@@ -21,7 +21,7 @@ use Rattle.stop_desk.specs.laws.Rounds.{Merges, BoardMerges}
 use Rattle.stop_desk.proofs.RoundMembers.{contains-none, contains-here, contains-later, contains-cases}
 use Rattle.stop_desk.proofs.RoundMembers.{contains-flat_map, flat_map-contains, contains-in_order, in_order-contains}
 use Rattle.stop_desk.proofs.RoundParts.{IsWholeWith, whole-parts, of_part, of_job}
-use Rattle.stop_desk.proofs.RoundSteps.{least-holds}
+use Rattle.stop_desk.proofs.RoundSteps.{least-holds, least-moves}
 
 -- what stands at a later place comes after
 later-first : (a b : Ordering) → a ≡ Greater → is_gt (ordering_then a b) ≡ true
@@ -183,43 +183,19 @@ module _ (round : Round) (board : Board) (settled : IsSettled round board) (conn
       let (least, lower, is) = given first there in
       (least, omega arith, is)
 
-  -- the board's stop is the least error of all
-  stop_least : (stop : Option ℕ) → IsLeast (IsGiven round board.lowered connection) stop →
-      IsLeast (StopsAt (earlier ++ whole)) stop
-  stop_least None h = λ place k. let g = given_before place k in h g.0 g.2
-  stop_least (Some least) h = (
-    real least h.0,
-    λ place k. let (first, low, is) = given_before place k in let a = h.1 first is in omega arith,
-  )
-
-  -- what is kept is found
-  found_kept : (place : ℕ) → StopsAt (earlier ++ kept) place → StopsAt (earlier ++ whole) place
-  found_kept place h = ⊎_elim
-      (stops-left earlier whole place)
-      (λ k. stops-right earlier whole place (
-        k.0,
-        in_order-contains whole k.0 (subst (λ xs. Contains xs k.0) parts.together
-            (contains-in_order (kept ++ parts.left_out) k.0 (Contains-append_left kept parts.left_out k.0 k.1))),
-        k.2,
-        k.3,
-      ))
-      (stops-cases earlier kept place h)
-
-  -- and of what was kept
-  kept_least : (stop : Option ℕ) → IsLeast (StopsAt (earlier ++ whole)) stop → IsLeast (StopsAt (earlier ++ kept)) stop
-  kept_least None h = λ place k. h place (found_kept place k)
-  kept_least (Some least) h = (
-    let (first, low, there) = before least h.0 in
-        let l = h.1 first (found_kept first there) in
-        let same : first ≡ least = omega arith in
-        subst (StopsAt (earlier ++ kept)) same there,
-    λ place k. h.1 place (found_kept place k),
-  )
-
+  -- so the board's stop is the least error of all, and of what was kept
   merges : Merges round board connection earlier
   merges =
-      let least = stop_least (stop_of board.stops connection) (settled.stops_least connection) in
-      record { findings = merged; stop = least; kept_stop = kept_least (stop_of board.stops connection) least }
+      let is = settled.stops_least connection in
+      let stop = stop_of board.stops connection in record {
+        findings = merged;
+        stop =
+            least-moves (IsGiven round board.lowered connection) (StopsAt (earlier ++ whole)) stop
+            (λ place g. (place, omega arith, real place g)) given_before is;
+        kept_stop =
+            least-moves (IsGiven round board.lowered connection) (StopsAt (earlier ++ kept)) stop
+            (λ place g. before place (real place g)) given is;
+      }
 
 pub board_merges_lem : BoardMerges
 board_merges_lem round board settled connection earlier opening = merges round board settled connection earlier opening

@@ -162,10 +162,18 @@ least-lesser Holds Holds' (Some stop) place more here back h = (
   λ q k. ⊎_elim (λ e. omega arith) (λ l. let least = h.1 q l in omega arith) (back q k),
 )
 
-least-alike : (Holds Holds' : ℕ → Type 0) (stop : Option ℕ) → ((q : ℕ) → Holds q → Holds' q) →
-    ((q : ℕ) → Holds' q → Holds q) → IsLeast Holds stop → IsLeast Holds' stop
-least-alike Holds Holds' None to from h = λ q k. h q (from q k)
-least-alike Holds Holds' (Some least) to from h = (to least h.0, λ q k. h.1 q (from q k))
+-- the least of some places is that of others, where at or before each of the ones there is one of the others
+pub least-moves : (Holds Holds' : ℕ → Type 0) (stop : Option ℕ) →
+    ((q : ℕ) → Holds q → (least : ℕ) × (least ≤ q) × Holds' least) →
+    ((q : ℕ) → Holds' q → (least : ℕ) × (least ≤ q) × Holds least) → IsLeast Holds stop → IsLeast Holds' stop
+least-moves Holds Holds' None to from h = λ q k. let f = from q k in h f.0 f.2
+least-moves Holds Holds' (Some least) to from h =
+    let above : (q : ℕ) → Holds' q → least ≤ q = λ q k.
+    let (first, low, is) = from q k in let l = h.1 first is in omega arith in
+    let (first, low, is) = to least h.0 in
+    let l = above first is in
+    let same : first ≡ least = omega arith in
+    (subst Holds' same is, above)
 
 -- a stop is lowered
 module _ (round : Round) (state : RoundState) (worker connection place : ℕ) (real : JobStopsAt round connection place)
@@ -206,8 +214,9 @@ module _ (round : Round) (state : RoundState) (worker connection place : ℕ) (r
       (λ other.
       let is : stop_of stops_now c ≡ stop_of state.stops c
       = get_or-set_other state.stops connection c _ None (λ e. other (sym e)) in
-      rw is (least-alike (IsGiven round before c) (IsGiven round now c) (stop_of state.stops c) (given_more c)
-      (λ q k. ⊎_elim (λ new. absurd (other new.0)) (λ old. old) (given_cases c q k))
+      rw is (least-moves (IsGiven round before c) (IsGiven round now c) (stop_of state.stops c)
+      (λ q k. (q, omega arith, given_more c q k))
+      (λ q k. ⊎_elim (λ new. absurd (other new.0)) (λ old. (q, omega arith, old)) (given_cases c q k))
       (h.places.stops_right c)))
 
   lower-kept : IsKept round (after_event state (Lower worker connection place))

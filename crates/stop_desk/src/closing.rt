@@ -40,7 +40,7 @@ impl Closed {
     }
 
     /// The stop of a connection: the least of its opening stop and of the places lowered for it.
-    #[tactic(auto, using(crate::proofs::Names::word_at))]
+    #[tactic(auto, using(crate::proofs::PassViews::word_at))]
     pub fn stop(&self, connection: usize) -> Option<Place>
         requires { IsConnection self.now.desk connection }
         ensures { result ≡ final_stop self.now connection }

@@ -1,7 +1,7 @@
 use Rattle.std.proofs.Common.{length, sym, ap, ◌∙◌}
 use Rattle.std.specs.Slots.{slots_items}
 use Rattle.stop_desk.specs.code.Desk.{ClosedView}
-use Rattle.stop_desk.proofs.Names.{word_at}
+use Rattle.stop_desk.proofs.PassViews.{word_at}
 use Rattle.stop_desk.proofs.closing.Closed.drawn.Goals as goal
 
 pub returns : goal.returns

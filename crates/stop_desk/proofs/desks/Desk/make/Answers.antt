@@ -1,7 +1,7 @@
 use Rattle.std.proofs.Common.{ℕ, List, map, drop, ap, ◌∙◌}
 use Rattle.stop_desk.specs.declared.rule.Opening.{Opening}
 use Rattle.stop_desk.specs.code.Stop.{place_at}
-use Rattle.stop_desk.proofs.Names.{stops-of_words}
+use Rattle.stop_desk.proofs.PassViews.{stops-of_words}
 use Rattle.stop_desk.proofs.desks.Desk.make.Goals as goal
 
 pub returns-clause-stops : goal.returns-clause-stops
