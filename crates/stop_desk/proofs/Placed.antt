@@ -85,12 +85,15 @@ module _ {M : Type 0} where
       let other = count-cons (has number n) part parts in
       omega arith
 
+  abbrev AreSettled : List Job → (opening : List (Option ℕ)) → List (Part M) → (seen lowered : List (ℕ × ℕ))
+      → (stops : List (Option ℕ)) → Type 0
+  AreSettled jobs opening parts seen lowered stops =
+      IsSettled (record { jobs = jobs; opening_stops = opening }) (board_with (map part_of parts) seen lowered stops)
+
   module _ (jobs : List Job) (opening : List (Option ℕ)) (parts sorted : List (Part M)) (seen lowered : List (ℕ × ℕ))
       (stops : List (Option ℕ)) (same : IsPermutation parts sorted)
-      (board : IsSettled (record { jobs = jobs; opening_stops = opening })
-      (board_with (map part_of parts) seen lowered stops)) where
-    board-sorted : IsSettled (record { jobs = jobs; opening_stops = opening })
-        (board_with (map part_of sorted) seen lowered stops)
+      (board : AreSettled jobs opening parts seen lowered stops) where
+    board-sorted : AreSettled jobs opening sorted seen lowered stops
     board-sorted =
         let moved = IsPermutation-map part_of parts sorted same in record {
           one_part_each = λ job lt.
@@ -148,8 +151,8 @@ module _ {M : Type 0} (makes : ℕ → Option ℕ → M → Type 0) (jobs : List
   has-settled opening settled opened same rise stops_are =
       let sorted = settled.parts.items in
       let stops = settled.stops.items in
-      let board = subst (λ (os : List (Option ℕ)). IsSettled (record { jobs = jobs; opening_stops = os })
-      (board_with (map part_of parts) closed.seen closed.lowered stops)) opened (rw stops_are done.board) in
+      let board = subst (λ (os : List (Option ℕ)). AreSettled jobs os parts closed.seen closed.lowered stops) opened
+      (rw stops_are done.board) in
       let run = runs jobs opening parts sorted closed.seen closed.lowered stops same board rise in record {
         seen = closed.seen;
         lowered = closed.lowered;

@@ -158,3 +158,7 @@ lowered-wrong (suc number) j e got h = absurd (omega arith)
 pub overrun_lowered : OverrunLowered
 overrun_lowered (drawn, ((number, j, at_work, got, of_it, stopping), rest)) =
     lowered-wrong number j (ap (λ (x : ℕ × ℕ). x.1) (contains-one (pair 0 0) (pair 0 number) at_work.0)) got stopping
+
+pub ruleset two_workers = (two_workers_finish, two_workers_settle)
+
+pub ruleset refused = (drawn_twice, look_invents, cut_unseen, all_skipped, overrun_lowered, error_not_lowered)

@@ -36,6 +36,16 @@ pub contains-cases : {X : Type 0} (y : X) (xs : List X) (x : X) → Contains (y 
 contains-cases y xs x (zero, l, e) = inl e
 contains-cases y xs x (suc k, l, e) = inr (k, omega arith, e)
 
+-- what holds of the first element and of the others holds of each; and so of pairs
+pub contains-each : {X : Type 0} (y : X) (xs : List X) (P : X → Type 0) → P y → ((x : X) → Contains xs x → P x) →
+    (x : X) → Contains (y ∷ xs) x → P x
+contains-each y xs P here later x h = ⊎_elim (λ same. subst P same here) (later x) (contains-cases y xs x h)
+
+pub contains-pair : {X Y : Type 0} (a : X) (b : Y) (xs : List (X × Y)) (P : X → Y → Type 0) → P a b →
+    ((x : X) (y : Y) → Contains xs (x, y) → P x y) → (x : X) (y : Y) → Contains ((a, b) ∷ xs) (x, y) → P x y
+contains-pair {X} {Y} a b xs P here later x y h =
+    contains-each (a, b) xs (λ (z : X × Y). P z.0 z.1) here (λ z k. later z.0 z.1 k) (x, y) h
+
 pub contains-one : {X : Type 0} (x y : X) → Contains (x ∷ []) y → x ≡ y
 contains-one x y h = ⊎_elim (λ e. e) (λ k. absurd (contains-none y k)) (contains-cases x [] y h)
 

@@ -19,6 +19,7 @@ use Rattle.stop_desk.specs.code.Board.{Round, Part, Board, stop_of, StopsAt, IsL
 use Rattle.stop_desk.specs.code.Board.{IsSettled, parts_of, findings_of_jobs, findings_of_parts}
 use Rattle.stop_desk.specs.laws.Rounds.{Merges, BoardMerges}
 use Rattle.stop_desk.proofs.RoundMembers.{contains-none, contains-here, contains-later, contains-cases}
+use Rattle.stop_desk.proofs.RoundMembers.{contains-each}
 use Rattle.stop_desk.proofs.RoundMembers.{contains-flat_map, flat_map-contains, contains-in_order, in_order-contains}
 use Rattle.stop_desk.proofs.RoundParts.{IsWholeWith, whole-parts, of_part, of_job}
 use Rattle.stop_desk.proofs.RoundSteps.{least-holds, least-moves}
@@ -38,10 +39,8 @@ after-place x y l =
 after-none : (x : Finding) (ys : List Finding) (y : Finding) → NoneBefore comes_after comes_after_is x ys →
     Contains ys y → comes_after x y ≡ false
 after-none x [] y o h = absurd (contains-none y h)
-after-none x (z ∷ ys) y o h = ⊎_elim
-    (λ e. subst (λ u. comes_after x u ≡ false) e o.0)
-    (after-none x ys y o.1)
-    (contains-cases z ys y h)
+after-none x (z ∷ ys) y o h =
+    contains-each z ys (λ u. comes_after x u ≡ false) o.0 (λ u k. after-none x ys u o.1 k) y h
 
 -- what comes after a finding that stops is cut
 cut-put : (x y : Finding) (zs : List Finding) → IsInOrder comes_after comes_after_is zs → Contains zs y →

@@ -1,5 +1,5 @@
 -- What the machine of workers keeps true after each event, from which a finished run is settled.
-use Rattle.std.proofs.Common.{◌≡◌, ℕ, ◌<◌, ◌≤◌, min, List, [], ◌∷◌, length, refl, sym, ap}
+use Rattle.std.proofs.Common.{◌≡◌, ℕ, ◌<◌, ◌≤◌, min, List, [], ◌∷◌, length, refl, sym, ap, ◌+◌}
 use Rattle.std.proofs.Common.{subst, ◌∙◌, arith, ◌⊎◌, inl, inr, ⊎_elim, Contains, Option, Some, None, slice_get}
 use Rattle.std.proofs.Common.{slice_set, eqb-true, eq-eqb, ne_eqb, ◌==◌, length-set, get_or-set_same, get_or-set_other}
 use Rattle.std.proofs.lemmas.Bool.{cases_lt}
@@ -9,7 +9,7 @@ use Rattle.stop_desk.specs.code.Board.{Job, Round, Part, stop_of, IsLeast, IsPar
 use Rattle.stop_desk.specs.laws.Machine.{RoundState, Event, Draw, Look, Lower, Finish, by_worker, by_all, round_start}
 use Rattle.stop_desk.specs.laws.Machine.{IsAtWork, IsAllowed, lesser, after_event, after_events, AreAllowed}
 use Rattle.stop_desk.specs.laws.Rounds.{HasConnections, RunSettles}
-use Rattle.stop_desk.proofs.RoundMembers.{pair, contains-none, contains-here, contains-later, contains-cases}
+use Rattle.stop_desk.proofs.RoundMembers.{contains-none, contains-here, contains-later, contains-each, contains-pair}
 use Rattle.stop_desk.proofs.RoundMembers.{own-all, contains-own, map-contains, count-true, count-false, count-some}
 use Rattle.stop_desk.proofs.RoundMembers.{some-count, contains-got}
 
@@ -93,29 +93,25 @@ draw-kept : (round : Round) (state : RoundState) (worker number : ℕ) → numbe
     IsKept round (after_event state (Draw worker number))
 draw-kept round state worker number e h = record {
   draws = record {
-    below = λ w n k. ⊎_elim
-        (λ same. let is = ap (λ (x : ℕ × ℕ). x.1) same in omega arith)
-        (λ l. let is = h.draws.below w n l in omega arith)
-        (cases w n k);
-    by_one = λ v w n j k. ⊎_elim
-        (λ p. ⊎_elim
-        (λ q. ap (λ (x : ℕ × ℕ). x.0) (sym p ∙ q))
-        (λ l. let is = ap (λ (x : ℕ × ℕ). x.1) p in let low = h.draws.below w n l in absurd (omega arith))
-        (cases w n k))
-        (λ l. ⊎_elim
-        (λ q. let is = ap (λ (x : ℕ × ℕ). x.1) q in let low = h.draws.below v n l in absurd (omega arith))
-        (h.draws.by_one v w n l)
-        (cases w n k))
-        (cases v n j);
+    below = contains-pair worker number state.drawn (λ w n. n < state.next + 1) (omega arith)
+        (λ w n k. let low = h.draws.below w n k in omega arith);
+    by_one = λ v w n j k.
+        contains-pair worker number state.drawn (λ v n. Contains ((worker, number) ∷ state.drawn) (w, n) → v ≡ w)
+        (λ l. drawn_last w number l refl)
+        (λ v n old l. contains-pair worker number state.drawn (λ w n. Contains state.drawn (v, n) → v ≡ w)
+        (λ m. let low = h.draws.below v number m in absurd (omega arith))
+        (λ w n l m. h.draws.by_one v w n m l) w n l old)
+        v n j k;
     parts_drawn = λ w part k. contains-later (worker, number) state.drawn (w, part.job) (h.draws.parts_drawn w part k);
     parts_once = h.draws.parts_once;
   };
   parts = h.parts;
   places = h.places;
 } where
-  cases : (w n : ℕ) → Contains ((worker, number) ∷ state.drawn) (w, n) →
-      (pair worker number ≡ (w, n)) ⊎ Contains state.drawn (w, n)
-  cases w n k = contains-cases (worker, number) state.drawn (w, n) k
+  -- the new number was drawn by this worker alone
+  drawn_last : (w n : ℕ) → Contains ((worker, number) ∷ state.drawn) (w, n) → number ≡ n → worker ≡ w
+  drawn_last = contains-pair worker number state.drawn (λ w n. number ≡ n → worker ≡ w) (λ same. refl)
+      (λ w n k same. let low = h.draws.below w n k in absurd (omega arith))
 
 -- a least place is one of those
 pub least-holds : (Holds : ℕ → Type 0) (stop : Option ℕ) (place : ℕ) → stop ≡ Some place → IsLeast Holds stop →
@@ -137,12 +133,10 @@ look-kept round state worker connection (Some place) e h =
           (grows connection place seen) (λ c q l. l) (h.parts part k);
       places = record {
         lowered_right = h.places.lowered_right;
-        seen_right = λ c q k. ⊎_elim
-            (λ same. subst (λ (x : ℕ × ℕ). IsGiven round lowered x.0 x.1) same
+        seen_right = contains-pair connection place seen (IsGiven round lowered)
             (least-holds (IsGiven round lowered connection) (stop_of state.stops connection) place (sym e)
-            (h.places.stops_right connection)))
-            (h.places.seen_right c q)
-            (contains-cases (connection, place) seen (c, q) k);
+            (h.places.stops_right connection))
+            h.places.seen_right;
         stops_right = h.places.stops_right;
         wide = h.places.wide;
       };
@@ -193,10 +187,8 @@ module _ (round : Round) (state : RoundState) (worker connection place : ℕ) (r
   given_cases : (c q : ℕ) → IsGiven round now c q → ((connection ≡ c) × (place ≡ q)) ⊎ IsGiven round before c q
   given_cases c q given = ⊎_elim
       (λ e. inr (inl e))
-      (λ k. ⊎_elim
-      (λ same. inl (ap (λ (x : ℕ × ℕ). x.0) same, ap (λ (x : ℕ × ℕ). x.1) same))
-      (λ l. inr (inr l))
-      (contains-cases (connection, place) before (c, q) k))
+      (contains-pair connection place before (λ c q. ((connection ≡ c) × (place ≡ q)) ⊎ IsGiven round before c q)
+      (inl (refl, refl)) (λ c q l. inr (inr l)) c q)
       given
 
   stops_least : (c : ℕ) → IsLeast (IsGiven round now c) (stop_of stops_now c)
@@ -226,10 +218,7 @@ module _ (round : Round) (state : RoundState) (worker connection place : ℕ) (r
         right-grows round (by_all state.seen) before (by_all state.seen) now part (λ c q l. l)
         (grows connection place before) (h.parts part k);
     places = record {
-      lowered_right = λ c q k. ⊎_elim
-          (λ same. subst (λ (x : ℕ × ℕ). JobStopsAt round x.0 x.1) same real)
-          (h.places.lowered_right c q)
-          (contains-cases (connection, place) before (c, q) k);
+      lowered_right = contains-pair connection place before (JobStopsAt round) real h.places.lowered_right;
       seen_right = λ c q k. given_more c q (h.places.seen_right c q k);
       stops_right = stops_least;
       wide = length-set state.stops connection _ ∙ h.places.wide;
@@ -269,27 +258,20 @@ module _ (round : Round) (state : RoundState) (worker : ℕ) (part : Part) (job 
       let c = count-false (λ (p : Part). p.job == number) part (by_all state.parts) (ne_eqb part.job number other) in
       omega arith)
 
-  abbrev IsRightNow : Part → Type 0
-  IsRightNow p = IsRight round (by_all state.seen) (by_all state.lowered) p
-
   finish-kept : IsKept round (after_event state (Finish worker part))
   finish-kept = record {
     draws = record {
       below = h.draws.below;
       by_one = h.draws.by_one;
-      parts_drawn = λ w p k. ⊎_elim
-          (λ same. subst (λ (x : ℕ × Part). Contains state.drawn (x.0, x.1.job)) same work.0)
-          (h.draws.parts_drawn w p)
-          (contains-cases (worker, part) state.parts (w, p) k);
+      parts_drawn = contains-pair worker part state.parts (λ w p. Contains state.drawn (w, p.job)) work.0
+          h.draws.parts_drawn;
       parts_once = once;
     };
-    parts = λ p k. ⊎_elim
-        (λ same. subst IsRightNow same (right-grows round (by_worker worker state.seen)
-        (by_worker worker state.lowered) (by_all state.seen) (by_all state.lowered) part
-        (λ c q. own-all worker state.seen (c, q)) (λ c q. own-all worker state.lowered (c, q))
-        (job, is_job, is_part)))
-        (h.parts p)
-        (contains-cases part (by_all state.parts) p k);
+    parts = contains-each part (by_all state.parts) (IsRight round (by_all state.seen) (by_all state.lowered))
+        (right-grows round (by_worker worker state.seen) (by_worker worker state.lowered) (by_all state.seen)
+        (by_all state.lowered) part (λ c q. own-all worker state.seen (c, q))
+        (λ c q. own-all worker state.lowered (c, q)) (job, is_job, is_part))
+        h.parts;
     places = h.places;
   }
 

@@ -21,92 +21,62 @@ use Rattle.stop_desk.specs.declared.rule.Opening.{Opening}
 use Rattle.stop_desk.specs.code.Plays.{PassState, drawn_by, Sees, seen_by, Lowers, lowered_by, learned_by, kept_part}
 use Rattle.stop_desk.specs.code.Plays.{given_part, joined, spent}
 
--- draws are kept where word 0 and the sums are
-pub dealt-kept : (whole : ℕ) (words words' : List ℕ) (views views' : List Knows)
-    → length words' ≡ length words → get_or words' 0 0 ≡ get_or words 0 0
-    → weigh allowance_in views' ≡ weigh allowance_in views → weigh draws_in views' ≡ weigh draws_in views
-    → ((x : ℕ) → weigh (drawn_in x) views' ≡ weigh (drawn_in x) views)
-    → Dealt whole words views → Dealt whole words' views'
-dealt-kept whole words words' views views' wide same allowances draws drawn d = record {
-  in_word = d.in_word;
-  some_word = let h = d.some_word in omega arith;
-  whole_is = let h = d.whole_is in omega arith;
-  lengths = let h = d.lengths in omega arith;
-  each_once = λ x. drawn x ∙ d.each_once x ∙ ap (once_below x) (sym same);
-}
+-- a step from the words and views of a state to others
+module _ (o : Opening) (s : State (Unit {0}) Knows) (h : Holds o s) (words : List ℕ) (views : List Knows)
+    (long : length words ≡ length s.words) where
+  -- draws are kept where word 0 and the sums are
+  dealt-kept : get_or words 0 0 ≡ get_or s.words 0 0 → weigh allowance_in views ≡ weigh allowance_in s.views
+      → weigh draws_in views ≡ weigh draws_in s.views
+      → ((x : ℕ) → weigh (drawn_in x) views ≡ weigh (drawn_in x) s.views) → Dealt o.whole words views
+  dealt-kept same allowances draws drawn = record {
+    in_word = h.0.in_word;
+    some_word = let d = h.0.some_word in omega arith;
+    whole_is = let d = h.0.whole_is in omega arith;
+    lengths = let d = h.0.lengths in omega arith;
+    each_once = λ x. drawn x ∙ h.0.each_once x ∙ ap (once_below x) (sym same);
+  }
 
--- one more draw
-pub dealt-more : (whole : ℕ) (words words' : List ℕ) (views : List Knows) (id : ℕ) (v w : Knows)
-    → get_elem? views id ≡ some v
-    → length words' ≡ length words → get_or words' 0 0 ≡ get_or words 0 0 + 1
-    → v.allowance ≡ w.allowance + 1 → w.drawn ≡ v.drawn ++ get_or words 0 0 ∷ []
-    → Dealt whole words views → Dealt whole words' (set views id w)
-dealt-more whole words words' views id v w at wide next paid more d =
-    let n : ℕ = get_or words 0 0 in
-    let longer : length w.drawn ≡ length v.drawn + 1 = ap length more ∙ length-append v.drawn (n ∷ []) in
-    record {
-      in_word = d.in_word;
-      some_word = let h = d.some_word in omega arith;
-      whole_is = let h = d.whole_is in let sum = weigh-set allowance_in views id v w at in omega arith;
-      lengths = let h = d.lengths in let sum = weigh-set draws_in views id v w at in omega arith;
-      each_once = λ x.
-          let h = d.each_once x in
-          let sum = weigh-set (drawn_in x) views id v w at in
-          let one : times x w.drawn ≡ times x v.drawn + is_number x n = ap (times x) more
-          ∙ weigh-snoc (is_number x) v.drawn n in
-          let once = once_below-next x n in
-          let all : weigh (drawn_in x) (set views id w) ≡ once_below x (n + 1) = omega arith in
-          all ∙ ap (once_below x) (sym next);
-    }
+  -- what was given is given still
+  given-more : ((c p : ℕ) → 0 < weigh (lowered_in c p) s.views → 0 < weigh (lowered_in c p) views) → (c p : ℕ)
+      → IsGiven o.words.items s.views c p → IsGiven o.words.items views c p
+  given-more more c p given = ⊎_elim (λ is. inl is) (λ low. inr (more c p low)) given
 
-pub given-more : (opened : List ℕ) (views views' : List Knows) (c p : ℕ)
-    → (0 < weigh (lowered_in c p) views → 0 < weigh (lowered_in c p) views')
-    → IsGiven opened views c p → IsGiven opened views' c p
-given-more opened views views' c p more given = ⊎_elim (λ is. inl is) (λ low. inr (more low)) given
+  -- stops are kept where words only fall, to what was lowered, and what is lowered or seen anew fits
+  stops-step : ((c : ℕ) → get_or words (c + 1) 0 ≤ get_or s.words (c + 1) 0)
+      → ((c p : ℕ) → 0 < weigh (lowered_in c p) s.views → 0 < weigh (lowered_in c p) views)
+      → ((c p : ℕ) → 0 < weigh (lowered_in c p) views
+      → (0 < weigh (lowered_in c p) s.views) ⊎ ((get_or words (c + 1) 0 ≤ p) × (p < past_places)))
+      → ((c p : ℕ) → 0 < weigh (seen_in c p) views → (0 < weigh (seen_in c p) s.views)
+      ⊎ ((get_or words (c + 1) 0 ≤ p) × (p < past_places) × IsGiven o.words.items views c p))
+      → ((c : ℕ) → (get_or words (c + 1) 0 ≡ get_or s.words (c + 1) 0)
+      ⊎ (0 < weigh (lowered_in c (get_or words (c + 1) 0)) views))
+      → Stops o.words.items words views
+  stops-step falls more lowered seen reached = record {
+    wide = long ∙ h.1.wide;
+    below_opening = λ c. let d = h.1.below_opening c in let low = falls c in omega arith;
+    below_lowered = λ c p there. ⊎_elim
+        (λ old. let d = h.1.below_lowered c p old in let low = falls c in (omega arith, d.1))
+        (λ new. new)
+        (lowered c p there);
+    below_seen = λ c p there. ⊎_elim
+        (λ old.
+        let d = h.1.below_seen c p old in let low = falls c in (omega arith, d.1, given-more more c p d.2))
+        (λ new. new)
+        (seen c p there);
+    reached = λ c. ⊎_elim
+        (λ same. rw same (given-more more c (get_or s.words (c + 1) 0) (h.1.reached c)))
+        (λ low. inr low)
+        (reached c);
+  }
 
--- stops are kept where words only fall, to what was lowered, and what is lowered or seen anew fits
-pub stops-step : (opened words words' : List ℕ) (views views' : List Knows)
-    → length words' ≡ length words
-    → ((c : ℕ) → get_or words' (c + 1) 0 ≤ get_or words (c + 1) 0)
-    → ((c p : ℕ) → 0 < weigh (lowered_in c p) views → 0 < weigh (lowered_in c p) views')
-    → ((c p : ℕ) → 0 < weigh (lowered_in c p) views'
-    → (0 < weigh (lowered_in c p) views) ⊎ ((get_or words' (c + 1) 0 ≤ p) × (p < past_places)))
-    → ((c p : ℕ) → 0 < weigh (seen_in c p) views'
-    → (0 < weigh (seen_in c p) views) ⊎ ((get_or words' (c + 1) 0 ≤ p) × (p < past_places) × IsGiven opened views' c p))
-    → ((c : ℕ) → (get_or words' (c + 1) 0 ≡ get_or words (c + 1) 0)
-    ⊎ (0 < weigh (lowered_in c (get_or words' (c + 1) 0)) views'))
-    → Stops opened words views → Stops opened words' views'
-stops-step opened words words' views views' wide falls more lowered seen reached s = record {
-  wide = wide ∙ s.wide;
-  below_opening = λ c. let h = s.below_opening c in let low = falls c in omega arith;
-  below_lowered = λ c p there. ⊎_elim
-      (λ old. let h = s.below_lowered c p old in let low = falls c in (omega arith, h.1))
-      (λ new. new)
-      (lowered c p there);
-  below_seen = λ c p there. ⊎_elim
-      (λ old. let h = s.below_seen c p old in let low = falls c in
-      (omega arith, h.1, given-more opened views views' c p (more c p) h.2))
-      (λ new. new)
-      (seen c p there);
-  reached = λ c. ⊎_elim
-      (λ same. subst (IsGiven opened views' c) (sym same)
-      (given-more opened views views' c (get_or words (c + 1) 0) (more c (get_or words (c + 1) 0)) (s.reached c)))
-      (λ low. inr low)
-      (reached c);
-}
-
--- stops are kept where the stop words and the sums are
-pub stops-kept : (opened words words' : List ℕ) (views views' : List Knows)
-    → length words' ≡ length words → ((c : ℕ) → get_or words' (c + 1) 0 ≡ get_or words (c + 1) 0)
-    → ((c p : ℕ) → weigh (lowered_in c p) views' ≡ weigh (lowered_in c p) views)
-    → ((c p : ℕ) → weigh (seen_in c p) views' ≡ weigh (seen_in c p) views)
-    → Stops opened words views → Stops opened words' views'
-stops-kept opened words words' views views' wide same lowered seen = stops-step opened words words' views views' wide
-    (λ c. let e = same c in omega arith)
-    (λ c p there. let e = lowered c p in omega arith)
-    (λ c p there. let e = lowered c p in inl (omega arith))
-    (λ c p there. let e = seen c p in inl (omega arith))
-    (λ c. inl (same c))
+  -- stops are kept where the stop words and the sums are
+  stops-kept : ((c : ℕ) → get_or words (c + 1) 0 ≡ get_or s.words (c + 1) 0)
+      → ((c p : ℕ) → weigh (lowered_in c p) views ≡ weigh (lowered_in c p) s.views)
+      → ((c p : ℕ) → weigh (seen_in c p) views ≡ weigh (seen_in c p) s.views) → Stops o.words.items words views
+  stops-kept same lowered seen =
+      stops-step (λ c. let e = same c in omega arith) (λ c p there. let e = lowered c p in omega arith)
+      (λ c p there. let e = lowered c p in inl (omega arith)) (λ c p there. let e = seen c p in inl (omega arith))
+      (λ c. inl (same c))
 
 pub fits-set : (opened : List ℕ) (views : List Knows) (id : ℕ) (w : Knows) → Fits opened w
     → ((j : ℕ) (u : Knows) → get_elem? views j ≡ some u → Fits opened u)
@@ -190,13 +160,25 @@ module _ (o : Opening) (s : State (Unit {0}) Knows) (id : ℕ) (v : Knows) (h : 
       let small = h.0.in_word in
       let some = part allowance_in in
       let wraps : (n + 1) % 18446744073709551616 ≡ n + 1 = omega arith in
+      let next : get_or words 0 0 ≡ n + 1 = get_or-set_same s.words 0 _ 0 h.0.some_word ∙ wraps in
+      let more = length-append v.drawn (n ∷ []) in
       let long : length words ≡ length s.words = length-set s.words 0 _ in (
-        dealt-more o.whole s.words words s.views id v drew at long
-            (get_or-set_same s.words 0 _ 0 h.0.some_word ∙ wraps) (omega arith) refl h.0,
-        stops-kept opened s.words words s.views (after drew) long
-            (λ c. get_or-set_other s.words 0 (c + 1) _ 0 (λ e. omega arith))
-            (λ c p. same (lowered_in c p) drew refl) (λ c p. same (seen_in c p) drew refl) h.1,
-        fits drew refl (omega arith) (let more = length-append v.drawn (n ∷ []) in omega arith),
+        record {
+          in_word = h.0.in_word;
+          some_word = let d = h.0.some_word in omega arith;
+          whole_is = let sum = changed allowance_in drew in omega arith;
+          lengths = let d = h.0.lengths in let sum = changed draws_in drew in omega arith;
+          each_once = λ x.
+              let d = h.0.each_once x in
+              let sum = changed (drawn_in x) drew in
+              let one = weigh-snoc (is_number x) v.drawn n in
+              let once = once_below-next x n in
+              let all : weigh (drawn_in x) (after drew) ≡ once_below x (n + 1) = omega arith in
+              all ∙ ap (once_below x) (sym next);
+        },
+        stops-kept o s h words (after drew) long (λ c. get_or-set_other s.words 0 (c + 1) _ 0 (λ e. omega arith))
+            (λ c p. same (lowered_in c p) drew refl) (λ c p. same (seen_in c p) drew refl),
+        fits drew refl (omega arith) (omega arith),
       )
 
   draw-fresh : times (get_or s.words 0 0) v.drawn ≡ 0
@@ -232,9 +214,9 @@ module _ (o : Opening) (s : State (Unit {0}) Knows) (id : ℕ) (v : Knows) (h : 
       let w : Knows = saw c in
       let low : (c' p : ℕ) → weigh (lowered_in c' p) (after w) ≡ weigh (lowered_in c' p) s.views =
       λ c' p. same (lowered_in c' p) w refl in (
-        dealt-kept o.whole s.words s.words s.views (after w) refl refl (same allowance_in w refl) (same draws_in w refl)
-            (λ x. same (drawn_in x) w refl) h.0,
-        stops-step opened s.words s.words s.views (after w) refl
+        dealt-kept o s h s.words (after w) refl refl (same allowance_in w refl) (same draws_in w refl)
+            (λ x. same (drawn_in x) w refl),
+        stops-step o s h s.words (after w) refl
             (λ c'. omega arith)
             (λ c' p there. let e = low c' p in omega arith)
             (λ c' p there. let e = low c' p in inl (omega arith))
@@ -243,12 +225,11 @@ module _ (o : Opening) (s : State (Unit {0}) Knows) (id : ℕ) (v : Knows) (h : 
             (λ new. rw (new.0, new.1) (inr (
               omega arith,
               new.2,
-              given-more opened s.views (after w) c n
-                  (λ there'. let e = low c n in omega arith) (h.1.reached c),
+              given-more o s h s.words (after w) refl (λ c p there'. let e = low c p in omega arith) c n
+                  (h.1.reached c),
             )))
             (seen-cases (nat_lt n past_places) c' p c n v.seen refl))
-            (λ c'. inl refl)
-            h.1,
+            (λ c'. inl refl),
         fits w refl some_share some_share,
       )
 
@@ -276,10 +257,10 @@ module _ (o : Opening) (s : State (Unit {0}) Knows) (id : ℕ) (v : Knows) (h : 
       + is_mark c' p' (c, p) =
       λ c' p'. (let sum = changed (lowered_in c' p') w in
       let marked = weigh-snoc (is_mark c' p') v.lowered (c, p) in omega arith) in (
-        dealt-kept o.whole s.words words s.views (after w) long
+        dealt-kept o s h words (after w) long
             (get_or-set_other s.words (c + 1) 0 (min n p) 0 (λ e. omega arith)) (same allowance_in w refl)
-            (same draws_in w refl) (λ x. same (drawn_in x) w refl) h.0,
-        stops-step opened s.words words s.views (after w) long
+            (same draws_in w refl) (λ x. same (drawn_in x) w refl),
+        stops-step o s h words (after w) long
             (λ c'. dite (ℕ_discrete c' c)
             (λ is. rw is (omega arith))
             (λ apart. let e = elsewhere c' apart in omega arith))
@@ -296,8 +277,7 @@ module _ (o : Opening) (s : State (Unit {0}) Knows) (id : ℕ) (v : Knows) (h : 
             let low : get_or words (c + 1) 0 ≡ p = omega arith in
             let e = more c p in let one = mark-here c p in
             inr (rw low (omega arith)))))
-            (λ apart. inl (elsewhere c' apart)))
-            h.1,
+            (λ apart. inl (elsewhere c' apart))),
         fits w refl some_share some_share,
       )
 
@@ -309,10 +289,10 @@ module _ (o : Opening) (s : State (Unit {0}) Knows) (id : ℕ) (v : Knows) (h : 
       let right : Knows = given_part amount v in
       let views : List Knows = after left ++ right ∷ [] in
       let sum = λ (f : Knows → ℕ) (whole : f left + f right ≡ f v). weigh-split f s.views id v left right at whole in (
-        dealt-kept o.whole s.words s.words s.views views refl refl (sum allowance_in (omega arith))
-            (sum draws_in (omega arith)) (λ x. sum (drawn_in x) (omega arith)) h.0,
-        stops-kept opened s.words s.words s.views views refl (λ c. refl) (λ c p. sum (lowered_in c p) (omega arith))
-            (λ c p. sum (seen_in c p) (omega arith)) h.1,
+        dealt-kept o s h s.words views refl refl (sum allowance_in (omega arith))
+            (sum draws_in (omega arith)) (λ x. sum (drawn_in x) (omega arith)),
+        stops-kept o s h s.words views refl (λ c. refl) (λ c p. sum (lowered_in c p) (omega arith))
+            (λ c p. sum (seen_in c p) (omega arith)),
         fits-snoc opened (after left) right
             (fits-sharing opened v right (h.2 id v at) refl (omega arith) (omega arith))
             (fits left refl (omega arith) (omega arith)),
@@ -327,12 +307,12 @@ module _ (o : Opening) (s : State (Unit {0}) Knows) (id : ℕ) (v : Knows) (h : 
       let sum = λ (f : Knows → ℕ) (whole : f both + f spent ≡ f v + f w).
       weigh-join f s.views id other v w both spent at at' whole in
       let longer = length-append v.drawn w.drawn in (
-        dealt-kept o.whole s.words s.words s.views views refl refl (sum allowance_in (omega arith))
+        dealt-kept o s h s.words views refl refl (sum allowance_in (omega arith))
             (sum draws_in (omega arith))
-            (λ x. sum (drawn_in x) (let all = weigh-append (is_number x) v.drawn w.drawn in omega arith)) h.0,
-        stops-kept opened s.words s.words s.views views refl (λ c. refl)
+            (λ x. sum (drawn_in x) (let all = weigh-append (is_number x) v.drawn w.drawn in omega arith)),
+        stops-kept o s h s.words views refl (λ c. refl)
             (λ c p. sum (lowered_in c p) (let all = weigh-append (is_mark c p) v.lowered w.lowered in omega arith))
-            (λ c p. sum (seen_in c p) (let all = weigh-append (is_mark c p) v.seen w.seen in omega arith)) h.1,
+            (λ c p. sum (seen_in c p) (let all = weigh-append (is_mark c p) v.seen w.seen in omega arith)),
         fits-set opened (after both) other spent
             (record { idle = λ _. (refl, refl); knowing = λ low. absurd (omega arith) })
             (fits both refl some_share (omega arith)),

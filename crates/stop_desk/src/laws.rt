@@ -6,6 +6,7 @@ ghost use Rattle.stop_desk.specs.laws.Rounds.{RunSettles, BoardMerges};
 /// However workers draw jobs, look at stops, lower them and finish jobs: once each job is finished, the board is
 /// settled. Every job was drawn by one worker and so has one part, and a stop is only ever an opening stop or an error
 /// of a job.
+#[tactic(auto, using(crate::proofs::RoundSteps::run_settles_lem))]
 pub fn run_settles()
     ensures { RunSettles }
 {}
@@ -31,6 +32,7 @@ pub fn cuts_join()
 ghost use Rattle.stop_desk.specs.laws.Cuts.{StopsJoin};
 
 /// What a round gives up to its stop may stand for what its whole jobs would give when further rounds add to it.
+#[tactic(auto, using(crate::proofs::RoundCuts::stops_join_lem))]
 pub fn rounds_join()
     ensures { StopsJoin }
 {}

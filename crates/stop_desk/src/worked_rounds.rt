@@ -5,6 +5,7 @@ ghost use Rattle.stop_desk.specs.examples.Rounds.{LookInvents, CutUnseen, AllSki
 ghost use Rattle.stop_desk.specs.examples.Rounds.{ErrorNotLowered};
 
 /// A worker meets an error of the connection, and another sees that and leaves out what it found past it.
+#[tactic(auto, using(crate::proofs::RoundExamples::two_workers))]
 pub fn withdrawn_findings()
     ensures finish { TwoWorkersFinish }
     ensures settle { TwoWorkersSettle }
@@ -12,6 +13,7 @@ pub fn withdrawn_findings()
 {}
 
 /// What no worker may do.
+#[tactic(auto, using(crate::proofs::RoundExamples::refused))]
 pub fn refused_steps()
     ensures drawn_twice { DrawnTwice }
     ensures look_invents { LookInvents }
