@@ -166,3 +166,5 @@ same-fields a me after seen lowered is h =
 pub lowered-view : (t t' : TableId) (a c p : ℕ) (me after : PassState) → t' ≡ t → Lowers c p me after
     → view_in t' a after ≡ pass_of (desk_in t me) a me.0.drawn me.0.seen (me.0.lowered ++ (c, p) ∷ [])
 lowered-view t t' a c p me after same s i = view_in (same i) a (s i)
+
+pub ruleset stops_made = (stops-of_words)

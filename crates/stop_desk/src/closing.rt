@@ -33,6 +33,7 @@ impl Model for Closed {
 
 impl Closed {
     /// How many numbers were drawn in all.
+    #[tactic(auto, using(crate::proofs::PassViews::word_at))]
     pub fn drawn(&self) -> u64
         ensures { result ≡ length self.now.drawn }
     {

@@ -4,14 +4,6 @@ use Rattle.stop_desk.specs.code.Stop.{stop_word}
 use Rattle.stop_desk.proofs.Placed.{has-settled, in-round}
 use Rattle.stop_desk.proofs.settling.settle.Goals as goal
 
-pub crew-requires-clause-connections : goal.crew-requires-clause-connections
-crew-requires-clause-connections g c κs within =
-    let stops = c.args.stops.now in
-    let each = length-map stops stop_word in
-    let long : length c.in_ok-desk.desk.id.opened ≡ length (0 ∷ map stop_word stops) =
-    ap length c.in_ok-desk.ensures.words in
-    λ n d l. let inside = c.requires.connections n d l in omega (arith, long, each, inside)
-
 pub returns-clause-settled : goal.returns-clause-settled
 returns-clause-settled g c =
     has-settled (g.P.Round.makes c.args.plan.now) (g.P.Round.jobs c.args.plan.now) c.in_ok-desk.desk.id c.args.round
