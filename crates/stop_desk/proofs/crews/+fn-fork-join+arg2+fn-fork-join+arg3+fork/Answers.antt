@@ -1,6 +1,5 @@
-use Rattle.std.proofs.Common.{◌≡◌, ℕ, ◌+◌, ◌-◌, ◌*◌, ◌/◌, ◌≤◌, [], ap, sym, ◌∙◌, arith}
+use Rattle.std.proofs.Common.{◌≡◌, ℕ, ◌+◌, ◌-◌, ◌*◌, ◌/◌, ◌≤◌, ap, sym, arith}
 use Rattle.std.proofs.lemmas.Result.{IfOk-at_ok, IfOk-weaker}
-use Rattle.stop_desk.specs.code.Desk.{pass_of}
 use Rattle.stop_desk.proofs.Draws.{worked-both}
 use Rattle.stop_desk.proofs.crews.+fn-fork-join+arg2+fn-fork-join+arg3+fork.Goals as goal
 
@@ -10,27 +9,6 @@ both-groups half workers each le =
     let all : workers ≡ half + (workers - half) = omega arith in
     let whole = ap (λ n. n * each) all in
     omega arith
-
--- one worker is all workers
-one-worker : (workers each : ℕ) → workers ≡ 1 → each ≡ workers * each
-one-worker workers each is = rw is (omega arith)
-
-pub work-requires-after_bounds : goal.work-requires-after_bounds
-work-requires-after_bounds g t c κs within =
-    let desk = c.args.shift.now.desk.now in
-    c.requires.fresh
-    ∙ ap (λ n. pass_of desk.id n [] [] []) (sym (one-worker c.args.workers (desk.jobs + 1) c.if-workers-eq1.true))
-
-pub returns-then-workers-eq1 : goal.returns-then-workers-eq1
-returns-then-workers-eq1 g t c =
-    let shift = c.args.shift.now in
-    rw (← one-worker c.args.workers (shift.desk.now.jobs + 1) c.if-workers-eq1.true) c.work.ensures
-
-pub together-requires-clause-mine : goal.together-requires-clause-mine
-together-requires-clause-mine g t c = (IfOk-at_ok _ c.in_ok-mine.was c.join-one.ensures.first).0.desk_is
-
-pub together-requires-clause-theirs : goal.together-requires-clause-theirs
-together-requires-clause-theirs g t c = (IfOk-at_ok _ c.in_ok-theirs.was c.join-one.ensures.second).0.desk_is
 
 pub returns : goal.returns
 returns g t c =

@@ -1,6 +1,3 @@
-use Rattle.std.proofs.Common.{◌≡◌, ◌∷◌, length, map, ap, arith}
-use Rattle.std.proofs.lemmas.List.{length-map}
-use Rattle.stop_desk.specs.code.Stop.{stop_word}
 use Rattle.stop_desk.proofs.Placed.{has-settled, in-round}
 use Rattle.stop_desk.proofs.settling.settle.Goals as goal
 
