@@ -3,11 +3,8 @@ pub mod Steps
 pub mod PassViews
 pub mod RoundMembers
 pub mod RoundSteps
-pub mod RoundParts
 pub mod RoundMerge
 pub mod RoundExamples
 pub mod RoundCuts
-pub mod Jobs
-pub mod Draws
+pub mod Working
 pub mod CrewDone
-pub mod Placed

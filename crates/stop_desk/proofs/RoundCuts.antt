@@ -12,7 +12,7 @@ use Rattle.audit_terms.proofs.FindingOrder.{comes_after_is, in_order-append_comm
 use Rattle.audit_terms.proofs.FindingOrder.{in_order-alike, in_order-in_order, in_order-permutation}
 use Rattle.stop_desk.specs.laws.Cuts.{FrontIsCut, WholeIsCut, CutsJoin, StopsJoin}
 use Rattle.stop_desk.proofs.RoundMembers.{contains-none, filter-contains}
-use Rattle.stop_desk.proofs.RoundParts.{swap-middle}
+use Rattle.stop_desk.proofs.RoundMerge.{swap-middle}
 
 -- a filter keeps the order
 module _ (test : Finding → Bool) where

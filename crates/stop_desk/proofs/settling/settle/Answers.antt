@@ -1,4 +1,4 @@
-use Rattle.stop_desk.proofs.Placed.{has-settled, in-round}
+use Rattle.stop_desk.proofs.CrewDone.{has-settled, in-round}
 use Rattle.stop_desk.proofs.settling.settle.Goals as goal
 
 pub returns-clause-settled : goal.returns-clause-settled

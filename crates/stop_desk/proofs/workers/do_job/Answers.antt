@@ -6,7 +6,7 @@ use Rattle.stop_desk.specs.code.Calls.{IsLook}
 use Rattle.stop_desk.specs.declared.desk_looks.DeskLook.{DeskLook}
 use Rattle.stop_desk.specs.code.Heeding.{Heeds}
 use Rattle.stop_desk.specs.code.Worked.{stops_on}
-use Rattle.stop_desk.proofs.Jobs.{Watched, watched, job_at, at-job, job-there, job-done}
+use Rattle.stop_desk.proofs.Working.{Watched, watched, job_at, at-job, job-there, job-done}
 use Rattle.stop_desk.proofs.workers.do_job.Goals as goal
 
 pub invariant_of-look : goal.invariant_of-look

@@ -1,5 +1,5 @@
 use Rattle.std.proofs.Common.{◌<◌, subst}
-use Rattle.stop_desk.proofs.Draws.{worked-job, worked-ends}
+use Rattle.stop_desk.proofs.Working.{worked-job, worked-ends}
 use Rattle.stop_desk.proofs.workers.work.Goals as goal
 
 pub loop-job-preserved : goal.loop-job-preserved
