@@ -20,10 +20,10 @@ use Rattle.audit_terms.proofs.SaidPlaces.{AreFrom, at-connection, at-in_order, f
 use Rattle.audit_terms.proofs.SaidPlaces.{precedes-at}
 use Rattle.conn_scan.specs.declared.block_items.Block.{Block}
 use Rattle.conn_scan.specs.code.Items.{item_with, items_with, items_in, IsBlock}
-use Rattle.job_crew.specs.code.Board.{Job, IsCut}
-use Rattle.job_crew.proofs.RoundCuts.{front_is_cut_lem, whole_is_cut_lem}
+use Rattle.stop_desk.specs.code.Board.{Job, IsCut}
+use Rattle.stop_desk.proofs.RoundCuts.{front_is_cut_lem, whole_is_cut_lem}
 use Rattle.split_merge.proofs.ShownMerge.{in_order-shown}
-use Rattle.job_crew.specs.code.Heeding.{Heeds, RunLooks}
+use Rattle.stop_desk.specs.code.Heeding.{Heeds, RunLooks}
 use Rattle.audit_rounds.specs.declared.blocks.ConnectionBlock.{ConnectionBlock}
 use Rattle.audit_rounds.specs.code.Plans.{sum_job}
 

@@ -8,8 +8,8 @@ use Rattle.std.proofs.lemmas.List.Elements.{Contains-append_left, Contains-appen
 use Rattle.audit_core.proofs.OrderlyRest.{drop-next}
 use Rattle.audit_terms.specs.declared.findings.Finding.{Finding}
 use Rattle.audit_terms.specs.Finding.{stops}
-use Rattle.job_crew.specs.code.Board.{StopsAt}
-use Rattle.job_crew.proofs.RoundMembers.{contains-none, contains-cases}
+use Rattle.stop_desk.specs.code.Board.{StopsAt}
+use Rattle.stop_desk.proofs.RoundMembers.{contains-none, contains-cases}
 use Rattle.audit_rounds.specs.code.Streams.{lesser}
 use Rattle.audit_terms.specs.declared.items.Change.{Change}
 use Rattle.audit_rounds.specs.declared.prepared.Prepared.{Prepared}

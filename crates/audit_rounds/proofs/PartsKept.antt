@@ -5,7 +5,7 @@ use Rattle.std.proofs.Common.{get_or-set_other, Vec, Global}
 use Rattle.std.proofs.lemmas.Bool.{cases_eq, eq-eqb, ne_eqb}
 use Rattle.std.proofs.lemmas.Grind.{flat_map-append}
 use Rattle.audit_terms.specs.declared.findings.Finding.{Finding}
-use Rattle.job_crew.specs.code.Board.{Part, findings_of_parts}
+use Rattle.stop_desk.specs.code.Board.{Part, findings_of_parts}
 
 -- a part of the connection more
 own-more : (n : ℕ) (part : Part) (parts : List Part) → part.connection ≡ n

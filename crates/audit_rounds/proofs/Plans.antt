@@ -9,7 +9,7 @@ use Rattle.audit_terms.specs.declared.findings.Finding.{Finding}
 use Rattle.audit_terms.specs.declared.items.Item.{Item}
 use Rattle.audit_terms.specs.Connection.{connection_start}
 use Rattle.block_scan.specs.code.List.{items_of}
-use Rattle.job_crew.specs.code.Board.{Job, findings_of_jobs}
+use Rattle.stop_desk.specs.code.Board.{Job, findings_of_jobs}
 use Rattle.audit_rounds.specs.declared.block_plans.ReadyBlock.{ReadyBlock}
 use Rattle.audit_rounds.specs.code.Blocks.{IsReady}
 use Rattle.audit_rounds.specs.code.Plans.{block_job, where_of, whole_shown, shown_at, IsPlan}

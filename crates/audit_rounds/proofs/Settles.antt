@@ -11,12 +11,12 @@ use Rattle.conn_scan.specs.code.Items.{items_in, IsBlock}
 use Rattle.conn_scan.specs.code.Block.{BlockFits}
 use Rattle.conn_scan.specs.declared.sums.ConnSum.{ConnSum}
 use Rattle.stop_desk.specs.code.Stop.{IsStop}
-use Rattle.job_crew.specs.code.Board.{Job, IsLeast, StopsAt, findings_of_parts}
-use Rattle.job_crew.proofs.RoundMerge.{board_merges_lem}
-use Rattle.job_crew.specs.declared.parts.Part.{Part}
-use Rattle.job_crew.specs.declared.settling.Settled.{Settled}
-use Rattle.job_crew.specs.code.Laid.{part_of}
-use Rattle.job_crew.specs.code.Settling.{HasSettled}
+use Rattle.stop_desk.specs.code.Board.{Job, IsLeast, StopsAt, findings_of_parts}
+use Rattle.stop_desk.proofs.RoundMerge.{board_merges_lem}
+use Rattle.stop_desk.specs.declared.parts.Part.{Part}
+use Rattle.stop_desk.specs.declared.settling.Settled.{Settled}
+use Rattle.stop_desk.specs.code.Laid.{part_of}
+use Rattle.stop_desk.specs.code.Settling.{HasSettled}
 use Rattle.audit_rounds.specs.declared.blocks.ConnectionBlock.{ConnectionBlock}
 use Rattle.audit_rounds.specs.declared.block_plans.ReadyBlock.{ReadyBlock}
 use Rattle.audit_rounds.specs.code.Blocks.{IsSum, AreSums, wholes}

@@ -24,10 +24,10 @@ use Rattle.audit_terms.proofs.FindingOrder.{in_order-append_comm, in_order-alike
 use Rattle.audit_core.specs.laws.Parts.{joined}
 use Rattle.audit_terms.proofs.SaidPlaces.{AreFrom, at-connection, at-in_order, from-at, from-from, from-append}
 use Rattle.conn_scan.specs.code.Items.{item_with, items_with, change_at}
-use Rattle.job_crew.specs.code.Board.{StopsAt, IsLeast, IsPast}
-use Rattle.job_crew.proofs.RoundCuts.{stops_join_lem}
-use Rattle.job_crew.proofs.RoundMembers.{contains-none, contains-cases}
-use Rattle.job_crew.proofs.RoundMerge.{cut-all}
+use Rattle.stop_desk.specs.code.Board.{StopsAt, IsLeast, IsPast}
+use Rattle.stop_desk.proofs.RoundCuts.{stops_join_lem}
+use Rattle.stop_desk.proofs.RoundMembers.{contains-none, contains-cases}
+use Rattle.stop_desk.proofs.RoundMerge.{cut-all}
 use Rattle.split_merge.proofs.ShownMerge.{shown-append}
 use Rattle.audit_rounds.specs.code.Openings.{openings_of}
 use Rattle.audit_rounds.specs.code.Shown.{streams_shown, blocks_shown}

@@ -7,7 +7,7 @@ use Rattle.std.specs.Option.{option_map_or}
 use Rattle.audit_terms.specs.declared.findings.Finding.{Finding}
 use Rattle.audit_terms.specs.code.runs.Look.{Asked}
 use Rattle.split_merge.specs.declared.splits.StreamRow.{StreamRow}
-use Rattle.job_crew.specs.code.Board.{Job, IsCut}
+use Rattle.stop_desk.specs.code.Board.{Job, IsCut}
 use Rattle.audit_rounds.specs.declared.streams.Streams.{Streams}
 use Rattle.audit_rounds.specs.declared.stream_plan.StreamJob.{StreamJob}
 use Rattle.audit_rounds.specs.code.Streams.{IsRow, AreOpenedUpTo, RowsLook, rows_shown, rows_opened}

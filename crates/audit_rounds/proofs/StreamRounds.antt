@@ -29,7 +29,7 @@ use Rattle.audit_core.proofs.PassOrder.{AreStreams as Are31Bits, streams-streams
 use Rattle.settings_pair.specs.code.Changes.{AreOrderly, AreAcknowledged}
 use Rattle.split_merge.specs.declared.splits.SplitFrames.{SplitFrames}
 use Rattle.split_merge.specs.declared.splits.StreamRow.{StreamRow}
-use Rattle.job_crew.specs.code.Board.{Job, findings_of_jobs}
+use Rattle.stop_desk.specs.code.Board.{Job, findings_of_jobs}
 use Rattle.split_merge.specs.code.Groups.{groups, AreConsecutive}
 use Rattle.split_merge.specs.code.Split.{IsSplit, frames_at, opening_of, part_of}
 use Rattle.split_merge.proofs.GroupRanges.{groups-consecutive, groups-joined}

@@ -18,10 +18,10 @@ use Rattle.audit_terms.specs.Finding.{in_order}
 use Rattle.audit_terms.specs.code.runs.Look.{Asked, Looked, last_answer, LooksInTime, is_past, up_to, upto_of, IsRun}
 use Rattle.audit_terms.specs.Place.{place_number}
 use Rattle.stream_credit.specs.code.Looks.{opened_up_to}
-use Rattle.job_crew.specs.code.Board.{IsPast, IsCut}
-use Rattle.job_crew.proofs.RoundMembers.{contains-here, contains-later, in_order-contains}
-use Rattle.job_crew.proofs.RoundCuts.{front_is_cut_lem, whole_is_cut_lem, cuts_join_lem}
-use Rattle.job_crew.specs.code.Heeding.{Heeds, RunLooks}
+use Rattle.stop_desk.specs.code.Board.{IsPast, IsCut}
+use Rattle.stop_desk.proofs.RoundMembers.{contains-here, contains-later, in_order-contains}
+use Rattle.stop_desk.proofs.RoundCuts.{front_is_cut_lem, whole_is_cut_lem, cuts_join_lem}
+use Rattle.stop_desk.specs.code.Heeding.{Heeds, RunLooks}
 use Rattle.std.specs.Prelude.{Result, Ok, Err, IfOk}
 use Rattle.audit_terms.specs.declared.frames.Frame.{Frame}
 use Rattle.audit_terms.specs.code.runs.Orderly.{IsOrderly}

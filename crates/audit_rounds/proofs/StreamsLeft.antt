@@ -9,12 +9,12 @@ use Rattle.std.proofs.lemmas.Slice.Zip.{AllZip-long}
 use Rattle.audit_terms.specs.declared.findings.Finding.{Finding}
 use Rattle.audit_terms.specs.Finding.{in_order, upto_stop}
 use Rattle.audit_terms.specs.Pass.{streams_of}
-use Rattle.job_crew.specs.code.Board.{Job, StopsAt, IsLeast, stop_of, findings_of_jobs, findings_of_parts}
-use Rattle.job_crew.specs.laws.Rounds.{Merges}
-use Rattle.job_crew.proofs.RoundMerge.{board_merges_lem}
-use Rattle.job_crew.specs.declared.parts.Part.{Part}
-use Rattle.job_crew.specs.declared.settling.Settled.{Settled}
-use Rattle.job_crew.specs.code.Laid.{part_of, board_with}
+use Rattle.stop_desk.specs.code.Board.{Job, StopsAt, IsLeast, stop_of, findings_of_jobs, findings_of_parts}
+use Rattle.stop_desk.specs.laws.Rounds.{Merges}
+use Rattle.stop_desk.proofs.RoundMerge.{board_merges_lem}
+use Rattle.stop_desk.specs.declared.parts.Part.{Part}
+use Rattle.stop_desk.specs.declared.settling.Settled.{Settled}
+use Rattle.stop_desk.specs.code.Laid.{part_of, board_with}
 use Rattle.audit_rounds.specs.declared.prepared.Prepared.{Prepared}
 use Rattle.audit_rounds.specs.declared.streams.Streams.{Streams}
 use Rattle.audit_rounds.specs.declared.stream_plan.StreamJob.{StreamJob}

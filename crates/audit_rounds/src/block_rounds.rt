@@ -6,12 +6,12 @@ ghost use Rattle.audit_terms.specs.Connection.{connection_start};
 ghost use Rattle.audit_terms.specs.code.runs.Blocks.{block_run};
 ghost use Rattle.audit_terms.specs.Finding.{in_order, upto_stop, shown};
 ghost use Rattle.stop_desk.specs.code.Stop.{IsStop};
-ghost use Rattle.job_crew.specs.code.Board.{Job};
-ghost use Rattle.job_crew.specs.code.Settling.{HasSettled};
+ghost use Rattle.stop_desk.specs.code.Board.{Job};
+ghost use Rattle.stop_desk.specs.code.Settling.{HasSettled};
 ghost use Rattle.conn_scan.specs.declared.sums.ConnSum.{ConnSum as ConnSumTerm};
 ghost use Rattle.conn_scan.specs.code.Items.{items_in, IsBlock};
 ghost use Rattle.conn_scan.specs.code.Block.{BlockFits};
-ghost use Rattle.job_crew.specs.declared.parts.Part.{Part as PartTerm};
+ghost use Rattle.stop_desk.specs.declared.parts.Part.{Part as PartTerm};
 ghost use Rattle.audit_rounds.specs.declared.blocks.ConnectionBlock.{ConnectionBlock as BlockTerm};
 ghost use Rattle.audit_rounds.specs.code.Blocks.{AreShort, AreSums, wholes};
 ghost use Rattle.audit_rounds.specs.code.Few.{RestsAreFew};
@@ -27,9 +27,9 @@ use crate::merging::merged_each;
 use crate::sum_round::SumRound;
 use audit_terms::{Finding, Place};
 use conn_scan::{Block, ConnSum};
-use job_crew::{Gate, Part, settle};
 use std::alloc::{AllocError, Global};
 use std::thread::Threads;
+use stop_desk::{Gate, Part, Team, settle};
 
 /// The number of the round in which blocks are summed.
 const SUM_ROUND: u8 = 2;
@@ -64,8 +64,13 @@ fn sums_of<R: Threads + Sync, G: Gate>(
     ensures { IfOk result (λ sums. AreSums blocks.now sums.items) }
 {
     let round = SumRound { blocks };
-    let workers = division.workers.max(1);
-    let settled = settle(rt, alloc, workers, gate, SUM_ROUND, stops, &round)?;
+    let team = Team {
+        rt,
+        alloc,
+        workers: division.workers.max(1),
+        gate,
+    };
+    let settled = settle(&team, SUM_ROUND, stops, &round)?;
     summaries(alloc, settled.parts)
 }
 
@@ -90,8 +95,13 @@ fn parts_of<R: Threads + Sync, G: Gate>(
         plan,
         credits_shown,
     };
-    let workers = division.workers.max(1);
-    let settled = settle(rt, alloc, workers, gate, BLOCK_ROUND, stops, &round)?;
+    let team = Team {
+        rt,
+        alloc,
+        workers: division.workers.max(1),
+        gate,
+    };
+    let settled = settle(&team, BLOCK_ROUND, stops, &round)?;
     Ok(settled.parts)
 }
 

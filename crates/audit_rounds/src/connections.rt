@@ -19,10 +19,10 @@ use crate::prepared::{Prepared, prepare};
 use crate::stream_round::{AfterStreams, round_over_streams};
 use audit_terms::{Finding, Frame, Place};
 use conn_scan::Block;
-use job_crew::Gate;
 use split_merge::merge;
 use std::alloc::{AllocError, Global};
 use std::thread::{Threads, join};
+use stop_desk::Gate;
 use table_hash::TableHash;
 
 /// Connections made ready, and what is found of each before the rounds.

@@ -6,9 +6,9 @@ ghost use Rattle.audit_rounds.specs.code.Few.{AreFew};
 
 use crate::halves::findings_by_halves;
 use audit_terms::{Finding, Frame};
-use job_crew::Gate;
 use std::alloc::{AllocError, Global};
 use std::thread::Threads;
+use stop_desk::Gate;
 use table_hash::TableHash;
 
 /// How an audit is divided. Whatever is chosen, the findings are the same.

@@ -13,10 +13,10 @@ ghost use Rattle.audit_rounds.specs.code.Few.{AreFew};
 use crate::connections::findings_of_batch;
 use crate::divisions::Division;
 use audit_terms::{Finding, Frame};
-use job_crew::Gate;
 use std::alloc::{AllocError, Global};
 use std::mem::swap;
 use std::thread::Threads;
+use stop_desk::Gate;
 
 /// Of so many frames and more a front is gone through first.
 const LONG: usize = 4_096;

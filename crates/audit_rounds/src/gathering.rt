@@ -1,12 +1,12 @@
 //! What rounds found, connection by connection.
 
 ghost use Rattle.std.specs.Prelude.{◌≡◌, ℕ, [], ◌++◌, ◌<◌, All, IfOk, map, length, slice_index_or};
-ghost use Rattle.job_crew.specs.code.Board.{findings_of_parts};
-ghost use Rattle.job_crew.specs.code.Laid.{part_of};
+ghost use Rattle.stop_desk.specs.code.Board.{findings_of_parts};
+ghost use Rattle.stop_desk.specs.code.Laid.{part_of};
 
 use audit_terms::Finding;
-use job_crew::Part;
 use std::alloc::{AllocError, Global};
+use stop_desk::Part;
 
 /// So many empty lists.
 pub(crate) fn none_of_each<T: Drop>(

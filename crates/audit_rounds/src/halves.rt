@@ -12,9 +12,9 @@ use crate::connections::middle;
 use crate::divisions::Division;
 use crate::early_stops::findings_by_fronts;
 use audit_terms::{Finding, Frame};
-use job_crew::Gate;
 use std::alloc::{AllocError, Global};
 use std::thread::{Threads, join};
+use stop_desk::Gate;
 
 /// So many connections and more are halved: then halves of as many frames are about as much work.
 const MANY: usize = 64;

@@ -16,9 +16,9 @@ use crate::stream_jobs::StreamsRound;
 use crate::stream_plan::stream_plan;
 use crate::streams::Streams;
 use audit_terms::{Finding, Place};
-use job_crew::{Gate, Settled, settle};
 use std::alloc::{AllocError, Global};
 use std::thread::Threads;
+use stop_desk::{Gate, Settled, Team, settle};
 
 /// The number of the round over streams.
 const STREAM_ROUND: u8 = 1;
@@ -58,15 +58,13 @@ fn settled_streams<R: Threads + Sync, G: Gate>(
         plan: plan.as_slice(),
         credits_shown,
     };
-    settle(
+    let team = Team {
         rt,
         alloc,
-        division.workers,
+        workers: division.workers,
         gate,
-        STREAM_ROUND,
-        stops,
-        &round,
-    )
+    };
+    settle(&team, STREAM_ROUND, stops, &round)
 }
 
 /// What is found of the streams of connections that are ready, of each of which this was found before.

@@ -4,8 +4,8 @@ ghost use Rattle.std.specs.Prelude.{◌≡◌, ℕ, ◌-◌, ◌<◌, ◌≤◌,
 ghost use Rattle.std.specs.Prelude.{Option, Some};
 ghost use Rattle.audit_terms.specs.declared.findings.Finding.{Finding as FindingTerm};
 ghost use Rattle.audit_terms.specs.Place.{place_number};
-ghost use Rattle.job_crew.specs.code.Board.{Job, IsCut};
-ghost use Rattle.job_crew.specs.code.Heeding.{Heeds};
+ghost use Rattle.stop_desk.specs.code.Board.{Job, IsCut};
+ghost use Rattle.stop_desk.specs.code.Heeding.{Heeds};
 ghost use Rattle.audit_rounds.specs.declared.blocks.ConnectionBlock.{ConnectionBlock as BlockTerm};
 ghost use Rattle.audit_rounds.specs.code.Blocks.{AreShort, IsSum};
 ghost use Rattle.audit_rounds.specs.code.Plans.{sum_job};
@@ -14,8 +14,8 @@ ghost use Rattle.audit_rounds.specs.code.Props.{short-props};
 use crate::blocks::ConnectionBlock;
 use audit_terms::{Look, Place};
 use conn_scan::{ConnSum, block_sum};
-use job_crew::{Round, Work};
 use std::alloc::{AllocError, Global};
+use stop_desk::{Round, Work};
 
 /// Blocks to be summed, each a job.
 #[derive(Drop)]

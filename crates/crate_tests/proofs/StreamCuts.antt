@@ -7,7 +7,7 @@ use Rattle.audit_terms.specs.Finding.{shown}
 use Rattle.audit_terms.specs.code.runs.Look.{IsRun}
 use Rattle.audit_terms.specs.Place.{place_number}
 use Rattle.audit_terms.specs.code.runs.Streams.{stream_run}
-use Rattle.job_crew.specs.code.Board.{Job, IsCut}
+use Rattle.stop_desk.specs.code.Board.{Job, IsCut}
 use Rattle.stream_credit.specs.declared.parts.StreamPart.{StreamPart}
 use Rattle.stream_credit.specs.code.Part.{part_frames, IsPart}
 use Rattle.audit_rounds.proofs.StreamOrder.{shown-ordered}

@@ -19,8 +19,8 @@ use Rattle.h2_frames.specs.declared.connections.Cut.TheVariants.{Http2, NotHttp2
 use Rattle.h2audit.specs.Audited.{IsFlowFrom}
 use Rattle.h2audit.specs.code.Flows.{AreToldFlows, IsHeldBy, IsToldFlows, KeepsCut, flow_jobs}
 use Rattle.h2audit.specs.code.Found.{frames_of, kept_in}
-use Rattle.job_crew.specs.code.Board.{Job, IsCut}
-use Rattle.job_crew.specs.declared.parts.Part.{Part}
+use Rattle.stop_desk.specs.code.Board.{Job, IsCut}
+use Rattle.stop_desk.specs.declared.parts.Part.{Part}
 use Rattle.packet_heads.specs.declared.packets.Packet.{Packet}
 use Rattle.packet_heads.specs.declared.packets.Segment.{Segment}
 use Rattle.tcp_streams.specs.Bytes.{bytes_of}

@@ -26,7 +26,7 @@ use Rattle.h2audit.specs.Audited.{IsAudited, IsFlowOf, findings_of, has_fault}
 use Rattle.h2audit.specs.code.Flows.{AreToldAudits, AreToldFlows, IsHeldBy}
 use Rattle.h2audit.specs.code.Found.{AreFound, all_with, found_in, frames_of, has_fault_in, kept_in, left_after, put_in}
 use Rattle.h2audit.specs.code.Found.{with_next}
-use Rattle.job_crew.specs.declared.parts.Part.{Part}
+use Rattle.stop_desk.specs.declared.parts.Part.{Part}
 use Rattle.packet_heads.specs.declared.packets.Packet.{Packet}
 use Rattle.tcp_streams.specs.declared.members.Connection.{Connection}
 use Rattle.tcp_streams.specs.declared.streams.Flow.{Flow}

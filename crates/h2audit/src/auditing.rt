@@ -9,12 +9,12 @@ use crate::fault::AuditFault;
 use crate::verdict::Verdict;
 use audit_report::{capture_lines, headings_of, report};
 use command_line::Options;
-use job_crew::Gate;
 use packet_heads::{CapturePackets, PacketWalk, Packets};
 use pcap_records::{Capture, PcapFault};
 use std::alloc::{AllocError, Global};
 use std::random::RandomSource;
 use std::thread::Threads;
+use stop_desk::Gate;
 use table_hash::TableHash;
 use tcp_streams::{Connections, connections};
 

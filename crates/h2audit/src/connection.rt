@@ -6,7 +6,7 @@ ghost use Rattle.std.specs.Vec.Iter.{into_iter_items};
 ghost use Rattle.packet_heads.specs.code.Order.{AreNumberedFrom, PayloadsRise, TimesFit};
 ghost use Rattle.tcp_streams.specs.code.Orderly.{AreMembers};
 ghost use Rattle.tcp_streams.specs.declared.members.Connection.{Connection};
-ghost use Rattle.job_crew.specs.declared.parts.Part.{Part};
+ghost use Rattle.stop_desk.specs.declared.parts.Part.{Part};
 ghost use Rattle.audit_report.specs.code.Reported.{AreToldOf, HasOrderlyOutcome};
 ghost use Rattle.audit_report.specs.declared.audited.Audited.{Audited};
 ghost use Rattle.audit_report.specs.declared.told.Told.{Told};
@@ -22,12 +22,12 @@ use audit_report::{Outcome, Told};
 use audit_rounds::{Division, findings_of_each};
 use audit_terms::{Finding, Frame, Place};
 use command_line::Options;
-use job_crew::{Gate, Part, settle};
 use packet_heads::Packets;
 use pcap_records::Capture;
 use std::alloc::{AllocError, Global};
 use std::thread::Threads;
 use std::vec::IntoIter;
+use stop_desk::{Gate, Part, Team, settle};
 use tcp_streams::Connection;
 
 /// What the flows of each connection hold, in order.
@@ -60,7 +60,13 @@ pub(crate) fn flows_each(
         packets,
         opened,
     };
-    let settled = settle(rt, alloc, workers, gate, FLOWS, stops.as_slice(), &round)?;
+    let team = Team {
+        rt,
+        alloc,
+        workers,
+        gate,
+    };
+    let settled = settle(&team, FLOWS, stops.as_slice(), &round)?;
     Ok(settled.parts)
 }
 

@@ -12,12 +12,12 @@ use crate::quiet::quiet_connection;
 use audit_report::{AuditedFrames, Outcome, Reach, Told};
 use audit_terms::{Look, Side};
 use h2_frames::{Cut, cut};
-use job_crew::{Round, Work};
 use packet_heads::Packets;
 use pcap_records::Capture;
 use std::alloc::{AllocError, Global};
 use std::marker::Model;
 use std::thread::{Threads, join};
+use stop_desk::{Round, Work};
 use tcp_streams::{Connection, Flow, assemble};
 
 /// What is made for each side of a connection.

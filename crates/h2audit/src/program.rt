@@ -16,7 +16,6 @@ use crate::status::ending;
 use crate::verdict::Verdict;
 use byte_accounts::{CaptureReader, ReportWriter, write_report};
 use command_line::{Options, Parsed, parse};
-use job_crew::NoGate;
 use std::alloc::{AllocError, Global};
 use std::io::{ErrorKind, Read, Write};
 use std::process::ExitCode;
@@ -24,6 +23,7 @@ use std::random::RandomSource;
 use std::rt::Env;
 use std::thread::Threads;
 use std::{env, io};
+use stop_desk::NoGate;
 
 /// The exit status for words that do not parse.
 const WORDS_REFUSED: u8 = 2;

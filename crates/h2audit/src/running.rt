@@ -12,13 +12,13 @@ use crate::reading::read_capture;
 use crate::verdict::Verdict;
 use byte_accounts::{CaptureReader, ReportWriter, write_report};
 use command_line::Options;
-use job_crew::Gate;
 use packet_heads::PacketWalk;
 use pcap_records::PcapFault;
 use std::alloc::{AllocError, Global};
 use std::io::{Read, Write};
 use std::random::RandomSource;
 use std::thread::Threads;
+use stop_desk::Gate;
 
 /// Reads a capture to its end, audits it, writes its report and flushes once.
 ///

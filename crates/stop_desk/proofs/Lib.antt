@@ -1,7 +1,10 @@
 pub mod Weights
-pub mod Marks
-pub mod Keeping
 pub mod Steps
-pub mod Settling
-pub mod Names
-pub mod Looking
+pub mod PassViews
+pub mod RoundMembers
+pub mod RoundSteps
+pub mod RoundMerge
+pub mod RoundExamples
+pub mod RoundCuts
+pub mod Working
+pub mod CrewDone

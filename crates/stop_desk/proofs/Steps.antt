@@ -1,27 +1,106 @@
--- Each step of a pass keeps the rule, and tells what its play says.
-use Rattle.std.proofs.Common.{◌≡◌, ℕ, ◌+◌, ◌-◌, ◌%◌, ◌^◌, ◌<◌, ◌≤◌, ◌≢◌, min, nat_lt, if◌then◌else◌, List, [], ◌∷◌}
-use Rattle.std.proofs.Common.{◌++◌, length, get_or, set, subst, sym, refl, ap, ◌∙◌, inl, inr, ⊎_elim, arith}
-use Rattle.std.proofs.Common.{length-append, length-set, get_or-set_same, get_or-set_other, le-ltb}
+-- How the parts of the rule go over a step, that each step of a pass keeps the rule, and what its play says.
+use Rattle.std.proofs.Common.{◌≡◌, ℕ, ◌+◌, ◌<◌, ◌≤◌, ◌⊎◌, List, [], ◌∷◌, ◌++◌, length, get_or, set, subst, sym, ap}
+use Rattle.std.proofs.Common.{◌∙◌, inl, inr, ⊎_elim, arith, length-append, ◌-◌, ◌%◌, ◌^◌, min, nat_lt, if◌then◌else◌}
+use Rattle.std.proofs.Common.{refl, length-set, get_or-set_same, get_or-set_other, le-ltb}
+use mathlib.Core.Option.{some, none, some-ne-none}
+use lib.ListN.{get_elem?}
+use Rattle.atomic_table.proofs.Lists.{at_set, at_snoc, set_again}
+use Rattle.stop_desk.specs.declared.rule.Knows.{Knows}
+use Rattle.stop_desk.specs.code.Counts.{weigh, times, is_number, once_below, is_mark}
+use Rattle.stop_desk.specs.code.Stop.{past_places}
+use Rattle.stop_desk.specs.code.Rule.{allowance_in, draws_in, drawn_in, seen_in, lowered_in, Dealt, Stops, IsGiven}
+use Rattle.stop_desk.specs.code.Rule.{Fits, knows, share, Kept, Holds, opening_view}
+use Rattle.stop_desk.proofs.Weights.{weigh-set, weigh-snoc, weigh-append, weigh-same, weigh-part, weigh-split}
+use Rattle.stop_desk.proofs.Weights.{weigh-join, once_below-next, once_below-self, mark-here, marks-snoc_cases}
+use Rattle.stop_desk.proofs.Weights.{seen-cases}
 use Rattle.std.proofs.lemmas.List.{set-get_or}
-use mathlib.Core.Option.{none, some, some-ne-none}
 use mathlib.Core.Logic.{dite}
 use native.Mathlib.Decide.{ℕ_discrete}
-use lib.ListN.{get_elem?}
 use Rattle.atomic_table.specs.Table.{State, step, keeps, Allows, Splits, Joins, opening}
-use Rattle.atomic_table.proofs.Lists.{set_again}
-use Rattle.stop_desk.specs.declared.rule.Knows.{Knows}
 use Rattle.stop_desk.specs.declared.rule.Opening.{Opening}
-use Rattle.stop_desk.specs.code.Counts.{weigh, times, is_number, marks, is_mark}
-use Rattle.stop_desk.specs.code.Stop.{past_places}
-use Rattle.stop_desk.specs.code.Rule.{knows, share, allowance_in, draws_in, drawn_in, seen_in, lowered_in, IsGiven}
-use Rattle.stop_desk.specs.code.Rule.{Kept, Holds, opening_view}
 use Rattle.stop_desk.specs.code.Plays.{PassState, drawn_by, Sees, seen_by, Lowers, lowered_by, learned_by, kept_part}
 use Rattle.stop_desk.specs.code.Plays.{given_part, joined, spent}
-use Rattle.stop_desk.proofs.Weights.{weigh-append, weigh-snoc, weigh-set, weigh-same, weigh-part, weigh-split}
-use Rattle.stop_desk.proofs.Weights.{weigh-join}
-use Rattle.stop_desk.proofs.Marks.{once_below-self, mark-here, marks-snoc_cases, seen-cases}
-use Rattle.stop_desk.proofs.Keeping.{dealt-kept, dealt-more, stops-step, stops-kept, given-more, fits-set, fits-snoc}
-use Rattle.stop_desk.proofs.Keeping.{fits-sharing}
+
+-- a step from the words and views of a state to others
+module _ (o : Opening) (s : State (Unit {0}) Knows) (h : Holds o s) (words : List ℕ) (views : List Knows)
+    (long : length words ≡ length s.words) where
+  -- draws are kept where word 0 and the sums are
+  dealt-kept : get_or words 0 0 ≡ get_or s.words 0 0 → weigh allowance_in views ≡ weigh allowance_in s.views
+      → weigh draws_in views ≡ weigh draws_in s.views
+      → ((x : ℕ) → weigh (drawn_in x) views ≡ weigh (drawn_in x) s.views) → Dealt o.whole words views
+  dealt-kept same allowances draws drawn = record {
+    in_word = h.0.in_word;
+    some_word = let d = h.0.some_word in omega arith;
+    whole_is = let d = h.0.whole_is in omega arith;
+    lengths = let d = h.0.lengths in omega arith;
+    each_once = λ x. drawn x ∙ h.0.each_once x ∙ ap (once_below x) (sym same);
+  }
+
+  -- what was given is given still
+  given-more : ((c p : ℕ) → 0 < weigh (lowered_in c p) s.views → 0 < weigh (lowered_in c p) views) → (c p : ℕ)
+      → IsGiven o.words.items s.views c p → IsGiven o.words.items views c p
+  given-more more c p given = ⊎_elim (λ is. inl is) (λ low. inr (more c p low)) given
+
+  -- stops are kept where words only fall, to what was lowered, and what is lowered or seen anew fits
+  stops-step : ((c : ℕ) → get_or words (c + 1) 0 ≤ get_or s.words (c + 1) 0)
+      → ((c p : ℕ) → 0 < weigh (lowered_in c p) s.views → 0 < weigh (lowered_in c p) views)
+      → ((c p : ℕ) → 0 < weigh (lowered_in c p) views
+      → (0 < weigh (lowered_in c p) s.views) ⊎ ((get_or words (c + 1) 0 ≤ p) × (p < past_places)))
+      → ((c p : ℕ) → 0 < weigh (seen_in c p) views → (0 < weigh (seen_in c p) s.views)
+      ⊎ ((get_or words (c + 1) 0 ≤ p) × (p < past_places) × IsGiven o.words.items views c p))
+      → ((c : ℕ) → (get_or words (c + 1) 0 ≡ get_or s.words (c + 1) 0)
+      ⊎ (0 < weigh (lowered_in c (get_or words (c + 1) 0)) views))
+      → Stops o.words.items words views
+  stops-step falls more lowered seen reached = record {
+    wide = long ∙ h.1.wide;
+    below_opening = λ c. let d = h.1.below_opening c in let low = falls c in omega arith;
+    below_lowered = λ c p there. ⊎_elim
+        (λ old. let d = h.1.below_lowered c p old in let low = falls c in (omega arith, d.1))
+        (λ new. new)
+        (lowered c p there);
+    below_seen = λ c p there. ⊎_elim
+        (λ old.
+        let d = h.1.below_seen c p old in let low = falls c in (omega arith, d.1, given-more more c p d.2))
+        (λ new. new)
+        (seen c p there);
+    reached = λ c. ⊎_elim
+        (λ same. rw same (given-more more c (get_or s.words (c + 1) 0) (h.1.reached c)))
+        (λ low. inr low)
+        (reached c);
+  }
+
+  -- stops are kept where the stop words and the sums are
+  stops-kept : ((c : ℕ) → get_or words (c + 1) 0 ≡ get_or s.words (c + 1) 0)
+      → ((c p : ℕ) → weigh (lowered_in c p) views ≡ weigh (lowered_in c p) s.views)
+      → ((c p : ℕ) → weigh (seen_in c p) views ≡ weigh (seen_in c p) s.views) → Stops o.words.items words views
+  stops-kept same lowered seen =
+      stops-step (λ c. let e = same c in omega arith) (λ c p there. let e = lowered c p in omega arith)
+      (λ c p there. let e = lowered c p in inl (omega arith)) (λ c p there. let e = seen c p in inl (omega arith))
+      (λ c. inl (same c))
+
+pub fits-set : (opened : List ℕ) (views : List Knows) (id : ℕ) (w : Knows) → Fits opened w
+    → ((j : ℕ) (u : Knows) → get_elem? views j ≡ some u → Fits opened u)
+    → (j : ℕ) (u : Knows) → get_elem? (set views id w) j ≡ some u → Fits opened u
+fits-set opened views id w new all j u at = ⊎_elim
+    (λ here. subst (Fits opened) here.1 new)
+    (λ there. all j u there.1)
+    (at_set views id j w u at)
+
+pub fits-snoc : (opened : List ℕ) (views : List Knows) (w : Knows) → Fits opened w
+    → ((j : ℕ) (u : Knows) → get_elem? views j ≡ some u → Fits opened u)
+    → (j : ℕ) (u : Knows) → get_elem? (views ++ w ∷ []) j ≡ some u → Fits opened u
+fits-snoc opened views w new all j u at = ⊎_elim
+    (λ there. all j u there)
+    (λ is. subst (Fits opened) is new)
+    (at_snoc views w u j at)
+
+-- a pass with a share knows what the desk was opened with
+pub fits-sharing : (opened : List ℕ) (v w : Knows) → Fits opened v → w.opened ≡ v.opened
+    → 0 < length v.drawn + v.allowance → 0 < length w.drawn + w.allowance → Fits opened w
+fits-sharing opened v w fits same some_share some_share' = record {
+  idle = λ none. absurd (omega arith);
+  knowing = λ _. same ∙ fits.knowing some_share;
+}
 
 -- at the start
 pub starts : (o : Opening) → o.whole < 2 ^ 64 → 0 < length o.words.items → get_or o.words.items 0 0 ≡ 0
@@ -45,257 +124,250 @@ starts o fits wide zeroth = (
       (λ j u at. absurd (some-ne-none u (sym at))),
 )
 
--- a draw
+-- a step of the pass `id`, which knew v
+module _ (o : Opening) (s : State (Unit {0}) Knows) (id : ℕ) (v : Knows) (h : Holds o s)
+    (at : get_elem? s.views id ≡ some v) where
+  abbrev opened : List ℕ
+  opened = o.words.items
+
+  -- the views after it, where the pass then knows w
+  abbrev after : Knows → List Knows
+  after w = set s.views id w
+
+  same : (f : Knows → ℕ) (w : Knows) → f w ≡ f v → weigh f (after w) ≡ weigh f s.views
+  same f w e = weigh-same f s.views id v w at e
+
+  changed : (f : Knows → ℕ) (w : Knows) → weigh f (after w) + f v ≡ weigh f s.views + f w
+  changed f w = weigh-set f s.views id v w at
+
+  part : (f : Knows → ℕ) → f v ≤ weigh f s.views
+  part f = weigh-part f s.views id v at
+
+  fits : (w : Knows) → w.opened ≡ v.opened → 0 < share v → 0 < share w → (j : ℕ) (u : Knows)
+      → get_elem? (after w) j ≡ some u → Fits opened u
+  fits w e some_share some_share' =
+      fits-set opened s.views id w (fits-sharing opened v w (h.2 id v at) e some_share some_share') h.2
+
+  -- a draw
+  abbrev drew : Knows
+  drew = knows v.opened (v.allowance - 1) (v.drawn ++ get_or s.words 0 0 ∷ []) v.seen v.lowered
+
+  draw-kept : 0 < v.allowance → Kept o.whole opened (set s.words 0 ((get_or s.words 0 0 + 1) % 2 ^ 64)) (after drew)
+  draw-kept left =
+      let n : ℕ = get_or s.words 0 0 in
+      let words : List ℕ = set s.words 0 ((n + 1) % 18446744073709551616) in
+      let whole = h.0.whole_is in
+      let small = h.0.in_word in
+      let some = part allowance_in in
+      let wraps : (n + 1) % 18446744073709551616 ≡ n + 1 = omega arith in
+      let next : get_or words 0 0 ≡ n + 1 = get_or-set_same s.words 0 _ 0 h.0.some_word ∙ wraps in
+      let more = length-append v.drawn (n ∷ []) in
+      let long : length words ≡ length s.words = length-set s.words 0 _ in (
+        record {
+          in_word = h.0.in_word;
+          some_word = let d = h.0.some_word in omega arith;
+          whole_is = let sum = changed allowance_in drew in omega arith;
+          lengths = let d = h.0.lengths in let sum = changed draws_in drew in omega arith;
+          each_once = λ x.
+              let d = h.0.each_once x in
+              let sum = changed (drawn_in x) drew in
+              let one = weigh-snoc (is_number x) v.drawn n in
+              let once = once_below-next x n in
+              let all : weigh (drawn_in x) (after drew) ≡ once_below x (n + 1) = omega arith in
+              all ∙ ap (once_below x) (sym next);
+        },
+        stops-kept o s h words (after drew) long (λ c. get_or-set_other s.words 0 (c + 1) _ 0 (λ e. omega arith))
+            (λ c p. same (lowered_in c p) drew refl) (λ c p. same (seen_in c p) drew refl),
+        fits drew refl (omega arith) (omega arith),
+      )
+
+  draw-fresh : times (get_or s.words 0 0) v.drawn ≡ 0
+  draw-fresh =
+      let n : ℕ = get_or s.words 0 0 in
+      let one = part (drawn_in n) in
+      let once = h.0.each_once n in
+      let none_yet = once_below-self n in
+      omega arith
+
+  -- a look at the stop of connection c
+  abbrev saw : (c : ℕ) → Knows
+  saw c =
+      knows v.opened v.allowance v.drawn
+      (if nat_lt (get_or s.words (c + 1) 0) past_places then v.seen ++ (c, get_or s.words (c + 1) 0) ∷ [] else v.seen)
+      v.lowered
+
+  -- what the pass knew of connection c is not below the stop word
+  sees-below : (c : ℕ) (me : PassState) → 0 < share v →
+      Sees c (v, me.1) (get_or s.words (c + 1) 0) (saw c, me.1)
+  sees-below c me some_share = record {
+    opening = subst (λ os. get_or s.words (c + 1) 0 ≤ get_or os (c + 1) 0) (sym ((h.2 id v at).knowing some_share))
+        (h.1.below_opening c);
+    lowered = λ p there. let some = part (lowered_in c p) in h.1.below_lowered c p (omega arith);
+    seen = λ p there.
+        let some = part (seen_in c p) in let fact = h.1.below_seen c p (omega arith) in (fact.0, fact.1);
+    added = refl;
+  }
+
+  look-kept : (c : ℕ) → 0 < share v → Kept o.whole opened s.words (after (saw c))
+  look-kept c some_share =
+      let n : ℕ = get_or s.words (c + 1) 0 in
+      let w : Knows = saw c in
+      let low : (c' p : ℕ) → weigh (lowered_in c' p) (after w) ≡ weigh (lowered_in c' p) s.views =
+      λ c' p. same (lowered_in c' p) w refl in (
+        dealt-kept o s h s.words (after w) refl refl (same allowance_in w refl) (same draws_in w refl)
+            (λ x. same (drawn_in x) w refl),
+        stops-step o s h s.words (after w) refl
+            (λ c'. omega arith)
+            (λ c' p there. let e = low c' p in omega arith)
+            (λ c' p there. let e = low c' p in inl (omega arith))
+            (λ c' p there. let sum = changed (seen_in c' p) w in ⊎_elim
+            (λ same. inl (omega arith))
+            (λ new. rw (new.0, new.1) (inr (
+              omega arith,
+              new.2,
+              given-more o s h s.words (after w) refl (λ c p there'. let e = low c p in omega arith) c n
+                  (h.1.reached c),
+            )))
+            (seen-cases (nat_lt n past_places) c' p c n v.seen refl))
+            (λ c'. inl refl),
+        fits w refl some_share some_share,
+      )
+
+  -- a lowering of the stop of connection c to p
+  abbrev lowered : (c p : ℕ) → Knows
+  lowered c p = knows v.opened v.allowance v.drawn v.seen (v.lowered ++ (c, p) ∷ [])
+
+  abbrev fallen : (c p : ℕ) → List ℕ
+  fallen c p = set s.words (c + 1) (min (get_or s.words (c + 1) 0) p)
+
+  lower-kept : (c p : ℕ) → 0 < share v → c + 1 < length v.opened → p < past_places →
+      Kept o.whole opened (fallen c p) (after (lowered c p))
+  lower-kept c p some_share there place =
+      let n : ℕ = get_or s.words (c + 1) 0 in
+      let w : Knows = lowered c p in
+      let words : List ℕ = fallen c p in
+      let long : length words ≡ length s.words = length-set s.words (c + 1) (min n p) in
+      let inside : c + 1 < length s.words =
+      (let wide : length v.opened ≡ length opened = ap length ((h.2 id v at).knowing some_share) in
+      let wide' = h.1.wide in omega arith) in
+      let here : get_or words (c + 1) 0 ≡ min n p = get_or-set_same s.words (c + 1) (min n p) 0 inside in
+      let elsewhere = λ (c' : ℕ) (apart : c' ≡ c → ⊥).
+      get_or-set_other s.words (c + 1) (c' + 1) (min n p) 0 (λ e. apart (omega arith)) in
+      let more : (c' p' : ℕ) → weigh (lowered_in c' p') (after w) ≡ weigh (lowered_in c' p') s.views
+      + is_mark c' p' (c, p) =
+      λ c' p'. (let sum = changed (lowered_in c' p') w in
+      let marked = weigh-snoc (is_mark c' p') v.lowered (c, p) in omega arith) in (
+        dealt-kept o s h words (after w) long
+            (get_or-set_other s.words (c + 1) 0 (min n p) 0 (λ e. omega arith)) (same allowance_in w refl)
+            (same draws_in w refl) (λ x. same (drawn_in x) w refl),
+        stops-step o s h words (after w) long
+            (λ c'. dite (ℕ_discrete c' c)
+            (λ is. rw is (omega arith))
+            (λ apart. let e = elsewhere c' apart in omega arith))
+            (λ c' p' low. let e = more c' p' in omega arith)
+            (λ c' p' low. let e = changed (lowered_in c' p') w in ⊎_elim
+            (λ same. inl (omega arith))
+            (λ new. rw (new.0, new.1) (inr (omega arith, place)))
+            (marks-snoc_cases c' p' c p v.lowered))
+            (λ c' p' low. let e = same (seen_in c' p') w refl in inl (omega arith))
+            (λ c'. dite (ℕ_discrete c' c)
+            (λ is. rw is (dite (ℕ_discrete (min n p) n)
+            (λ unmoved. inl (here ∙ unmoved))
+            (λ moved.
+            let low : get_or words (c + 1) 0 ≡ p = omega arith in
+            let e = more c p in let one = mark-here c p in
+            inr (rw low (omega arith)))))
+            (λ apart. inl (elsewhere c' apart))),
+        fits w refl some_share some_share,
+      )
+
+  -- two passes made of one
+  split-kept : (amount : ℕ) → 0 < amount → amount < v.allowance →
+      Kept o.whole opened s.words (after (kept_part amount v) ++ given_part amount v ∷ [])
+  split-kept amount some_part less =
+      let left : Knows = kept_part amount v in
+      let right : Knows = given_part amount v in
+      let views : List Knows = after left ++ right ∷ [] in
+      let sum = λ (f : Knows → ℕ) (whole : f left + f right ≡ f v). weigh-split f s.views id v left right at whole in (
+        dealt-kept o s h s.words views refl refl (sum allowance_in (omega arith))
+            (sum draws_in (omega arith)) (λ x. sum (drawn_in x) (omega arith)),
+        stops-kept o s h s.words views refl (λ c. refl) (λ c p. sum (lowered_in c p) (omega arith))
+            (λ c p. sum (seen_in c p) (omega arith)),
+        fits-snoc opened (after left) right
+            (fits-sharing opened v right (h.2 id v at) refl (omega arith) (omega arith))
+            (fits left refl (omega arith) (omega arith)),
+      )
+
+  -- and one of two
+  join-kept : (other : ℕ) (w : Knows) → get_elem? (after (joined v w)) other ≡ some w → 0 < share v →
+      Kept o.whole opened s.words (set (after (joined v w)) other spent)
+  join-kept other w at' some_share =
+      let both : Knows = joined v w in
+      let views : List Knows = set (after both) other spent in
+      let sum = λ (f : Knows → ℕ) (whole : f both + f spent ≡ f v + f w).
+      weigh-join f s.views id other v w both spent at at' whole in
+      let longer = length-append v.drawn w.drawn in (
+        dealt-kept o s h s.words views refl refl (sum allowance_in (omega arith))
+            (sum draws_in (omega arith))
+            (λ x. sum (drawn_in x) (let all = weigh-append (is_number x) v.drawn w.drawn in omega arith)),
+        stops-kept o s h s.words views refl (λ c. refl)
+            (λ c p. sum (lowered_in c p) (let all = weigh-append (is_mark c p) v.lowered w.lowered in omega arith))
+            (λ c p. sum (seen_in c p) (let all = weigh-append (is_mark c p) v.seen w.seen in omega arith)),
+        fits-set opened (after both) other spent
+            (record { idle = λ _. (refl, refl); knowing = λ low. absurd (omega arith) })
+            (fits both refl some_share (omega arith)),
+      )
+
 pub draws : (o : Opening) (slots id : ℕ) (me : PassState) → 0 < me.0.allowance
     → Allows (Holds o) slots id me 0 (λ n. (n + 1) % 2 ^ 64) (drawn_by (step slots 0 1 0 none) me)
-draws o slots id me left s h _ at _ =
-    let v : Knows = me.0 in
-    let n : ℕ = get_or s.words 0 0 in
-    let w : Knows = knows v.opened (v.allowance - 1) (v.drawn ++ n ∷ []) v.seen v.lowered in
-    let d = h.0 in
-    let whole = d.whole_is in
-    let small = d.in_word in
-    let wide = d.some_word in
-    let part : v.allowance ≤ weigh allowance_in s.views = weigh-part allowance_in s.views id v at in
-    let wraps : (n + 1) % 18446744073709551616 ≡ n + 1 = omega arith in
-    let next : get_or (set s.words 0 ((n + 1) % 18446744073709551616)) 0 0 ≡ n + 1 = get_or-set_same s.words 0 _ 0 wide
-    ∙ wraps in
-    let words : List ℕ = set s.words 0 ((n + 1) % 18446744073709551616) in
-    let long : length words ≡ length s.words = length-set s.words 0 _ in
-    let fresh : times n v.drawn ≡ 0 =
-    (let one : times n v.drawn ≤ weigh (drawn_in n) s.views = weigh-part (drawn_in n) s.views id v at in
-    let once = d.each_once n in
-    let none_yet = once_below-self n in
-    omega arith) in (
-      w,
-      keeps,
-      tt,
-      (
-        dealt-more o.whole s.words words s.views id v w at long next (omega arith) refl d,
-        stops-kept o.words.items s.words words s.views (set s.views id w) long
-            (λ c. get_or-set_other s.words 0 (c + 1) _ 0 (λ e. omega arith))
-            (λ c p. weigh-same (lowered_in c p) s.views id v w at refl)
-            (λ c p. weigh-same (seen_in c p) s.views id v w at refl)
-            h.1,
-        fits-set o.words.items s.views id w
-            (fits-sharing o.words.items v w (h.2 id v at) refl (omega arith)
-            (let more = length-append v.drawn (n ∷ []) in omega arith))
-            h.2,
-      ),
-      (omega arith, fresh, refl),
-    )
-
--- a look at the stop of connection c
-abbrev seen_after : (c n : ℕ) → Knows → Knows
-seen_after c n v = knows v.opened v.allowance v.drawn (if nat_lt n past_places then v.seen ++ (c, n) ∷ [] else v.seen)
-    v.lowered
-
--- what the pass knew of connection c is not below the stop word
-known : (o : Opening) (s : State (Unit {0}) Knows) (id : ℕ) (v : Knows) (c : ℕ) → Holds o s
-    → get_elem? s.views id ≡ some v → 0 < share v
-    → (get_or s.words (c + 1) 0 ≤ get_or v.opened (c + 1) 0)
-    × ((p : ℕ) → 0 < marks c p v.lowered → (get_or s.words (c + 1) 0 ≤ p) × (p < past_places))
-    × ((p : ℕ) → 0 < marks c p v.seen → (get_or s.words (c + 1) 0 ≤ p) × (p < past_places))
-known o s id v c h at some_share = (
-  subst (λ opened. get_or s.words (c + 1) 0 ≤ get_or opened (c + 1) 0) (sym ((h.2 id v at).knowing some_share))
-      (h.1.below_opening c),
-  (λ p there.
-      let part : marks c p v.lowered ≤ weigh (lowered_in c p) s.views = weigh-part (lowered_in c p) s.views id v at in
-      h.1.below_lowered c p (omega arith)),
-  (λ p there.
-      let part : marks c p v.seen ≤ weigh (seen_in c p) s.views = weigh-part (seen_in c p) s.views id v at in
-      let fact = h.1.below_seen c p (omega arith) in
-      (fact.0, fact.1)),
+draws o slots id me left s h _ at _ = (
+  drew o s id me.0 h at,
+  keeps,
+  tt,
+  draw-kept o s id me.0 h at left,
+  (omega arith, draw-fresh o s id me.0 h at, refl),
 )
-
-looked : (o : Opening) (s : State (Unit {0}) Knows) (id : ℕ) (v : Knows) (c : ℕ) → Holds o s
-    → get_elem? s.views id ≡ some v → 0 < share v
-    → Kept o.whole o.words.items s.words (set s.views id (seen_after c (get_or s.words (c + 1) 0) v))
-looked o s id v c h at some_share =
-    let n : ℕ = get_or s.words (c + 1) 0 in
-    let w : Knows = seen_after c n v in
-    let low : (c' p : ℕ) → weigh (lowered_in c' p) (set s.views id w) ≡ weigh (lowered_in c' p) s.views =
-    λ c' p. weigh-same (lowered_in c' p) s.views id v w at refl in (
-      dealt-kept o.whole s.words s.words s.views (set s.views id w) refl refl
-          (weigh-same allowance_in s.views id v w at refl)
-          (weigh-same draws_in s.views id v w at refl)
-          (λ x. weigh-same (drawn_in x) s.views id v w at refl)
-          h.0,
-      stops-step o.words.items s.words s.words s.views (set s.views id w) refl
-          (λ c'. omega arith)
-          (λ c' p there. let e = low c' p in omega arith)
-          (λ c' p there. let e = low c' p in inl (omega arith))
-          (λ c' p there.
-          let sum : weigh (seen_in c' p) (set s.views id w) + marks c' p v.seen ≡ weigh (seen_in c' p) s.views + marks
-          c' p w.seen =
-          weigh-set (seen_in c' p) s.views id v w at in
-          ⊎_elim
-          (λ same. inl (omega arith))
-          (λ new. inr (subst (λ (m : ℕ × ℕ). (get_or s.words (m.0 + 1) 0 ≤ m.1) × (m.1 < past_places)
-          × IsGiven o.words.items (set s.views id w) m.0 m.1)
-          (λ i. (sym new.0 i, sym new.1 i)) (
-            omega arith,
-            new.2,
-            given-more o.words.items s.views (set s.views id w) c n
-                (λ there'. let e = low c n in omega arith) (h.1.reached c),
-          )))
-          (seen-cases (nat_lt n past_places) c' p c n v.seen refl))
-          (λ c'. inl refl)
-          h.1,
-      fits-set o.words.items s.views id w (fits-sharing o.words.items v w (h.2 id v at) refl some_share some_share) h.2,
-    )
 
 pub sees : (o : Opening) (slots id : ℕ) (me : PassState) (c : ℕ) → 0 < share me.0
     → Allows (Holds o) slots id me (c + 1) (λ n. n) (seen_by (step slots (c + 1) 0 0 none) me)
-sees o slots id me c some_share s h _ at _ =
-    let v : Knows = me.0 in
-    let n : ℕ = get_or s.words (c + 1) 0 in
-    let w : Knows = seen_after c n v in
-    let facts = known o s id v c h at some_share in (
-      w,
-      keeps,
-      tt,
-      subst (λ words. Kept o.whole o.words.items words (set s.views id w)) (sym (set-get_or s.words (c + 1) 0))
-          (looked o s id v c h at some_share),
-      (λ c' same. subst (λ k. Sees k me n (w, me.1)) (let e : c + 1 ≡ c' + 1 = same in omega arith)
-          (record { opening = facts.0; lowered = facts.1; seen = facts.2; added = refl })),
-    )
-
--- a lowering of the stop of connection c to p
-abbrev lowered_after : (c p : ℕ) → Knows → Knows
-lowered_after c p v = knows v.opened v.allowance v.drawn v.seen (v.lowered ++ (c, p) ∷ [])
-
-fallen : (words : List ℕ) (c p c' : ℕ) → c + 1 < length words
-    → (get_or (set words (c + 1) (min (get_or words (c + 1) 0) p)) (c' + 1) 0 ≤ get_or words (c' + 1) 0)
-    × ((c' ≡ c → get_or (set words (c + 1) (min (get_or words (c + 1) 0) p)) (c' + 1) 0 ≡ min
-    (get_or words (c + 1) 0) p)
-    × (c' ≢ c → get_or (set words (c + 1) (min (get_or words (c + 1) 0) p)) (c' + 1) 0 ≡ get_or words (c' + 1) 0))
-fallen words c p c' wide =
-    let least : ℕ = min (get_or words (c + 1) 0) p in
-    let here : c' ≡ c → get_or (set words (c + 1) least) (c' + 1) 0 ≡ least =
-    λ same. ap (λ k. get_or (set words (c + 1) least) (k + 1) 0) same ∙ get_or-set_same words (c + 1) least 0 wide in
-    let elsewhere : c' ≢ c → get_or (set words (c + 1) least) (c' + 1) 0 ≡ get_or words (c' + 1) 0 =
-    λ apart. get_or-set_other words (c + 1) (c' + 1) least 0 (λ e. apart (omega arith)) in (
-      dite (ℕ_discrete c' c)
-          (λ same. let e = here same in let word : get_or words (c' + 1) 0 ≡ get_or words (c + 1) 0 = ap
-          (λ k. get_or words (k + 1) 0) same in omega arith)
-          (λ apart. let e = elsewhere apart in omega arith),
-      (here, elsewhere),
-    )
+sees o slots id me c some_share s h _ at _ = (
+  saw o s id me.0 h at c,
+  keeps,
+  tt,
+  rw (set-get_or s.words (c + 1) 0) (look-kept o s id me.0 h at c some_share),
+  (λ c' same. subst (λ k. Sees k me (get_or s.words (c + 1) 0) (saw o s id me.0 h at c, me.1))
+      (let e : c + 1 ≡ c' + 1 = same in omega arith) (sees-below o s id me.0 h at c me some_share)),
+)
 
 pub lowers : (o : Opening) (slots id : ℕ) (me : PassState) (c p : ℕ) → 0 < share me.0 → c + 1 < length me.0.opened
     → p < past_places
     → Allows (Holds o) slots id me (c + 1) (λ n. min n p) (lowered_by (step slots (c + 1) p 0 none) me)
-lowers o slots id me c p some_share there place s h _ at _ =
-    let v : Knows = me.0 in
-    let w : Knows = lowered_after c p v in
-    let n : ℕ = get_or s.words (c + 1) 0 in
-    let words : List ℕ = set s.words (c + 1) (min n p) in
-    let views : List Knows = set s.views id w in
-    let long : length words ≡ length s.words = length-set s.words (c + 1) (min n p) in
-    let inside : c + 1 < length s.words =
-    (let opened : length v.opened ≡ length o.words.items = ap length
-    ((h.2 id v at).knowing some_share) in let wide = h.1.wide in omega arith) in
-    let falls = λ (c' : ℕ). fallen s.words c p c' inside in
-    let sum : (c' p' : ℕ) → weigh (lowered_in c' p') views + marks c' p' v.lowered ≡ weigh
-    (lowered_in c' p') s.views + marks c' p' w.lowered =
-    λ c' p'. weigh-set (lowered_in c' p') s.views id v w at in
-    let more : (c' p' : ℕ) → marks c' p' w.lowered ≡ marks c' p' v.lowered + is_mark c' p' (c, p) =
-    λ c' p'. weigh-snoc (is_mark c' p') v.lowered (c, p) in (
-      w,
-      keeps,
-      tt,
-      (
-        dealt-kept o.whole s.words words s.views views long
-            (get_or-set_other s.words (c + 1) 0 (min n p) 0 (λ e. omega arith))
-            (weigh-same allowance_in s.views id v w at refl)
-            (weigh-same draws_in s.views id v w at refl)
-            (λ x. weigh-same (drawn_in x) s.views id v w at refl)
-            h.0,
-        stops-step o.words.items s.words words s.views views long
-            (λ c'. (falls c').0)
-            (λ c' p' low. let e = sum c' p' in let e' = more c' p' in omega arith)
-            (λ c' p' low. let e = sum c' p' in ⊎_elim
-            (λ same. inl (omega arith))
-            (λ new. let word = (falls c').1.0 new.0 in let is = new.1 in inr (omega arith, omega arith))
-            (marks-snoc_cases c' p' c p v.lowered))
-            (λ c' p' low. let e : weigh (seen_in c' p') views ≡ weigh (seen_in c' p') s.views = weigh-same
-            (seen_in c' p') s.views id v w at refl in inl (omega arith))
-            (λ c'. dite (ℕ_discrete c' c)
-            (λ same. dite (ℕ_discrete (min n p) n)
-            (λ unmoved. let word = (falls c').1.0 same in inl
-            (word ∙ unmoved ∙ ap (λ k. get_or s.words (k + 1) 0) (sym same)))
-            (λ moved.
-            let word = (falls c').1.0 same in
-            let is : get_or words (c' + 1) 0 ≡ p = omega arith in
-            let e = sum c p in let e' = more c p in let one = mark-here c p in
-            let low : 0 < weigh (lowered_in c p) views = omega arith in
-            inr (subst (λ (m : ℕ × ℕ). 0 < weigh (lowered_in m.0 m.1) views) (λ i. (sym same i, sym is i)) low)))
-            (λ apart. inl ((falls c').1.1 apart)))
-            h.1,
-        fits-set o.words.items s.views id w
-            (fits-sharing o.words.items v w (h.2 id v at) refl some_share some_share) h.2,
-      ),
-      (λ c' same. subst (λ k. Lowers k p me (w, me.1)) (let e : c + 1 ≡ c' + 1 = same in omega arith) refl),
-    )
+lowers o slots id me c p some_share there place s h _ at _ = (
+  lowered o s id me.0 h at c p,
+  keeps,
+  tt,
+  lower-kept o s id me.0 h at c p some_share there place,
+  (λ c' same. subst (λ k. Lowers k p me (lowered o s id me.0 h at c p, me.1))
+      (let e : c + 1 ≡ c' + 1 = same in omega arith) refl),
+)
 
 -- a load of word 0 that changes nothing
 pub learns : (o : Opening) (slots id : ℕ) (me : PassState)
     → Allows (Holds o) slots id me 0 (λ n. n) (learned_by (step slots 0 0 0 none) me)
 learns o slots id me s h _ at _ =
-    let part : me.0.allowance ≤ weigh allowance_in s.views = weigh-part allowance_in s.views id me.0 at in
+    let part = weigh-part allowance_in s.views id me.0 at in
     let whole = h.0.whole_is in
     let small = h.0.in_word in (
       me.0,
       keeps,
       tt,
-      subst (λ (m : List ℕ × List Knows). Kept o.whole o.words.items m.0 m.1)
-          (λ i. (sym (set-get_or s.words 0 0) i, sym (set_again s.views id me.0 at) i)) h,
+      rw (set-get_or s.words 0 0, set_again s.views id me.0 at) h,
       (omega arith, refl),
     )
 
 pub splits : (o : Opening) (id amount : ℕ) (v : Knows) → 0 < amount → amount < v.allowance
     → Splits (Holds o) id v (kept_part amount v) (given_part amount v)
-splits o id amount v some_part part s h at =
-    let left : Knows = kept_part amount v in
-    let right : Knows = given_part amount v in
-    let views : List Knows = set s.views id left ++ right ∷ [] in (
-      dealt-kept o.whole s.words s.words s.views views refl refl
-          (weigh-split allowance_in s.views id v left right at (omega arith))
-          (weigh-split draws_in s.views id v left right at (omega arith))
-          (λ x. weigh-split (drawn_in x) s.views id v left right at (omega arith))
-          h.0,
-      stops-kept o.words.items s.words s.words s.views views refl (λ c. refl)
-          (λ c p. weigh-split (lowered_in c p) s.views id v left right at (omega arith))
-          (λ c p. weigh-split (seen_in c p) s.views id v left right at (omega arith))
-          h.1,
-      fits-snoc o.words.items (set s.views id left) right
-          (fits-sharing o.words.items v right (h.2 id v at) refl (omega arith) (omega arith))
-          (fits-set o.words.items s.views id left
-          (fits-sharing o.words.items v left (h.2 id v at) refl (omega arith) (omega arith)) h.2),
-    )
+splits o id amount v some_part part s h at = split-kept o s id v h at amount some_part part
 
 pub joins : (o : Opening) (id other : ℕ) (v w : Knows) → 0 < share v → Joins (Holds o) id v other w (joined v w) spent
-joins o id other v w some_share s h at apart at' =
-    let both : Knows = joined v w in
-    let views : List Knows = set (set s.views id both) other spent in (
-      dealt-kept o.whole s.words s.words s.views views refl refl
-          (weigh-join allowance_in s.views id other v w both spent at at' (omega arith))
-          (weigh-join draws_in s.views id other v w both spent at at'
-          (let sum = length-append v.drawn w.drawn in omega arith))
-          (λ x. weigh-join (drawn_in x) s.views id other v w both spent at at'
-          (let sum = weigh-append (is_number x) v.drawn w.drawn in omega arith))
-          h.0,
-      stops-kept o.words.items s.words s.words s.views views refl (λ c. refl)
-          (λ c p. weigh-join (lowered_in c p) s.views id other v w both spent at at'
-          (let sum = weigh-append (is_mark c p) v.lowered w.lowered in omega arith))
-          (λ c p. weigh-join (seen_in c p) s.views id other v w both spent at at'
-          (let sum = weigh-append (is_mark c p) v.seen w.seen in omega arith))
-          h.1,
-      fits-set o.words.items (set s.views id both) other spent
-          (record { idle = λ _. (refl, refl); knowing = λ low. absurd (omega arith) })
-          (fits-set o.words.items s.views id both
-          (fits-sharing o.words.items v both (h.2 id v at) refl some_share
-          (let sum = length-append v.drawn w.drawn in omega arith))
-          h.2),
-    )
+joins o id other v w some_share s h at apart at' = join-kept o s id v h at other w at' some_share

@@ -5,3 +5,9 @@ pub mod Stop
 pub mod Desk
 pub mod Calls
 pub mod Settled
+pub mod Board
+pub mod Worked
+pub mod Heeding
+pub mod Laid
+pub mod Crew
+pub mod Settling

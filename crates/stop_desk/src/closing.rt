@@ -33,6 +33,7 @@ impl Model for Closed {
 
 impl Closed {
     /// How many numbers were drawn in all.
+    #[tactic(auto, using(crate::proofs::PassViews::word_at))]
     pub fn drawn(&self) -> u64
         ensures { result ≡ length self.now.drawn }
     {
@@ -40,7 +41,7 @@ impl Closed {
     }
 
     /// The stop of a connection: the least of its opening stop and of the places lowered for it.
-    #[tactic(auto, using(crate::proofs::Names::word_at))]
+    #[tactic(auto, using(crate::proofs::PassViews::word_at))]
     pub fn stop(&self, connection: usize) -> Option<Place>
         requires { IsConnection self.now.desk connection }
         ensures { result ≡ final_stop self.now connection }

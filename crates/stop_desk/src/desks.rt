@@ -41,7 +41,7 @@ impl Model for Desk {
 fn opening_words(alloc: Global, stops: &[Option<Place>]) -> Result<Vec<u64>, AllocError>
     ensures { IfOk result (λ v. v.items ≡ 0 ∷ map stop_word stops.now) }
 {
-    let mut words = Vec::new(alloc);
+    let mut words = Vec::with_capacity(alloc, stops.len() + 1)?;
     words.push(0)?;
     for stop in stops {
         words.push(word_of(stop))?;
@@ -52,6 +52,7 @@ fn opening_words(alloc: Global, stops: &[Option<Place>]) -> Result<Vec<u64>, All
 impl Desk {
     /// A desk for jobs numbered from 0, with a stop for each connection, and the first pass, which has all draws: each
     /// job once, and one more for each worker. `Err` only where memory runs out.
+    #[tactic(auto, using(crate::proofs::PassViews::stops_made))]
     pub fn make(
         alloc: Global,
         jobs: u32,

@@ -1,7 +1,33 @@
-//! A desk that deals jobs to workers and shares, for each connection, the least place at which one may stop.
+//! Jobs, the places at which connections stop, and the workers that draw the jobs.
 //!
-//! Any program may use it whose workers draw numbered jobs and learn of one another's least findings on the way, on
-//! threads of their own. A [`Desk`] is shared by `&`, and each worker has a [`Pass`], made by [`Pass::split`].
+//! Any program may use it that deals numbered jobs to threads, where what one job finds can end others early.
+//!
+//! # The round
+//!
+//! A [`Round`] says what its jobs are, as if nothing stopped them, and [`settle`] has a [`Team`] do them all: each
+//! worker draws jobs, hands each a [`Look`](audit_terms::Look) at the stop of its connection, lowers the stop where a
+//! finding ends the connection, and lays down a [`Part`]. There are no more workers than jobs.
+//!
+//! - [`crew`] works on a desk that is given, and answers the parts and the closed desk. What is left is a settled board
+//!   (`IsSettled` of `specs/code/Board.antt`), for every number of workers and by whichever order they ran in: one part
+//!   a job, each up to a place that was seen; each error of a part was lowered; each stop is the least of its opening
+//!   stop and what was lowered. So nothing is lost before the stop of a connection, and the stop is its least error.
+//! - [`settle`] gives the parts in the order of jobs, with the stops read, and says of each part that it was not cut
+//!   below its connection's stop (`HasSettled` of `specs/code/Settling.antt`).
+//! - [`Gate`] holds workers back before they start a job, for tests. It has no say in the answer.
+//!
+//! Of an implementor's work it asks that it keeps all findings up to a place, which is none or the answer of one of its
+//! looks, and that it makes the looks that the round says are due (`IsCut`, `Heeds`). Work takes any look, and so
+//! cannot know of desks, nor answer for looks that it did not make. A worker's look owns the worker's pass while a job
+//! runs, and gives it back.
+//!
+//! A worker's promise speaks of its own parts and its own pass, so the induction over workers has one step, a join of
+//! two; closing the desk speaks of all. Each worker begins with one draw more than there are jobs, so it ends where no
+//! job is left and never for want of draws. Want of memory is the one error; after it the desk is gone.
+//!
+//! # The desk
+//!
+//! A [`Desk`] is shared by `&`, and each worker has a [`Pass`], made by [`Pass::split`].
 //!
 //! - [`Pass::claim`] draws the next number: each job goes to one worker, once.
 //! - [`Pass::lower`] gives a place for a connection, and [`Pass::look`] answers a place that is at most each that this
@@ -20,19 +46,60 @@
 //! opening word and what was lowered, and each place seen was given. Nothing is said of who draws what, nor that a
 //! place is seen soon.
 //!
-//! Wrong bodies that the prover refuses: a claim that is always 0, a look that never loads or invents a place, a
-//! lowering that overwrites or is dropped. Tested, in `crate_tests`: two passes in one thread and in two, and that a
-//! look loads and does not answer from what its own pass knows. Trusted: the toolchain's `atomic_table`.
+//! # The laws
+//!
+//! [`laws`] are about workers, and need no code. `specs/laws/Machine.antt` is a machine in which workers draw jobs,
+//! look at stops, lower them and finish parts, an event each: a run is any list of allowed events, so any interleaving.
+//! An event carries its answer, and an answer that could not be is not allowed.
+//!
+//! - [`laws::run_settles`]: once every job is finished, the board is settled: one part a job, each stop the least of
+//!   what it began with and what was lowered, each place seen real.
+//! - [`laws::board_merges`]: of each connection, the parts of a settled board give up to its stop what the whole jobs
+//!   would, and the stop is the least error of all. The reason: each place seen is that of a real error, so none lies
+//!   below the least; each part has everything up to the place that it saw; so the least error is found, lowered and
+//!   kept.
+//! - [`laws::cuts_join`], [`laws::rounds_join`]: parts of several streams make one, and rounds go one after the other.
+//!
+//! They say nothing of progress, and of no thread: that threads leave such a board is the promise of [`crew`].
+//! [`worked_rounds`] shows two workers with a stop that one sees, and steps that no worker may take.
+//!
+//! # What holds it
+//!
+//! Wrong bodies that the prover refuses: a desk made without stops, a claim that is always 0, a look that invents a
+//! place, a lowering that overwrites, the stop of the connection before; parts dropped where two halves join, an
+//! overrun lowered, stops handed on as the round found them.
+//!
+//! Tested, in `crate_tests`: two passes in one thread and in two, that a look loads and does not answer from what its
+//! own pass knows, that a job sees the stop that an earlier one lowered, that two workers are in one round at once, and
+//! how many jobs each round of an audit has. Trusted: the toolchain's `atomic_table`, and std's `join`, which starts
+//! threads, and does the work on the thread at hand where none can be had. That several threads work at once is not
+//! proved.
 #![tactic(auto)]
 
 mod claims;
 mod closing;
+mod crews;
+mod desk_looks;
 mod desks;
+mod gate;
+pub mod laws;
+mod parts;
 mod passes;
+mod rounds;
 mod rule;
+mod settling;
 mod stops;
+mod teams;
+pub mod worked_rounds;
+mod workers;
 
 pub use claims::Claim;
 pub use closing::Closed;
+pub use crews::crew;
 pub use desks::Desk;
+pub use gate::{Gate, NoGate};
+pub use parts::Part;
 pub use passes::Pass;
+pub use rounds::{Round, Work};
+pub use settling::{Settled, settle};
+pub use teams::Team;

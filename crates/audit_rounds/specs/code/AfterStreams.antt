@@ -4,8 +4,8 @@ use Rattle.std.specs.Prelude.{◌≡◌, ℕ, ◌<◌, Bool, List, Option, Vec, 
 use Rattle.std.specs.List.{All, AllZip}
 use Rattle.audit_terms.specs.declared.findings.Finding.{Finding}
 use Rattle.stop_desk.specs.code.Stop.{IsStop}
-use Rattle.job_crew.specs.declared.settling.Settled.{Settled}
-use Rattle.job_crew.specs.code.Settling.{HasSettled}
+use Rattle.stop_desk.specs.declared.settling.Settled.{Settled}
+use Rattle.stop_desk.specs.code.Settling.{HasSettled}
 use Rattle.audit_rounds.specs.declared.prepared.Prepared.{Prepared}
 use Rattle.audit_rounds.specs.declared.streams.Streams.{Streams}
 use Rattle.audit_rounds.specs.code.Within.{IsAfterStreams}

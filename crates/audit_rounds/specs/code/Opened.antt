@@ -4,7 +4,7 @@ use Rattle.std.specs.Prelude.{ℕ, ◌==◌, if◌then◌else◌, Vec, List, []}
 use Rattle.std.specs.List.{flat_map}
 use Rattle.std.specs.List.Sorted.{IsPermutation}
 use Rattle.conn_scan.specs.code.Items.{NeverFallFrom}
-use Rattle.job_crew.specs.declared.parts.Part.{Part}
+use Rattle.stop_desk.specs.declared.parts.Part.{Part}
 
 -- the numbers that the parts of a connection tell, one part after the other
 abbrev pub numbers_told : (connection : ℕ) → List (Part (Vec ℕ Global)) → List ℕ

@@ -9,10 +9,10 @@ use Rattle.audit_terms.specs.code.runs.Blocks.{block_run}
 use Rattle.audit_terms.specs.Finding.{shown}
 use Rattle.audit_terms.specs.code.runs.Look.{Asked}
 use Rattle.conn_scan.specs.code.Items.{items_in}
-use Rattle.job_crew.specs.code.Board.{Job, IsSettled, findings_of_jobs}
-use Rattle.job_crew.specs.declared.parts.Part.{Part}
-use Rattle.job_crew.specs.code.Heeding.{RunLooks}
-use Rattle.job_crew.specs.code.Laid.{part_of, board_with}
+use Rattle.stop_desk.specs.code.Board.{Job, IsSettled, findings_of_jobs}
+use Rattle.stop_desk.specs.declared.parts.Part.{Part}
+use Rattle.stop_desk.specs.code.Heeding.{RunLooks}
+use Rattle.stop_desk.specs.code.Laid.{part_of, board_with}
 use Rattle.audit_rounds.specs.declared.blocks.ConnectionBlock.{ConnectionBlock}
 use Rattle.audit_rounds.specs.declared.block_plans.ReadyBlock.{ReadyBlock}
 use Rattle.audit_rounds.specs.code.Blocks.{IsReady}

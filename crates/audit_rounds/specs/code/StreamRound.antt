@@ -2,7 +2,7 @@
 use Rattle.std.specs.Prelude.{◌≡◌, List, map, Option, ℕ}
 use Rattle.audit_terms.specs.declared.items.Change.{Change}
 use Rattle.audit_terms.specs.declared.findings.Finding.{Finding}
-use Rattle.job_crew.specs.code.Board.{IsLeast, StopsAt}
+use Rattle.stop_desk.specs.code.Board.{IsLeast, StopsAt}
 use Rattle.audit_rounds.specs.declared.prepared.Prepared.{Prepared}
 use Rattle.audit_rounds.specs.declared.streams.Streams.{Streams}
 

@@ -14,8 +14,8 @@ use Rattle.audit_terms.specs.code.runs.Streams.{frames_of, stream_run, stream_at
 use Rattle.settings_pair.specs.code.Changes.{AreAcknowledged}
 use Rattle.split_merge.specs.declared.splits.StreamRow.{StreamRow}
 use Rattle.split_merge.specs.code.Split.{IsRange, part_of, frames_at}
-use Rattle.job_crew.specs.code.Board.{IsCut}
-use Rattle.job_crew.specs.code.Heeding.{Heeds, RunLooks}
+use Rattle.stop_desk.specs.code.Board.{IsCut}
+use Rattle.stop_desk.specs.code.Heeding.{Heeds, RunLooks}
 use Rattle.stream_credit.specs.code.Looks.{step_numbers}
 use Rattle.audit_rounds.specs.declared.streams.Streams.{Streams}
 

@@ -2,7 +2,7 @@
 use Rattle.std.specs.Prelude.{true, []}
 use Rattle.audit_terms.specs.Finding.{shown}
 use Rattle.audit_terms.specs.code.runs.Streams.{stream_run}
-use Rattle.job_crew.specs.code.Board.{Job}
+use Rattle.stop_desk.specs.code.Board.{Job}
 use Rattle.stream_credit.specs.declared.parts.StreamPart.{StreamPart}
 use Rattle.stream_credit.specs.code.Part.{part_frames}
 

@@ -10,9 +10,9 @@ use crate::random::next;
 use audit_core::one_pass;
 use audit_rounds::{Division, findings_of_each};
 use audit_terms::{END_STREAM, Frame, Side, keep_shown};
-use job_crew::NoGate;
 use std::alloc::{AllocError, Global};
 use std::thread::Threads;
+use stop_desk::NoGate;
 use table_hash::TableHash;
 
 /// One of some numbers.

@@ -10,9 +10,9 @@ ghost use Rattle.crate_tests.specs.code.StreamJobs.{job_of};
 
 use crate::answer::Answer;
 use audit_terms::{Body, Finding, Frame, Kind, Length, Look, Place, Side};
-use job_crew::{NoGate, Round, Settled, Work, settle};
 use std::alloc::{AllocError, Global};
 use std::thread::Threads;
+use stop_desk::{NoGate, Round, Settled, Team, Work, settle};
 use stream_credit::{Changes, StreamPart, stream_run};
 
 /// A frame without payload.
@@ -81,7 +81,13 @@ fn settled(
     alloc: Global,
     round: &TwoStreams<'_>,
 ) -> Result<Settled<()>, AllocError> {
-    settle(rt, alloc, 1, &NoGate, 1, &[None], round)
+    let team = Team {
+        rt,
+        alloc,
+        workers: 1,
+        gate: &NoGate,
+    };
+    settle(&team, 1, &[None], round)
 }
 
 /// The first stream has an error at frame 5, and the second opens at frame 6: its job sees the stop, and finds nothing.

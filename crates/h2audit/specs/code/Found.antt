@@ -10,7 +10,7 @@ use Rattle.audit_terms.specs.Kind.{is_fault}
 use Rattle.audit_terms.specs.Pass.{pass}
 use Rattle.audit_terms.specs.declared.findings.Finding.{Finding}
 use Rattle.audit_terms.specs.declared.frames.Frame.{Frame}
-use Rattle.job_crew.specs.declared.parts.Part.{Part}
+use Rattle.stop_desk.specs.declared.parts.Part.{Part}
 
 -- the frames of a connection, where they are kept
 abbrev pub frames_of : Outcome → List (List Frame)

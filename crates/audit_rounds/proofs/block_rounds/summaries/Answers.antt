@@ -1,7 +1,7 @@
 use Rattle.std.proofs.Common.{map, sym, ap, ◌∙◌}
 use Rattle.std.specs.Vec.Iter.{into_iter_items}
 use Rattle.conn_scan.specs.declared.sums.ConnSum.{ConnSum}
-use Rattle.job_crew.specs.declared.parts.Part.{Part}
+use Rattle.stop_desk.specs.declared.parts.Part.{Part}
 use Rattle.audit_rounds.proofs.Drawn.{taken-more, made-more, taken-all}
 use Rattle.audit_rounds.proofs.block_rounds.summaries.Goals as goal
 

@@ -1,5 +1,5 @@
 use Rattle.std.proofs.Common.{◌<◌, length, sym, subst}
-use Rattle.job_crew.specs.code.Board.{Job}
+use Rattle.stop_desk.specs.code.Board.{Job}
 use Rattle.audit_rounds.specs.code.Blocks.{AreSums}
 use Rattle.audit_rounds.specs.code.Plans.{sum_job}
 use Rattle.audit_rounds.proofs.Jobs.{all-map}

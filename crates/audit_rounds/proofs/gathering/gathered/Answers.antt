@@ -3,8 +3,8 @@ use Rattle.std.proofs.Common.{Global}
 use Rattle.audit_terms.specs.declared.findings.Finding.{Finding}
 use Rattle.std.proofs.lemmas.List.{map-append}
 use Rattle.std.specs.Vec.Iter.{into_iter_items}
-use Rattle.job_crew.specs.code.Board.{findings_of_parts}
-use Rattle.job_crew.specs.code.Laid.{part_of}
+use Rattle.stop_desk.specs.code.Board.{findings_of_parts}
+use Rattle.stop_desk.specs.code.Laid.{part_of}
 use Rattle.audit_rounds.proofs.Drawn.{taken-more, taken-holds, taken-all}
 use Rattle.audit_rounds.proofs.PartsKept.{gathered-more}
 use Rattle.audit_rounds.proofs.gathering.gathered.Goals as goal

@@ -1,7 +1,7 @@
 use Rattle.std.proofs.Common.{◌<◌, ◌++◌, List, length, get_or, All, ℕ, sym, ◌∙◌, subst, arith, Vec, Global}
 use Rattle.std.proofs.lemmas.Slice.Zip.{AllZip-long}
 use Rattle.audit_terms.specs.declared.findings.Finding.{Finding}
-use Rattle.job_crew.specs.declared.parts.Part.{Part}
+use Rattle.stop_desk.specs.declared.parts.Part.{Part}
 use Rattle.audit_rounds.specs.code.AfterStreams.{HaveSettledOver}
 use Rattle.audit_rounds.specs.code.Opened.{numbers_told, IsInOrder}
 use Rattle.audit_rounds.specs.code.StreamRound.{IsStreamsOf}

@@ -1,5 +1,5 @@
 use Rattle.std.proofs.Common.{◌<◌, All, map, length, sym, ◌∙◌, subst, arith}
-use Rattle.job_crew.specs.code.Board.{Job}
+use Rattle.stop_desk.specs.code.Board.{Job}
 use Rattle.audit_rounds.specs.code.StreamJobs.{IsJobOf, job_of}
 use Rattle.audit_rounds.proofs.StreamRounds.{planned, jobs-within}
 use Rattle.audit_rounds.proofs.stream_round.settled_streams.Goals as goal

@@ -1,5 +1,5 @@
 use Rattle.std.proofs.Common.{◌≡◌, ◌<◌, Bool, length, sym, ◌∙◌, subst, All, arith}
-use Rattle.job_crew.specs.code.Board.{Job}
+use Rattle.stop_desk.specs.code.Board.{Job}
 use Rattle.h2audit.specs.code.Flows.{IsToldFlows, flow_jobs}
 use Rattle.h2audit.proofs.Flows.{flow_jobs-within, flow_jobs-length, are-told}
 use Rattle.h2audit.proofs.connection.flows_each.Goals as goal

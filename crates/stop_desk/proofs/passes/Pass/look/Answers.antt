@@ -1,8 +1,7 @@
 use Rattle.std.proofs.Common.{◌+◌, ◌<◌, length, refl, ap, ◌∙◌, arith, sym, subst}
 use Rattle.stop_desk.specs.code.Desk.{DeskId, DeskView, PassView}
-use Rattle.stop_desk.proofs.Names.{same_desk}
+use Rattle.stop_desk.proofs.PassViews.{same_desk, looks, look-desk, same-fields}
 use Rattle.stop_desk.proofs.Steps.{sees}
-use Rattle.stop_desk.proofs.Looking.{looks, look-desk, look-fields}
 use Rattle.stop_desk.proofs.passes.Pass.look.Goals as goal
 
 pub load-word-requires : goal.load-word-requires
@@ -15,8 +14,7 @@ load-word-requires c =
     )
 
 pub invariant_of-self : goal.invariant_of-self
-invariant_of-self c = look-fields _ c.args.connection _ _ _ (c.load-word.ensures.2 c.args.connection refl)
-    c.self.invariant
+invariant_of-self c = same-fields _ c.self.inside.seat.me _ _ _ (c.load-word.ensures.2 c.args.connection refl).added c.self.invariant
 
 pub returns-clause-desk : goal.returns-clause-desk
 returns-clause-desk c =

@@ -1,9 +1,8 @@
 use Rattle.std.proofs.Common.{◌+◌, ◌<◌, length, refl, ap, arith, sym, subst}
 use Rattle.stop_desk.specs.code.Desk.{DeskId, DeskView}
 use Rattle.stop_desk.specs.code.Stop.{past_places}
-use Rattle.stop_desk.proofs.Names.{same_desk}
+use Rattle.stop_desk.proofs.PassViews.{same_desk, same-fields, lowered-view}
 use Rattle.stop_desk.proofs.Steps.{lowers}
-use Rattle.stop_desk.proofs.Looking.{lower-fields, lowered-view}
 use Rattle.stop_desk.proofs.passes.Pass.lower.Goals as goal
 
 pub fetch_min-requires : goal.fetch_min-requires
@@ -19,8 +18,7 @@ fetch_min-requires c =
     )
 
 pub invariant_of-self : goal.invariant_of-self
-invariant_of-self c = lower-fields _ c.args.connection _ _ _ (c.fetch_min.ensures.2 c.args.connection refl)
-    c.self.invariant
+invariant_of-self c = same-fields _ c.self.inside.seat.me _ _ _ (c.fetch_min.ensures.2 c.args.connection refl) c.self.invariant
 
 pub returns : goal.returns
 returns c = rw (← c.self.view_is, ← c.word-word.ensures)

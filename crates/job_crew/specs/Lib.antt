@@ -1,3 +1,0 @@
-pub mod laws
-pub mod examples
-pub mod code

@@ -1,6 +1,0 @@
-pub mod Board
-pub mod Worked
-pub mod Heeding
-pub mod Laid
-pub mod Crew
-pub mod Settling

@@ -1,0 +1,124 @@
+//! Workers on threads of their own, over one desk.
+
+ghost use Rattle.std.specs.Prelude.{◌≡◌, ◌+◌, ◌-◌, ◌*◌, ◌<◌, [], ◌++◌, All, IfOk, length};
+ghost use Rattle.std.specs.Thread.{IsSend, IsSync};
+ghost use Rattle.stop_desk.specs.code.Desk.{pass_of, all_draws, IsConnection};
+ghost use Rattle.stop_desk.specs.code.Board.{Job};
+ghost use Rattle.stop_desk.specs.code.Crew.{IsDone};
+ghost use Rattle.stop_desk.specs.code.Worked.{IsAllWorked};
+
+use crate::closing::Closed;
+use crate::desks::Desk;
+use crate::gate::Gate;
+use crate::parts::Part;
+use crate::passes::Pass;
+use crate::rounds::Round;
+use crate::teams::Team;
+use crate::workers::{Shift, work};
+use std::alloc::{AllocError, Global};
+use std::thread::{Threads, join};
+
+/// Gives some of the workers of an unused pass a pass of their own.
+fn divide(desk: &Desk, pass: Pass, workers: u32, given: u32) -> (Pass, Pass)
+    requires fresh { pass ≡ pass_of desk.now.id (workers * (desk.now.jobs + 1)) [] [] [] }
+    requires some { 0 < given }
+    requires fewer { given < workers }
+    ensures kept { result.0 ≡ pass_of desk.now.id ((workers - given) * (desk.now.jobs + 1)) [] [] [] }
+    ensures given { result.1 ≡ pass_of desk.now.id (given * (desk.now.jobs + 1)) [] [] [] }
+{
+    pass.split(desk, u64::from(given) * (u64::from(desk.jobs()) + 1))
+}
+
+/// Makes one of what two groups of workers laid down, and of their passes.
+fn together<M: Drop>(
+    desk: &Desk,
+    mine: (Vec<Part<M>>, Pass),
+    theirs: (Vec<Part<M>>, Pass),
+) -> Result<(Vec<Part<M>>, Pass), AllocError>
+    requires mine { mine.1.desk ≡ desk.now.id }
+    requires theirs { theirs.1.desk ≡ desk.now.id }
+    ensures { IfOk result (λ r. (r.0.items ≡ mine.0.items ++ theirs.0.items)
+        × (r.1 ≡ pass_of mine.1.desk (mine.1.allowance + theirs.1.allowance) (mine.1.drawn ++ theirs.1.drawn)
+        (mine.1.seen ++ theirs.1.seen) (mine.1.lowered ++ theirs.1.lowered))) }
+{
+    let (mut parts, pass) = mine;
+    let (mut more, other) = theirs;
+    parts.append(&mut more)?;
+    Ok((parts, pass.join(other, desk)))
+}
+
+/// Has workers do all jobs, each half of them on a thread of its own.
+fn fork<R: Threads + Sync, G: Gate, P: Round>(
+    rt: &R,
+    alloc: Global,
+    workers: u32,
+    shift: &Shift<'_, G, P>,
+    pass: Pass,
+) -> Result<(Vec<Part<P::Made>>, Pass), AllocError>
+    requires some { 0 < workers }
+    requires fresh { pass ≡ pass_of shift.now.desk.now.id (workers * (shift.now.desk.now.jobs + 1)) [] [] [] }
+    ensures { IfOk result (λ r. IsAllWorked (P.makes shift.now.plan.now) (P.jobs shift.now.plan.now)
+        shift.now.desk.now.id shift.now.round (workers * (shift.now.desk.now.jobs + 1)) r.0.items r.1) }
+{
+    if workers == 1 {
+        return work(alloc, shift, pass);
+    }
+    let half = workers / 2;
+    let rest = workers - half;
+    let (kept, given) = divide(shift.desk, pass, workers, half);
+    let (one, other) = join(
+        rt,
+        || -> Result<(Vec<Part<P::Made>>, Pass), AllocError>
+            requires { IsSend P.Made.row × IsSync R.row × IsSync G.row × IsSync P.row × (0 < half)
+                × (given ≡ pass_of shift.now.desk.now.id (half * (shift.now.desk.now.jobs + 1)) [] [] []) }
+            ensures { IfOk result (λ r. IsAllWorked (P.makes shift.entry.now.plan.now) (P.jobs shift.entry.now.plan.now)
+                shift.entry.now.desk.now.id shift.entry.now.round (half * (shift.entry.now.desk.now.jobs + 1))
+                r.0.items r.1) }
+        { fork(rt, alloc, half, shift, given) },
+        || -> Result<(Vec<Part<P::Made>>, Pass), AllocError>
+            requires { IsSend P.Made.row × IsSync R.row × IsSync G.row × IsSync P.row × (0 < rest)
+                × (kept ≡ pass_of shift.now.desk.now.id (rest * (shift.now.desk.now.jobs + 1)) [] [] []) }
+            ensures { IfOk result (λ r. IsAllWorked (P.makes shift.entry.now.plan.now) (P.jobs shift.entry.now.plan.now)
+                shift.entry.now.desk.now.id shift.entry.now.round (rest * (shift.entry.now.desk.now.jobs + 1))
+                r.0.items r.1) }
+        { fork(rt, alloc, rest, shift, kept) },
+    );
+    let mine = one?;
+    let theirs = other?;
+    together(shift.desk, mine, theirs)
+}
+
+/// A worker's share of the jobs with a little over, since some draw more than others; of a sole worker, all jobs.
+fn share_of(jobs: u32, workers: u32) -> usize
+    requires { 0 < workers }
+{
+    let even = u64::from(jobs / workers);
+    (even + even / 8 + 1).min(u64::from(jobs)) as usize
+}
+
+/// Has workers do all jobs of a round, and closes the desk. `Err` only where memory runs out.
+///
+/// Each worker passes the gate before each of its jobs.
+pub fn crew<R: Threads + Sync, G: Gate, P: Round>(
+    team: &Team<'_, R, G>,
+    desk: Desk,
+    pass: Pass,
+    round: u8,
+    plan: &P,
+) -> Result<(Vec<Part<P::Made>>, Closed), AllocError>
+    requires workers { desk.workers ≡ team.now.workers }
+    requires jobs { desk.jobs ≡ length (P.jobs plan.now) }
+    requires first { pass ≡ pass_of desk.id (all_draws desk) [] [] [] }
+    requires connections { All (λ (job : Job). IsConnection desk.id job.connection) (P.jobs plan.now) }
+    ensures { IfOk result (λ done. IsDone (P.makes plan.now) (P.jobs plan.now) desk.id round done.0.items done.1) }
+{
+    let shift = Shift {
+        desk: &desk,
+        gate: team.gate,
+        round,
+        plan,
+        share: share_of(desk.jobs(), team.workers),
+    };
+    let (parts, last) = fork(team.rt, team.alloc, team.workers, &shift, pass)?;
+    Ok((parts, desk.close(last)))
+}
