@@ -20,7 +20,7 @@ use Rattle.tcp_streams.specs.Members.{is_sent_by, segments_of, side_segments}
 use Rattle.tcp_streams.specs.Packets.{segment_of}
 use Rattle.tcp_streams.specs.Pair.{is_endpoint}
 use Rattle.tcp_streams.specs.Sequence.{Source, arrival, end_of_offsets, later_of, payload_length}
-use Rattle.tcp_streams.proofs.PieceLemmas.{found-at}
+use Rattle.tcp_streams.proofs.PieceLemmas.{PayloadsRise-end, found-at}
 use Rattle.tcp_streams.proofs.Elements.{slice_get-drop}
 
 arrival-same : (F G : ℕ → Option Source) → IsSame F G → (o : ℕ) → o < end_of_offsets → arrival F o ≡ arrival G o
@@ -87,12 +87,6 @@ drop-drop (suc a) b zero xs e = absurd (omega (arith, e))
 drop-drop (suc a) zero (suc n) [] e = refl
 drop-drop (suc a) (suc b) (suc n) [] e = refl
 drop-drop (suc a) b (suc n) (x ∷ xs) e = drop-drop a b n xs (omega (arith, e))
-
-PayloadsRise-end : (from size : ℕ) (packets : List Packet) → PayloadsRise from size packets → from ≤ size
-PayloadsRise-end from size [] h = h
-PayloadsRise-end from size (Carried s ∷ rest) h = omega (arith, h.0, h.1, PayloadsRise-end s.hi size rest h.2)
-PayloadsRise-end from size (Skipped k ∷ rest) h = PayloadsRise-end from size rest h
-PayloadsRise-end from size (Refused k ∷ rest) h = PayloadsRise-end from size rest h
 
 -- the payloads of rising members lie apart
 members-apart : (packets : List Packet) (done from size : ℕ) (members : List ℕ)

@@ -1,46 +1,13 @@
-use Rattle.std.proofs.Common.{◌≡◌, ◌<◌, slice_get, vec_len, length, Some, None, sym, ap, ◌∙◌, map, arith}
+use Rattle.std.proofs.Common.{◌≡◌, ◌<◌, slice_get, vec_len, length, Some, sym, ap, ◌∙◌, map, arith}
 use Rattle.std.proofs.lemmas.List.{length-map}
-use Rattle.tcp_streams.specs.declared.standings.Standing.TheVariants.{Opened, Unopened}
+use Rattle.tcp_streams.specs.declared.standings.Standing.TheVariants.{Opened}
 use Rattle.tcp_streams.specs.code.Past.{membership}
 use Rattle.tcp_streams.specs.code.Pairs.{pair_of}
 use Rattle.tcp_streams.specs.code.Standings.{standing_of}
-use Rattle.tcp_streams.proofs.Turns.{begins, counts, joins, joins_again, opened_in_range, opens_anew, opens_unknown}
-use Rattle.tcp_streams.proofs.Turns.{opens_unopened, mapped_at}
+use Rattle.tcp_streams.proofs.Turns.{joins, joins_again, opened_in_range, opens_anew, mapped_at}
 use Rattle.tcp_streams.proofs.table.Table.turn.Goals as goal
 use Rattle.tcp_streams.proofs.table.Table.turn.Goals.{else-is_request-3-via-then-is_request-3+else-not-is_reopened_by}
 use Rattle.tcp_streams.proofs.table.Table.turn.Goals.{else-is_request-3-via-else-is_request-3}
-
-pub returns-then-is_request : goal.returns-then-is_request
-returns-then-is_request c =
-    let at : standing_of c.args.self.now.standings (pair_of c.args.segment.now) ≡ None = sym c.requires.standing
-    ∙ c.in-None.is in
-    λ past shown. opens_unknown past _ _ _ c.args.segment.now shown at (sym c.if-is_request.ensures)
-
-pub returns-else-is_request : goal.returns-else-is_request
-returns-else-is_request c =
-    let at : standing_of c.args.self.now.standings (pair_of c.args.segment.now) ≡ None = sym c.requires.standing
-    ∙ c.in-None.is in
-    λ past shown. begins past _ _ _ c.args.segment.now shown at (sym c.if-is_request.ensures)
-
-pub returns-then-is_request-2 : goal.returns-then-is_request-2
-returns-then-is_request-2 c =
-    let at : standing_of c.args.self.now.standings (pair_of c.args.segment.now) ≡ Some (Unopened c.in-Unopened.k) = sym
-    c.requires.standing ∙ c.in-Some.is ∙ ap Some c.in-Unopened.is in
-    λ past shown. opens_unopened past _ _ _ c.args.segment.now shown _ at (sym c.if-is_request-2.ensures)
-
-pub returns-else-is_request-2 : goal.returns-else-is_request-2
-returns-else-is_request-2 c =
-    let at : standing_of c.args.self.now.standings (pair_of c.args.segment.now) ≡ Some (Unopened c.in-Unopened.k) = sym
-    c.requires.standing ∙ c.in-Some.is ∙ ap Some c.in-Unopened.is in
-    λ past shown. counts past _ _ _ c.args.segment.now shown _ at (sym c.if-is_request-2.ensures)
-
-pub index-requires : goal.index-requires
-index-requires c =
-    let at : standing_of c.args.self.now.standings (pair_of c.args.segment.now) ≡ Some (Opened c.in-Opened.k) = sym
-    c.requires.standing ∙ c.in-Some.is ∙ ap Some c.in-Opened.is in
-    let lt : c.in-Opened.k < length (map membership c.args.self.now.opened.items) = opened_in_range c.requires.past.0 _
-    _ _ c.args.segment.now c.requires.past.1 _ at in
-    omega (arith, length-map c.args.self.now.opened.items membership, c.args.self.now.opened.ok.0)
 
 pub returns-then-not-is_reopened_by : goal.returns-then-not-is_reopened_by
 returns-then-not-is_reopened_by c =
