@@ -15,8 +15,7 @@ use Rattle.tcp_streams.specs.Packets.{segment_in}
 use Rattle.tcp_streams.specs.Pair.{is_same_pair}
 use Rattle.tcp_streams.specs.code.Pairs.{is_of, pair_of}
 use Rattle.tcp_streams.specs.code.Past as past_words
-use Rattle.tcp_streams.proofs.Pairs.{is_pair-same}
-use Rattle.tcp_streams.proofs.SamePair.{same-pair}
+use Rattle.tcp_streams.proofs.Pairs.{is_pair-same, same-pair}
 
 -- the past's segments with their openings
 abbrev belong : List Segment → List Belonging

@@ -11,7 +11,6 @@ pub mod PieceLemmas
 pub mod Elements
 pub mod RunLemmas
 pub mod Past
-pub mod SamePair
 pub mod Sides
 pub mod Steps
 pub mod Turns
