@@ -1,6 +1,6 @@
 -- On pieces that follow each other: they are the flow, laid out as they come.
 use Rattle.std.proofs.Common.{◌≡◌, ℕ, ◌+◌, ◌-◌, ◌<◌, ◌≤◌, ◌^◌, List, [], ◌∷◌, ◌++◌, length, map, Option, None, Some}
-use Rattle.std.proofs.Common.{refl, sym, ap, ◌∙◌, arith}
+use Rattle.std.proofs.Common.{get_or, refl, sym, ap, ◌∙◌, arith}
 use Rattle.std.specs.Prelude.{if◌then◌else◌, IfSome, IsTrue, option_and_then}
 use Rattle.std.specs.List.{filter_map, slice_range}
 use Rattle.std.proofs.lemmas.Bool.{lt-ltb}
@@ -23,7 +23,7 @@ use Rattle.tcp_streams.specs.Members.{is_sent_by}
 use Rattle.tcp_streams.specs.Packets.{segment_of}
 use Rattle.tcp_streams.specs.Sequence.{end_of_offsets}
 use Rattle.tcp_streams.proofs.IntervalLemmas.{by_Bool}
-use Rattle.tcp_streams.proofs.PieceLemmas.{AreRising, piece-is, sound-found}
+use Rattle.tcp_streams.proofs.PieceLemmas.{AreRising, member-shown, piece-is, sound-found}
 use Rattle.tcp_streams.proofs.RunLemmas.{Follows, IsRunOf, bytes_in-push, run-flow, run-size, run-timely, run_end}
 use Rattle.tcp_streams.proofs.Sides.{assembled, intervals-captured, side-pieces}
 
@@ -32,26 +32,31 @@ pub record IsInside (size : ℕ) (x : Interval) : Type 0 where
   pub interval : IsInterval x
   pub within : x.index + (x.upto - x.from) ≤ size
 
--- a member's piece lies in the capture
-pub member-inside : (initial_number size : ℕ) (packets : List Packet) (connection : Connection) (side : Side) (m : ℕ)
-    → size < 2 ^ 31 → PayloadsRise 0 size packets → TimesFit packets → AreNumberedFrom 1 packets → 0 < m
-    → IfSome (member_piece initial_number packets connection side m) (IsInside size)
-member-inside initial_number size packets connection side m small rise times numbered some =
-    by (segment_of packets m) refl
-  where
-    by : (p : Option Segment) → segment_of packets m ≡ p
-        → IfSome (option_and_then (piece initial_number)
-        (option_and_then (λ s. if is_sent_by connection side s then Some s else None) p)) (IsInside size)
-    by None e = tt
-    by (Some s) e =
-        let stands = (sound-found packets size rise times numbered m s some e).stands in
-        by_Bool (is_sent_by connection side s)
-        (λ sent. rw sent (IfSome_then (piece initial_number s) (piece-is initial_number size small s stands)
-        (λ x is. record {
-          interval = record { some = is.some; counts = is.counts; room = omega (arith, is.within, stands.within) };
-          within = omega (arith, is.within, stands.within);
-        })))
-        (λ other. rw other tt)
+-- the piece of a member, which a loop over the members is at, lies in the capture
+module _ (initial_number size : ℕ) (packets : List Packet) (connection : Connection) (side : Side)
+    (small : size < 2 ^ 31) (rise : PayloadsRise 0 size packets) (times : TimesFit packets)
+    (numbered : AreNumberedFrom 1 packets) (members : AreMembers 0 packets connection.members.items) where
+  member-inside : (m : ℕ) → 0 < m → IfSome (member_piece initial_number packets connection side m) (IsInside size)
+  member-inside m some = by (segment_of packets m) refl
+    where
+      by : (p : Option Segment) → segment_of packets m ≡ p
+          → IfSome (option_and_then (piece initial_number)
+          (option_and_then (λ s. if is_sent_by connection side s then Some s else None) p)) (IsInside size)
+      by None e = tt
+      by (Some s) e =
+          let stands = (sound-found packets size rise times numbered m s some e).stands in
+          by_Bool (is_sent_by connection side s)
+          (λ sent. rw sent (IfSome_then (piece initial_number s) (piece-is initial_number size small s stands)
+          (λ x is. record {
+            interval = record { some = is.some; counts = is.counts; room = omega (arith, is.within, stands.within) };
+            within = omega (arith, is.within, stands.within);
+          })))
+          (λ other. rw other tt)
+
+  pub shown-inside : (shown : List ℕ) (k : ℕ) (x : Interval) → shown ≡ connection.members.items → k < length shown
+      → Some x ≡ member_piece initial_number packets connection side (get_or shown k 0) → IsInside size x
+  shown-inside shown k x same lt is = rw (← is) at
+      (member-inside (get_or shown k 0) (member-shown packets connection.members.items shown k members same lt).0)
 
 -- pieces in order of record bring an arrival each
 Rising-after : (a : Arrival) (xs : List Interval) → AreRising a.rec xs → arrivals_after a xs ≡ a ∷ map arrival_with xs

@@ -1,24 +1,22 @@
 -- On intervals: the parts between two offsets, and one list of intervals laid over another.
 use Rattle.std.proofs.Common.{◌≡◌, ℕ, zero, suc, ◌+◌, ◌-◌, ◌<◌, ◌≤◌, ◌^◌, min, max, Bool, true, false, List, [], ◌∷◌}
-use Rattle.std.proofs.Common.{◌++◌, length, drop, take, get_or, None, Some, ◌⊎◌, inl, inr, refl, sym, ap, ◌∙◌, arith}
+use Rattle.std.proofs.Common.{◌++◌, length, drop, take, get_or, None, Some, ◌⊎◌, inl, inr, refl, ap, ◌∙◌, arith}
 use Rattle.std.specs.Prelude.{nat_lt, All}
 use Rattle.std.specs.Option.{option_or}
-use Rattle.std.proofs.lemmas.Bool.Decides.{leb_tells, nat_tests}
-use Rattle.std.proofs.lemmas.List.{drop_more, take-append-drop}
+use Rattle.std.proofs.lemmas.Bool.{cases_lt, le-ltb, lt-ltb}
+use Rattle.std.proofs.lemmas.Bool.Decides.{nat_tests}
+use Rattle.std.proofs.lemmas.List.{take-append-drop}
 use Rattle.std.proofs.lemmas.List.Elements.{All-head, All-tail}
 use Rattle.std.proofs.lemmas.List.Sums.{sum_by-append, sum_by-cons}
 use Rattle.tcp_streams.specs.declared.interval.Interval.{Interval}
-use Rattle.tcp_streams.specs.code.Interval.{HasPassed, IsInterval, IsSame, Spans, at, clipped, holds, lie_apart}
+use Rattle.tcp_streams.specs.code.Interval.{IsInterval, IsSame, Spans, at, clipped, holds, lie_apart}
 use Rattle.tcp_streams.specs.code.Interval.{overlay, part_of, size_of, source_in, width}
 use Rattle.tcp_streams.specs.Sequence.{end_of_offsets}
 
-pub lt_cases : (a b : ℕ) → ((nat_lt a b ≡ true) × (a < b)) ⊎ ((nat_lt a b ≡ false) × (b ≤ a))
-lt_cases a b = elim (leb_tells (suc a) b) as (λ _. ((nat_lt a b ≡ true) × (a < b)) ⊎ ((nat_lt a b ≡ false) × (b ≤ a)))
-    [ inl h ↦ inl (h.0, omega (arith, h.1)) | inr h ↦ inr (h.0, omega (arith, h.1)) ]
-
 -- a goal, by whether one number is below another
 pub by_lt : {G : Type 0} (a b : ℕ) → (nat_lt a b ≡ true → a < b → G) → (nat_lt a b ≡ false → b ≤ a → G) → G
-by_lt a b below not_below = elim (lt_cases a b) [ inl h ↦ below h.0 h.1 | inr h ↦ not_below h.0 h.1 ]
+by_lt a b below not_below =
+    elim (cases_lt a b) [ inl h ↦ below (lt-ltb a b h) h | inr h ↦ not_below (le-ltb a b h) h ]
 
 -- the same by any test
 pub by_Bool : {G : Type 0} (b : Bool) → (b ≡ true → G) → (b ≡ false → G) → G
@@ -91,25 +89,6 @@ clipped-last low high a b (y ∷ ys) zero d lt over h =
     simp (clipped-beyond low high y.upto b ys (omega arith) h.2)
 clipped-last low high a b (y ∷ ys) (suc k) d lt over h = clipped-last low high y.upto b ys k d
     (omega (arith, lt)) over h.2
-
--- what is passed at one offset is passed at a higher one, and with it an interval that ends there
-pub HasPassed-more : (low high : ℕ) (all rest : List Interval) → low ≤ high → HasPassed low all rest
-    → HasPassed high all rest
-HasPassed-more low high all rest le h = record { clips = λ a b k. h.clips a b (omega (arith, le, k)) }
-
-pub HasPassed-one : (high : ℕ) (all : List Interval) (y : Interval) (rest : List Interval) → y.upto ≤ high
-    → HasPassed high all (y ∷ rest) → HasPassed high all rest
-HasPassed-one high all y rest le h = record {
-  clips = λ a b k. sym (clipped-none a b y rest (omega (arith, le, k))) ∙ h.clips a b k;
-}
-
-pub HasPassed-step : (high : ℕ) (all : List Interval) (k : ℕ) (d : Interval) → k < length all
-    → (get_or all k d).upto ≤ high → HasPassed high all (drop k all) → HasPassed high all (drop (k + 1) all)
-HasPassed-step high all k d lt le h =
-    HasPassed-one high all (get_or all k d) (drop (k + 1) all) le (rw (drop_more all k d lt) at h)
-
-pub HasPassed-none : (low : ℕ) (all : List Interval) → HasPassed low all all
-HasPassed-none low all = record { clips = λ a b k. refl }
 
 -- the parts lie in order
 pub Spans-clipped : (m low high a b : ℕ) (ys : List Interval) → Spans a ys b → m ≤ max a low → m ≤ high

@@ -5,7 +5,7 @@ use Rattle.std.proofs.lemmas.Grind.{common_steps}
 use Rattle.std.proofs.lemmas.List.{append-nil, take_all}
 use Rattle.std.proofs.lemmas.List.Elements.{filter_map-append}
 use Rattle.tcp_streams.specs.code.Interval.{member_piece}
-use Rattle.tcp_streams.proofs.InOrder.{IsLaid-more, laid-assembled, member-inside}
+use Rattle.tcp_streams.proofs.InOrder.{IsLaid-more, laid-assembled, shown-inside}
 use Rattle.tcp_streams.proofs.PieceLemmas.{PayloadsFit-from, member-shown}
 use Rattle.tcp_streams.proofs.in_order.flow_in_order.Goals as goal
 use Rattle.tcp_streams.proofs.in_order.flow_in_order.Goals.{in-Some+else-piece-laid+in_ok-add, in_default}
@@ -26,11 +26,9 @@ piece_of_member-requires-clause-named c =
 
 pub add-requires : goal.add-requires
 add-requires c =
-    let member = member-shown c.args.packets.now _ _ c.loop-member.member-index c.requires.members
-    c.deref-member-items.ensures.value c.loop-member-test.true in
-    let is = rw (← c.in-Some.ensures) at
-    (member-inside c.args.initial_number (length c.args.capture.now) c.args.packets.now c.args.connection.now c.args.side
-    _ c.requires.size c.requires.payloads c.requires.times c.requires.numbered member.0) in
+    let is = shown-inside c.args.initial_number (length c.args.capture.now) c.args.packets.now c.args.connection.now
+    c.args.side c.requires.size c.requires.payloads c.requires.times c.requires.numbered c.requires.members _ _ _
+    c.deref-member-items.ensures.value c.loop-member-test.true c.in-Some.ensures in
     record { interval = is.interval; captured = is.within }
 
 pub loop-member-preserved : goal.loop-member-preserved
@@ -38,17 +36,14 @@ loop-member-preserved c =
     let members = c.args.connection.now.members.items in
     let k = c.loop-member.member-index in
     let f = member_piece c.args.initial_number c.args.packets.now c.args.connection.now c.args.side in
-    let laid = c.loop-member.laid in
     let next : filter_map f (take (k + 1) members)
     ≡ filter_map f (take k members) ++ option_to_list c.piece_of_member.result =
     grind (arith, common_steps, filter_map-append) in
     elim c.match-piece_of_member.branch [
       | in-Some+else-piece-laid+in_ok-add w ↦
-          let member = member-shown c.args.packets.now _ _ k c.requires.members
-          c.deref-member-items.ensures.value c.loop-member-test.true in
-          let is = rw (← w.in-Some.ensures) at
-          (member-inside c.args.initial_number (length c.args.capture.now) c.args.packets.now c.args.connection.now
-          c.args.side _ c.requires.size c.requires.payloads c.requires.times c.requires.numbered member.0) in
+          let is = shown-inside c.args.initial_number (length c.args.capture.now) c.args.packets.now
+          c.args.connection.now c.args.side c.requires.size c.requires.payloads c.requires.times c.requires.numbered
+          c.requires.members _ _ _ c.deref-member-items.ensures.value c.loop-member-test.true w.in-Some.ensures in
           rw (
             next,
             w.in-Some.is,
