@@ -1,21 +1,17 @@
 -- Segments with their openings, as the definition folds them, beside what the past shows.
-use Rattle.std.proofs.Common.{◌≡◌, ◌&&◌, not, List, [], ◌∷◌, filter, map, Option, None, Some, refl, sym, ap, ap₂, ◌∙◌}
-use Rattle.std.specs.Prelude.{if◌then◌else◌, fold}
-use Rattle.std.specs.List.{AllZip, filter_map, list_any}
-use Rattle.packet_heads.specs.declared.packets.Packet.{Packet}
-use Rattle.packet_heads.specs.declared.packets.Packet.TheVariants.{Segment as Carried, Skipped, Refused}
-use Rattle.packet_heads.specs.declared.packets.Segment.{Segment}
-use Rattle.tcp_streams.specs.declared.members.Connection.{Connection}
+use Rattle.tcp_streams.proofs.Words.{◌≡◌, ◌&&◌, not, List, [], ◌∷◌, filter, map, Option, None, Some, refl, sym, ap, ◌∙◌}
+use Rattle.tcp_streams.proofs.Words.{if◌then◌else◌, filter_map, list_any, Packet, Carried, Segment, Connection}
+use Rattle.tcp_streams.proofs.Words.{is_request, segment_in, is_same_pair, is_of, pair_of, Membership}
+use Rattle.std.proofs.Common.{ap₂}
+use Rattle.std.specs.Prelude.{fold}
+use Rattle.std.specs.List.{AllZip}
+use Rattle.packet_heads.specs.declared.packets.Packet.TheVariants.{Skipped, Refused}
 use Rattle.tcp_streams.specs.Membership.{AreConnections, Belonging, IsConnectionOf, belongings, first_strays}
-use Rattle.tcp_streams.specs.Membership.{is_request, last_opening, members, openings, opens, stray_of, strays}
-use Rattle.tcp_streams.specs.Membership.{strays_of, with_segment}
-use Rattle.tcp_streams.specs.Packets.{segment_in}
-use Rattle.tcp_streams.specs.Pair.{is_same_pair}
-use Rattle.tcp_streams.specs.code.Pairs.{is_of, pair_of}
-use Rattle.tcp_streams.specs.code.Past as past_words
-use Rattle.tcp_streams.specs.code.Past.{Membership}
+use Rattle.tcp_streams.specs.Membership.{last_opening, members, openings, opens, stray_of, strays, strays_of}
+use Rattle.tcp_streams.specs.Membership.{with_segment}
 use Rattle.tcp_streams.proofs.IntervalLemmas.{by_Bool}
 use Rattle.tcp_streams.proofs.Pairs.{is_pair-same, same-pair}
+use Rattle.tcp_streams.specs.code.Past as past_words
 
 -- the past's segments with their openings
 abbrev belong : List Segment → List Belonging

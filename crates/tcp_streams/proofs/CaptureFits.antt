@@ -1,25 +1,14 @@
 -- All flows of a capture fit in it together: a payload belongs to one connection at most.
-use Rattle.std.proofs.Common.{◌≡◌, ℕ, ◌+◌, ◌≤◌, Bool, true, false, List, [], ◌∷◌, ◌++◌, map, Option, None, Some, refl}
-use Rattle.std.proofs.Common.{sym, ap, ◌∙◌, arith}
-use Rattle.std.specs.Prelude.{if◌then◌else◌, nat_eq, sum_by}
-use Rattle.std.specs.Option.{option_to_list}
-use Rattle.std.proofs.lemmas.Bool.{eqb-true, ne_eqb}
-use Rattle.std.proofs.lemmas.List.{append-nil, append_assoc, map-append}
-use Rattle.std.proofs.lemmas.List.Sums.{sum_by-cons, sum_by_push}
-use Rattle.audit_terms.specs.declared.sides.Side.TheVariants.{Client, Server}
-use Rattle.packet_heads.specs.declared.packets.Packet.{Packet}
-use Rattle.packet_heads.specs.declared.packets.Packet.TheVariants.{Segment as Carried}
-use Rattle.packet_heads.specs.declared.packets.Segment.{Segment}
-use Rattle.packet_heads.specs.code.Order.{AreNumberedFrom, PayloadsRise}
-use Rattle.tcp_streams.specs.declared.members.Connection.{Connection}
-use Rattle.tcp_streams.specs.code.Orderly.{payload_sum}
-use Rattle.tcp_streams.specs.Members.{segments_of, side_segments}
-use Rattle.tcp_streams.specs.code.Past.{Membership, connection_of, connections_of, members, membership, opening_at}
-use Rattle.tcp_streams.specs.code.Past.{openings, opens, past_after, past_of}
-use Rattle.tcp_streams.specs.Membership.{is_opening, with_if}
-use Rattle.tcp_streams.specs.Packets.{segment_of}
-use Rattle.tcp_streams.specs.Sequence.{payload_length}
-use Rattle.tcp_streams.specs.code.Table.{Falls}
+use Rattle.tcp_streams.proofs.Words.{◌≡◌, ℕ, ◌+◌, ◌≤◌, Bool, true, false, List, [], ◌∷◌, ◌++◌, map, Option, None, Some}
+use Rattle.tcp_streams.proofs.Words.{refl, sym, ap, ◌∙◌, arith, if◌then◌else◌, option_to_list, ne_eqb, append-nil}
+use Rattle.tcp_streams.proofs.Words.{append_assoc, map-append, sum_by-cons, Client, Server, Packet, Carried, Segment}
+use Rattle.tcp_streams.proofs.Words.{AreNumberedFrom, PayloadsRise, Connection, payload_sum, segments_of, side_segments}
+use Rattle.tcp_streams.proofs.Words.{Membership, connection_of, connections_of, members, membership, opening_at}
+use Rattle.tcp_streams.proofs.Words.{openings, opens, past_after, past_of, is_opening, with_if, segment_of}
+use Rattle.tcp_streams.proofs.Words.{payload_length, Falls}
+use Rattle.std.specs.Prelude.{nat_eq, sum_by}
+use Rattle.std.proofs.lemmas.Bool.{eqb-true}
+use Rattle.std.proofs.lemmas.List.Sums.{sum_by_push}
 use Rattle.tcp_streams.proofs.FlowLemmas.{sides-sum}
 use Rattle.tcp_streams.proofs.IntervalLemmas.{by_Bool}
 use Rattle.tcp_streams.proofs.Numbered.{Falls-past_after, Known, Known-past_of, recs}

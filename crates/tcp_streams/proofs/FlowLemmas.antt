@@ -1,26 +1,12 @@
 -- On flows: the same sources have the same flow; a side's payloads fit in the capture.
-use Rattle.std.proofs.Common.{◌≡◌, ℕ, zero, suc, ◌+◌, ◌-◌, ◌<◌, ◌≤◌, List, [], ◌∷◌, ◌++◌, length, filter, drop}
-use Rattle.std.proofs.Common.{slice_get, Option, None, Some, refl, sym, ◌∙◌, arith}
-use Rattle.std.specs.Option.{option_to_list}
-use Rattle.std.proofs.lemmas.Bool.{false≢true}
+use Rattle.tcp_streams.proofs.Words.{◌≡◌, ℕ, zero, suc, ◌+◌, ◌-◌, ◌<◌, ◌≤◌, List, [], ◌∷◌, ◌++◌, length, filter, drop}
+use Rattle.tcp_streams.proofs.Words.{slice_get, Option, None, Some, refl, sym, ◌∙◌, arith, option_to_list, false≢true}
+use Rattle.tcp_streams.proofs.Words.{sum_by-cons, none-some, Side, Client, Server, Packet, Carried, Segment}
+use Rattle.tcp_streams.proofs.Words.{PayloadsRise, Connection, Arrival, IsFlow, IsGap, IsSame, AreMembers, payload_sum}
+use Rattle.tcp_streams.proofs.Words.{is_sent_by, segments_of, side_segments, segment_of, Source, arrival}
+use Rattle.tcp_streams.proofs.Words.{end_of_offsets, payload_length}
 use Rattle.std.proofs.lemmas.List.{drop-drop}
 use Rattle.std.proofs.lemmas.List.Filters.{sum_by-filter_both}
-use Rattle.std.proofs.lemmas.List.Sums.{sum_by-cons}
-use Rattle.std.proofs.lemmas.Option.{none-some}
-use Rattle.audit_terms.specs.declared.sides.Side.{Side}
-use Rattle.audit_terms.specs.declared.sides.Side.TheVariants.{Client, Server}
-use Rattle.packet_heads.specs.declared.packets.Packet.{Packet}
-use Rattle.packet_heads.specs.declared.packets.Packet.TheVariants.{Segment as Carried}
-use Rattle.packet_heads.specs.declared.packets.Segment.{Segment}
-use Rattle.packet_heads.specs.code.Order.{PayloadsRise}
-use Rattle.tcp_streams.specs.declared.members.Connection.{Connection}
-use Rattle.tcp_streams.specs.declared.streams.Arrival.{Arrival}
-use Rattle.tcp_streams.specs.Flow.{IsFlow, IsGap}
-use Rattle.tcp_streams.specs.code.Interval.{IsSame}
-use Rattle.tcp_streams.specs.code.Orderly.{AreMembers, payload_sum}
-use Rattle.tcp_streams.specs.Members.{is_sent_by, segments_of, side_segments}
-use Rattle.tcp_streams.specs.Packets.{segment_of}
-use Rattle.tcp_streams.specs.Sequence.{Source, arrival, end_of_offsets, payload_length}
 use Rattle.tcp_streams.proofs.PieceLemmas.{PayloadsRise-end, found-at}
 use Rattle.tcp_streams.proofs.Elements.{slice_get-drop}
 

@@ -1,27 +1,11 @@
 -- On pieces that follow each other: they are the flow, laid out as they come.
-use Rattle.std.proofs.Common.{◌≡◌, ℕ, ◌+◌, ◌-◌, ◌<◌, ◌≤◌, ◌^◌, List, [], ◌∷◌, ◌++◌, length, map, Option, None, Some}
-use Rattle.std.proofs.Common.{get_or, refl, sym, ap, ◌∙◌, arith}
-use Rattle.std.specs.Prelude.{if◌then◌else◌, IfSome, IsTrue, option_and_then}
-use Rattle.std.specs.List.{filter_map, slice_range}
-use Rattle.std.proofs.lemmas.Bool.{lt-ltb}
-use Rattle.std.proofs.lemmas.List.{append-nil, map-append}
-use Rattle.std.proofs.lemmas.Option.{IfSome_then}
-use Rattle.audit_terms.specs.declared.sides.Side.{Side}
-use Rattle.packet_heads.specs.declared.packets.Packet.{Packet}
-use Rattle.packet_heads.specs.declared.packets.Segment.{Segment}
-use Rattle.packet_heads.specs.code.Order.{AreNumberedFrom, PayloadsRise, TimesFit}
-use Rattle.tcp_streams.specs.declared.interval.Interval.{Interval}
-use Rattle.tcp_streams.specs.declared.members.Connection.{Connection}
-use Rattle.tcp_streams.specs.declared.streams.Arrival.{Arrival}
-use Rattle.tcp_streams.specs.declared.streams.Flow.{Flow}
-use Rattle.tcp_streams.specs.code.Orderly.{AreMembers}
-use Rattle.tcp_streams.specs.Bytes.{bytes_of}
-use Rattle.tcp_streams.specs.code.Assembled.{IsAssembled}
-use Rattle.tcp_streams.specs.code.Interval.{AreCaptured, IsInterval, at, arrival_with, arrivals_after, arrivals_in}
-use Rattle.tcp_streams.specs.code.Interval.{bytes_in, member_piece, piece, width}
-use Rattle.tcp_streams.specs.Members.{is_sent_by}
-use Rattle.tcp_streams.specs.Packets.{segment_of}
-use Rattle.tcp_streams.specs.Sequence.{end_of_offsets}
+use Rattle.tcp_streams.proofs.Words.{◌≡◌, ℕ, ◌+◌, ◌-◌, ◌<◌, ◌≤◌, ◌^◌, List, [], ◌∷◌, ◌++◌, length, map, Option, None}
+use Rattle.tcp_streams.proofs.Words.{Some, get_or, refl, sym, ap, ◌∙◌, arith, if◌then◌else◌, IfSome, IsTrue}
+use Rattle.tcp_streams.proofs.Words.{option_and_then, filter_map, slice_range, lt-ltb, append-nil, map-append}
+use Rattle.tcp_streams.proofs.Words.{IfSome_then, Side, Packet, Segment, AreNumberedFrom, PayloadsRise, TimesFit}
+use Rattle.tcp_streams.proofs.Words.{Interval, Connection, Arrival, Flow, AreMembers, bytes_of, IsAssembled}
+use Rattle.tcp_streams.proofs.Words.{AreCaptured, IsInterval, at, arrival_with, arrivals_after, arrivals_in, bytes_in}
+use Rattle.tcp_streams.proofs.Words.{member_piece, piece, width, is_sent_by, segment_of, end_of_offsets}
 use Rattle.tcp_streams.proofs.IntervalLemmas.{by_Bool}
 use Rattle.tcp_streams.proofs.PieceLemmas.{AreRising, member-shown, piece-is, sound-found}
 use Rattle.tcp_streams.proofs.RunLemmas.{Follows, IsRunOf, bytes_in-push, run-flow, run-size, run-timely, run_end}

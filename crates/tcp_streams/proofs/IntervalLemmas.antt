@@ -1,17 +1,13 @@
 -- On intervals: the parts between two offsets, and one list of intervals laid over another.
-use Rattle.std.proofs.Common.{◌≡◌, ℕ, zero, suc, ◌+◌, ◌-◌, ◌<◌, ◌≤◌, ◌^◌, min, max, Bool, true, false, List, [], ◌∷◌}
-use Rattle.std.proofs.Common.{◌++◌, length, drop, take, get_or, None, Some, ◌⊎◌, inl, inr, refl, ap, ◌∙◌, arith}
-use Rattle.std.specs.Prelude.{nat_lt, All}
-use Rattle.std.specs.Option.{option_or}
-use Rattle.std.proofs.lemmas.Bool.{cases_lt, le-ltb, lt-ltb}
-use Rattle.std.proofs.lemmas.Bool.Decides.{nat_tests}
-use Rattle.std.proofs.lemmas.List.{take-append-drop}
-use Rattle.std.proofs.lemmas.List.Elements.{All-head, All-tail}
-use Rattle.std.proofs.lemmas.List.Sums.{sum_by-append, sum_by-cons}
-use Rattle.tcp_streams.specs.declared.interval.Interval.{Interval}
-use Rattle.tcp_streams.specs.code.Interval.{IsInterval, IsSame, Spans, at, clipped, holds, lie_apart}
-use Rattle.tcp_streams.specs.code.Interval.{overlay, part_of, size_of, source_in, width}
-use Rattle.tcp_streams.specs.Sequence.{end_of_offsets}
+use Rattle.tcp_streams.proofs.Words.{◌≡◌, ℕ, zero, suc, ◌+◌, ◌-◌, ◌<◌, ◌≤◌, ◌^◌, Bool, true, false, List, [], ◌∷◌, ◌++◌}
+use Rattle.tcp_streams.proofs.Words.{length, drop, take, get_or, None, Some, ◌⊎◌, inl, inr, refl, ap, ◌∙◌, arith}
+use Rattle.tcp_streams.proofs.Words.{nat_lt, All, option_or, le-ltb, lt-ltb, nat_tests, take-append-drop, All-head}
+use Rattle.tcp_streams.proofs.Words.{All-tail, sum_by-cons, Interval, IsInterval, IsSame, Spans, at, clipped, lie_apart}
+use Rattle.tcp_streams.proofs.Words.{overlay, size_of, source_in, width, end_of_offsets}
+use Rattle.std.proofs.Common.{min, max}
+use Rattle.std.proofs.lemmas.Bool.{cases_lt}
+use Rattle.std.proofs.lemmas.List.Sums.{sum_by-append}
+use Rattle.tcp_streams.specs.code.Interval.{holds, part_of}
 
 -- a goal, by whether one number is below another
 pub by_lt : {G : Type 0} (a b : ℕ) → (nat_lt a b ≡ true → a < b → G) → (nat_lt a b ≡ false → b ≤ a → G) → G

@@ -1,12 +1,9 @@
 -- On pieces that follow each other, and where their arrivals end.
-use Rattle.std.proofs.Common.{◌≡◌, ℕ, suc, ◌-◌, List, [], ◌∷◌, ◌++◌, length, map, slice_get, None, Some, sym, ap, ◌∙◌}
-use Rattle.std.proofs.Common.{arith}
+use Rattle.tcp_streams.proofs.Words.{◌≡◌, ℕ, suc, ◌-◌, List, [], ◌∷◌, ◌++◌, length, map, slice_get, None, Some, sym, ap}
+use Rattle.tcp_streams.proofs.Words.{◌∙◌, arith, Arrival, Rises, joined}
 use Rattle.std.proofs.lemmas.List.Concat.{concat_is}
 use denote.Ref.{Bor}
-use Rattle.tcp_streams.specs.declared.streams.Arrival.{Arrival}
-use Rattle.tcp_streams.specs.Arrivals.{Rises}
 use Rattle.parted_list.specs.Parts.{joined as in_parts}
-use Rattle.tcp_streams.specs.Bytes.{joined}
 
 -- bytes more at the end
 pub joined-more : (before after : List (Bor (List ℕ))) (more : List ℕ)

@@ -15,4 +15,5 @@ pub mod Sides
 pub mod Steps
 pub mod Turns
 pub mod UniqueFlow
+pub mod Words
 pub mod Wrapped

@@ -1,16 +1,14 @@
 -- On lists by index, and on lists to which one may be added.
-use Rattle.std.proofs.Common.{◌≡◌, ◌≢◌, ℕ, zero, suc, ◌<◌, Bool, true, false, List, [], ◌∷◌, ◌++◌, length}
-use Rattle.std.proofs.Common.{map, set, get_or, Some, slice_get, ◌⊎◌, inl, inr, refl, sym, ap, ◌∙◌, arith}
-use Rattle.std.specs.List.{AllPairs, list_any}
-use Rattle.std.specs.Prelude.{All, Result, Ok, Err, OnOk, IfOk}
-use Rattle.std.proofs.lemmas.List.{get_or-map, get_or-set_other, get_or-set_same, length-map, length-set, map-append}
-use Rattle.std.proofs.lemmas.List.{same_lists}
-use Rattle.std.proofs.lemmas.List.Elements.{All-head, All-push, All-tail}
-use Rattle.std.proofs.lemmas.List.Folds.{list_any-append}
+use Rattle.tcp_streams.proofs.Words.{◌≡◌, ℕ, zero, suc, ◌<◌, Bool, true, false, List, [], ◌∷◌, ◌++◌, length, map, set}
+use Rattle.tcp_streams.proofs.Words.{get_or, Some, slice_get, ◌⊎◌, inl, inr, refl, sym, ap, ◌∙◌, arith, AllPairs}
+use Rattle.tcp_streams.proofs.Words.{list_any, All, get_or-map, length-map, map-append, All-head, All-tail}
+use Rattle.tcp_streams.proofs.Words.{list_any-append, get_or_from_slice_get, none-some, slice_get_within, Segment}
+use Rattle.tcp_streams.proofs.Words.{with_if}
+use Rattle.std.proofs.Common.{◌≢◌}
+use Rattle.std.specs.Prelude.{Result, Ok, Err, OnOk, IfOk}
+use Rattle.std.proofs.lemmas.List.{get_or-set_other, get_or-set_same, length-set, same_lists}
+use Rattle.std.proofs.lemmas.List.Elements.{All-push}
 use Rattle.std.proofs.lemmas.List.Quantifiers.{all_pairs_push}
-use Rattle.std.proofs.lemmas.Option.{get_or_from_slice_get, none-some, slice_get_within}
-use Rattle.packet_heads.specs.declared.packets.Segment.{Segment}
-use Rattle.tcp_streams.specs.Membership.{with_if}
 use Rattle.tcp_streams.proofs.IntervalLemmas.{by_Bool, by_lt}
 
 module _ {X : Type 0} where

@@ -1,21 +1,13 @@
 -- On packets that are numbered by their records: what their past is, and that members name segments.
-use Rattle.std.proofs.Common.{◌≡◌, ℕ, zero, suc, ◌+◌, ◌-◌, ◌<◌, ◌≤◌, List, [], ◌∷◌, ◌++◌, length, map, take, drop}
-use Rattle.std.proofs.Common.{get_or, Some, slice_get, refl, ap, ◌∙◌, arith, IsSome}
-use Rattle.std.specs.Prelude.{All}
-use Rattle.std.proofs.lemmas.List.{length-take-le, take_more, map-append}
-use Rattle.std.proofs.lemmas.List.Elements.{All-cons, All-head, All-map, All-nil, All-tail}
-use Rattle.std.proofs.lemmas.Option.{none-some, slice_get-get_or}
-use Rattle.packet_heads.specs.declared.packets.Packet.{Packet}
-use Rattle.packet_heads.specs.declared.packets.Packet.TheVariants.{Segment as Carried}
-use Rattle.packet_heads.specs.declared.packets.Segment.{Segment}
-use Rattle.packet_heads.specs.code.Order.{AreNumberedFrom}
-use Rattle.tcp_streams.specs.declared.members.Connection.{Connection}
-use Rattle.tcp_streams.specs.code.Orderly.{AreMembers}
-use Rattle.tcp_streams.specs.code.Past.{Membership, connection_of, connections_of, members, membership, opening_at}
-use Rattle.tcp_streams.specs.code.Past.{openings, past_after, past_of, with_packet}
-use Rattle.tcp_streams.specs.Membership.{is_opening}
-use Rattle.tcp_streams.specs.Packets.{segment_of}
-use Rattle.tcp_streams.specs.code.Table.{Falls}
+use Rattle.tcp_streams.proofs.Words.{◌≡◌, ℕ, zero, suc, ◌+◌, ◌-◌, ◌<◌, ◌≤◌, List, [], ◌∷◌, ◌++◌, length, map, take}
+use Rattle.tcp_streams.proofs.Words.{drop, get_or, Some, slice_get, refl, ap, ◌∙◌, arith, IsSome, All, length-take-le}
+use Rattle.tcp_streams.proofs.Words.{map-append, All-cons, All-head, All-nil, All-tail, none-some, Packet, Carried}
+use Rattle.tcp_streams.proofs.Words.{Segment, AreNumberedFrom, Connection, AreMembers, Membership, connection_of}
+use Rattle.tcp_streams.proofs.Words.{connections_of, members, membership, opening_at, openings, past_after, past_of}
+use Rattle.tcp_streams.proofs.Words.{with_packet, is_opening, segment_of, Falls}
+use Rattle.std.proofs.lemmas.List.{take_more}
+use Rattle.std.proofs.lemmas.List.Elements.{All-map}
+use Rattle.std.proofs.lemmas.Option.{slice_get-get_or}
 use Rattle.tcp_streams.proofs.IntervalLemmas.{by_Bool}
 use Rattle.tcp_streams.proofs.Past.{Falls-weaker}
 

@@ -1,14 +1,10 @@
 -- On endpoints and pairs: the tests are equality, and two segments are of one pair exactly where they have the same two
 -- ends, in one direction or the other.
-use Rattle.std.proofs.Common.{◌≡◌, Bool, true, false, ◌&&◌, ◌||◌, refl, arith}
-use Rattle.std.specs.Prelude.{if◌then◌else◌}
-use Rattle.std.proofs.lemmas.Bool.Decides.{nat_tests}
-use Rattle.std.proofs.lemmas.Grind.{common_steps}
+use Rattle.tcp_streams.proofs.Words.{◌≡◌, Bool, true, false, ◌&&◌, refl, arith, if◌then◌else◌, nat_tests, common_steps}
+use Rattle.tcp_streams.proofs.Words.{Segment, Pair, is_endpoint, is_same_pair, is_pair, is_of, pair_of}
+use Rattle.std.proofs.Common.{◌||◌}
 use Rattle.packet_heads.specs.declared.packets.Endpoint.{Endpoint}
-use Rattle.packet_heads.specs.declared.packets.Segment.{Segment}
-use Rattle.tcp_streams.specs.declared.pair.Pair.{Pair}
-use Rattle.tcp_streams.specs.Pair.{is_endpoint, is_same_pair}
-use Rattle.tcp_streams.specs.code.Pairs.{is_before, is_pair, is_of, pair_of}
+use Rattle.tcp_streams.specs.code.Pairs.{is_before}
 
 pub is_endpoint-refl : (e : Endpoint) → is_endpoint e e ≡ true
 is_endpoint-refl e = grind (arith, common_steps)

@@ -1,18 +1,10 @@
 -- On a past whose records fall: an opening is before what looks back to it, and no two share a record.
-use Rattle.std.proofs.Common.{◌≡◌, ℕ, ◌<◌, ◌≤◌, Bool, true, false, ◌&&◌, not, List, [], ◌∷◌, Option}
-use Rattle.std.proofs.Common.{None, Some, refl, sym, ◌∙◌, arith}
-use Rattle.std.specs.Prelude.{if◌then◌else◌, is_none, All, IfSome}
-use Rattle.std.specs.List.{AllPairs, list_any}
-use Rattle.std.proofs.lemmas.Bool.{and_parts, and_right, false≢true, ne_eqb, not-true, or_right}
-use Rattle.std.proofs.lemmas.List.Elements.{All-nil, All-weaker}
-use Rattle.std.proofs.lemmas.List.Folds.{list_any-append}
-use Rattle.std.proofs.lemmas.Option.{IfSome_then}
-use Rattle.packet_heads.specs.declared.packets.Segment.{Segment}
-use Rattle.tcp_streams.specs.declared.pair.Pair.{Pair}
-use Rattle.tcp_streams.specs.code.Pairs.{is_of, pair_of}
-use Rattle.tcp_streams.specs.code.Past.{first_strays, last_opening, members, opening_at, openings, opens, strays}
-use Rattle.tcp_streams.specs.Membership.{is_opening}
-use Rattle.tcp_streams.specs.code.Table.{Falls}
+use Rattle.tcp_streams.proofs.Words.{◌≡◌, ℕ, ◌<◌, ◌≤◌, Bool, true, false, ◌&&◌, not, List, [], ◌∷◌, Option, None, Some}
+use Rattle.tcp_streams.proofs.Words.{refl, sym, ◌∙◌, arith, if◌then◌else◌, is_none, All, IfSome, AllPairs, list_any}
+use Rattle.tcp_streams.proofs.Words.{false≢true, ne_eqb, or_right, All-nil, All-weaker, list_any-append, IfSome_then}
+use Rattle.tcp_streams.proofs.Words.{Segment, Pair, is_of, pair_of, first_strays, last_opening, members, opening_at}
+use Rattle.tcp_streams.proofs.Words.{openings, opens, strays, is_opening, Falls}
+use Rattle.std.proofs.lemmas.Bool.{and_parts, and_right, not-true}
 use Rattle.tcp_streams.proofs.IntervalLemmas.{by_Bool}
 use Rattle.tcp_streams.proofs.Lists.{All-with_if, AllPairs-with_if, list_any-with_if}
 use Rattle.tcp_streams.proofs.Pairs.{is_pair-refl, is_pair-same}

@@ -1,29 +1,16 @@
 -- On the pieces of a side's segments: they bring what the segments bring.
-use Rattle.std.proofs.Common.{◌≡◌, ℕ, zero, suc, ◌+◌, ◌-◌, ◌%◌, ◌<◌, ◌≤◌, ◌^◌, Bool, List, [], ◌∷◌, ◌++◌, length}
-use Rattle.std.proofs.Common.{filter, get_or, slice_get, Option, None, Some, ◌⊎◌, refl, sym, ◌∙◌, arith, IsSome}
-use Rattle.std.specs.Prelude.{if◌then◌else◌, nat_lt, All, IfSome, option_and_then}
-use Rattle.std.specs.List.{cons_option, filter_map}
-use Rattle.std.specs.Option.{option_or, option_to_list}
-use Rattle.std.proofs.lemmas.Bool.{le-ltb, lt-ltb}
-use Rattle.std.proofs.lemmas.Bool.Decides.{nat_tests}
-use Rattle.std.proofs.lemmas.Option.{IfSome_then, none-some}
-use Rattle.std.proofs.lemmas.List.Elements.{All-cons, All-nil}
-use Rattle.std.proofs.lemmas.List.Sums.{sum_by-cons}
-use Rattle.audit_terms.specs.declared.sides.Side.{Side}
-use Rattle.packet_heads.specs.declared.packets.Packet.{Packet}
-use Rattle.packet_heads.specs.declared.packets.Packet.TheVariants.{Segment as Carried}
-use Rattle.packet_heads.specs.declared.packets.Segment.{Segment}
-use Rattle.packet_heads.specs.code.Order.{AreNumberedFrom, PayloadsRise, TimesFit}
-use Rattle.tcp_streams.specs.declared.interval.Interval.{Interval}
-use Rattle.tcp_streams.specs.declared.members.Connection.{Connection}
-use Rattle.tcp_streams.specs.code.Interval.{IsInterval, IsCaptured, IsSame, PayloadsFit, at, member_piece, piece}
-use Rattle.tcp_streams.specs.code.Interval.{size_of, stretch}
-use Rattle.tcp_streams.specs.code.Orderly.{AreMembers, payload_sum}
+use Rattle.tcp_streams.proofs.Words.{◌≡◌, ℕ, zero, suc, ◌+◌, ◌-◌, ◌%◌, ◌<◌, ◌≤◌, ◌^◌, Bool, List, [], ◌∷◌, ◌++◌, length}
+use Rattle.tcp_streams.proofs.Words.{filter, get_or, slice_get, Option, None, Some, ◌⊎◌, refl, sym, ◌∙◌, arith, IsSome}
+use Rattle.tcp_streams.proofs.Words.{if◌then◌else◌, nat_lt, All, IfSome, option_and_then, filter_map, option_or}
+use Rattle.tcp_streams.proofs.Words.{option_to_list, le-ltb, lt-ltb, nat_tests, IfSome_then, none-some, All-cons}
+use Rattle.tcp_streams.proofs.Words.{All-nil, sum_by-cons, Side, Packet, Carried, Segment, AreNumberedFrom}
+use Rattle.tcp_streams.proofs.Words.{PayloadsRise, TimesFit, Interval, Connection, IsInterval, IsCaptured, IsSame, at}
+use Rattle.tcp_streams.proofs.Words.{member_piece, piece, size_of, AreMembers, payload_sum, is_sent_by, segments_of}
+use Rattle.tcp_streams.proofs.Words.{segment_in, segment_of, Source, end_of_offsets, payload_length, source}
+use Rattle.std.specs.List.{cons_option}
+use Rattle.tcp_streams.specs.code.Interval.{PayloadsFit, stretch}
 use Rattle.tcp_streams.specs.laws.Flows.{ByteHasOffset}
-use Rattle.tcp_streams.specs.Members.{is_sent_by, segments_of}
-use Rattle.tcp_streams.specs.Packets.{segment_in, segment_of}
-use Rattle.tcp_streams.specs.Sequence.{Source, brings, distance, earlier_of, end_of_offsets, payload_length, source}
-use Rattle.tcp_streams.specs.Sequence.{start_of}
+use Rattle.tcp_streams.specs.Sequence.{brings, distance, earlier_of, start_of}
 use Rattle.tcp_streams.proofs.IntervalLemmas.{at-append, by_Bool, by_lt, size-cons}
 
 -- a payload that stands in the capture

@@ -1,20 +1,14 @@
 -- On intervals that follow each other: the bytes that they hold, and when these arrive.
-use Rattle.std.proofs.Common.{◌≡◌, ℕ, zero, suc, ◌+◌, ◌-◌, ◌<◌, ◌≤◌, ◌^◌, List, [], ◌∷◌, ◌++◌, length, drop, take}
-use Rattle.std.proofs.Common.{slice_get, Option, None, Some, refl, sym, ap, ◌∙◌, arith, IsSome}
-use Rattle.std.specs.Prelude.{All, IfSome, IsSomeAnd}
-use Rattle.std.specs.List.{slice_range}
-use Rattle.std.specs.Option.{option_or}
-use Rattle.std.proofs.lemmas.Bool.{eq-eqb, ne_eqb, lt-ltb, le-ltb}
-use Rattle.std.proofs.lemmas.List.{append-nil, append_assoc, length-append}
-use Rattle.std.proofs.lemmas.List.Elements.{All-cons, All-head, All-nil, All-tail}
-use Rattle.tcp_streams.specs.declared.interval.Interval.{Interval}
-use Rattle.tcp_streams.specs.declared.streams.Arrival.{Arrival}
-use Rattle.tcp_streams.specs.code.Orderly.{AreTimely}
-use Rattle.tcp_streams.specs.Arrivals.{Rises}
-use Rattle.tcp_streams.specs.Flow.{AreArrivals, IsArrivalOf, IsFlow, IsGap, arrival_at}
-use Rattle.tcp_streams.specs.code.Interval.{AreCaptured, IsInterval, IsCaptured, Spans, arrival_with, arrivals_after}
-use Rattle.tcp_streams.specs.code.Interval.{arrivals_in, at, bytes_in, run_length, size_of, source_in, width}
-use Rattle.tcp_streams.specs.Sequence.{Source, arrival, end_of_offsets, later_of}
+use Rattle.tcp_streams.proofs.Words.{◌≡◌, ℕ, zero, suc, ◌+◌, ◌-◌, ◌<◌, ◌≤◌, ◌^◌, List, [], ◌∷◌, ◌++◌, length, drop}
+use Rattle.tcp_streams.proofs.Words.{take, slice_get, Option, None, Some, refl, sym, ap, ◌∙◌, arith, IsSome, All}
+use Rattle.tcp_streams.proofs.Words.{IfSome, IsSomeAnd, slice_range, option_or, eq-eqb, ne_eqb, lt-ltb, le-ltb}
+use Rattle.tcp_streams.proofs.Words.{append-nil, append_assoc, length-append, All-cons, All-head, All-nil, All-tail}
+use Rattle.tcp_streams.proofs.Words.{Interval, Arrival, AreTimely, Rises, IsArrivalOf, IsFlow, IsGap, arrival_at}
+use Rattle.tcp_streams.proofs.Words.{AreCaptured, IsInterval, IsCaptured, Spans, arrival_with, arrivals_after}
+use Rattle.tcp_streams.proofs.Words.{arrivals_in, at, bytes_in, run_length, size_of, source_in, width, Source, arrival}
+use Rattle.tcp_streams.proofs.Words.{end_of_offsets}
+use Rattle.tcp_streams.specs.Flow.{AreArrivals}
+use Rattle.tcp_streams.specs.Sequence.{later_of}
 use Rattle.tcp_streams.proofs.IntervalLemmas.{Spans-before, at-append, at-in, at-past, by_lt, size-append, size-cons}
 use Rattle.tcp_streams.proofs.Elements.{length-slice_range, slice_get-left, slice_get-right, slice_get-slice_range}
 

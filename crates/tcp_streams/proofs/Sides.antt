@@ -1,22 +1,8 @@
 -- On the pieces of a side: what lies apart and brings what they bring makes the side's flow.
-use Rattle.std.proofs.Common.{◌≡◌, ℕ, List, ◌<◌, ◌≤◌, ◌^◌, length, sym, ◌∙◌, arith}
-use Rattle.std.specs.Prelude.{IsTrue}
-use Rattle.std.specs.List.{filter_map}
-use Rattle.std.proofs.lemmas.Option.{IfSome_then}
-use Rattle.audit_terms.specs.declared.sides.Side.{Side}
-use Rattle.packet_heads.specs.declared.packets.Packet.{Packet}
-use Rattle.packet_heads.specs.declared.packets.Segment.{Segment}
-use Rattle.packet_heads.specs.code.Order.{AreNumberedFrom, PayloadsRise, TimesFit}
-use Rattle.tcp_streams.specs.declared.interval.Interval.{Interval}
-use Rattle.tcp_streams.specs.declared.members.Connection.{Connection}
-use Rattle.tcp_streams.specs.declared.streams.Flow.{Flow}
-use Rattle.tcp_streams.specs.code.Orderly.{AreTimely, AreMembers}
-use Rattle.tcp_streams.specs.Bytes.{bytes_of}
-use Rattle.tcp_streams.specs.Flow.{IsFlow}
-use Rattle.tcp_streams.specs.code.Assembled.{IsAssembled}
-use Rattle.tcp_streams.specs.code.Interval.{AreCaptured, IsSame, at, member_piece, size_of}
-use Rattle.tcp_streams.specs.Members.{is_sent_by, side_segments}
-use Rattle.tcp_streams.specs.Sequence.{source}
+use Rattle.tcp_streams.proofs.Words.{◌≡◌, ℕ, List, ◌<◌, ◌≤◌, ◌^◌, length, sym, ◌∙◌, arith, IsTrue, filter_map}
+use Rattle.tcp_streams.proofs.Words.{IfSome_then, Side, Packet, Segment, AreNumberedFrom, PayloadsRise, TimesFit}
+use Rattle.tcp_streams.proofs.Words.{Interval, Connection, Flow, AreTimely, AreMembers, bytes_of, IsFlow, IsAssembled}
+use Rattle.tcp_streams.proofs.Words.{AreCaptured, IsSame, at, member_piece, size_of, is_sent_by, side_segments, source}
 use Rattle.tcp_streams.proofs.FlowLemmas.{IsFlow-same, side-fits}
 use Rattle.tcp_streams.proofs.PieceLemmas.{ArePiecesOf, member-pieces, members-sound, pieces-are}
 

@@ -1,28 +1,21 @@
 -- What the table shows after one more segment: it opens a connection, joins one, counts as one more stray
 -- of its pair, or is the first stray of it.
-use Rattle.std.proofs.Common.{◌≡◌, ℕ, ◌<◌, Bool, true, false, List, [], ◌∷◌, ◌++◌, length}
-use Rattle.std.proofs.Common.{map, set, filter, get_or, Option, None, Some, ◌⊎◌, inl, inr, refl, ◌∙◌}
-use Rattle.std.proofs.Common.{arith}
-use Rattle.std.specs.Prelude.{if◌then◌else◌, is_none, find, option_map, All}
-use Rattle.std.specs.List.{list_any}
-use Rattle.std.specs.Option.{option_or}
-use Rattle.std.proofs.lemmas.Bool.{eq-eqb, ne_eqb, or_parts, or_right}
-use Rattle.std.proofs.lemmas.List.{append-nil, map-append, length-map, length-append}
-use Rattle.std.proofs.lemmas.List.Elements.{All-weaker, filter-append}
-use Rattle.std.proofs.lemmas.List.Folds.{list_any-append, find-append}
-use Rattle.packet_heads.specs.declared.packets.Segment.{Segment}
-use Rattle.tcp_streams.specs.declared.table.Table.{Table}
-use Rattle.tcp_streams.specs.declared.members.Stray.{Stray}
-use Rattle.tcp_streams.specs.declared.pair.Pair.{Pair}
+use Rattle.tcp_streams.proofs.Words.{◌≡◌, ℕ, ◌<◌, Bool, true, false, List, [], ◌∷◌, ◌++◌, length, map, set, filter}
+use Rattle.tcp_streams.proofs.Words.{get_or, Option, None, Some, ◌⊎◌, inl, inr, refl, ◌∙◌, arith, if◌then◌else◌}
+use Rattle.tcp_streams.proofs.Words.{is_none, All, list_any, option_or, eq-eqb, ne_eqb, or_right, append-nil}
+use Rattle.tcp_streams.proofs.Words.{map-append, length-map, length-append, All-weaker, list_any-append, Segment, Table}
+use Rattle.tcp_streams.proofs.Words.{Stray, Pair, Opened, is_of, is_pair, pair_of, Membership, connection_of}
+use Rattle.tcp_streams.proofs.Words.{first_strays, last_opening, members, membership, opening_at, openings, opens}
+use Rattle.tcp_streams.proofs.Words.{stray_of, strays, is_opening, standing_of, Falls, IsOpened, IsTableOf, IsUnopened}
+use Rattle.std.specs.Prelude.{find, option_map}
+use Rattle.std.proofs.lemmas.Bool.{or_parts}
+use Rattle.std.proofs.lemmas.List.Elements.{filter-append}
+use Rattle.std.proofs.lemmas.List.Folds.{find-append}
 use Rattle.tcp_streams.specs.declared.standings.Standing.{Standing}
-use Rattle.tcp_streams.specs.declared.standings.Standing.TheVariants.{Unopened, Opened}
-use Rattle.tcp_streams.specs.code.Pairs.{is_of, is_pair, pair_of}
-use Rattle.tcp_streams.specs.code.Past.{Membership, connection_of, first_strays, last_opening, members, membership}
-use Rattle.tcp_streams.specs.code.Past.{opening_at, openings, opens, stray_of, strays}
-use Rattle.tcp_streams.specs.Membership.{is_answer, is_opening}
-use Rattle.tcp_streams.specs.code.Standings.{SetsStanding, SetsStandingIn, standing_of}
-use Rattle.tcp_streams.specs.code.Table.{Falls, IsOpened, IsShown, IsTableOf, IsUnknown, IsUnopened, Stands, opened_by}
-use Rattle.tcp_streams.specs.code.Table.{first_stray, counted, joined}
+use Rattle.tcp_streams.specs.declared.standings.Standing.TheVariants.{Unopened}
+use Rattle.tcp_streams.specs.Membership.{is_answer}
+use Rattle.tcp_streams.specs.code.Standings.{SetsStanding, SetsStandingIn}
+use Rattle.tcp_streams.specs.code.Table.{IsShown, IsUnknown, Stands, opened_by, first_stray, counted, joined}
 use Rattle.tcp_streams.proofs.IntervalLemmas.{by_Bool}
 use Rattle.tcp_streams.proofs.Lists.{list_any-other, map-agree, map-but, map-pushed, slice_get-last, slice_get-with_if}
 use Rattle.tcp_streams.proofs.Pairs.{is_endpoint-refl, is_pair-refl, is_pair-same, is_pair-sym}

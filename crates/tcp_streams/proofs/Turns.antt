@@ -1,23 +1,14 @@
 -- What a segment does, by what the table shows of its pair.
-use Rattle.std.proofs.Common.{◌≡◌, ℕ, ◌≤◌, [], ◌∷◌, get_or, true, false, not, List, length, map, Some, slice_get, sym}
-use Rattle.std.proofs.Common.{ap, ◌∙◌, arith}
-use Rattle.std.specs.Prelude.{is_none}
-use Rattle.std.proofs.lemmas.Option.{get_or_from_slice_get, slice_get-map, slice_get_within}
-use Rattle.std.proofs.lemmas.List.{get_or-map, length-append, length-map}
+use Rattle.tcp_streams.proofs.Words.{◌≡◌, ℕ, ◌≤◌, [], ◌∷◌, get_or, true, false, not, List, length, map, Some, slice_get}
+use Rattle.tcp_streams.proofs.Words.{sym, ap, ◌∙◌, arith, is_none, get_or_from_slice_get, slice_get_within, get_or-map}
+use Rattle.tcp_streams.proofs.Words.{length-append, length-map, Segment, Connection, Stray, Pair, Opened, Table, is_of}
+use Rattle.tcp_streams.proofs.Words.{pair_of, Membership, connection_of, first_strays, membership, opening_at, openings}
+use Rattle.tcp_streams.proofs.Words.{opens, stray_of, strays, is_request, standing_of, IsOpened, IsTableOf, IsUnopened}
+use Rattle.std.proofs.lemmas.Option.{slice_get-map}
 use Rattle.std.proofs.lemmas.List.Sums.{count_by-le-length, length-filter}
-use Rattle.packet_heads.specs.declared.packets.Segment.{Segment}
-use Rattle.tcp_streams.specs.declared.members.Connection.{Connection}
-use Rattle.tcp_streams.specs.declared.members.Stray.{Stray}
-use Rattle.tcp_streams.specs.declared.pair.Pair.{Pair}
-use Rattle.tcp_streams.specs.declared.standings.Standing.TheVariants.{Opened}
-use Rattle.tcp_streams.specs.declared.table.Table.{Table}
 use Rattle.tcp_streams.specs.declared.table.Turn.TheVariants.{Opens, Joins}
-use Rattle.tcp_streams.specs.code.Pairs.{is_of, pair_of}
-use Rattle.tcp_streams.specs.code.Past.{Membership, connection_of, first_strays, is_again, membership, opening_at, openings}
-use Rattle.tcp_streams.specs.code.Past.{opens, stray_of, strays}
-use Rattle.tcp_streams.specs.Membership.{is_request}
-use Rattle.tcp_streams.specs.code.Standings.{standing_of}
-use Rattle.tcp_streams.specs.code.Table.{IsOpened, IsTableOf, IsTurn, IsUnopened}
+use Rattle.tcp_streams.specs.code.Past.{is_again}
+use Rattle.tcp_streams.specs.code.Table.{IsTurn}
 use Rattle.tcp_streams.proofs.IntervalLemmas.{by_Bool}
 
 strays-few : (past : List Segment) → length (strays past) ≤ length past

@@ -1,14 +1,11 @@
 -- Two flows of the same sources are one.
-use Rattle.std.proofs.Common.{◌≡◌, ℕ, ◌<◌, ◌≤◌, List, [], ◌∷◌, length, slice_get, Option, None, Some, refl, sym, ap}
-use Rattle.std.proofs.Common.{◌∙◌, arith, IsSome}
-use Rattle.std.specs.Prelude.{IfSome, IsSomeAnd, unwrap_or}
-use Rattle.std.proofs.lemmas.Bool.{false≢true, le-ltb, lt-ltb}
+use Rattle.tcp_streams.proofs.Words.{◌≡◌, ℕ, ◌<◌, ◌≤◌, List, [], ◌∷◌, length, slice_get, Option, None, Some, refl, sym}
+use Rattle.tcp_streams.proofs.Words.{ap, ◌∙◌, arith, IsSome, IfSome, IsSomeAnd, false≢true, le-ltb, lt-ltb, IfSome_then}
+use Rattle.tcp_streams.proofs.Words.{Arrival, Rises, IsArrivalOf, IsFlow, IsGap, arrival_at, Source, arrival}
+use Rattle.std.specs.Prelude.{unwrap_or}
 use Rattle.std.proofs.lemmas.Grind.{same_number_lists}
-use Rattle.std.proofs.lemmas.Option.{IfSome_then, unwrap_or-slice_get}
-use Rattle.tcp_streams.specs.declared.streams.Arrival.{Arrival}
-use Rattle.tcp_streams.specs.Arrivals.{Rises}
-use Rattle.tcp_streams.specs.Flow.{IsArrivalOf, IsFlow, IsGap, IsLongestRun, arrival_at}
-use Rattle.tcp_streams.specs.Sequence.{Source, arrival}
+use Rattle.std.proofs.lemmas.Option.{unwrap_or-slice_get}
+use Rattle.tcp_streams.specs.Flow.{IsLongestRun}
 use Rattle.tcp_streams.proofs.IntervalLemmas.{by_lt}
 
 -- lists of one length that agree at each index are equal

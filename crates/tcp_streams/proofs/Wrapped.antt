@@ -1,18 +1,11 @@
 -- The worked example of a flow whose sequence numbers come round.
-use Rattle.std.proofs.Common.{◌≡◌, ℕ, zero, suc, ◌+◌, ◌-◌, ◌<◌, ◌^◌, List, [], ◌∷◌, filter, length, map, slice_get}
-use Rattle.std.proofs.Common.{Option, None, Some, refl, sym, ap, subst, ◌∙◌, arith, lit<}
-use Rattle.std.specs.Prelude.{codes, ◌%◌, IsSome, IsSomeAnd}
-use Rattle.std.proofs.lemmas.Bool.{le-ltb}
-use Rattle.packet_heads.specs.declared.packets.Segment.{Segment}
-use Rattle.tcp_streams.specs.declared.members.Connection.{Connection}
-use Rattle.tcp_streams.specs.declared.streams.Arrival.{Arrival}
-use Rattle.tcp_streams.specs.Bytes.{bytes_of}
+use Rattle.tcp_streams.proofs.Words.{◌≡◌, ℕ, zero, suc, ◌+◌, ◌-◌, ◌<◌, ◌^◌, List, [], ◌∷◌, filter, length, map}
+use Rattle.tcp_streams.proofs.Words.{slice_get, Option, None, Some, refl, sym, ap, ◌∙◌, arith, ◌%◌, IsSome, IsSomeAnd}
+use Rattle.tcp_streams.proofs.Words.{le-ltb, Segment, Connection, Arrival, bytes_of, IsArrivalOf, IsFlow, arrival_at}
+use Rattle.tcp_streams.proofs.Words.{segments_of, is_endpoint, Source, arrival, source, Membership, membership}
+use Rattle.std.proofs.Common.{subst, lit<}
+use Rattle.std.specs.Prelude.{codes}
 use Rattle.tcp_streams.specs.examples.Retransmission.{WrappedRetransmission, client, letters, server, wrapped}
-use Rattle.tcp_streams.specs.Flow.{IsArrivalOf, IsFlow, arrival_at}
-use Rattle.tcp_streams.specs.Members.{segments_of}
-use Rattle.tcp_streams.specs.Pair.{is_endpoint}
-use Rattle.tcp_streams.specs.Sequence.{Source, arrival, source}
-use Rattle.tcp_streams.specs.code.Past.{Membership, membership}
 use Rattle.tcp_streams.proofs.Belongings.{connections-shown}
 use Rattle.tcp_streams.proofs.UniqueFlow.{IsFlow-unique}
 

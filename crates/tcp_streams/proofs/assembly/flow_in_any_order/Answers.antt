@@ -1,4 +1,4 @@
-use Rattle.std.proofs.Common.{length}
+use Rattle.tcp_streams.proofs.Words.{length}
 use Rattle.tcp_streams.proofs.Lists.{if_ok_4}
 use Rattle.tcp_streams.proofs.PieceLemmas.{PayloadsFit-from}
 use Rattle.tcp_streams.proofs.Sides.{intervals-captured, assembled, side-pieces}

@@ -1,10 +1,5 @@
-use Rattle.std.proofs.Common.{◌≡◌, ◌++◌, ◌+◌, length, take, None, true, refl, arith}
-use Rattle.std.specs.List.{filter_map}
-use Rattle.std.specs.Option.{option_to_list}
-use Rattle.std.proofs.lemmas.Grind.{common_steps}
-use Rattle.std.proofs.lemmas.List.{append-nil, take_all}
-use Rattle.std.proofs.lemmas.List.Elements.{filter_map-append}
-use Rattle.tcp_streams.specs.code.Interval.{member_piece}
+use Rattle.tcp_streams.proofs.Words.{◌≡◌, ◌++◌, ◌+◌, length, take, None, true, refl, arith, filter_map, option_to_list}
+use Rattle.tcp_streams.proofs.Words.{common_steps, append-nil, take_all, filter_map-append, member_piece}
 use Rattle.tcp_streams.proofs.InOrder.{IsLaid-more, laid-assembled, shown-inside}
 use Rattle.tcp_streams.proofs.PieceLemmas.{PayloadsFit-from, member-shown}
 use Rattle.tcp_streams.proofs.in_order.flow_in_order.Goals as goal

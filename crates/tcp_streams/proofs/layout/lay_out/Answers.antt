@@ -1,10 +1,7 @@
-use Rattle.std.proofs.Common.{◌≡◌, ℕ, ◌<◌, ◌^◌, List, [], ◌∷◌, drop, take, length, Some, sym, ap, ◌∙◌, arith}
-use Rattle.std.specs.Prelude.{All}
-use Rattle.std.proofs.lemmas.List.Elements.{All-cons, All-nil}
-use Rattle.std.proofs.lemmas.List.{at_drop_all, at_drop_more, take-append-drop}
-use Rattle.tcp_streams.specs.declared.interval.Interval.{Interval}
-use Rattle.tcp_streams.specs.Bytes.{joined}
-use Rattle.tcp_streams.specs.code.Interval.{IsInterval, Spans, run_length}
+use Rattle.tcp_streams.proofs.Words.{◌≡◌, ℕ, ◌<◌, ◌^◌, List, [], ◌∷◌, drop, take, length, Some, sym, ap, ◌∙◌, arith}
+use Rattle.tcp_streams.proofs.Words.{All, All-cons, All-nil, take-append-drop, Interval, joined, IsInterval, Spans}
+use Rattle.tcp_streams.proofs.Words.{run_length}
+use Rattle.std.proofs.lemmas.List.{at_drop_all, at_drop_more}
 use Rattle.tcp_streams.proofs.RunLemmas.{Follows, IsRunOf, gap_of, run-flow, run-in_capture, run-is, run-size}
 use Rattle.tcp_streams.proofs.RunLemmas.{run-timely}
 use Rattle.tcp_streams.proofs.layout.lay_out.Goals as goal

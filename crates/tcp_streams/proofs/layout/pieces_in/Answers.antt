@@ -1,5 +1,4 @@
-use Rattle.std.proofs.Common.{arith}
-use Rattle.std.proofs.lemmas.Grind.{common_steps}
+use Rattle.tcp_streams.proofs.Words.{arith, common_steps}
 use Rattle.tcp_streams.proofs.Joined.{joined-more}
 use Rattle.tcp_streams.proofs.RunLemmas.{bytes_in-push}
 use Rattle.tcp_streams.proofs.layout.pieces_in.Goals as goal

@@ -1,8 +1,6 @@
-use Rattle.std.proofs.Common.{◌≡◌, ℕ, List, ◌+◌, ◌<◌, length, take, drop, get_or, sym, ◌∙◌, arith}
-use Rattle.std.proofs.lemmas.List.{take_all}
-use Rattle.packet_heads.specs.declared.packets.Packet.{Packet}
+use Rattle.tcp_streams.proofs.Words.{◌≡◌, ℕ, List, ◌+◌, ◌<◌, length, take, drop, get_or, sym, ◌∙◌, arith, take_all}
+use Rattle.tcp_streams.proofs.Words.{Packet, past_of, with_packet}
 use Rattle.parted_list.proofs.Together.{element_is, end_within, index_within}
-use Rattle.tcp_streams.specs.code.Past.{past_of, with_packet}
 use Rattle.tcp_streams.proofs.Belongings.{shown-connections, strays-of-past}
 use Rattle.tcp_streams.proofs.Numbered.{Falls-next, connections-members, past_of-few, past_of-more, with_packet-other}
 use Rattle.tcp_streams.proofs.membership.connections.Goals as goal

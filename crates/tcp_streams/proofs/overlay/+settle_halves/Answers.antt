@@ -1,4 +1,5 @@
-use Rattle.std.proofs.Common.{◌/◌, length, arith}
+use Rattle.tcp_streams.proofs.Words.{length, arith}
+use Rattle.std.proofs.Common.{◌/◌}
 use Rattle.std.proofs.lemmas.List.{take_rest}
 use Rattle.std.proofs.lemmas.Result.{MatchResult-weaker}
 use Rattle.tcp_streams.proofs.IntervalLemmas.{Spans-apart, Spans-overlay, halves-same, halves-size}

@@ -1,4 +1,4 @@
-use Rattle.std.proofs.Common.{◌++◌, sym, ap, ◌∙◌, arith}
+use Rattle.tcp_streams.proofs.Words.{◌++◌, sym, ap, ◌∙◌, arith}
 use Rattle.tcp_streams.proofs.IntervalLemmas.{Spans-interval, clipped-last}
 use Rattle.tcp_streams.proofs.overlay.fill.Goals as goal
 use Rattle.tcp_streams.proofs.overlay.fill.Goals.{then-loop-index-test+else-later-index, else-loop-index-test}

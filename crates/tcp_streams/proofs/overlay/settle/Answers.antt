@@ -1,4 +1,4 @@
-use Rattle.std.proofs.Common.{arith}
+use Rattle.tcp_streams.proofs.Words.{arith}
 use Rattle.tcp_streams.proofs.IntervalLemmas.{Spans-apart}
 use Rattle.tcp_streams.proofs.overlay.settle.Goals as goal
 

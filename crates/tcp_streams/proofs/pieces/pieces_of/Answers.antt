@@ -1,6 +1,4 @@
-use Rattle.std.proofs.Common.{arith}
-use Rattle.std.proofs.lemmas.Grind.{common_steps}
-use Rattle.std.proofs.lemmas.List.Elements.{filter_map-append}
+use Rattle.tcp_streams.proofs.Words.{arith, common_steps, filter_map-append}
 use Rattle.tcp_streams.proofs.PieceLemmas.{member-shown}
 use Rattle.tcp_streams.proofs.pieces.pieces_of.Goals as goal
 

@@ -1,8 +1,7 @@
-use Rattle.std.proofs.Common.{refl, ap, ◌∙◌, map, set, rules}
+use Rattle.tcp_streams.proofs.Words.{refl, ap, ◌∙◌, map, set, membership, pair_of}
+use Rattle.std.proofs.Common.{rules}
 use Rattle.std.proofs.lemmas.List.{map-set}
 use Rattle.std.proofs.lemmas.Result.{on_ok_weaker}
-use Rattle.tcp_streams.specs.code.Past.{membership}
-use Rattle.tcp_streams.specs.code.Pairs.{pair_of}
 use Rattle.tcp_streams.proofs.Lists.{on_ok_3}
 use Rattle.tcp_streams.proofs.Steps.{shown-counts, shown-joins, table-begins, table-opens}
 use Rattle.tcp_streams.proofs.Turns.{counted-few, stands-opened, stands-unopened}

@@ -1,4 +1,4 @@
-use Rattle.std.proofs.Common.{Some, sym, ap, ◌∙◌}
+use Rattle.tcp_streams.proofs.Words.{Some, sym, ap, ◌∙◌}
 use Rattle.tcp_streams.proofs.Turns.{joins, joins_again, opens_anew}
 use Rattle.tcp_streams.proofs.table.Table.turn.Goals as goal
 use Rattle.tcp_streams.proofs.table.Table.turn.Goals.{else-is_request-3-via-then-is_request-3+else-not-is_reopened_by}
