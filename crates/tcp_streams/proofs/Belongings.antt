@@ -62,29 +62,29 @@ strays-are : (past : List Segment) → strays (belong past) ≡ past_words.stray
 strays-are [] = refl
 strays-are (s ∷ past) = rw ((opening-are s past).1, strays-are past)
 
-any-are : (s : Segment) (xs : List Segment) → list_any (is_same_pair s) xs ≡ list_any (is_of (pair_of s)) xs
-any-are s [] = refl
-any-are s (x ∷ xs) = rw (same-pair s x, any-are s xs)
-
-filter-are : (s : Segment) (xs : List Segment) → filter (is_same_pair s) xs ≡ filter (is_of (pair_of s)) xs
-filter-are s [] = refl
-filter-are s (x ∷ xs) = rw (same-pair s x, filter-are s xs)
+-- the tests of two segments' pairs are the same
+pair-tests : (s : Segment) → is_same_pair s ≡ is_of (pair_of s)
+pair-tests s = λ i t. same-pair s t i
 
 first_strays-are : (past : List Segment) → first_strays (belong past) ≡ past_words.first_strays past
 first_strays-are [] = refl
 first_strays-are (s ∷ past) =
-    rw ((opening-are s past).1, any-are s (strays (belong past)), strays-are past, first_strays-are past)
+    rw (
+      (opening-are s past).1,
+      ap (λ test. list_any test (strays (belong past))) (pair-tests s),
+      strays-are past,
+      first_strays-are past,
+    )
 
-strays-map : (all firsts : List Segment) → map (stray_of all) firsts ≡ map (past_words.stray_of all) firsts
-strays-map all [] = refl
-strays-map all (s ∷ firsts) = rw (filter-are s all, strays-map all firsts)
+stray-is : (all : List Segment) (s : Segment) → stray_of all s ≡ past_words.stray_of all s
+stray-is all s = rw (ap (λ test. filter test all) (pair-tests s))
 
 -- the strays of a capture are those that its past shows
 pub strays-of-past : (packets : List Packet) → strays_of packets ≡ past_words.strays_of (past_words.past_of packets)
 strays-of-past packets =
     let past = past_words.past_of packets in
     rw (belongings-are packets, strays-are past, first_strays-are past)
-    (strays-map (past_words.strays past) (past_words.first_strays past))
+    (λ i. map (λ s. stray-is (past_words.strays past) s i) (past_words.first_strays past))
 
 -- a connection of the definition, as the table's
 connection-is : (past : List Segment) (o : Segment) (c : Connection) → IsConnectionOf (belong past) o c

@@ -8,6 +8,7 @@ use Rattle.tcp_streams.proofs.Words.{openings, opens, past_after, past_of, is_op
 use Rattle.tcp_streams.proofs.Words.{payload_length, Falls}
 use Rattle.std.specs.Prelude.{nat_eq, sum_by}
 use Rattle.std.proofs.lemmas.Bool.{eqb-true}
+use Rattle.std.proofs.lemmas.List.Folds.{fold-map}
 use Rattle.std.proofs.lemmas.List.Sums.{sum_by_push}
 use Rattle.tcp_streams.proofs.FlowLemmas.{sides-sum}
 use Rattle.tcp_streams.proofs.IntervalLemmas.{by_Bool}
@@ -16,12 +17,10 @@ use Rattle.tcp_streams.proofs.Past.{members-to_come, opening_at-opens}
 
 -- on sums
 sum-agree : {X : Type 0} (f g : X → ℕ) (xs : List X) → ((x : X) → f x ≡ g x) → sum_by f xs ≡ sum_by g xs
-sum-agree f g [] h = refl
-sum-agree f g (x ∷ xs) h = omega (arith, sum_by-cons f x xs, sum_by-cons g x xs, h x, sum-agree f g xs h)
+sum-agree f g xs h = λ i. sum_by (λ x. h x i) xs
 
 sum-map : {X Y : Type 0} (f : Y → ℕ) (g : X → Y) (xs : List X) → sum_by f (map g xs) ≡ sum_by (λ x. f (g x)) xs
-sum-map f g [] = refl
-sum-map f g (x ∷ xs) = omega (arith, sum_by-cons f (g x) (map g xs), sum_by-cons (λ x. f (g x)) x xs, sum-map f g xs)
+sum-map f g xs = fold-map (λ n y. n + f y) g 0 xs
 
 sum-plus : {X : Type 0} (f g : X → ℕ) (xs : List X) → sum_by (λ x. f x + g x) xs ≡ sum_by f xs + sum_by g xs
 sum-plus f g [] = refl

@@ -2,11 +2,10 @@
 use Rattle.tcp_streams.proofs.Words.{◌≡◌, ℕ, zero, suc, ◌+◌, ◌-◌, ◌<◌, ◌≤◌, ◌^◌, Bool, true, false, List, [], ◌∷◌, ◌++◌}
 use Rattle.tcp_streams.proofs.Words.{length, drop, take, get_or, None, Some, ◌⊎◌, inl, inr, refl, ap, ◌∙◌, arith}
 use Rattle.tcp_streams.proofs.Words.{nat_lt, All, option_or, le-ltb, lt-ltb, nat_tests, take-append-drop, All-head}
-use Rattle.tcp_streams.proofs.Words.{All-tail, sum_by-cons, Interval, IsInterval, IsSame, Spans, at, clipped, lie_apart}
-use Rattle.tcp_streams.proofs.Words.{overlay, size_of, source_in, width, end_of_offsets}
+use Rattle.tcp_streams.proofs.Words.{All-tail, sum_by-append, sum_by-cons, Interval, IsInterval, IsSame, Spans, at}
+use Rattle.tcp_streams.proofs.Words.{clipped, lie_apart, overlay, size_of, source_in, width, end_of_offsets}
 use Rattle.std.proofs.Common.{min, max}
 use Rattle.std.proofs.lemmas.Bool.{cases_lt}
-use Rattle.std.proofs.lemmas.List.Sums.{sum_by-append}
 use Rattle.tcp_streams.specs.code.Interval.{holds, part_of}
 
 -- a goal, by whether one number is below another
@@ -169,13 +168,9 @@ left_of-falls : (d e : ℕ) (ys : List Interval) → d ≤ e → left_of e ys �
 left_of-falls d e [] le = omega arith
 left_of-falls d e (y ∷ ys) le = omega (arith, le, left_of-falls d e ys le)
 
--- one more interval
-pub size-cons : (x : Interval) (xs : List Interval) → size_of (x ∷ xs) ≡ width x + size_of xs
-size-cons x xs = sum_by-cons width x xs
-
 left_of-all : (ys : List Interval) → left_of 0 ys ≤ size_of ys
 left_of-all [] = omega arith
-left_of-all (y ∷ ys) = omega (arith, left_of-all ys, size-cons y ys)
+left_of-all (y ∷ ys) = omega (arith, left_of-all ys, sum_by-cons width y ys)
 
 size-clipped : (low high : ℕ) (ys : List Interval) → low ≤ high
     → size_of (clipped low high ys) + left_of high ys ≤ left_of low ys
@@ -184,11 +179,8 @@ size-clipped low high (y ∷ ys) le =
     let part = part_of y (max y.from low) (min y.upto high) in
     by_lt (max y.from low) (min y.upto high)
     (λ _ lt. rw (clipped-some low high y ys lt)
-    (omega (arith, size-cons part (clipped low high ys), size-clipped low high ys le)))
+    (omega (arith, sum_by-cons width part (clipped low high ys), size-clipped low high ys le)))
     (λ _ over. rw (clipped-none low high y ys over) (omega (arith, size-clipped low high ys le)))
-
-pub size-append : (xs ys : List Interval) → size_of (xs ++ ys) ≡ size_of xs + size_of ys
-size-append xs ys = sum_by-append width xs ys
 
 size-overlay-left : (low : ℕ) (kept later : List Interval) → Spans low kept end_of_offsets
     → size_of (overlay kept later low) ≤ size_of kept + left_of low later
@@ -196,9 +188,9 @@ size-overlay-left low [] later h = omega (arith, size-clipped low end_of_offsets
 size-overlay-left low (x ∷ kept) later h =
     omega (
       arith,
-      size-append (clipped low x.from later) (x ∷ overlay kept later x.upto),
-      size-cons x kept,
-      size-cons x (overlay kept later x.upto),
+      sum_by-append width (clipped low x.from later) (x ∷ overlay kept later x.upto),
+      sum_by-cons width x kept,
+      sum_by-cons width x (overlay kept later x.upto),
       size-clipped low x.from later h.0,
       left_of-falls x.from x.upto later
           (omega (arith, h.1.some)),
@@ -236,6 +228,6 @@ halves-size kept later pieces n h k l =
       size-overlay kept later h,
       k,
       l,
-      size-append (take n pieces) (drop n pieces),
+      sum_by-append width (take n pieces) (drop n pieces),
       ap size_of (take-append-drop n pieces),
     )

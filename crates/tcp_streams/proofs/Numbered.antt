@@ -1,12 +1,12 @@
 -- On packets that are numbered by their records: what their past is, and that members name segments.
 use Rattle.tcp_streams.proofs.Words.{◌≡◌, ℕ, zero, suc, ◌+◌, ◌-◌, ◌<◌, ◌≤◌, List, [], ◌∷◌, ◌++◌, length, map, take}
 use Rattle.tcp_streams.proofs.Words.{drop, get_or, Some, slice_get, refl, ap, ◌∙◌, arith, IsSome, All, length-take-le}
-use Rattle.tcp_streams.proofs.Words.{map-append, All-cons, All-head, All-nil, All-tail, none-some, Packet, Carried}
-use Rattle.tcp_streams.proofs.Words.{Segment, AreNumberedFrom, Connection, AreMembers, Membership, connection_of}
-use Rattle.tcp_streams.proofs.Words.{connections_of, members, membership, opening_at, openings, past_after, past_of}
-use Rattle.tcp_streams.proofs.Words.{with_packet, is_opening, segment_of, Falls}
-use Rattle.std.proofs.lemmas.List.{take_more}
-use Rattle.std.proofs.lemmas.List.Elements.{All-map}
+use Rattle.tcp_streams.proofs.Words.{map-append, All-head, All-nil, All-tail, none-some, Packet, Carried, Segment}
+use Rattle.tcp_streams.proofs.Words.{AreNumberedFrom, Connection, AreMembers, Membership, connection_of, connections_of}
+use Rattle.tcp_streams.proofs.Words.{members, membership, opening_at, openings, past_after, past_of, with_packet}
+use Rattle.tcp_streams.proofs.Words.{is_opening, segment_of, Falls}
+use Rattle.std.proofs.lemmas.List.Elements.{All-push, All-weaker, All-map}
+use Rattle.std.proofs.lemmas.List.{get_or-map, length-map, take_more}
 use Rattle.std.proofs.lemmas.Option.{slice_get-get_or}
 use Rattle.tcp_streams.proofs.IntervalLemmas.{by_Bool}
 use Rattle.tcp_streams.proofs.Past.{Falls-weaker}
@@ -98,38 +98,29 @@ Known-past_after packets n past (p ∷ rest) h d k =
 pub Known-past_of : (packets : List Packet) → AreNumberedFrom 1 packets → Known packets (past_of packets)
 Known-past_of packets h = Known-past_after packets 0 [] packets h refl tt
 
--- each number is below a bound
-abbrev AreBelow : ℕ → List ℕ → Type 0
-AreBelow n [] = Unit {0}
-AreBelow n (m ∷ rest) = (m < n) × AreBelow n rest
-
-AreBelow-weaker : (n k : ℕ) (xs : List ℕ) → n ≤ k → AreBelow n xs → AreBelow k xs
-AreBelow-weaker n k [] le h = tt
-AreBelow-weaker n k (m ∷ rest) le h = (omega (arith, h.0), AreBelow-weaker n k rest le h.1)
-
-AreBelow-push : (n m : ℕ) (xs : List ℕ) → m < n → AreBelow n xs → AreBelow n (xs ++ m ∷ [])
-AreBelow-push n m [] lt h = (lt, tt)
-AreBelow-push n m (x ∷ xs) lt h = (h.0, AreBelow-push n m xs lt h.1)
-
-AreMembers-push : (low : ℕ) (packets : List Packet) (xs : List ℕ) (m : ℕ) → low < m → AreBelow m xs
+AreMembers-push : (low : ℕ) (packets : List Packet) (xs : List ℕ) (m : ℕ) → low < m → All (λ k. k < m) xs
     → IsSome (segment_of packets m) → AreMembers low packets xs → AreMembers low packets (xs ++ m ∷ [])
 AreMembers-push low packets [] m lt b some h = (lt, some, tt)
-AreMembers-push low packets (x ∷ xs) m lt b some h = (h.0, h.1, AreMembers-push x packets xs m b.0 b.1 some h.2)
+AreMembers-push low packets (x ∷ xs) m lt b some h = (
+  h.0,
+  h.1,
+  AreMembers-push x packets xs m (All-head (λ k. k < m) x xs b) (All-tail (λ k. k < m) x xs b) some h.2,
+)
 
 abbrev pub recs : List Segment → List ℕ
 recs segments = map (λ (s : Segment). s.rec) segments
 
 -- an opening's members rise and name segments
 members-are : (packets : List Packet) (o : Segment) (n : ℕ) (past : List Segment) → Falls n past → Known packets past
-    → AreMembers 0 packets (recs (members o past)) × AreBelow n (recs (members o past))
-members-are packets o n [] f k = (tt, tt)
+    → AreMembers 0 packets (recs (members o past)) × All (λ k. k < n) (recs (members o past))
+members-are packets o n [] f k = (tt, All-nil (λ k. k < n))
 members-are packets o n (s ∷ past) f k =
     let (rise, below) = members-are packets o s.rec past f.1 k.2 in
-    let wider = AreBelow-weaker s.rec n (recs (members o past)) (omega (arith, f.0)) below in
+    let wider = All-weaker (λ m. m < s.rec) (λ m. m < n) (λ m h. omega (arith, f.0)) (recs (members o past)) below in
     by_Bool (is_opening o (opening_at s past))
     (λ e. rw (e, map-append (λ (t : Segment). t.rec) (members o past) (s ∷ [])) (
       AreMembers-push 0 packets (recs (members o past)) s.rec k.0 below (rw k.1) rise,
-      AreBelow-push n s.rec (recs (members o past)) f.0 wider,
+      All-push (λ m. m < n) (recs (members o past)) s.rec wider f.0,
     ))
     (λ e. rw e (rise, wider))
 
@@ -139,11 +130,8 @@ IsNamed packets m = AreMembers 0 packets m.members
 
 unmap : (packets : List Packet) (xs : List Connection) → All (IsNamed packets) (map membership xs)
     → All (λ c. IsNamed packets (membership c)) xs
-unmap packets [] all = All-nil (λ c. IsNamed packets (membership c))
-unmap packets (c ∷ xs) all =
-    All-cons (λ c. IsNamed packets (membership c)) c xs
-    (All-head (IsNamed packets) (membership c) (map membership xs) all)
-    (unmap packets xs (All-tail (IsNamed packets) (membership c) (map membership xs) all))
+unmap packets xs all = λ k d lt. rw (get_or-map membership xs k d (membership d) lt) at
+    (all k (membership d) (omega (arith, length-map xs membership)))
 
 pub connections-members : (packets : List Packet) (found : List Connection) → AreNumberedFrom 1 packets
     → map membership found ≡ connections_of (past_of packets)

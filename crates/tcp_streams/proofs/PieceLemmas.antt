@@ -3,7 +3,7 @@ use Rattle.tcp_streams.proofs.Words.{◌≡◌, ℕ, zero, suc, ◌+◌, ◌-◌
 use Rattle.tcp_streams.proofs.Words.{filter, get_or, slice_get, Option, None, Some, ◌⊎◌, refl, sym, ◌∙◌, arith, IsSome}
 use Rattle.tcp_streams.proofs.Words.{if◌then◌else◌, nat_lt, All, IfSome, option_and_then, filter_map, option_or}
 use Rattle.tcp_streams.proofs.Words.{option_to_list, le-ltb, lt-ltb, nat_tests, IfSome_then, none-some, All-cons}
-use Rattle.tcp_streams.proofs.Words.{All-nil, sum_by-cons, Side, Packet, Carried, Segment, AreNumberedFrom}
+use Rattle.tcp_streams.proofs.Words.{All-nil, sum_by-cons, width, Side, Packet, Carried, Segment, AreNumberedFrom}
 use Rattle.tcp_streams.proofs.Words.{PayloadsRise, TimesFit, Interval, Connection, IsInterval, IsCaptured, IsSame, at}
 use Rattle.tcp_streams.proofs.Words.{member_piece, piece, size_of, AreMembers, payload_sum, is_sent_by, segments_of}
 use Rattle.tcp_streams.proofs.Words.{segment_in, segment_of, Source, end_of_offsets, payload_length, source}
@@ -11,7 +11,7 @@ use Rattle.std.specs.List.{cons_option}
 use Rattle.tcp_streams.specs.code.Interval.{PayloadsFit, stretch}
 use Rattle.tcp_streams.specs.laws.Flows.{ByteHasOffset}
 use Rattle.tcp_streams.specs.Sequence.{brings, distance, earlier_of, start_of}
-use Rattle.tcp_streams.proofs.IntervalLemmas.{at-append, by_Bool, by_lt, size-cons}
+use Rattle.tcp_streams.proofs.IntervalLemmas.{at-append, by_Bool, by_lt}
 
 -- a payload that stands in the capture
 pub record StandsIn (size : ℕ) (s : Segment) : Type 0 where
@@ -160,7 +160,7 @@ module _ (initial_number size : ℕ) (small : size < 2 ^ 31) where
     one_more (Some x) is same = record {
       intervals = All-cons IsInterval x rest
           (record { some = is.some; counts = is.counts; room = omega (arith, is.within, sound.0.within) }) are.intervals;
-      fit = omega (arith, is.first, is.within, are.fit, sum_by-cons payload_length s later, size-cons x rest);
+      fit = omega (arith, is.first, is.within, are.fit, sum_by-cons payload_length s later, sum_by-cons width x rest);
       rise = (omega (arith, is.rec_is, sound.1), rw is.rec_is are.rise);
       cited = cited;
       same = λ o lt. first o ∙ rw (same o lt, are.same o lt) (sym (at-append (x ∷ []) rest o));

@@ -6,10 +6,10 @@ use Rattle.tcp_streams.proofs.Words.{append-nil, append_assoc, length-append, Al
 use Rattle.tcp_streams.proofs.Words.{Interval, Arrival, AreTimely, Rises, IsArrivalOf, IsFlow, IsGap, arrival_at}
 use Rattle.tcp_streams.proofs.Words.{AreCaptured, IsInterval, IsCaptured, Spans, arrival_with, arrivals_after}
 use Rattle.tcp_streams.proofs.Words.{arrivals_in, at, bytes_in, run_length, size_of, source_in, width, Source, arrival}
-use Rattle.tcp_streams.proofs.Words.{end_of_offsets}
+use Rattle.tcp_streams.proofs.Words.{end_of_offsets, sum_by-append, sum_by-cons}
 use Rattle.tcp_streams.specs.Flow.{AreArrivals}
 use Rattle.tcp_streams.specs.Sequence.{later_of}
-use Rattle.tcp_streams.proofs.IntervalLemmas.{Spans-before, at-append, at-in, at-past, by_lt, size-append, size-cons}
+use Rattle.tcp_streams.proofs.IntervalLemmas.{Spans-before, at-append, at-in, at-past, by_lt}
 use Rattle.tcp_streams.proofs.Elements.{length-slice_range, slice_get-left, slice_get-right, slice_get-slice_range}
 
 -- the intervals follow each other from low on
@@ -135,22 +135,7 @@ abbrev up_to : Arrival → ℕ → Arrival
 up_to a upto = record { upto = upto; rec = a.rec; nanos = a.nanos }
 
 module _ (sources : ℕ → Option Source) where
-  -- along an interval of no later record the arrival stays
-  stays : (a : Arrival) (x : Interval) (low : ℕ) → x.rec ≤ a.rec → IsArrivalOf a (arrival sources low)
-      → ((o : ℕ) → low < o → o < x.upto → sources o ≡ Some (source_in x o)) → (o : ℕ) → low ≤ o → o < x.upto
-      → IsArrivalOf a (arrival sources o)
-  stays a x low le h brings zero k lt = rw (let e : low ≡ 0 = omega arith in e) at h
-  stays a x low le h brings (suc o) k lt =
-      by_lt low (suc o)
-      (λ _ after. rw (brings (suc o) after lt)
-      (kept (arrival sources o) (stays a x low le h brings o (omega arith) (omega arith))))
-      (λ _ here. rw (let e : low ≡ suc o = omega arith in e) at h)
-    where
-      kept : (p : Option Source) → IsArrivalOf a p → IsArrivalOf a (later_of p (Some (source_in x (suc o))))
-      kept None k = absurd k
-      kept (Some s) k = rw (le-ltb s.rec x.rec (omega (arith, k.0))) k
-
-  -- at the first offset of an interval, the later of the two records counts
+  -- at an interval's offset, the later of the two records counts
   later : (p : Option Source) (a : Arrival) (x : Interval) (o : ℕ) → a.rec < x.rec → IsArrivalOf a p
       → IsArrivalOf (arrival_with x) (later_of p (Some (source_in x o)))
   later None a x o lt k = absurd k
@@ -160,6 +145,17 @@ module _ (sources : ℕ → Option Source) where
       → IsArrivalOf a (later_of p (Some (source_in x o)))
   not_later None a x o le k = absurd k
   not_later (Some s) a x o le k = rw (le-ltb s.rec x.rec (omega (arith, k.0))) k
+
+  -- along an interval of no later record the arrival stays
+  stays : (a : Arrival) (x : Interval) (low : ℕ) → x.rec ≤ a.rec → IsArrivalOf a (arrival sources low)
+      → ((o : ℕ) → low < o → o < x.upto → sources o ≡ Some (source_in x o)) → (o : ℕ) → low ≤ o → o < x.upto
+      → IsArrivalOf a (arrival sources o)
+  stays a x low le h brings zero k lt = rw (let e : low ≡ 0 = omega arith in e) at h
+  stays a x low le h brings (suc o) k lt =
+      by_lt low (suc o)
+      (λ _ after. rw (brings (suc o) after lt)
+      (not_later (arrival sources o) a x (suc o) le (stays a x low le h brings o (omega arith) (omega arith))))
+      (λ _ here. rw (let e : low ≡ suc o = omega arith in e) at h)
 
   next : (o m : ℕ) → m + 1 ≡ o → arrival sources o ≡ later_of (arrival sources m) (sources o)
   next zero m e = absurd (omega arith)
@@ -177,19 +173,20 @@ module _ (sources : ℕ → Option Source) where
       λ p q r. same p q (omega (arith, run_end-after x.upto xs f.2)) ∙ at-in x xs p (omega (arith, f.0)) r in
       let past : (p : ℕ) → x.upto ≤ p → p < run_end x.upto xs → sources p ≡ at xs p =
       λ p q r. same p (omega (arith, f.0, f.1.some)) r ∙ at-past x xs p q in
+      let before = arrival sources (a.upto - 1) in
       let last = here (a.upto - 1) (omega arith) (omega arith) in
-      let at_end = next a.upto (a.upto - 1) (omega arith) ∙ ap (later_of (arrival sources (a.upto - 1)))
+      let begins = next a.upto (a.upto - 1) (omega arith) ∙ ap (later_of before)
       (brings a.upto (omega arith) (omega (arith, f.0, f.1.some))) in
       by_lt a.rec x.rec
       (λ e newer. rw e (by_lt o a.upto
       (λ t before. rw t (here o le before))
       (λ t after. rw t (arrivals-from (arrival_with x) xs a.upto (omega (arith, f.0, f.1.some)) f.2
-      (stays (arrival_with x) x a.upto (omega arith) (rw at_end (later (arrival sources (a.upto - 1)) a x a.upto newer last))
+      (stays (arrival_with x) x a.upto (omega arith) (rw begins (later before a x a.upto newer last))
       (λ p q r. brings p (omega arith) r)) past o after lt))))
       (λ e in_time. rw e (arrivals-from (up_to a x.upto) xs low (omega (arith, f.0, f.1.some)) f.2
       (λ p q r. by_lt p a.upto
       (λ _ before. here p q before)
-      (λ _ after. stays a x a.upto in_time (rw at_end (not_later (arrival sources (a.upto - 1)) a x a.upto in_time last))
+      (λ _ after. stays a x a.upto in_time (rw begins (not_later before a x a.upto in_time last))
       (λ p q r. brings p (omega arith) r) p after r)) past o le lt))
 
   -- the entries of a run are its arrivals
@@ -312,8 +309,8 @@ module _ (capture : List ℕ) (whole run rest : List Interval) (same : run ++ re
   }
 
   pub run-size : length (bytes_in capture run) ≤ size_of whole
-  run-size = omega (arith, run-length, ap size_of same, size-append run rest, size-run 0 run is.follows)
+  run-size = omega (arith, run-length, ap size_of same, sum_by-append width run rest, size-run 0 run is.follows)
     where
       size-run : (low : ℕ) (xs : List Interval) → Follows low xs → run_end low xs ≡ low + size_of xs
       size-run low [] f = omega arith
-      size-run low (x ∷ xs) f = omega (arith, f.0, f.1.some, size-cons x xs, size-run x.upto xs f.2)
+      size-run low (x ∷ xs) f = omega (arith, f.0, f.1.some, sum_by-cons width x xs, size-run x.upto xs f.2)

@@ -59,30 +59,18 @@ connection_with o ms = record {
 }
 
 -- with one more member it has joined
+first-seq : (x : Option Segment) (b : Bool) (s : Segment)
+    → option_map (λ (t : Segment). t.seq) (option_or x (if b then Some s else None))
+    ≡ option_or (option_map (λ (t : Segment). t.seq) x) (if b then Some s.seq else None)
+first-seq x b s = grind arith
+
 connection_with-push : (o s : Segment) (ms : List Segment) → connection_with o (ms ++ s ∷ []) ≡ joined
     (connection_with o ms) s
-connection_with-push o s ms =
-    rw (find-append (is_answer o) ms (s ∷ []), map-append (λ (t : Segment). t.rec) ms (s ∷ []))
-    (first (find (is_answer o) ms) (is_answer o s))
-  where
-    first : (x : Option Segment) (b : Bool) → (let c : Membership = record {
-      client = o.from;
-      server = o.to;
-      rec = o.rec;
-      client_isn = o.seq;
-      server_isn = option_map (λ (t : Segment). t.seq) (option_or x (if b then Some s else None));
-      members = map (λ (t : Segment). t.rec) ms ++ s.rec ∷ [];
-    } in c) ≡ (let d : Membership = record {
-      client = o.from;
-      server = o.to;
-      rec = o.rec;
-      client_isn = o.seq;
-      server_isn = option_or (option_map (λ (t : Segment). t.seq) x) (if b then Some s.seq else None);
-      members = map (λ (t : Segment). t.rec) ms ++ s.rec ∷ [];
-    } in d)
-    first None true = refl
-    first None false = refl
-    first (Some x) b = refl
+connection_with-push o s ms = rw (
+  find-append (is_answer o) ms (s ∷ []),
+  map-append (λ (t : Segment). t.rec) ms (s ∷ []),
+  first-seq (find (is_answer o) ms) (is_answer o s) s,
+)
 
 module _ (past : List Segment) (s : Segment) where
   -- a segment that does not look back to an opening leaves its connection as it was

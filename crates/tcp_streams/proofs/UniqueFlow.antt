@@ -40,21 +40,11 @@ gap-unique F n (Some g) (Some k) h j = ap Some (h.0 ∙ sym j.0)
 gap-unique F n None (Some k) h (is, (o, past, low, some)) = absurd (none_and_some (F o) (h o past low) some)
 gap-unique F n (Some g) None (is, (o, past, low, some)) j = absurd (none_and_some (F o) (j o past low) some)
 
--- entries that bear the same record and time
-abbrev Agree : Option Arrival → Option Arrival → Type 0
-Agree p q = IsSomeAnd p (λ (e : Arrival). IsSomeAnd q (λ (f : Arrival). (e.rec ≡ f.rec) × (e.nanos ≡ f.nanos)))
-
-agree-source : (s : Option Source) (p q : Option Arrival) → IsSomeAnd p (λ (a : Arrival). IsArrivalOf a s)
-    → IsSomeAnd q (λ (a : Arrival). IsArrivalOf a s) → Agree p q
-agree-source s None q h k = h
-agree-source s (Some e) None h k = k
-agree-source None (Some e) (Some f) h k = absurd h
-agree-source (Some x) (Some e) (Some f) h k = (h.0 ∙ sym k.0, h.1 ∙ sym k.1)
-
-agree-sym : (p q : Option Arrival) → Agree p q → Agree q p
-agree-sym None q h = absurd h
-agree-sym (Some e) None h = absurd h
-agree-sym (Some e) (Some f) h = (sym h.0, sym h.1)
+-- entries that bear one source bear the same record and time
+same-rec : (s : Option Source) (e f : Arrival) → IsArrivalOf e s → IsArrivalOf f s
+    → (e.rec ≡ f.rec) × (e.nanos ≡ f.nanos)
+same-rec None e f h k = absurd h
+same-rec (Some x) e f h k = (h.0 ∙ sym k.0, h.1 ∙ sym k.1)
 
 Rises-end : (low rec : ℕ) (l : List Arrival) (n : ℕ) → Rises low rec l n → low ≤ n
 Rises-end low rec [] n h = omega (arith, h)
@@ -69,43 +59,54 @@ entry-later low rec (e ∷ l) n o h =
     (λ t _. rw t h.1)
     (λ t _. rw t (IfSome_then (arrival_at l o) (entry-later e.upto e.rec l n o h.2) (λ f lt. omega (arith, h.1))))
 
--- so the entry after e does not agree with one of its record
-other_record : (p : Option Arrival) (e f : Arrival) → IfSome p (λ (g : Arrival). e.rec < g.rec) → Agree p (Some f)
-    → e.rec ≡ f.rec → ⊥
-other_record None e f later agree same = agree
-other_record (Some g) e f later agree same = omega (arith, later, agree.0)
+-- so the entry after e does not bear the source of one of its record
+other-rec : (s : Option Source) (p : Option Arrival) (e f : Arrival) → IfSome p (λ (g : Arrival). e.rec < g.rec)
+    → IsSomeAnd p (λ (g : Arrival). IsArrivalOf g s) → IsArrivalOf f s → e.rec ≡ f.rec → ⊥
+other-rec s None e f later here there same = here
+other-rec s (Some g) e f later here there same = omega (arith, later, (same-rec s g f here there).0)
 
--- an entry does not end before the other's
-not-before : (low rec rec' n : ℕ) (e f : Arrival) (l k : List Arrival) → Rises low rec (e ∷ l) n
-    → Rises low rec' (f ∷ k) n
-    → ((o : ℕ) → low ≤ o → o < n → Agree (arrival_at (e ∷ l) o) (arrival_at (f ∷ k) o)) → e.upto < f.upto → ⊥
-not-before low rec rec' n e f l k h j agree lt =
-    let end = Rises-end f.upto f.rec k n j.2 in
-    let first = rw (lt-ltb low e.upto h.0, lt-ltb low f.upto j.0) at
-    (agree low (omega arith) (omega (arith, j.0))) in
-    let second = rw (le-ltb e.upto e.upto (omega arith), lt-ltb e.upto f.upto lt) at
-    (agree e.upto (omega (arith, h.0)) (omega arith)) in
-    other_record (arrival_at l e.upto) e f (entry-later e.upto e.rec l n e.upto h.2) second first.0
+-- two lists of entries of one flow, from an offset on
+module _ (S : ℕ → Option Source) (n : ℕ) where
+  abbrev Bear : ℕ → List Arrival → Type 0
+  Bear low l = (o : ℕ) → low ≤ o → o < n → IsSomeAnd (arrival_at l o) (λ (a : Arrival). IsArrivalOf a (S o))
 
-arrivals-unique : (low rec rec' n : ℕ) (l k : List Arrival) → Rises low rec l n → Rises low rec' k n
-    → ((o : ℕ) → low ≤ o → o < n → Agree (arrival_at l o) (arrival_at k o)) → l ≡ k
-arrivals-unique low rec rec' n [] [] h j agree = refl
-arrivals-unique low rec rec' n [] (f ∷ k) h j agree = absurd (omega (arith, h, j.0, Rises-end f.upto f.rec k n j.2))
-arrivals-unique low rec rec' n (e ∷ l) [] h j agree = absurd (omega (arith, j, h.0, Rises-end e.upto e.rec l n h.2))
-arrivals-unique low rec rec' n (e ∷ l) (f ∷ k) h j agree =
-    let same : e.upto ≡ f.upto =
-    by_lt e.upto f.upto
-    (λ _ lt. absurd (not-before low rec rec' n e f l k h j agree lt))
-    (λ _ le. by_lt f.upto e.upto
-    (λ _ lt. absurd (not-before low rec' rec n f e k l j h
-    (λ o p q. agree-sym (arrival_at (e ∷ l) o) (arrival_at (f ∷ k) o) (agree o p q)) lt))
-    (λ _ ge. omega arith)) in
-    let end = Rises-end e.upto e.rec l n h.2 in
-    let first = rw (lt-ltb low e.upto h.0, lt-ltb low f.upto j.0) at (agree low (omega arith) (omega (arith, h.0))) in
-    let entry : e ≡ f = (λ i. record { upto = same i; rec = first.0 i; nanos = first.1 i }) in
-    let rest : l ≡ k = arrivals-unique e.upto e.rec f.rec n l k h.2 (rw same j.2)
-    (λ o p q. rw (le-ltb o e.upto p, le-ltb o f.upto (omega arith)) at (agree o (omega (arith, h.0)) q)) in
-    (λ i. entry i ∷ rest i)
+  module _ (low rec rec' : ℕ) (e f : Arrival) (l k : List Arrival) (h : Rises low rec (e ∷ l) n)
+      (j : Rises low rec' (f ∷ k) n) (are : Bear low (e ∷ l)) (bear : Bear low (f ∷ k)) where
+    first : (e.rec ≡ f.rec) × (e.nanos ≡ f.nanos)
+    first =
+        let end = Rises-end e.upto e.rec l n h.2 in
+        let within : low < n = omega (arith, h.0) in
+        same-rec (S low) e f (rw (lt-ltb low e.upto h.0) at (are low (omega arith) within))
+        (rw (lt-ltb low f.upto j.0) at (bear low (omega arith) within))
+
+    -- an entry does not end before the other's
+    not-before : e.upto < f.upto → ⊥
+    not-before lt =
+        let end = Rises-end f.upto f.rec k n j.2 in
+        let after : low ≤ e.upto = omega (arith, h.0) in
+        let within : e.upto < n = omega arith in
+        other-rec (S e.upto) (arrival_at l e.upto) e f (entry-later e.upto e.rec l n e.upto h.2)
+        (rw (le-ltb e.upto e.upto (omega arith)) at (are e.upto after within))
+        (rw (lt-ltb e.upto f.upto lt) at (bear e.upto after within)) first.0
+
+  arrivals-unique : (low rec rec' : ℕ) (l k : List Arrival) → Rises low rec l n → Rises low rec' k n
+      → Bear low l → Bear low k → l ≡ k
+  arrivals-unique low rec rec' [] [] h j are bear = refl
+  arrivals-unique low rec rec' [] (f ∷ k) h j are bear = absurd (omega (arith, h, j.0, Rises-end f.upto f.rec k n j.2))
+  arrivals-unique low rec rec' (e ∷ l) [] h j are bear = absurd (omega (arith, j, h.0, Rises-end e.upto e.rec l n h.2))
+  arrivals-unique low rec rec' (e ∷ l) (f ∷ k) h j are bear =
+      let same : e.upto ≡ f.upto =
+      by_lt e.upto f.upto
+      (λ _ lt. absurd (not-before low rec rec' e f l k h j are bear lt))
+      (λ _ le. by_lt f.upto e.upto
+      (λ _ lt. absurd (not-before low rec' rec f e k l j h bear are lt))
+      (λ _ ge. omega arith)) in
+      let (recs, times) = first low rec rec' e f l k h j are bear in
+      let entry : e ≡ f = (λ i. record { upto = same i; rec = recs i; nanos = times i }) in
+      let rest : l ≡ k = arrivals-unique e.upto e.rec f.rec l k h.2 (rw same j.2)
+      (λ o p q. rw (le-ltb o e.upto p) at (are o (omega (arith, h.0)) q))
+      (λ o p q. rw (le-ltb o f.upto (omega arith)) at (bear o (omega (arith, h.0)) q)) in
+      (λ i. entry i ∷ rest i)
 
 -- the flow of a source is one
 pub IsFlow-unique : (capture : List ℕ) (F : ℕ → Option Source) (bytes bytes' : List ℕ)
@@ -116,9 +117,7 @@ IsFlow-unique capture F bytes bytes' arrivals arrivals' gap gap' h k =
     let size : length bytes ≡ length bytes' = run-unique F (length bytes) (length bytes') h.run k.run in (
       same-lists bytes bytes' size (λ o lt. same-byte (F o) capture (slice_get bytes o) (slice_get bytes' o)
           (h.bytes_are o lt) (k.bytes_are o (omega (arith, lt, size)))),
-      arrivals-unique 0 0 0 (length bytes) arrivals arrivals' h.rises
-          (rw size k.rises)
-          (λ o p lt. agree-source (arrival F o) (arrival_at arrivals o) (arrival_at arrivals' o) (h.arrivals_are o lt)
-          (k.arrivals_are o (omega (arith, lt, size)))),
+      arrivals-unique (arrival F) (length bytes) 0 0 0 arrivals arrivals' h.rises (rw size k.rises)
+          (λ o p lt. h.arrivals_are o lt) (λ o p lt. k.arrivals_are o (omega (arith, lt, size))),
       gap-unique F (length bytes) gap gap' h.gap_is (rw size k.gap_is),
     )

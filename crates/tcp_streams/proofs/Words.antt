@@ -12,7 +12,7 @@ pub use Rattle.std.proofs.lemmas.List.{append-nil, append_assoc, length-append, 
 pub use Rattle.std.proofs.lemmas.List.{length-take-le, take-append-drop, take_all}
 pub use Rattle.std.proofs.lemmas.List.Elements.{All-nil, All-weaker, All-cons, All-head, All-tail, filter_map-append}
 pub use Rattle.std.proofs.lemmas.List.Folds.{list_any-append}
-pub use Rattle.std.proofs.lemmas.List.Sums.{sum_by-cons}
+pub use Rattle.std.proofs.lemmas.List.Sums.{sum_by-append, sum_by-cons}
 pub use Rattle.std.proofs.lemmas.Option.{IfSome_then, none-some, get_or_from_slice_get, slice_get_within}
 pub use Rattle.audit_terms.specs.declared.sides.Side.{Side}
 pub use Rattle.audit_terms.specs.declared.sides.Side.TheVariants.{Client, Server}
