@@ -75,11 +75,11 @@ module _ (b : Bool) (xs : List Segment) (s : Segment) where
       (λ e. rw e)
 
 -- several clauses of one call that went well
-pub on_ok_3 : {A E P Q R W : Type 0} (r : Result A E) → (P → Q → R → W) → OnOk r P → OnOk r Q → OnOk r R → OnOk r W
-on_ok_3 (Ok x) f p q h = f p q h
-on_ok_3 (Err e) f p q h = tt
+pub on_ok_3 : {A E P Q R W : Type 0} (r : Result A E) → OnOk r P → OnOk r Q → OnOk r R → (P → Q → R → W) → OnOk r W
+on_ok_3 (Ok x) p q h f = f p q h
+on_ok_3 (Err e) p q h f = tt
 
-pub if_ok_4 : {A E : Type 0} (r : Result A E) (P Q R S W : A → Type 0) → ((x : A) → P x → Q x → R x → S x → W x)
-    → IfOk r P → IfOk r Q → IfOk r R → IfOk r S → IfOk r W
-if_ok_4 (Ok x) P Q R S W f p q h k = f x p q h k
-if_ok_4 (Err e) P Q R S W f p q h k = tt
+pub if_ok_4 : {A E : Type 0} {P Q R S W : A → Type 0} (r : Result A E) → IfOk r P → IfOk r Q → IfOk r R → IfOk r S
+    → ((x : A) → P x → Q x → R x → S x → W x) → IfOk r W
+if_ok_4 (Ok x) p q h k f = f x p q h k
+if_ok_4 (Err e) p q h k f = tt

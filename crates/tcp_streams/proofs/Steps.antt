@@ -3,10 +3,10 @@
 use Rattle.tcp_streams.proofs.Words.{◌≡◌, ℕ, ◌<◌, Bool, true, false, List, [], ◌∷◌, ◌++◌, length, map, set, filter}
 use Rattle.tcp_streams.proofs.Words.{get_or, Option, None, Some, ◌⊎◌, inl, inr, refl, ◌∙◌, arith, if◌then◌else◌}
 use Rattle.tcp_streams.proofs.Words.{is_none, All, list_any, option_or, eq-eqb, ne_eqb, or_right, append-nil}
-use Rattle.tcp_streams.proofs.Words.{map-append, length-map, length-append, All-weaker, list_any-append, Segment, Table}
-use Rattle.tcp_streams.proofs.Words.{Stray, Pair, Opened, is_of, is_pair, pair_of, Membership, connection_of}
-use Rattle.tcp_streams.proofs.Words.{first_strays, last_opening, members, membership, opening_at, openings, opens}
-use Rattle.tcp_streams.proofs.Words.{stray_of, strays, is_opening, standing_of, Falls, IsOpened, IsTableOf, IsUnopened}
+use Rattle.tcp_streams.proofs.Words.{map-append, length-map, length-append, All-weaker, list_any-append, Segment, Stray}
+use Rattle.tcp_streams.proofs.Words.{Pair, Opened, is_of, is_pair, pair_of, Membership, connection_of, first_strays}
+use Rattle.tcp_streams.proofs.Words.{last_opening, members, opening_at, openings, opens, stray_of, strays, is_opening}
+use Rattle.tcp_streams.proofs.Words.{Falls, IsOpened, IsUnopened}
 use Rattle.std.specs.Prelude.{find, option_map}
 use Rattle.std.proofs.lemmas.Bool.{or_parts}
 use Rattle.std.proofs.lemmas.List.Elements.{filter-append}
@@ -14,7 +14,7 @@ use Rattle.std.proofs.lemmas.List.Folds.{find-append}
 use Rattle.tcp_streams.specs.declared.standings.Standing.{Standing}
 use Rattle.tcp_streams.specs.declared.standings.Standing.TheVariants.{Unopened}
 use Rattle.tcp_streams.specs.Membership.{is_answer}
-use Rattle.tcp_streams.specs.code.Standings.{SetsStanding, SetsStandingIn}
+use Rattle.tcp_streams.specs.code.Standings.{SetsStandingIn}
 use Rattle.tcp_streams.specs.code.Table.{IsShown, IsUnknown, Stands, opened_by, first_stray, counted, joined}
 use Rattle.tcp_streams.proofs.IntervalLemmas.{by_Bool}
 use Rattle.tcp_streams.proofs.Lists.{list_any-other, map-agree, map-but, map-pushed, slice_get-last, slice_get-with_if}
@@ -86,29 +86,15 @@ module _ (past : List Segment) (s : Segment) where
   -- a segment of another pair is not counted with the strays of this one
   stray-other : (f : Segment) → is_of (pair_of f) s ≡ false → stray_of (strays past) f ≡ stray_of
       (strays past ++ s ∷ []) f
-  stray-other f e = rw (
-    filter-append (is_of (pair_of f)) (strays past) (s ∷ []),
-    e,
-    append-nil (filter (is_of (pair_of f)) (strays past)),
-  )
+  stray-other f e =
+      let own = is_of (pair_of f) in
+      rw (filter-append own (strays past) (s ∷ []), e, append-nil (filter own (strays past)))
 
   stray-counted : (f : Segment) → is_of (pair_of f) s ≡ true → stray_of (strays past ++ s ∷ []) f ≡ counted
       (stray_of (strays past) f)
-  stray-counted f e = rw (
-    filter-append (is_of (pair_of f)) (strays past) (s ∷ []),
-    e,
-    length-append (filter (is_of (pair_of f)) (strays past)) (s ∷ []),
-  )
-
-  -- where the segment belongs to an opening, the strays stay
-  strays-kept : (found : List Stray) → is_none (opening_at s past) ≡ false → found ≡ map (stray_of (strays past))
-      (first_strays past)
-      → found ≡ map (stray_of (strays (s ∷ past))) (first_strays (s ∷ past))
-  strays-kept found e h = rw e h
-
-  any-kept : is_none (opening_at s past) ≡ false → (p : Pair) → list_any (is_of p) (strays (s ∷ past)) ≡ list_any
-      (is_of p) (strays past)
-  any-kept e p = rw e
+  stray-counted f e =
+      let own = is_of (pair_of f) in
+      rw (filter-append own (strays past) (s ∷ []), e, length-append (filter own (strays past)) (s ∷ []))
 
   module _ (standing : Pair → Option Standing) (opened : List Membership) (found : List Stray)
       (shown : IsShown past standing opened found) where
@@ -129,7 +115,7 @@ module _ (past : List Segment) (s : Segment) where
         record {
           opened_are = rw (grown, shown.opened_are)
               (map-pushed (connection_of past) (connection_of (s ∷ past)) (openings past) s (opened_by s) kept last);
-          strays_are = strays-kept found none_new shown.strays_are;
+          strays_are = rw none_new shown.strays_are;
           stands = λ p. rw (sets p) (by_Bool (is_pair (pair_of s) p)
               (λ q. rw q (record {
                 last = s;
@@ -138,7 +124,7 @@ module _ (past : List Segment) (s : Segment) where
                     (slice_get-last (openings past) s);
               }))
               (λ q. rw q (Stands-grown past s p (standing p)
-              (last_opening-other past s p (is_pair-sym p (pair_of s) ∙ q)) (any-kept none_new p) (shown.stands p))));
+              (last_opening-other past s p (is_pair-sym p (pair_of s) ∙ q)) (rw none_new) (shown.stands p))));
         }
 
     -- the segment joins the connection at an index
@@ -155,8 +141,8 @@ module _ (past : List Segment) (s : Segment) where
         (λ t apart. connection-kept t (rw looks_back (ne_eqb o.last.rec t.rec (λ same. omega arith)))) in
         record {
           opened_are = cc (but, joins, grown, here);
-          strays_are = strays-kept found none_new shown.strays_are;
-          stands = λ p. Stands-grown past s p (standing p) (last_opening-kept past s e p) (any-kept none_new p)
+          strays_are = rw none_new shown.strays_are;
+          stands = λ p. Stands-grown past s p (standing p) (last_opening-kept past s e p) (rw none_new)
               (shown.stands p);
         }
 
@@ -235,20 +221,3 @@ module _ (past : List Segment) (s : Segment) where
               (last_opening-other past s p other) (list_any-other _ (strays past) s (is_of p) other)
               (shown.stands p))));
         }
-
--- the same of the table as it stands in memory
-module _ (past : List Segment) (s : Segment) (old new : Table) (shown : IsTableOf past old) where
-  pub table-opens : map membership new.opened.items ≡ map membership old.opened.items ++ opened_by s ∷ []
-      → new.strays.items ≡ old.strays.items
-      → SetsStanding (pair_of s) (Opened (length old.opened.items)) old.standings new.standings → opens s past ≡ true
-      → Falls s.rec past → IsTableOf (s ∷ past) new
-  table-opens opened found sets e falls = rw (opened, found)
-      (shown-opens past s (standing_of old.standings) (map membership old.opened.items) old.strays.items shown
-      (standing_of new.standings) e falls (λ p. rw (length-map old.opened.items membership) (sets p)))
-
-  pub table-begins : new.opened.items ≡ old.opened.items → new.strays.items ≡ old.strays.items ++ first_stray s ∷ []
-      → SetsStanding (pair_of s) (Unopened (length old.strays.items)) old.standings new.standings
-      → (opens s past ≡ false) × IsUnknown past (pair_of s) → IsTableOf (s ∷ past) new
-  table-begins opened found sets turn = rw (opened, found)
-      (shown-begins past s (standing_of old.standings) (map membership old.opened.items) old.strays.items shown
-      (standing_of new.standings) turn.0 turn.1 sets)

@@ -22,10 +22,10 @@ lay_out-requires-clause-captured c = rw c.deref.ensures.value
 
 pub returns : goal.returns
 returns c =
-    if_ok_4 c.lay_out.result _ _ _ _ _
+    if_ok_4 c.lay_out.result c.lay_out.ensures.started c.lay_out.ensures.size c.lay_out.ensures.flow
+    c.lay_out.ensures.timely
     (λ f started size flow timely.
     assembled c.args.initial_number c.args.capture.now c.args.packets.now c.args.connection.now c.args.side
     c.requires.size c.requires.numbered c.requires.payloads c.requires.times c.requires.members _ c.in_ok-pieces.ensures
     _ c.in_ok-intervals.ensures.same c.in_ok-intervals.ensures.size f started (rw c.deref.ensures.value at size)
     (rw c.deref.ensures.value at flow) timely)
-    c.lay_out.ensures.started c.lay_out.ensures.size c.lay_out.ensures.flow c.lay_out.ensures.timely

@@ -1,19 +1,18 @@
-use Rattle.tcp_streams.proofs.Words.{refl, ap, ◌∙◌, map, set, membership, pair_of}
+use Rattle.tcp_streams.proofs.Words.{length-map, refl, ap, ◌∙◌, map, set, membership, pair_of}
 use Rattle.std.proofs.Common.{rules}
 use Rattle.std.proofs.lemmas.List.{map-set}
 use Rattle.std.proofs.lemmas.Result.{on_ok_weaker}
 use Rattle.tcp_streams.proofs.Lists.{on_ok_3}
-use Rattle.tcp_streams.proofs.Steps.{shown-counts, shown-joins, table-begins, table-opens}
+use Rattle.tcp_streams.proofs.Steps.{shown-begins, shown-counts, shown-joins, shown-opens}
 use Rattle.tcp_streams.proofs.Turns.{counted-few, stands-opened, stands-unopened}
 use Rattle.tcp_streams.proofs.table.Table.take.Goals as goal
 
 pub returns-in-Opens : goal.returns-in-Opens
 returns-in-Opens c =
-    on_ok_3 c.open.result
-    (λ opened strays pairs past shown falls.
-    table-opens past c.args.segment.now c.args.self.now c.open.new.self shown opened strays pairs
-    (c.in-Opens.ensures past shown) falls)
-    c.open.ensures.opened c.open.ensures.strays c.open.ensures.standings
+    on_ok_3 c.open.result c.open.ensures.opened c.open.ensures.strays c.open.ensures.standings
+    (λ opened strays sets past shown falls. rw (opened, strays)
+    (shown-opens past c.args.segment.now _ _ _ shown _ (c.in-Opens.ensures past shown) falls
+    (λ p. rw (length-map c.args.self.now.opened.items membership) (sets p))))
 
 pub returns-in-Joins : goal.returns-in-Joins
 returns-in-Joins c =
@@ -46,8 +45,7 @@ returns-in-Counts c = λ past shown falls.
 
 pub returns-in-Begins : goal.returns-in-Begins
 returns-in-Begins c =
-    on_ok_3 c.begin.result
-    (λ opened strays pairs past shown falls.
-    table-begins past c.args.segment.now c.args.self.now c.begin.new.self shown opened strays pairs
-    (c.in-Begins.ensures past shown))
-    c.begin.ensures.opened c.begin.ensures.strays c.begin.ensures.standings
+    on_ok_3 c.begin.result c.begin.ensures.opened c.begin.ensures.strays c.begin.ensures.standings
+    (λ opened strays sets past shown falls.
+    let turn = c.in-Begins.ensures past shown in
+    rw (opened, strays) (shown-begins past c.args.segment.now _ _ _ shown _ turn.0 turn.1 sets))
