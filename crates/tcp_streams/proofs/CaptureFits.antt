@@ -1,10 +1,10 @@
 -- All flows of a capture fit in it together: a payload belongs to one connection at most.
-use Rattle.tcp_streams.proofs.Words.{◌≡◌, ℕ, ◌+◌, ◌≤◌, Bool, true, false, List, [], ◌∷◌, ◌++◌, map, Option, None, Some}
-use Rattle.tcp_streams.proofs.Words.{refl, sym, ap, ◌∙◌, arith, if◌then◌else◌, option_to_list, ne_eqb, append-nil}
-use Rattle.tcp_streams.proofs.Words.{append_assoc, map-append, sum_by-cons, Client, Server, Packet, Carried, Segment}
-use Rattle.tcp_streams.proofs.Words.{AreNumberedFrom, PayloadsRise, Connection, payload_sum, segments_of, side_segments}
-use Rattle.tcp_streams.proofs.Words.{Membership, connection_of, connections_of, members, membership, opening_at}
-use Rattle.tcp_streams.proofs.Words.{openings, opens, past_after, past_of, is_opening, with_if, segment_of}
+use Rattle.tcp_streams.proofs.Words.{eq-eqb, ◌≡◌, ℕ, ◌+◌, ◌≤◌, Bool, true, false, List, [], ◌∷◌, ◌++◌, map, Option}
+use Rattle.tcp_streams.proofs.Words.{None, Some, refl, sym, ap, ◌∙◌, arith, if◌then◌else◌, option_to_list, ne_eqb}
+use Rattle.tcp_streams.proofs.Words.{append-nil, append_assoc, map-append, sum_by-cons, Client, Server, Packet, Carried}
+use Rattle.tcp_streams.proofs.Words.{Segment, AreNumberedFrom, PayloadsRise, Connection, payload_sum, segments_of}
+use Rattle.tcp_streams.proofs.Words.{side_segments, Membership, connection_of, connections_of, members, membership}
+use Rattle.tcp_streams.proofs.Words.{opening_at, openings, opens, past_after, past_of, is_opening, with_if, segment_of}
 use Rattle.tcp_streams.proofs.Words.{payload_length, Falls}
 use Rattle.std.specs.Prelude.{nat_eq, sum_by}
 use Rattle.std.proofs.lemmas.Bool.{eqb-true}
@@ -98,7 +98,7 @@ members-sum n (s ∷ past) f =
     (λ e.
     let here = opening_at-opens past s e in
     let new : after s ≤ payload_length s =
-    rw (here, members-to_come s past f.1) (by_Bool (nat_eq s.rec s.rec) (λ q. rw q (omega arith)) (λ q. rw q (omega arith))) in
+    rw (here, members-to_come s past f.1, eq-eqb s.rec s.rec refl) (omega arith) in
     let none : sum_by (share (opening_at s past) (payload_length s)) (openings past) ≡ 0 =
     rw here (shares-later s (payload_length s) s.rec past f.1 (omega arith)) in
     let grown : openings (s ∷ past) ≡ openings past ++ s ∷ [] = rw e in

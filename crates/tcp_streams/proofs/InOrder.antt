@@ -104,7 +104,7 @@ module _ (initial_number : ℕ) (capture : List ℕ) (packets : List Packet) (co
       record { follows = laid.follows; within = run_end-within 0 pieces (omega arith) laid.follows; leaves = tt } in
       let is = side-pieces initial_number capture packets connection side small numbered rise times members pieces
       are in
-      let arrivals-same : arrivals_in pieces ≡ f.arrivals.items = arrivals-each pieces is.rise ∙ sym laid.arrivals_are in
+      let arrivals-same = arrivals-each pieces is.rise ∙ sym laid.arrivals_are in
       let flow = run-flow capture pieces pieces [] (append-nil pieces) run captured in
       assembled initial_number capture packets connection side small numbered rise times members pieces are
       pieces (λ o lt. refl) (omega arith) f started

@@ -62,8 +62,8 @@ members-to_come o (s ∷ past) f =
 pub openings-below : (n : ℕ) (past : List Segment) → Falls n past → All (λ (o : Segment). o.rec < n) (openings past)
 openings-below n [] f = All-nil _
 openings-below n (s ∷ past) f = All-with_if (opens s past) (openings past) s (λ (o : Segment). o.rec < n)
-    (All-weaker (λ (o : Segment). o.rec < s.rec) (λ (o : Segment). o.rec < n) (λ o h. omega (arith, f.0)) (openings past)
-    (openings-below s.rec past f.1))
+    (All-weaker (λ (o : Segment). o.rec < s.rec) (λ (o : Segment). o.rec < n) (λ o h. omega (arith, f.0))
+    (openings past) (openings-below s.rec past f.1))
     (λ _. f.0)
 
 abbrev pub IsBefore : Segment → Segment → Type 0

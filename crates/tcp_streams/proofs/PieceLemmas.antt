@@ -158,8 +158,9 @@ module _ (initial_number size : ℕ) (small : size < 2 ^ 31) where
       same = λ o lt. first o ∙ rw (same o lt) (are.same o lt);
     }
     one_more (Some x) is same = record {
-      intervals = All-cons IsInterval x rest
-          (record { some = is.some; counts = is.counts; room = omega (arith, is.within, sound.0.within) }) are.intervals;
+      intervals =
+          let room : x.index + (x.upto - x.from) < 2 ^ 32 = omega (arith, is.within, sound.0.within) in
+          All-cons IsInterval x rest (record { some = is.some; counts = is.counts; room = room }) are.intervals;
       fit = omega (arith, is.first, is.within, are.fit, sum_by-cons payload_length s later, sum_by-cons width x rest);
       rise = (omega (arith, is.rec_is, sound.1), rw is.rec_is are.rise);
       cited = cited;
@@ -242,13 +243,7 @@ pub member-pieces : (initial_number : ℕ) (packets : List Packet) (connection :
     (filter (is_sent_by connection side) (segments_of packets members))
 member-pieces initial_number packets connection side [] = refl
 member-pieces initial_number packets connection side (m ∷ rest) =
-    by (segment_of packets m) (is_sent_by connection side) _ _ (member-pieces initial_number packets connection side rest)
-  where
-    by : (p : Option Segment) (sent : Segment → Bool) (pieces : List Interval) (segments : List Segment)
-        → pieces ≡ filter_map (piece initial_number) (filter sent segments)
-        → cons_option (option_and_then (piece initial_number) (option_and_then (λ s. if sent s then Some s else None) p))
-        pieces ≡ filter_map (piece initial_number) (filter sent (option_to_list p ++ segments))
-    by p sent pieces segments e = grind arith
+    grind (arith, member-pieces initial_number packets connection side rest)
 
 -- payloads in the capture fit
 pub PayloadsFit-from : (from size : ℕ) (packets : List Packet) → size < 2 ^ 31 → PayloadsRise from size packets

@@ -27,7 +27,8 @@ module _ (initial_number : ℕ) (capture : List ℕ) (packets : List Packet) (co
 
     pub intervals-captured : AreCaptured (length capture) (at intervals)
     intervals-captured = λ o lt.
-        rw (sources-same o lt) (IfSome_then (source initial_number segments o) (side-pieces.cited o) (λ x cited. cited.1))
+        rw (sources-same o lt)
+        (IfSome_then (source initial_number segments o) (side-pieces.cited o) (λ x cited. cited.1))
 
     -- a flow of the intervals is the side's
     pub assembled : (f : Flow) → IsTrue f.started → length (bytes_of f) ≤ size_of intervals

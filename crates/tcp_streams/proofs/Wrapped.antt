@@ -1,8 +1,8 @@
 -- The worked example of a flow whose sequence numbers come round.
 use Rattle.tcp_streams.proofs.Words.{◌≡◌, ℕ, zero, suc, ◌+◌, ◌-◌, ◌<◌, ◌^◌, List, [], ◌∷◌, filter, length, map}
-use Rattle.tcp_streams.proofs.Words.{slice_get, Option, None, Some, refl, sym, ap, ◌∙◌, arith, ◌%◌, IsSome, IsSomeAnd}
-use Rattle.tcp_streams.proofs.Words.{le-ltb, Segment, Connection, Arrival, bytes_of, IsArrivalOf, IsFlow, arrival_at}
-use Rattle.tcp_streams.proofs.Words.{segments_of, is_endpoint, Source, arrival, source, Membership, membership}
+use Rattle.tcp_streams.proofs.Words.{slice_get, Option, None, Some, refl, sym, ap, ◌∙◌, arith, ◌%◌, le-ltb, Segment}
+use Rattle.tcp_streams.proofs.Words.{Connection, Arrival, bytes_of, IsFlow, segments_of, is_endpoint, Source, source}
+use Rattle.tcp_streams.proofs.Words.{Membership, membership}
 use Rattle.std.proofs.Common.{subst, lit<}
 use Rattle.std.specs.Prelude.{codes}
 use Rattle.tcp_streams.specs.examples.Retransmission.{WrappedRetransmission, client, letters, server, wrapped}
@@ -43,23 +43,16 @@ none-later o low high = rw (
   le-ltb ((o + (2 ^ 32 - 0)) % 2 ^ 32) 3 (omega arith),
 )
 
--- what the definition says of one byte, and of its arrival
-abbrev AreBytesAt : ℕ → Type 0
-AreBytesAt o = IsSomeAnd (brought opened o) (λ (s : Source). slice_get letters s.index ≡ slice_get (codes "abcdEF") o)
-
-abbrev ArrivesAt : ℕ → Type 0
-ArrivesAt o = IsSomeAnd (arrival_at arrived o) (λ (a : Arrival). IsArrivalOf a (arrival (brought opened) o))
-
 flow-is : IsFlow letters (brought opened) (codes "abcdEF") arrived None
 flow-is = record {
   run = record {
     within = omega arith;
-    covered = below_six (λ o. IsSome (brought opened o)) refl refl refl refl refl refl;
+    covered = below_six _ refl refl refl refl refl refl;
     longest = λ _. refl;
   };
-  bytes_are = below_six AreBytesAt refl refl refl refl refl refl;
+  bytes_are = below_six _ refl refl refl refl refl refl;
   rises = (lit< tt, lit< tt, refl);
-  arrivals_are = below_six ArrivesAt (refl, refl) (refl, refl) (refl, refl) (refl, refl) (refl, refl) (refl, refl);
+  arrivals_are = below_six _ (refl, refl) (refl, refl) (refl, refl) (refl, refl) (refl, refl) (refl, refl);
   gap_is = none-later;
 }
 
