@@ -9,7 +9,7 @@ use Rattle.packet_heads.specs.declared.packets.Packet.TheVariants.{Skipped, Refu
 use Rattle.tcp_streams.specs.Membership.{AreConnections, Belonging, IsConnectionOf, belongings, first_strays}
 use Rattle.tcp_streams.specs.Membership.{last_opening, members, openings, opens, stray_of, strays, strays_of}
 use Rattle.tcp_streams.specs.Membership.{with_segment}
-use Rattle.tcp_streams.proofs.IntervalLemmas.{by_Bool}
+use Rattle.tcp_streams.proofs.Lists.{by_Bool}
 use Rattle.tcp_streams.proofs.Pairs.{is_pair-same, same-pair}
 use Rattle.tcp_streams.specs.code.Past as past_words
 

@@ -11,7 +11,7 @@ use Rattle.std.proofs.lemmas.Bool.{eqb-true}
 use Rattle.std.proofs.lemmas.List.Folds.{fold-map}
 use Rattle.std.proofs.lemmas.List.Sums.{sum_by_push}
 use Rattle.tcp_streams.proofs.FlowLemmas.{sides-sum}
-use Rattle.tcp_streams.proofs.IntervalLemmas.{by_Bool}
+use Rattle.tcp_streams.proofs.Lists.{by_Bool}
 use Rattle.tcp_streams.proofs.Numbered.{Falls-past_after, Known, Known-past_of, recs}
 use Rattle.tcp_streams.proofs.Past.{members-to_come, opening_at-opens}
 

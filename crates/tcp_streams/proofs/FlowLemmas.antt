@@ -8,7 +8,7 @@ use Rattle.tcp_streams.proofs.Words.{end_of_offsets, payload_length}
 use Rattle.std.proofs.lemmas.List.{drop-drop}
 use Rattle.std.proofs.lemmas.List.Filters.{sum_by-filter_both}
 use Rattle.tcp_streams.proofs.PieceLemmas.{PayloadsRise-end, found-at}
-use Rattle.tcp_streams.proofs.Elements.{slice_get-drop}
+use Rattle.tcp_streams.proofs.Lists.{slice_get-drop}
 
 arrival-same : (F G : ℕ → Option Source) → IsSame F G → (o : ℕ) → o < end_of_offsets → arrival F o ≡ arrival G o
 arrival-same F G same zero lt = same zero lt

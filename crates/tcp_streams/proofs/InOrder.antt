@@ -6,7 +6,7 @@ use Rattle.tcp_streams.proofs.Words.{IfSome_then, Side, Packet, Segment, AreNumb
 use Rattle.tcp_streams.proofs.Words.{Interval, Connection, Arrival, Flow, AreMembers, bytes_of, IsAssembled}
 use Rattle.tcp_streams.proofs.Words.{AreCaptured, IsInterval, at, arrival_with, arrivals_after, arrivals_in, bytes_in}
 use Rattle.tcp_streams.proofs.Words.{member_piece, piece, width, is_sent_by, segment_of, end_of_offsets}
-use Rattle.tcp_streams.proofs.IntervalLemmas.{by_Bool}
+use Rattle.tcp_streams.proofs.Lists.{by_Bool}
 use Rattle.tcp_streams.proofs.PieceLemmas.{AreRising, member-shown, piece-is, sound-found}
 use Rattle.tcp_streams.proofs.RunLemmas.{Follows, IsRunOf, bytes_in-push, run-flow, run-size, run-timely, run_end}
 use Rattle.tcp_streams.proofs.Sides.{assembled, intervals-captured, side-pieces}

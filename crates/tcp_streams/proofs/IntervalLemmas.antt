@@ -1,22 +1,12 @@
 -- On intervals: the parts between two offsets, and one list of intervals laid over another.
-use Rattle.tcp_streams.proofs.Words.{◌≡◌, ℕ, zero, suc, ◌+◌, ◌-◌, ◌<◌, ◌≤◌, ◌^◌, Bool, true, false, List, [], ◌∷◌, ◌++◌}
-use Rattle.tcp_streams.proofs.Words.{length, drop, take, get_or, None, Some, ◌⊎◌, inl, inr, refl, ap, ◌∙◌, arith}
-use Rattle.tcp_streams.proofs.Words.{nat_lt, All, option_or, le-ltb, lt-ltb, nat_tests, take-append-drop, All-head}
-use Rattle.tcp_streams.proofs.Words.{All-tail, sum_by-append, sum_by-cons, Interval, IsInterval, IsSame, Spans, at}
-use Rattle.tcp_streams.proofs.Words.{clipped, lie_apart, overlay, size_of, source_in, width, end_of_offsets}
+use Rattle.tcp_streams.proofs.Lists.{by_lt}
+use Rattle.tcp_streams.proofs.Words.{◌≡◌, ℕ, zero, suc, ◌+◌, ◌-◌, ◌<◌, ◌≤◌, ◌^◌, true, List, [], ◌∷◌, ◌++◌, length}
+use Rattle.tcp_streams.proofs.Words.{drop, take, get_or, None, Some, ◌⊎◌, inl, inr, refl, ap, ◌∙◌, arith, All}
+use Rattle.tcp_streams.proofs.Words.{option_or, nat_tests, take-append-drop, All-head, All-tail, sum_by-append}
+use Rattle.tcp_streams.proofs.Words.{sum_by-cons, Interval, IsInterval, IsSame, Spans, at, clipped, lie_apart, overlay}
+use Rattle.tcp_streams.proofs.Words.{size_of, source_in, width, end_of_offsets}
 use Rattle.std.proofs.Common.{min, max}
-use Rattle.std.proofs.lemmas.Bool.{cases_lt}
-use Rattle.tcp_streams.specs.code.Interval.{holds, part_of}
-
--- a goal, by whether one number is below another
-pub by_lt : {G : Type 0} (a b : ℕ) → (nat_lt a b ≡ true → a < b → G) → (nat_lt a b ≡ false → b ≤ a → G) → G
-by_lt a b below not_below =
-    elim (cases_lt a b) [ inl h ↦ below (lt-ltb a b h) h | inr h ↦ not_below (le-ltb a b h) h ]
-
--- the same by any test
-pub by_Bool : {G : Type 0} (b : Bool) → (b ≡ true → G) → (b ≡ false → G) → G
-by_Bool true holds fails = holds refl
-by_Bool false holds fails = fails refl
+use Rattle.tcp_streams.specs.code.Interval.{part_of}
 
 -- an offset is held, or it lies before, or past
 pub at-in : (x : Interval) (xs : List Interval) (o : ℕ) → x.from ≤ o → o < x.upto → at (x ∷ xs) o ≡ Some (source_in x o)
@@ -140,24 +130,16 @@ pub at-overlay : (low : ℕ) (kept later : List Interval) (o : ℕ) → Spans lo
     → at (overlay kept later low) o ≡ option_or (at kept o) (at later o)
 at-overlay low [] later o h a b = at-clipped-inside low end_of_offsets later o a b
 at-overlay low (x ∷ kept) later o h a b =
-    let after = overlay kept later x.upto in
-    at-append (clipped low x.from later) (x ∷ after) o ∙
-    by_lt o x.from
-    (λ _ lt. rw (
-      at-clipped-inside low x.from later o a lt,
-      at-before x after o lt,
-      overlay-before x.upto kept later o h.2 (omega (arith, h.1.some)),
-      at-before x kept o lt,
-      Spans-before x.upto end_of_offsets kept o (omega (arith, h.1.some)) h.2,
-    ) (grind arith))
-    (λ _ le. by_lt o x.upto
-    (λ _ lt. rw (at-clipped-outside low x.from later o (inr le), at-in x after o le lt, at-in x kept o le lt))
-    (λ _ past. rw (
-      at-clipped-outside low x.from later o (inr le),
-      at-past x after o past,
-      at-past x kept o past,
-      at-overlay x.upto kept later o h.2 past b,
-    )))
+    grind (
+      arith,
+      nat_tests,
+      at-append (clipped low x.from later) (x ∷ overlay kept later x.upto) o,
+      at-clipped-inside low x.from later o a,
+      (λ (over : x.from ≤ o). at-clipped-outside low x.from later o (inr over)),
+      overlay-before x.upto kept later o h.2,
+      (λ (lt : o < x.upto). Spans-before x.upto end_of_offsets kept o lt h.2),
+      (λ (le : x.upto ≤ o). at-overlay x.upto kept later o h.2 le b),
+    )
 
 -- how many offsets from d on the intervals hold
 abbrev left_of : ℕ → List Interval → ℕ

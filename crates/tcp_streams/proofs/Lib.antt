@@ -3,12 +3,10 @@ pub mod CaptureFits
 pub mod FlowLemmas
 pub mod InOrder
 pub mod IntervalLemmas
-pub mod Joined
 pub mod Lists
 pub mod Numbered
 pub mod Pairs
 pub mod PieceLemmas
-pub mod Elements
 pub mod RunLemmas
 pub mod Past
 pub mod Sides

@@ -1,27 +1,51 @@
--- On lists by index, and on lists to which one may be added.
-use Rattle.tcp_streams.proofs.Words.{◌≡◌, ℕ, zero, suc, ◌<◌, Bool, true, false, List, [], ◌∷◌, ◌++◌, length, map, set}
-use Rattle.tcp_streams.proofs.Words.{get_or, Some, slice_get, ◌⊎◌, inl, inr, refl, sym, ap, ◌∙◌, arith, AllPairs}
-use Rattle.tcp_streams.proofs.Words.{list_any, All, get_or-map, length-map, map-append, All-head, All-tail}
-use Rattle.tcp_streams.proofs.Words.{list_any-append, get_or_from_slice_get, none-some, slice_get_within, Segment}
-use Rattle.tcp_streams.proofs.Words.{with_if}
+-- Cases of a test; lists by index, and lists to which one may be added.
+use Rattle.tcp_streams.proofs.Words.{◌≡◌, ℕ, ◌+◌, ◌-◌, ◌<◌, ◌≤◌, List, ◌++◌, length, take, drop, slice_get, ◌∙◌, arith}
+use Rattle.tcp_streams.proofs.Words.{slice_range, common_steps, length-take-le, Bool, true, false, [], ◌∷◌, get_or}
+use Rattle.tcp_streams.proofs.Words.{Some, ◌⊎◌, inl, inr, refl, ap, nat_lt, All, le-ltb, lt-ltb, All-head, All-tail, at}
+use Rattle.tcp_streams.proofs.Words.{map, set, sym, AllPairs, list_any, get_or-map, length-map, map-append}
+use Rattle.tcp_streams.proofs.Words.{list_any-append, get_or_from_slice_get, slice_get_within, Segment, with_if}
+use Rattle.std.proofs.lemmas.Option.{gets}
+use Rattle.std.proofs.lemmas.List.{length-drop, get_or-set_other, get_or-set_same, length-set, same_lists}
 use Rattle.std.proofs.Common.{◌≢◌}
+use Rattle.std.proofs.lemmas.Bool.{cases_lt}
 use Rattle.std.specs.Prelude.{Result, Ok, Err, OnOk, IfOk}
-use Rattle.std.proofs.lemmas.List.{get_or-set_other, get_or-set_same, length-set, same_lists}
 use Rattle.std.proofs.lemmas.List.Elements.{All-push}
 use Rattle.std.proofs.lemmas.List.Quantifiers.{all_pairs_push}
-use Rattle.tcp_streams.proofs.IntervalLemmas.{by_Bool, by_lt}
+
+-- a goal, by whether one number is below another
+pub by_lt : {G : Type 0} (a b : ℕ) → (nat_lt a b ≡ true → a < b → G) → (nat_lt a b ≡ false → b ≤ a → G) → G
+by_lt a b below not_below =
+    elim (cases_lt a b) [ inl h ↦ below (lt-ltb a b h) h | inr h ↦ not_below (le-ltb a b h) h ]
+
+-- the same by any test
+pub by_Bool : {G : Type 0} (b : Bool) → (b ≡ true → G) → (b ≡ false → G) → G
+by_Bool true holds fails = holds refl
+by_Bool false holds fails = fails refl
 
 module _ {X : Type 0} where
-  -- the elements stay where they are
-  slice_get-pushed : (xs : List X) (y : X) (i : ℕ) (x : X) → slice_get xs i ≡ Some x
-      → slice_get (xs ++ y ∷ []) i ≡ Some x
-  slice_get-pushed [] y i x h = absurd (none-some x h)
-  slice_get-pushed (z ∷ xs) y zero x h = h
-  slice_get-pushed (z ∷ xs) y (suc i) x h = slice_get-pushed xs y i x h
+  pub slice_get-left : (xs ys : List X) (i : ℕ) → i < length xs → slice_get (xs ++ ys) i ≡ slice_get xs i
+  slice_get-left xs ys i lt = grind (arith, common_steps, gets)
+
+  pub slice_get-right : (xs ys : List X) (i j : ℕ) → i ≡ length xs + j → slice_get (xs ++ ys) i ≡ slice_get ys j
+  slice_get-right xs ys i j e = grind (arith, common_steps, gets)
+
+  slice_get-take : (n : ℕ) (xs : List X) (i : ℕ) → i < n → slice_get (take n xs) i ≡ slice_get xs i
+  slice_get-take n xs i lt = grind (arith, common_steps, gets)
+
+  pub slice_get-drop : (a : ℕ) (xs : List X) (i j : ℕ) → j ≡ a + i → slice_get (drop a xs) i ≡ slice_get xs j
+  slice_get-drop a xs i j e = grind (arith, common_steps, gets)
+
+  -- a part of a list
+  pub slice_get-slice_range : (xs : List X) (a b i j : ℕ) → j ≡ a + i → j < b → slice_get (slice_range xs a b) i
+      ≡ slice_get xs j
+  slice_get-slice_range xs a b i j e lt = slice_get-take (b - a) (drop a xs) i (omega (arith, e, lt))
+      ∙ slice_get-drop a xs i j e
+
+  pub length-slice_range : (xs : List X) (a b : ℕ) → a ≤ b → b ≤ length xs → length (slice_range xs a b) ≡ b - a
+  length-slice_range xs a b le le' = length-take-le (b - a) (drop a xs) (omega (arith, length-drop a xs, le, le'))
 
   pub slice_get-last : (xs : List X) (y : X) → slice_get (xs ++ y ∷ []) (length xs) ≡ Some y
-  slice_get-last [] y = refl
-  slice_get-last (z ∷ xs) y = slice_get-last xs y
+  slice_get-last xs y = slice_get-right xs (y ∷ []) (length xs) 0 (omega arith)
 
   -- two functions that agree at each element
   pub map-agree : {Y : Type 0} (f g : X → Y) (xs : List X) → All (λ x. f x ≡ g x) xs → map f xs ≡ map g xs
@@ -56,7 +80,7 @@ module _ {X : Type 0} where
 module _ (b : Bool) (xs : List Segment) (s : Segment) where
   -- what stands in a list stands in it at the same index where one may be added
   pub slice_get-with_if : (k : ℕ) (x : Segment) → slice_get xs k ≡ Some x → slice_get (with_if b xs s) k ≡ Some x
-  slice_get-with_if k x h = by_Bool b (λ e. rw e (slice_get-pushed xs s k x h)) (λ e. rw e h)
+  slice_get-with_if k x h = by_Bool b (λ e. rw e (slice_get-left xs (s ∷ []) k (slice_get_within xs k x h) ∙ h)) (λ e. rw e h)
 
   pub All-with_if : (P : Segment → Type 0) → All P xs → (b ≡ true → P s) → All P (with_if b xs s)
   All-with_if P h new = by_Bool b (λ e. rw e (All-push P xs s h (new e))) (λ e. rw e h)

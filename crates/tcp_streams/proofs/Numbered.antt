@@ -8,7 +8,7 @@ use Rattle.tcp_streams.proofs.Words.{is_opening, segment_of, Falls}
 use Rattle.std.proofs.lemmas.List.Elements.{All-push, All-weaker, All-map}
 use Rattle.std.proofs.lemmas.List.{get_or-map, length-map, take_more}
 use Rattle.std.proofs.lemmas.Option.{slice_get-get_or}
-use Rattle.tcp_streams.proofs.IntervalLemmas.{by_Bool}
+use Rattle.tcp_streams.proofs.Lists.{by_Bool}
 use Rattle.tcp_streams.proofs.Past.{Falls-weaker}
 
 past_after-push : (past : List Segment) (xs : List Packet) (p : Packet) → past_after past (xs ++ p ∷ []) ≡ with_packet

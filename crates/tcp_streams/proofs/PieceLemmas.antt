@@ -11,7 +11,8 @@ use Rattle.std.specs.List.{cons_option}
 use Rattle.tcp_streams.specs.code.Interval.{PayloadsFit, stretch}
 use Rattle.tcp_streams.specs.laws.Flows.{ByteHasOffset}
 use Rattle.tcp_streams.specs.Sequence.{brings, distance, earlier_of, start_of}
-use Rattle.tcp_streams.proofs.IntervalLemmas.{at-append, by_Bool, by_lt}
+use Rattle.tcp_streams.proofs.IntervalLemmas.{at-append}
+use Rattle.tcp_streams.proofs.Lists.{by_Bool, by_lt}
 
 -- a payload that stands in the capture
 pub record StandsIn (size : ℕ) (s : Segment) : Type 0 where

@@ -2,15 +2,15 @@
 use Rattle.tcp_streams.proofs.Words.{◌≡◌, ℕ, zero, suc, ◌+◌, ◌-◌, ◌<◌, ◌≤◌, ◌^◌, List, [], ◌∷◌, ◌++◌, length, drop}
 use Rattle.tcp_streams.proofs.Words.{take, slice_get, Option, None, Some, refl, sym, ap, ◌∙◌, arith, IsSome, All}
 use Rattle.tcp_streams.proofs.Words.{IfSome, IsSomeAnd, slice_range, option_or, eq-eqb, ne_eqb, lt-ltb, le-ltb}
-use Rattle.tcp_streams.proofs.Words.{append-nil, append_assoc, length-append, All-cons, All-head, All-nil, All-tail}
-use Rattle.tcp_streams.proofs.Words.{Interval, Arrival, AreTimely, Rises, IsArrivalOf, IsFlow, IsGap, arrival_at}
-use Rattle.tcp_streams.proofs.Words.{AreCaptured, IsInterval, IsCaptured, Spans, arrival_with, arrivals_after}
-use Rattle.tcp_streams.proofs.Words.{arrivals_in, at, bytes_in, run_length, size_of, source_in, width, Source, arrival}
-use Rattle.tcp_streams.proofs.Words.{end_of_offsets, sum_by-append, sum_by-cons}
+use Rattle.tcp_streams.proofs.Words.{nat_tests, append-nil, append_assoc, length-append, All-cons, All-head, All-nil}
+use Rattle.tcp_streams.proofs.Words.{All-tail, Interval, Arrival, AreTimely, Rises, IsArrivalOf, IsFlow, IsGap}
+use Rattle.tcp_streams.proofs.Words.{arrival_at, AreCaptured, IsInterval, IsCaptured, Spans, arrival_with}
+use Rattle.tcp_streams.proofs.Words.{arrivals_after, arrivals_in, at, bytes_in, run_length, size_of, source_in, width}
+use Rattle.tcp_streams.proofs.Words.{Source, arrival, end_of_offsets, sum_by-append, sum_by-cons}
 use Rattle.tcp_streams.specs.Flow.{AreArrivals}
 use Rattle.tcp_streams.specs.Sequence.{later_of}
-use Rattle.tcp_streams.proofs.IntervalLemmas.{Spans-before, at-append, at-in, at-past, by_lt}
-use Rattle.tcp_streams.proofs.Elements.{length-slice_range, slice_get-left, slice_get-right, slice_get-slice_range}
+use Rattle.tcp_streams.proofs.IntervalLemmas.{Spans-before, at-append, at-in, at-past}
+use Rattle.tcp_streams.proofs.Lists.{by_lt, length-slice_range, slice_get-left, slice_get-right, slice_get-slice_range}
 
 -- the intervals follow each other from low on
 abbrev pub Follows : ℕ → List Interval → Type 0
@@ -53,14 +53,11 @@ run-covers : (low : ℕ) (run : List Interval) (o : ℕ) → Follows low run →
     → IsSome (at run o)
 run-covers low [] o f a b = absurd (omega (arith, a, b))
 run-covers low (x ∷ xs) o f a b =
-    by_lt o x.upto
-    (λ _ lt. rw (at-in x xs o (omega (arith, f.0)) lt))
-    (λ _ past. rw (at-past x xs o past) (run-covers x.upto xs o f.2 past b))
+    grind (arith, nat_tests, (λ (le : x.upto ≤ o). run-covers x.upto xs o f.2 le b))
 
 run-beyond : (low : ℕ) (run : List Interval) (o : ℕ) → Follows low run → run_end low run ≤ o → at run o ≡ None
 run-beyond low [] o f b = refl
-run-beyond low (x ∷ xs) o f b = at-past x xs o (omega (arith, b, run_end-after x.upto xs f.2))
-    ∙ run-beyond x.upto xs o f.2 b
+run-beyond low (x ∷ xs) o f b = grind (arith, nat_tests, run_end-after x.upto xs f.2, run-beyond x.upto xs o f.2 b)
 
 rest-before : (end : ℕ) (rest : List Interval) (o : ℕ) → IsRest end rest → o ≤ end → at rest o ≡ None
 rest-before end [] o r le = refl

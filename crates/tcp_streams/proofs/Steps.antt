@@ -16,8 +16,8 @@ use Rattle.tcp_streams.specs.declared.standings.Standing.TheVariants.{Unopened}
 use Rattle.tcp_streams.specs.Membership.{is_answer}
 use Rattle.tcp_streams.specs.code.Standings.{SetsStandingIn}
 use Rattle.tcp_streams.specs.code.Table.{IsShown, IsUnknown, Stands, opened_by, first_stray, counted, joined}
-use Rattle.tcp_streams.proofs.IntervalLemmas.{by_Bool}
-use Rattle.tcp_streams.proofs.Lists.{list_any-other, map-agree, map-but, map-pushed, slice_get-last, slice_get-with_if}
+use Rattle.tcp_streams.proofs.Lists.{by_Bool, list_any-other, map-agree, map-but, map-pushed, slice_get-last}
+use Rattle.tcp_streams.proofs.Lists.{slice_get-with_if}
 use Rattle.tcp_streams.proofs.Pairs.{is_endpoint-refl, is_pair-refl, is_pair-same, is_pair-sym}
 use Rattle.tcp_streams.proofs.Past.{AreOfTwo, IsBefore, first_strays-apart, first_strays-other, last_opening-kept}
 use Rattle.tcp_streams.proofs.Past.{last_opening-new, last_opening-other, members-to_come, opening_at-kept}

@@ -9,7 +9,7 @@ use Rattle.std.proofs.lemmas.List.Sums.{count_by-le-length, length-filter}
 use Rattle.tcp_streams.specs.declared.table.Turn.TheVariants.{Opens, Joins}
 use Rattle.tcp_streams.specs.code.Past.{is_again}
 use Rattle.tcp_streams.specs.code.Table.{IsTurn}
-use Rattle.tcp_streams.proofs.IntervalLemmas.{by_Bool}
+use Rattle.tcp_streams.proofs.Lists.{by_Bool}
 
 strays-few : (past : List Segment) → length (strays past) ≤ length past
 strays-few [] = omega arith

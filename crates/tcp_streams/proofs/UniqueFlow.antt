@@ -6,7 +6,7 @@ use Rattle.std.specs.Prelude.{unwrap_or}
 use Rattle.std.proofs.lemmas.Grind.{same_number_lists}
 use Rattle.std.proofs.lemmas.Option.{unwrap_or-slice_get}
 use Rattle.tcp_streams.specs.Flow.{IsLongestRun}
-use Rattle.tcp_streams.proofs.IntervalLemmas.{by_lt}
+use Rattle.tcp_streams.proofs.Lists.{by_lt}
 
 -- lists of one length that agree at each index are equal
 same-lists : (xs ys : List ℕ) → length xs ≡ length ys → ((i : ℕ) → i < length xs → slice_get xs i ≡ slice_get ys i)
