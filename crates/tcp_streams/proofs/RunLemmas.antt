@@ -1,9 +1,9 @@
 -- On intervals that follow each other: the bytes that they hold, and when these arrive.
-use Rattle.tcp_streams.proofs.Words.{◌≡◌, ℕ, zero, suc, ◌+◌, ◌-◌, ◌<◌, ◌≤◌, ◌^◌, List, [], ◌∷◌, ◌++◌, length, drop}
-use Rattle.tcp_streams.proofs.Words.{take, slice_get, Option, None, Some, refl, sym, ap, ◌∙◌, arith, IsSome, All}
-use Rattle.tcp_streams.proofs.Words.{IfSome, IsSomeAnd, slice_range, option_or, eq-eqb, ne_eqb, lt-ltb, le-ltb}
-use Rattle.tcp_streams.proofs.Words.{nat_tests, append-nil, append_assoc, length-append, All-cons, All-head, All-nil}
-use Rattle.tcp_streams.proofs.Words.{All-tail, Interval, Arrival, AreTimely, Rises, IsArrivalOf, IsFlow, IsGap}
+use Rattle.tcp_streams.proofs.Words.{All-weaker, ◌≡◌, ℕ, zero, suc, ◌+◌, ◌-◌, ◌<◌, ◌≤◌, ◌^◌, List, [], ◌∷◌, ◌++◌}
+use Rattle.tcp_streams.proofs.Words.{length, drop, take, slice_get, Option, None, Some, refl, sym, ap, ◌∙◌, arith}
+use Rattle.tcp_streams.proofs.Words.{IsSome, All, IfSome, IsSomeAnd, slice_range, option_or, eq-eqb, ne_eqb, lt-ltb}
+use Rattle.tcp_streams.proofs.Words.{le-ltb, nat_tests, append-nil, append_assoc, length-append, All-cons, All-head}
+use Rattle.tcp_streams.proofs.Words.{All-nil, All-tail, Interval, Arrival, AreTimely, Rises, IsArrivalOf, IsFlow, IsGap}
 use Rattle.tcp_streams.proofs.Words.{arrival_at, AreCaptured, IsInterval, IsCaptured, Spans, arrival_with}
 use Rattle.tcp_streams.proofs.Words.{arrivals_after, arrivals_in, at, bytes_in, run_length, size_of, source_in, width}
 use Rattle.tcp_streams.proofs.Words.{Source, arrival, end_of_offsets, sum_by-append, sum_by-cons}
@@ -75,9 +75,22 @@ module _ (low : ℕ) (run rest : List Interval) (is : IsRunOf low run rest) wher
   at-rest : (o : ℕ) → run_end low run ≤ o → at (run ++ rest) o ≡ at rest o
   at-rest o b = at-append run rest o ∙ rw (run-beyond low run o is.follows b)
 
--- indexes in the capture
-abbrev pub AreInCapture : ℕ → List Interval → Type 0
-AreInCapture size run = All (λ (x : Interval). x.index + (x.upto - x.from) ≤ size) run
+-- an interval of bytes of the capture, in a record with a number and a time
+pub record IsHeld (size : ℕ) (x : Interval) : Type 0 where
+  pub within : x.index + (x.upto - x.from) ≤ size
+  pub numbered : 0 < x.rec
+  pub timely : x.nanos < 2 ^ 63
+
+-- what a captured list says of each interval of its run
+held : (size low : ℕ) (run : List Interval) → Follows low run
+    → ((o : ℕ) → low ≤ o → o < run_end low run → IfSome (at run o) (IsCaptured size)) → All (IsHeld size) run
+held size low [] f h = All-nil (IsHeld size)
+held size low (x ∷ xs) f h =
+    let end = h (x.upto - 1) (omega (arith, f.0, f.1.some)) (omega (arith, f.1.some, run_end-after x.upto xs f.2)) in
+    let last = rw (at-in x xs (x.upto - 1) (omega (arith, f.1.some)) (omega (arith, f.1.some))) at end in
+    All-cons (IsHeld size) x xs
+    (record { within = omega (arith, f.1.some, last.0); numbered = last.1; timely = last.2 })
+    (held size x.upto xs f.2 (λ o a b. rw (at-past x xs o a) at (h o (omega (arith, f.0, f.1.some)) b)))
 
 -- an interval's bytes
 abbrev part : List ℕ → Interval → List ℕ
@@ -93,28 +106,27 @@ length-part : (capture : List ℕ) (x : Interval) → x.index + (x.upto - x.from
 length-part capture x h = omega (arith, length-slice_range capture x.index (x.index + width x) (omega arith) h)
 
 module _ (capture : List ℕ) where
-  abbrev InCapture : Interval → Type 0
-  InCapture x = x.index + (x.upto - x.from) ≤ length capture
+  abbrev AreHeld : List Interval → Type 0
+  AreHeld run = All (IsHeld (length capture)) run
 
-  pub length-bytes_in : (low : ℕ) (run : List Interval) → Follows low run
-      → AreInCapture (length capture) run → low + length (bytes_in capture run) ≡ run_end low run
+  length-bytes_in : (low : ℕ) (run : List Interval) → Follows low run → AreHeld run
+      → low + length (bytes_in capture run) ≡ run_end low run
   length-bytes_in low [] f h = omega arith
   length-bytes_in low (x ∷ xs) f h = omega (
     arith,
     f.0,
     f.1.some,
     length-append (part capture x) (bytes_in capture xs),
-    length-part capture x (All-head InCapture x xs h),
-    length-bytes_in x.upto xs f.2 (All-tail InCapture x xs h),
+    length-part capture x (All-head (IsHeld (length capture)) x xs h).within,
+    length-bytes_in x.upto xs f.2 (All-tail (IsHeld (length capture)) x xs h),
   )
 
   -- each byte is the capture's at its index
-  bytes-at : (low : ℕ) (run : List Interval) (o : ℕ) → Follows low run
-      → AreInCapture (length capture) run → low ≤ o → o < run_end low run
+  bytes-at : (low : ℕ) (run : List Interval) (o : ℕ) → Follows low run → AreHeld run → low ≤ o → o < run_end low run
       → IsSomeAnd (at run o) (λ (s : Source). slice_get capture s.index ≡ slice_get (bytes_in capture run) (o - low))
   bytes-at low [] o f h a b = absurd (omega (arith, a, b))
   bytes-at low (x ∷ xs) o f h a b =
-      let size = length-part capture x (All-head InCapture x xs h) in
+      let size = length-part capture x (All-head (IsHeld (length capture)) x xs h).within in
       by_lt o x.upto
       (λ _ lt. rw (
         at-in x xs o (omega (arith, f.0)) lt,
@@ -125,7 +137,7 @@ module _ (capture : List ℕ) where
         at-past x xs o past,
         slice_get-right (part capture x) (bytes_in capture xs) (o - low) (o - x.upto)
             (omega (arith, f.0, f.1.some, size)),
-      ) (bytes-at x.upto xs o f.2 (All-tail InCapture x xs h) past b))
+      ) (bytes-at x.upto xs o f.2 (All-tail (IsHeld (length capture)) x xs h) past b))
 
 -- one arrival, as it goes on to another offset
 abbrev up_to : Arrival → ℕ → Arrival
@@ -207,40 +219,27 @@ Rises-after low rec a (x ∷ xs) lt k f =
     (λ e newer. rw e (lt, k, Rises-after a.upto a.rec (arrival_with x) xs (omega (arith, f.0, f.1.some)) newer f.2))
     (λ e _. rw e (Rises-after low rec (up_to a x.upto) xs (omega (arith, f.0, f.1.some)) k f.2))
 
-pub run-rises : (run : List Interval) → Follows 0 run → All (λ (x : Interval). 0 < x.rec) run
+run-rises : (size : ℕ) (run : List Interval) → Follows 0 run → All (IsHeld size) run
     → Rises 0 0 (arrivals_in run) (run_end 0 run)
-run-rises [] f h = refl
-run-rises (x ∷ xs) f h = Rises-after 0 0 (arrival_with x) xs (omega (arith, f.1.some))
-    (All-head (λ (x : Interval). 0 < x.rec) x xs h) f.2
+run-rises size [] f h = refl
+run-rises size (x ∷ xs) f h = Rises-after 0 0 (arrival_with x) xs (omega (arith, f.1.some))
+    (All-head (IsHeld size) x xs h).numbered f.2
 
 -- their times are the intervals'
-abbrev IsTimely : Interval → Type 0
-IsTimely x = x.nanos < 2 ^ 63
-
-timely-after : (a : Arrival) (xs : List Interval) → a.nanos < 2 ^ 63 → All IsTimely xs → AreTimely (arrivals_after a xs)
-timely-after a [] h k = All-cons (λ (e : Arrival). e.nanos < 2 ^ 63) a [] h (All-nil _)
-timely-after a (x ∷ xs) h k =
-    let rest = All-tail IsTimely x xs k in
+timely-after : (size : ℕ) (a : Arrival) (xs : List Interval) → a.nanos < 2 ^ 63 → All (IsHeld size) xs
+    → AreTimely (arrivals_after a xs)
+timely-after size a [] h k = All-cons (λ (e : Arrival). e.nanos < 2 ^ 63) a [] h (All-nil _)
+timely-after size a (x ∷ xs) h k =
+    let rest = All-tail (IsHeld size) x xs k in
     by_lt a.rec x.rec
     (λ e _. rw e (All-cons (λ (e : Arrival). e.nanos < 2 ^ 63) a _ h
-    (timely-after (arrival_with x) xs (All-head IsTimely x xs k) rest)))
-    (λ e _. rw e (timely-after (up_to a x.upto) xs h rest))
+    (timely-after size (arrival_with x) xs (All-head (IsHeld size) x xs k).timely rest)))
+    (λ e _. rw e (timely-after size (up_to a x.upto) xs h rest))
 
-pub arrivals-timely : (run : List Interval) → All IsTimely run → AreTimely (arrivals_in run)
-arrivals-timely [] h = All-nil _
-arrivals-timely (x ∷ xs) h = timely-after (arrival_with x) xs (All-head IsTimely x xs h) (All-tail IsTimely x xs h)
-
--- what a captured list says of each interval of its run
-captured-run : (size low : ℕ) (run : List Interval) (P : Interval → Type 0) → Follows low run
-    → ((x : Interval) → IsInterval x → IsCaptured size (source_in x (x.upto - 1)) → P x)
-    → ((o : ℕ) → low ≤ o → o < run_end low run → IfSome (at run o) (IsCaptured size)) → All P run
-captured-run size low [] P f says h = All-nil P
-captured-run size low (x ∷ xs) P f says h =
-    let last = h (x.upto - 1) (omega (arith, f.0, f.1.some)) (omega (arith, f.1.some, run_end-after x.upto xs f.2)) in
-    All-cons P x xs
-    (says x f.1 (rw (at-in x xs (x.upto - 1) (omega (arith, f.1.some)) (omega (arith, f.1.some))) at last))
-    (captured-run size x.upto xs P f.2 says
-    (λ o a b. rw (at-past x xs o a) at (h o (omega (arith, f.0, f.1.some)) b)))
+arrivals-timely : (size : ℕ) (run : List Interval) → All (IsHeld size) run → AreTimely (arrivals_in run)
+arrivals-timely size [] h = All-nil _
+arrivals-timely size (x ∷ xs) h =
+    timely-after size (arrival_with x) xs (All-head (IsHeld size) x xs h).timely (All-tail (IsHeld size) x xs h)
 
 -- a gap where something comes after
 abbrev pub gap_of : List Interval → ℕ → Option ℕ
@@ -256,22 +255,17 @@ module _ (capture : List ℕ) (whole run rest : List Interval) (same : run ++ re
   there : (o : ℕ) → run_end 0 run ≤ o → at whole o ≡ at rest o
   there o le = ap (λ l. at l o) (sym same) ∙ at-rest 0 run rest is o le
 
-  run-captured : (o : ℕ) → 0 ≤ o → o < run_end 0 run → IfSome (at run o) (IsCaptured (length capture))
-  run-captured o le lt = rw (here o lt) at (captured o (omega (arith, is.within)))
+  run-held : All (IsHeld (length capture)) run
+  run-held = held (length capture) 0 run is.follows (λ o le lt. rw (here o lt) at (captured o (omega (arith, is.within))))
 
-  pub run-in_capture : AreInCapture (length capture) run
-  run-in_capture = captured-run (length capture) 0 run (InCapture capture) is.follows
-      (λ x v p. omega (arith, v.some, p.0)) run-captured
-
-  pub run-numbered : All (λ (x : Interval). 0 < x.rec) run
-  run-numbered = captured-run (length capture) 0 run _ is.follows (λ x v p. p.1) run-captured
+  pub run-in_capture : All (λ (x : Interval). x.index + (x.upto - x.from) ≤ length capture) run
+  run-in_capture = All-weaker (IsHeld (length capture)) _ (λ x is. is.within) run run-held
 
   pub run-timely : AreTimely (arrivals_in run)
-  run-timely = arrivals-timely run
-      (captured-run (length capture) 0 run IsTimely is.follows (λ x v p. p.2) run-captured)
+  run-timely = arrivals-timely (length capture) run run-held
 
   run-length : length (bytes_in capture run) ≡ run_end 0 run
-  run-length = omega (arith, length-bytes_in capture 0 run is.follows run-in_capture)
+  run-length = omega (arith, length-bytes_in capture 0 run is.follows run-held)
 
   gap-is : IsGap (at whole) (run_end 0 run) (gap_of rest (run_end 0 run))
   gap-is = by rest is.leaves there
@@ -299,8 +293,8 @@ module _ (capture : List ℕ) (whole run rest : List Interval) (same : run ++ re
           ∙ rest-before (run_end 0 run) rest (run_end 0 run) is.leaves (omega arith);
     });
     bytes_are = λ o lt. rw (here o (omega (arith, run-length))) (rw (let e : o - 0 ≡ o = omega arith in e) at
-        (bytes-at capture 0 run o is.follows run-in_capture (omega arith) (omega (arith, run-length))));
-    rises = rw run-length (run-rises run is.follows run-numbered);
+        (bytes-at capture 0 run o is.follows run-held (omega arith) (omega (arith, run-length))));
+    rises = rw run-length (run-rises (length capture) run is.follows run-held);
     arrivals_are = rw run-length (run-arrivals (at whole) run is.follows here);
     gap_is = rw run-length gap-is;
   }

@@ -7,14 +7,15 @@ use Rattle.tcp_streams.proofs.membership.connections.Goals as goal
 use Rattle.tcp_streams.proofs.membership.connections.Goals.{in-Segment+in_ok-add, in_default}
 
 -- the packet that the loop is at stands among all packets, and comes next in their past
-module _ (packets together : List Packet) (most at j : ℕ) (front : together ≡ take most (drop at packets))
-    (lt : j < length together) (p : Packet) (is : p ≡ get_or together j p) where
-  item : get_or packets (at + j) p ≡ p
-  item = sym (element_is packets together most at front j p lt) ∙ sym is
-
-  one_more : past_of (take (at + (j + 1)) packets) ≡ with_packet (past_of (take (at + j) packets)) p
-  one_more = rw (let next : at + (j + 1) ≡ at + j + 1 = omega arith in next)
-      (past_of-more packets (at + j) p p (index_within packets together most at front j lt) item)
+at_packet : (packets together : List Packet) (most at j : ℕ) (p : Packet) → together ≡ take most (drop at packets)
+    → j < length together → p ≡ get_or together j p
+    → (at + j < length packets) × (get_or packets (at + j) p ≡ p)
+    × (past_of (take (at + (j + 1)) packets) ≡ with_packet (past_of (take (at + j) packets)) p)
+at_packet packets together most at j p front lt is =
+    let within = index_within packets together most at front j lt in
+    let item = sym (element_is packets together most at front j p lt) ∙ sym is in
+    let next : at + (j + 1) ≡ at + j + 1 = omega arith in
+    (within, item, rw next (past_of-more packets (at + j) p p within item))
 
 pub add-requires : goal.add-requires
 add-requires c =
@@ -27,12 +28,8 @@ add-requires c =
 pub loop-packet-preserved : goal.loop-packet-preserved
 loop-packet-preserved c =
     let packets = c.args.packets.now in
-    let within = index_within packets c.from-together.result.now _ c.loop-at.at c.from-together.ensures.front
-    c.loop-packet.packet-index c.loop-packet-test.true in
-    let here = item packets c.from-together.result.now _ c.loop-at.at c.loop-packet.packet-index
-    c.from-together.ensures.front c.loop-packet-test.true c.packet-item.result c.packet-item.is in
-    let next = one_more packets c.from-together.result.now _ c.loop-at.at c.loop-packet.packet-index
-    c.from-together.ensures.front c.loop-packet-test.true c.packet-item.result c.packet-item.is in
+    let (within, here, next) = at_packet packets c.from-together.result.now _ c.loop-at.at c.loop-packet.packet-index
+    c.packet-item.result c.from-together.ensures.front c.loop-packet-test.true c.packet-item.is in
     elim c.match-packet.branch [
       | in-Segment+in_ok-add w ↦ rw (w.table-is, next, w.in-Segment.is)
           (w.in_ok-add.ensures _ c.loop-packet.invariant
