@@ -1,5 +1,5 @@
 -- Segments with their openings, as the definition folds them, beside what the past shows.
-use Rattle.tcp_streams.proofs.Words.{◌≡◌, ◌&&◌, not, List, [], ◌∷◌, filter, map, Option, None, Some, refl, sym, ap, ◌∙◌}
+use Rattle.tcp_streams.proofs.Words.{arith, ◌≡◌, ◌&&◌, not, List, [], ◌∷◌, filter, map, Option, None, Some, refl, sym, ap, ◌∙◌}
 use Rattle.tcp_streams.proofs.Words.{if◌then◌else◌, filter_map, list_any, Packet, Carried, Segment, Connection}
 use Rattle.tcp_streams.proofs.Words.{is_request, segment_in, is_same_pair, is_of, pair_of, Membership}
 use Rattle.std.proofs.Common.{ap₂}
@@ -29,7 +29,7 @@ belongings-are : (packets : List Packet) → belongings packets ≡ belong (past
 belongings-are packets = belong-after [] packets
 
 opens-are : (s : Segment) (last : Option Segment) → opens s last ≡ (is_request s && not (past_words.repeats s last))
-opens-are s None = by_Bool (is_request s) (λ e. rw e) (λ e. rw e)
+opens-are s None = grind arith
 opens-are s (Some o) = refl
 
 -- the opening of a segment that comes after this past

@@ -1,13 +1,12 @@
 -- All flows of a capture fit in it together: a payload belongs to one connection at most.
-use Rattle.tcp_streams.proofs.Words.{eq-eqb, ◌≡◌, ℕ, ◌+◌, ◌≤◌, Bool, true, false, List, [], ◌∷◌, ◌++◌, map, Option}
-use Rattle.tcp_streams.proofs.Words.{None, Some, refl, sym, ap, ◌∙◌, arith, if◌then◌else◌, option_to_list, ne_eqb}
+use Rattle.tcp_streams.proofs.Words.{nat_tests, eq-eqb, ◌≡◌, ℕ, ◌+◌, ◌≤◌, Bool, true, false, List, [], ◌∷◌, ◌++◌, map}
+use Rattle.tcp_streams.proofs.Words.{Option, None, Some, refl, sym, ap, ◌∙◌, arith, if◌then◌else◌, option_to_list}
 use Rattle.tcp_streams.proofs.Words.{append-nil, append_assoc, map-append, sum_by-cons, Client, Server, Packet, Carried}
 use Rattle.tcp_streams.proofs.Words.{Segment, AreNumberedFrom, PayloadsRise, Connection, payload_sum, segments_of}
 use Rattle.tcp_streams.proofs.Words.{side_segments, Membership, connection_of, connections_of, members, membership}
 use Rattle.tcp_streams.proofs.Words.{opening_at, openings, opens, past_after, past_of, is_opening, with_if, segment_of}
 use Rattle.tcp_streams.proofs.Words.{payload_length, Falls}
-use Rattle.std.specs.Prelude.{nat_eq, sum_by}
-use Rattle.std.proofs.lemmas.Bool.{eqb-true}
+use Rattle.std.specs.Prelude.{sum_by}
 use Rattle.std.proofs.lemmas.List.Folds.{fold-map}
 use Rattle.std.proofs.lemmas.List.Sums.{sum_by_push}
 use Rattle.tcp_streams.proofs.FlowLemmas.{sides-sum}
@@ -56,21 +55,17 @@ module _ (q : Segment) (v : ℕ) where
   shares-later : (n : ℕ) (past : List Segment) → Falls n past → n ≤ q.rec → shares (openings past) ≡ 0
   shares-later n [] f le = refl
   shares-later n (s ∷ past) f le =
-      let before = shares-later s.rec past f.1 (omega (arith, f.0)) in
-      by_Bool (opens s past)
-      (λ e. rw e (sum_by_push (share (Some q) v) (openings past) s
-      ∙ rw (ne_eqb q.rec s.rec (λ same. omega (arith, f.0))) (omega (arith, before))))
-      (λ e. rw e before)
+      grind (arith, nat_tests, sum_by_push (share (Some q) v) (openings past) s, shares-later s.rec past f.1)
 
   shares-most : (n : ℕ) (past : List Segment) → Falls n past → shares (openings past) ≤ v
   shares-most n [] f = omega arith
-  shares-most n (s ∷ past) f =
-      let before = shares-most s.rec past f.1 in
-      by_Bool (opens s past)
-      (λ e. rw (e, sum_by_push (share (Some q) v) (openings past) s) (by_Bool (nat_eq q.rec s.rec)
-      (λ same. rw same (omega (arith, shares-later s.rec past f.1 (omega (arith, eqb-true q.rec s.rec same)))))
-      (λ other. rw other (omega (arith, before)))))
-      (λ e. rw e before)
+  shares-most n (s ∷ past) f = grind (
+    arith,
+    nat_tests,
+    sum_by_push (share (Some q) v) (openings past) s,
+    shares-most s.rec past f.1,
+    (λ (here : s.rec ≤ q.rec). shares-later s.rec past f.1 here),
+  )
 
 share-most : (x : Option Segment) (v n : ℕ) (past : List Segment) → Falls n past
     → sum_by (share x v) (openings past) ≤ v
@@ -117,17 +112,12 @@ segments-push packets (x ∷ xs) m =
 members-named : (packets : List Packet) (o : Segment) (past : List Segment) → Known packets past
     → segments_of packets (recs (members o past)) ≡ members o past
 members-named packets o [] k = refl
-members-named packets o (s ∷ past) k =
-    let before = members-named packets o past k.2 in
-    by_Bool (is_opening o (opening_at s past))
-    (λ e. rw (
-      e,
-      map-append (λ (t : Segment). t.rec) (members o past) (s ∷ []),
-      segments-push packets (recs (members o past)) s.rec,
-      before,
-      k.1,
-    ))
-    (λ e. rw e before)
+members-named packets o (s ∷ past) k = grind (
+  arith,
+  map-append (λ (t : Segment). t.rec) (members o past) (s ∷ []),
+  segments-push packets (recs (members o past)) s.rec,
+  members-named packets o past k.2,
+)
 
 -- all flows together
 pub flows-fit : (packets : List Packet) (size : ℕ) (found : List Connection) → AreNumberedFrom 1 packets

@@ -157,12 +157,12 @@ left_of-all (y ∷ ys) = omega (arith, left_of-all ys, sum_by-cons width y ys)
 size-clipped : (low high : ℕ) (ys : List Interval) → low ≤ high
     → size_of (clipped low high ys) + left_of high ys ≤ left_of low ys
 size-clipped low high [] le = omega arith
-size-clipped low high (y ∷ ys) le =
-    let part = part_of y (max y.from low) (min y.upto high) in
-    by_lt (max y.from low) (min y.upto high)
-    (λ _ lt. rw (clipped-some low high y ys lt)
-    (omega (arith, sum_by-cons width part (clipped low high ys), size-clipped low high ys le)))
-    (λ _ over. rw (clipped-none low high y ys over) (omega (arith, size-clipped low high ys le)))
+size-clipped low high (y ∷ ys) le = grind (
+  arith,
+  nat_tests,
+  sum_by-cons width (part_of y (max y.from low) (min y.upto high)) (clipped low high ys),
+  size-clipped low high ys le,
+)
 
 size-overlay-left : (low : ℕ) (kept later : List Interval) → Spans low kept end_of_offsets
     → size_of (overlay kept later low) ≤ size_of kept + left_of low later

@@ -80,7 +80,7 @@ module _ {X : Type 0} where
 module _ (b : Bool) (xs : List Segment) (s : Segment) where
   -- what stands in a list stands in it at the same index where one may be added
   pub slice_get-with_if : (k : ℕ) (x : Segment) → slice_get xs k ≡ Some x → slice_get (with_if b xs s) k ≡ Some x
-  slice_get-with_if k x h = by_Bool b (λ e. rw e (slice_get-left xs (s ∷ []) k (slice_get_within xs k x h) ∙ h)) (λ e. rw e h)
+  slice_get-with_if k x h = grind (arith, slice_get-left xs (s ∷ []) k (slice_get_within xs k x h))
 
   pub All-with_if : (P : Segment → Type 0) → All P xs → (b ≡ true → P s) → All P (with_if b xs s)
   All-with_if P h new = by_Bool b (λ e. rw e (All-push P xs s h (new e))) (λ e. rw e h)
@@ -90,13 +90,11 @@ module _ (b : Bool) (xs : List Segment) (s : Segment) where
   AllPairs-with_if R h new = by_Bool b (λ e. rw e (all_pairs_push R xs s h (new e))) (λ e. rw e h)
 
   pub list_any-with_if : (test : Segment → Bool) → list_any test xs ≡ true → list_any test (with_if b xs s) ≡ true
-  list_any-with_if test h = by_Bool b (λ e. rw (e, list_any-append test xs (s ∷ []), h)) (λ e. rw e h)
+  list_any-with_if test h = grind (arith, list_any-append test xs (s ∷ []))
 
   -- one that doesn't pass counts for nothing
   pub list_any-other : (test : Segment → Bool) → test s ≡ false → list_any test (with_if b xs s) ≡ list_any test xs
-  list_any-other test h = by_Bool b
-      (λ e. rw (e, list_any-append test xs (s ∷ []), h) (by_Bool (list_any test xs) (λ t. rw t) (λ t. rw t)))
-      (λ e. rw e)
+  list_any-other test h = grind (arith, list_any-append test xs (s ∷ []))
 
 -- several clauses of one call that went well
 pub on_ok_3 : {A E P Q R W : Type 0} (r : Result A E) → OnOk r P → OnOk r Q → OnOk r R → (P → Q → R → W) → OnOk r W

@@ -2,7 +2,7 @@
 use Rattle.tcp_streams.proofs.Words.{◌≡◌, ℕ, zero, suc, ◌+◌, ◌-◌, ◌%◌, ◌<◌, ◌≤◌, ◌^◌, Bool, List, [], ◌∷◌, ◌++◌, length}
 use Rattle.tcp_streams.proofs.Words.{filter, get_or, slice_get, Option, None, Some, ◌⊎◌, refl, sym, ◌∙◌, arith, IsSome}
 use Rattle.tcp_streams.proofs.Words.{if◌then◌else◌, nat_lt, All, IfSome, option_and_then, filter_map, option_or}
-use Rattle.tcp_streams.proofs.Words.{option_to_list, le-ltb, lt-ltb, nat_tests, IfSome_then, none-some, All-cons}
+use Rattle.tcp_streams.proofs.Words.{option_to_list, lt-ltb, nat_tests, IfSome_then, none-some, All-cons}
 use Rattle.tcp_streams.proofs.Words.{All-nil, sum_by-cons, width, Side, Packet, Carried, Segment, AreNumberedFrom}
 use Rattle.tcp_streams.proofs.Words.{PayloadsRise, TimesFit, Interval, Connection, IsInterval, IsCaptured, IsSame, at}
 use Rattle.tcp_streams.proofs.Words.{member_piece, piece, size_of, AreMembers, payload_sum, is_sent_by, segments_of}
@@ -118,9 +118,7 @@ pub record ArePiecesOf (initial_number size low : ℕ) (segments : List Segment)
 -- of a segment's source and those after it, the segment's is the one of the least record
 earliest : (p q : Option Source) (rec : ℕ) → IfSome p (λ (x : Source). x.rec ≡ rec)
     → IfSome q (λ (y : Source). rec < y.rec) → earlier_of p q ≡ option_or p q
-earliest None q rec h k = refl
-earliest (Some x) None rec h k = refl
-earliest (Some x) (Some y) rec h k = rw (le-ltb y.rec x.rec (omega (arith, h, k)))
+earliest p q rec h k = grind (arith, nat_tests)
 
 either : (p q : Option Source) (P : Source → Type 0) → IfSome p P → IfSome q P → IfSome (option_or p q) P
 either None q P h k = k

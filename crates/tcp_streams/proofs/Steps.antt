@@ -8,7 +8,6 @@ use Rattle.tcp_streams.proofs.Words.{Pair, Opened, is_of, is_pair, pair_of, Memb
 use Rattle.tcp_streams.proofs.Words.{last_opening, members, opening_at, openings, opens, stray_of, strays, is_opening}
 use Rattle.tcp_streams.proofs.Words.{Falls, IsOpened, IsUnopened}
 use Rattle.std.specs.Prelude.{find, option_map}
-use Rattle.std.proofs.lemmas.Bool.{or_parts}
 use Rattle.std.proofs.lemmas.List.Elements.{filter-append}
 use Rattle.std.proofs.lemmas.List.Folds.{find-append}
 use Rattle.tcp_streams.specs.declared.standings.Standing.{Standing}
@@ -45,7 +44,7 @@ Stands-grown past s p (Some (Opened k)) l a h = record {
 -- no stray passes, so none is kept
 filter-none : (p : Segment → Bool) (xs : List Segment) → list_any p xs ≡ false → filter p xs ≡ []
 filter-none p [] h = refl
-filter-none p (x ∷ xs) h = rw (or_parts (p x) _ h).0 (filter-none p xs (or_parts (p x) _ h).1)
+filter-none p (x ∷ xs) h = grind (arith, filter-none p xs)
 
 -- the connection of an opening with these members
 abbrev connection_with : Segment → List Segment → Membership

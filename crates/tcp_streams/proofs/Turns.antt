@@ -1,22 +1,18 @@
 -- What a segment does, by what the table shows of its pair.
 use Rattle.tcp_streams.proofs.Words.{◌≡◌, ℕ, ◌≤◌, [], ◌∷◌, get_or, true, false, not, List, length, map, Some, slice_get}
-use Rattle.tcp_streams.proofs.Words.{sym, ap, ◌∙◌, arith, is_none, get_or_from_slice_get, slice_get_within, get_or-map}
+use Rattle.tcp_streams.proofs.Words.{sym, ap, ◌∙◌, arith, get_or_from_slice_get, slice_get_within, get_or-map}
 use Rattle.tcp_streams.proofs.Words.{length-append, length-map, Segment, Connection, Stray, Pair, Opened, Table, is_of}
-use Rattle.tcp_streams.proofs.Words.{pair_of, Membership, connection_of, first_strays, membership, opening_at, openings}
-use Rattle.tcp_streams.proofs.Words.{opens, stray_of, strays, is_request, standing_of, IsOpened, IsTableOf, IsUnopened}
+use Rattle.tcp_streams.proofs.Words.{pair_of, Membership, connection_of, first_strays, membership, openings, opens}
+use Rattle.tcp_streams.proofs.Words.{stray_of, strays, is_request, standing_of, IsOpened, IsTableOf, IsUnopened}
 use Rattle.std.proofs.lemmas.Option.{slice_get-map}
 use Rattle.std.proofs.lemmas.List.Sums.{count_by-le-length, length-filter}
 use Rattle.tcp_streams.specs.declared.table.Turn.TheVariants.{Opens, Joins}
 use Rattle.tcp_streams.specs.code.Past.{is_again}
 use Rattle.tcp_streams.specs.code.Table.{IsTurn}
-use Rattle.tcp_streams.proofs.Lists.{by_Bool}
 
 strays-few : (past : List Segment) → length (strays past) ≤ length past
 strays-few [] = omega arith
-strays-few (s ∷ past) =
-    by_Bool (is_none (opening_at s past))
-    (λ e. rw e (omega (arith, length-append (strays past) (s ∷ []), strays-few past)))
-    (λ e. rw e (omega (arith, strays-few past)))
+strays-few (s ∷ past) = grind (arith, length-append (strays past) (s ∷ []), strays-few past)
 
 -- what stands in the table at the index of a pair's last opening, or of its first stray
 module _ (past : List Segment) (t : Table) (shown : IsTableOf past t) (p : Pair) (k : ℕ) where
