@@ -1,14 +1,14 @@
 -- On flows: the same sources have the same flow; a side's payloads fit in the capture.
-use Rattle.tcp_streams.proofs.Words.{◌≡◌, ℕ, zero, suc, ◌+◌, ◌-◌, ◌<◌, ◌≤◌, List, [], ◌∷◌, ◌++◌, length, filter, drop}
-use Rattle.tcp_streams.proofs.Words.{slice_get, Option, None, Some, refl, sym, ◌∙◌, arith, option_to_list, false≢true}
-use Rattle.tcp_streams.proofs.Words.{sum_by-cons, none-some, Side, Client, Server, Packet, Carried, Segment}
-use Rattle.tcp_streams.proofs.Words.{PayloadsRise, Connection, Arrival, IsFlow, IsGap, IsSame, AreMembers, payload_sum}
-use Rattle.tcp_streams.proofs.Words.{is_sent_by, segments_of, side_segments, segment_of, Source, arrival}
-use Rattle.tcp_streams.proofs.Words.{end_of_offsets, payload_length}
+use Rattle.tcp_streams.proofs.Lists.{by_option, slice_get-drop}
+use Rattle.tcp_streams.proofs.Words.{◌≡◌, ℕ, zero, suc, ◌+◌, ◌-◌, ◌<◌, ◌≤◌, List, [], ◌∷◌, length, filter, drop}
+use Rattle.tcp_streams.proofs.Words.{slice_get, Option, None, Some, refl, sym, ◌∙◌, arith, false≢true, sum_by-cons}
+use Rattle.tcp_streams.proofs.Words.{none-some, Side, Client, Server, Packet, Carried, Segment, PayloadsRise}
+use Rattle.tcp_streams.proofs.Words.{Connection, Arrival, IsFlow, IsGap, IsSame, AreMembers, payload_sum, is_sent_by}
+use Rattle.tcp_streams.proofs.Words.{segments_of, side_segments, segment_of, Source, arrival, end_of_offsets}
+use Rattle.tcp_streams.proofs.Words.{payload_length}
 use Rattle.std.proofs.lemmas.List.{drop-drop}
 use Rattle.std.proofs.lemmas.List.Filters.{sum_by-filter_both}
 use Rattle.tcp_streams.proofs.PieceLemmas.{PayloadsRise-end, found-at}
-use Rattle.tcp_streams.proofs.Lists.{slice_get-drop}
 
 arrival-same : (F G : ℕ → Option Source) → IsSame F G → (o : ℕ) → o < end_of_offsets → arrival F o ≡ arrival G o
 arrival-same F G same zero lt = same zero lt
@@ -51,20 +51,16 @@ members-fit : (packets : List Packet) (done from size : ℕ) (members : List ℕ
     → PayloadsRise from size (drop done packets) → AreMembers done packets members
     → from + payload_sum (segments_of packets members) ≤ size
 members-fit packets done from size [] h m = omega (arith, PayloadsRise-end from size (drop done packets) h)
-members-fit packets done from size (n ∷ rest) h m = by (segment_of packets n) refl
-    (λ from' k. members-fit packets n from' size rest k m.2)
-  where
-    by : (p : Option Segment) → segment_of packets n ≡ p
-        → ((from' : ℕ) → PayloadsRise from' size (drop n packets)
-        → from' + payload_sum (segments_of packets rest) ≤ size)
-        → from + payload_sum (option_to_list p ++ segments_of packets rest) ≤ size
-    by None e next = absurd (false≢true (rw e at m.1))
-    by (Some s) e next =
-        let here = slice_get-drop done packets (n - 1 - done) (n - 1) (omega (arith, m.0)) ∙ found-at packets n s e in
-        let r = rise-drop from size (drop done packets) (n - 1 - done) s h here in
-        let place : done + suc (n - 1 - done) ≡ n = omega (arith, m.0) in
-        let later = rw (drop-drop (suc (n - 1 - done)) done packets, place) at r.2 in
-        omega (arith, r.0, r.1, sum_by-cons payload_length s (segments_of packets rest), next s.hi later)
+members-fit packets done from size (n ∷ rest) h m =
+    by_option (segment_of packets n)
+    (λ e. absurd (false≢true (rw e at m.1)))
+    (λ s e.
+    let here = slice_get-drop done packets (n - 1 - done) (n - 1) (omega (arith, m.0)) ∙ found-at packets n s e in
+    let r = rise-drop from size (drop done packets) (n - 1 - done) s h here in
+    let place : done + suc (n - 1 - done) ≡ n = omega (arith, m.0) in
+    let after = rw (drop-drop (suc (n - 1 - done)) done packets, place) at r.2 in
+    let later = members-fit packets n s.hi size rest after m.2 in
+    rw e (omega (arith, r.0, r.1, sum_by-cons payload_length s (segments_of packets rest))))
 
 -- what the two sides have together
 pub sides-sum : (connection : Connection) (segments : List Segment)

@@ -1,12 +1,11 @@
 -- On pieces that follow each other: they are the flow, laid out as they come.
-use Rattle.tcp_streams.proofs.Words.{◌≡◌, ℕ, ◌+◌, ◌-◌, ◌<◌, ◌≤◌, ◌^◌, List, [], ◌∷◌, ◌++◌, length, map, Option, None}
-use Rattle.tcp_streams.proofs.Words.{Some, get_or, refl, sym, ap, ◌∙◌, arith, if◌then◌else◌, IfSome, IsTrue}
-use Rattle.tcp_streams.proofs.Words.{option_and_then, filter_map, slice_range, lt-ltb, append-nil, map-append}
-use Rattle.tcp_streams.proofs.Words.{IfSome_then, Side, Packet, Segment, AreNumberedFrom, PayloadsRise, TimesFit}
-use Rattle.tcp_streams.proofs.Words.{Interval, Connection, Arrival, Flow, AreMembers, bytes_of, IsAssembled}
+use Rattle.tcp_streams.proofs.Lists.{by_option, by_Bool}
+use Rattle.tcp_streams.proofs.Words.{◌≡◌, ℕ, ◌+◌, ◌-◌, ◌<◌, ◌≤◌, ◌^◌, List, [], ◌∷◌, ◌++◌, length, map, None, Some}
+use Rattle.tcp_streams.proofs.Words.{get_or, refl, sym, ap, ◌∙◌, arith, IfSome, IsTrue, filter_map, slice_range, lt-ltb}
+use Rattle.tcp_streams.proofs.Words.{append-nil, map-append, IfSome_then, Side, Packet, AreNumberedFrom, PayloadsRise}
+use Rattle.tcp_streams.proofs.Words.{TimesFit, Interval, Connection, Arrival, Flow, AreMembers, bytes_of, IsAssembled}
 use Rattle.tcp_streams.proofs.Words.{AreCaptured, IsInterval, at, arrival_with, arrivals_after, arrivals_in, bytes_in}
 use Rattle.tcp_streams.proofs.Words.{member_piece, piece, width, is_sent_by, segment_of, end_of_offsets}
-use Rattle.tcp_streams.proofs.Lists.{by_Bool}
 use Rattle.tcp_streams.proofs.PieceLemmas.{AreRising, member-shown, piece-is, sound-found}
 use Rattle.tcp_streams.proofs.RunLemmas.{Follows, IsRunOf, bytes_in-push, run-flow, run-size, run-timely, run_end}
 use Rattle.tcp_streams.proofs.Sides.{assembled, intervals-captured, side-pieces}
@@ -21,21 +20,18 @@ module _ (initial_number size : ℕ) (packets : List Packet) (connection : Conne
     (small : size < 2 ^ 31) (rise : PayloadsRise 0 size packets) (times : TimesFit packets)
     (numbered : AreNumberedFrom 1 packets) (members : AreMembers 0 packets connection.members.items) where
   member-inside : (m : ℕ) → 0 < m → IfSome (member_piece initial_number packets connection side m) (IsInside size)
-  member-inside m some = by (segment_of packets m) refl
-    where
-      by : (p : Option Segment) → segment_of packets m ≡ p
-          → IfSome (option_and_then (piece initial_number)
-          (option_and_then (λ s. if is_sent_by connection side s then Some s else None) p)) (IsInside size)
-      by None e = tt
-      by (Some s) e =
-          let stands = (sound-found packets size rise times numbered m s some e).stands in
-          by_Bool (is_sent_by connection side s)
-          (λ sent. rw sent (IfSome_then (piece initial_number s) (piece-is initial_number size small s stands)
-          (λ x is. record {
-            interval = record { some = is.some; counts = is.counts; room = omega (arith, is.within, stands.within) };
-            within = omega (arith, is.within, stands.within);
-          })))
-          (λ other. rw other tt)
+  member-inside m some =
+      by_option (segment_of packets m)
+      (λ e. rw e tt)
+      (λ s e.
+      let stands = (sound-found packets size rise times numbered m s some e).stands in
+      rw e (by_Bool (is_sent_by connection side s)
+      (λ sent. rw sent (IfSome_then (piece initial_number s) (piece-is initial_number size small s stands)
+      (λ x is. record {
+        interval = record { some = is.some; counts = is.counts; room = omega (arith, is.within, stands.within) };
+        within = omega (arith, is.within, stands.within);
+      })))
+      (λ other. rw other tt)))
 
   pub shown-inside : (shown : List ℕ) (k : ℕ) (x : Interval) → shown ≡ connection.members.items → k < length shown
       → Some x ≡ member_piece initial_number packets connection side (get_or shown k 0) → IsInside size x

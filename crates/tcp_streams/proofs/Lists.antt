@@ -1,9 +1,10 @@
 -- Cases of a test; lists by index, and lists to which one may be added.
-use Rattle.tcp_streams.proofs.Words.{◌≡◌, ℕ, ◌+◌, ◌-◌, ◌<◌, ◌≤◌, List, ◌++◌, length, take, drop, slice_get, ◌∙◌, arith}
-use Rattle.tcp_streams.proofs.Words.{slice_range, common_steps, length-take-le, Bool, true, false, [], ◌∷◌, get_or}
-use Rattle.tcp_streams.proofs.Words.{Some, ◌⊎◌, inl, inr, refl, ap, nat_lt, All, le-ltb, lt-ltb, All-head, All-tail, at}
-use Rattle.tcp_streams.proofs.Words.{map, set, sym, AllPairs, list_any, get_or-map, length-map, map-append}
-use Rattle.tcp_streams.proofs.Words.{list_any-append, get_or_from_slice_get, slice_get_within, Segment, with_if}
+use Rattle.tcp_streams.proofs.Words.{Option, None, ◌≡◌, ℕ, ◌+◌, ◌-◌, ◌<◌, ◌≤◌, List, ◌++◌, length, take, drop}
+use Rattle.tcp_streams.proofs.Words.{slice_get, ◌∙◌, arith, slice_range, common_steps, length-take-le, Bool, true}
+use Rattle.tcp_streams.proofs.Words.{false, [], ◌∷◌, get_or, Some, ◌⊎◌, inl, inr, refl, ap, nat_lt, All, le-ltb, lt-ltb}
+use Rattle.tcp_streams.proofs.Words.{All-head, All-tail, at, map, set, sym, AllPairs, list_any, get_or-map, length-map}
+use Rattle.tcp_streams.proofs.Words.{map-append, list_any-append, get_or_from_slice_get, slice_get_within, Segment}
+use Rattle.tcp_streams.proofs.Words.{with_if}
 use Rattle.std.proofs.lemmas.Option.{gets}
 use Rattle.std.proofs.lemmas.List.{length-drop, get_or-set_other, get_or-set_same, length-set, same_lists}
 use Rattle.std.proofs.Common.{◌≢◌}
@@ -21,6 +22,11 @@ by_lt a b below not_below =
 pub by_Bool : {G : Type 0} (b : Bool) → (b ≡ true → G) → (b ≡ false → G) → G
 by_Bool true holds fails = holds refl
 by_Bool false holds fails = fails refl
+
+-- and by an option
+pub by_option : {X G : Type 0} (o : Option X) → (o ≡ None → G) → ((x : X) → o ≡ Some x → G) → G
+by_option None nothing something = nothing refl
+by_option (Some x) nothing something = something x refl
 
 module _ {X : Type 0} where
   pub slice_get-left : (xs ys : List X) (i : ℕ) → i < length xs → slice_get (xs ++ ys) i ≡ slice_get xs i

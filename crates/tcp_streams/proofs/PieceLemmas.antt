@@ -1,18 +1,18 @@
 -- On the pieces of a side's segments: they bring what the segments bring.
-use Rattle.tcp_streams.proofs.Words.{◌≡◌, ℕ, zero, suc, ◌+◌, ◌-◌, ◌%◌, ◌<◌, ◌≤◌, ◌^◌, Bool, List, [], ◌∷◌, ◌++◌, length}
+use Rattle.tcp_streams.proofs.Lists.{by_option, by_Bool, by_lt}
+use Rattle.tcp_streams.proofs.Words.{◌≡◌, ℕ, zero, suc, ◌+◌, ◌-◌, ◌%◌, ◌<◌, ◌≤◌, ◌^◌, Bool, List, [], ◌∷◌, length}
 use Rattle.tcp_streams.proofs.Words.{filter, get_or, slice_get, Option, None, Some, ◌⊎◌, refl, sym, ◌∙◌, arith, IsSome}
 use Rattle.tcp_streams.proofs.Words.{if◌then◌else◌, nat_lt, All, IfSome, option_and_then, filter_map, option_or}
-use Rattle.tcp_streams.proofs.Words.{option_to_list, lt-ltb, nat_tests, IfSome_then, none-some, All-cons}
-use Rattle.tcp_streams.proofs.Words.{All-nil, sum_by-cons, width, Side, Packet, Carried, Segment, AreNumberedFrom}
-use Rattle.tcp_streams.proofs.Words.{PayloadsRise, TimesFit, Interval, Connection, IsInterval, IsCaptured, IsSame, at}
-use Rattle.tcp_streams.proofs.Words.{member_piece, piece, size_of, AreMembers, payload_sum, is_sent_by, segments_of}
-use Rattle.tcp_streams.proofs.Words.{segment_in, segment_of, Source, end_of_offsets, payload_length, source}
+use Rattle.tcp_streams.proofs.Words.{option_to_list, lt-ltb, nat_tests, IfSome_then, none-some, All-cons, All-nil}
+use Rattle.tcp_streams.proofs.Words.{sum_by-cons, width, Side, Packet, Carried, Segment, AreNumberedFrom, PayloadsRise}
+use Rattle.tcp_streams.proofs.Words.{TimesFit, Interval, Connection, IsInterval, IsCaptured, IsSame, at, member_piece}
+use Rattle.tcp_streams.proofs.Words.{piece, size_of, AreMembers, payload_sum, is_sent_by, segments_of, segment_in}
+use Rattle.tcp_streams.proofs.Words.{segment_of, Source, end_of_offsets, payload_length, source}
 use Rattle.std.specs.List.{cons_option}
 use Rattle.tcp_streams.specs.code.Interval.{PayloadsFit, stretch}
 use Rattle.tcp_streams.specs.laws.Flows.{ByteHasOffset}
 use Rattle.tcp_streams.specs.Sequence.{brings, distance, earlier_of, start_of}
 use Rattle.tcp_streams.proofs.IntervalLemmas.{at-append}
-use Rattle.tcp_streams.proofs.Lists.{by_Bool, by_lt}
 
 -- a payload that stands in the capture
 pub record StandsIn (size : ℕ) (s : Segment) : Type 0 where
@@ -224,16 +224,15 @@ module _ (packets : List Packet) (size : ℕ) (rise : PayloadsRise 0 size packet
   pub members-sound : (test : Segment → Bool) (low : ℕ) (members : List ℕ) → AreMembers low packets members
       → AreSound size low (filter test (segments_of packets members))
   members-sound test low [] h = tt
-  members-sound test low (m ∷ rest) h = by (segment_of packets m) refl (members-sound test m rest h.2)
-    where
-      by : (p : Option Segment) → segment_of packets m ≡ p → AreSound size m (filter test (segments_of packets rest))
-          → AreSound size low (filter test (option_to_list p ++ segments_of packets rest))
-      by None e later = AreSound-weaker size m low _ (omega (arith, h.0)) later
-      by (Some s) e later =
-          let sound = sound-found m s (omega (arith, h.0)) e in
-          by_Bool (test s)
-          (λ e. rw e (sound.stands, omega (arith, sound.numbered, h.0), sound.timely, rw sound.numbered later))
-          (λ e. rw e (AreSound-weaker size m low _ (omega (arith, h.0)) later))
+  members-sound test low (m ∷ rest) h =
+      let later = members-sound test m rest h.2 in
+      by_option (segment_of packets m)
+      (λ e. rw e (AreSound-weaker size m low _ (omega (arith, h.0)) later))
+      (λ s e.
+      let sound = sound-found m s (omega (arith, h.0)) e in
+      rw e (by_Bool (test s)
+      (λ t. rw t (sound.stands, omega (arith, sound.numbered, h.0), sound.timely, rw sound.numbered later))
+      (λ t. rw t (AreSound-weaker size m low _ (omega (arith, h.0)) later))))
 
 -- the members' pieces are the pieces of the side's segments
 pub member-pieces : (initial_number : ℕ) (packets : List Packet) (connection : Connection) (side : Side)
