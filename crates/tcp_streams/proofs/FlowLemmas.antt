@@ -1,146 +1,73 @@
 -- On flows: the same sources have the same flow; a side's payloads fit in the capture.
-use Rattle.std.proofs.Common.{◌≡◌, ℕ, zero, suc, ◌+◌, ◌-◌, ◌<◌, ◌≤◌, Bool, true, false, not, List, [], ◌∷◌, ◌++◌}
-use Rattle.std.proofs.Common.{length, filter, drop, slice_get, Option, None, Some, refl, sym, ap, subst, ◌∙◌, arith}
-use Rattle.std.proofs.Common.{IsSome}
-use Rattle.std.specs.Prelude.{if◌then◌else◌, IsSomeAnd}
-use Rattle.std.specs.Option.{option_to_list}
-use Rattle.std.proofs.lemmas.List.Sums.{sum_by-cons}
-use Rattle.audit_terms.specs.declared.sides.Side.{Side}
-use Rattle.audit_terms.specs.declared.sides.Side.TheVariants.{Client, Server}
-use Rattle.packet_heads.specs.declared.packets.Packet.{Packet}
-use Rattle.packet_heads.specs.declared.packets.Packet.TheVariants.{Segment as Carried, Skipped, Refused}
-use Rattle.packet_heads.specs.declared.packets.Segment.{Segment}
-use Rattle.packet_heads.specs.code.Order.{PayloadsRise}
-use Rattle.tcp_streams.specs.declared.members.Connection.{Connection}
-use Rattle.tcp_streams.specs.declared.streams.Arrival.{Arrival}
-use Rattle.tcp_streams.specs.Flow.{IsArrivalOf, IsFlow, IsGap, arrival_at}
-use Rattle.tcp_streams.specs.code.Interval.{IsSame}
-use Rattle.tcp_streams.specs.code.Orderly.{AreMembers, payload_sum}
-use Rattle.tcp_streams.specs.Members.{is_sent_by, segments_of, side_segments}
-use Rattle.tcp_streams.specs.Packets.{segment_of}
-use Rattle.tcp_streams.specs.Pair.{is_endpoint}
-use Rattle.tcp_streams.specs.Sequence.{Source, arrival, end_of_offsets, later_of, payload_length}
-use Rattle.tcp_streams.proofs.PieceLemmas.{found-at}
-use Rattle.tcp_streams.proofs.Elements.{slice_get-drop}
+use Rattle.tcp_streams.proofs.Lists.{by_option, slice_get-drop}
+use Rattle.tcp_streams.proofs.Words.{◌≡◌, ℕ, zero, suc, ◌+◌, ◌-◌, ◌<◌, ◌≤◌, List, [], ◌∷◌, length, filter, drop}
+use Rattle.tcp_streams.proofs.Words.{slice_get, Option, None, Some, refl, sym, ◌∙◌, arith, false≢true, sum_by-cons}
+use Rattle.tcp_streams.proofs.Words.{none-some, Side, Client, Server, Packet, Carried, Segment, PayloadsRise}
+use Rattle.tcp_streams.proofs.Words.{Connection, Arrival, IsFlow, IsGap, IsSame, AreMembers, payload_sum, is_sent_by}
+use Rattle.tcp_streams.proofs.Words.{segments_of, side_segments, segment_of, Source, arrival, end_of_offsets}
+use Rattle.tcp_streams.proofs.Words.{payload_length}
+use Rattle.std.proofs.lemmas.List.{drop-drop}
+use Rattle.std.proofs.lemmas.List.Filters.{sum_by-filter_both}
+use Rattle.tcp_streams.proofs.PieceLemmas.{PayloadsRise-end, found-at}
 
 arrival-same : (F G : ℕ → Option Source) → IsSame F G → (o : ℕ) → o < end_of_offsets → arrival F o ≡ arrival G o
 arrival-same F G same zero lt = same zero lt
-arrival-same F G same (suc o) lt =
-    ap (λ p. later_of p (F (suc o))) (arrival-same F G same o (omega (arith, lt)))
-    ∙ ap (later_of (arrival G o)) (same (suc o) lt)
+arrival-same F G same (suc o) lt = rw (arrival-same F G same o (omega (arith, lt)), same (suc o) lt)
 
 -- where two sources are the same at each offset that counts, a flow of one is a flow of the other
 pub IsFlow-same : (capture : List ℕ) (F G : ℕ → Option Source) (bytes : List ℕ) (arrivals : List Arrival)
     (gap : Option ℕ)
     → IsSame F G → IsFlow capture F bytes arrivals gap → IsFlow capture G bytes arrivals gap
-IsFlow-same capture F G bytes arrivals gap same h = record {
-  run = record {
-    within = h.run.within;
-    covered = λ o lt. subst IsSome (same o (omega (arith, lt, h.run.within))) (h.run.covered o lt);
-    longest = λ lt. sym (same (length bytes) lt) ∙ h.run.longest lt;
-  };
-  bytes_are = λ o lt. subst (λ p. IsSomeAnd p (λ (s : Source). slice_get capture s.index ≡ slice_get bytes o))
-      (same o (omega (arith, lt, h.run.within))) (h.bytes_are o lt);
-  rises = h.rises;
-  arrivals_are = λ o lt. subst (λ p. IsSomeAnd (arrival_at arrivals o) (λ (a : Arrival). IsArrivalOf a p))
-      (arrival-same F G same o (omega (arith, lt, h.run.within))) (h.arrivals_are o lt);
-  gap_is = by gap h.gap_is;
-}
+IsFlow-same capture F G bytes arrivals gap same h =
+    let counts = λ (o : ℕ) (lt : o < length bytes). (let c : o < end_of_offsets = omega (arith, h.run.within) in c) in
+    record {
+      run = record {
+        within = h.run.within;
+        covered = λ o lt. rw (same o (counts o lt)) at (h.run.covered o lt);
+        longest = λ lt. sym (same (length bytes) lt) ∙ h.run.longest lt;
+      };
+      bytes_are = λ o lt. rw (same o (counts o lt)) at (h.bytes_are o lt);
+      rises = h.rises;
+      arrivals_are = λ o lt. rw (arrival-same F G same o (counts o lt)) at (h.arrivals_are o lt);
+      gap_is = by gap h.gap_is;
+    }
   where
     by : (g : Option ℕ) → IsGap F (length bytes) g → IsGap G (length bytes) g
     by None k = λ o a b. sym (same o b) ∙ k o a b
-    by (Some n) k = (k.0, (k.1.0, k.1.1, k.1.2, subst IsSome (same k.1.0 k.1.2) k.1.3))
-
--- payloads that lie apart, one after the other
-abbrev LieApart : ℕ → ℕ → List Segment → Type 0
-LieApart from size [] = from ≤ size
-LieApart from size (s ∷ later) = (from ≤ s.lo) × (s.lo ≤ s.hi) × LieApart s.hi size later
-
-LieApart-sum : (from size : ℕ) (segments : List Segment) → LieApart from size segments
-    → from + payload_sum segments ≤ size
-LieApart-sum from size [] h = omega (arith, h)
-LieApart-sum from size (s ∷ later) h = omega (
-  arith,
-  h.0,
-  h.1,
-  sum_by-cons payload_length s later,
-  LieApart-sum s.hi size later h.2,
-)
+    by (Some n) (is, (o, past, low, some)) = (is, (o, past, low, rw (same o low) at some))
 
 rise-drop : (from size : ℕ) (packets : List Packet) (k : ℕ) (s : Segment) → PayloadsRise from size packets
     → slice_get packets k ≡ Some (Carried s)
     → (from ≤ s.lo) × (s.lo ≤ s.hi) × PayloadsRise s.hi size (drop (suc k) packets)
-rise-drop from size [] k s h at' = absurd (let e : None ≡ Some (Carried s) = at' in cc)
-rise-drop from size (Carried x ∷ rest) zero s h at' =
-    let same : x ≡ s = let e : Some (Carried x) ≡ Some (Carried s) = at' in cc in
-    subst (λ (y : Segment). (from ≤ y.lo) × (y.lo ≤ y.hi) × PayloadsRise y.hi size rest) same h
-rise-drop from size (Skipped k ∷ rest) zero s h at' = absurd (let e : Some (Skipped k) ≡ Some (Carried s) = at' in cc)
-rise-drop from size (Refused k ∷ rest) zero s h at' = absurd (let e : Some (Refused k) ≡ Some (Carried s) = at' in cc)
+rise-drop from size [] k s h at' = absurd (none-some (Carried s) at')
+rise-drop from size (Carried x ∷ rest) zero s h at' = rw (let same : s ≡ x = cc in same) h
+rise-drop from size (_ ∷ rest) zero s h at' = absurd cc
 rise-drop from size (Carried x ∷ rest) (suc i) s h at' =
     let r = rise-drop x.hi size rest i s h.2 at' in (omega (arith, h.0, h.1, r.0), r.1, r.2)
-rise-drop from size (Skipped k ∷ rest) (suc i) s h at' = rise-drop from size rest i s h at'
-rise-drop from size (Refused k ∷ rest) (suc i) s h at' = rise-drop from size rest i s h at'
-
-drop-drop : {X : Type 0} (a b n : ℕ) (xs : List X) → n ≡ a + b → drop b (drop a xs) ≡ drop n xs
-drop-drop zero b n xs e = ap (λ k. drop k xs) (omega (arith, e))
-drop-drop (suc a) b zero xs e = absurd (omega (arith, e))
-drop-drop (suc a) zero (suc n) [] e = refl
-drop-drop (suc a) (suc b) (suc n) [] e = refl
-drop-drop (suc a) b (suc n) (x ∷ xs) e = drop-drop a b n xs (omega (arith, e))
-
-PayloadsRise-end : (from size : ℕ) (packets : List Packet) → PayloadsRise from size packets → from ≤ size
-PayloadsRise-end from size [] h = h
-PayloadsRise-end from size (Carried s ∷ rest) h = omega (arith, h.0, h.1, PayloadsRise-end s.hi size rest h.2)
-PayloadsRise-end from size (Skipped k ∷ rest) h = PayloadsRise-end from size rest h
-PayloadsRise-end from size (Refused k ∷ rest) h = PayloadsRise-end from size rest h
+rise-drop from size (_ ∷ rest) (suc i) s h at' = rise-drop from size rest i s h at'
 
 -- the payloads of rising members lie apart
-members-apart : (packets : List Packet) (done from size : ℕ) (members : List ℕ)
+members-fit : (packets : List Packet) (done from size : ℕ) (members : List ℕ)
     → PayloadsRise from size (drop done packets) → AreMembers done packets members
-    → LieApart from size (segments_of packets members)
-members-apart packets done from size [] h m = PayloadsRise-end from size (drop done packets) h
-members-apart packets done from size (n ∷ rest) h m = by (segment_of packets n) refl m.1
-    (λ from' k. members-apart packets n from' size rest k m.2)
-  where
-    by : (p : Option Segment) → segment_of packets n ≡ p → IsSome p
-        → ((from' : ℕ) → PayloadsRise from' size (drop n packets) → LieApart from' size (segments_of packets rest))
-        → LieApart from size (option_to_list p ++ segments_of packets rest)
-    by None e some next = absurd (let no : false ≡ true = some in cc)
-    by (Some s) e some next =
-        let here : slice_get (drop done packets) (n - 1 - done) ≡ Some (Carried s) = slice_get-drop done packets
-        (n - 1 - done) (n - 1) (omega (arith, m.0)) ∙ found-at packets n s e in
-        let r = rise-drop from size (drop done packets) (n - 1 - done) s h here in
-        let whole : drop (suc (n - 1 - done)) (drop done packets) ≡ drop n packets = drop-drop done
-        (suc (n - 1 - done)) n packets (omega (arith, m.0)) in
-        (r.0, r.1, next s.hi (subst (λ (l : List Packet). PayloadsRise s.hi size l) whole r.2))
+    → from + payload_sum (segments_of packets members) ≤ size
+members-fit packets done from size [] h m = omega (arith, PayloadsRise-end from size (drop done packets) h)
+members-fit packets done from size (n ∷ rest) h m =
+    by_option (segment_of packets n)
+    (λ e. absurd (false≢true (rw e at m.1)))
+    (λ s e.
+    let here = slice_get-drop done packets (n - 1 - done) (n - 1) (omega (arith, m.0)) ∙ found-at packets n s e in
+    let r = rise-drop from size (drop done packets) (n - 1 - done) s h here in
+    let place : done + suc (n - 1 - done) ≡ n = omega (arith, m.0) in
+    let after = rw (drop-drop (suc (n - 1 - done)) done packets, place) at r.2 in
+    let later = members-fit packets n s.hi size rest after m.2 in
+    rw e (omega (arith, r.0, r.1, sum_by-cons payload_length s (segments_of packets rest))))
 
 -- what the two sides have together
 pub sides-sum : (connection : Connection) (segments : List Segment)
     → payload_sum (filter (is_sent_by connection Client) segments) + payload_sum
     (filter (is_sent_by connection Server) segments) ≡ payload_sum segments
-sides-sum connection [] = refl
-sides-sum connection (s ∷ later) = by (is_endpoint s.from connection.client) (sides-sum connection later)
-  where
-    by : (b : Bool) → payload_sum (filter (is_sent_by connection Client) later) + payload_sum
-        (filter (is_sent_by connection Server) later) ≡ payload_sum later
-        → payload_sum (if b then s ∷ filter (is_sent_by connection Client) later else filter
-        (is_sent_by connection Client) later)
-        + payload_sum (if not b then s ∷ filter (is_sent_by connection Server) later else filter
-        (is_sent_by connection Server) later) ≡ payload_sum (s ∷ later)
-    by true h = omega (
-      arith,
-      h,
-      sum_by-cons payload_length s later,
-      sum_by-cons payload_length s
-          (filter (is_sent_by connection Client) later),
-    )
-    by false h = omega (
-      arith,
-      h,
-      sum_by-cons payload_length s later,
-      sum_by-cons payload_length s
-          (filter (is_sent_by connection Server) later),
-    )
+sides-sum connection segments =
+    sum_by-filter_both (is_sent_by connection Client) (is_sent_by connection Server) (λ s. refl) payload_length segments
 
 -- both sides' payloads fit in the capture together
 pub sides-fit : (packets : List Packet) (size : ℕ) (connection : Connection) → PayloadsRise 0 size packets
@@ -151,8 +78,7 @@ sides-fit packets size connection rise members =
     omega (
       arith,
       sides-sum connection (segments_of packets connection.members.items),
-      LieApart-sum 0 size (segments_of packets connection.members.items)
-          (members-apart packets 0 0 size connection.members.items rise members),
+      members-fit packets 0 0 size connection.members.items rise members,
     )
 
 pub side-fits : (packets : List Packet) (size : ℕ) (connection : Connection) (side : Side) → PayloadsRise 0 size packets

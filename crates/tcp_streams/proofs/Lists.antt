@@ -1,86 +1,113 @@
--- On lists by index.
-use Rattle.std.proofs.Common.{◌≡◌, ◌≢◌, ℕ, zero, suc, Bool, true, false, ◌||◌, List, [], ◌∷◌, ◌++◌, length, map, set}
-use Rattle.std.proofs.Common.{None, Some, slice_get, ◌⊎◌, inl, inr, refl, sym, ap, ◌∙◌, arith}
-use Rattle.std.specs.List.{list_any}
+-- Cases of a test; lists by index, and lists to which one may be added.
+use Rattle.tcp_streams.proofs.Words.{Option, None, ◌≡◌, ℕ, ◌+◌, ◌-◌, ◌<◌, ◌≤◌, List, ◌++◌, length, take, drop}
+use Rattle.tcp_streams.proofs.Words.{slice_get, ◌∙◌, arith, slice_range, common_steps, length-take-le, Bool, true}
+use Rattle.tcp_streams.proofs.Words.{false, [], ◌∷◌, get_or, Some, ◌⊎◌, inl, inr, refl, ap, nat_lt, All, le-ltb, lt-ltb}
+use Rattle.tcp_streams.proofs.Words.{All-head, All-tail, at, map, set, sym, AllPairs, list_any, get_or-map, length-map}
+use Rattle.tcp_streams.proofs.Words.{map-append, list_any-append, get_or_from_slice_get, slice_get_within, Segment}
+use Rattle.tcp_streams.proofs.Words.{with_if}
+use Rattle.std.proofs.lemmas.Option.{gets}
+use Rattle.std.proofs.lemmas.List.{length-drop, get_or-set_other, get_or-set_same, length-set, same_lists}
+use Rattle.std.proofs.Common.{◌≢◌}
+use Rattle.std.proofs.lemmas.Bool.{cases_lt}
 use Rattle.std.specs.Prelude.{Result, Ok, Err, OnOk, IfOk}
-use Rattle.tcp_streams.specs.Membership.{with_if}
-use Rattle.packet_heads.specs.declared.packets.Segment.{Segment}
+use Rattle.std.proofs.lemmas.List.Elements.{All-push}
+use Rattle.std.proofs.lemmas.List.Quantifiers.{all_pairs_push}
+
+-- a goal, by whether one number is below another
+pub by_lt : {G : Type 0} (a b : ℕ) → (nat_lt a b ≡ true → a < b → G) → (nat_lt a b ≡ false → b ≤ a → G) → G
+by_lt a b below not_below =
+    elim (cases_lt a b) [ inl h ↦ below (lt-ltb a b h) h | inr h ↦ not_below (le-ltb a b h) h ]
+
+-- the same by any test
+pub by_Bool : {G : Type 0} (b : Bool) → (b ≡ true → G) → (b ≡ false → G) → G
+by_Bool true holds fails = holds refl
+by_Bool false holds fails = fails refl
+
+-- and by an option
+pub by_option : {X G : Type 0} (o : Option X) → (o ≡ None → G) → ((x : X) → o ≡ Some x → G) → G
+by_option None nothing something = nothing refl
+by_option (Some x) nothing something = something x refl
 
 module _ {X : Type 0} where
-  -- an element of a list with one more at its end
-  pub slice_get-push : (xs : List X) (y : X) (i : ℕ) (x : X) → slice_get (xs ++ y ∷ []) i ≡ Some x
-      → (slice_get xs i ≡ Some x) ⊎ ((i ≡ length xs) × (y ≡ x))
-  slice_get-push [] y zero x h = inr (refl, cc)
-  slice_get-push [] y (suc i) x h = inl h
-  slice_get-push (z ∷ xs) y zero x h = inl h
-  slice_get-push (z ∷ xs) y (suc i) x h =
-      elim (slice_get-push xs y i x h) as
-      (λ _. (slice_get xs i ≡ Some x) ⊎ ((suc i ≡ suc (length xs)) × (y ≡ x))) [
-        | inl p ↦ inl p
-        | inr p ↦ inr
-            (ap suc p.0, p.1)
-      ]
+  pub slice_get-left : (xs ys : List X) (i : ℕ) → i < length xs → slice_get (xs ++ ys) i ≡ slice_get xs i
+  slice_get-left xs ys i lt = grind (arith, common_steps, gets)
 
-  -- the elements stay where they are
-  pub slice_get-pushed : (xs : List X) (y : X) (i : ℕ) (x : X) → slice_get xs i ≡ Some x
-      → slice_get (xs ++ y ∷ []) i ≡ Some x
-  slice_get-pushed [] y i x h = absurd (let e : None ≡ Some x = h in cc)
-  slice_get-pushed (z ∷ xs) y zero x h = h
-  slice_get-pushed (z ∷ xs) y (suc i) x h = slice_get-pushed xs y i x h
+  pub slice_get-right : (xs ys : List X) (i j : ℕ) → i ≡ length xs + j → slice_get (xs ++ ys) i ≡ slice_get ys j
+  slice_get-right xs ys i j e = grind (arith, common_steps, gets)
+
+  slice_get-take : (n : ℕ) (xs : List X) (i : ℕ) → i < n → slice_get (take n xs) i ≡ slice_get xs i
+  slice_get-take n xs i lt = grind (arith, common_steps, gets)
+
+  pub slice_get-drop : (a : ℕ) (xs : List X) (i j : ℕ) → j ≡ a + i → slice_get (drop a xs) i ≡ slice_get xs j
+  slice_get-drop a xs i j e = grind (arith, common_steps, gets)
+
+  -- a part of a list
+  pub slice_get-slice_range : (xs : List X) (a b i j : ℕ) → j ≡ a + i → j < b → slice_get (slice_range xs a b) i
+      ≡ slice_get xs j
+  slice_get-slice_range xs a b i j e lt = slice_get-take (b - a) (drop a xs) i (omega (arith, e, lt))
+      ∙ slice_get-drop a xs i j e
+
+  pub length-slice_range : (xs : List X) (a b : ℕ) → a ≤ b → b ≤ length xs → length (slice_range xs a b) ≡ b - a
+  length-slice_range xs a b le le' = length-take-le (b - a) (drop a xs) (omega (arith, length-drop a xs, le, le'))
 
   pub slice_get-last : (xs : List X) (y : X) → slice_get (xs ++ y ∷ []) (length xs) ≡ Some y
-  slice_get-last [] y = refl
-  slice_get-last (z ∷ xs) y = slice_get-last xs y
+  slice_get-last xs y = slice_get-right xs (y ∷ []) (length xs) 0 (omega arith)
 
   -- two functions that agree at each element
-  pub map-agree : {Y : Type 0} (f g : X → Y) (xs : List X) → ((k : ℕ) (x : X) → slice_get xs k ≡ Some x → f x ≡ g x)
-      → map f xs ≡ map g xs
+  pub map-agree : {Y : Type 0} (f g : X → Y) (xs : List X) → All (λ x. f x ≡ g x) xs → map f xs ≡ map g xs
   map-agree f g [] h = refl
-  map-agree f g (x ∷ xs) h = (λ i. h 0 x refl i ∷ map-agree f g xs (λ k y e. h (suc k) y e) i)
+  map-agree f g (x ∷ xs) h =
+      (λ i. All-head (λ x. f x ≡ g x) x xs h i ∷ map-agree f g xs (All-tail (λ x. f x ≡ g x) x xs h) i)
 
-  -- two functions that agree at each element but one
-  pub map-but : {Y : Type 0} (f g : X → Y) (xs : List X) (k : ℕ) (o : X) → slice_get xs k ≡ Some o
-      → ((j : ℕ) (x : X) → j ≢ k → slice_get xs j ≡ Some x → f x ≡ g x) → map g xs ≡ set (map f xs) k (g o)
-  map-but f g [] k o at h = absurd (let e : None ≡ Some o = at in cc)
-  map-but f g (x ∷ xs) zero o at h =
-      let same : x ≡ o = cc in
-      (λ i. g (same i) ∷ sym (map-agree f g xs (λ j y e. h (suc j) y (λ p. omega arith) e)) i)
-  map-but f g (x ∷ xs) (suc k) o at h =
-      (λ i. sym (h 0 x (λ p. omega arith) refl) i ∷ map-but f g xs k o at
-      (λ j y ne e. h (suc j) y (λ p. ne (omega arith)) e) i)
+  -- and one element more
+  pub map-pushed : {Y : Type 0} (f g : X → Y) (xs : List X) (x : X) (y : Y) → All (λ x. f x ≡ g x) xs → y ≡ g x
+      → map f xs ++ y ∷ [] ≡ map g (xs ++ x ∷ [])
+  map-pushed f g xs x y h e = rw (map-append g xs (x ∷ []), map-agree f g xs h, e)
 
-  -- a test that no element passes keeps nothing
-  pub list_any-at : (p : X → Bool) (xs : List X) (k : ℕ) (x : X) → slice_get xs k ≡ Some x → p x ≡ true
-      → list_any p xs ≡ true
-  list_any-at p [] k x at h = absurd (let e : None ≡ Some x = at in cc)
-  list_any-at p (y ∷ xs) zero x at h = let same : y ≡ x = cc in ap (λ b. b || list_any p xs) (ap p same ∙ h)
-  list_any-at p (y ∷ xs) (suc k) x at h = by (p y) (list_any-at p xs k x at h)
-    where
-      by : (b : Bool) → list_any p xs ≡ true → (b || list_any p xs) ≡ true
-      by true rest = refl
-      by false rest = rest
+  -- two functions that agree at each element but one, from which the others stand apart
+  pub map-but : {Y : Type 0} (R : X → X → Type 0) (f g : X → Y) (xs : List X) (k : ℕ) (o : X) → AllPairs R xs
+      → slice_get xs k ≡ Some o → ((x : X) → R x o ⊎ R o x → f x ≡ g x) → map g xs ≡ set (map f xs) k (g o)
+  map-but R f g xs k o apart at agree =
+      same_lists (map g xs) (set (map f xs) k (g o)) (simp (length-set, length-map)) (λ j d lt.
+      let within : j < length xs = rw (length-map xs g) at lt in
+      let here : get_or xs k o ≡ o = get_or_from_slice_get xs k o o at in
+      let inside = slice_get_within xs k o at in
+      let other = λ (ne : j ≢ k) (r : R (get_or xs j o) o ⊎ R o (get_or xs j o)).
+      get_or-map g xs j o d within ∙ sym (agree (get_or xs j o) r) ∙ sym (get_or-map f xs j o d within)
+      ∙ sym (get_or-set_other (map f xs) k j (g o) d ne) in
+      by_lt j k
+      (λ _ before. other (λ e. omega arith) (inl (rw here at (apart j k o before inside))))
+      (λ _ le. by_lt k j
+      (λ _ past. other (λ e. omega arith) (inr (rw here at (apart k j o past within))))
+      (λ _ ge. rw (let same : j ≡ k = omega arith in same)
+      (get_or-map g xs k o d inside ∙ ap g here
+      ∙ sym (get_or-set_same (map f xs) k (g o) d (omega (arith, length-map xs f)))))))
 
--- what stands in a list stands in it at the same index where one may be added
-pub slice_get-with_if : (test : Bool) (xs : List Segment) (s : Segment) (k : ℕ) (x : Segment) → slice_get xs k ≡ Some x
-    → slice_get (with_if test xs s) k ≡ Some x
-slice_get-with_if true xs s k x h = slice_get-pushed xs s k x h
-slice_get-with_if false xs s k x h = h
+module _ (b : Bool) (xs : List Segment) (s : Segment) where
+  -- what stands in a list stands in it at the same index where one may be added
+  pub slice_get-with_if : (k : ℕ) (x : Segment) → slice_get xs k ≡ Some x → slice_get (with_if b xs s) k ≡ Some x
+  slice_get-with_if k x h = grind (arith, slice_get-left xs (s ∷ []) k (slice_get_within xs k x h))
+
+  pub All-with_if : (P : Segment → Type 0) → All P xs → (b ≡ true → P s) → All P (with_if b xs s)
+  All-with_if P h new = by_Bool b (λ e. rw e (All-push P xs s h (new e))) (λ e. rw e h)
+
+  pub AllPairs-with_if : (R : Segment → Segment → Type 0) → AllPairs R xs → (b ≡ true → All (λ x. R x s) xs)
+      → AllPairs R (with_if b xs s)
+  AllPairs-with_if R h new = by_Bool b (λ e. rw e (all_pairs_push R xs s h (new e))) (λ e. rw e h)
+
+  pub list_any-with_if : (test : Segment → Bool) → list_any test xs ≡ true → list_any test (with_if b xs s) ≡ true
+  list_any-with_if test h = grind (arith, list_any-append test xs (s ∷ []))
+
+  -- one that doesn't pass counts for nothing
+  pub list_any-other : (test : Segment → Bool) → test s ≡ false → list_any test (with_if b xs s) ≡ list_any test xs
+  list_any-other test h = grind (arith, list_any-append test xs (s ∷ []))
 
 -- several clauses of one call that went well
-pub on_ok : {A E P W : Type 0} (r : Result A E) → (P → W) → OnOk r P → OnOk r W
-on_ok (Ok x) f h = f h
-on_ok (Err e) f h = tt
+pub on_ok_3 : {A E P Q R W : Type 0} (r : Result A E) → OnOk r P → OnOk r Q → OnOk r R → (P → Q → R → W) → OnOk r W
+on_ok_3 (Ok x) p q h f = f p q h
+on_ok_3 (Err e) p q h f = tt
 
-pub on_ok_3 : {A E P Q R W : Type 0} (r : Result A E) → (P → Q → R → W) → OnOk r P → OnOk r Q → OnOk r R → OnOk r W
-on_ok_3 (Ok x) f p q h = f p q h
-on_ok_3 (Err e) f p q h = tt
-
--- what a call gave, seen otherwise
-pub if_ok : {A E : Type 0} (r : Result A E) (P Q : A → Type 0) → ((x : A) → P x → Q x) → IfOk r P → IfOk r Q
-if_ok (Ok x) P Q f h = f x h
-if_ok (Err e) P Q f h = tt
-
-pub if_ok_4 : {A E : Type 0} (r : Result A E) (P Q R S W : A → Type 0) → ((x : A) → P x → Q x → R x → S x → W x)
-    → IfOk r P → IfOk r Q → IfOk r R → IfOk r S → IfOk r W
-if_ok_4 (Ok x) P Q R S W f p q h k = f x p q h k
-if_ok_4 (Err e) P Q R S W f p q h k = tt
+pub if_ok_4 : {A E : Type 0} {P Q R S W : A → Type 0} (r : Result A E) → IfOk r P → IfOk r Q → IfOk r R → IfOk r S
+    → ((x : A) → P x → Q x → R x → S x → W x) → IfOk r W
+if_ok_4 (Ok x) p q h k f = f x p q h k
+if_ok_4 (Err e) p q h k f = tt

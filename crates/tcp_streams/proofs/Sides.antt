@@ -1,25 +1,10 @@
 -- On the pieces of a side: what lies apart and brings what they bring makes the side's flow.
-use Rattle.std.proofs.Common.{◌≡◌, ℕ, List, ◌<◌, ◌≤◌, ◌^◌, length, sym, ap, subst, ◌∙◌, arith}
-use Rattle.std.specs.Prelude.{All, IfSome, IsTrue}
-use Rattle.std.specs.List.{filter_map}
-use Rattle.audit_terms.specs.declared.sides.Side.{Side}
-use Rattle.packet_heads.specs.declared.packets.Packet.{Packet}
-use Rattle.packet_heads.specs.declared.packets.Segment.{Segment}
-use Rattle.packet_heads.specs.code.Order.{AreNumberedFrom, PayloadsRise, TimesFit}
-use Rattle.tcp_streams.specs.declared.interval.Interval.{Interval}
-use Rattle.tcp_streams.specs.declared.members.Connection.{Connection}
-use Rattle.tcp_streams.specs.declared.streams.Flow.{Flow}
-use Rattle.tcp_streams.specs.code.Orderly.{AreTimely, AreMembers, payload_sum}
-use Rattle.tcp_streams.specs.Bytes.{bytes_of}
-use Rattle.tcp_streams.specs.Flow.{IsFlow}
-use Rattle.tcp_streams.specs.code.Assembled.{IsAssembled}
-use Rattle.tcp_streams.specs.code.Interval.{AreCaptured, IsInterval, IsCaptured, IsSame, at, member_piece, piece}
-use Rattle.tcp_streams.specs.code.Interval.{size_of}
-use Rattle.tcp_streams.specs.Members.{side_segments}
-use Rattle.tcp_streams.specs.Sequence.{source}
+use Rattle.tcp_streams.proofs.Words.{◌≡◌, ℕ, List, ◌<◌, ◌≤◌, ◌^◌, length, sym, ◌∙◌, arith, IsTrue, filter_map}
+use Rattle.tcp_streams.proofs.Words.{IfSome_then, Side, Packet, Segment, AreNumberedFrom, PayloadsRise, TimesFit}
+use Rattle.tcp_streams.proofs.Words.{Interval, Connection, Flow, AreTimely, AreMembers, bytes_of, IsFlow, IsAssembled}
+use Rattle.tcp_streams.proofs.Words.{AreCaptured, IsSame, at, member_piece, size_of, is_sent_by, side_segments, source}
 use Rattle.tcp_streams.proofs.FlowLemmas.{IsFlow-same, side-fits}
-use Rattle.tcp_streams.proofs.PieceLemmas.{AreSound, member-pieces, pieces-intervals, pieces-same, pieces-size}
-use Rattle.tcp_streams.proofs.PieceLemmas.{side-sound, source-first, source-captured}
+use Rattle.tcp_streams.proofs.PieceLemmas.{ArePiecesOf, member-pieces, members-sound, pieces-are}
 
 module _ (initial_number : ℕ) (capture : List ℕ) (packets : List Packet) (connection : Connection) (side : Side)
     (small : length capture < 2 ^ 31) (numbered : AreNumberedFrom 1 packets)
@@ -30,49 +15,31 @@ module _ (initial_number : ℕ) (capture : List ℕ) (packets : List Packet) (co
   abbrev segments : List Segment
   segments = side_segments packets connection side
 
-  pub side-is_sound : AreSound (length capture) 0 (side_segments packets connection side)
-  side-is_sound = side-sound packets (length capture) connection side rise times numbered members
-
-  pub side-pieces : pieces ≡ filter_map (piece initial_number) (side_segments packets connection side)
-  side-pieces = are ∙ member-pieces initial_number packets connection side connection.members.items
-
-  pub pieces-valid : All IsInterval pieces
-  pieces-valid = subst (λ (l : List Interval). All IsInterval l) (sym side-pieces)
-      (pieces-intervals initial_number (length capture) 0 segments small side-is_sound)
+  pub side-pieces : ArePiecesOf initial_number (length capture) 0 (side_segments packets connection side) pieces
+  side-pieces = rw (are, member-pieces initial_number packets connection side connection.members.items)
+      (pieces-are initial_number (length capture) small 0 segments
+      (members-sound packets (length capture) rise times numbered (is_sent_by connection side) 0 _ members))
 
   module _ (intervals : List Interval) (same : IsSame (at intervals) (at pieces))
       (size : size_of intervals ≤ size_of pieces) where
     sources-same : IsSame (at intervals) (source initial_number segments)
-    sources-same = λ o lt. same o lt ∙ ap (λ (l : List Interval). at l o) side-pieces
-        ∙ sym (pieces-same initial_number (length capture) 0 segments small side-is_sound o lt)
-        ∙ sym (source-first initial_number (length capture) 0 segments o side-is_sound)
+    sources-same = λ o lt. same o lt ∙ sym (side-pieces.same o lt)
 
     pub intervals-captured : AreCaptured (length capture) (at intervals)
-    intervals-captured = λ o lt. subst (λ p. IfSome p (IsCaptured (length capture))) (sym (sources-same o lt))
-        (source-captured initial_number (length capture) 0 segments side-is_sound o)
-
-    intervals-within : size_of intervals ≤ payload_sum segments
-    intervals-within = omega (arith, size, ap size_of side-pieces, pieces-size initial_number segments)
+    intervals-captured = λ o lt.
+        rw (sources-same o lt)
+        (IfSome_then (source initial_number segments o) (side-pieces.cited o) (λ x cited. cited.1))
 
     -- a flow of the intervals is the side's
     pub assembled : (f : Flow) → IsTrue f.started → length (bytes_of f) ≤ size_of intervals
         → IsFlow capture (at intervals) (bytes_of f) f.arrivals.items f.gap → AreTimely f.arrivals.items
         → IsAssembled capture packets connection side initial_number f
     assembled f started within flow timely =
+        let fits = side-fits packets (length capture) connection side rise members in
+        let fit = side-pieces.fit in
         record {
           started = started;
           is_flow = IsFlow-same capture _ _ (bytes_of f) f.arrivals.items f.gap sources-same flow;
-          within = omega (arith, within, intervals-within);
-          orderly = record {
-            short = omega (
-              arith,
-              within,
-              intervals-within,
-              side-fits packets (length capture) connection side
-                  rise members,
-              small,
-            );
-            rises = flow.rises;
-            timely = timely;
-          };
+          within = omega (arith, fit);
+          orderly = record { short = omega (arith, fit, fits); rises = flow.rises; timely = timely };
         }

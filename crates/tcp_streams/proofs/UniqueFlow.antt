@@ -1,40 +1,31 @@
 -- Two flows of the same sources are one.
-use Rattle.std.proofs.Common.{◌≡◌, ℕ, suc, ◌<◌, ◌≤◌, Bool, true, false, List, [], ◌∷◌, length, slice_get, Option, None}
-use Rattle.std.proofs.Common.{Some, inl, inr, refl, sym, ap, subst, ◌∙◌, arith, IsSome}
-use Rattle.std.specs.Prelude.{if◌then◌else◌, nat_lt, IsSomeAnd}
-use Rattle.tcp_streams.specs.declared.streams.Arrival.{Arrival}
-use Rattle.tcp_streams.specs.Arrivals.{Rises}
-use Rattle.tcp_streams.specs.Flow.{IsArrivalOf, IsFlow, IsGap, IsLongestRun, arrival_at}
-use Rattle.tcp_streams.specs.Sequence.{Source, arrival}
-use Rattle.tcp_streams.proofs.IntervalLemmas.{lt-false, lt-true, lt_cases}
+use Rattle.tcp_streams.proofs.Words.{◌≡◌, ℕ, ◌<◌, ◌≤◌, List, [], ◌∷◌, length, slice_get, Option, None, Some, refl, sym}
+use Rattle.tcp_streams.proofs.Words.{ap, ◌∙◌, arith, IsSome, IfSome, IsSomeAnd, false≢true, le-ltb, lt-ltb, IfSome_then}
+use Rattle.tcp_streams.proofs.Words.{Arrival, Rises, IsArrivalOf, IsFlow, IsGap, arrival_at, Source, arrival}
+use Rattle.std.specs.Prelude.{unwrap_or}
+use Rattle.std.proofs.lemmas.Grind.{same_number_lists}
+use Rattle.std.proofs.lemmas.Option.{unwrap_or-slice_get}
+use Rattle.tcp_streams.specs.Flow.{IsLongestRun}
+use Rattle.tcp_streams.proofs.Lists.{by_lt}
 
 -- lists of one length that agree at each index are equal
 same-lists : (xs ys : List ℕ) → length xs ≡ length ys → ((i : ℕ) → i < length xs → slice_get xs i ≡ slice_get ys i)
     → xs ≡ ys
-same-lists [] [] e h = refl
-same-lists [] (y ∷ ys) e h = absurd (omega (arith, e))
-same-lists (x ∷ xs) [] e h = absurd (omega (arith, e))
-same-lists (x ∷ xs) (y ∷ ys) e h =
-    let first : x ≡ y = let k : Some x ≡ Some y = h 0 (omega arith) in cc in
-    (λ i. first i ∷ same-lists xs ys (omega (arith, e)) (λ j lt. h (suc j) (omega (arith, lt))) i)
+same-lists xs ys e h = same_number_lists xs ys e (λ k lt.
+    sym (unwrap_or-slice_get xs k 0) ∙ ap (λ p. unwrap_or p 0) (h k lt) ∙ unwrap_or-slice_get ys k 0)
+
+none_and_some : (p : Option Source) → p ≡ None → IsSome p → ⊥
+none_and_some p none some = false≢true (rw none at some)
 
 -- no longest run is shorter than another
 not-shorter : (F : ℕ → Option Source) (n m : ℕ) → IsLongestRun F n → IsLongestRun F m → n < m → ⊥
-not-shorter F n m h k lt =
-    let none : F n ≡ None = h.longest (omega (arith, lt, k.within)) in
-    let some : IsSome (F n) = k.covered n lt in
-    let no : false ≡ true = subst IsSome none some in cc
+not-shorter F n m h k lt = none_and_some (F n) (h.longest (omega (arith, k.within))) (k.covered n lt)
 
 run-unique : (F : ℕ → Option Source) (n m : ℕ) → IsLongestRun F n → IsLongestRun F m → n ≡ m
 run-unique F n m h k =
-    elim (lt_cases n m) as (λ _. n ≡ m) [
-      | inl a ↦ absurd (not-shorter F n m h k a.1)
-      | inr a ↦ elim (lt_cases m n) as (λ _. n ≡ m) [
-        | inl b ↦ absurd (not-shorter F m n k h b.1)
-        | inr b ↦ omega
-            (arith, a.1, b.1)
-      ]
-    ]
+    by_lt n m
+    (λ _ lt. absurd (not-shorter F n m h k lt))
+    (λ _ le. by_lt m n (λ _ lt. absurd (not-shorter F m n k h lt)) (λ _ ge. omega arith))
 
 -- one source, one byte
 same-byte : (p : Option Source) (capture : List ℕ) (x y : Option ℕ)
@@ -46,98 +37,76 @@ same-byte (Some s) capture x y h k = sym h ∙ k
 gap-unique : (F : ℕ → Option Source) (n : ℕ) (g k : Option ℕ) → IsGap F n g → IsGap F n k → g ≡ k
 gap-unique F n None None h k = refl
 gap-unique F n (Some g) (Some k) h j = ap Some (h.0 ∙ sym j.0)
-gap-unique F n None (Some k) h j =
-    let none : F j.1.0 ≡ None = h j.1.0 j.1.1 j.1.2 in let some : IsSome (F j.1.0) = j.1.3 in let no : false
-    ≡ true = subst IsSome none some in absurd (let e = no in cc)
-gap-unique F n (Some g) None h j =
-    let none : F h.1.0 ≡ None = j h.1.0 h.1.1 h.1.2 in let some : IsSome (F h.1.0) = h.1.3 in let no : false
-    ≡ true = subst IsSome none some in absurd (let e = no in cc)
+gap-unique F n None (Some k) h (is, (o, past, low, some)) = absurd (none_and_some (F o) (h o past low) some)
+gap-unique F n (Some g) None (is, (o, past, low, some)) j = absurd (none_and_some (F o) (j o past low) some)
 
--- entries that bear the same record and time
-abbrev Agree : Option Arrival → Option Arrival → Type 0
-Agree p q = IsSomeAnd p (λ (e : Arrival). IsSomeAnd q (λ (f : Arrival). (e.rec ≡ f.rec) × (e.nanos ≡ f.nanos)))
-
-agree-source : (s : Option Source) (p q : Option Arrival) → IsSomeAnd p (λ (a : Arrival). IsArrivalOf a s)
-    → IsSomeAnd q (λ (a : Arrival). IsArrivalOf a s) → Agree p q
-agree-source s None q h k = h
-agree-source s (Some e) None h k = k
-agree-source None (Some e) (Some f) h k = absurd h
-agree-source (Some x) (Some e) (Some f) h k = (h.0 ∙ sym k.0, h.1 ∙ sym k.1)
-
-agree-sym : (p q : Option Arrival) → Agree p q → Agree q p
-agree-sym None q h = absurd h
-agree-sym (Some e) None h = absurd h
-agree-sym (Some e) (Some f) h = (sym h.0, sym h.1)
+-- entries that bear one source bear the same record and time
+same-rec : (s : Option Source) (e f : Arrival) → IsArrivalOf e s → IsArrivalOf f s
+    → (e.rec ≡ f.rec) × (e.nanos ≡ f.nanos)
+same-rec None e f h k = absurd h
+same-rec (Some x) e f h k = (h.0 ∙ sym k.0, h.1 ∙ sym k.1)
 
 Rises-end : (low rec : ℕ) (l : List Arrival) (n : ℕ) → Rises low rec l n → low ≤ n
 Rises-end low rec [] n h = omega (arith, h)
 Rises-end low rec (e ∷ l) n h = omega (arith, h.0, Rises-end e.upto e.rec l n h.2)
 
--- later entries have later records
-entry-later : (low rec : ℕ) (l : List Arrival) (n o : ℕ) → Rises low rec l n → (f : Arrival) → arrival_at l o ≡ Some f
-    → rec < f.rec
-entry-later low rec [] n o h f at = absurd (let e : None ≡ Some f = at in cc)
-entry-later low rec (e ∷ l) n o h f at = by (nat_lt o e.upto)
-    (λ k. omega (arith, h.1, entry-later e.upto e.rec l n o h.2 f k)) at
-  where
-    by : (b : Bool) → (arrival_at l o ≡ Some f → rec < f.rec) → (if b then Some e else arrival_at l o) ≡ Some f
-        → rec < f.rec
-    by true rest k = let same : e ≡ f = let j : Some e ≡ Some f = k in cc in subst (λ (a : Arrival). rec < a.rec) same
-        h.1
-    by false rest k = rest k
+-- entries have later records than the one before them
+entry-later : (low rec : ℕ) (l : List Arrival) (n o : ℕ) → Rises low rec l n
+    → IfSome (arrival_at l o) (λ (f : Arrival). rec < f.rec)
+entry-later low rec [] n o h = tt
+entry-later low rec (e ∷ l) n o h =
+    by_lt o e.upto
+    (λ t _. rw t h.1)
+    (λ t _. rw t (IfSome_then (arrival_at l o) (entry-later e.upto e.rec l n o h.2) (λ f lt. omega (arith, h.1))))
 
-entry-here : (e : Arrival) (l : List Arrival) (o : ℕ) → o < e.upto → arrival_at (e ∷ l) o ≡ Some e
-entry-here e l o lt = ap (λ b. if b then Some e else arrival_at l o) (lt-true o e.upto lt)
+-- so the entry after e does not bear the source of one of its record
+other-rec : (s : Option Source) (p : Option Arrival) (e f : Arrival) → IfSome p (λ (g : Arrival). e.rec < g.rec)
+    → IsSomeAnd p (λ (g : Arrival). IsArrivalOf g s) → IsArrivalOf f s → e.rec ≡ f.rec → ⊥
+other-rec s None e f later here there same = here
+other-rec s (Some g) e f later here there same = omega (arith, later, (same-rec s g f here there).0)
 
-entry-past : (e : Arrival) (l : List Arrival) (o : ℕ) → e.upto ≤ o → arrival_at (e ∷ l) o ≡ arrival_at l o
-entry-past e l o le = ap (λ b. if b then Some e else arrival_at l o) (lt-false o e.upto le)
+-- two lists of entries of one flow, from an offset on
+module _ (S : ℕ → Option Source) (n : ℕ) where
+  abbrev Bear : ℕ → List Arrival → Type 0
+  Bear low l = (o : ℕ) → low ≤ o → o < n → IsSomeAnd (arrival_at l o) (λ (a : Arrival). IsArrivalOf a (S o))
 
--- an entry does not end before the other's
-not-before : (low rec rec' n : ℕ) (e f : Arrival) (l k : List Arrival) → Rises low rec (e ∷ l) n
-    → Rises low rec' (f ∷ k) n
-    → ((o : ℕ) → low ≤ o → o < n → Agree (arrival_at (e ∷ l) o) (arrival_at (f ∷ k) o)) → e.upto < f.upto → ⊥
-not-before low rec rec' n e f l k h j agree lt =
-    let end : f.upto ≤ n = Rises-end f.upto f.rec k n j.2 in
-    let first : Agree (Some e) (Some f) =
-    subst (λ p. Agree p (Some f)) (entry-here e l low h.0)
-    (subst (λ q. Agree (arrival_at (e ∷ l) low) q) (entry-here f k low j.0)
-    (agree low (omega arith) (omega (arith, j.0, end)))) in
-    let second : Agree (arrival_at l e.upto) (Some f) =
-    subst (λ p. Agree p (Some f)) (entry-past e l e.upto (omega arith))
-    (subst (λ q. Agree (arrival_at (e ∷ l) e.upto) q) (entry-here f k e.upto lt)
-    (agree e.upto (omega (arith, h.0)) (omega (arith, lt, end)))) in
-    by (arrival_at l e.upto) refl second first.0
-  where
-    by : (p : Option Arrival) → arrival_at l e.upto ≡ p → Agree p (Some f) → e.rec ≡ f.rec → ⊥
-    by None q a same = a
-    by (Some g) q a same = let later : e.rec < g.rec = entry-later e.upto e.rec l n e.upto h.2 g q in absurd
-        (omega (arith, later, a.0, same))
+  module _ (low rec rec' : ℕ) (e f : Arrival) (l k : List Arrival) (h : Rises low rec (e ∷ l) n)
+      (j : Rises low rec' (f ∷ k) n) (are : Bear low (e ∷ l)) (bear : Bear low (f ∷ k)) where
+    first : (e.rec ≡ f.rec) × (e.nanos ≡ f.nanos)
+    first =
+        let end = Rises-end e.upto e.rec l n h.2 in
+        let within : low < n = omega (arith, h.0) in
+        same-rec (S low) e f (rw (lt-ltb low e.upto h.0) at (are low (omega arith) within))
+        (rw (lt-ltb low f.upto j.0) at (bear low (omega arith) within))
 
-arrivals-unique : (low rec rec' n : ℕ) (l k : List Arrival) → Rises low rec l n → Rises low rec' k n
-    → ((o : ℕ) → low ≤ o → o < n → Agree (arrival_at l o) (arrival_at k o)) → l ≡ k
-arrivals-unique low rec rec' n [] [] h j agree = refl
-arrivals-unique low rec rec' n [] (f ∷ k) h j agree = absurd (omega (arith, h, j.0, Rises-end f.upto f.rec k n j.2))
-arrivals-unique low rec rec' n (e ∷ l) [] h j agree = absurd (omega (arith, j, h.0, Rises-end e.upto e.rec l n h.2))
-arrivals-unique low rec rec' n (e ∷ l) (f ∷ k) h j agree =
-    let same : e.upto ≡ f.upto = elim (lt_cases e.upto f.upto) as (λ _. e.upto ≡ f.upto) [
-      | inl a ↦ absurd (not-before low rec rec' n e f l k h j agree a.1)
-      | inr a ↦ elim (lt_cases f.upto e.upto) as (λ _. e.upto ≡ f.upto) [
-        | inl b ↦ absurd (not-before low rec' rec n f e k l j h
-            (λ o p q. agree-sym (arrival_at (e ∷ l) o) (arrival_at (f ∷ k) o) (agree o p q)) b.1)
-        | inr b ↦ omega (arith, a.1, b.1)
-      ]
-    ] in
-    let end : e.upto ≤ n = Rises-end e.upto e.rec l n h.2 in
-    let first : Agree (Some e) (Some f) =
-    subst (λ p. Agree p (Some f)) (entry-here e l low h.0)
-    (subst (λ q. Agree (arrival_at (e ∷ l) low) q) (entry-here f k low j.0)
-    (agree low (omega arith) (omega (arith, h.0, end)))) in
-    let entry : e ≡ f = (λ i. record { upto = same i; rec = first.0 i; nanos = first.1 i }) in
-    let rest : l ≡ k = arrivals-unique e.upto e.rec f.rec n l k h.2 (subst (λ m. Rises m f.rec k n) (sym same) j.2)
-    (λ o p q. subst (λ x. Agree x (arrival_at k o)) (entry-past e l o p)
-    (subst (λ y. Agree (arrival_at (e ∷ l) o) y) (entry-past f k o (omega (arith, p, same)))
-    (agree o (omega (arith, p, h.0)) q))) in
-    (λ i. entry i ∷ rest i)
+    -- an entry does not end before the other's
+    not-before : e.upto < f.upto → ⊥
+    not-before lt =
+        let end = Rises-end f.upto f.rec k n j.2 in
+        let after : low ≤ e.upto = omega (arith, h.0) in
+        let within : e.upto < n = omega arith in
+        other-rec (S e.upto) (arrival_at l e.upto) e f (entry-later e.upto e.rec l n e.upto h.2)
+        (rw (le-ltb e.upto e.upto (omega arith)) at (are e.upto after within))
+        (rw (lt-ltb e.upto f.upto lt) at (bear e.upto after within)) first.0
+
+  arrivals-unique : (low rec rec' : ℕ) (l k : List Arrival) → Rises low rec l n → Rises low rec' k n
+      → Bear low l → Bear low k → l ≡ k
+  arrivals-unique low rec rec' [] [] h j are bear = refl
+  arrivals-unique low rec rec' [] (f ∷ k) h j are bear = absurd (omega (arith, h, j.0, Rises-end f.upto f.rec k n j.2))
+  arrivals-unique low rec rec' (e ∷ l) [] h j are bear = absurd (omega (arith, j, h.0, Rises-end e.upto e.rec l n h.2))
+  arrivals-unique low rec rec' (e ∷ l) (f ∷ k) h j are bear =
+      let same : e.upto ≡ f.upto =
+      by_lt e.upto f.upto
+      (λ _ lt. absurd (not-before low rec rec' e f l k h j are bear lt))
+      (λ _ le. by_lt f.upto e.upto
+      (λ _ lt. absurd (not-before low rec' rec f e k l j h bear are lt))
+      (λ _ ge. omega arith)) in
+      let (recs, times) = first low rec rec' e f l k h j are bear in
+      let entry : e ≡ f = (λ i. record { upto = same i; rec = recs i; nanos = times i }) in
+      let rest : l ≡ k = arrivals-unique e.upto e.rec f.rec l k h.2 (rw same j.2)
+      (λ o p q. rw (le-ltb o e.upto p) at (are o (omega (arith, h.0)) q))
+      (λ o p q. rw (le-ltb o f.upto (omega arith)) at (bear o (omega (arith, h.0)) q)) in
+      (λ i. entry i ∷ rest i)
 
 -- the flow of a source is one
 pub IsFlow-unique : (capture : List ℕ) (F : ℕ → Option Source) (bytes bytes' : List ℕ)
@@ -148,9 +117,7 @@ IsFlow-unique capture F bytes bytes' arrivals arrivals' gap gap' h k =
     let size : length bytes ≡ length bytes' = run-unique F (length bytes) (length bytes') h.run k.run in (
       same-lists bytes bytes' size (λ o lt. same-byte (F o) capture (slice_get bytes o) (slice_get bytes' o)
           (h.bytes_are o lt) (k.bytes_are o (omega (arith, lt, size)))),
-      arrivals-unique 0 0 0 (length bytes) arrivals arrivals' h.rises
-          (subst (λ n. Rises 0 0 arrivals' n) (sym size) k.rises)
-          (λ o p lt. agree-source (arrival F o) (arrival_at arrivals o) (arrival_at arrivals' o) (h.arrivals_are o lt)
-          (k.arrivals_are o (omega (arith, lt, size)))),
-      gap-unique F (length bytes) gap gap' h.gap_is (subst (λ n. IsGap F n gap') (sym size) k.gap_is),
+      arrivals-unique (arrival F) (length bytes) 0 0 0 arrivals arrivals' h.rises (rw size k.rises)
+          (λ o p lt. h.arrivals_are o lt) (λ o p lt. k.arrivals_are o (omega (arith, lt, size))),
+      gap-unique F (length bytes) gap gap' h.gap_is (rw size k.gap_is),
     )

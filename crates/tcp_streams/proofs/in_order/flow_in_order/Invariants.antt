@@ -1,7 +1,4 @@
-use Rattle.std.proofs.Common.{take}
-use Rattle.std.specs.List.{filter_map}
-use Rattle.tcp_streams.specs.Bytes.{joined}
-use Rattle.tcp_streams.specs.code.Interval.{member_piece}
+use Rattle.tcp_streams.proofs.Words.{take, filter_map, joined, member_piece}
 use Rattle.tcp_streams.proofs.InOrder.{IsLaid}
 use Rattle.tcp_streams.proofs.in_order.flow_in_order.Given as goal
 

@@ -1,5 +1,4 @@
-use Rattle.std.proofs.Common.{◌≡◌, ◌++◌, drop}
-use Rattle.tcp_streams.specs.code.Interval.{arrivals_after, arrivals_in}
+use Rattle.tcp_streams.proofs.Words.{◌≡◌, ◌++◌, drop, arrivals_after, arrivals_in}
 use Rattle.tcp_streams.proofs.layout.arrivals_in.Given as goal
 
 abbrev pub invariant-loop-x : goal.invariant-loop-x

@@ -1,6 +1,4 @@
-use Rattle.std.proofs.Common.{◌≡◌, take}
-use Rattle.tcp_streams.specs.Bytes.{joined}
-use Rattle.tcp_streams.specs.code.Interval.{bytes_in}
+use Rattle.tcp_streams.proofs.Words.{◌≡◌, take, joined, bytes_in}
 use Rattle.tcp_streams.proofs.layout.pieces_in.Given as goal
 
 abbrev pub invariant-loop-x : goal.invariant-loop-x

@@ -1,5 +1,4 @@
-use Rattle.std.proofs.Common.{◌≡◌, ◌+◌, ◌-◌, ◌≤◌, drop, length}
-use Rattle.tcp_streams.specs.code.Interval.{run_length}
+use Rattle.tcp_streams.proofs.Words.{◌≡◌, ◌+◌, ◌-◌, ◌≤◌, drop, length, run_length}
 use Rattle.tcp_streams.proofs.layout.run_length.Given as goal
 
 abbrev pub invariant-loop-count : goal.invariant-loop-count

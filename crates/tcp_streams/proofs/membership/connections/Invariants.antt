@@ -1,6 +1,4 @@
-use Rattle.std.proofs.Common.{◌+◌, ◌-◌, ◌≤◌, length, take}
-use Rattle.tcp_streams.specs.code.Past.{past_of}
-use Rattle.tcp_streams.specs.code.Table.{IsTableOf}
+use Rattle.tcp_streams.proofs.Words.{◌+◌, ◌-◌, ◌≤◌, length, take, past_of, IsTableOf}
 use Rattle.tcp_streams.proofs.membership.connections.Given as goal
 
 -- the table shows the segments of the packets so far

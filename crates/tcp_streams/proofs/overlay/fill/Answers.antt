@@ -1,4 +1,4 @@
-use Rattle.std.proofs.Common.{◌++◌, sym, ap, ◌∙◌, arith}
+use Rattle.tcp_streams.proofs.Words.{common_steps, arith}
 use Rattle.tcp_streams.proofs.IntervalLemmas.{Spans-interval, clipped-last}
 use Rattle.tcp_streams.proofs.overlay.fill.Goals as goal
 use Rattle.tcp_streams.proofs.overlay.fill.Goals.{then-loop-index-test+else-later-index, else-loop-index-test}
@@ -12,13 +12,4 @@ push_part-requires-then-index-later c = Spans-interval _ _ c.args.later.now c.lo
 
 pub returns-in_ok-push_part-2-clause-added : goal.returns-in_ok-push_part-2-clause-added
 returns-in_ok-push_part-2-clause-added c =
-    elim c.loop-index-test.branch [
-      | then-loop-index-test+else-later-index w ↦
-          let over = w.if-later-index.false in
-          c.in_ok-push_part-2.ensures
-          ∙ ap (λ l. c.loop-index.out.items ++ l)
-          (sym (clipped-last c.args.low c.args.high _ _ c.args.later.now c.loop-index.index _
-          (omega arith) over c.requires.spans))
-          ∙ c.loop-index.invariant.makes
-      | else-loop-index-test w ↦ absurd (omega arith)
-    ]
+    grind (arith, common_steps, clipped-last)

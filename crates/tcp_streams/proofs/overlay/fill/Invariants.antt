@@ -1,5 +1,4 @@
-use Rattle.std.proofs.Common.{◌≡◌, ◌≤◌, ◌-◌, ◌++◌, drop, length}
-use Rattle.tcp_streams.specs.code.Interval.{HasPassed, clipped}
+use Rattle.tcp_streams.proofs.Words.{◌≡◌, ◌≤◌, ◌-◌, ◌++◌, drop, length, HasPassed, clipped}
 use Rattle.tcp_streams.proofs.overlay.fill.Given as goal
 
 abbrev pub invariant-loop-index : goal.invariant-loop-index

@@ -1,5 +1,4 @@
-use Rattle.std.proofs.Common.{◌≡◌, drop}
-use Rattle.tcp_streams.specs.code.Interval.{lie_apart}
+use Rattle.tcp_streams.proofs.Words.{◌≡◌, drop, lie_apart}
 use Rattle.tcp_streams.proofs.overlay.lie_apart.Given as goal
 
 -- what is left decides

@@ -1,5 +1,4 @@
-use Rattle.std.proofs.Common.{◌≡◌, ◌≤◌, ◌++◌, ◌^◌, drop, length}
-use Rattle.tcp_streams.specs.code.Interval.{HasPassed, Spans, overlay}
+use Rattle.tcp_streams.proofs.Words.{◌≡◌, ◌≤◌, ◌++◌, ◌^◌, drop, length, HasPassed, Spans, overlay}
 use Rattle.tcp_streams.proofs.overlay.overlay.Given as goal
 
 -- what is written and what is left make the whole

@@ -1,6 +1,4 @@
-use Rattle.std.proofs.Common.{◌≡◌, take}
-use Rattle.std.specs.List.{filter_map}
-use Rattle.tcp_streams.specs.code.Interval.{member_piece}
+use Rattle.tcp_streams.proofs.Words.{◌≡◌, take, filter_map, member_piece}
 use Rattle.tcp_streams.proofs.pieces.pieces_of.Given as goal
 
 abbrev pub invariant-loop-member : goal.invariant-loop-member

@@ -1,7 +1,4 @@
-use Rattle.std.proofs.Common.{Some, ap, ◌∙◌}
-use Rattle.std.specs.Prelude.{if◌then◌else◌}
-use Rattle.tcp_streams.specs.code.Pairs.{is_pair}
-use Rattle.tcp_streams.specs.code.Standings.{standing_of}
+use Rattle.tcp_streams.proofs.Words.{Some, ap, ◌∙◌, if◌then◌else◌, is_pair, standing_of}
 use Rattle.tcp_streams.proofs.standings.Standings.set.Goals as goal
 
 pub returns : goal.returns

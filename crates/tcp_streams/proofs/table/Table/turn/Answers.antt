@@ -1,76 +1,22 @@
-use Rattle.std.proofs.Common.{◌≡◌, ◌<◌, slice_get, vec_len, length, Some, None, sym, ap, ◌∙◌, map, arith}
-use Rattle.std.proofs.lemmas.List.{length-map}
-use Rattle.tcp_streams.specs.declared.standings.Standing.TheVariants.{Opened, Unopened}
-use Rattle.tcp_streams.specs.code.Past.{membership}
-use Rattle.tcp_streams.specs.code.Pairs.{pair_of}
-use Rattle.tcp_streams.specs.code.Standings.{standing_of}
-use Rattle.tcp_streams.proofs.Turns.{begins, counts, joins, joins_again, opened_in_range, opens_anew, opens_unknown}
-use Rattle.tcp_streams.proofs.Turns.{opens_unopened, mapped_at}
+use Rattle.tcp_streams.proofs.Words.{Some, sym, ap, ◌∙◌}
+use Rattle.tcp_streams.proofs.Turns.{joins, joins_again, opens_anew}
 use Rattle.tcp_streams.proofs.table.Table.turn.Goals as goal
 use Rattle.tcp_streams.proofs.table.Table.turn.Goals.{else-is_request-3-via-then-is_request-3+else-not-is_reopened_by}
 use Rattle.tcp_streams.proofs.table.Table.turn.Goals.{else-is_request-3-via-else-is_request-3}
 
-pub returns-then-is_request : goal.returns-then-is_request
-returns-then-is_request c =
-    let at : standing_of c.args.self.now.standings (pair_of c.args.segment.now) ≡ None = sym c.requires.standing
-    ∙ c.in-None.is in
-    λ past shown. opens_unknown past _ _ _ c.args.segment.now shown at (sym c.if-is_request.ensures)
-
-pub returns-else-is_request : goal.returns-else-is_request
-returns-else-is_request c =
-    let at : standing_of c.args.self.now.standings (pair_of c.args.segment.now) ≡ None = sym c.requires.standing
-    ∙ c.in-None.is in
-    λ past shown. begins past _ _ _ c.args.segment.now shown at (sym c.if-is_request.ensures)
-
-pub returns-then-is_request-2 : goal.returns-then-is_request-2
-returns-then-is_request-2 c =
-    let at : standing_of c.args.self.now.standings (pair_of c.args.segment.now) ≡ Some (Unopened c.in-Unopened.k) = sym
-    c.requires.standing ∙ c.in-Some.is ∙ ap Some c.in-Unopened.is in
-    λ past shown. opens_unopened past _ _ _ c.args.segment.now shown _ at (sym c.if-is_request-2.ensures)
-
-pub returns-else-is_request-2 : goal.returns-else-is_request-2
-returns-else-is_request-2 c =
-    let at : standing_of c.args.self.now.standings (pair_of c.args.segment.now) ≡ Some (Unopened c.in-Unopened.k) = sym
-    c.requires.standing ∙ c.in-Some.is ∙ ap Some c.in-Unopened.is in
-    λ past shown. counts past _ _ _ c.args.segment.now shown _ at (sym c.if-is_request-2.ensures)
-
-pub index-requires : goal.index-requires
-index-requires c =
-    let at : standing_of c.args.self.now.standings (pair_of c.args.segment.now) ≡ Some (Opened c.in-Opened.k) = sym
-    c.requires.standing ∙ c.in-Some.is ∙ ap Some c.in-Opened.is in
-    let lt : c.in-Opened.k < length (map membership c.args.self.now.opened.items) = opened_in_range c.requires.past.0 _
-    _ _ c.args.segment.now c.requires.past.1 _ at in
-    omega (arith, length-map c.args.self.now.opened.items membership, c.args.self.now.opened.ok.0)
-
 pub returns-then-not-is_reopened_by : goal.returns-then-not-is_reopened_by
-returns-then-not-is_reopened_by c =
-    let at : standing_of c.args.self.now.standings (pair_of c.args.segment.now) ≡ Some (Opened c.in-Opened.k) = sym
-    c.requires.standing ∙ c.in-Some.is ∙ ap Some c.in-Opened.is in
-    let lt : c.in-Opened.k < length (map membership c.args.self.now.opened.items) = opened_in_range c.requires.past.0 _
-    _ _ c.args.segment.now c.requires.past.1 _ at in
-    let in_range : c.in-Opened.k < vec_len c.args.self.now.opened = omega
-    (arith, length-map c.args.self.now.opened.items membership, c.args.self.now.opened.ok.0) in
-    let read : slice_get (map membership c.args.self.now.opened.items) c.in-Opened.k ≡ Some
-    (membership c.index.result.now) =
-    mapped_at membership c.args.self.now.opened.items (vec_len c.args.self.now.opened) _ _ c.args.self.now.opened.ok.0
-    in_range c.index.ensures in
-    λ past shown. opens_anew past _ _ _ c.args.segment.now shown _ (membership c.index.result.now) at read
+returns-then-not-is_reopened_by c = λ past shown.
+    opens_anew past c.args.self.now shown c.args.segment.now c.in-Opened.k
+    (sym c.requires.standing ∙ c.in-Some.is ∙ ap Some c.in-Opened.is) c.index.result.now c.index.ensures
     (sym c.if-is_request-3.ensures) (sym c.is_reopened_by.ensures ∙ c.if-not-is_reopened_by.true)
 
 pub returns-else-is_request-3 : goal.returns-else-is_request-3
 returns-else-is_request-3 c =
-    let at : standing_of c.args.self.now.standings (pair_of c.args.segment.now) ≡ Some (Opened c.in-Opened.k) = sym
-    c.requires.standing ∙ c.in-Some.is ∙ ap Some c.in-Opened.is in
-    let lt : c.in-Opened.k < length (map membership c.args.self.now.opened.items) = opened_in_range c.requires.past.0 _
-    _ _ c.args.segment.now c.requires.past.1 _ at in
-    let in_range : c.in-Opened.k < vec_len c.args.self.now.opened = omega
-    (arith, length-map c.args.self.now.opened.items membership, c.args.self.now.opened.ok.0) in
+    let at = sym c.requires.standing ∙ c.in-Some.is ∙ ap Some c.in-Opened.is in
     λ past shown. elim c.else-is_request-3.branch [
       | else-is_request-3-via-then-is_request-3+else-not-is_reopened_by w ↦
-          joins_again past _ _ _ c.args.segment.now shown _ (membership w.index.result.now) at
-          (mapped_at membership c.args.self.now.opened.items (vec_len c.args.self.now.opened) _ _
-          c.args.self.now.opened.ok.0 in_range w.index.ensures)
+          joins_again past c.args.self.now shown c.args.segment.now c.in-Opened.k at w.index.result.now w.index.ensures
           (sym w.if-is_request-3.ensures) (sym w.is_reopened_by.ensures ∙ w.if-not-is_reopened_by.false)
-      | else-is_request-3-via-else-is_request-3 w ↦ joins past _ _ _ c.args.segment.now shown _ at
-          (sym w.if-is_request-3.ensures)
+      | else-is_request-3-via-else-is_request-3 w ↦
+          joins past c.args.self.now shown c.args.segment.now c.in-Opened.k at (sym w.if-is_request-3.ensures)
     ]
