@@ -1,8 +1,7 @@
 -- Lists of rows: where one is replaced, where one is added, and where all are moved.
 use Rattle.std.proofs.Common.{◌≡◌, ◌≢◌, ℕ, zero, suc, ◌+◌, ◌-◌, ◌<◌, ◌==◌, nat_lt, Bool, true, false, List, [], ◌∷◌}
-use Rattle.std.proofs.Common.{◌++◌, length}
-use Rattle.std.proofs.Common.{if◌then◌else◌, slice_get, slice_index_or, slice_set, take, drop, Some, refl, sym, ap, ◌∙◌}
-use Rattle.std.proofs.Common.{subst, arith}
+use Rattle.std.proofs.Common.{◌++◌, length, if◌then◌else◌, slice_get, slice_index_or, slice_set, take, drop, Some, refl}
+use Rattle.std.proofs.Common.{sym, ap, ◌∙◌, subst, arith}
 use Rattle.std.specs.Bool.{OnTrue}
 use Rattle.std.proofs.lemmas.Bool.Decides.{nat_tests}
 use Rattle.std.proofs.lemmas.List.{append-nil, take_all, drop_all}
@@ -16,8 +15,7 @@ use Rattle.audit_terms.specs.code.runs.Streams.{frame_step}
 use Rattle.quiet_pass.specs.declared.rows.Row.{Row}
 use Rattle.quiet_pass.specs.code.Standing.{AreUnshown}
 use Rattle.quiet_pass.specs.code.Rows.{stream_of, entry_in, AreRisingFrom, AreRising, IsPast, IsRowOf, IsRowAfter}
-use Rattle.quiet_pass.specs.code.Rows.{IsOpened}
-use Rattle.quiet_pass.specs.code.Rows.{HasMet, IsRowMoved, AreMoved}
+use Rattle.quiet_pass.specs.code.Rows.{IsOpened, HasMet, IsRowMoved, AreMoved}
 
 same-stream : (a b : ℕ) → a ≡ b → (a == b) ≡ true
 same-stream a b e = grind (arith, nat_tests)

@@ -4,6 +4,5 @@ pub mod SaidNumbers
 pub mod SilentLemmas
 pub mod WalkLemmas
 pub mod QuietLemmas
-pub mod FrameLemmas
 pub mod RunLemmas
 pub mod QuietStreams

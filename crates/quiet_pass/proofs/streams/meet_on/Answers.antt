@@ -1,7 +1,7 @@
 use Rattle.std.proofs.Common.{Bool, sym, ◌∙◌, subst}
 use Rattle.std.proofs.lemmas.Option.{same_Some}
 use Rattle.quiet_pass.specs.code.Rows.{HasMet}
-use Rattle.quiet_pass.proofs.IdleFrames.{idle-met}
+use Rattle.quiet_pass.proofs.StreamFrames.{idle-met}
 use Rattle.quiet_pass.proofs.streams.meet_on.Goals as goal
 
 pub returns-then-is_quiet : goal.returns-then-is_quiet

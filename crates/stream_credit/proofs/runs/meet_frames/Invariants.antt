@@ -1,5 +1,5 @@
 use Rattle.std.proofs.Common.{drop}
-use Rattle.stream_credit.proofs.FrameLemmas.{MeetsSome}
+use Rattle.stream_credit.proofs.RunLemmas.{MeetsSome}
 use Rattle.stream_credit.proofs.runs.meet_frames.Given as goal
 
 abbrev pub invariant-loop-frame : goal.invariant-loop-frame

@@ -4,7 +4,7 @@ use Rattle.audit_terms.specs.declared.lives.StreamLife.{StreamLife}
 use Rattle.audit_terms.specs.Life.{is_opening, is_not_opened}
 use Rattle.quiet_pass.specs.code.Standing.{IsOpeningStanding}
 use Rattle.quiet_pass.specs.code.Rows.{IsOpened}
-use Rattle.quiet_pass.proofs.RowLemmas.{idle-opened}
+use Rattle.quiet_pass.proofs.StreamFrames.{idle-opened}
 use Rattle.quiet_pass.proofs.rows.Row.opened.Goals as goal
 
 pub returns : goal.returns

@@ -22,8 +22,7 @@ meet_frame-requires-clause-ahead c =
     )
 
 pub returns : goal.returns
-returns c =
-    λ all rest h quiet.
-    ahead-told c.args.stream c.args.changes.now all rest c.meet_frame.new.self _
-    (OnTrue_at quiet c.in_ok-self.ensures all rest
-    (c.if-not-meet_changes.ensures.ahead c.args.stream all (c.args.frame.now ∷ rest) refl (h c.if-not-self.false)))
+returns c = λ all rest h quiet.
+    let met = c.if-not-meet_changes.ensures.ahead c.args.stream all (c.args.frame.now ∷ rest) refl
+    (h c.if-not-self.false) in
+    ahead-told (OnTrue_at quiet c.in_ok-self.ensures all rest met) _
