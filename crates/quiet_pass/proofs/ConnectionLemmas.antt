@@ -1,14 +1,9 @@
 -- The connection after a frame of which nothing is shown.
 use Rattle.std.proofs.Common.{◌≡◌, ℕ, pos, int_lt, nat_lt, Bool, false, Option, None, refl, sym, ap, ◌∙◌, arith}
 use Rattle.std.proofs.lemmas.Int.{ints}
-use Rattle.audit_terms.specs.declared.sides.Side.{Side}
-use Rattle.audit_terms.specs.declared.sides.Side.TheVariants.{Client, Server}
-use Rattle.audit_terms.specs.declared.sides.Sides.{Sides}
-use Rattle.audit_terms.specs.Window.{is_used_up, overflows, overruns}
+use Rattle.stream_credit.proofs.Words.{Side, Client, Server, Sides, is_used_up, overflows, overruns, Frame, Change}
+use Rattle.stream_credit.proofs.Words.{side_of}
 use Rattle.audit_terms.specs.Connection.{credit_after}
-use Rattle.audit_terms.specs.declared.frames.Frame.{Frame}
-use Rattle.audit_terms.specs.declared.items.Change.{Change}
-use Rattle.audit_terms.specs.Sides.{side_of}
 use Rattle.audit_terms.specs.Change.{new_limit, new_push}
 use Rattle.audit_terms.specs.Frame.{is_server_promise}
 use Rattle.stream_credit.proofs.SilentLemmas.{both, unsaid, said-unshown, never-both, never-other}
@@ -56,12 +51,13 @@ pub credit_unmoved : (d : Side) (frame : Frame) (credit : ℕ) → IsUnmoved d f
 credit_unmoved d frame credit u =
     let same : credit_after d (pos credit) frame ≡ pos credit = rw (u.grant, u.content) (omega (arith, ints)) in
     let level : int_lt (pos credit) (pos credit) ≡ false = grind (arith, ints) in
+    let fits = ap (overflows (pos credit)) same ∙ rw level refl in
     let still = sym (ap is_used_up same) in
     record {
       moved = sym same;
       said = both _ _
           (both _ _
-          (both _ _ (both _ _ (both _ _ (unsaid _ _ u.nothing) (unsaid _ _ (ap (overflows (pos credit)) same ∙ rw level refl)))
+          (both _ _ (both _ _ (both _ _ (unsaid _ _ u.nothing) (unsaid _ _ fits))
           (unsaid _ _ (ap (overruns (pos credit)) u.content))) (unsaid _ _ (never-both _ _ still)))
           (unsaid _ _ (never-other _ _ still))) (said-unshown _ _ refl);
     }

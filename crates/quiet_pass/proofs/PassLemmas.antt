@@ -5,29 +5,20 @@ use Rattle.std.proofs.Common.{append_assoc, inl, inr}
 use Rattle.std.proofs.lemmas.Bool.{cases_Bool, cases_eq, eq-eqb, ne_eqb}
 use Rattle.std.specs.List.{flat_map}
 use Rattle.std.proofs.lemmas.List.{append-nil}
-use Rattle.audit_terms.specs.declared.sides.Side.{Side}
-use Rattle.audit_terms.specs.declared.sides.Side.TheVariants.{Client, Server}
-use Rattle.audit_terms.specs.declared.sides.Sides.{Sides}
+use Rattle.audit_terms.specs.Frame.{settings_in, is_server_promise, meets, promised_by}
+use Rattle.stream_credit.proofs.Words.{Side, Client, Server, Sides, Frame, Change, Stream, Finding, is_side, side_of}
+use Rattle.stream_credit.proofs.Words.{is_ack, stream_said, initial_after}
 use Rattle.audit_terms.specs.declared.settings.Settings.{Settings}
-use Rattle.audit_terms.specs.declared.frames.Frame.{Frame}
-use Rattle.audit_terms.specs.declared.items.Change.{Change}
 use Rattle.audit_terms.specs.declared.items.Item.{Item}
 use Rattle.audit_terms.specs.declared.connections.ConnectionState.{ConnectionState}
-use Rattle.audit_terms.specs.declared.streams.Stream.{Stream}
-use Rattle.audit_terms.specs.declared.findings.Finding.{Finding}
-use Rattle.audit_terms.specs.Side.{is_side}
-use Rattle.audit_terms.specs.Sides.{side_of}
-use Rattle.audit_terms.specs.Frame.{is_ack, settings_in, is_server_promise, meets, promised_by}
 use Rattle.audit_terms.specs.Life.{is_opening}
 use Rattle.audit_terms.specs.LocalFault.{local_said}
 use Rattle.audit_terms.specs.InForce.{InForce, taken, change_taking, change_of, settings_said}
 use Rattle.audit_terms.specs.Connection.{connection_said, connection_after}
-use Rattle.audit_terms.specs.Stream.{stream_said}
 use Rattle.audit_terms.specs.Finding.{stops, upto_stop}
 use Rattle.audit_terms.specs.Pass.{PassState, pass_start, step_of, opens_stream, next, streams_said, said, full_from}
 use Rattle.audit_terms.specs.Pass.{first_of, streams_of, pass, item_of as item_in}
 use Rattle.audit_terms.specs.code.runs.States.{state_from, state_after}
-use Rattle.audit_terms.specs.code.runs.Streams.{initial_after}
 use Rattle.audit_terms.proofs.FindingLists.{each-in_order}
 use Rattle.stream_credit.proofs.SilentLemmas.{both, unsaid, none-shown}
 use Rattle.quiet_pass.specs.declared.last_frames.LastFrame.{LastFrame}
@@ -217,7 +208,8 @@ frames-met {frame} step frames quiet =
     let own = step (state_after frames) quiet.stands in
     record {
       shown = λ streams named.
-          rw (full-more streams frame pass_start frames) (both _ _ (quiet.shown streams named) (own.shown streams named));
+          rw (full-more streams frame pass_start frames)
+          (both _ _ (quiet.shown streams named) (own.shown streams named));
       stands = rw (state-more frame pass_start frames) own.stands;
     }
 

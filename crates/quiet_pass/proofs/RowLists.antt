@@ -6,12 +6,8 @@ use Rattle.std.specs.Bool.{OnTrue}
 use Rattle.std.proofs.lemmas.Bool.Decides.{nat_tests}
 use Rattle.std.proofs.lemmas.List.{append-nil, take_all, drop_all}
 use Rattle.std.proofs.lemmas.Option.{none-some, same_Some}
-use Rattle.audit_terms.specs.declared.sides.Sides.{Sides}
-use Rattle.audit_terms.specs.declared.frames.Frame.{Frame}
-use Rattle.audit_terms.specs.declared.streams.Stream.{Stream}
+use Rattle.stream_credit.proofs.Words.{Sides, Frame, Stream, idle_stream, stream_said, stream_after, frame_step}
 use Rattle.audit_terms.specs.Life.{is_opening}
-use Rattle.audit_terms.specs.Stream.{idle_stream, stream_said, stream_after}
-use Rattle.audit_terms.specs.code.runs.Streams.{frame_step}
 use Rattle.quiet_pass.specs.declared.rows.Row.{Row}
 use Rattle.quiet_pass.specs.code.Standing.{AreUnshown}
 use Rattle.quiet_pass.specs.code.Rows.{stream_of, entry_in, AreRisingFrom, AreRising, IsPast, IsRowOf, IsRowAfter}

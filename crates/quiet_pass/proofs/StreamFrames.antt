@@ -5,26 +5,16 @@ use Rattle.std.proofs.Math.Bool.{and-false, or-false}
 use Rattle.std.proofs.lemmas.Bool.{and_right, or_parts, eq-eqb, ne_eqb}
 use Rattle.std.proofs.lemmas.Bool.Decides.{nat_tests}
 use Rattle.std.proofs.lemmas.Int.{ints}
-use Rattle.audit_terms.specs.declared.sides.Side.{Side}
-use Rattle.audit_terms.specs.declared.sides.Side.TheVariants.{Client, Server}
-use Rattle.audit_terms.specs.declared.sides.Sides.{Sides}
-use Rattle.audit_terms.specs.declared.frames.Body.{Body}
-use Rattle.audit_terms.specs.declared.frames.Body.TheVariants.{WindowUpdate}
-use Rattle.audit_terms.specs.declared.frames.Frame.{Frame}
-use Rattle.audit_terms.specs.declared.lives.StreamLife.{StreamLife}
-use Rattle.audit_terms.specs.declared.streams.Stream.{Stream}
-use Rattle.audit_terms.specs.Side.{other, is_side}
-use Rattle.audit_terms.specs.Sides.{side_of}
-use Rattle.audit_terms.specs.Frame.{is_content, is_headers, is_reset, is_update, increment, is_zero_grant, content_by}
-use Rattle.audit_terms.specs.Frame.{grant_to, needs_opening, is_server_promise, promises, sends_end}
-use Rattle.audit_terms.specs.Life.{idle_life, is_opening, is_last_of, ends_window, is_not_opened, is_after_end}
-use Rattle.audit_terms.specs.Life.{life_after}
-use Rattle.audit_terms.specs.Window.{is_used_up, overflows, overruns}
-use Rattle.audit_terms.specs.Finding.{say_of}
-use Rattle.audit_terms.specs.Stream.{idle_stream, opened_window_said, stream_window_said, stream_said, stream_after}
-use Rattle.audit_terms.specs.code.StreamSteps.{counted}
-use Rattle.audit_terms.specs.code.runs.Streams.{frame_step}
-use Rattle.stream_credit.specs.code.QuietStream.{has_credit, has_ended, window_of, opened_of}
+use Rattle.audit_terms.specs.Frame.{is_content, is_headers, is_update}
+use Rattle.audit_terms.specs.Frame.{needs_opening, is_server_promise, promises}
+use Rattle.audit_terms.specs.Life.{idle_life, is_opening}
+use Rattle.audit_terms.specs.Stream.{opened_window_said, stream_window_said}
+use Rattle.stream_credit.specs.code.QuietStream.{opened_of}
+use Rattle.stream_credit.proofs.Words.{Side, Client, Server, Sides, Body, WindowUpdate, Frame, StreamLife, Stream}
+use Rattle.stream_credit.proofs.Words.{other, is_side, side_of, is_reset, increment, is_zero_grant, content_by}
+use Rattle.stream_credit.proofs.Words.{grant_to, sends_end, is_last_of, ends_window, is_not_opened, is_after_end}
+use Rattle.stream_credit.proofs.Words.{life_after, is_used_up, overflows, overruns, say_of, idle_stream, stream_said}
+use Rattle.stream_credit.proofs.Words.{stream_after, counted, frame_step, has_credit, has_ended, window_of}
 use Rattle.stream_credit.proofs.SilentLemmas.{both, unsaid, frame-unshown, IsCalm, calm-some, calm-ended, calm-same}
 use Rattle.stream_credit.proofs.SilentLemmas.{stream-unshown, stream-moved}
 use Rattle.quiet_pass.specs.declared.rows.Row.{Row}
@@ -69,7 +59,8 @@ module _ (d : Side) (frame : Frame) (standing after : ℕ) (live : has_credit st
       frame.length) [
         | inl e ↦
             let grants : grant_to d frame.stream frame ≡ 0 = e in
-            let enough : int_lt (pos standing) (pos (content_by d frame)) ≡ false = grind (arith, ints, moved, grants) in
+            let enough : int_lt (pos standing) (pos (content_by d frame)) ≡ false =
+            grind (arith, ints, moved, grants) in
             and_right (nat_lt 0 (content_by d frame)) _ enough
         | inr e ↦ rw e refl
       ]
@@ -150,7 +141,8 @@ row-after frame old client server own numbered used late zero c s =
     }
   where
     calm : (initial : Sides ℕ) (d : Side) → IsCalm d frame.stream initial (frame_step frame)
-        (side_of d (stream_of old).window) (side_of d (stream_of (record old { client = client; server = server })).window)
+        (side_of d (stream_of old).window)
+        (side_of d (stream_of (record old { client = client; server = server })).window)
     calm initial Client = record { said = c.said initial; after = sym (c.window initial) }
     calm initial Server = record { said = s.said initial; after = sym (s.window initial) }
 
@@ -218,7 +210,10 @@ module _ (frame : Frame) (content : is_content frame.body ≡ false) (headers : 
       ∙ ap (λ (life : StreamLife). record { life = life; window = entry.window }) kept)
     where
       kept : life_after frame.stream entry.life frame ≡ entry.life
-      kept = simp (unopened, unlast Client frame (goes_on Client), unlast Server frame (goes_on Server), and-false, or-false)
+      kept =
+          let client = unlast Client frame (goes_on Client) in
+          let server = unlast Server frame (goes_on Server) in
+          simp (unopened, client, server, and-false, or-false)
 
 pub idle-met : (frame : Frame) → needs_opening frame ≡ false → is_server_promise frame ≡ false → (initial : Sides ℕ)
     (rows : List Row) → AreRising rows → HasMet frame.stream initial frame false rows rows

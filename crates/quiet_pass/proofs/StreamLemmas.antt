@@ -6,15 +6,10 @@ use Rattle.std.proofs.Math.Bool.{and-false, or-false, and-true}
 use Rattle.std.proofs.lemmas.Bool.{cases_Bool, cases_eq, eq-eqb, ne_eqb}
 use Rattle.std.proofs.lemmas.Int.{ints}
 use Rattle.std.proofs.lemmas.Option.{same_Some}
-use Rattle.audit_terms.specs.declared.sides.Sides.{Sides}
-use Rattle.audit_terms.specs.declared.frames.Frame.{Frame}
-use Rattle.audit_terms.specs.declared.items.Change.{Change}
-use Rattle.audit_terms.specs.declared.lives.StreamLife.{StreamLife}
-use Rattle.audit_terms.specs.declared.streams.Stream.{Stream}
+use Rattle.stream_credit.specs.code.QuietStream.{IsMovedBy}
+use Rattle.stream_credit.proofs.Words.{Sides, Frame, Change, StreamLife, Stream, initial_after, moved, IsSilent}
+use Rattle.stream_credit.proofs.Words.{window_of}
 use Rattle.audit_terms.specs.Frame.{is_server_promise, promised_in, meets}
-use Rattle.audit_terms.specs.code.runs.Streams.{initial_after}
-use Rattle.stream_credit.specs.code.Silent.{moved, IsSilent}
-use Rattle.stream_credit.specs.code.QuietStream.{window_of, IsMovedBy}
 use Rattle.stream_credit.proofs.SilentLemmas.{change_alone, calm-changes, stream-unshown, stream-moved}
 use Rattle.quiet_pass.specs.declared.rows.Row.{Row}
 use Rattle.quiet_pass.specs.declared.streams.Streams.{Streams}
@@ -71,7 +66,8 @@ step-met stream initial frame opens old new h s entry is m =
           → IsStep s initial (step_at frame None s) entry (entry_in new s)) own
           (λ is met. rw met (record { said = rw is h.said; after = rw is h.after })) is met
       | inr differ ↦
-          step-unmet s initial frame new entry (m ∙ ne_eqb stream s differ) (is ∙ sym (h.others s (λ e. differ (sym e))))
+          step-unmet s initial frame new entry (m ∙ ne_eqb stream s differ)
+          (is ∙ sym (h.others s (λ e. differ (sym e))))
     ]
 
 -- ---- all of them

@@ -11,17 +11,9 @@ use Rattle.std.proofs.lemmas.Bool.{cases_Bool, cases_eq, ltb-true, ltb-false, eq
 use Rattle.std.proofs.lemmas.List.{take_more, take_all}
 use Rattle.std.proofs.lemmas.List.Sorted.{IsPartitionedBy-ltb}
 use Rattle.std.proofs.lemmas.Option.{same_Some, none-some, slice_get_within, get_or_from_slice_get}
-use Rattle.audit_terms.specs.declared.sides.Sides.{Sides}
-use Rattle.audit_terms.specs.declared.frames.Frame.{Frame}
-use Rattle.audit_terms.specs.declared.items.Change.{Change}
-use Rattle.audit_terms.specs.Frame.{is_ack}
-use Rattle.audit_terms.specs.InForce.{initial_in_force}
-use Rattle.audit_terms.specs.code.runs.Streams.{initial_after}
-use Rattle.settings_pair.specs.code.Changes.{AreOrderlyFrom}
-use Rattle.stream_credit.specs.code.Left.{after_changes, after_each, passed, left_from, change_at, left_after}
-use Rattle.stream_credit.specs.code.Merged.{AcknowledgesAt, Acknowledge}
-use Rattle.stream_credit.specs.code.QuietStream.{AreFrom, initial_at}
-use Rattle.stream_credit.specs.code.Walk.{AreBefore}
+use Rattle.stream_credit.proofs.Words.{Sides, Frame, Change, is_ack, initial_in_force, initial_after, AreOrderlyFrom}
+use Rattle.stream_credit.proofs.Words.{after_changes, after_each, passed, left_from, change_at, left_after}
+use Rattle.stream_credit.proofs.Words.{AcknowledgesAt, Acknowledge, AreFrom, initial_at, AreBefore}
 
 -- ---- what is in force
 
@@ -96,7 +88,8 @@ pub initial-is : (met : ℕ) (changes : List Change) (windows : List (Sides ℕ)
 initial-is met changes windows now d some h w e =
     let whole : suc (met - 1) ≡ met = omega (arith, some) in
     let at = at-each initial_in_force.initial changes (met - 1) (omega (arith, some, h)) in
-    e ∙ rw w (get_or_from_slice_get (after_each initial_in_force.initial changes) (met - 1) _ d at) ∙ ap (λ n. initial_at n changes) whole
+    e ∙ rw w (get_or_from_slice_get (after_each initial_in_force.initial changes) (met - 1) _ d at)
+    ∙ ap (λ n. initial_at n changes) whole
 
 -- ---- the changes before a number
 

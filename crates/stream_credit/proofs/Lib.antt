@@ -1,3 +1,4 @@
+pub mod Words
 pub mod MergedLemmas
 pub mod LeftLemmas
 pub mod SaidNumbers

@@ -5,14 +5,10 @@ use Rattle.std.specs.List.{AllByRecursion}
 use Rattle.std.proofs.lemmas.List.{map-append}
 use Rattle.std.proofs.lemmas.List.Elements.{recursion_from_All}
 use Rattle.std.proofs.lemmas.Bool.{cases_Bool, cases_order, ltb-true, eq-eqb, ne_eqb, lt-ltb, le-ltb}
-use Rattle.audit_terms.specs.declared.frames.Frame.{Frame}
-use Rattle.audit_terms.specs.declared.items.Change.{Change}
-use Rattle.audit_terms.specs.declared.items.Step.{Step}
-use Rattle.audit_terms.specs.code.runs.Streams.{frame_step, change_step, with_change, steps_of}
-use Rattle.settings_pair.specs.code.Changes.{AreOrderlyFrom, AreAcknowledged}
-use Rattle.stream_credit.specs.code.Left.{passed, left_from, change_at, left_after}
-use Rattle.stream_credit.specs.code.Merged.{joined_step, frame_with, merged_at, merged, AcknowledgesAt, Acknowledge}
-use Rattle.stream_credit.specs.code.QuietStream.{StartsAt}
+use Rattle.stream_credit.proofs.Words.{Frame, Change, Step, frame_step, change_step, with_change, steps_of}
+use Rattle.stream_credit.proofs.Words.{AreOrderlyFrom, AreAcknowledged, passed, left_from, change_at, left_after}
+use Rattle.stream_credit.proofs.Words.{joined_step, frame_with, merged_at, merged, AcknowledgesAt, Acknowledge}
+use Rattle.stream_credit.proofs.Words.{StartsAt}
 use Rattle.stream_credit.proofs.LeftLemmas.{parted, orderly-lower}
 
 -- ---- the walk is the definition's list

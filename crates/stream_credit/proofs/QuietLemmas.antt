@@ -6,29 +6,12 @@ use Rattle.std.proofs.lemmas.Bool.{and_right, eq-eqb, ne_eqb}
 use Rattle.std.proofs.lemmas.Int.{ints}
 use Rattle.std.proofs.lemmas.List.{append-nil}
 use Rattle.std.proofs.lemmas.Option.{same_Some}
-use Rattle.audit_terms.specs.declared.sides.Side.{Side}
-use Rattle.audit_terms.specs.declared.sides.Side.TheVariants.{Client, Server}
-use Rattle.audit_terms.specs.declared.sides.Sides.{Sides}
-use Rattle.audit_terms.specs.declared.frames.Body.{Body}
-use Rattle.audit_terms.specs.declared.frames.Body.TheVariants.{WindowUpdate}
-use Rattle.audit_terms.specs.declared.frames.Frame.{Frame}
-use Rattle.audit_terms.specs.declared.items.Change.{Change}
-use Rattle.audit_terms.specs.declared.items.Step.{Step}
-use Rattle.audit_terms.specs.declared.lives.StreamLife.{StreamLife}
-use Rattle.audit_terms.specs.declared.streams.Stream.{Stream}
-use Rattle.audit_terms.specs.Side.{other, is_side}
-use Rattle.audit_terms.specs.Sides.{side_of}
-use Rattle.audit_terms.specs.Frame.{is_reset, is_promise, is_zero_grant, increment, content_by, sends_end}
-use Rattle.audit_terms.specs.Life.{is_last_of, ends_window, is_after_end, life_after}
-use Rattle.audit_terms.specs.Window.{is_used_up, overruns}
-use Rattle.audit_terms.specs.Finding.{in_order, shown}
-use Rattle.audit_terms.specs.Stream.{stream_said, stream_after}
-use Rattle.audit_terms.specs.code.Room.{HasRoom, WindowHasRoom}
-use Rattle.stream_credit.specs.declared.quiet.Move.{Move}
-use Rattle.stream_credit.specs.declared.walks.Walk.{Walk}
-use Rattle.stream_credit.specs.code.Merged.{frame_with}
-use Rattle.stream_credit.specs.code.Quiet.{sent, granted, IsMove, IsQuiet}
-use Rattle.stream_credit.specs.code.Walk.{IsCounted, HasRoomAt}
+use Rattle.stream_credit.proofs.Words.{Side, Client, Server, Sides, Body, WindowUpdate, Frame, Change, Step, StreamLife}
+use Rattle.stream_credit.proofs.Words.{Stream, other, is_side, side_of, is_reset, is_promise, is_zero_grant, increment}
+use Rattle.stream_credit.proofs.Words.{content_by, sends_end, is_last_of, ends_window, is_after_end, life_after}
+use Rattle.stream_credit.proofs.Words.{is_used_up, overruns, in_order, shown, stream_said, stream_after, HasRoom}
+use Rattle.stream_credit.proofs.Words.{WindowHasRoom, Move, Walk, frame_with, sent, granted, IsMove, IsQuiet, IsCounted}
+use Rattle.stream_credit.proofs.Words.{HasRoomAt}
 use Rattle.stream_credit.proofs.SilentLemmas.{frame-unshown, IsCalm, calm-same, calm-some, stream-shown, stream-moved}
 
 -- ---- the frames that move one window

@@ -7,31 +7,15 @@ use Rattle.std.proofs.lemmas.Bool.Decides.{nat_tests}
 use Rattle.std.proofs.lemmas.List.{drop-drop, drop_more, length-drop, length-append}
 use Rattle.std.proofs.lemmas.List.Elements.{filter-append}
 use Rattle.std.proofs.lemmas.Option.{slice_get_within, get_or_from_slice_get}
-use Rattle.audit_terms.specs.declared.sides.Side.TheVariants.{Client, Server}
-use Rattle.audit_terms.specs.declared.sides.Sides.{Sides}
-use Rattle.audit_terms.specs.declared.lives.StreamLife.{StreamLife}
-use Rattle.audit_terms.specs.declared.frames.Frame.{Frame}
-use Rattle.audit_terms.specs.declared.items.Change.{Change}
-use Rattle.audit_terms.specs.declared.items.Step.{Step}
-use Rattle.audit_terms.specs.declared.streams.Stream.{Stream}
-use Rattle.audit_terms.specs.declared.findings.Finding.{Finding}
-use Rattle.audit_terms.specs.Side.{other}
-use Rattle.audit_terms.specs.Sides.{side_of}
-use Rattle.audit_terms.specs.Finding.{in_order, is_shown, shown}
-use Rattle.audit_terms.specs.Stream.{idle_stream, stream_said, stream_after}
-use Rattle.audit_terms.specs.code.runs.Orderly.{IsOrderlyFrom, IsOrderly}
-use Rattle.audit_terms.specs.code.runs.Streams.{frame_step, change_step, initial_after, stream_run_from}
-use Rattle.audit_terms.specs.code.runs.Streams.{stream_after_all}
+use Rattle.stream_credit.proofs.Words.{Client, Server, Sides, StreamLife, Frame, Change, Step, Stream, Finding, other}
+use Rattle.stream_credit.proofs.Words.{side_of, in_order, is_shown, shown, idle_stream, stream_said, stream_after}
+use Rattle.stream_credit.proofs.Words.{IsOrderlyFrom, IsOrderly, frame_step, change_step, initial_after}
+use Rattle.stream_credit.proofs.Words.{stream_run_from, stream_after_all, AreOrderlyFrom, AreOrderly, AreAcknowledged}
+use Rattle.stream_credit.proofs.Words.{QuietStream, Move, is_live, after_changes, passed, left_from, merged}
+use Rattle.stream_credit.proofs.Words.{Acknowledge, IsMove, IsRaised, IsQuiet, has_credit, has_ended, window_of}
+use Rattle.stream_credit.proofs.Words.{stream_of, initial_at, IsPassed, IsNext, AreFrom, StartsAt, IsAhead}
+use Rattle.stream_credit.proofs.Words.{ShowsNothing}
 use Rattle.audit_terms.proofs.FindingLists.{each-in_order}
-use Rattle.settings_pair.specs.code.Changes.{AreOrderlyFrom, AreOrderly, AreAcknowledged}
-use Rattle.stream_credit.specs.declared.quiet_streams.QuietStream.{QuietStream}
-use Rattle.stream_credit.specs.declared.quiet.Move.{Move}
-use Rattle.stream_credit.specs.code.Looks.{is_live}
-use Rattle.stream_credit.specs.code.Left.{after_changes, passed, left_from}
-use Rattle.stream_credit.specs.code.Merged.{merged, Acknowledge}
-use Rattle.stream_credit.specs.code.Quiet.{IsMove, IsRaised, IsQuiet}
-use Rattle.stream_credit.specs.code.QuietStream.{has_credit, has_ended, window_of, stream_of, initial_at, IsPassed}
-use Rattle.stream_credit.specs.code.QuietStream.{IsNext, AreFrom, StartsAt, IsAhead, ShowsNothing}
 use Rattle.stream_credit.proofs.LeftLemmas.{parted, initial-more, initial-next, left-drop, left-from, orderly-drop}
 use Rattle.stream_credit.proofs.LeftLemmas.{orderly-from}
 use Rattle.stream_credit.proofs.MergedLemmas.{steps_of-merged, acknowledge-all, merged_at-first, merged-change}
@@ -95,7 +79,8 @@ drop-next met changes change e =
     drop_more changes met change (slice_get_within changes met change e)
     ∙ ap (λ (c : Change). c ∷ drop (met + 1) changes) (get_or_from_slice_get changes met change change e)
 
-take-passed : (number : ℕ) (changes : List Change) → take (length (passed number changes)) changes ≡ passed number changes
+take-passed : (number : ℕ) (changes : List Change)
+    → take (length (passed number changes)) changes ≡ passed number changes
 take-passed number changes =
     ap (take (length (passed number changes))) (sym (parted number changes))
     ∙ take-append_seam (passed number changes) (left_from number changes)
@@ -182,7 +167,8 @@ module _ {stream : ℕ} {changes : List Change} {all rest : List Frame} {old : Q
       let whole = ap length (parted number left) in
       let windows : initial_at (old.met + length before) changes ≡ after_changes initial before =
       initial-more old.met (length before) changes ∙ ap (after_changes initial) (take-passed number left) in
-      ahead-by (omega (arith, m, met-before, whole, length-append before (left_from number left), length-drop old.met changes))
+      let parts = length-append before (left_from number left) in
+      ahead-by (omega (arith, m, met-before, whole, parts, length-drop old.met changes))
       h.orderly h.acknowledged
       (rw (m, windows, ← drop-passed number old.met changes, merged-passed number rest left s)
       (outcome-passes stream initial (stream_of old) before (merged rest (left_from number left)) dead))

@@ -11,31 +11,15 @@ use Rattle.std.proofs.lemmas.Grind.{flat_map-append}
 use Rattle.std.proofs.lemmas.List.{append-nil, take_more}
 use Rattle.std.proofs.lemmas.List.Elements.{All-from_recursion}
 use Rattle.std.proofs.lemmas.Option.{slice_get-get_or}
-use Rattle.audit_terms.specs.declared.sides.Side.TheVariants.{Client, Server}
-use Rattle.audit_terms.specs.declared.frames.Frame.{Frame}
-use Rattle.audit_terms.specs.declared.items.Change.{Change}
-use Rattle.audit_terms.specs.declared.items.Step.{Step}
-use Rattle.audit_terms.specs.declared.findings.Finding.{Finding}
-use Rattle.audit_terms.specs.Frame.{is_ack}
-use Rattle.audit_terms.specs.Place.{place_number}
-use Rattle.audit_terms.specs.Finding.{shown}
-use Rattle.audit_terms.specs.InForce.{initial_in_force}
-use Rattle.audit_terms.specs.Stream.{idle_stream}
-use Rattle.audit_terms.specs.code.runs.Look.{up_to, IsRun}
-use Rattle.audit_terms.specs.code.runs.Orderly.{IsOrderlyFrom, IsOrderly}
-use Rattle.audit_terms.specs.code.runs.Streams.{change_step, steps_of, stream_run, stream_at_end}
-use Rattle.audit_terms.specs.code.Watch.{Watches, NeverFallFrom}
+use Rattle.stream_credit.proofs.Words.{Client, Server, Frame, Change, Step, Finding, is_ack, place_number, shown}
+use Rattle.stream_credit.proofs.Words.{initial_in_force, idle_stream, up_to, IsRun, IsOrderlyFrom, IsOrderly}
+use Rattle.stream_credit.proofs.Words.{change_step, steps_of, stream_run, stream_at_end, Watches, NeverFallFrom}
+use Rattle.stream_credit.proofs.Words.{AreOrderlyFrom, AreOrderly, AreAcknowledged, Left, Walk, after_each, passed}
+use Rattle.stream_credit.proofs.Words.{left_from, change_at, left_after, IsInForce, step_numbers, opened_up_to}
+use Rattle.stream_credit.proofs.Words.{merged_at, merged, frame_with, frames_at, numbers_of, IsNumbered, HasRoomAt}
+use Rattle.stream_credit.proofs.Words.{WholeRun, IsAt, IsAtChanges, IsSound, HasEnded, HasStopped}
 use Rattle.audit_terms.proofs.FindingLists.{each-filter}
 use Rattle.audit_terms.proofs.Watching.{ends, is-cut}
-use Rattle.settings_pair.specs.code.Changes.{AreOrderlyFrom, AreOrderly, AreAcknowledged}
-use Rattle.stream_credit.specs.declared.left.Left.{Left}
-use Rattle.stream_credit.specs.declared.walks.Walk.{Walk}
-use Rattle.stream_credit.specs.code.Left.{after_each, passed, left_from, change_at, left_after, IsInForce}
-use Rattle.stream_credit.specs.code.Looks.{step_numbers, opened_up_to}
-use Rattle.stream_credit.specs.code.Merged.{merged_at, merged, frame_with}
-use Rattle.stream_credit.specs.code.Part.{frames_at}
-use Rattle.stream_credit.specs.code.Walk.{numbers_of, IsNumbered, HasRoomAt, WholeRun, IsAt, IsAtChanges, IsSound}
-use Rattle.stream_credit.specs.code.Walk.{HasEnded, HasStopped}
 use Rattle.stream_credit.proofs.LeftLemmas.{passed-before, orderly-before, orderly-left_from, orderly-left_after}
 use Rattle.stream_credit.proofs.LeftLemmas.{acknowledge-left_from, acknowledge-left_after, own-acknowledged}
 use Rattle.stream_credit.proofs.MergedLemmas.{steps_of-merged, acknowledge-all, merged-passed, merged_at-own}
@@ -190,12 +174,13 @@ order-merged_at frame after fits rises low (change ∷ changes) order h =
         le-ltb change.number n (omega (arith, less)),
       )
           (order, fits, refl, rises (change ∷ changes) (omega (arith, less), h.1, h.2))
-      | inr (inr more) ↦ rw (ne_eqb n change.number (λ e. absurd (omega (arith, more, e))), lt-ltb change.number n more) (
-        h.0,
-        omega (arith, h.1),
-        tt,
-        order-merged_at frame after fits rises (change.number + 1) changes (omega (arith, more)) h.2,
-      )
+      | inr (inr more) ↦
+          rw (ne_eqb n change.number (λ e. absurd (omega (arith, more, e))), lt-ltb change.number n more) (
+            h.0,
+            omega (arith, h.1),
+            tt,
+            order-merged_at frame after fits rises (change.number + 1) changes (omega (arith, more)) h.2,
+          )
     ]
 
 order-merged : (low : ℕ) (frames : List Frame) (changes : List Change) → IsOrderlyFrom low frames

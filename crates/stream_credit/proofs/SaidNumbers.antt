@@ -1,18 +1,11 @@
 -- What a step shows of a stream stands at its number.
 use Rattle.std.proofs.Common.{◌≡◌, ℕ, ◌^◌, ◌<◌, ◌≤◌, Bool, List, [], ◌∷◌, ◌++◌, sym, subst, arith}
 use Rattle.std.specs.List.{AllByRecursion}
-use Rattle.audit_terms.specs.declared.sides.Sides.{Sides}
-use Rattle.audit_terms.specs.declared.items.Step.{Step}
-use Rattle.audit_terms.specs.declared.streams.Stream.{Stream}
-use Rattle.audit_terms.specs.declared.findings.Finding.{Finding}
-use Rattle.audit_terms.specs.Place.{place_number}
-use Rattle.audit_terms.specs.Finding.{in_order, is_shown, shown}
-use Rattle.audit_terms.specs.code.runs.Look.{found_before}
-use Rattle.audit_terms.specs.Stream.{stream_said, stream_after}
-use Rattle.audit_terms.specs.code.runs.Streams.{initial_after, stream_run_from}
+use Rattle.stream_credit.proofs.Words.{Sides, Step, Stream, Finding, place_number, in_order, is_shown, shown}
+use Rattle.stream_credit.proofs.Words.{found_before, stream_said, stream_after, initial_after, stream_run_from}
+use Rattle.stream_credit.proofs.Words.{numbers_of}
 use Rattle.audit_terms.proofs.FindingLists.{each-append, each-filter, each-in_order, each-weaker}
 use Rattle.audit_terms.proofs.SaidPlaces.{at-stream, before-front, numbered-at}
-use Rattle.stream_credit.specs.code.Walk.{numbers_of}
 
 -- each finding's frame number is of a sort
 abbrev pub HasNumber : (ℕ → Type 0) → Finding → Type 0

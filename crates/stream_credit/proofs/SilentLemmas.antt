@@ -5,28 +5,14 @@ use Rattle.std.specs.List.{AllByRecursion}
 use Rattle.std.proofs.lemmas.Bool.{and_right, or_from, or_left, cond-true, cond-false}
 use Rattle.std.proofs.lemmas.Int.{ints}
 use Rattle.std.proofs.lemmas.List.{append-nil}
-use Rattle.audit_terms.specs.declared.sides.Side.{Side}
-use Rattle.audit_terms.specs.declared.sides.Side.TheVariants.{Client, Server}
-use Rattle.audit_terms.specs.declared.sides.Sides.{Sides}
-use Rattle.audit_terms.specs.declared.frames.Frame.{Frame}
-use Rattle.audit_terms.specs.declared.items.Change.{Change}
-use Rattle.audit_terms.specs.declared.items.Step.{Step}
-use Rattle.audit_terms.specs.declared.streams.Stream.{Stream}
-use Rattle.audit_terms.specs.declared.findings.Finding.{Finding}
-use Rattle.audit_terms.specs.Sides.{side_of}
-use Rattle.audit_terms.specs.Change.{new_initial}
-use Rattle.audit_terms.specs.Frame.{is_zero_grant, content_by, grant_to}
-use Rattle.audit_terms.specs.Life.{ends_window, is_not_opened, is_after_end}
-use Rattle.audit_terms.specs.Window.{is_used_up, overflows, overruns}
-use Rattle.audit_terms.specs.Finding.{say, say_of, in_order, is_shown, shown}
-use Rattle.audit_terms.specs.Stream.{step_test, step_amount, opens, life_at, WindowStep, window_step, window_after}
-use Rattle.audit_terms.specs.Stream.{frame_said, live_window_said, stream_said, stream_after, is_stalled}
-use Rattle.audit_terms.specs.code.StreamSteps.{counted, is_overflowing_grant}
-use Rattle.audit_terms.specs.code.runs.Streams.{frame_step, initial_after}
+use Rattle.stream_credit.proofs.Words.{Side, Client, Server, Sides, Frame, Change, Step, Stream, Finding, side_of}
+use Rattle.stream_credit.proofs.Words.{new_initial, is_zero_grant, content_by, grant_to, ends_window, is_not_opened}
+use Rattle.stream_credit.proofs.Words.{is_after_end, is_used_up, overflows, overruns, say, say_of, in_order, is_shown}
+use Rattle.stream_credit.proofs.Words.{shown, step_test, step_amount, opens, life_at, WindowStep, window_step}
+use Rattle.stream_credit.proofs.Words.{window_after, frame_said, live_window_said, stream_said, stream_after}
+use Rattle.stream_credit.proofs.Words.{is_stalled, counted, is_overflowing_grant, frame_step, initial_after, Walk}
+use Rattle.stream_credit.proofs.Words.{moved, IsSilent, IsCounted}
 use Rattle.audit_terms.proofs.FindingLists.{each-append, each-in_order}
-use Rattle.stream_credit.specs.declared.walks.Walk.{Walk}
-use Rattle.stream_credit.specs.code.Silent.{moved, IsSilent}
-use Rattle.stream_credit.specs.code.Walk.{IsCounted}
 
 -- ---- findings that are not shown
 
@@ -168,7 +154,8 @@ calm-change d stream initial number change after (Some credit) (Some next) a e h
     let one = h credit refl next refl in
     let i = side_of d initial in
     let to : next ≡ moved i after credit = cc in
-    let now : counted d stream initial (change_alone number change) credit ≡ next = rw (← a) (omega (arith, ints, to)) in
+    let now : counted d stream initial (change_alone number change) credit ≡ next =
+    rw (← a) (omega (arith, ints, to)) in
     calm-some d stream initial (change_alone number change) credit next now one.1 refl refl one.0
 
 pub calm-changes : (stream : ℕ) (initial : Sides ℕ) (number : ℕ) (change : Option Change) (after : Sides ℕ)

@@ -8,29 +8,13 @@ use Rattle.std.proofs.lemmas.Bool.{cases_Bool, eqb-true}
 use Rattle.std.proofs.lemmas.Bool.Decides.{nat_tests}
 use Rattle.std.proofs.lemmas.Int.{ints}
 use Rattle.std.proofs.lemmas.List.Elements.{filter-append}
-use Rattle.audit_terms.specs.declared.sides.Side.{Side}
-use Rattle.audit_terms.specs.declared.sides.Side.TheVariants.{Client, Server}
-use Rattle.audit_terms.specs.declared.sides.Sides.{Sides}
-use Rattle.audit_terms.specs.declared.lives.StreamLife.{StreamLife}
-use Rattle.audit_terms.specs.declared.frames.Frame.{Frame}
-use Rattle.audit_terms.specs.declared.items.Change.{Change}
-use Rattle.audit_terms.specs.declared.items.Step.{Step}
-use Rattle.audit_terms.specs.declared.streams.Stream.{Stream}
-use Rattle.audit_terms.specs.declared.findings.Finding.{Finding}
-use Rattle.audit_terms.specs.Sides.{side_of, each_side}
-use Rattle.audit_terms.specs.Life.{life_after}
-use Rattle.audit_terms.specs.Finding.{shown, is_shown}
-use Rattle.audit_terms.specs.code.runs.Look.{is_past, found_before}
-use Rattle.audit_terms.specs.code.runs.Streams.{change_step, initial_after, stream_run_from, stream_after_all}
-use Rattle.audit_terms.specs.Stream.{stream_after}
-use Rattle.audit_terms.specs.code.Room.{WindowHasRoom}
-use Rattle.audit_terms.specs.code.Watch.{Watches, IsStopped, NeverFallFrom}
+use Rattle.stream_credit.proofs.Words.{Side, Client, Server, Sides, StreamLife, Frame, Change, Step, Stream, Finding}
+use Rattle.stream_credit.proofs.Words.{side_of, each_side, life_after, shown, is_shown, is_past, found_before}
+use Rattle.stream_credit.proofs.Words.{change_step, initial_after, stream_run_from, stream_after_all, stream_after}
+use Rattle.stream_credit.proofs.Words.{WindowHasRoom, Watches, IsStopped, NeverFallFrom, Walk, is_live, is_met}
+use Rattle.stream_credit.proofs.Words.{met_from, opened_up_to, after_changes, met_by, numbers_of, IsNumbered, IsCounted}
+use Rattle.stream_credit.proofs.Words.{HasRoomAt, WholeRun, IsAt, IsAtChanges, HasStopped}
 use Rattle.audit_terms.proofs.FindingLists.{each-append, each-filter}
-use Rattle.stream_credit.specs.declared.walks.Walk.{Walk}
-use Rattle.stream_credit.specs.code.Looks.{is_live, is_met, met_from, opened_up_to}
-use Rattle.stream_credit.specs.code.Left.{after_changes}
-use Rattle.stream_credit.specs.code.Walk.{met_by, numbers_of, IsNumbered, IsCounted, HasRoomAt, WholeRun, IsAt}
-use Rattle.stream_credit.specs.code.Walk.{IsAtChanges, HasStopped}
 use Rattle.stream_credit.proofs.SaidNumbers.{below-more, said-numbered, run-numbered, before-parts}
 
 -- ---- room
@@ -190,7 +174,8 @@ module _ {L : Type 0} {answers : L → List Finding → Option ℕ → L → Typ
   }
 
   -- what a walk found is what is found before a frame up to which no step is left
-  so-far : (number : ℕ) → low ≤ number → From number (numbers_of steps) → walk.found.items ≡ found_before number run.found
+  so-far : (number : ℕ) → low ≤ number → From number (numbers_of steps)
+      → walk.found.items ≡ found_before number run.found
   so-far number order later =
       before-parts number walk.found.items _ (below-more low number walk.found.items order h.below)
       (run-numbered (λ n. number ≤ n) walk.credits_shown walk.stream walk.initial walk.entry steps h.streamed later)
@@ -236,8 +221,14 @@ module _ {L : Type 0} {answers : L → List Finding → Option ℕ → L → Typ
         below = rw counted.found (each-append _ old.found.items _
             (below-more step.number (step.number + 1) old.found.items (omega arith) h.below)
             (each-filter _ _ _ said));
-        found = rw (counted.stream, counted.credits_shown, counted.found, counted.entry, counted.initial, append_assoc old.found.items)
-            (rw (filter-append (is_shown old.credits_shown)) at h.found);
+        found = rw (
+          counted.stream,
+          counted.credits_shown,
+          counted.found,
+          counted.entry,
+          counted.initial,
+          append_assoc old.found.items,
+        ) (rw (filter-append (is_shown old.credits_shown)) at h.found);
         entry = rw (counted.stream, counted.entry, counted.initial) h.entry;
         met = h.met ++ step.number ∷ [];
         count = rw length-append (omega (arith, count));
@@ -297,7 +288,8 @@ pub changes-passed : {L : Type 0} {answers : L → List Finding → Option ℕ �
     → IsAt answers run now (record old { initial = after_changes old.initial changes }) number rest
 changes-passed {answers = answers} {run = run} {now = now} {old = old} {changes = changes} {rest = rest} dead h =
     let at = at-later h.at _ h.order in
-    let met = passes (met_from old.stream) (λ initial life change steps. refl) old.initial old.entry dead changes rest in
+    let met = passes (met_from old.stream) (λ initial life change steps. refl) old.initial old.entry dead changes
+    rest in
     record {
       streamed = at.streamed;
       room = at.room;

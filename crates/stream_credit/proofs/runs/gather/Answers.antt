@@ -1,6 +1,5 @@
 use Rattle.std.proofs.Common.{◌∷◌, ◌++◌, [], take, sym, ap, ◌∙◌}
-use Rattle.audit_terms.specs.declared.frames.Frame.{Frame}
-use Rattle.stream_credit.specs.code.Part.{frames_at}
+use Rattle.stream_credit.proofs.Words.{Frame, frames_at}
 use Rattle.stream_credit.proofs.RunLemmas.{frames-more}
 use Rattle.stream_credit.proofs.runs.gather.Goals as goal
 

@@ -3,11 +3,7 @@ use Rattle.std.specs.Option.{option_to_list}
 use Rattle.std.proofs.lemmas.Bool.{OnTrue_at, OnFalse_at}
 use Rattle.std.proofs.lemmas.Grind.{flat_map-append}
 use Rattle.std.proofs.lemmas.List.Elements.{All-take, All-drop}
-use Rattle.audit_terms.specs.declared.findings.Finding.{Finding}
-use Rattle.audit_terms.specs.declared.frames.Frame.{Frame}
-use Rattle.stream_credit.specs.declared.left.Left.{Left}
-use Rattle.stream_credit.specs.declared.walks.Walk.{Walk}
-use Rattle.stream_credit.specs.code.Part.{frames_at}
+use Rattle.stream_credit.proofs.Words.{Finding, Frame, Left, Walk, frames_at}
 use Rattle.stream_credit.proofs.RunLemmas.{MeetsFrames, goes-tail, stops-tail, last-changes}
 use Rattle.stream_credit.proofs.WalkLemmas.{nothing-left}
 use Rattle.stream_credit.proofs.runs.meet_all.Goals as goal

@@ -1,10 +1,7 @@
 use Rattle.std.proofs.Common.{◌≡◌, ℕ, ◌≤◌, ◌<◌, ◌+◌, ◌∷◌, List, Option, drop, length, slice_index_or, arith}
 use Rattle.std.proofs.lemmas.Bool.{OnTrue_at, OnFalse_at}
 use Rattle.std.proofs.lemmas.List.{drop_all, drop_more}
-use Rattle.audit_terms.specs.declared.findings.Finding.{Finding}
-use Rattle.audit_terms.specs.declared.frames.Frame.{Frame}
-use Rattle.stream_credit.specs.declared.left.Left.{Left}
-use Rattle.stream_credit.specs.declared.walks.Walk.{Walk}
+use Rattle.stream_credit.proofs.Words.{Finding, Frame, Left, Walk}
 use Rattle.stream_credit.proofs.RunLemmas.{MeetsSome}
 use Rattle.stream_credit.proofs.runs.meet_frames.Goals as goal
 

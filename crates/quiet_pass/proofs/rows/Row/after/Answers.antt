@@ -1,7 +1,6 @@
 use Rattle.std.proofs.Common.{sym, ◌∙◌, ap, subst}
 use Rattle.std.proofs.lemmas.Option.{same_Some}
-use Rattle.audit_terms.specs.declared.lives.StreamLife.{StreamLife}
-use Rattle.audit_terms.specs.Life.{is_not_opened, is_after_end}
+use Rattle.stream_credit.proofs.Words.{StreamLife, is_not_opened, is_after_end}
 use Rattle.quiet_pass.specs.code.Rows.{IsRowAfter}
 use Rattle.quiet_pass.proofs.StreamFrames.{row-after}
 use Rattle.quiet_pass.proofs.rows.Row.after.Goals as goal

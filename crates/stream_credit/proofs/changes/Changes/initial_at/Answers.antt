@@ -11,5 +11,5 @@ index-requires c =
 
 pub returns : goal.returns
 returns c =
-    initial-is c.args.met c.args.self.now c.self.inside.in_force.items c.index.result.now _ c.if-met-eq0.false c.requires
-    (rw c.self.view_is at c.self.invariant) c.index.ensures
+    initial-is c.args.met c.args.self.now c.self.inside.in_force.items c.index.result.now _ c.if-met-eq0.false
+    c.requires (rw c.self.view_is at c.self.invariant) c.index.ensures

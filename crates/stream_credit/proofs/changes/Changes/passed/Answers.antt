@@ -2,8 +2,7 @@ use Rattle.std.proofs.Common.{◌≡◌, ℕ, ◌+◌, ◌-◌, ◌^◌, ◌<◌
 use Rattle.std.proofs.Common.{arith}
 use Rattle.std.proofs.lemmas.List.{length-drop, length-take-le, take_rest}
 use Rattle.std.proofs.lemmas.List.Sorted.{IsPartitionPoint-from_clause}
-use Rattle.audit_terms.specs.declared.items.Change.{Change}
-use Rattle.settings_pair.specs.code.Changes.{AreOrderly}
+use Rattle.stream_credit.proofs.Words.{Change, AreOrderly}
 use Rattle.stream_credit.proofs.LeftLemmas.{orderly-drop, orderly-parted, parts-at_point}
 use Rattle.stream_credit.proofs.QuietStreams.{few-changes}
 use Rattle.stream_credit.proofs.changes.Changes.passed.Goals as goal

@@ -2,9 +2,7 @@ use Rattle.std.proofs.Common.{◌≡◌, ◌++◌, sym, ap, ◌∙◌, arith}
 use Rattle.std.proofs.lemmas.Bool.{OnTrue_at, OnTrue_from}
 use Rattle.std.proofs.lemmas.Bool.Decides.{nat_tests}
 use Rattle.std.proofs.lemmas.List.{nil_from_length}
-use Rattle.audit_terms.specs.declared.streams.Stream.{Stream}
-use Rattle.audit_terms.specs.Stream.{stream_said, stream_after}
-use Rattle.audit_terms.specs.code.runs.Streams.{frame_step}
+use Rattle.stream_credit.proofs.Words.{Stream, stream_said, stream_after, frame_step}
 use Rattle.stream_credit.proofs.QuietStreams.{none-in_order}
 use Rattle.stream_credit.proofs.quiet_streams.QuietStream.meet_step.Goals as goal
 

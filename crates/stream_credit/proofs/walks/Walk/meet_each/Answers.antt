@@ -1,12 +1,8 @@
-use Rattle.audit_terms.specs.declared.sides.Side.TheVariants.{Client}
+use Rattle.stream_credit.proofs.Words.{Client, Finding, Change, Walk, after_changes}
 use Rattle.std.proofs.Common.{None, ℕ, ◌+◌, ◌<◌, ◌≤◌, ◌∷◌, ◌∙◌, ap, List, Option, drop, length, slice_index_or, sym}
 use Rattle.std.proofs.Common.{arith}
 use Rattle.std.proofs.lemmas.Bool.{OnTrue_at, OnFalse_at}
 use Rattle.std.proofs.lemmas.List.{drop_all, drop_more}
-use Rattle.audit_terms.specs.declared.findings.Finding.{Finding}
-use Rattle.audit_terms.specs.declared.items.Change.{Change}
-use Rattle.stream_credit.specs.declared.walks.Walk.{Walk}
-use Rattle.stream_credit.specs.code.Left.{after_changes}
 use Rattle.stream_credit.proofs.WalkLemmas.{MeetsChanges, changes-next, changes-after, changes-end, live-on}
 use Rattle.stream_credit.proofs.walks.Walk.meet_each.Goals as goal
 
@@ -50,7 +46,9 @@ loop-change-preserved g c =
     let met = c.in_ok-meet.ensures in
     record {
       live = rw (OnTrue_at c.if-not-branch.false met.entry)
-          (live-on old.stream old.initial old.entry (slice_index_or c.args.changes.now c.loop-change.change-index no_change) ∙ c.loop-change.invariant.live);
+          (live-on old.stream old.initial old.entry
+          (slice_index_or c.args.changes.now c.loop-change.change-index no_change)
+          ∙ c.loop-change.invariant.live);
       meets = λ run number rest h.
           let next = turn c.args.changes.now c.loop-change.change-index c.loop-change-test.true
           c.loop-change.invariant.meets run number rest h in
