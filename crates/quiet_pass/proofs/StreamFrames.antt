@@ -5,8 +5,7 @@ use Rattle.std.proofs.Math.Bool.{and-false, or-false}
 use Rattle.std.proofs.lemmas.Bool.{and_right, or_parts, eq-eqb, ne_eqb}
 use Rattle.std.proofs.lemmas.Bool.Decides.{nat_tests}
 use Rattle.std.proofs.lemmas.Int.{ints}
-use Rattle.audit_terms.specs.Frame.{is_content, is_headers, is_update}
-use Rattle.audit_terms.specs.Frame.{needs_opening, is_server_promise, promises}
+use Rattle.audit_terms.specs.Frame.{is_content, is_headers, is_update, needs_opening, is_server_promise, promises}
 use Rattle.audit_terms.specs.Life.{idle_life, is_opening}
 use Rattle.audit_terms.specs.Stream.{opened_window_said, stream_window_said}
 use Rattle.stream_credit.specs.code.QuietStream.{opened_of}
