@@ -1,8 +1,8 @@
 -- The changes that are left: which are passed by number, what they leave in force, and that those after them are in
 -- order.
 use Rattle.std.proofs.Common.{◌≡◌, ℕ, zero, suc, ◌+◌, ◌-◌, ◌^◌, ◌<◌, ◌≤◌, nat_lt, ◌==◌, List, [], ◌∷◌, ◌++◌, take, drop}
-use Rattle.std.proofs.Common.{length, slice_get, slice_index_or, true, false, Some, None, refl, sym, ap, ◌∙◌, subst}
-use Rattle.std.proofs.Common.{arith, inl, inr}
+use Rattle.std.proofs.Common.{length, slice_get, slice_index_or, true, false, Some, refl, sym, ap, ◌∙◌, subst, arith}
+use Rattle.std.proofs.Common.{inl, inr, unwrap_or, Option}
 use Rattle.std.proofs.Math.Seq.{take-add, drop-append_seam}
 use Rattle.std.specs.List.{AllByRecursion}
 use Rattle.std.specs.List.Sorted.{IsPartitionPoint, IsPartitionedBy}
@@ -10,7 +10,7 @@ use Rattle.std.specs.Option.{ForSome}
 use Rattle.std.proofs.lemmas.Bool.{cases_Bool, cases_eq, ltb-true, ltb-false, eq-eqb, ne_eqb}
 use Rattle.std.proofs.lemmas.List.{take_more, take_all}
 use Rattle.std.proofs.lemmas.List.Sorted.{IsPartitionedBy-ltb}
-use Rattle.std.proofs.lemmas.Option.{same_Some, none-some, slice_get_within, get_or_from_slice_get}
+use Rattle.std.proofs.lemmas.Option.{same_Some, slice_get_within, get_or_from_slice_get}
 use Rattle.stream_credit.proofs.Words.{Sides, Frame, Change, is_ack, initial_in_force, initial_after, AreOrderlyFrom}
 use Rattle.stream_credit.proofs.Words.{after_changes, after_each, passed, left_from, change_at, left_after}
 use Rattle.stream_credit.proofs.Words.{AcknowledgesAt, Acknowledge, AreFrom, initial_at, AreBefore}
@@ -68,19 +68,12 @@ at-last now changes some =
     take_all (suc (length changes - 1)) changes (omega (arith, some)) in
     rw length-each last ∙ ap (λ (cs : List Change). Some (after_changes now cs)) all
 
-pub last-in_force : (now last : Sides ℕ) (changes : List Change) (windows : List (Sides ℕ))
-    → windows ≡ after_each now changes → Some last ≡ slice_get windows (length windows - 1)
-    → last ≡ after_changes now changes
-last-in_force now last [] windows e h = let none : Some last ≡ None = h ∙ rw e refl in cc
-last-in_force now last (change ∷ changes) windows e h =
-    same_Some last _ (h ∙ rw e (at-last now (change ∷ changes) (omega arith)))
-
-pub none-in_force : (now : Sides ℕ) (changes : List Change) (windows : List (Sides ℕ))
-    → windows ≡ after_each now changes → None ≡ slice_get windows (length windows - 1)
-    → now ≡ after_changes now changes
-none-in_force now [] windows e h = refl
-none-in_force now (change ∷ changes) windows e h =
-    absurd (none-some _ (h ∙ ap (λ l. slice_get l (length l - 1)) e ∙ at-last now (change ∷ changes) (omega arith)))
+pub last-in_force : (now : Sides ℕ) (changes : List Change) (windows : List (Sides ℕ)) (last : Option (Sides ℕ))
+    → windows ≡ after_each now changes → last ≡ slice_get windows (length windows - 1)
+    → unwrap_or last now ≡ after_changes now changes
+last-in_force now [] windows last e h = rw (h, e) refl
+last-in_force now (change ∷ changes) windows last e h =
+    rw (h, e, at-last now (change ∷ changes) (omega arith)) refl
 
 pub initial-is : (met : ℕ) (changes : List Change) (windows : List (Sides ℕ)) (now d : Sides ℕ) → (met ≡ 0 → ⊥)
     → met ≤ length changes → windows ≡ after_each initial_in_force.initial changes
@@ -218,19 +211,24 @@ acknowledge-drop n [] changes h = tt
 acknowledge-drop n (frame ∷ frames) changes h =
     (each-drop (AcknowledgesAt frame) n changes h.0, acknowledge-drop n frames changes h.1)
 
+after-drop : (number : ℕ) (changes : List Change) → (n : ℕ) × (left_after number changes ≡ drop n changes)
+after-drop number [] = (0, refl)
+after-drop number (change ∷ changes) =
+    elim (cases_Bool (number == change.number)) [
+      | inl e ↦ (1, rw e refl)
+      | inr e ↦ (0, rw e refl)
+    ]
+
 pub acknowledge-left_from : (number : ℕ) (frames : List Frame) (changes : List Change) → Acknowledge frames changes
     → Acknowledge frames (left_from number changes)
 acknowledge-left_from number frames changes h =
     rw left-drop (acknowledge-drop (length (passed number changes)) frames changes h)
 
-pub acknowledge-left_after : (number : ℕ) (frames : List Frame) (changes : List Change) → Acknowledge frames changes
-    → Acknowledge frames (left_after number changes)
-acknowledge-left_after number frames [] h = h
-acknowledge-left_after number frames (change ∷ changes) h =
-    elim (cases_Bool (number == change.number)) [
-      | inl e ↦ rw e (acknowledge-drop 1 frames (change ∷ changes) h)
-      | inr e ↦ rw e h
-    ]
+pub acknowledge-later : (number : ℕ) (frames : List Frame) (changes : List Change) → Acknowledge frames changes
+    → Acknowledge frames (left_after number (left_from number changes))
+acknowledge-later number frames changes h =
+    let (n, is) = after-drop number (left_from number changes) in
+    rw is (acknowledge-drop n frames (left_from number changes) (acknowledge-left_from number frames changes h))
 
 -- a frame that brings a change is an acknowledgement
 pub own-acknowledged : (frame : Frame) (changes : List Change) → AllByRecursion (AcknowledgesAt frame) changes

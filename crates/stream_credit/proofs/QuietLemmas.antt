@@ -16,7 +16,7 @@ use Rattle.stream_credit.proofs.SilentLemmas.{frame-unshown, IsCalm, calm-same, 
 
 -- ---- the frames that move one window
 
-same-if : (b : Bool) → ◌≡◌ {A = ℕ} (if b then 0 else 0) 0
+pub same-if : (b : Bool) → ◌≡◌ {A = ℕ} (if b then 0 else 0) 0
 same-if true = refl
 same-if false = refl
 

@@ -202,10 +202,10 @@ shows-nothing {changes = changes} {quiet = quiet} h f =
 
 -- ---- a frame that moves one window
 
-window-some : (standing : ℕ) → has_credit standing ≡ true → window_of standing ≡ Some (pos standing)
+pub window-some : (standing : ℕ) → has_credit standing ≡ true → window_of standing ≡ Some (pos standing)
 window-some standing h = rw h refl
 
-ended-none : (standing : ℕ) → has_credit standing ≡ true → has_ended standing ≡ false
+pub ended-none : (standing : ℕ) → has_credit standing ≡ true → has_ended standing ≡ false
 ended-none standing h = grind (arith, nat_tests)
 
 -- the window of a side goes from one credit to another, and the rest stays

@@ -1,9 +1,8 @@
 -- The run of a stream: it begins as the definition does, meets each frame behind the changes before it, and ends whole
 -- or cut.
 use Rattle.std.proofs.Common.{◌≡◌, ℕ, ◌+◌, ◌-◌, ◌^◌, ◌<◌, ◌≤◌, All, Bool, true, false, List, [], ◌∷◌, if◌then◌else◌}
-use Rattle.std.proofs.Common.{◌++◌, map, take, length, slice_get, slice_index_or, Option, Some, None, Result, Ok, Err}
-use Rattle.std.proofs.Common.{IfOk, refl, sym, ap, ◌∙◌, arith, inl, inr}
-use Rattle.std.specs.Bool.{OnTrue, OnFalse}
+use Rattle.std.proofs.Common.{◌++◌, map, take, length, slice_get, slice_index_or, Option, Some, None, refl, sym, ap}
+use Rattle.std.proofs.Common.{◌∙◌, arith, inl, inr}
 use Rattle.std.specs.List.{AllByRecursion}
 use Rattle.std.specs.Option.{ForSome, option_to_list}
 use Rattle.std.proofs.lemmas.Bool.{cases_Bool, cases_order, eq-eqb, ne_eqb, lt-ltb, le-ltb}
@@ -21,30 +20,10 @@ use Rattle.stream_credit.proofs.Words.{WholeRun, IsAt, IsAtChanges, IsSound, Has
 use Rattle.audit_terms.proofs.FindingLists.{each-filter}
 use Rattle.audit_terms.proofs.Watching.{ends, is-cut}
 use Rattle.stream_credit.proofs.LeftLemmas.{passed-before, orderly-before, orderly-left_from, orderly-left_after}
-use Rattle.stream_credit.proofs.LeftLemmas.{acknowledge-left_from, acknowledge-left_after, own-acknowledged}
+use Rattle.stream_credit.proofs.LeftLemmas.{acknowledge-left_from, acknowledge-later, own-acknowledged}
 use Rattle.stream_credit.proofs.MergedLemmas.{steps_of-merged, acknowledge-all, merged-passed, merged_at-own}
 use Rattle.stream_credit.proofs.SaidNumbers.{AreNumbered, HasNumber, run-numbered}
 use Rattle.stream_credit.proofs.WalkLemmas.{fall-from, fall-met, change_numbers, numbers-changes}
-
--- ---- a last call that answers whether the run goes on
-
-pub goes-tail : {E A B : Type 0} (r : Result Bool E) → IfOk r (λ goes_on. OnTrue goes_on A) → (A → B)
-    → IfOk r (λ goes_on. OnTrue goes_on B)
-goes-tail (Ok true) h f = f h
-goes-tail (Ok false) h f = tt
-goes-tail (Err e) h f = tt
-
-pub goes-tail_both : {E A B C : Type 0} (r : Result Bool E) → IfOk r (λ goes_on. OnTrue goes_on A)
-    → IfOk r (λ goes_on. OnTrue goes_on B) → (A → B → C) → IfOk r (λ goes_on. OnTrue goes_on C)
-goes-tail_both (Ok true) h k f = f h k
-goes-tail_both (Ok false) h k f = tt
-goes-tail_both (Err e) h k f = tt
-
-pub stops-tail : {E A B : Type 0} (r : Result Bool E) → IfOk r (λ goes_on. OnFalse goes_on A) → (A → B)
-    → IfOk r (λ goes_on. OnFalse goes_on B)
-stops-tail (Ok true) h f = tt
-stops-tail (Ok false) h f = f h
-stops-tail (Err e) h f = tt
 
 -- ---- a frame, and the changes before it
 
@@ -87,8 +66,7 @@ module _ {L : Type 0} {answers : L → List Finding → Option ℕ → L → Typ
         orderly = h.orderly.2;
         changes = rw (a, l) (orderly-left_after frame.number (left_from frame.number all)
             (orderly-left_from h.low frame.number all h.changes));
-        acknowledged = rw (a, l) (acknowledge-left_after frame.number frames (left_from frame.number all)
-            (acknowledge-left_from frame.number frames all h.acknowledged.1));
+        acknowledged = rw (a, l) (acknowledge-later frame.number frames all h.acknowledged.1);
         in_force = in_force;
         at = rw a at;
       }
@@ -139,21 +117,13 @@ AreInOrder low (step ∷ steps) =
     (low ≤ step.number) × (step.number ≤ 2 ^ 28 - 2) × IsNumbered step.number step.frame
     × AreInOrder (step.number + 1) steps
 
-order-fall : (low least : ℕ) (steps : List Step) → least ≤ low → AreInOrder low steps
-    → NeverFallFrom least (numbers_of steps)
-order-fall low least [] order h = tt
-order-fall low least (step ∷ steps) order h =
-    (omega (arith, order, h.0), order-fall (step.number + 1) step.number steps (omega arith) h.3)
-
-order-bound : (low : ℕ) (steps : List Step) → AreInOrder low steps
-    → AllByRecursion (λ n. n ≤ 2 ^ 28 - 2) (numbers_of steps)
-order-bound low [] h = tt
-order-bound low (step ∷ steps) h = (h.1, order-bound (step.number + 1) steps h.3)
-
-order-own : (low : ℕ) (steps : List Step) → AreInOrder low steps
-    → AllByRecursion (λ (step : Step). IsNumbered step.number step.frame) steps
-order-own low [] h = tt
-order-own low (step ∷ steps) h = (h.2, order-own (step.number + 1) steps h.3)
+order-facts : (low least : ℕ) (steps : List Step) → least ≤ low → AreInOrder low steps
+    → NeverFallFrom least (numbers_of steps) × AllByRecursion (λ n. n ≤ 2 ^ 28 - 2) (numbers_of steps)
+    × AllByRecursion (λ (step : Step). IsNumbered step.number step.frame) steps
+order-facts low least [] order h = (tt, tt, tt)
+order-facts low least (step ∷ steps) order h =
+    let (falls, within, own) = order-facts (step.number + 1) step.number steps (omega arith) h.3 in
+    ((omega (arith, order, h.0), falls), (h.1, within), (h.2, own))
 
 order-changes : (low : ℕ) (changes : List Change) → AreOrderlyFrom low changes
     → AreInOrder low (map change_step changes)
@@ -215,8 +185,7 @@ pub run-starts : {L : Type 0} {answers : L → List Finding → Option ℕ → L
     → IsSound answers (whole_run start stream credits_shown frames changes) now walk left frames
 run-starts {frames = frames} {changes = changes} {walk = walk} range h k acks l w s c e i f begun =
     let steps = steps_of-merged 0 frames changes k in
-    let order = order-merged 0 frames changes h k in
-    let falls = order-fall 0 0 (merged frames changes) (omega arith) order in
+    let order = order-facts 0 0 (merged frames changes) (omega arith) (order-merged 0 frames changes h k) in
     record {
       low = 0;
       orderly = h;
@@ -232,9 +201,9 @@ run-starts {frames = frames} {changes = changes} {walk = walk} range h k acks l 
         met = [];
         count = omega arith;
         numbers = rw (s, e, i, steps) refl;
-        rise = falls;
-        own = order-own 0 (merged frames changes) order;
-        watches = begun _ _ (fall-met 0 walk.stream walk.initial walk.entry (merged frames changes) falls);
+        rise = order.0;
+        own = order.2;
+        watches = begun _ _ (fall-met 0 walk.stream walk.initial walk.entry (merged frames changes) order.0);
       });
     }
 
@@ -277,7 +246,8 @@ kept-numbered stream credits_shown frames changes range h k upto kept e =
     whole =
         run-numbered (λ n. n ≤ 2 ^ 28 - 2) credits_shown stream initial_in_force.initial idle_stream
         (steps_of frames changes) range
-        (rw (steps_of-merged 0 frames changes k) (order-bound 0 _ (order-merged 0 frames changes h k)))
+        (rw (steps_of-merged 0 frames changes k) (order-facts 0 0 (merged frames changes) (omega arith)
+        (order-merged 0 frames changes h k)).1)
 
     by_upto : (place : Option ℕ) → AreNumbered (λ n. n ≤ 2 ^ 28 - 2)
         (up_to place (shown credits_shown (stream_run stream frames changes)))

@@ -13,7 +13,7 @@ use Rattle.stream_credit.proofs.Words.{side_of, each_side, life_after, shown, is
 use Rattle.stream_credit.proofs.Words.{change_step, initial_after, stream_run_from, stream_after_all, stream_after}
 use Rattle.stream_credit.proofs.Words.{WindowHasRoom, Watches, IsStopped, NeverFallFrom, Walk, is_live, is_met}
 use Rattle.stream_credit.proofs.Words.{met_from, opened_up_to, after_changes, met_by, numbers_of, IsNumbered, IsCounted}
-use Rattle.stream_credit.proofs.Words.{HasRoomAt, WholeRun, IsAt, IsAtChanges, HasStopped}
+use Rattle.stream_credit.proofs.Words.{HasRoomAt, WholeRun, IsAt, IsAtChanges, HasStopped, window_after}
 use Rattle.audit_terms.proofs.FindingLists.{each-append, each-filter}
 use Rattle.stream_credit.proofs.SaidNumbers.{below-more, said-numbered, run-numbered, before-parts}
 
@@ -135,15 +135,11 @@ passes F law initial entry dead changes rest =
 -- a change ends no window
 pub live-on : (stream : ℕ) (initial : Sides ℕ) (entry : Stream) (change : Change)
     → is_live (stream_after stream initial entry (change_step change)) ≡ is_live entry
-live-on stream initial entry change = by_windows entry.window.client entry.window.server where
-  by_windows : (client server : Option ℤ)
-      → is_live (stream_after stream initial
-      (record { life = entry.life; window = record { client = client; server = server } }) (change_step change))
-      ≡ is_live (record { life = entry.life; window = record { client = client; server = server } })
-  by_windows None None = refl
-  by_windows None (Some server) = refl
-  by_windows (Some client) None = refl
-  by_windows (Some client) (Some server) = refl
+live-on stream initial entry change = rw (on Client entry.window.client, on Server entry.window.server) refl where
+  on : (d : Side) (window : Option ℤ)
+      → is_some (window_after d stream initial (change_step change) window) ≡ is_some window
+  on d None = refl
+  on d (Some credit) = refl
 
 pub numbers-changes : (changes : List Change) (rest : List Step)
     → numbers_of (map change_step changes ++ rest) ≡ change_numbers changes ++ numbers_of rest

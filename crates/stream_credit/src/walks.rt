@@ -262,7 +262,8 @@ impl Walk {
             return Ok(false);
         }
         let change = left.take(frame.number);
-        self.meet_with(look, frame, &change)
+        let is_met = self.meet_with(look, frame, &change)?;
+        Ok(is_met)
     }
 
     /// Meets a frame and the change that it brings, if it brings one, under the same conditions as any step.

@@ -1,10 +1,10 @@
 use Rattle.std.proofs.Common.{◌≡◌, ℕ, ◌<◌, ◌++◌, List, Option, length, slice_get, sym, ◌∙◌}
 use Rattle.std.specs.Option.{option_to_list}
-use Rattle.std.proofs.lemmas.Bool.{OnTrue_at, OnFalse_at}
+use Rattle.std.proofs.lemmas.Bool.{OnTrue_at, OnFalse_at, OnTrue_from, OnFalse_from}
 use Rattle.std.proofs.lemmas.Grind.{flat_map-append}
 use Rattle.std.proofs.lemmas.List.Elements.{All-take, All-drop}
 use Rattle.stream_credit.proofs.Words.{Finding, Frame, Left, Walk, frames_at}
-use Rattle.stream_credit.proofs.RunLemmas.{MeetsFrames, goes-tail, stops-tail, last-changes}
+use Rattle.stream_credit.proofs.RunLemmas.{MeetsFrames, last-changes}
 use Rattle.stream_credit.proofs.WalkLemmas.{nothing-left}
 use Rattle.stream_credit.proofs.runs.meet_all.Goals as goal
 
@@ -60,14 +60,13 @@ pub meet_changes-requires-clause-in_force : goal.meet_changes-requires-clause-in
 meet_changes-requires-clause-in_force g c =
     let (run, h) = c.requires.sound in (c.loop-rest.invariant.meets run h).in_force
 
-pub returns-clause-goes_on : goal.returns-clause-goes_on
-returns-clause-goes_on g c =
+pub returns : goal.returns
+returns g c =
     let none = nothing-left c.loop-rest.rest.now (sym c.loop-rest-test.false ∙ c.is_empty.ensures) in
-    goes-tail c.meet_changes.result c.meet_changes.ensures.goes_on
-    (λ goes. λ run h. (_, goes run _ _ (last-changes (rw none at (c.loop-rest.invariant.meets run h)))))
-
-pub returns-clause-stops : goal.returns-clause-stops
-returns-clause-stops g c =
-    let none = nothing-left c.loop-rest.rest.now (sym c.loop-rest-test.false ∙ c.is_empty.ensures) in
-    stops-tail c.meet_changes.result c.meet_changes.ensures.stops
-    (λ stops. λ run h. stops run _ _ (last-changes (rw none at (c.loop-rest.invariant.meets run h))))
+    let met = c.in_ok-is_met.ensures in
+    record {
+      goes_on = OnTrue_from c.in_ok-is_met.is_met _ (λ is. λ run h.
+          (_, OnTrue_at is met.goes_on run _ _ (last-changes (rw none at (c.loop-rest.invariant.meets run h)))));
+      stops = OnFalse_from c.in_ok-is_met.is_met _ (λ is. λ run h.
+          OnFalse_at is met.stops run _ _ (last-changes (rw none at (c.loop-rest.invariant.meets run h))));
+    }

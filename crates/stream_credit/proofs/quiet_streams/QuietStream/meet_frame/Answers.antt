@@ -1,4 +1,4 @@
-use Rattle.stream_credit.proofs.RunLemmas.{goes-tail}
+use Rattle.std.proofs.lemmas.Bool.{OnTrue_at, OnTrue_from}
 use Rattle.stream_credit.proofs.QuietStreams.{ahead-frame}
 use Rattle.stream_credit.proofs.quiet_streams.QuietStream.meet_frame.Goals as goal
 
@@ -9,6 +9,7 @@ returns-then-moves c = λ all rest h.
 pub returns : goal.returns
 returns c =
     let initial = rw c.get-2.ensures at c.initial_at-initial.ensures in
-    goes-tail c.meet_step.result c.meet_step.ensures (λ next. λ all rest h.
+    OnTrue_from c.in_ok-is_quiet.is_quiet _ (λ quiet. λ all rest h.
     ahead-frame (rw (← c.if-moves.ensures.kept) at h)
-    (rw c.if-moves.ensures.kept ((rw c.get.ensures at c.if-is_at.ensures) c.requires.passed)) (rw initial at next))
+    (rw c.if-moves.ensures.kept ((rw c.get.ensures at c.if-is_at.ensures) c.requires.passed))
+    (rw initial at (OnTrue_at quiet c.in_ok-is_quiet.ensures)))

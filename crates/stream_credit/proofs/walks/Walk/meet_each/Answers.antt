@@ -1,27 +1,19 @@
-use Rattle.stream_credit.proofs.Words.{Client, Finding, Change, Walk, after_changes}
-use Rattle.std.proofs.Common.{None, ℕ, ◌+◌, ◌<◌, ◌≤◌, ◌∷◌, ◌∙◌, ap, List, Option, drop, length, slice_index_or, sym}
-use Rattle.std.proofs.Common.{arith}
+use Rattle.stream_credit.proofs.Words.{Client, Change, after_changes}
+use Rattle.std.proofs.Common.{None, ◌≤◌, ◌∙◌, ap, length, slice_index_or, sym, arith}
 use Rattle.std.proofs.lemmas.Bool.{OnTrue_at, OnFalse_at}
 use Rattle.std.proofs.lemmas.List.{drop_all, drop_more}
-use Rattle.stream_credit.proofs.WalkLemmas.{MeetsChanges, changes-next, changes-after, changes-end, live-on}
+use Rattle.stream_credit.proofs.WalkLemmas.{changes-next, changes-after, changes-end, live-on}
 use Rattle.stream_credit.proofs.walks.Walk.meet_each.Goals as goal
 
 -- what an index past the end reads
 abbrev no_change : Change
 no_change = record { number = 0; side = Client; initial = None; max_frame = None; push = None }
 
--- the next of the changes that are left
-turn : {L : Type 0} {answers : L → List Finding → Option ℕ → L → Type 0} {before now : L} {old walk : Walk}
-    (changes : List Change) (i : ℕ) → i < length changes
-    → MeetsChanges answers before old changes now walk (drop i changes)
-    → MeetsChanges answers before old changes now walk (slice_index_or changes i no_change ∷ drop (i + 1) changes)
-turn changes i within meets run number rest h = rw (drop_more changes i no_change within) at (meets run number rest h)
-
 pub meet-requires-clause-numbered : goal.meet-requires-clause-numbered
 meet-requires-clause-numbered g c =
     let (run, number, rest, h) = c.requires.at in
-    let next = turn c.args.changes.now c.loop-change.change-index c.loop-change-test.true c.loop-change.invariant.meets
-    run number rest h in
+    let next = rw (drop_more c.args.changes.now c.loop-change.change-index no_change c.loop-change-test.true) at
+    (c.loop-change.invariant.meets run number rest h) in
     omega (arith, next.before.2)
 
 pub meet-requires-clause-met : goal.meet-requires-clause-met
@@ -30,14 +22,14 @@ meet-requires-clause-met g c = c.loop-change.invariant.live
 pub meet-requires-clause-at : goal.meet-requires-clause-at
 meet-requires-clause-at g c =
     let (run, number, rest, h) = c.requires.at in
-    let next = turn c.args.changes.now c.loop-change.change-index c.loop-change-test.true c.loop-change.invariant.meets
-    run number rest h in
+    let next = rw (drop_more c.args.changes.now c.loop-change.change-index no_change c.loop-change-test.true) at
+    (c.loop-change.invariant.meets run number rest h) in
     (run, _, changes-next next)
 
 pub returns-then-not-branch-clause-stops : goal.returns-then-not-branch-clause-stops
 returns-then-not-branch-clause-stops g c = λ run number rest h.
-    let next = turn c.args.changes.now c.loop-change.change-index c.loop-change-test.true c.loop-change.invariant.meets
-    run number rest h in
+    let next = rw (drop_more c.args.changes.now c.loop-change.change-index no_change c.loop-change-test.true) at
+    (c.loop-change.invariant.meets run number rest h) in
     OnFalse_at c.if-not-branch.true c.in_ok-meet.ensures.stops run _ (changes-next next)
 
 pub loop-change-preserved : goal.loop-change-preserved
@@ -50,8 +42,8 @@ loop-change-preserved g c =
           (slice_index_or c.args.changes.now c.loop-change.change-index no_change)
           ∙ c.loop-change.invariant.live);
       meets = λ run number rest h.
-          let next = turn c.args.changes.now c.loop-change.change-index c.loop-change-test.true
-          c.loop-change.invariant.meets run number rest h in
+          let next = rw (drop_more c.args.changes.now c.loop-change.change-index no_change c.loop-change-test.true) at
+          (c.loop-change.invariant.meets run number rest h) in
           changes-after next (OnTrue_at c.if-not-branch.false met.goes_on run _ (changes-next next));
       initial = rw (OnTrue_at c.if-not-branch.false met.initial)
           (ap (after_changes old.initial)

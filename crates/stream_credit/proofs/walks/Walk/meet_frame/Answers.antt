@@ -1,7 +1,7 @@
 use Rattle.std.proofs.Common.{ap, ◌∙◌}
 use Rattle.audit_terms.specs.code.runs.Streams.{initial_after}
-use Rattle.std.proofs.lemmas.Bool.{OnTrue_at, OnFalse_at}
-use Rattle.stream_credit.proofs.RunLemmas.{goes-tail_both, stops-tail, frame-changes, frame-acknowledged, frame-sound}
+use Rattle.std.proofs.lemmas.Bool.{OnTrue_at, OnFalse_at, OnTrue_from, OnFalse_from}
+use Rattle.stream_credit.proofs.RunLemmas.{frame-changes, frame-acknowledged, frame-sound}
 use Rattle.stream_credit.proofs.walks.Walk.meet_frame.Goals as goal
 
 pub meet_changes-requires-clause-at : goal.meet_changes-requires-clause-at
@@ -27,21 +27,19 @@ meet_with-requires-clause-at g c =
 
 pub returns-clause-goes_on : goal.returns-clause-goes_on
 returns-clause-goes_on g c =
-    goes-tail_both c.meet_with.result c.meet_with.ensures.goes_on c.meet_with.ensures.initial
-    (λ goes initial. λ run frames h.
+    OnTrue_from c.in_ok-is_met.is_met _ (λ is. λ run frames h.
     let at = OnTrue_at c.if-not-branch.false c.in_ok-meet_changes.ensures.goes_on run _ _
     (frame-changes h c.pass-passed.ensures.left c.pass-passed.ensures.passed) in
     let in_force = c.take-change.ensures.in_force _
     (c.pass-passed.ensures.in_force_after c.args.self.now.initial h.in_force) in
-    let now = initial ∙ ap (initial_after c.take-change.result)
+    let now = OnTrue_at is c.in_ok-is_met.ensures.initial ∙ ap (initial_after c.take-change.result)
     (OnTrue_at c.if-not-branch.false c.in_ok-meet_changes.ensures.initial) in
     frame-sound h c.pass-passed.ensures.left c.take-change.ensures.left (rw now in_force)
-    (goes run _ (rw (← c.take-change.ensures.change) at at)))
+    (OnTrue_at is c.in_ok-is_met.ensures.goes_on run _ (rw (← c.take-change.ensures.change) at at)))
 
 pub returns-clause-stops : goal.returns-clause-stops
 returns-clause-stops g c =
-    stops-tail c.meet_with.result c.meet_with.ensures.stops
-    (λ stops. λ run frames h.
+    OnFalse_from c.in_ok-is_met.is_met _ (λ is. λ run frames h.
     let at = OnTrue_at c.if-not-branch.false c.in_ok-meet_changes.ensures.goes_on run _ _
     (frame-changes h c.pass-passed.ensures.left c.pass-passed.ensures.passed) in
-    stops run _ (rw (← c.take-change.ensures.change) at at))
+    OnFalse_at is c.in_ok-is_met.ensures.stops run _ (rw (← c.take-change.ensures.change) at at))
