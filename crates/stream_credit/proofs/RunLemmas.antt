@@ -1,28 +1,25 @@
 -- The run of a stream: it begins as the definition does, meets each frame behind the changes before it, and ends whole
 -- or cut.
 use Rattle.std.proofs.Common.{◌≡◌, ℕ, ◌+◌, ◌-◌, ◌^◌, ◌<◌, ◌≤◌, All, Bool, true, false, List, [], ◌∷◌, if◌then◌else◌}
-use Rattle.std.proofs.Common.{◌++◌, map, take, length, slice_get, slice_index_or, Option, Some, None, refl, sym, ap}
+use Rattle.std.proofs.Common.{◌++◌, map, Option, Some, None, refl, sym, ap}
 use Rattle.std.proofs.Common.{◌∙◌, arith, inl, inr}
 use Rattle.std.specs.List.{AllByRecursion}
-use Rattle.std.specs.Option.{ForSome, option_to_list}
+use Rattle.std.specs.Option.{ForSome}
 use Rattle.std.proofs.lemmas.Bool.{cases_Bool, cases_order, eq-eqb, ne_eqb, lt-ltb, le-ltb}
-use Rattle.std.proofs.lemmas.Grind.{flat_map-append}
-use Rattle.std.proofs.lemmas.List.{append-nil, take_more}
+use Rattle.std.proofs.lemmas.List.{append-nil}
 use Rattle.std.proofs.lemmas.List.Elements.{All-from_recursion}
-use Rattle.std.proofs.lemmas.Option.{slice_get-get_or}
 use Rattle.stream_credit.proofs.Words.{Client, Server, Frame, Change, Step, Finding, is_ack, place_number, shown}
 use Rattle.stream_credit.proofs.Words.{initial_in_force, idle_stream, up_to, IsRun, IsOrderlyFrom, IsOrderly}
 use Rattle.stream_credit.proofs.Words.{change_step, steps_of, stream_run, stream_at_end, Watches, NeverFallFrom}
 use Rattle.stream_credit.proofs.Words.{AreOrderlyFrom, AreOrderly, AreAcknowledged, Left, Walk, after_each, passed}
 use Rattle.stream_credit.proofs.Words.{left_from, change_at, left_after, IsInForce, step_numbers, opened_up_to}
-use Rattle.stream_credit.proofs.Words.{merged_at, merged, frame_with, frames_at, numbers_of, IsNumbered, HasRoomAt}
+use Rattle.stream_credit.proofs.Words.{merged_at, merged, frame_with, numbers_of, IsNumbered, HasRoomAt}
 use Rattle.stream_credit.proofs.Words.{WholeRun, IsAt, IsAtChanges, IsSound, HasEnded, HasStopped}
-use Rattle.audit_terms.proofs.FindingLists.{each-filter}
 use Rattle.audit_terms.proofs.Watching.{ends, is-cut}
 use Rattle.stream_credit.proofs.LeftLemmas.{passed-before, orderly-before, orderly-left_from, orderly-left_after}
 use Rattle.stream_credit.proofs.LeftLemmas.{acknowledge-left_from, acknowledge-later, own-acknowledged}
 use Rattle.stream_credit.proofs.MergedLemmas.{steps_of-merged, acknowledge-all, merged-passed, merged_at-own}
-use Rattle.stream_credit.proofs.SaidNumbers.{AreNumbered, HasNumber, run-numbered}
+use Rattle.stream_credit.proofs.SaidNumbers.{HasNumber, upto-numbered, run-numbered}
 use Rattle.stream_credit.proofs.WalkLemmas.{fall-from, fall-met, change_numbers, numbers-changes}
 
 -- ---- a frame, and the changes before it
@@ -71,19 +68,7 @@ module _ {L : Type 0} {answers : L → List Finding → Option ℕ → L → Typ
         at = rw a at;
       }
 
--- ---- all frames of a part
-
-pub frames-more : (frames : List Frame) (positions : List ℕ) (i d : ℕ) (e : Frame) → i < length positions
-    → slice_index_or positions i d < length frames
-    → frames_at frames (take (i + 1) positions)
-    ≡ frames_at frames (take i positions) ++ slice_index_or frames (slice_index_or positions i d) e ∷ []
-frames-more frames positions i d e within inside =
-    rw (
-      take_more positions i d within,
-      flat_map-append (λ position. option_to_list (slice_get frames position)) (take i positions)
-          (slice_index_or positions i d ∷ []),
-      slice_get-get_or frames (slice_index_or positions i d) e inside,
-    ) refl
+-- ---- all frames
 
 pub last-changes : {L : Type 0} {answers : L → List Finding → Option ℕ → L → Type 0} {run : WholeRun L} {now : L}
     {walk : Walk} {left : Left} (h : IsSound answers run now walk left [])
@@ -101,13 +86,6 @@ abbrev pub MeetsFrames : {L : Type 0} → (L → List Finding → Option ℕ →
     → List Frame → (now : L) → Walk → Left → List Frame → Type 0
 MeetsFrames {L} answers before old old_left frames now walk left rest =
     (run : WholeRun L) → IsSound answers run before old old_left frames → IsSound answers run now walk left rest
-
--- the same of a walk that has more frames to come
-abbrev pub MeetsSome : {L : Type 0} → (L → List Finding → Option ℕ → L → Type 0) → (before : L) → Walk → Left
-    → List Frame → (now : L) → Walk → Left → List Frame → Type 0
-MeetsSome {L} answers before old old_left frames now walk left some =
-    (run : WholeRun L) (rest : List Frame) → IsSound answers run before old old_left (frames ++ rest)
-    → IsSound answers run now walk left (some ++ rest)
 
 -- ---- the steps come in order, and the frame of a step has its number
 
@@ -240,16 +218,7 @@ pub kept-numbered : (stream : ℕ) (credits_shown : Bool) (frames : List Frame) 
     → kept ≡ up_to upto (shown credits_shown (stream_run stream frames changes))
     → All (λ (found : Finding). place_number found.place ≤ 2 ^ 28 - 2) kept
 kept-numbered stream credits_shown frames changes range h k upto kept e =
-    rw e (All-from_recursion (HasNumber (λ n. n ≤ 2 ^ 28 - 2)) _ (by_upto upto))
-  where
-    whole : AreNumbered (λ n. n ≤ 2 ^ 28 - 2) (shown credits_shown (stream_run stream frames changes))
-    whole =
-        run-numbered (λ n. n ≤ 2 ^ 28 - 2) credits_shown stream initial_in_force.initial idle_stream
-        (steps_of frames changes) range
-        (rw (steps_of-merged 0 frames changes k) (order-facts 0 0 (merged frames changes) (omega arith)
-        (order-merged 0 frames changes h k)).1)
-
-    by_upto : (place : Option ℕ) → AreNumbered (λ n. n ≤ 2 ^ 28 - 2)
-        (up_to place (shown credits_shown (stream_run stream frames changes)))
-    by_upto None = whole
-    by_upto (Some place) = each-filter (HasNumber (λ n. n ≤ 2 ^ 28 - 2)) _ _ whole
+    let order = order-facts 0 0 (merged frames changes) (omega arith) (order-merged 0 frames changes h k) in
+    rw e (All-from_recursion (HasNumber (λ n. n ≤ 2 ^ 28 - 2)) _ (upto-numbered (λ n. n ≤ 2 ^ 28 - 2) upto _
+    (run-numbered (λ n. n ≤ 2 ^ 28 - 2) credits_shown stream initial_in_force.initial idle_stream
+    (steps_of frames changes) range (rw (steps_of-merged 0 frames changes k) order.1))))

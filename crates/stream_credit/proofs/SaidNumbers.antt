@@ -1,9 +1,9 @@
 -- What a step shows of a stream stands at its number.
-use Rattle.std.proofs.Common.{◌≡◌, ℕ, ◌^◌, ◌<◌, ◌≤◌, Bool, List, [], ◌∷◌, ◌++◌, sym, subst, arith}
+use Rattle.std.proofs.Common.{◌≡◌, ℕ, ◌^◌, ◌<◌, ◌≤◌, Bool, List, [], ◌∷◌, ◌++◌, sym, subst, arith, Option, Some, None}
 use Rattle.std.specs.List.{AllByRecursion}
 use Rattle.stream_credit.proofs.Words.{Sides, Step, Stream, Finding, place_number, in_order, is_shown, shown}
 use Rattle.stream_credit.proofs.Words.{found_before, stream_said, stream_after, initial_after, stream_run_from}
-use Rattle.stream_credit.proofs.Words.{numbers_of}
+use Rattle.stream_credit.proofs.Words.{numbers_of, up_to}
 use Rattle.audit_terms.proofs.FindingLists.{each-append, each-filter, each-in_order, each-weaker}
 use Rattle.audit_terms.proofs.SaidPlaces.{at-stream, before-front, numbered-at}
 
@@ -41,6 +41,11 @@ run-numbered P credits_shown stream initial entry steps h all =
     each initial entry (step ∷ steps) all =
         each-append (HasNumber P) _ _ (said-numbered P stream initial entry step h all.0)
         (each (initial_after step.change initial) (stream_after stream initial entry step) steps all.1)
+
+pub upto-numbered : (P : ℕ → Type 0) (upto : Option ℕ) (xs : List Finding) → AreNumbered P xs
+    → AreNumbered P (up_to upto xs)
+upto-numbered P None xs h = h
+upto-numbered P (Some place) xs h = each-filter (HasNumber P) _ xs h
 
 -- ---- what was found before a frame
 
