@@ -1,19 +1,14 @@
 -- The changes that are left: which are passed by number, what they leave in force, and that those after them are in
 -- order.
-use Rattle.std.proofs.Common.{◌≡◌, ℕ, zero, suc, ◌+◌, ◌-◌, ◌^◌, ◌<◌, ◌≤◌, nat_lt, ◌==◌, List, [], ◌∷◌, ◌++◌, take, drop}
-use Rattle.std.proofs.Common.{length, slice_get, slice_index_or, true, false, Some, refl, sym, ap, ◌∙◌, subst, arith}
-use Rattle.std.proofs.Common.{inl, inr, unwrap_or, Option}
-use Rattle.std.proofs.Math.Seq.{take-add, drop-append_seam}
-use Rattle.std.specs.List.{AllByRecursion}
-use Rattle.std.specs.List.Sorted.{IsPartitionPoint, IsPartitionedBy}
-use Rattle.std.specs.Option.{ForSome}
-use Rattle.std.proofs.lemmas.Bool.{cases_Bool, cases_eq, ltb-true, ltb-false, eq-eqb, ne_eqb}
-use Rattle.std.proofs.lemmas.List.{take_more, take_all}
-use Rattle.std.proofs.lemmas.List.Sorted.{IsPartitionedBy-ltb}
-use Rattle.std.proofs.lemmas.Option.{same_Some, slice_get_within, get_or_from_slice_get}
-use Rattle.stream_credit.proofs.Words.{Sides, Frame, Change, is_ack, initial_in_force, initial_after, AreOrderlyFrom}
-use Rattle.stream_credit.proofs.Words.{after_changes, after_each, passed, left_from, change_at, left_after}
-use Rattle.stream_credit.proofs.Words.{AcknowledgesAt, Acknowledge, AreFrom, initial_at, AreBefore}
+use Rattle.stream_credit.proofs.Words.{◌≡◌, ℕ, zero, suc, ◌+◌, ◌-◌, ◌^◌, ◌<◌, ◌≤◌, nat_lt, ◌==◌, List, [], ◌∷◌, ◌++◌}
+use Rattle.stream_credit.proofs.Words.{take, drop, length, slice_get, slice_index_or, true, false, Some, refl, sym, ap}
+use Rattle.stream_credit.proofs.Words.{◌∙◌, subst, arith, inl, inr, unwrap_or, Option, take-add, drop-append_seam}
+use Rattle.stream_credit.proofs.Words.{AllByRecursion, IsPartitionPoint, IsPartitionedBy, ForSome, cases_Bool, cases_eq}
+use Rattle.stream_credit.proofs.Words.{ltb-true, ltb-false, eq-eqb, ne_eqb, take_more, take_all, IsPartitionedBy-ltb}
+use Rattle.stream_credit.proofs.Words.{same_Some, slice_get_within, get_or_from_slice_get, Sides, Frame, Change, is_ack}
+use Rattle.stream_credit.proofs.Words.{initial_in_force, initial_after, AreOrderlyFrom, after_changes, after_each}
+use Rattle.stream_credit.proofs.Words.{passed, left_from, change_at, left_after, AcknowledgesAt, Acknowledge, AreFrom}
+use Rattle.stream_credit.proofs.Words.{initial_at, AreBefore}
 
 -- ---- what is in force
 

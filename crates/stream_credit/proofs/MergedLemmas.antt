@@ -1,11 +1,9 @@
 -- The forward walk gives the steps of the definition; it takes out the changes before a frame, then the frame.
-use Rattle.std.proofs.Common.{◌≡◌, ℕ, ◌+◌, ◌<◌, ◌≤◌, All, Bool, true, false, nat_lt, ◌==◌, if◌then◌else◌, List, [], ◌∷◌}
-use Rattle.std.proofs.Common.{◌++◌, map, refl, sym, ap, ◌∙◌, inl, inr, arith}
-use Rattle.std.specs.List.{AllByRecursion}
-use Rattle.std.proofs.lemmas.List.{map-append}
-use Rattle.std.proofs.lemmas.List.Elements.{recursion_from_All}
-use Rattle.std.proofs.lemmas.Bool.{cases_Bool, cases_order, ltb-true, eq-eqb, ne_eqb, lt-ltb, le-ltb}
-use Rattle.stream_credit.proofs.Words.{Frame, Change, Step, frame_step, change_step, with_change, steps_of}
+use Rattle.std.proofs.Common.{All}
+use Rattle.stream_credit.proofs.Words.{◌≡◌, ℕ, ◌+◌, ◌<◌, ◌≤◌, Bool, true, false, nat_lt, ◌==◌, if◌then◌else◌, List, []}
+use Rattle.stream_credit.proofs.Words.{◌∷◌, ◌++◌, map, refl, sym, ap, ◌∙◌, inl, inr, arith, AllByRecursion, map-append}
+use Rattle.stream_credit.proofs.Words.{recursion_from_All, cases_Bool, cases_order, ltb-true, eq-eqb, ne_eqb, lt-ltb}
+use Rattle.stream_credit.proofs.Words.{le-ltb, Frame, Change, Step, frame_step, change_step, with_change, steps_of}
 use Rattle.stream_credit.proofs.Words.{AreOrderlyFrom, AreAcknowledged, passed, left_from, change_at, left_after}
 use Rattle.stream_credit.proofs.Words.{joined_step, frame_with, merged_at, merged, AcknowledgesAt, Acknowledge}
 use Rattle.stream_credit.proofs.Words.{StartsAt}

@@ -1,17 +1,13 @@
 -- A frame that moves one window of a stream and shows nothing where credits are not shown.
-use Rattle.std.proofs.Common.{◌≡◌, ℕ, ℤ, pos, ◌+◌, ◌*◌, ◌^◌, ◌<◌, ◌+ℤ◌, ◌-ℤ◌, int_lt, nat_lt, Bool, true, false, ◌&&◌}
-use Rattle.std.proofs.Common.{if◌then◌else◌, [], Option, Some, None, is_some, refl, sym, ap, ◌∙◌, arith}
-use Rattle.std.proofs.Math.Bool.{and-false, or-false}
-use Rattle.std.proofs.lemmas.Bool.{and_right, eq-eqb, ne_eqb}
-use Rattle.std.proofs.lemmas.Int.{ints}
-use Rattle.std.proofs.lemmas.List.{append-nil}
-use Rattle.std.proofs.lemmas.Option.{same_Some}
-use Rattle.stream_credit.proofs.Words.{Side, Client, Server, Sides, Body, WindowUpdate, Frame, Change, Step, StreamLife}
-use Rattle.stream_credit.proofs.Words.{Stream, other, is_side, side_of, is_reset, is_promise, is_zero_grant, increment}
-use Rattle.stream_credit.proofs.Words.{content_by, sends_end, is_last_of, ends_window, is_after_end, life_after}
-use Rattle.stream_credit.proofs.Words.{is_used_up, overruns, in_order, shown, stream_said, stream_after, HasRoom}
-use Rattle.stream_credit.proofs.Words.{WindowHasRoom, Move, Walk, frame_with, sent, granted, IsMove, IsQuiet, IsCounted}
-use Rattle.stream_credit.proofs.Words.{HasRoomAt}
+use Rattle.stream_credit.proofs.Words.{◌≡◌, ℕ, ℤ, pos, ◌+◌, ◌*◌, ◌^◌, ◌<◌, ◌+ℤ◌, ◌-ℤ◌, int_lt, nat_lt, Bool, true}
+use Rattle.stream_credit.proofs.Words.{false, ◌&&◌, if◌then◌else◌, [], Option, Some, None, is_some, refl, sym, ap, ◌∙◌}
+use Rattle.stream_credit.proofs.Words.{arith, and-false, or-false, and_right, eq-eqb, ne_eqb, ints, append-nil}
+use Rattle.stream_credit.proofs.Words.{same_Some, Side, Client, Server, Sides, Body, WindowUpdate, Frame, Change, Step}
+use Rattle.stream_credit.proofs.Words.{StreamLife, Stream, other, is_side, side_of, is_reset, is_promise, is_zero_grant}
+use Rattle.stream_credit.proofs.Words.{increment, content_by, sends_end, is_last_of, ends_window, is_after_end}
+use Rattle.stream_credit.proofs.Words.{life_after, is_used_up, overruns, in_order, shown, stream_said, stream_after}
+use Rattle.stream_credit.proofs.Words.{HasRoom, WindowHasRoom, Move, Walk, frame_with, sent, granted, IsMove, IsQuiet}
+use Rattle.stream_credit.proofs.Words.{IsCounted, HasRoomAt}
 use Rattle.stream_credit.proofs.SilentLemmas.{frame-unshown, IsCalm, calm-same, calm-some, stream-shown, stream-moved}
 
 -- ---- the frames that move one window

@@ -1,21 +1,16 @@
 -- A stream of which nothing is shown, from one of its frames to the next.
-use Rattle.std.proofs.Common.{◌≡◌, ℕ, pos, ◌+◌, ◌-◌, ◌^◌, ◌<◌, ◌≤◌, Bool, true, false, List, [], ◌∷◌, ◌++◌, map, take}
-use Rattle.std.proofs.Common.{drop, length, slice_get, Some, refl, sym, ap, ◌∙◌, arith, inl, inr}
-use Rattle.std.proofs.Math.Seq.{take-append_seam}
-use Rattle.std.proofs.lemmas.Bool.{cases_Bool}
-use Rattle.std.proofs.lemmas.Bool.Decides.{nat_tests}
-use Rattle.std.proofs.lemmas.List.{drop-drop, drop_more, length-drop, length-append}
-use Rattle.std.proofs.lemmas.List.Elements.{filter-append}
-use Rattle.std.proofs.lemmas.Option.{slice_get_within, get_or_from_slice_get}
-use Rattle.stream_credit.proofs.Words.{Client, Server, Sides, StreamLife, Frame, Change, Step, Stream, Finding, other}
-use Rattle.stream_credit.proofs.Words.{side_of, in_order, is_shown, shown, idle_stream, stream_said, stream_after}
-use Rattle.stream_credit.proofs.Words.{IsOrderlyFrom, IsOrderly, frame_step, change_step, initial_after}
-use Rattle.stream_credit.proofs.Words.{stream_run_from, stream_after_all, AreOrderlyFrom, AreOrderly, AreAcknowledged}
-use Rattle.stream_credit.proofs.Words.{QuietStream, Move, is_live, after_changes, passed, left_from, merged}
-use Rattle.stream_credit.proofs.Words.{Acknowledge, IsMove, IsRaised, IsQuiet, has_credit, has_ended, window_of}
-use Rattle.stream_credit.proofs.Words.{stream_of, initial_at, IsPassed, IsNext, AreFrom, StartsAt, IsAhead}
-use Rattle.stream_credit.proofs.Words.{ShowsNothing}
-use Rattle.audit_terms.proofs.FindingLists.{each-in_order}
+use Rattle.std.proofs.lemmas.List.{length-append}
+use Rattle.stream_credit.proofs.Words.{◌≡◌, ℕ, pos, ◌+◌, ◌-◌, ◌^◌, ◌<◌, ◌≤◌, Bool, true, false, List, [], ◌∷◌, ◌++◌}
+use Rattle.stream_credit.proofs.Words.{map, take, drop, length, slice_get, Some, refl, sym, ap, ◌∙◌, arith, inl, inr}
+use Rattle.stream_credit.proofs.Words.{take-append_seam, cases_Bool, nat_tests, drop-drop, drop_more, length-drop}
+use Rattle.stream_credit.proofs.Words.{filter-append, slice_get_within, get_or_from_slice_get, each-in_order, Client}
+use Rattle.stream_credit.proofs.Words.{Server, Sides, StreamLife, Frame, Change, Step, Stream, Finding, other, side_of}
+use Rattle.stream_credit.proofs.Words.{in_order, is_shown, shown, idle_stream, stream_said, stream_after, IsOrderlyFrom}
+use Rattle.stream_credit.proofs.Words.{IsOrderly, frame_step, change_step, initial_after, stream_run_from}
+use Rattle.stream_credit.proofs.Words.{stream_after_all, AreOrderlyFrom, AreOrderly, AreAcknowledged, QuietStream, Move}
+use Rattle.stream_credit.proofs.Words.{is_live, after_changes, passed, left_from, merged, Acknowledge, IsMove, IsRaised}
+use Rattle.stream_credit.proofs.Words.{IsQuiet, has_credit, has_ended, window_of, stream_of, initial_at, IsPassed}
+use Rattle.stream_credit.proofs.Words.{IsNext, AreFrom, StartsAt, IsAhead, ShowsNothing}
 use Rattle.stream_credit.proofs.LeftLemmas.{parted, initial-more, initial-next, left-drop, left-from, orderly-drop}
 use Rattle.stream_credit.proofs.LeftLemmas.{orderly-from}
 use Rattle.stream_credit.proofs.MergedLemmas.{steps_of-merged, acknowledge-all, merged_at-first, merged-change}

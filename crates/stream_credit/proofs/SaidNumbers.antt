@@ -1,11 +1,9 @@
 -- What a step shows of a stream stands at its number.
-use Rattle.std.proofs.Common.{◌≡◌, ℕ, ◌^◌, ◌<◌, ◌≤◌, Bool, List, [], ◌∷◌, ◌++◌, sym, subst, arith, Option, Some, None}
-use Rattle.std.specs.List.{AllByRecursion}
-use Rattle.stream_credit.proofs.Words.{Sides, Step, Stream, Finding, place_number, in_order, is_shown, shown}
-use Rattle.stream_credit.proofs.Words.{found_before, stream_said, stream_after, initial_after, stream_run_from}
-use Rattle.stream_credit.proofs.Words.{numbers_of, up_to}
-use Rattle.audit_terms.proofs.FindingLists.{each-append, each-filter, each-in_order, each-weaker}
-use Rattle.audit_terms.proofs.SaidPlaces.{at-stream, before-front, numbered-at}
+use Rattle.stream_credit.proofs.Words.{◌≡◌, ℕ, ◌^◌, ◌<◌, ◌≤◌, Bool, List, [], ◌∷◌, ◌++◌, sym, subst, arith, Option}
+use Rattle.stream_credit.proofs.Words.{Some, None, AllByRecursion, each-append, each-filter, each-in_order, each-weaker}
+use Rattle.stream_credit.proofs.Words.{at-stream, before-front, numbered-at, Sides, Step, Stream, Finding, place_number}
+use Rattle.stream_credit.proofs.Words.{in_order, is_shown, shown, found_before, stream_said, stream_after}
+use Rattle.stream_credit.proofs.Words.{initial_after, stream_run_from, numbers_of, up_to}
 
 -- each finding's frame number is of a sort
 abbrev pub HasNumber : (ℕ → Type 0) → Finding → Type 0

@@ -1,20 +1,15 @@
 -- A walk meets steps as the definition does, looks between them, and stops before one that lies past.
-use Rattle.std.proofs.Common.{◌≡◌, ℕ, ℤ, ◌+◌, ◌-◌, ◌*◌, ◌^◌, ◌<◌, ◌≤◌, inl, inr, Bool, true, false, ◌==◌, ◌&&◌, ◌||◌}
-use Rattle.std.proofs.Common.{if◌then◌else◌, List, [], ◌∷◌, ◌++◌, append_assoc, length-append, map, length, Option}
-use Rattle.std.proofs.Common.{Some, None, is_some, is_none, refl, sym, ap, ◌∙◌, subst, arith}
-use Rattle.std.specs.List.{AllByRecursion}
-use Rattle.std.specs.Option.{option_map_or}
-use Rattle.std.proofs.lemmas.Bool.{cases_Bool, eqb-true}
-use Rattle.std.proofs.lemmas.Bool.Decides.{nat_tests}
-use Rattle.std.proofs.lemmas.Int.{ints}
-use Rattle.std.proofs.lemmas.List.Elements.{filter-append}
-use Rattle.stream_credit.proofs.Words.{Side, Client, Server, Sides, StreamLife, Frame, Change, Step, Stream, Finding}
-use Rattle.stream_credit.proofs.Words.{side_of, each_side, life_after, shown, is_shown, is_past, found_before}
-use Rattle.stream_credit.proofs.Words.{change_step, initial_after, stream_run_from, stream_after_all, stream_after}
-use Rattle.stream_credit.proofs.Words.{WindowHasRoom, Watches, IsStopped, NeverFallFrom, Walk, is_live, is_met}
-use Rattle.stream_credit.proofs.Words.{met_from, opened_up_to, after_changes, met_by, numbers_of, IsNumbered, IsCounted}
-use Rattle.stream_credit.proofs.Words.{HasRoomAt, WholeRun, IsAt, IsAtChanges, HasStopped, window_after}
-use Rattle.audit_terms.proofs.FindingLists.{each-append, each-filter}
+use Rattle.std.proofs.Common.{length-append}
+use Rattle.stream_credit.proofs.Words.{◌≡◌, ℕ, ℤ, ◌+◌, ◌-◌, ◌*◌, ◌^◌, ◌<◌, ◌≤◌, inl, inr, Bool, true, false, ◌==◌, ◌&&◌}
+use Rattle.stream_credit.proofs.Words.{◌||◌, if◌then◌else◌, List, [], ◌∷◌, ◌++◌, append_assoc, map, length, Option}
+use Rattle.stream_credit.proofs.Words.{Some, None, is_some, is_none, refl, sym, ap, ◌∙◌, subst, arith, AllByRecursion}
+use Rattle.stream_credit.proofs.Words.{option_map_or, cases_Bool, eqb-true, nat_tests, ints, filter-append, each-append}
+use Rattle.stream_credit.proofs.Words.{each-filter, Side, Client, Server, Sides, StreamLife, Frame, Change, Step}
+use Rattle.stream_credit.proofs.Words.{Stream, Finding, side_of, each_side, life_after, shown, is_shown, is_past}
+use Rattle.stream_credit.proofs.Words.{found_before, change_step, initial_after, stream_run_from, stream_after_all}
+use Rattle.stream_credit.proofs.Words.{stream_after, WindowHasRoom, Watches, IsStopped, NeverFallFrom, Walk, is_live}
+use Rattle.stream_credit.proofs.Words.{is_met, met_from, opened_up_to, after_changes, met_by, numbers_of, IsNumbered}
+use Rattle.stream_credit.proofs.Words.{IsCounted, HasRoomAt, WholeRun, IsAt, IsAtChanges, HasStopped, window_after}
 use Rattle.stream_credit.proofs.SaidNumbers.{below-more, said-numbered, run-numbered, before-parts}
 
 -- ---- room

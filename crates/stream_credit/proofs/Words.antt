@@ -1,4 +1,7 @@
 -- The words that proofs of this crate cite, passed on from one place. Declares nothing.
+pub use Rattle.audit_terms.proofs.FindingLists.{each-append, each-filter, each-in_order, each-weaker}
+pub use Rattle.audit_terms.proofs.SaidPlaces.{at-stream, before-front, numbered-at}
+pub use Rattle.audit_terms.proofs.Watching.{ends, is-cut}
 pub use Rattle.audit_terms.specs.Change.{new_initial}
 pub use Rattle.audit_terms.specs.Finding.{in_order, is_shown, say, say_of, shown}
 pub use Rattle.audit_terms.specs.Frame.{content_by, grant_to, increment, is_ack, is_promise, is_reset, is_zero_grant}
@@ -31,6 +34,28 @@ pub use Rattle.audit_terms.specs.declared.sides.Side.TheVariants.{Client, Server
 pub use Rattle.audit_terms.specs.declared.sides.Sides.{Sides}
 pub use Rattle.audit_terms.specs.declared.streams.Stream.{Stream}
 pub use Rattle.settings_pair.specs.code.Changes.{AreAcknowledged, AreOrderly, AreOrderlyFrom}
+pub use Rattle.std.proofs.Common.{Bool, List, None, Option, SFits, Some, [], ap, append_assoc, arith, drop, false}
+pub use Rattle.std.proofs.Common.{if◌then◌else◌, inl, inr, int_lt, is_none, is_some, length, map, nat_lt, not}
+pub use Rattle.std.proofs.Common.{option_map, pos, refl, rules, slice_get, slice_index_or, subst, suc, sym, take, true}
+pub use Rattle.std.proofs.Common.{unwrap_or, w64, zero, ℕ, ℤ, ◌&&◌, ◌*◌, ◌++◌, ◌+ℤ◌, ◌+◌, ◌-ℤ◌, ◌-◌, ◌<◌, ◌==◌, ◌^◌}
+pub use Rattle.std.proofs.Common.{◌||◌, ◌∙◌, ◌∷◌, ◌≡◌, ◌≤◌}
+pub use Rattle.std.proofs.Math.Bool.{and-false, or-false}
+pub use Rattle.std.proofs.Math.Seq.{drop-append_seam, take-add, take-append_seam}
+pub use Rattle.std.proofs.lemmas.Bool.{OnFalse_at, OnFalse_from, OnTrue_at, OnTrue_from, and_right, cases_Bool}
+pub use Rattle.std.proofs.lemmas.Bool.{cases_eq, cases_order, cond-false, cond-true, eq-eqb, eqb-true, le-ltb, lt-ltb}
+pub use Rattle.std.proofs.lemmas.Bool.{ltb-false, ltb-true, ne_eqb, or_from, or_left}
+pub use Rattle.std.proofs.lemmas.Bool.Decides.{nat_tests}
+pub use Rattle.std.proofs.lemmas.Grind.{flat_map-append}
+pub use Rattle.std.proofs.lemmas.Int.{ints, to_z-of_z}
+pub use Rattle.std.proofs.lemmas.List.{append-nil, drop-drop, drop_all, drop_more, length-drop, length-take-le}
+pub use Rattle.std.proofs.lemmas.List.{map-append, nil_from_length, take_all, take_more, take_rest}
+pub use Rattle.std.proofs.lemmas.List.Elements.{All-drop, All-from_recursion, All-take, filter-append}
+pub use Rattle.std.proofs.lemmas.List.Elements.{recursion_from_All}
+pub use Rattle.std.proofs.lemmas.List.Sorted.{IsPartitionPoint-from_clause, IsPartitionedBy-ltb}
+pub use Rattle.std.proofs.lemmas.Option.{get_or_from_slice_get, same_Some, slice_get-get_or, slice_get_within}
+pub use Rattle.std.specs.List.{AllByRecursion}
+pub use Rattle.std.specs.List.Sorted.{IsPartitionPoint, IsPartitionedBy}
+pub use Rattle.std.specs.Option.{ForSome, option_map_or, option_to_list}
 pub use Rattle.stream_credit.specs.code.Left.{IsInForce, after_changes, after_each, change_at, left_after, left_from}
 pub use Rattle.stream_credit.specs.code.Left.{passed}
 pub use Rattle.stream_credit.specs.code.Looks.{is_live, is_met, met_from, opened_up_to, step_numbers}

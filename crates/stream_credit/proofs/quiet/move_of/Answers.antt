@@ -1,5 +1,4 @@
-use Rattle.std.proofs.Common.{◌∙◌, ap, sym, refl, not}
-use Rattle.audit_terms.specs.declared.frames.Body.TheVariants.{WindowUpdate}
+use Rattle.stream_credit.proofs.Words.{◌∙◌, ap, sym, refl, not, WindowUpdate}
 use Rattle.stream_credit.proofs.QuietLemmas.{sent-move, granted-move}
 use Rattle.stream_credit.proofs.quiet.move_of.Goals as goal
 

@@ -1,9 +1,5 @@
-use Rattle.std.proofs.Common.{◌∷◌, ◌++◌, [], slice_get, slice_index_or, take, ap, ◌∙◌}
-use Rattle.std.specs.Option.{option_to_list}
-use Rattle.std.proofs.lemmas.Grind.{flat_map-append}
-use Rattle.std.proofs.lemmas.List.{take_more}
-use Rattle.std.proofs.lemmas.Option.{slice_get-get_or}
-use Rattle.stream_credit.proofs.Words.{Frame}
+use Rattle.stream_credit.proofs.Words.{◌∷◌, ◌++◌, [], slice_get, slice_index_or, take, ap, ◌∙◌, option_to_list}
+use Rattle.stream_credit.proofs.Words.{flat_map-append, take_more, slice_get-get_or, Frame}
 use Rattle.stream_credit.proofs.runs.gather.Goals as goal
 
 pub loop-position-preserved : goal.loop-position-preserved

@@ -1,9 +1,6 @@
-use Rattle.std.proofs.Common.{◌≡◌, ℕ, ◌<◌, ◌++◌, List, Option, length, slice_get, sym, ◌∙◌}
-use Rattle.std.specs.Option.{option_to_list}
-use Rattle.std.proofs.lemmas.Bool.{OnTrue_at, OnFalse_at, OnTrue_from, OnFalse_from}
-use Rattle.std.proofs.lemmas.Grind.{flat_map-append}
-use Rattle.std.proofs.lemmas.List.Elements.{All-take, All-drop}
-use Rattle.stream_credit.proofs.Words.{Finding, Frame, Left, Walk, frames_at}
+use Rattle.stream_credit.proofs.Words.{◌≡◌, ℕ, ◌<◌, ◌++◌, List, Option, length, slice_get, sym, ◌∙◌, option_to_list}
+use Rattle.stream_credit.proofs.Words.{OnTrue_at, OnFalse_at, OnTrue_from, OnFalse_from, flat_map-append, All-take}
+use Rattle.stream_credit.proofs.Words.{All-drop, Finding, Frame, Left, Walk, frames_at}
 use Rattle.stream_credit.proofs.RunLemmas.{MeetsFrames, last-changes}
 use Rattle.stream_credit.proofs.WalkLemmas.{nothing-left}
 use Rattle.stream_credit.proofs.runs.meet_all.Goals as goal

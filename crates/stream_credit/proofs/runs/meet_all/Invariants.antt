@@ -1,6 +1,5 @@
-use Rattle.std.proofs.Common.{ℕ, ◌<◌, length}
+use Rattle.stream_credit.proofs.Words.{ℕ, ◌<◌, length, frames_at, part_frames}
 use Rattle.std.specs.List.{All}
-use Rattle.stream_credit.specs.code.Part.{frames_at, part_frames}
 use Rattle.stream_credit.proofs.RunLemmas.{MeetsFrames}
 use Rattle.stream_credit.proofs.runs.meet_all.Given as goal
 

@@ -1,6 +1,4 @@
-use Rattle.std.proofs.Common.{◌≤◌, length, arith}
-use Rattle.std.proofs.lemmas.Bool.{OnTrue_at, OnFalse_at}
-use Rattle.std.proofs.lemmas.List.{drop_all, drop_more}
+use Rattle.stream_credit.proofs.Words.{◌≤◌, length, arith, OnTrue_at, OnFalse_at, drop_all, drop_more}
 use Rattle.stream_credit.proofs.runs.meet_frames.Goals as goal
 
 pub meet_frame-requires : goal.meet_frame-requires

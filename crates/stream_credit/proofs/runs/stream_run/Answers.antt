@@ -1,5 +1,4 @@
-use Rattle.std.proofs.Common.{◌∙◌}
-use Rattle.std.proofs.lemmas.Bool.{OnTrue_at, OnFalse_at}
+use Rattle.stream_credit.proofs.Words.{◌∙◌, OnTrue_at, OnFalse_at}
 use Rattle.stream_credit.proofs.RunLemmas.{run-starts, run-ends, run-opened, kept-numbered}
 use Rattle.stream_credit.proofs.runs.stream_run.Goals as goal
 

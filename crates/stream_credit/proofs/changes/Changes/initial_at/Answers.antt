@@ -1,5 +1,4 @@
-use Rattle.std.proofs.Common.{length, ap, ◌∙◌, arith}
-use Rattle.audit_terms.specs.InForce.{initial_in_force}
+use Rattle.stream_credit.proofs.Words.{length, ap, ◌∙◌, arith, initial_in_force}
 use Rattle.stream_credit.proofs.LeftLemmas.{length-each, initial-is}
 use Rattle.stream_credit.proofs.changes.Changes.initial_at.Goals as goal
 

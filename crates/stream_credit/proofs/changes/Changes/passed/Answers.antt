@@ -1,8 +1,6 @@
-use Rattle.std.proofs.Common.{◌≡◌, ℕ, ◌+◌, ◌-◌, ◌^◌, ◌<◌, ◌≤◌, List, length, take, drop, nat_lt, sym, ap, ◌∙◌, rules}
-use Rattle.std.proofs.Common.{arith}
-use Rattle.std.proofs.lemmas.List.{length-drop, length-take-le, take_rest}
-use Rattle.std.proofs.lemmas.List.Sorted.{IsPartitionPoint-from_clause}
-use Rattle.stream_credit.proofs.Words.{Change, AreOrderly}
+use Rattle.stream_credit.proofs.Words.{◌≡◌, ℕ, ◌+◌, ◌-◌, ◌^◌, ◌<◌, ◌≤◌, List, length, take, drop, nat_lt, sym, ap, ◌∙◌}
+use Rattle.stream_credit.proofs.Words.{rules, arith, length-drop, length-take-le, take_rest}
+use Rattle.stream_credit.proofs.Words.{IsPartitionPoint-from_clause, Change, AreOrderly}
 use Rattle.stream_credit.proofs.LeftLemmas.{orderly-drop, orderly-parted, parts-at_point}
 use Rattle.stream_credit.proofs.QuietStreams.{few-changes}
 use Rattle.stream_credit.proofs.changes.Changes.passed.Goals as goal

@@ -1,6 +1,4 @@
-use Rattle.std.proofs.Common.{ap, ◌∙◌, length, nat_lt, arith, rules}
-use Rattle.std.proofs.lemmas.List.Sorted.{IsPartitionPoint-from_clause}
-use Rattle.audit_terms.specs.declared.items.Change.{Change}
+use Rattle.stream_credit.proofs.Words.{ap, ◌∙◌, length, nat_lt, arith, rules, IsPartitionPoint-from_clause, Change}
 use Rattle.stream_credit.proofs.LeftLemmas.{length-each, take-each, drop-each, orderly-parted, parts-at_point}
 use Rattle.stream_credit.proofs.left.Left.pass.Goals as goal
 

@@ -1,5 +1,4 @@
-use Rattle.std.proofs.Common.{◌∷◌, refl}
-use Rattle.std.proofs.lemmas.Bool.{OnTrue_at}
+use Rattle.stream_credit.proofs.Words.{◌∷◌, refl, OnTrue_at}
 use Rattle.stream_credit.proofs.QuietStreams.{ahead-told}
 use Rattle.stream_credit.proofs.quiet_streams.QuietStream.meet.Goals as goal
 

@@ -1,5 +1,4 @@
-use Rattle.std.proofs.Common.{arith}
-use Rattle.std.proofs.lemmas.Option.{slice_get_within}
+use Rattle.stream_credit.proofs.Words.{arith, slice_get_within}
 use Rattle.stream_credit.proofs.QuietStreams.{few-changes, ahead-change}
 use Rattle.stream_credit.proofs.quiet_streams.QuietStream.meet_each.Goals as goal
 

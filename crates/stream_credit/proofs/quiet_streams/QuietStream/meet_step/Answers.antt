@@ -1,8 +1,5 @@
-use Rattle.std.proofs.Common.{◌≡◌, ◌++◌, sym, ap, ◌∙◌, arith}
-use Rattle.std.proofs.lemmas.Bool.{OnTrue_at, OnTrue_from}
-use Rattle.std.proofs.lemmas.Bool.Decides.{nat_tests}
-use Rattle.std.proofs.lemmas.List.{nil_from_length}
-use Rattle.stream_credit.proofs.Words.{Stream, stream_said, stream_after, frame_step}
+use Rattle.stream_credit.proofs.Words.{◌≡◌, ◌++◌, sym, ap, ◌∙◌, arith, OnTrue_at, OnTrue_from, nat_tests}
+use Rattle.stream_credit.proofs.Words.{nil_from_length, Stream, stream_said, stream_after, frame_step}
 use Rattle.stream_credit.proofs.QuietStreams.{none-in_order}
 use Rattle.stream_credit.proofs.quiet_streams.QuietStream.meet_step.Goals as goal
 

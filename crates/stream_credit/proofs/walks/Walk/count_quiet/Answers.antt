@@ -1,5 +1,4 @@
-use Rattle.std.proofs.Common.{◌∙◌, refl, sym}
-use Rattle.audit_terms.specs.declared.sides.Side.TheVariants.{Client, Server}
+use Rattle.stream_credit.proofs.Words.{◌∙◌, refl, sym, Client, Server}
 use Rattle.stream_credit.proofs.WalkLemmas.{room-wide}
 use Rattle.stream_credit.proofs.QuietLemmas.{quiet-counted, quiet-room}
 use Rattle.stream_credit.proofs.walks.Walk.count_quiet.Goals as goal

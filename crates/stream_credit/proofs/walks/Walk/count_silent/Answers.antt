@@ -1,5 +1,4 @@
-use Rattle.std.proofs.Common.{◌∙◌, sym}
-use Rattle.audit_terms.specs.declared.sides.Side.TheVariants.{Client, Server}
+use Rattle.stream_credit.proofs.Words.{◌∙◌, sym, Client, Server}
 use Rattle.stream_credit.proofs.WalkLemmas.{room-wide, room-next}
 use Rattle.stream_credit.proofs.SilentLemmas.{silent-counted}
 use Rattle.stream_credit.proofs.walks.Walk.count_silent.Goals as goal

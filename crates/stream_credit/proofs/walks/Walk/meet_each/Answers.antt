@@ -1,7 +1,5 @@
-use Rattle.stream_credit.proofs.Words.{Client, Change, after_changes}
-use Rattle.std.proofs.Common.{None, ◌≤◌, ◌∙◌, ap, length, slice_index_or, sym, arith}
-use Rattle.std.proofs.lemmas.Bool.{OnTrue_at, OnFalse_at}
-use Rattle.std.proofs.lemmas.List.{drop_all, drop_more}
+use Rattle.stream_credit.proofs.Words.{Client, Change, after_changes, None, ◌≤◌, ◌∙◌, ap, length, slice_index_or, sym}
+use Rattle.stream_credit.proofs.Words.{arith, OnTrue_at, OnFalse_at, drop_all, drop_more}
 use Rattle.stream_credit.proofs.WalkLemmas.{changes-next, changes-after, changes-end, live-on}
 use Rattle.stream_credit.proofs.walks.Walk.meet_each.Goals as goal
 

@@ -1,6 +1,4 @@
-use Rattle.std.proofs.Common.{ap, ◌∙◌}
-use Rattle.audit_terms.specs.code.runs.Streams.{initial_after}
-use Rattle.std.proofs.lemmas.Bool.{OnTrue_at, OnFalse_at, OnTrue_from, OnFalse_from}
+use Rattle.stream_credit.proofs.Words.{ap, ◌∙◌, initial_after, OnTrue_at, OnFalse_at, OnTrue_from, OnFalse_from}
 use Rattle.stream_credit.proofs.RunLemmas.{frame-changes, frame-acknowledged, frame-sound}
 use Rattle.stream_credit.proofs.walks.Walk.meet_frame.Goals as goal
 
