@@ -1,8 +1,7 @@
 -- The connection after a frame of which nothing is shown.
-use Rattle.std.proofs.Common.{◌≡◌, ℕ, pos, int_lt, nat_lt, Bool, false, Option, None, refl, sym, ap, ◌∙◌, arith}
-use Rattle.std.proofs.lemmas.Int.{ints}
-use Rattle.stream_credit.proofs.Words.{Side, Client, Server, Sides, is_used_up, overflows, overruns, Frame, Change}
-use Rattle.stream_credit.proofs.Words.{side_of}
+use Rattle.stream_credit.proofs.Words.{◌≡◌, ℕ, pos, int_lt, nat_lt, Bool, false, Option, None, refl, sym, ap, ◌∙◌}
+use Rattle.stream_credit.proofs.Words.{arith, ints, Side, Client, Server, Sides, is_used_up, overflows, overruns, Frame}
+use Rattle.stream_credit.proofs.Words.{Change, side_of}
 use Rattle.audit_terms.specs.Connection.{credit_after}
 use Rattle.audit_terms.specs.Change.{new_limit, new_push}
 use Rattle.audit_terms.specs.Frame.{is_server_promise}

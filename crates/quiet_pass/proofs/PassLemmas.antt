@@ -1,13 +1,13 @@
 -- What the machine stands for, from frame to frame.
-use Rattle.std.proofs.Common.{◌≡◌, ℕ, ◌+◌, ◌<◌, ◌%◌, ◌==◌, Bool, true, false, ◌&&◌, not, if◌then◌else◌, List, [], ◌∷◌}
-use Rattle.std.proofs.Common.{◌++◌, filter, Option, Some, None, is_some, is_none, refl, sym, ap, ◌∙◌, subst, arith}
-use Rattle.std.proofs.Common.{append_assoc, inl, inr}
-use Rattle.std.proofs.lemmas.Bool.{cases_Bool, cases_eq, eq-eqb, ne_eqb}
+use Rattle.std.proofs.Common.{◌%◌}
+use Rattle.std.proofs.Common.{filter}
+use Rattle.stream_credit.proofs.Words.{◌≡◌, ℕ, ◌+◌, ◌<◌, ◌==◌, Bool, true, false, ◌&&◌, not, if◌then◌else◌, List, []}
+use Rattle.stream_credit.proofs.Words.{◌∷◌, ◌++◌, Option, Some, None, is_some, is_none, refl, sym, ap, ◌∙◌, subst}
+use Rattle.stream_credit.proofs.Words.{arith, append_assoc, inl, inr, cases_Bool, cases_eq, eq-eqb, ne_eqb, append-nil}
+use Rattle.stream_credit.proofs.Words.{each-in_order, and-false, Side, Client, Server, Sides, Frame, Change, Stream}
+use Rattle.stream_credit.proofs.Words.{Finding, is_side, side_of, is_ack, stream_said, initial_after}
 use Rattle.std.specs.List.{flat_map}
-use Rattle.std.proofs.lemmas.List.{append-nil}
 use Rattle.audit_terms.specs.Frame.{settings_in, is_server_promise, meets, promised_by}
-use Rattle.stream_credit.proofs.Words.{Side, Client, Server, Sides, Frame, Change, Stream, Finding, is_side, side_of}
-use Rattle.stream_credit.proofs.Words.{is_ack, stream_said, initial_after}
 use Rattle.audit_terms.specs.declared.settings.Settings.{Settings}
 use Rattle.audit_terms.specs.declared.items.Item.{Item}
 use Rattle.audit_terms.specs.declared.connections.ConnectionState.{ConnectionState}
@@ -19,7 +19,6 @@ use Rattle.audit_terms.specs.Finding.{stops, upto_stop}
 use Rattle.audit_terms.specs.Pass.{PassState, pass_start, step_of, opens_stream, next, streams_said, said, full_from}
 use Rattle.audit_terms.specs.Pass.{first_of, streams_of, pass, item_of as item_in}
 use Rattle.audit_terms.specs.code.runs.States.{state_from, state_after}
-use Rattle.audit_terms.proofs.FindingLists.{each-in_order}
 use Rattle.stream_credit.proofs.SilentLemmas.{both, unsaid, none-shown}
 use Rattle.quiet_pass.specs.declared.last_frames.LastFrame.{LastFrame}
 use Rattle.quiet_pass.specs.declared.pending.Pending.{Pending}
@@ -35,7 +34,6 @@ use Rattle.quiet_pass.specs.code.QuietPass.{IsQuietAfter}
 use Rattle.quiet_pass.specs.laws.QuietFrames.{QuietFramesShowNothing}
 use Rattle.quiet_pass.proofs.StreamFrames.{promises-other}
 use Rattle.quiet_pass.proofs.StreamLemmas.{unmoved, all-moved}
-use Rattle.std.proofs.Math.Bool.{and-false}
 
 -- ---- the connection and the streams
 

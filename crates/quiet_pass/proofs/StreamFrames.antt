@@ -1,19 +1,18 @@
 -- A stream after a frame of which nothing is shown: how each side stands, and the row that is kept of it.
-use Rattle.std.proofs.Common.{◌≡◌, ℕ, pos, ◌<◌, int_lt, nat_lt, ◌==◌, Bool, true, false, ◌&&◌, if◌then◌else◌, ◌⊎◌, inl}
-use Rattle.std.proofs.Common.{inr, List, Some, None, refl, sym, ap, ◌∙◌, arith, subst}
-use Rattle.std.proofs.Math.Bool.{and-false, or-false}
-use Rattle.std.proofs.lemmas.Bool.{and_right, or_parts, eq-eqb, ne_eqb}
-use Rattle.std.proofs.lemmas.Bool.Decides.{nat_tests}
-use Rattle.std.proofs.lemmas.Int.{ints}
+use Rattle.std.proofs.Common.{◌⊎◌}
+use Rattle.std.proofs.lemmas.Bool.{or_parts}
+use Rattle.stream_credit.proofs.Words.{◌≡◌, ℕ, pos, ◌<◌, int_lt, nat_lt, ◌==◌, Bool, true, false, ◌&&◌, if◌then◌else◌}
+use Rattle.stream_credit.proofs.Words.{inl, inr, List, Some, None, refl, sym, ap, ◌∙◌, arith, subst, and-false}
+use Rattle.stream_credit.proofs.Words.{or-false, and_right, eq-eqb, ne_eqb, nat_tests, ints, Side, Client, Server}
+use Rattle.stream_credit.proofs.Words.{Sides, Body, WindowUpdate, Frame, StreamLife, Stream, other, is_side, side_of}
+use Rattle.stream_credit.proofs.Words.{is_reset, increment, is_zero_grant, content_by, grant_to, sends_end, is_last_of}
+use Rattle.stream_credit.proofs.Words.{ends_window, is_not_opened, is_after_end, life_after, is_used_up, overflows}
+use Rattle.stream_credit.proofs.Words.{overruns, say_of, idle_stream, stream_said, stream_after, counted, frame_step}
+use Rattle.stream_credit.proofs.Words.{has_credit, has_ended, window_of}
 use Rattle.audit_terms.specs.Frame.{is_content, is_headers, is_update, needs_opening, is_server_promise, promises}
 use Rattle.audit_terms.specs.Life.{idle_life, is_opening}
 use Rattle.audit_terms.specs.Stream.{opened_window_said, stream_window_said}
 use Rattle.stream_credit.specs.code.QuietStream.{opened_of}
-use Rattle.stream_credit.proofs.Words.{Side, Client, Server, Sides, Body, WindowUpdate, Frame, StreamLife, Stream}
-use Rattle.stream_credit.proofs.Words.{other, is_side, side_of, is_reset, increment, is_zero_grant, content_by}
-use Rattle.stream_credit.proofs.Words.{grant_to, sends_end, is_last_of, ends_window, is_not_opened, is_after_end}
-use Rattle.stream_credit.proofs.Words.{life_after, is_used_up, overflows, overruns, say_of, idle_stream, stream_said}
-use Rattle.stream_credit.proofs.Words.{stream_after, counted, frame_step, has_credit, has_ended, window_of}
 use Rattle.stream_credit.proofs.SilentLemmas.{both, unsaid, frame-unshown, IsCalm, calm-some, calm-ended, calm-same}
 use Rattle.stream_credit.proofs.SilentLemmas.{stream-unshown, stream-moved}
 use Rattle.quiet_pass.specs.declared.rows.Row.{Row}

@@ -1,14 +1,13 @@
 -- All streams after a frame, and after a change of the initial windows in force (RFC 9113, 6.9.2), of which nothing is
 -- shown.
-use Rattle.std.proofs.Common.{◌≡◌, ℕ, ℤ, ◌<◌, ◌%◌, ◌==◌, int_lt, Bool, true, false, List, [], ◌∷◌, Option, Some, None}
-use Rattle.std.proofs.Common.{option_map, refl, sym, ap, ap₂, ◌∙◌, subst, arith, inl, inr}
-use Rattle.std.proofs.Math.Bool.{and-false, or-false, and-true}
-use Rattle.std.proofs.lemmas.Bool.{cases_Bool, cases_eq, eq-eqb, ne_eqb}
-use Rattle.std.proofs.lemmas.Int.{ints}
-use Rattle.std.proofs.lemmas.Option.{same_Some}
+use Rattle.stream_credit.proofs.Words.{◌≡◌, ℕ, ℤ, ◌<◌, ◌==◌, int_lt, Bool, true, false, List, [], ◌∷◌, Option, Some}
+use Rattle.stream_credit.proofs.Words.{None, option_map, refl, sym, ap, ◌∙◌, subst, arith, inl, inr, and-false}
+use Rattle.stream_credit.proofs.Words.{or-false, cases_Bool, cases_eq, eq-eqb, ne_eqb, ints, same_Some, Sides, Frame}
+use Rattle.stream_credit.proofs.Words.{Change, StreamLife, Stream, initial_after, moved, IsSilent, window_of}
+use Rattle.std.proofs.Common.{◌%◌}
+use Rattle.std.proofs.Common.{ap₂}
+use Rattle.std.proofs.Math.Bool.{and-true}
 use Rattle.stream_credit.specs.code.QuietStream.{IsMovedBy}
-use Rattle.stream_credit.proofs.Words.{Sides, Frame, Change, StreamLife, Stream, initial_after, moved, IsSilent}
-use Rattle.stream_credit.proofs.Words.{window_of}
 use Rattle.audit_terms.specs.Frame.{is_server_promise, promised_in, meets}
 use Rattle.stream_credit.proofs.SilentLemmas.{change_alone, calm-changes, stream-unshown, stream-moved}
 use Rattle.quiet_pass.specs.declared.rows.Row.{Row}

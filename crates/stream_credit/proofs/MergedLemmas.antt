@@ -1,13 +1,13 @@
 -- The forward walk gives the steps of the definition; it takes out the changes before a frame, then the frame.
 use Rattle.std.proofs.Common.{All}
-use Rattle.stream_credit.proofs.Words.{◌≡◌, ℕ, ◌+◌, ◌<◌, ◌≤◌, Bool, true, false, nat_lt, ◌==◌, if◌then◌else◌, List, []}
-use Rattle.stream_credit.proofs.Words.{◌∷◌, ◌++◌, map, refl, sym, ap, ◌∙◌, inl, inr, arith, AllByRecursion, map-append}
-use Rattle.stream_credit.proofs.Words.{recursion_from_All, cases_Bool, cases_order, ltb-true, eq-eqb, ne_eqb, lt-ltb}
-use Rattle.stream_credit.proofs.Words.{le-ltb, Frame, Change, Step, frame_step, change_step, with_change, steps_of}
-use Rattle.stream_credit.proofs.Words.{AreOrderlyFrom, AreAcknowledged, passed, left_from, change_at, left_after}
-use Rattle.stream_credit.proofs.Words.{joined_step, frame_with, merged_at, merged, AcknowledgesAt, Acknowledge}
-use Rattle.stream_credit.proofs.Words.{StartsAt}
+use Rattle.stream_credit.proofs.Words.{◌≡◌, ℕ, ◌+◌, ◌<◌, ◌≤◌, nat_lt, ◌==◌, List, [], ◌∷◌, ◌++◌, map, refl, sym, ap}
+use Rattle.stream_credit.proofs.Words.{◌∙◌, inl, inr, arith, AllByRecursion, map-append, recursion_from_All, cases_Bool}
+use Rattle.stream_credit.proofs.Words.{cases_order, ltb-true, eq-eqb, ne_eqb, lt-ltb, le-ltb, Frame, Change, Step}
+use Rattle.stream_credit.proofs.Words.{frame_step, change_step, with_change, steps_of, AreOrderlyFrom, AreAcknowledged}
+use Rattle.stream_credit.proofs.Words.{passed, left_from, change_at, left_after, frame_with, merged_at, merged}
+use Rattle.stream_credit.proofs.Words.{AcknowledgesAt, Acknowledge, StartsAt}
 use Rattle.stream_credit.proofs.LeftLemmas.{parted, orderly-lower}
+use Rattle.std.proofs.lemmas.List.Elements.{All-weaker}
 
 -- ---- the walk is the definition's list
 
@@ -40,14 +40,13 @@ merged_at-above : (number : ℕ) (frame : Frame) (after : List Change → List S
     → AreOrderlyFrom (number + 1) changes → StartsAbove number (merged_at frame after changes)
 merged_at-above number frame after [] above h = above
 merged_at-above number frame after (change ∷ changes) above h =
-    first (frame.number == change.number) (nat_lt change.number frame.number)
-  where
-    first : (same below : Bool) → StartsAbove number (if same then joined_step frame change ∷ after changes
-        else if below then change_step change ∷ merged_at frame after changes
-        else frame_step frame ∷ after (change ∷ changes))
-    first true below = above
-    first false true = omega (arith, h.0)
-    first false false = above
+    elim (cases_Bool (frame.number == change.number)) [
+      | inl e ↦ rw e above
+      | inr e ↦ elim (cases_Bool (nat_lt change.number frame.number)) [
+        | inl f ↦ rw (e, f) (omega (arith, h.0))
+        | inr f ↦ rw (e, f) above
+      ]
+    ]
 
 with_change-merged : (frames : List Frame) (change : Change) (changes : List Change)
     → AreOrderlyFrom (change.number + 1) changes
@@ -134,9 +133,6 @@ merged_at-own frame after (change ∷ changes) h =
 pub acknowledge-all : (frames : List Frame) (changes : List Change) → AreAcknowledged frames changes
     → Acknowledge frames changes
 acknowledge-all frames changes h =
-    by_frame frames (recursion_from_All (λ (frame : Frame). All (AcknowledgesAt frame) changes) frames h)
-  where
-    by_frame : (fs : List Frame) → AllByRecursion (λ frame. All (AcknowledgesAt frame) changes) fs
-        → Acknowledge fs changes
-    by_frame [] k = tt
-    by_frame (f ∷ fs) k = (recursion_from_All (AcknowledgesAt f) changes k.0, by_frame fs k.1)
+    recursion_from_All (λ (frame : Frame). AllByRecursion (AcknowledgesAt frame) changes) frames
+    (All-weaker (λ (frame : Frame). All (AcknowledgesAt frame) changes) _
+    (λ frame. recursion_from_All (AcknowledgesAt frame) changes) frames h)

@@ -2,12 +2,12 @@
 use Rattle.stream_credit.proofs.Words.{◌≡◌, ℕ, ℤ, pos, ◌+◌, ◌*◌, ◌^◌, ◌<◌, ◌+ℤ◌, ◌-ℤ◌, int_lt, nat_lt, Bool, true}
 use Rattle.stream_credit.proofs.Words.{false, ◌&&◌, if◌then◌else◌, [], Option, Some, None, is_some, refl, sym, ap, ◌∙◌}
 use Rattle.stream_credit.proofs.Words.{arith, and-false, or-false, and_right, eq-eqb, ne_eqb, ints, append-nil}
-use Rattle.stream_credit.proofs.Words.{same_Some, Side, Client, Server, Sides, Body, WindowUpdate, Frame, Change, Step}
+use Rattle.stream_credit.proofs.Words.{same_Some, Side, Client, Server, Sides, WindowUpdate, Frame, Change, Step}
 use Rattle.stream_credit.proofs.Words.{StreamLife, Stream, other, is_side, side_of, is_reset, is_promise, is_zero_grant}
 use Rattle.stream_credit.proofs.Words.{increment, content_by, sends_end, is_last_of, ends_window, is_after_end}
 use Rattle.stream_credit.proofs.Words.{life_after, is_used_up, overruns, in_order, shown, stream_said, stream_after}
 use Rattle.stream_credit.proofs.Words.{HasRoom, WindowHasRoom, Move, Walk, frame_with, sent, granted, IsMove, IsQuiet}
-use Rattle.stream_credit.proofs.Words.{IsCounted, HasRoomAt}
+use Rattle.stream_credit.proofs.Words.{IsCounted, HasRoomAt, is_none, is_not_opened}
 use Rattle.stream_credit.proofs.SilentLemmas.{frame-unshown, IsCalm, calm-same, calm-some, stream-shown, stream-moved}
 
 -- ---- the frames that move one window
@@ -40,85 +40,64 @@ no-overrun before length left =
     let enough : int_lt before (pos length) ≡ false = grind (arith, ints) in
     and_right (nat_lt 0 length) (int_lt before (pos length)) enough
 
--- a frame on an opened stream that ends nothing, resets nothing and promises nothing
-module _ (stream : ℕ) (n : ℕ) (ended : Sides Bool) (frame : Frame) (reset : is_reset frame.body ≡ false)
-    (promise : is_promise frame.body ≡ false) (end : sends_end frame.side frame ≡ false) where
-  abbrev life : StreamLife
-  life = record { opened = Some n; ended = ended }
+none-of : (opened : Option ℕ) → is_some opened ≡ true → is_none opened ≡ false
+none-of None e = sym e
+none-of (Some n) e = refl
 
-  sends-none : (d : Side) → sends_end d frame ≡ false
-  sends-none d = of-none d frame.side _ _ end
+module _ (stream : ℕ) (life : StreamLife) (frame : Frame) (some : is_some life.opened ≡ true) where
+  -- a frame that ends nothing, resets nothing and promises nothing
+  module _ (reset : is_reset frame.body ≡ false) (promise : is_promise frame.body ≡ false)
+      (end : sends_end frame.side frame ≡ false) where
+    sends-none : (d : Side) → sends_end d frame ≡ false
+    sends-none d = of-none d frame.side _ _ end
 
-  goes-on : (d : Side) → ends_window d frame ≡ false
-  goes-on d = rw (sends-none d, reset) refl
+    goes-on : (d : Side) → ends_window d frame ≡ false
+    goes-on d = rw (sends-none d, reset) refl
 
-  unlast : (d : Side) → is_last_of d stream frame ≡ false
-  unlast d = simp (sends-none d, reset, promise, and-false)
+    unlast : (d : Side) → is_last_of d stream frame ≡ false
+    unlast d = simp (sends-none d, reset, promise, and-false)
 
-  kept : life_after stream life frame ≡ life
-  kept = simp (unlast Client, unlast Server, or-false)
+    kept : life_after stream life frame ≡ life
+    kept = simp (none-of life.opened some, unlast Client, unlast Server, and-false, or-false)
 
-  sent-moves : increment frame.body ≡ 0 → is_zero_grant frame.body ≡ false → is_after_end life frame ≡ false
-      → HasRoom (2 ^ 32) (sent frame).amount → IsMove stream life frame (sent frame)
-  sent-moves unmoved zero late small = record {
-    opens = refl;
-    kept = kept;
-    opened = simp (promise, and-false);
-    in_time = late;
-    grants = rw zero refl;
-    goes_on = goes-on;
-    amount = simp (unmoved, same-if);
-    within = λ before. no-overrun before (content_by frame.side frame);
-    other_grant = simp (unmoved, same-if);
-    other_content = rw apart refl;
-    small = small;
-  }
+    used : is_not_opened stream life frame ≡ false
+    used = simp (none-of life.opened some, promise, and-false)
 
-  granted-moves : (amount : ℕ) → frame.body ≡ WindowUpdate amount → frame.stream ≡ stream → 0 < amount
-      → HasRoom (2 ^ 32) (pos amount) → IsMove stream life frame (granted frame amount)
-  granted-moves amount b own above small =
+    pub sent-move : increment frame.body ≡ 0 → is_zero_grant frame.body ≡ false → is_after_end life frame ≡ false
+        → (one : Move) → one ≡ sent frame → HasRoom (2 ^ 32) one.amount → IsMove stream life frame one
+    sent-move unmoved zero late one is small = rw is (record {
+      opens = rw (none-of life.opened some) refl;
+      kept = kept;
+      opened = used;
+      in_time = late;
+      grants = rw zero refl;
+      goes_on = goes-on;
+      amount = simp (unmoved, same-if);
+      within = λ before. no-overrun before (content_by frame.side frame);
+      other_grant = simp (unmoved, same-if);
+      other_content = rw apart refl;
+      small = rw is at small;
+    })
+
+  pub granted-move : (amount : ℕ) → frame.body ≡ WindowUpdate amount → frame.stream ≡ stream → 0 < amount
+      → (one : Move) → one ≡ granted frame amount → HasRoom (2 ^ 32) one.amount → IsMove stream life frame one
+  granted-move amount b own above one is small =
       let here = eq-eqb frame.stream stream own in
       let zero = ne_eqb amount 0 (λ e. absurd (omega (arith, above, e))) in
-      record {
-        opens = refl;
-        kept = kept;
-        opened = simp (promise, and-false);
+      let end : sends_end frame.side frame ≡ false = simp (b, and-false) in
+      rw is (record {
+        opens = rw (none-of life.opened some) refl;
+        kept = kept (ap is_reset b) (ap is_promise b) end;
+        opened = used (ap is_reset b) (ap is_promise b) end;
         in_time = rw b refl;
         grants = rw (b, zero) refl;
-        goes_on = goes-on;
+        goes_on = goes-on (ap is_reset b) (ap is_promise b) end;
         amount = simp (b, other-twice, own-side, here, and-false) (omega (arith, ints));
         within = λ before left. simp (b, and-false);
         other_grant = simp (other-twice, apart);
         other_content = simp (b, and-false);
-        small = small;
-      }
-
--- in an opened stream
-module _ (stream : ℕ) (life : StreamLife) (frame : Frame) (one : Move) (body : Body) (b : frame.body ≡ body)
-    (some : is_some life.opened ≡ true) (small : HasRoom (2 ^ 32) one.amount) where
-  abbrev at : Option ℕ → StreamLife
-  at opened = record { opened = opened; ended = life.ended }
-
-  pub sent-move : is_reset body ≡ false → is_promise body ≡ false → increment body ≡ 0 → is_zero_grant body ≡ false
-      → is_after_end life frame ≡ false → sends_end frame.side frame ≡ false → one ≡ sent frame
-      → IsMove stream life frame one
-  sent-move reset promise unmoved zero late end is = rw is (by_opened life.opened some late) where
-    by_opened : (opened : Option ℕ) → is_some opened ≡ true → is_after_end (at opened) frame ≡ false
-        → IsMove stream (at opened) frame (sent frame)
-    by_opened None e late = cc
-    by_opened (Some n) e late =
-        sent-moves stream n life.ended frame (ap is_reset b ∙ reset) (ap is_promise b ∙ promise) end
-        (ap increment b ∙ unmoved) (ap is_zero_grant b ∙ zero) late (rw is at small)
-
-  pub granted-move : (amount : ℕ) → body ≡ WindowUpdate amount → frame.stream ≡ stream → 0 < amount
-      → one ≡ granted frame amount → IsMove stream life frame one
-  granted-move amount e own above is = rw is (by_opened life.opened some) where
-    by_opened : (opened : Option ℕ) → is_some opened ≡ true → IsMove stream (at opened) frame (granted frame amount)
-    by_opened None e = cc
-    by_opened (Some n) _ =
-        let body = b ∙ e in
-        granted-moves stream n life.ended frame (ap is_reset body) (ap is_promise body)
-        (simp (body, and-false)) amount body own above (rw is at small)
+        small = rw is at small;
+      })
 
 -- ---- what such a frame shows
 

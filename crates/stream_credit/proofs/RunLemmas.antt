@@ -16,7 +16,7 @@ use Rattle.stream_credit.proofs.LeftLemmas.{passed-before, orderly-before, order
 use Rattle.stream_credit.proofs.LeftLemmas.{acknowledge-left_from, acknowledge-later, own-acknowledged}
 use Rattle.stream_credit.proofs.MergedLemmas.{steps_of-merged, acknowledge-all, merged-passed, merged_at-own}
 use Rattle.stream_credit.proofs.SaidNumbers.{HasNumber, upto-numbered, run-numbered}
-use Rattle.stream_credit.proofs.WalkLemmas.{fall-from, fall-met, change_numbers, numbers-changes}
+use Rattle.stream_credit.proofs.WalkLemmas.{fall-here, fall-later, fall-met}
 
 -- ---- a frame, and the changes before it
 
@@ -38,7 +38,7 @@ module _ {L : Type 0} {answers : L → List Finding → Option ℕ → L → Typ
         low = h.low;
         order = h.orderly.0;
         before = passed-before h.low frame.number all h.changes;
-        later = fall-from 0 (change_numbers (passed frame.number all)) frame.number _ (rw numbers-changes at at.rise);
+        later = fall-here 0 frame.number _ (fall-later 0 (passed frame.number all) _ at.rise);
         at = at;
       })
 

@@ -1,9 +1,9 @@
 -- What a step shows of a stream stands at its number.
-use Rattle.stream_credit.proofs.Words.{◌≡◌, ℕ, ◌^◌, ◌<◌, ◌≤◌, Bool, List, [], ◌∷◌, ◌++◌, sym, subst, arith, Option}
-use Rattle.stream_credit.proofs.Words.{Some, None, AllByRecursion, each-append, each-filter, each-in_order, each-weaker}
-use Rattle.stream_credit.proofs.Words.{at-stream, before-front, numbered-at, Sides, Step, Stream, Finding, place_number}
-use Rattle.stream_credit.proofs.Words.{in_order, is_shown, shown, found_before, stream_said, stream_after}
-use Rattle.stream_credit.proofs.Words.{initial_after, stream_run_from, numbers_of, up_to}
+use Rattle.stream_credit.proofs.Words.{◌≡◌, ℕ, ◌^◌, ◌<◌, ◌≤◌, Bool, List, [], ◌∷◌, sym, subst, arith, Option, Some}
+use Rattle.stream_credit.proofs.Words.{None, AllByRecursion, each-append, each-filter, each-in_order, each-weaker}
+use Rattle.stream_credit.proofs.Words.{at-stream, numbered-at, Sides, Step, Stream, Finding, place_number, in_order}
+use Rattle.stream_credit.proofs.Words.{is_shown, shown, stream_said, stream_after, initial_after, stream_run_from}
+use Rattle.stream_credit.proofs.Words.{numbers_of, up_to}
 
 -- each finding's frame number is of a sort
 abbrev pub HasNumber : (ℕ → Type 0) → Finding → Type 0
@@ -44,9 +44,3 @@ pub upto-numbered : (P : ℕ → Type 0) (upto : Option ℕ) (xs : List Finding)
     → AreNumbered P (up_to upto xs)
 upto-numbered P None xs h = h
 upto-numbered P (Some place) xs h = each-filter (HasNumber P) _ xs h
-
--- ---- what was found before a frame
-
-pub before-parts : (number : ℕ) (early late : List Finding) → AreNumbered (λ n. n < number) early
-    → AreNumbered (λ n. number ≤ n) late → early ≡ found_before number (early ++ late)
-before-parts number early late p q = sym (before-front number number early late (omega arith) p q)

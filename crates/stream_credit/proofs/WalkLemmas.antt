@@ -10,7 +10,8 @@ use Rattle.stream_credit.proofs.Words.{found_before, change_step, initial_after,
 use Rattle.stream_credit.proofs.Words.{stream_after, WindowHasRoom, Watches, IsStopped, NeverFallFrom, Walk, is_live}
 use Rattle.stream_credit.proofs.Words.{is_met, met_from, opened_up_to, after_changes, met_by, numbers_of, IsNumbered}
 use Rattle.stream_credit.proofs.Words.{IsCounted, HasRoomAt, WholeRun, IsAt, IsAtChanges, HasStopped, window_after}
-use Rattle.stream_credit.proofs.SaidNumbers.{below-more, said-numbered, run-numbered, before-parts}
+use Rattle.stream_credit.proofs.Words.{before-front}
+use Rattle.stream_credit.proofs.SaidNumbers.{below-more, said-numbered, run-numbered}
 
 -- ---- room
 
@@ -28,30 +29,27 @@ room-later low number entry order room d x e = omega (arith, ints, order, room d
 
 -- ---- numbers that never fall
 
-abbrev pub change_numbers : List Change → List ℕ
-change_numbers changes = map (λ (change : Change). change.number) changes
-
 abbrev From : (low : ℕ) → List ℕ → Type 0
 From low numbers = AllByRecursion (λ n. low ≤ n) numbers
 
-from-lower : (low least : ℕ) (numbers : List ℕ) → least ≤ low → From low numbers → From least numbers
-from-lower low least [] order h = tt
-from-lower low least (n ∷ ns) order h = (omega (arith, order, h.0), from-lower low least ns order h.1)
+fall-all : (low least : ℕ) (numbers : List ℕ) → least ≤ low → NeverFallFrom low numbers → From least numbers
+fall-all low least [] order h = tt
+fall-all low least (n ∷ ns) order h =
+    let next = h.0 in (omega (arith, order, next), fall-all n least ns (omega (arith, order, next)) h.1)
 
-fall-all : (low : ℕ) (numbers : List ℕ) → NeverFallFrom low numbers → From low numbers
-fall-all low [] h = tt
-fall-all low (n ∷ ns) h = (h.0, from-lower n low ns h.0 (fall-all n ns h.1))
+pub fall-here : (low n : ℕ) (ns : List ℕ) → NeverFallFrom low (n ∷ ns) → From n (n ∷ ns)
+fall-here low n ns h = (omega arith, fall-all n n ns (omega arith) h.1)
 
 fall-lower : (low least : ℕ) (numbers : List ℕ) → least ≤ low → NeverFallFrom low numbers → NeverFallFrom least numbers
 fall-lower low least [] order h = tt
 fall-lower low least (n ∷ ns) order h = (omega (arith, order, h.0), h.1)
 
-fall-after : (low : ℕ) (met left : List ℕ) → NeverFallFrom low (met ++ left) → NeverFallFrom low left
-fall-after low [] left h = h
-fall-after low (n ∷ ns) left h = fall-lower n low left h.0 (fall-after n ns left h.1)
-
-pub fall-from : (low : ℕ) (met : List ℕ) (n : ℕ) (ns : List ℕ) → NeverFallFrom low (met ++ n ∷ ns) → From n (n ∷ ns)
-fall-from low met n ns h = (omega arith, fall-all n ns (fall-after low met (n ∷ ns) h).1)
+-- behind some changes
+pub fall-later : (low : ℕ) (changes : List Change) (rest : List Step)
+    → NeverFallFrom low (numbers_of (map change_step changes ++ rest)) → NeverFallFrom low (numbers_of rest)
+fall-later low [] rest h = h
+fall-later low (change ∷ changes) rest h =
+    fall-lower change.number low (numbers_of rest) h.0 (fall-later change.number changes rest h.1)
 
 -- of numbers that never fall some are met
 pub fall-met : (low stream : ℕ) (initial : Sides ℕ) (entry : Stream) (steps : List Step)
@@ -136,11 +134,6 @@ live-on stream initial entry change = rw (on Client entry.window.client, on Serv
   on d None = refl
   on d (Some credit) = refl
 
-pub numbers-changes : (changes : List Change) (rest : List Step)
-    → numbers_of (map change_step changes ++ rest) ≡ change_numbers changes ++ numbers_of rest
-numbers-changes [] rest = refl
-numbers-changes (change ∷ changes) rest = ap (λ l. change.number ∷ l) (numbers-changes changes rest)
-
 own-after : (changes : List Change) (rest : List Step) → AreOwn (map change_step changes ++ rest) → AreOwn rest
 own-after [] rest h = h
 own-after (change ∷ changes) rest h = own-after changes rest h.1
@@ -168,8 +161,9 @@ module _ {L : Type 0} {answers : L → List Finding → Option ℕ → L → Typ
   so-far : (number : ℕ) → low ≤ number → From number (numbers_of steps)
       → walk.found.items ≡ found_before number run.found
   so-far number order later =
-      before-parts number walk.found.items _ (below-more low number walk.found.items order h.below)
-      (run-numbered (λ n. number ≤ n) walk.credits_shown walk.stream walk.initial walk.entry steps h.streamed later)
+      sym (before-front number number walk.found.items _ (omega arith)
+      (below-more low number walk.found.items order h.below)
+      (run-numbered (λ n. number ≤ n) walk.credits_shown walk.stream walk.initial walk.entry steps h.streamed later))
       ∙ ap (found_before number) h.found
 
 -- ---- a step
@@ -182,7 +176,7 @@ module _ {L : Type 0} {answers : L → List Finding → Option ℕ → L → Typ
       (stream_after old.stream old.initial old.entry step) rest
 
   from-here : From step.number (numbers_of (step ∷ rest))
-  from-here = fall-from 0 [] step.number (numbers_of rest) h.rise
+  from-here = fall-here 0 step.number (numbers_of rest) h.rise
 
   at-step : old.found.items ≡ found_before step.number run.found
   at-step = so-far h step.number (omega arith) from-here
@@ -295,7 +289,7 @@ changes-passed {answers = answers} {run = run} {now = now} {old = old} {changes 
       met = at.met;
       count = at.count;
       numbers = ap (λ l. at.met ++ l) (sym met) ∙ at.numbers;
-      rise = fall-after 0 (change_numbers changes) (numbers_of rest) (rw numbers-changes at at.rise);
+      rise = fall-later 0 changes rest at.rise;
       own = own-after changes rest at.own;
       watches = subst (λ l. Watches answers run.start now run.found at.met l old.watch) met at.watches;
     }

@@ -59,7 +59,7 @@ pub use Rattle.std.specs.Option.{ForSome, option_map_or, option_to_list}
 pub use Rattle.stream_credit.specs.code.Left.{IsInForce, after_changes, after_each, change_at, left_after, left_from}
 pub use Rattle.stream_credit.specs.code.Left.{passed}
 pub use Rattle.stream_credit.specs.code.Looks.{is_live, is_met, met_from, opened_up_to, step_numbers}
-pub use Rattle.stream_credit.specs.code.Merged.{Acknowledge, AcknowledgesAt, frame_with, joined_step, merged, merged_at}
+pub use Rattle.stream_credit.specs.code.Merged.{Acknowledge, AcknowledgesAt, frame_with, merged, merged_at}
 pub use Rattle.stream_credit.specs.code.Part.{frames_at, part_frames}
 pub use Rattle.stream_credit.specs.code.Quiet.{IsMove, IsQuiet, IsRaised, granted, sent}
 pub use Rattle.stream_credit.specs.code.QuietStream.{AreFrom, IsAhead, IsNext, IsPassed, ShowsNothing, StartsAt}

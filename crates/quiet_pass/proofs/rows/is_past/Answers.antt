@@ -1,6 +1,6 @@
-use Rattle.std.proofs.Common.{ap, ◌∙◌, sym, ltb-true}
+use Rattle.stream_credit.proofs.Words.{ap, ◌∙◌, sym, OnTrue_from}
+use Rattle.std.proofs.Common.{ltb-true}
 use Rattle.std.specs.Option.{option_copied}
-use Rattle.std.proofs.lemmas.Bool.{OnTrue_from}
 use Rattle.quiet_pass.proofs.RowLists.{past-last}
 use Rattle.quiet_pass.proofs.rows.is_past.Goals as goal
 

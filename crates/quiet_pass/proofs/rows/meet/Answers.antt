@@ -1,5 +1,4 @@
-use Rattle.std.proofs.Common.{◌∙◌}
-use Rattle.std.proofs.lemmas.Option.{get_or_from_slice_get}
+use Rattle.stream_credit.proofs.Words.{◌∙◌, get_or_from_slice_get}
 use Rattle.quiet_pass.proofs.RowLists.{row-met}
 use Rattle.quiet_pass.proofs.rows.meet.Goals as goal
 

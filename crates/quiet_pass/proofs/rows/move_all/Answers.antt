@@ -1,5 +1,5 @@
-use Rattle.std.proofs.Common.{◌≡◌, ◌<◌, ◌+◌, suc, List, length, slice_set, sym, ◌∙◌, ap, subst, arith}
-use Rattle.std.proofs.lemmas.Option.{slice_get-get_or}
+use Rattle.stream_credit.proofs.Words.{◌≡◌, ◌<◌, ◌+◌, suc, List, length, sym, ◌∙◌, ap, subst, arith, slice_get-get_or}
+use Rattle.std.proofs.Common.{slice_set}
 use Rattle.quiet_pass.specs.declared.rows.Row.{Row}
 use Rattle.quiet_pass.specs.code.Rows.{AreMoved}
 use Rattle.quiet_pass.proofs.RowLists.{AreMovedTo, moved-more, moved-all, written-back}

@@ -1,5 +1,4 @@
-use Rattle.std.proofs.Common.{◌<◌, sym, ◌∙◌, ap, subst, arith}
-use Rattle.std.proofs.lemmas.Option.{same_Some}
+use Rattle.stream_credit.proofs.Words.{◌<◌, sym, ◌∙◌, ap, subst, arith, same_Some}
 use Rattle.quiet_pass.specs.code.Standing.{mark, IsStandingAfter}
 use Rattle.quiet_pass.proofs.StreamFrames.{standing_goes_on, standing_ends}
 use Rattle.quiet_pass.proofs.standings.standing_after.Goals as goal

@@ -1,5 +1,4 @@
-use Rattle.std.proofs.Common.{sym, ◌∙◌}
-use Rattle.std.proofs.lemmas.Option.{same_Some}
+use Rattle.stream_credit.proofs.Words.{sym, ◌∙◌, same_Some}
 use Rattle.quiet_pass.proofs.StreamFrames.{idle-met}
 use Rattle.quiet_pass.proofs.streams.meet_on.Goals as goal
 

@@ -1,5 +1,4 @@
-use Rattle.std.proofs.Common.{◌++◌, List, drop}
-use Rattle.stream_credit.proofs.Words.{Frame}
+use Rattle.stream_credit.proofs.Words.{◌++◌, List, drop, Frame}
 use Rattle.stream_credit.proofs.RunLemmas.{MeetsFrames}
 use Rattle.stream_credit.proofs.runs.meet_frames.Given as goal
 

@@ -1,5 +1,4 @@
-use Rattle.std.proofs.Common.{refl}
-use Rattle.audit_terms.specs.declared.sides.Side.TheVariants.{Client, Server}
+use Rattle.stream_credit.proofs.Words.{refl, Client, Server}
 use Rattle.quiet_pass.proofs.passes.QuietPass.begin.Goals as goal
 
 pub returns : goal.returns

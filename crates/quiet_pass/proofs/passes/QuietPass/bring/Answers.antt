@@ -1,4 +1,4 @@
-use Rattle.std.proofs.Common.{refl, sym, ◌∙◌}
+use Rattle.stream_credit.proofs.Words.{refl, sym, ◌∙◌}
 use Rattle.quiet_pass.proofs.StreamLemmas.{same-sides, unmoved}
 use Rattle.quiet_pass.proofs.passes.QuietPass.bring.Goals as goal
 

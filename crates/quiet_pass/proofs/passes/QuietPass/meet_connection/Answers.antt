@@ -1,5 +1,4 @@
-use Rattle.std.proofs.Common.{refl, sym, ◌∙◌}
-use Rattle.std.proofs.lemmas.Bool.{OnTrue_at, OnTrue_from}
+use Rattle.stream_credit.proofs.Words.{refl, sym, ◌∙◌, OnTrue_at, OnTrue_from}
 use Rattle.quiet_pass.proofs.PassLemmas.{rest-stream, unmet}
 use Rattle.quiet_pass.proofs.passes.QuietPass.meet_connection.Goals as goal
 

@@ -1,5 +1,4 @@
-use Rattle.std.proofs.Common.{refl}
-use Rattle.std.proofs.lemmas.Bool.{OnTrue_at, OnTrue_from}
+use Rattle.stream_credit.proofs.Words.{refl, OnTrue_at, OnTrue_from}
 use Rattle.quiet_pass.proofs.PassLemmas.{rest-stream}
 use Rattle.quiet_pass.proofs.passes.QuietPass.meet_stream.Goals as goal
 

@@ -1,5 +1,4 @@
-use Rattle.std.proofs.Common.{◌∙◌}
-use Rattle.std.proofs.lemmas.Bool.{OnTrue_at, OnTrue_from}
+use Rattle.stream_credit.proofs.Words.{◌∙◌, OnTrue_at, OnTrue_from}
 use Rattle.quiet_pass.proofs.PassLemmas.{step-met}
 use Rattle.quiet_pass.proofs.passes.QuietPass.step.Goals as goal
 

@@ -1,5 +1,4 @@
-use Rattle.std.proofs.Common.{sym, ◌∙◌, subst}
-use Rattle.std.proofs.lemmas.Option.{same_Some}
+use Rattle.stream_credit.proofs.Words.{sym, ◌∙◌, subst, same_Some}
 use Rattle.quiet_pass.specs.code.Rows.{IsOpened}
 use Rattle.quiet_pass.proofs.StreamFrames.{idle-opened}
 use Rattle.quiet_pass.proofs.rows.Row.opened.Goals as goal

@@ -1,6 +1,5 @@
-use Rattle.std.proofs.Common.{◌≡◌, ◌%◌, refl, sym, ◌∙◌, arith}
-use Rattle.std.proofs.lemmas.Bool.{OnTrue_at}
-use Rattle.std.proofs.lemmas.Option.{same_Some}
+use Rattle.std.proofs.Common.{◌%◌}
+use Rattle.stream_credit.proofs.Words.{◌≡◌, refl, sym, ◌∙◌, arith, OnTrue_at, same_Some}
 use Rattle.std.proofs.lemmas.Result.{IfOk-weaker}
 use Rattle.quiet_pass.proofs.StreamLemmas.{met-odd, met-even}
 use Rattle.quiet_pass.proofs.streams.Streams.meet.Goals as goal

@@ -1,5 +1,5 @@
-use Rattle.std.proofs.Common.{◌≡◌, ◌%◌, arith}
-use Rattle.std.proofs.lemmas.Bool.{OnTrue_at, OnTrue_from}
+use Rattle.stream_credit.proofs.Words.{◌≡◌, arith, OnTrue_at, OnTrue_from}
+use Rattle.std.proofs.Common.{◌%◌}
 use Rattle.quiet_pass.proofs.StreamLemmas.{met-promise}
 use Rattle.quiet_pass.proofs.streams.Streams.promise.Goals as goal
 

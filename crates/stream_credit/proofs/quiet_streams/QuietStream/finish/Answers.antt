@@ -1,4 +1,4 @@
-use Rattle.std.proofs.lemmas.Bool.{OnTrue_at, OnTrue_from}
+use Rattle.stream_credit.proofs.Words.{OnTrue_at, OnTrue_from}
 use Rattle.stream_credit.proofs.QuietStreams.{shows-nothing}
 use Rattle.stream_credit.proofs.quiet_streams.QuietStream.finish.Goals as goal
 

@@ -1,4 +1,4 @@
-use Rattle.std.proofs.Common.{refl}
+use Rattle.stream_credit.proofs.Words.{refl}
 use Rattle.stream_credit.proofs.QuietStreams.{ahead-idle}
 use Rattle.stream_credit.proofs.quiet_streams.QuietStream.idle.Goals as goal
 

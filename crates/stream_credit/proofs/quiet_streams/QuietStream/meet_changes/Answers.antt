@@ -1,4 +1,4 @@
-use Rattle.std.proofs.Common.{sym, ◌∙◌}
+use Rattle.stream_credit.proofs.Words.{sym, ◌∙◌}
 use Rattle.stream_credit.proofs.QuietStreams.{ahead-passed, from-passed}
 use Rattle.stream_credit.proofs.quiet_streams.QuietStream.meet_changes.Goals as goal
 

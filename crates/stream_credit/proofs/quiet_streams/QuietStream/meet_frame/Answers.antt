@@ -1,4 +1,4 @@
-use Rattle.std.proofs.lemmas.Bool.{OnTrue_at, OnTrue_from}
+use Rattle.stream_credit.proofs.Words.{OnTrue_at, OnTrue_from}
 use Rattle.stream_credit.proofs.QuietStreams.{ahead-frame}
 use Rattle.stream_credit.proofs.quiet_streams.QuietStream.meet_frame.Goals as goal
 

@@ -1,4 +1,4 @@
-use Rattle.std.proofs.lemmas.Bool.{OnFalse_at}
+use Rattle.stream_credit.proofs.Words.{OnFalse_at}
 use Rattle.stream_credit.proofs.walks.Walk.count.Goals as goal
 
 pub count_shown-requires-clause-room : goal.count_shown-requires-clause-room

@@ -1,4 +1,4 @@
-use Rattle.audit_terms.specs.declared.sides.Side.TheVariants.{Client, Server}
+use Rattle.stream_credit.proofs.Words.{Client, Server}
 use Rattle.stream_credit.proofs.WalkLemmas.{room-wide, room-next}
 use Rattle.stream_credit.proofs.walks.Walk.count_shown.Goals as goal
 

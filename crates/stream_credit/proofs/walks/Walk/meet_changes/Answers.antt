@@ -1,4 +1,4 @@
-use Rattle.std.proofs.Common.{sym, ◌∙◌}
+use Rattle.stream_credit.proofs.Words.{sym, ◌∙◌}
 use Rattle.stream_credit.proofs.WalkLemmas.{nothing-left, changes-end, changes-passed}
 use Rattle.stream_credit.proofs.walks.Walk.meet_changes.Goals as goal
 

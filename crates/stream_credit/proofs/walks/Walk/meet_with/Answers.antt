@@ -1,4 +1,4 @@
-use Rattle.std.proofs.Common.{refl}
+use Rattle.stream_credit.proofs.Words.{refl}
 use Rattle.stream_credit.proofs.WalkLemmas.{step-stops, step-on}
 use Rattle.stream_credit.proofs.walks.Walk.meet_with.Goals as goal
 

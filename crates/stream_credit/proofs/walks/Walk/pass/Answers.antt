@@ -1,4 +1,4 @@
-use Rattle.std.proofs.Common.{ap}
+use Rattle.stream_credit.proofs.Words.{ap}
 use Rattle.stream_credit.proofs.LeftLemmas.{last-in_force}
 use Rattle.stream_credit.proofs.walks.Walk.pass.Goals as goal
 
