@@ -1,8 +1,5 @@
-pub mod StandingLemmas
-pub mod RowLemmas
+pub mod StreamFrames
 pub mod RowLists
 pub mod ConnectionLemmas
-pub mod IdleFrames
 pub mod StreamLemmas
-pub mod ChangedStreams
 pub mod PassLemmas

@@ -1,29 +1,15 @@
 -- Lists of rows: where one is replaced, where one is added, and where all are moved.
-use Rattle.std.proofs.Common.{◌≡◌, ◌≢◌, ℕ, zero, suc, ◌+◌, ◌-◌, ◌<◌, ◌==◌, nat_lt, Bool, true, false, List, [], ◌∷◌}
-use Rattle.std.proofs.Common.{◌++◌, length}
-use Rattle.std.proofs.Common.{if◌then◌else◌, slice_get, slice_index_or, slice_set, take, drop, Some, refl, sym, ap, ◌∙◌}
-use Rattle.std.proofs.Common.{subst, arith}
-use Rattle.std.specs.Bool.{OnTrue}
-use Rattle.std.proofs.lemmas.Bool.Decides.{nat_tests}
+use Rattle.std.proofs.Common.{◌≡◌, ◌≢◌, ℕ, zero, suc, ◌-◌, ◌<◌, ◌==◌, true, false, List, [], ◌∷◌, ◌++◌, length}
+use Rattle.std.proofs.Common.{if◌then◌else◌, slice_get, slice_set, take, drop, Some, refl, sym, ap, ◌∙◌, subst, arith}
 use Rattle.std.proofs.lemmas.List.{append-nil, take_all, drop_all}
 use Rattle.std.proofs.lemmas.Option.{none-some, same_Some}
-use Rattle.audit_terms.specs.declared.sides.Sides.{Sides}
-use Rattle.audit_terms.specs.declared.frames.Frame.{Frame}
-use Rattle.audit_terms.specs.declared.streams.Stream.{Stream}
+use Rattle.stream_credit.proofs.Words.{Sides, Frame, Stream, idle_stream, stream_said, stream_after, frame_step}
 use Rattle.audit_terms.specs.Life.{is_opening}
-use Rattle.audit_terms.specs.Stream.{idle_stream, stream_said, stream_after}
-use Rattle.audit_terms.specs.code.runs.Streams.{frame_step}
 use Rattle.quiet_pass.specs.declared.rows.Row.{Row}
 use Rattle.quiet_pass.specs.code.Standing.{AreUnshown}
 use Rattle.quiet_pass.specs.code.Rows.{stream_of, entry_in, AreRisingFrom, AreRising, IsPast, IsRowOf, IsRowAfter}
-use Rattle.quiet_pass.specs.code.Rows.{IsOpened}
-use Rattle.quiet_pass.specs.code.Rows.{HasMet, IsRowMoved, AreMoved}
-
-same-stream : (a b : ℕ) → a ≡ b → (a == b) ≡ true
-same-stream a b e = grind (arith, nat_tests)
-
-other-stream : (a b : ℕ) → (a ≡ b → ⊥) → (a == b) ≡ false
-other-stream a b e = grind (arith, nat_tests)
+use Rattle.quiet_pass.specs.code.Rows.{IsOpened, HasMet, IsRowMoved, AreMoved}
+use Rattle.std.proofs.lemmas.Bool.{eq-eqb, ne_eqb}
 
 -- ---- the row of a stream
 
@@ -40,24 +26,11 @@ pub entry-there : (low : ℕ) (rows : List Row) (at : ℕ) (row : Row) → AreRi
 entry-there low [] at row h e = absurd (none-some row e)
 entry-there low (one ∷ rows) zero row h e =
     let is = same_Some one row e in
-    rw (same-stream one.stream row.stream (ap (λ (r : Row). r.stream) is)) (ap stream_of is)
+    rw (eq-eqb one.stream row.stream (ap (λ (r : Row). r.stream) is)) (ap stream_of is)
 entry-there low (one ∷ rows) (suc at) row h e =
     let above = above-low one.stream rows at row h.1 e in
     let differ : (one.stream ≡ row.stream → ⊥) = λ same. omega (arith, above, same) in
-    rw (other-stream one.stream row.stream differ) (entry-there one.stream rows at row h.1 e)
-
--- what an index reads
-pub read-there : (rows : List Row) (at : ℕ) (row d : Row) → slice_get rows at ≡ Some row
-    → slice_index_or rows at d ≡ row
-read-there [] at row d e = absurd (none-some row e)
-read-there (one ∷ rows) zero row d e = same_Some one row e
-read-there (one ∷ rows) (suc at) row d e = read-there rows at row d e
-
-pub there-read : (rows : List Row) (at : ℕ) (d : Row) → at < length rows
-    → slice_get rows at ≡ Some (slice_index_or rows at d)
-there-read [] at d h = absurd (omega (arith, h))
-there-read (one ∷ rows) zero d h = refl
-there-read (one ∷ rows) (suc at) d h = there-read rows at d (omega (arith, h))
+    rw (ne_eqb one.stream row.stream differ) (entry-there one.stream rows at row h.1 e)
 
 -- ---- one row replaced
 
@@ -73,9 +46,9 @@ module _ (row next : Row) (same : next.stream ≡ row.stream) where
   set-others [] at other e differ = absurd (none-some row e)
   set-others (one ∷ rows) zero other e differ =
       let is = same_Some one row e in
-      let new : (next.stream == other) ≡ false = other-stream next.stream other (λ x. differ (sym x ∙ same)) in
+      let new : (next.stream == other) ≡ false = ne_eqb next.stream other (λ x. differ (sym x ∙ same)) in
       let old : (one.stream == other) ≡ false =
-      other-stream one.stream other (λ x. differ (sym x ∙ ap (λ (r : Row). r.stream) is)) in
+      ne_eqb one.stream other (λ x. differ (sym x ∙ ap (λ (r : Row). r.stream) is)) in
       rw (new, old) refl
   set-others (one ∷ rows) (suc at) other e differ =
       ap (λ (entry : Stream). if one.stream == other then stream_of one else entry) (set-others rows at other e differ)
@@ -117,18 +90,18 @@ pub past-idle : (rows : List Row) (stream : ℕ) → IsPast rows stream → entr
 past-idle [] stream h = refl
 past-idle (row ∷ rows) stream h =
     let differ : (row.stream ≡ stream → ⊥) = λ e. omega (arith, h.0, e) in
-    rw (other-stream row.stream stream differ) (past-idle rows stream h.1)
+    rw (ne_eqb row.stream stream differ) (past-idle rows stream h.1)
 
 push-own : (rows : List Row) (row : Row) (stream : ℕ) → IsPast rows stream → row.stream ≡ stream
     → entry_in (rows ++ row ∷ []) stream ≡ stream_of row
-push-own [] row stream h e = rw (same-stream row.stream stream e) refl
+push-own [] row stream h e = rw (eq-eqb row.stream stream e) refl
 push-own (one ∷ rows) row stream h e =
     let differ : (one.stream ≡ stream → ⊥) = λ x. omega (arith, h.0, x) in
-    rw (other-stream one.stream stream differ) (push-own rows row stream h.1 e)
+    rw (ne_eqb one.stream stream differ) (push-own rows row stream h.1 e)
 
 push-others : (rows : List Row) (row : Row) (other : ℕ) → (row.stream ≡ other → ⊥)
     → entry_in (rows ++ row ∷ []) other ≡ entry_in rows other
-push-others [] row other h = rw (other-stream row.stream other h) refl
+push-others [] row other h = rw (ne_eqb row.stream other h) refl
 push-others (one ∷ rows) row other h =
     ap (λ (entry : Stream). if one.stream == other then stream_of one else entry) (push-others rows row other h)
 
@@ -158,26 +131,20 @@ row-opened rows stream initial frame row past opened rising =
     }
 
 -- a stream past the last row of rows that rise
-pub past-last : (low : ℕ) (rows : List Row) (at : ℕ) (row : Row) (stream : ℕ) → AreRisingFrom low rows
-    → slice_get rows at ≡ Some row → at + 1 ≡ length rows → row.stream < stream → IsPast rows stream
-past-last low [] at row stream h e last below = absurd (none-some row e)
-past-last low (one ∷ []) zero row stream h e last below =
-    (subst (λ (r : Row). r.stream < stream) (sym (same_Some one row e)) below, past-none)
-  where
-    past-none : 0 < stream
-    past-none = omega (arith, below)
-past-last low (one ∷ []) (suc at) row stream h e last below = absurd (none-some row e)
-past-last low (one ∷ two ∷ rows) zero row stream h e last below = absurd (omega (arith, last))
-past-last low (one ∷ two ∷ rows) (suc at) row stream h e last below =
-    let rest = past-last one.stream (two ∷ rows) at row stream h.1 e (omega (arith, last)) below in
-    (omega (arith, h.1.0, rest.0), rest)
+past-rest : (low : ℕ) (one : Row) (rows : List Row) (row : Row) (stream : ℕ) → AreRisingFrom low (one ∷ rows)
+    → slice_get (one ∷ rows) (length rows) ≡ Some row → row.stream < stream → IsPast (one ∷ rows) stream
+past-rest low one [] row stream h e below =
+    let own : one.stream ≡ row.stream = ap (λ (r : Row). r.stream) (same_Some one row e) in
+    (omega (arith, own, below), omega (arith, below))
+past-rest low one (two ∷ rows) row stream h e below =
+    let rest = past-rest one.stream two rows row stream h.1 e below in (omega (arith, h.1.0, rest.0), rest)
 
-pub past-last-told : (rows : List Row) (row : Row) (stream : ℕ) (told : Bool) → nat_lt row.stream stream ≡ told
-    → slice_get rows (length rows - 1) ≡ Some row → OnTrue told (AreRising rows → IsPast rows stream)
-past-last-told [] row stream true t e = absurd (none-some row e)
-past-last-told (one ∷ rows) row stream true t e = λ rising.
-    past-last 0 (one ∷ rows) (suc (length rows) - 1) row stream rising e (omega arith) (grind (arith, nat_tests))
-past-last-told rows row stream false t e = tt
+pub past-last : (rows : List Row) (row : Row) (stream : ℕ) → slice_get rows (length rows - 1) ≡ Some row
+    → row.stream < stream → AreRising rows → IsPast rows stream
+past-last [] row stream e below rising = absurd (none-some row e)
+past-last (one ∷ rows) row stream e below rising =
+    let last : suc (length rows) - 1 ≡ length rows = omega arith in
+    past-rest 0 one rows row stream rising (rw last at e) below
 
 -- ---- all rows moved
 

@@ -1,74 +1,87 @@
--- All streams after a frame of which nothing is shown.
-use Rattle.std.proofs.Common.{◌≡◌, ◌≢◌, ℕ, ◌<◌, ◌%◌, ◌==◌, Bool, true, false, ◌&&◌, ◌||◌, not, List, Option}
-use Rattle.std.proofs.Common.{None, refl, sym, ap, ◌∙◌, subst, arith}
-use Rattle.std.specs.Bool.{OnTrue}
-use Rattle.std.proofs.lemmas.Bool.{eqb-true}
-use Rattle.std.proofs.lemmas.Bool.Decides.{nat_tests}
-use Rattle.audit_terms.specs.declared.sides.Sides.{Sides}
-use Rattle.audit_terms.specs.declared.frames.Frame.{Frame}
-use Rattle.audit_terms.specs.declared.items.Change.{Change}
-use Rattle.audit_terms.specs.declared.items.Step.{Step}
-use Rattle.audit_terms.specs.declared.streams.Stream.{Stream}
-use Rattle.audit_terms.specs.Frame.{is_server_promise, promised_in, promises, meets}
-use Rattle.audit_terms.specs.Life.{is_opening}
-use Rattle.audit_terms.specs.Stream.{stream_said, stream_after}
-use Rattle.audit_terms.specs.code.runs.Streams.{frame_step}
-use Rattle.audit_core.proofs.QuietSteps.{bare_step, stream_said-quiet, stream_after-quiet}
+-- All streams after a frame, and after a change of the initial windows in force (RFC 9113, 6.9.2), of which nothing is
+-- shown.
+use Rattle.stream_credit.proofs.Words.{◌≡◌, ℕ, ℤ, ◌<◌, ◌==◌, int_lt, Bool, true, false, List, [], ◌∷◌, Option, Some}
+use Rattle.stream_credit.proofs.Words.{None, option_map, refl, sym, ap, ◌∙◌, subst, arith, inl, inr, and-false}
+use Rattle.stream_credit.proofs.Words.{or-false, cases_Bool, cases_eq, eq-eqb, ne_eqb, ints, same_Some, Sides, Frame}
+use Rattle.stream_credit.proofs.Words.{Change, StreamLife, Stream, initial_after, moved, IsSilent, window_of}
+use Rattle.std.proofs.Common.{◌%◌}
+use Rattle.std.proofs.Common.{ap₂}
+use Rattle.std.proofs.Math.Bool.{and-true}
+use Rattle.stream_credit.specs.code.QuietStream.{IsMovedBy}
+use Rattle.audit_terms.specs.Frame.{is_server_promise, promised_in, meets}
+use Rattle.stream_credit.proofs.SilentLemmas.{change_alone, calm-changes, stream-unshown, stream-moved}
 use Rattle.quiet_pass.specs.declared.rows.Row.{Row}
 use Rattle.quiet_pass.specs.declared.streams.Streams.{Streams}
-use Rattle.quiet_pass.specs.code.Standing.{AreUnshown}
-use Rattle.quiet_pass.specs.code.Rows.{entry_in, AreRising, HasMet}
-use Rattle.quiet_pass.specs.code.Streams.{AreStreams, step_at, IsStep, AreMet, AreMetOn}
-use Rattle.quiet_pass.proofs.ConnectionLemmas.{unshown-none}
+use Rattle.quiet_pass.specs.code.Rows.{entry_in, AreRisingFrom, AreRising, HasMet, AreMoved}
+use Rattle.quiet_pass.specs.code.Streams.{AreStreams, step_at, IsStep, AreMet, AreMetOn, AreAllMoved, IsEntryMoved}
+
+-- ---- a stream that the frame does not meet
+
+step-moved : (s : ℕ) (initial after : Sides ℕ) (frame : Frame) (change : Option Change) (entry next : Stream)
+    → IsEntryMoved initial after entry next → after ≡ initial_after change initial → meets s frame ≡ false
+    → IsStep s initial (step_at frame change s) entry next
+step-moved s initial after frame change entry next m is unmet =
+    let step = change_alone frame.number change in
+    let calm = calm-changes s initial frame.number change after entry.window next.window is m.client m.server
+    m.client_silent m.server_silent in
+    rw unmet (record {
+      said = stream-unshown s initial entry step next.window refl calm tt;
+      after = ap (λ (life : StreamLife). record { life = life; window = next.window }) m.life
+          ∙ sym (stream-moved s initial entry step next.window refl calm);
+    })
+
+-- windows that stay where the initial window does
+window-stays : (i : ℕ) (window : Option ℤ) → window ≡ option_map (moved i i) window
+window-stays i None = refl
+window-stays i (Some credit) = ap Some (omega (arith, ints))
+
+window-silent : (window : Option ℤ) → IsSilent window window
+window-silent window credit e next f =
+    let same = same_Some credit next (sym e ∙ f) in
+    let level : int_lt credit credit ≡ false = grind (arith, ints) in
+    rw (← same) (refl, rw level refl)
+
+step-unmet : (s : ℕ) (initial : Sides ℕ) (frame : Frame) (rows : List Row) (entry : Stream) → meets s frame ≡ false
+    → entry ≡ entry_in rows s → IsStep s initial (step_at frame None s) entry (entry_in rows s)
+step-unmet s initial frame rows entry m is =
+    rw (← is) (step-moved s initial initial frame None entry entry (record {
+      life = refl;
+      client = window-stays initial.client entry.window.client;
+      server = window-stays initial.server entry.window.server;
+      client_silent = window-silent entry.window.client;
+      server_silent = window-silent entry.window.server;
+    }) refl m)
 
 -- ---- one stream
 
-pub step-unmet : (s : ℕ) (initial : Sides ℕ) (frame : Frame) (rows : List Row) (entry : Stream)
-    → meets s frame ≡ false → entry ≡ entry_in rows s
-    → IsStep s initial (step_at frame None s) entry (entry_in rows s)
-step-unmet s initial frame rows entry m is =
-    let step : step_at frame None s ≡ bare_step frame.number None = rw m refl in
-    record {
-      said = subst (λ (step : Step). AreUnshown (stream_said s initial entry step)) (sym step)
-          (unshown-none _ (stream_said-quiet s initial frame.number None entry refl));
-      after = sym is ∙ sym (stream_after-quiet s initial frame.number None entry refl)
-          ∙ ap (stream_after s initial entry) (sym step);
-    }
-
-module _ (stream : ℕ) (initial : Sides ℕ) (frame : Frame) (opens : Bool) (old new : List Row)
-    (h : HasMet stream initial frame opens old new) (s : ℕ) (entry : Stream) (is : entry ≡ entry_in old s) where
-  own-step : stream ≡ s → meets s frame ≡ true → IsStep s initial (step_at frame None s) entry (entry_in new s)
-  own-step own m =
-      let step : step_at frame None s ≡ frame_step frame = rw m refl in
-      record {
-        said = subst (λ (step : Step). AreUnshown (stream_said s initial entry step)) (sym step)
-            (subst (λ (e : Stream). AreUnshown (stream_said s initial e (frame_step frame))) (sym is)
-            (subst (λ n. AreUnshown (stream_said n initial (entry_in old n) (frame_step frame))) own h.said));
-        after = subst (λ n. entry_in new n ≡ stream_after n initial (entry_in old n) (frame_step frame)) own h.after
-            ∙ ap (λ (e : Stream). stream_after s initial e (frame_step frame)) (sym is)
-            ∙ ap (stream_after s initial entry) (sym step);
-      }
-
-  other-step : s ≢ stream → meets s frame ≡ false → IsStep s initial (step_at frame None s) entry (entry_in new s)
-  other-step differ m = step-unmet s initial frame new entry m (is ∙ sym (h.others s differ))
-
-  pub step-met : meets s frame ≡ (stream == s) → IsStep s initial (step_at frame None s) entry (entry_in new s)
-  step-met m = by_test (stream == s) refl where
-    by_test : (b : Bool) → (stream == s) ≡ b → IsStep s initial (step_at frame None s) entry (entry_in new s)
-    by_test true e = own-step (eqb-true stream s e) (m ∙ e)
-    by_test false e =
-        other-step (λ same. grind (arith, nat_tests)) (m ∙ e)
+step-met : (stream : ℕ) (initial : Sides ℕ) (frame : Frame) (opens : Bool) (old new : List Row)
+    → HasMet stream initial frame opens old new → (s : ℕ) (entry : Stream) → entry ≡ entry_in old s
+    → meets s frame ≡ (stream == s) → IsStep s initial (step_at frame None s) entry (entry_in new s)
+step-met stream initial frame opens old new h s entry is m =
+    elim (cases_eq stream s) [
+      | inl own ↦
+          let met : meets s frame ≡ true = m ∙ eq-eqb stream s own in
+          subst (λ s. entry ≡ entry_in old s → meets s frame ≡ true
+          → IsStep s initial (step_at frame None s) entry (entry_in new s)) own
+          (λ is met. rw met (record { said = rw is h.said; after = rw is h.after })) is met
+      | inr differ ↦
+          step-unmet s initial frame new entry (m ∙ ne_eqb stream s differ)
+          (is ∙ sym (h.others s (λ e. differ (sym e))))
+    ]
 
 -- ---- all of them
 
-pub all-met : (initial : Sides ℕ) (frame : Frame) (change : Option Change) (streams : ℕ → Stream) (kept : Streams)
+all-met : (initial : Sides ℕ) (frame : Frame) (change : Option Change) (streams : ℕ → Stream) (kept : Streams)
     → ((s : ℕ) → s % 2 ≡ 1
     → IsStep s initial (step_at frame change s) (streams s) (entry_in kept.opened.items s))
     → ((s : ℕ) → s % 2 ≡ 0 → 0 < s
     → IsStep s initial (step_at frame change s) (streams s) (entry_in kept.promised.items s))
     → AreRising kept.opened.items → AreRising kept.promised.items → AreMet initial frame change streams kept
 all-met initial frame change streams kept odd even opened promised = record {
-  said = λ s above. by_test s above (s % 2 == 1) refl;
+  said = λ s above. elim (cases_eq (s % 2) 1) [
+    | inl p ↦ (odd s p).said
+    | inr p ↦ (even s (omega (arith, p)) above).said
+  ];
   after = record {
     odd = λ s p. sym (odd s p).after;
     even = λ s p above. sym (even s p above).after;
@@ -76,32 +89,16 @@ all-met initial frame change streams kept odd even opened promised = record {
     promised = promised;
   };
 }
-  where
-    by_test : (s : ℕ) → 0 < s → (b : Bool) → (s % 2 == 1) ≡ b
-        → AreUnshown (stream_said s initial (streams s) (step_at frame change s))
-    by_test s above true e = (odd s (eqb-true (s % 2) 1 e)).said
-    by_test s above false e =
-        let p : s % 2 ≡ 0 = grind (arith, nat_tests) in (even s p above).said
 
-or-false : (b : Bool) → (b || false) ≡ b
-or-false true = refl
-or-false false = refl
-
-differ-parity : (a b : ℕ) (m n : ℕ) → a % 2 ≡ m → b % 2 ≡ n → (m ≡ n → ⊥) → (a == b) ≡ false
-differ-parity a b m n p q h = by_test (a == b) refl where
-  by_test : (t : Bool) → (a == b) ≡ t → (a == b) ≡ false
-  by_test true e = absurd (h (sym p ∙ ap (λ x. x % 2) (eqb-true a b e) ∙ q))
-  by_test false e = e
+differ-parity : (a b m n : ℕ) → a % 2 ≡ m → b % 2 ≡ n → (m ≡ n → ⊥) → (a == b) ≡ false
+differ-parity a b m n p q h = ne_eqb a b (λ e. h (sym p ∙ ap (λ x. x % 2) e ∙ q))
 
 -- ---- a frame that promises nothing
 
 module _ (initial : Sides ℕ) (frame : Frame) (opens : Bool) (old new : Streams) (streams : ℕ → Stream)
     (h : AreStreams streams old) (unpromised : is_server_promise frame ≡ false) where
-  pub meets-own : (s : ℕ) → meets s frame ≡ (frame.stream == s)
-  meets-own s =
-      ap (λ b. (frame.stream == s)
-      || (((b && (promised_in frame.body == s)) && (s % 2 == 0)) && not (frame.stream == s))) unpromised
-      ∙ or-false (frame.stream == s)
+  meets-own : (s : ℕ) → meets s frame ≡ (frame.stream == s)
+  meets-own s = rw unpromised (or-false (frame.stream == s))
 
   pub met-odd : frame.stream % 2 ≡ 1 → (AreRising old.opened.items
       → HasMet frame.stream initial frame opens old.opened.items new.opened.items)
@@ -109,14 +106,13 @@ module _ (initial : Sides ℕ) (frame : Frame) (opens : Bool) (old new : Streams
   met-odd p met same =
       let m = met h.opened in
       record {
-        opening = ap (λ (entry : Stream). is_opening frame.stream entry.life frame) (h.odd frame.stream p) ∙ m.opening;
+        opening = rw (h.odd frame.stream p) m.opening;
         met = all-met initial frame None streams new
             (λ s q. step-met frame.stream initial frame opens old.opened.items new.opened.items m s (streams s)
             (h.odd s q) (meets-own s))
             (λ s q above. step-unmet s initial frame new.promised.items (streams s)
-            (meets-own s ∙ differ-parity frame.stream s 1 0 p q (λ e. cc))
-            (h.even s q above ∙ ap (λ (rows : List Row). entry_in rows s) (sym same)))
-            m.rising (subst AreRising (sym same) h.promised);
+            (meets-own s ∙ differ-parity frame.stream s 1 0 p q (λ e. cc)) (rw same (h.even s q above)))
+            m.rising (rw same h.promised);
       }
 
   pub met-even : frame.stream % 2 ≡ 0 → 0 < frame.stream → (AreRising old.promised.items
@@ -125,15 +121,13 @@ module _ (initial : Sides ℕ) (frame : Frame) (opens : Bool) (old new : Streams
   met-even p above met same =
       let m = met h.promised in
       record {
-        opening = ap (λ (entry : Stream). is_opening frame.stream entry.life frame) (h.even frame.stream p above)
-            ∙ m.opening;
+        opening = rw (h.even frame.stream p above) m.opening;
         met = all-met initial frame None streams new
             (λ s q. step-unmet s initial frame new.opened.items (streams s)
-            (meets-own s ∙ differ-parity frame.stream s 0 1 p q (λ e. cc))
-            (h.odd s q ∙ ap (λ (rows : List Row). entry_in rows s) (sym same)))
+            (meets-own s ∙ differ-parity frame.stream s 0 1 p q (λ e. cc)) (rw same (h.odd s q)))
             (λ s q some. step-met frame.stream initial frame opens old.promised.items new.promised.items m s (streams s)
             (h.even s q some) (meets-own s))
-            (subst AreRising (sym same) h.opened) m.rising;
+            (rw same h.opened) m.rising;
       }
 
 -- ---- a promise of the server on one of the client's streams
@@ -142,30 +136,12 @@ module _ (initial : Sides ℕ) (frame : Frame) (old new : Streams) (streams : �
     (promised : is_server_promise frame ≡ true) (odd : frame.stream % 2 ≡ 1) where
   unpromised-odd : (s : ℕ) → s % 2 ≡ 1 → meets s frame ≡ (frame.stream == s)
   unpromised-odd s q =
-      let uneven : (s % 2 == 0) ≡ false = grind (arith, nat_tests) in
-      ap (λ b. (frame.stream == s) || b)
-      (ap (λ b. (((b && (promised_in frame.body == s)) && (s % 2 == 0)) && not (frame.stream == s))) promised
-      ∙ ap (λ b. ((promised_in frame.body == s) && b) && not (frame.stream == s)) uneven
-      ∙ none (promised_in frame.body == s) (not (frame.stream == s)))
-      ∙ or-false (frame.stream == s)
-    where
-      none : (a b : Bool) → ((a && false) && b) ≡ false
-      none true b = refl
-      none false b = refl
+      let uneven : (s % 2 == 0) ≡ false = rw q refl in simp (uneven, and-false, or-false)
 
   promised-even : (s : ℕ) → s % 2 ≡ 0 → meets s frame ≡ (promised_in frame.body == s)
   promised-even s q =
-      let even : (s % 2 == 0) ≡ true = grind (arith, nat_tests) in
-      let differ : (frame.stream == s) ≡ false = differ-parity frame.stream s 1 0 odd q (λ e. cc) in
-      ap (λ b. b || promises s frame) differ
-      ∙ ap (λ b. (((b && (promised_in frame.body == s)) && (s % 2 == 0)) && not (frame.stream == s))) promised
-      ∙ ap (λ b. ((promised_in frame.body == s) && b) && not (frame.stream == s)) even
-      ∙ ap (λ b. ((promised_in frame.body == s) && true) && not b) differ
-      ∙ whole (promised_in frame.body == s)
-    where
-      whole : (a : Bool) → ((a && true) && true) ≡ a
-      whole true = refl
-      whole false = refl
+      let even : (s % 2 == 0) ≡ true = rw q refl in
+      simp (differ-parity frame.stream s 1 0 odd q (λ e. cc), promised, even, and-true)
 
   pub met-promise : (AreRising old.opened.items
       → HasMet frame.stream initial frame false old.opened.items new.opened.items)
@@ -176,8 +152,7 @@ module _ (initial : Sides ℕ) (frame : Frame) (old new : Streams) (streams : �
       let m = met h.opened in
       let n = opened h.promised in
       record {
-        opening = ap (λ (entry : Stream). is_opening frame.stream entry.life frame) (h.odd frame.stream odd)
-            ∙ m.opening;
+        opening = rw (h.odd frame.stream odd) m.opening;
         met = all-met initial frame None streams new
             (λ s q. step-met frame.stream initial frame false old.opened.items new.opened.items m s (streams s)
             (h.odd s q) (unpromised-odd s q))
@@ -186,14 +161,83 @@ module _ (initial : Sides ℕ) (frame : Frame) (old new : Streams) (streams : �
             m.rising n.rising;
       }
 
-pub promise-told : (told : Bool) (initial : Sides ℕ) (frame : Frame) (old new : Streams)
-    → is_server_promise frame ≡ true → frame.stream % 2 ≡ 1 → (AreRising old.opened.items
-    → HasMet frame.stream initial frame false old.opened.items new.opened.items)
-    → (stream : ℕ) → stream ≡ promised_in frame.body → OnTrue told (AreRising old.promised.items
-    → HasMet stream initial frame true old.promised.items new.promised.items)
-    → OnTrue told ((streams : ℕ → Stream) → AreStreams streams old → AreMetOn initial frame false streams new)
-promise-told false initial frame old new promised odd met stream is opened = tt
-promise-told true initial frame old new promised odd met stream is opened =
-    λ streams h.
-    met-promise initial frame old new streams h promised odd met
-    (λ rising. subst (λ n. HasMet n initial frame true old.promised.items new.promised.items) is (opened rising))
+-- ---- rows that a change moves
+
+entries-moved : (before after : Sides ℕ) (old new : List Row) (stream : ℕ) → AreMoved before after old new
+    → IsEntryMoved before after (entry_in old stream) (entry_in new stream)
+entries-moved before after [] [] stream m = record {
+  life = refl;
+  client = refl;
+  server = refl;
+  client_silent = λ credit e. cc;
+  server_silent = λ credit e. cc;
+}
+entries-moved before after [] (two ∷ new) stream m = absurd m
+entries-moved before after (one ∷ old) [] stream m = absurd m
+entries-moved before after (one ∷ old) (two ∷ new) stream m =
+    let row = m.0 in
+    rw row.same (elim (cases_Bool (one.stream == stream)) [
+      | inl e ↦ rw e (record {
+        life = rw (row.opened, row.client.ended, row.server.ended) refl;
+        client = row.client.moved;
+        server = row.server.moved;
+        client_silent = row.client.silent;
+        server_silent = row.server.silent;
+      })
+      | inr e ↦ rw e (entries-moved before after old new stream m.1)
+    ])
+
+rising-moved : (before after : Sides ℕ) (low : ℕ) (old new : List Row) → AreMoved before after old new
+    → AreRisingFrom low old → AreRisingFrom low new
+rising-moved before after low [] [] m h = tt
+rising-moved before after low [] (two ∷ new) m h = absurd m
+rising-moved before after low (one ∷ old) [] m h = absurd m
+rising-moved before after low (one ∷ old) (two ∷ new) m h =
+    rw m.0.same (h.0, rising-moved before after one.stream old new m.1 h.1)
+
+unmoved-standing : (i standing : ℕ) → IsMovedBy i i standing standing
+unmoved-standing i standing = record {
+  moved = window-stays i (window_of standing);
+  silent = window-silent (window_of standing);
+  ended = refl;
+}
+
+unmoved-rows : (initial : Sides ℕ) (rows : List Row) → AreMoved initial initial rows rows
+unmoved-rows initial [] = tt
+unmoved-rows initial (row ∷ rows) = (
+  record {
+    same = refl;
+    opened = refl;
+    client = unmoved-standing initial.client row.client;
+    server = unmoved-standing initial.server row.server;
+  },
+  unmoved-rows initial rows,
+)
+
+pub unmoved : (initial : Sides ℕ) (streams : Streams) → AreAllMoved initial initial streams streams
+unmoved initial streams = record {
+  opened = unmoved-rows initial streams.opened.items;
+  promised = unmoved-rows initial streams.promised.items;
+}
+
+pub same-sides : (a b : Sides ℕ) → a.client ≡ b.client → a.server ≡ b.server → a ≡ b
+same-sides a b c s =
+    let sides : ℕ → ℕ → Sides ℕ = λ client server. record { client = client; server = server } in ap₂ sides c s
+
+-- ---- all streams, at a frame on stream 0
+
+pub all-moved : (initial after : Sides ℕ) (frame : Frame) (change : Option Change) (old new : Streams)
+    (streams : ℕ → Stream) → AreAllMoved initial after old new → after ≡ initial_after change initial
+    → frame.stream ≡ 0 → is_server_promise frame ≡ false → AreStreams streams old
+    → AreMet initial frame change streams new
+all-moved initial after frame change old new streams m is zero unpromised h =
+    let unmet = λ (s : ℕ) (above : 0 < s).
+    meets-own initial frame false old new streams h unpromised s
+    ∙ ne_eqb frame.stream s (λ e. absurd (omega (arith, zero, above, e))) in
+    all-met initial frame change streams new
+    (λ s q. rw (h.odd s q) (step-moved s initial after frame change _ _
+    (entries-moved initial after old.opened.items new.opened.items s m.opened) is (unmet s (omega (arith, q)))))
+    (λ s q above. rw (h.even s q above) (step-moved s initial after frame change _ _
+    (entries-moved initial after old.promised.items new.promised.items s m.promised) is (unmet s above)))
+    (rising-moved initial after 0 old.opened.items new.opened.items m.opened h.opened)
+    (rising-moved initial after 0 old.promised.items new.promised.items m.promised h.promised)

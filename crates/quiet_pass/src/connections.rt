@@ -14,7 +14,7 @@ use audit_terms::{Change, FIRST_LIMIT, FIRST_WINDOW, Frame, LARGEST_WINDOW, Side
 
 /// The connection between two frames (RFC 9113, 4.2, 5.1.1, 6.9).
 #[derive(Clone, Copy)]
-pub(crate) struct QuietConnection {
+pub(crate) struct KeptConnection {
     /// The credit in bytes of each side's connection window: more than 0.
     credit: Sides<u32>,
     /// The greatest stream that the client opened so far, or 0.
@@ -27,12 +27,12 @@ pub(crate) struct QuietConnection {
     limit: Sides<u32>,
 }
 
-impl QuietConnection {
+impl KeptConnection {
     /// The connection before any frame.
     pub(crate) fn start() -> Self
         ensures { connection_of result ≡ connection_start }
     {
-        QuietConnection {
+        KeptConnection {
             credit: Sides {
                 client: FIRST_WINDOW,
                 server: FIRST_WINDOW,

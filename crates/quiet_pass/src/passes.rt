@@ -10,7 +10,7 @@ ghost use Rattle.quiet_pass.specs.code.LastFrame.{last_of};
 ghost use Rattle.quiet_pass.specs.code.QuietPass.{StandsFor, IsQuietStep, IsQuietAfter, IsPlain, IsRestMet};
 ghost use Rattle.quiet_pass.specs.code.QuietPass.{IsBroughtInto};
 
-use crate::connections::QuietConnection;
+use crate::connections::KeptConnection;
 use crate::last_frames::LastFrame;
 use crate::pending::Pending;
 use crate::streams::Streams;
@@ -29,7 +29,7 @@ pub struct QuietPass {
     pending: Pending,
     /// The initial windows in force, in bytes.
     initial: Sides<u32>,
-    connection: QuietConnection,
+    connection: KeptConnection,
     streams: Streams,
     /// How many more changes may move windows.
     moves_left: u32,
@@ -50,7 +50,7 @@ impl QuietPass {
                 client: FIRST_WINDOW,
                 server: FIRST_WINDOW,
             },
-            connection: QuietConnection::start(),
+            connection: KeptConnection::start(),
             streams: Streams::new(alloc),
             moves_left: MOST_MOVES,
         }

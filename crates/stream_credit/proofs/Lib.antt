@@ -1,9 +1,9 @@
+pub mod Words
 pub mod MergedLemmas
 pub mod LeftLemmas
 pub mod SaidNumbers
 pub mod SilentLemmas
 pub mod WalkLemmas
 pub mod QuietLemmas
-pub mod FrameLemmas
 pub mod RunLemmas
 pub mod QuietStreams

@@ -1,134 +1,138 @@
--- The run of a stream begins as the definition does, and ends whole or cut.
-use Rattle.std.proofs.Common.{◌≡◌, ℕ, ◌+◌, ◌-◌, ◌^◌, ◌<◌, ◌≤◌, All, Bool, true, false, ◌==◌, nat_lt, nat_eq, nat_le}
-use Rattle.std.proofs.Common.{if◌then◌else◌, List, [], ◌∷◌, map, Option, Some, None, refl, sym, ap, ◌∙◌, subst, arith}
-use Rattle.std.specs.Bool.{OnTrue, OnFalse}
-use Rattle.std.specs.List.{AllByRecursion}
-use Rattle.std.proofs.lemmas.Bool.Decides.{nat_tests}
-use Rattle.std.proofs.lemmas.List.{append-nil}
-use Rattle.std.proofs.lemmas.List.Elements.{All-from_recursion}
-use Rattle.audit_terms.specs.declared.sides.Side.TheVariants.{Client, Server}
-use Rattle.audit_terms.specs.declared.frames.Frame.{Frame}
-use Rattle.audit_terms.specs.declared.items.Change.{Change}
-use Rattle.audit_terms.specs.declared.items.Step.{Step}
-use Rattle.audit_terms.specs.declared.streams.Stream.{Stream}
-use Rattle.audit_terms.specs.declared.findings.Finding.{Finding}
-use Rattle.audit_terms.specs.Place.{place_number}
-use Rattle.audit_terms.specs.Finding.{shown}
-use Rattle.audit_terms.specs.code.runs.Orderly.{IsOrderlyFrom, IsOrderly}
-use Rattle.audit_terms.specs.InForce.{initial_in_force}
-use Rattle.audit_terms.specs.code.runs.Look.{up_to, IsRun}
-use Rattle.audit_terms.specs.code.runs.Streams.{frame_step, change_step, steps_of, stream_run, stream_at_end}
-use Rattle.audit_terms.specs.Stream.{idle_stream}
-use Rattle.audit_terms.specs.code.runs.Streams.{stream_run_from, stream_after_all}
-use Rattle.audit_terms.specs.code.Watch.{Watches, NeverFallFrom}
-use Rattle.audit_terms.proofs.Watching.{ends, is-cut}
-use Rattle.settings_pair.specs.code.Changes.{AreOrderlyFrom, AreOrderly, AreAcknowledged}
-use Rattle.stream_credit.specs.declared.left.Left.{Left}
-use Rattle.stream_credit.specs.declared.walks.Walk.{Walk}
-use Rattle.stream_credit.specs.code.Looks.{met_from, step_numbers, opened_up_to}
-use Rattle.stream_credit.specs.code.Left.{after_each}
-use Rattle.stream_credit.specs.code.Merged.{joined_step, merged_at, merged}
-use Rattle.stream_credit.specs.code.Walk.{numbers_of, IsNumbered, HasRoomAt, WholeRun, IsAt, IsSound, HasEnded}
-use Rattle.stream_credit.specs.code.Walk.{HasStopped}
-use Rattle.stream_credit.proofs.MergedLemmas.{steps_of-merged, acknowledge-all}
-use Rattle.stream_credit.proofs.WalkLemmas.{fall-met}
-use Rattle.stream_credit.proofs.SaidNumbers.{AreNumbered, numbered-filter, run-numbered, shown-numbered}
+-- The run of a stream: it begins as the definition does, meets each frame behind the changes before it, and ends whole
+-- or cut.
+use Rattle.std.proofs.Common.{All}
+use Rattle.stream_credit.proofs.Words.{◌≡◌, ℕ, ◌+◌, ◌-◌, ◌^◌, ◌<◌, ◌≤◌, Bool, true, false, List, [], ◌∷◌, if◌then◌else◌}
+use Rattle.stream_credit.proofs.Words.{◌++◌, map, Option, Some, None, refl, sym, ap, ◌∙◌, arith, inl, inr}
+use Rattle.stream_credit.proofs.Words.{AllByRecursion, ForSome, cases_Bool, cases_order, eq-eqb, ne_eqb, lt-ltb, le-ltb}
+use Rattle.stream_credit.proofs.Words.{append-nil, All-from_recursion, ends, is-cut, Client, Server, Frame, Change}
+use Rattle.stream_credit.proofs.Words.{Step, Finding, is_ack, place_number, shown, initial_in_force, idle_stream, up_to}
+use Rattle.stream_credit.proofs.Words.{IsRun, IsOrderlyFrom, IsOrderly, change_step, steps_of, stream_run}
+use Rattle.stream_credit.proofs.Words.{stream_at_end, Watches, NeverFallFrom, AreOrderlyFrom, AreOrderly}
+use Rattle.stream_credit.proofs.Words.{AreAcknowledged, Left, Walk, after_each, passed, left_from, change_at}
+use Rattle.stream_credit.proofs.Words.{left_after, IsInForce, step_numbers, opened_up_to, merged_at, merged, frame_with}
+use Rattle.stream_credit.proofs.Words.{numbers_of, IsNumbered, HasRoomAt, WholeRun, IsAt, IsAtChanges, IsSound}
+use Rattle.stream_credit.proofs.Words.{HasEnded, HasStopped}
+use Rattle.stream_credit.proofs.LeftLemmas.{passed-before, orderly-before, orderly-left_from, orderly-left_after}
+use Rattle.stream_credit.proofs.LeftLemmas.{acknowledge-left_from, acknowledge-later, own-acknowledged}
+use Rattle.stream_credit.proofs.MergedLemmas.{steps_of-merged, acknowledge-all, merged-passed, merged_at-own}
+use Rattle.stream_credit.proofs.SaidNumbers.{HasNumber, upto-numbered, run-numbered}
+use Rattle.stream_credit.proofs.WalkLemmas.{fall-here, fall-later, fall-met}
 
--- ---- the numbers of the steps rise
+-- ---- a frame, and the changes before it
 
-abbrev RiseFrom : (low : ℕ) → List ℕ → Type 0
-RiseFrom low [] = Unit {0}
-RiseFrom low (n ∷ ns) = (low ≤ n) × (n ≤ 2 ^ 28 - 2) × RiseFrom (n + 1) ns
+-- `passed` are the changes before it, `left` those from its number on
+module _ {L : Type 0} {answers : L → List Finding → Option ℕ → L → Type 0} {run : WholeRun L} {now : L} {walk : Walk}
+    {changes : Left} {frame : Frame} {frames : List Frame} (h : IsSound answers run now walk changes (frame ∷ frames))
+    {left : List Change} (l : left ≡ left_from frame.number changes.changes.now) where
+  pub frame-changes : {before : List Change} → before ≡ passed frame.number changes.changes.now
+      → IsAtChanges answers run now walk frame.number before
+      (frame_with frame (change_at frame.number left) ∷ merged frames (left_after frame.number left))
+  frame-changes p =
+      let all = changes.changes.now in
+      let orderly = orderly-left_from h.low frame.number all h.changes in
+      let steps = merged-passed frame.number (frame ∷ frames) all refl
+      ∙ ap (λ (steps : List Step). map change_step (passed frame.number all) ++ steps)
+      (merged_at-own frame (merged frames) (left_from frame.number all) orderly) in
+      let at = rw steps at h.at in
+      rw (p, l) (record {
+        low = h.low;
+        order = h.orderly.0;
+        before = passed-before h.low frame.number all h.changes;
+        later = fall-here 0 frame.number _ (fall-later 0 (passed frame.number all) _ at.rise);
+        at = at;
+      })
 
-rise-lower : (low least : ℕ) (numbers : List ℕ) → least ≤ low → RiseFrom low numbers → RiseFrom least numbers
-rise-lower low least [] order h = tt
-rise-lower low least (n ∷ ns) order h = (omega (arith, h.0), h.1, h.2)
+  pub frame-acknowledged : {change : Option Change} → change ≡ change_at frame.number left
+      → ForSome change (λ _. ForSome (Some frame) (λ (one : Frame). is_ack one.body ≡ true))
+  frame-acknowledged e =
+      rw (e, l) (own-acknowledged frame (left_from frame.number changes.changes.now)
+      (acknowledge-left_from frame.number (frame ∷ []) changes.changes.now (h.acknowledged.0, tt)).0)
 
-rise-fall : (low : ℕ) (numbers : List ℕ) → RiseFrom low numbers → NeverFallFrom low numbers
-rise-fall low [] h = tt
-rise-fall low (n ∷ ns) h = (h.0, rise-fall n ns (rise-lower (n + 1) n ns (omega arith) h.2))
+  pub frame-sound : {later : L} {walked : Walk} {new : Left} → new.changes.now ≡ left_after frame.number left
+      → IsInForce walked.initial new
+      → IsAt answers run later walked (frame.number + 1) (merged frames (left_after frame.number left))
+      → IsSound answers run later walked new frames
+  frame-sound a in_force at =
+      let all = changes.changes.now in
+      record {
+        low = frame.number + 1;
+        orderly = h.orderly.2;
+        changes = rw (a, l) (orderly-left_after frame.number (left_from frame.number all)
+            (orderly-left_from h.low frame.number all h.changes));
+        acknowledged = rw (a, l) (acknowledge-later frame.number frames all h.acknowledged.1);
+        in_force = in_force;
+        at = rw a at;
+      }
 
-rise-bound : (low : ℕ) (numbers : List ℕ) → RiseFrom low numbers → AllByRecursion (λ n. n ≤ 2 ^ 28 - 2) numbers
-rise-bound low [] h = tt
-rise-bound low (n ∷ ns) h = (h.1, rise-bound (n + 1) ns h.2)
+-- ---- all frames
 
-equal_from : (m n : ℕ) → nat_eq m n ≡ true → m ≡ n
-equal_from m n e = grind (arith, nat_tests)
+pub last-changes : {L : Type 0} {answers : L → List Finding → Option ℕ → L → Type 0} {run : WholeRun L} {now : L}
+    {walk : Walk} {left : Left} (h : IsSound answers run now walk left [])
+    → IsAtChanges answers run now walk (h.low + 2 ^ 28) left.changes.now []
+last-changes {left = left} h = record {
+  low = h.low;
+  order = omega arith;
+  before = orderly-before h.low (h.low + 2 ^ 28) left.changes.now (omega arith) h.changes;
+  later = tt;
+  at = rw append-nil h.at;
+}
 
-below_from : (m n : ℕ) → nat_lt m n ≡ true → m < n
-below_from m n e = grind (arith, nat_tests)
+-- a walk before some frames comes to be before those that are left
+abbrev pub MeetsFrames : {L : Type 0} → (L → List Finding → Option ℕ → L → Type 0) → (before : L) → Walk → Left
+    → List Frame → (now : L) → Walk → Left → List Frame → Type 0
+MeetsFrames {L} answers before old old_left frames now walk left rest =
+    (run : WholeRun L) → IsSound answers run before old old_left frames → IsSound answers run now walk left rest
 
-above_from : (m n : ℕ) → nat_eq m n ≡ false → nat_lt n m ≡ false → m < n
-above_from m n e f = grind (arith, nat_tests)
+-- ---- the steps come in order, and the frame of a step has its number
 
-rise-changes : (low : ℕ) (changes : List Change) → AreOrderlyFrom low changes
-    → RiseFrom low (numbers_of (map change_step changes))
-rise-changes low [] h = tt
-rise-changes low (change ∷ changes) h = (h.0, omega (arith, h.1), rise-changes (change.number + 1) changes h.2)
+abbrev AreInOrder : (low : ℕ) → List Step → Type 0
+AreInOrder low [] = Unit {0}
+AreInOrder low (step ∷ steps) =
+    (low ≤ step.number) × (step.number ≤ 2 ^ 28 - 2) × IsNumbered step.number step.frame
+    × AreInOrder (step.number + 1) steps
 
-rise-merged_at : (frame : Frame) (after : List Change → List Step) → frame.number ≤ 2 ^ 28 - 2
-    → ((cs : List Change) → AreOrderlyFrom (frame.number + 1) cs → RiseFrom (frame.number + 1) (numbers_of (after cs)))
+order-facts : (low least : ℕ) (steps : List Step) → least ≤ low → AreInOrder low steps
+    → NeverFallFrom least (numbers_of steps) × AllByRecursion (λ n. n ≤ 2 ^ 28 - 2) (numbers_of steps)
+    × AllByRecursion (λ (step : Step). IsNumbered step.number step.frame) steps
+order-facts low least [] order h = (tt, tt, tt)
+order-facts low least (step ∷ steps) order h =
+    let (falls, within, own) = order-facts (step.number + 1) step.number steps (omega arith) h.3 in
+    ((omega (arith, order, h.0), falls), (h.1, within), (h.2, own))
+
+order-changes : (low : ℕ) (changes : List Change) → AreOrderlyFrom low changes
+    → AreInOrder low (map change_step changes)
+order-changes low [] h = tt
+order-changes low (change ∷ changes) h = (h.0, omega (arith, h.1), tt, order-changes (change.number + 1) changes h.2)
+
+order-merged_at : (frame : Frame) (after : List Change → List Step) → frame.number ≤ 2 ^ 28 - 2
+    → ((cs : List Change) → AreOrderlyFrom (frame.number + 1) cs → AreInOrder (frame.number + 1) (after cs))
     → (low : ℕ) (changes : List Change) → low ≤ frame.number → AreOrderlyFrom low changes
-    → RiseFrom low (numbers_of (merged_at frame after changes))
-rise-merged_at frame after fits rises low [] order h = (order, fits, rises [] tt)
-rise-merged_at frame after fits rises low (change ∷ changes) order h =
-    by_tests (frame.number == change.number) (nat_lt change.number frame.number) refl refl
-    (rise-merged_at frame after fits rises (change.number + 1) changes) where
-      by_tests : (same below : Bool) → nat_eq frame.number change.number ≡ same → nat_lt change.number frame.number
-          ≡ below
-          → (change.number + 1 ≤ frame.number → AreOrderlyFrom (change.number + 1) changes
-          → RiseFrom (change.number + 1) (numbers_of (merged_at frame after changes)))
-          → RiseFrom low (numbers_of (if same then joined_step frame change ∷ after changes
-          else if below then change_step change ∷ merged_at frame after changes else frame_step frame ∷ after
-          (change ∷ changes)))
-      by_tests true below e f later = (
-        order,
-        fits,
-        rises changes
-            (subst (λ n. AreOrderlyFrom (n + 1) changes) (sym (equal_from frame.number change.number e)) h.2),
+    → AreInOrder low (merged_at frame after changes)
+order-merged_at frame after fits rises low [] order h = (order, fits, refl, rises [] tt)
+order-merged_at frame after fits rises low (change ∷ changes) order h =
+    let n = frame.number in
+    elim (cases_order n change.number) [
+      | inl e ↦ rw (eq-eqb n change.number e) (order, fits, refl, rises changes (rw e h.2))
+      | inr (inl less) ↦ rw (
+        ne_eqb n change.number (λ e. absurd (omega (arith, less, e))),
+        le-ltb change.number n (omega (arith, less)),
       )
-      by_tests false true e f later =
-          let under = below_from change.number frame.number f in
-          (h.0, omega (arith, h.1), later (omega arith) h.2)
-      by_tests false false e f later =
-          let over = above_from frame.number change.number e f in
-          (order, fits, rises (change ∷ changes) (omega arith, h.1, h.2))
+          (order, fits, refl, rises (change ∷ changes) (omega (arith, less), h.1, h.2))
+      | inr (inr more) ↦
+          rw (ne_eqb n change.number (λ e. absurd (omega (arith, more, e))), lt-ltb change.number n more) (
+            h.0,
+            omega (arith, h.1),
+            tt,
+            order-merged_at frame after fits rises (change.number + 1) changes (omega (arith, more)) h.2,
+          )
+    ]
 
-rise-merged : (low : ℕ) (frames : List Frame) (changes : List Change) → IsOrderlyFrom low frames
-    → AreOrderlyFrom low changes
-    → RiseFrom low (numbers_of (merged frames changes))
-rise-merged low [] changes h k = rise-changes low changes k
-rise-merged low (frame ∷ frames) changes h k =
-    rise-merged_at frame (merged frames) (omega (arith, h.1.number))
-    (λ cs q. rise-merged (frame.number + 1) frames cs h.2 q) low changes h.0 k
-
--- ---- a step's frame has its number
-
-abbrev AreOwn : List Step → Type 0
-AreOwn steps = AllByRecursion (λ (step : Step). IsNumbered step.number step.frame) steps
-
-own-changes : (changes : List Change) → AreOwn (map change_step changes)
-own-changes [] = tt
-own-changes (change ∷ changes) = (tt, own-changes changes)
-
-own-merged_at : (frame : Frame) (after : List Change → List Step) → ((cs : List Change) → AreOwn (after cs))
-    → (changes : List Change)
-    → AreOwn (merged_at frame after changes)
-own-merged_at frame after own [] = (refl, own [])
-own-merged_at frame after own (change ∷ changes) =
-    by_tests (frame.number == change.number) (nat_lt change.number frame.number)
-    (own-merged_at frame after own changes) where
-      by_tests : (same below : Bool) → AreOwn (merged_at frame after changes)
-          → AreOwn (if same then joined_step frame change ∷ after changes
-          else if below then change_step change ∷ merged_at frame after changes else frame_step frame ∷ after
-          (change ∷ changes))
-      by_tests true below later = (refl, own changes)
-      by_tests false true later = (tt, later)
-      by_tests false false later = (refl, own (change ∷ changes))
-
-own-merged : (frames : List Frame) (changes : List Change) → AreOwn (merged frames changes)
-own-merged [] changes = own-changes changes
-own-merged (frame ∷ frames) changes = own-merged_at frame (merged frames) (λ cs. own-merged frames cs) changes
+order-merged : (low : ℕ) (frames : List Frame) (changes : List Change) → IsOrderlyFrom low frames
+    → AreOrderlyFrom low changes → AreInOrder low (merged frames changes)
+order-merged low [] changes h k = order-changes low changes k
+order-merged low (frame ∷ frames) changes h k =
+    order-merged_at frame (merged frames) (omega (arith, h.1.number))
+    (λ cs q. order-merged (frame.number + 1) frames cs h.2 q) low changes h.0 k
 
 -- ---- the beginning
 
@@ -144,106 +148,65 @@ whole_run start stream credits_shown frames changes = record {
   entry = stream_at_end stream frames changes;
 }
 
-pub run-starts : {L : Type 0} (answers : L → List Finding → Option ℕ → L → Type 0) (start now : L) (stream : ℕ)
-    (credits_shown : Bool)
-    (frames : List Frame) (changes : List Change) (walk : Walk) (left : Left) → stream < 2 ^ 31 → IsOrderly frames
-    → AreOrderly changes
-    → AreAcknowledged frames changes → left.changes.now ≡ changes
-    → left.in_force.now ≡ after_each initial_in_force.initial changes
-    → walk.stream ≡ stream → walk.credits_shown ≡ credits_shown → walk.entry ≡ idle_stream
-    → walk.initial ≡ initial_in_force.initial
+pub run-starts : {L : Type 0} {answers : L → List Finding → Option ℕ → L → Type 0} {start now : L} {stream : ℕ}
+    {credits_shown : Bool} {frames : List Frame} {changes : List Change} {walk : Walk} {left : Left} → stream < 2 ^ 31
+    → IsOrderly frames → AreOrderly changes → AreAcknowledged frames changes → left.changes.now ≡ changes
+    → left.in_force.now ≡ after_each initial_in_force.initial changes → walk.stream ≡ stream
+    → walk.credits_shown ≡ credits_shown → walk.entry ≡ idle_stream → walk.initial ≡ initial_in_force.initial
     → walk.found.items ≡ []
     → ((whole : List Finding) (numbers : List ℕ) → NeverFallFrom 0 numbers
     → Watches answers start now whole [] numbers walk.watch)
     → IsSound answers (whole_run start stream credits_shown frames changes) now walk left frames
-run-starts answers start now stream credits_shown frames changes walk left range h k acks l w s c e i f begun =
+run-starts {frames = frames} {changes = changes} {walk = walk} range h k acks l w s c e i f begun =
     let steps = steps_of-merged 0 frames changes k in
-    let rises = rise-fall 0 (numbers_of (merged frames changes)) (rise-merged 0 frames changes h k) in
+    let order = order-facts 0 0 (merged frames changes) (omega arith) (order-merged 0 frames changes h k) in
     record {
       low = 0;
       orderly = h;
-      changes = subst (AreOrderlyFrom 0) (sym l) k;
+      changes = rw l k;
       acknowledged = rw l (acknowledge-all frames changes acks);
       in_force = rw (l, i) w;
-      at = subst (λ (cs : List Change). IsAt answers (whole_run start stream credits_shown frames changes) now walk 0
-          (merged frames cs)) (sym l)
-          (record {
-            streamed = subst (λ n. n < 2 ^ 31) (sym s) range;
-            room = subst (HasRoomAt 0) (sym e) room-idle;
-            below = subst (AreNumbered (λ n. n < 0)) (sym f) tt;
-            found = rw (s, c, e, i, f)
-                (ap (λ l. shown credits_shown (stream_run_from stream initial_in_force.initial idle_stream l))
-                (sym steps));
-            entry = rw (s, e, i) (ap (stream_after_all stream initial_in_force.initial idle_stream) (sym steps));
-            met = [];
-            count = omega arith;
-            numbers = rw (s, e, i) (ap (met_from stream initial_in_force.initial idle_stream) (sym steps));
-            rise = rises;
-            own = own-merged frames changes;
-            watches = begun (shown credits_shown (stream_run stream frames changes))
-                (met_from walk.stream walk.initial walk.entry (merged frames changes))
-                (fall-met 0 walk.stream walk.initial walk.entry (merged frames changes) rises);
-          });
+      at = rw l (record {
+        streamed = rw s range;
+        room = rw e room-idle;
+        below = rw f tt;
+        found = rw (s, c, e, i, f, steps) refl;
+        entry = rw (s, e, i, steps) refl;
+        met = [];
+        count = omega arith;
+        numbers = rw (s, e, i, steps) refl;
+        rise = order.0;
+        own = order.2;
+        watches = begun _ _ (fall-met 0 walk.stream walk.initial walk.entry (merged frames changes) order.0);
+      });
     }
 
 -- ---- the end
 
-module _ {L : Type 0} (answers : L → List Finding → Option ℕ → L → Type 0) (now : L) (run : WholeRun L) (walk : Walk)
-    (is_whole : Bool)
-    (before : L) (old : Walk) (left : Left) (frames : List Frame) (sound : IsSound answers run before old left frames)
-    (goes_on : OnTrue is_whole ((one : WholeRun L) → IsSound answers one before old left frames
-    → HasEnded answers one now walk))
-    (stops : OnFalse is_whole ((one : WholeRun L) → IsSound answers one before old left frames
-    → HasStopped answers one now walk))
-    (upto : Option ℕ) (is_upto : upto ≡ (if is_whole then None else walk.watch.stop)) where
-  ended : HasEnded answers run now walk → (kept : List Finding) → kept ≡ walk.found.items
-      → IsRun answers run.start now run.numbers run.found kept None walk.watch.stop walk.watch.looks
-  ended h kept e =
-      let at = h.1 in
-      subst (λ ns. IsRun answers run.start now ns run.found kept None walk.watch.stop walk.watch.looks)
-      (sym (append-nil at.met) ∙ at.numbers)
-      (subst (λ l. IsRun answers run.start now at.met run.found l None walk.watch.stop walk.watch.looks)
-      (sym at.found ∙ append-nil walk.found.items ∙ sym e)
-      (ends answers run.start run.found now at.met walk.watch at.watches))
-
-  stopped : HasStopped answers run now walk → (kept : List Finding) → kept ≡ up_to walk.watch.stop walk.found.items
-      → IsRun answers run.start now run.numbers run.found kept walk.watch.stop walk.watch.stop walk.watch.looks
-  stopped h kept e =
-      is-cut answers run.start run.found now run.numbers h.number walk.watch kept h.stopped
-      (e ∙ ap (up_to walk.watch.stop) h.found)
-
-  pub run-ends : (kept : List Finding) → kept ≡ up_to upto walk.found.items
+module _ {L : Type 0} {answers : L → List Finding → Option ℕ → L → Type 0} {now : L} {run : WholeRun L} {walk : Walk}
+    (is_whole : Bool) (goes_on : is_whole ≡ true → HasEnded answers run now walk)
+    (stops : is_whole ≡ false → HasStopped answers run now walk) {upto : Option ℕ}
+    (is_upto : upto ≡ (if is_whole then None else walk.watch.stop)) where
+  pub run-ends : {kept : List Finding} → kept ≡ up_to upto walk.found.items
       → IsRun answers run.start now run.numbers run.found kept upto walk.watch.stop walk.watch.looks
-  run-ends kept e = by_end is_whole goes_on stops is_upto where
-    by_end : (whole : Bool)
-        → OnTrue whole ((one : WholeRun L) → IsSound answers one before old left frames → HasEnded answers one now walk)
-        → OnFalse whole ((one : WholeRun L) → IsSound answers one before old left frames
-        → HasStopped answers one now walk)
-        → upto ≡ (if whole then None else walk.watch.stop)
-        → IsRun answers run.start now run.numbers run.found kept upto walk.watch.stop walk.watch.looks
-    by_end true goes stop is =
-        subst (λ place. IsRun answers run.start now run.numbers run.found kept place walk.watch.stop walk.watch.looks)
-        (sym is)
-        (ended (goes run sound) kept (e ∙ ap (λ place. up_to place walk.found.items) is))
-    by_end false goes stop is =
-        subst (λ place. IsRun answers run.start now run.numbers run.found kept place walk.watch.stop walk.watch.looks)
-        (sym is)
-        (stopped (stop run sound) kept (e ∙ ap (λ place. up_to place walk.found.items) is))
+  run-ends e = elim (cases_Bool is_whole) [
+    | inl is ↦
+        let at = (goes_on is).1 in
+        let whole : upto ≡ None = is_upto ∙ rw is refl in
+        let all = e ∙ rw whole (sym (append-nil walk.found.items)) ∙ at.found in
+        rw (whole, all, ← at.numbers, append-nil) (ends answers run.start run.found now at.met walk.watch at.watches)
+    | inr is ↦
+        let at = stops is in
+        let cut : upto ≡ walk.watch.stop = is_upto ∙ rw is refl in
+        rw (cut, e, cut) (is-cut answers run.start run.found now run.numbers at.number walk.watch _ at.stopped
+        (ap (up_to walk.watch.stop) at.found))
+  ]
 
   pub run-opened : opened_up_to upto walk.entry.life.opened ≡ opened_up_to upto run.entry.life.opened
-  run-opened = by_end is_whole goes_on stops is_upto where
-    by_end : (whole : Bool)
-        → OnTrue whole ((one : WholeRun L) → IsSound answers one before old left frames → HasEnded answers one now walk)
-        → OnFalse whole ((one : WholeRun L) → IsSound answers one before old left frames
-        → HasStopped answers one now walk)
-        → upto ≡ (if whole then None else walk.watch.stop)
-        → opened_up_to upto walk.entry.life.opened ≡ opened_up_to upto run.entry.life.opened
-    by_end true goes stop is =
-        let at = goes run sound in ap (λ (entry : Stream). opened_up_to upto entry.life.opened) at.1.entry
-    by_end false goes stop is =
-        let at = stop run sound in
-        subst (λ place. opened_up_to place walk.entry.life.opened ≡ opened_up_to place run.entry.life.opened)
-        (sym is) at.opened
+  run-opened = elim (cases_Bool is_whole) [
+    | inl is ↦ rw (← (goes_on is).1.entry) refl
+    | inr is ↦ rw (is_upto, is) (stops is).opened
+  ]
 
 -- what is kept of the whole stands at frames in range
 pub kept-numbered : (stream : ℕ) (credits_shown : Bool) (frames : List Frame) (changes : List Change) → stream < 2 ^ 31
@@ -251,26 +214,7 @@ pub kept-numbered : (stream : ℕ) (credits_shown : Bool) (frames : List Frame) 
     → kept ≡ up_to upto (shown credits_shown (stream_run stream frames changes))
     → All (λ (found : Finding). place_number found.place ≤ 2 ^ 28 - 2) kept
 kept-numbered stream credits_shown frames changes range h k upto kept e =
-    subst (All (λ (found : Finding). place_number found.place ≤ 2 ^ 28 - 2)) (sym e)
-    (All-from_recursion (λ (found : Finding). place_number found.place ≤ 2 ^ 28 - 2)
-    (up_to upto (shown credits_shown (stream_run stream frames changes)))
-    (by_upto upto))
-  where
-    numbered : AllByRecursion (λ n. n ≤ 2 ^ 28 - 2) (numbers_of (steps_of frames changes))
-    numbered =
-        subst (λ (steps : List Step). AllByRecursion (λ n. n ≤ 2 ^ 28 - 2) (numbers_of steps))
-        (sym (steps_of-merged 0 frames changes k))
-        (rise-bound 0 (numbers_of (merged frames changes)) (rise-merged 0 frames changes h k))
-
-    whole : AreNumbered (λ n. n ≤ 2 ^ 28 - 2) (shown credits_shown (stream_run stream frames changes))
-    whole =
-        shown-numbered (λ n. n ≤ 2 ^ 28 - 2) credits_shown (stream_run stream frames changes)
-        (run-numbered (λ n. n ≤ 2 ^ 28 - 2) stream initial_in_force.initial idle_stream (steps_of frames changes) range
-        numbered)
-
-    by_upto : (place : Option ℕ) → AreNumbered (λ n. n ≤ 2 ^ 28 - 2)
-        (up_to place (shown credits_shown (stream_run stream frames changes)))
-    by_upto None = whole
-    by_upto (Some place) =
-        numbered-filter (λ n. n ≤ 2 ^ 28 - 2) (λ (found : Finding). nat_le found.place place)
-        (shown credits_shown (stream_run stream frames changes)) whole
+    let order = order-facts 0 0 (merged frames changes) (omega arith) (order-merged 0 frames changes h k) in
+    rw e (All-from_recursion (HasNumber (λ n. n ≤ 2 ^ 28 - 2)) _ (upto-numbered (λ n. n ≤ 2 ^ 28 - 2) upto _
+    (run-numbered (λ n. n ≤ 2 ^ 28 - 2) credits_shown stream initial_in_force.initial idle_stream
+    (steps_of frames changes) range (rw (steps_of-merged 0 frames changes k) order.1))))

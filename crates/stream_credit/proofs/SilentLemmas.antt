@@ -1,31 +1,14 @@
--- A change that shows nothing of a stream where credits are not shown.
-use Rattle.std.proofs.Common.{◌≡◌, ℕ, ℤ, pos, ◌+ℤ◌, ◌-ℤ◌, Bool, true, false, ◌&&◌, not, List, [], ◌∷◌, ◌++◌, Option}
-use Rattle.std.proofs.Common.{Some, None, is_some, option_map, refl, sym, ap, ◌∙◌, subst, arith}
-use Rattle.std.specs.List.{AllByRecursion}
-use Rattle.std.proofs.lemmas.Int.{ints}
-use Rattle.std.proofs.lemmas.List.{append-nil}
-use Rattle.audit_terms.specs.declared.sides.Side.{Side}
-use Rattle.audit_terms.specs.declared.sides.Side.TheVariants.{Client, Server}
-use Rattle.audit_terms.specs.declared.sides.Sides.{Sides}
-use Rattle.audit_terms.specs.declared.items.Change.{Change}
-use Rattle.audit_terms.specs.declared.items.Step.{Step}
-use Rattle.audit_terms.specs.declared.streams.Stream.{Stream}
-use Rattle.audit_terms.specs.declared.findings.Finding.{Finding}
-use Rattle.audit_terms.specs.Sides.{side_of}
-use Rattle.audit_terms.specs.Change.{new_initial}
-use Rattle.std.specs.Ordering.{int_eq}
-use Rattle.audit_terms.specs.declared.kinds.Kind.TheVariants.{SettingOverflow, StreamOverrun, StreamOverflow}
-use Rattle.audit_terms.specs.declared.kinds.Kind.TheVariants.{StreamStallEnd, StreamStallBegin, StreamCredit}
-use Rattle.audit_terms.specs.Window.{is_used_up, overflows, overruns}
-use Rattle.audit_terms.specs.Finding.{say, say_of, in_order, is_shown, shown}
-use Rattle.audit_terms.specs.Stream.{stream_finding, window_step, live_window_said, stream_said, stream_after}
-use Rattle.audit_terms.specs.code.StreamSteps.{counted}
-use Rattle.audit_terms.specs.code.runs.Streams.{initial_after}
-use Rattle.audit_terms.proofs.FindingLists.{each-append, each-in_order}
-use Rattle.audit_terms.specs.declared.frames.Frame.{Frame}
-use Rattle.stream_credit.specs.declared.walks.Walk.{Walk}
-use Rattle.stream_credit.specs.code.Silent.{moved, IsSilent}
-use Rattle.stream_credit.specs.code.Walk.{IsCounted}
+-- A step that shows nothing of a stream where credits are not shown, and a change that is one.
+use Rattle.stream_credit.proofs.Words.{◌≡◌, int_lt, ℕ, ℤ, Bool, true, false, ◌&&◌, not, List, [], ◌∷◌, ◌++◌, Option}
+use Rattle.stream_credit.proofs.Words.{Some, None, is_some, option_map, refl, sym, ap, ◌∙◌, arith, AllByRecursion}
+use Rattle.stream_credit.proofs.Words.{and_right, or_from, or_left, cond-true, cond-false, ints, append-nil}
+use Rattle.stream_credit.proofs.Words.{each-append, each-in_order, Side, Client, Server, Sides, Frame, Change, Step}
+use Rattle.stream_credit.proofs.Words.{Stream, Finding, side_of, new_initial, is_zero_grant, content_by, grant_to}
+use Rattle.stream_credit.proofs.Words.{ends_window, is_not_opened, is_after_end, is_used_up, overflows, overruns, say}
+use Rattle.stream_credit.proofs.Words.{say_of, in_order, is_shown, shown, step_test, step_amount, opens, life_at}
+use Rattle.stream_credit.proofs.Words.{WindowStep, window_step, window_after, frame_said, live_window_said, stream_said}
+use Rattle.stream_credit.proofs.Words.{stream_after, is_stalled, counted, is_overflowing_grant, frame_step}
+use Rattle.stream_credit.proofs.Words.{initial_after, Walk, moved, IsSilent, IsCounted}
 
 -- ---- findings that are not shown
 
@@ -37,13 +20,6 @@ AreUnshown found = AllByRecursion IsUnshown found
 
 pub both : (xs ys : List Finding) → AreUnshown xs → AreUnshown ys → AreUnshown (xs ++ ys)
 both xs ys p q = each-append IsUnshown xs ys p q
-
-pub parts : (a b c d e f : List Finding) → AreUnshown a → AreUnshown b → AreUnshown c → AreUnshown d → AreUnshown e
-    → AreUnshown f
-    → AreUnshown (((((a ++ b) ++ c) ++ d) ++ e) ++ f)
-parts a b c d e f pa pb pc pd pe pf =
-    both ((((a ++ b) ++ c) ++ d) ++ e) f
-    (both (((a ++ b) ++ c) ++ d) e (both ((a ++ b) ++ c) d (both (a ++ b) c (both a b pa pb) pc) pd) pe) pf
 
 pub unsaid : (holds : Bool) (found : Finding) → holds ≡ false → AreUnshown (say holds found)
 unsaid true found h = cc
@@ -57,6 +33,104 @@ pub none-shown : (found : List Finding) → AreUnshown found → shown false fou
 none-shown [] h = refl
 none-shown (x ∷ xs) h = rw (h.0) (none-shown xs h.1)
 
+-- ---- what a frame shows, and a live window
+
+pub frame-unshown : (stream : ℕ) (entry : Stream) (step : Step) (frame : Frame)
+    → is_not_opened stream entry.life frame ≡ false → is_after_end entry.life frame ≡ false
+    → (is_zero_grant frame.body && is_some entry.life.opened) ≡ false
+    → AreUnshown (frame_said stream entry step frame)
+frame-unshown stream entry step frame used late zero =
+    both _ _ (both _ _ (unsaid _ _ used) (unsaid _ _ late)) (unsaid _ _ zero)
+
+-- no stall begins or ends
+pub never-both : (a b : Bool) → a ≡ b → (a && not b) ≡ false
+never-both true b e = ap not (sym e)
+never-both false b e = refl
+
+pub never-other : (a b : Bool) → a ≡ b → (not a && b) ≡ false
+never-other true b e = refl
+never-other false b e = sym e
+
+live-unshown : (d : Side) (stream : ℕ) (step : Step) (window : WindowStep)
+    → overflows window.before window.counted ≡ false
+    → overruns window.before (step_amount (content_by d) step) ≡ false → window.overflowing ≡ false
+    → is_used_up window.before ≡ is_stalled window.after → AreUnshown (live_window_said d stream step window)
+live-unshown d stream step window fits within over used =
+    both _ _
+    (both _ _
+    (both _ _
+    (both _ _ (both _ _ (unsaid _ _ (and_right (is_some step.change) _ fits)) (unsaid _ _ within)) (unsaid _ _ over))
+    (unsaid _ _ (never-both _ _ used)))
+    (unsaid _ _ (never-other _ _ used)))
+    (said-unshown _ _ refl)
+
+-- ---- a window at a step of which nothing is shown
+
+pub record IsCalm (d : Side) (stream : ℕ) (initial : Sides ℕ) (step : Step) (window next : Option ℤ) : Type 0 where
+  pub said : AreUnshown (say_of (λ before. live_window_said d stream step (window_step d stream initial step before))
+      window)
+  pub after : window_after d stream initial step window ≡ next
+
+module _ (d : Side) (stream : ℕ) (initial : Sides ℕ) (step : Step) where
+  pub calm-none : IsCalm d stream initial step None None
+  calm-none = record { said = tt; after = refl }
+
+  module _ (before after : ℤ) (moved : counted d stream initial step before ≡ after)
+      (fits : overflows before after ≡ false) (within : overruns before (step_amount (content_by d) step) ≡ false) where
+    not-over : overflows before (counted d stream initial step before) ≡ false
+    not-over = ap (overflows before) moved ∙ fits
+
+    no-overflow : is_overflowing_grant d stream initial step before ≡ false
+    no-overflow = and_right _ _ not-over
+
+    calm-by : (next : Option ℤ) → window_after d stream initial step (Some before) ≡ next
+        → is_used_up before ≡ is_stalled next → IsCalm d stream initial step (Some before) next
+    calm-by next is used = record {
+      said = live-unshown d stream step (window_step d stream initial step before) not-over within no-overflow
+          (used ∙ sym (ap is_stalled is));
+      after = is;
+    }
+
+    -- it lives on
+    pub calm-some : step_test (ends_window d) step ≡ false → is_used_up before ≡ is_used_up after
+        → IsCalm d stream initial step (Some before) (Some after)
+    calm-some goes_on used = calm-by (Some after)
+        (cond-false _ None (Some (counted d stream initial step before)) (or_from _ _ goes_on no-overflow)
+        ∙ ap Some moved) used
+
+    -- the step ends it
+    pub calm-ended : step_test (ends_window d) step ≡ true → is_used_up before ≡ false
+        → IsCalm d stream initial step (Some before) None
+    calm-ended ends some = calm-by None
+        (cond-true _ None (Some (counted d stream initial step before)) (or_left _ _ ends)) some
+
+-- a frame that grants nothing to it, sends nothing through it and does not end it leaves it as it is
+pub calm-same : (d : Side) (stream : ℕ) (initial : Sides ℕ) (frame : Frame) → grant_to d stream frame ≡ 0
+    → content_by d frame ≡ 0 → ends_window d frame ≡ false → (window : Option ℤ)
+    → IsCalm d stream initial (frame_step frame) window window
+calm-same d stream initial frame grant content goes_on None = calm-none d stream initial (frame_step frame)
+calm-same d stream initial frame grant content goes_on (Some before) =
+    let level : int_lt before before ≡ false = grind (arith, ints) in
+    calm-some d stream initial (frame_step frame) before before (rw (grant, content) (omega (arith, ints)))
+    (rw level refl) (rw content refl) goes_on refl
+
+-- ---- a stream at such a step
+
+module _ (stream : ℕ) (initial : Sides ℕ) (entry : Stream) (step : Step) (next : Sides (Option ℤ))
+    (unopened : opens stream entry step ≡ false)
+    (calm : (d : Side) → IsCalm d stream initial step (side_of d entry.window) (side_of d next)) where
+  pub stream-unshown : AreUnshown (say_of (frame_said stream entry step) step.frame)
+      → AreUnshown (stream_said stream initial entry step)
+  stream-unshown frame =
+      both _ _ (both _ _ frame (rw unopened (calm Client).said)) (rw unopened (calm Server).said)
+
+  pub stream-shown : AreUnshown (say_of (frame_said stream entry step) step.frame)
+      → shown false (in_order (stream_said stream initial entry step)) ≡ []
+  stream-shown frame = none-shown _ (each-in_order IsUnshown _ (stream-unshown frame))
+
+  pub stream-moved : stream_after stream initial entry step ≡ record { life = life_at stream entry step; window = next }
+  stream-moved = rw (unopened, (calm Client).after, (calm Server).after) refl
+
 -- ---- a change by itself
 
 abbrev pub change_alone : (number : ℕ) → Option Change → Step
@@ -65,142 +139,52 @@ change_alone number change = record { number = number; frame = None; change = ch
 abbrev pub moved_to : Side → Sides ℕ → Option Change → ℤ → ℤ
 moved_to d initial change credit = moved (side_of d initial) (new_initial change d (side_of d initial)) credit
 
-nothing-added : (credit : ℤ) (before after : ℕ) → credit +ℤ ((pos 0 -ℤ pos 0) +ℤ (pos after -ℤ pos before))
-    ≡ moved before after credit
-nothing-added credit before after = omega (arith, ints)
+pub calm-change : (d : Side) (stream : ℕ) (initial : Sides ℕ) (number : ℕ) (change : Option Change) (after : ℕ)
+    (window next : Option ℤ) → after ≡ new_initial change d (side_of d initial)
+    → next ≡ option_map (moved (side_of d initial) after) window → IsSilent window next
+    → IsCalm d stream initial (change_alone number change) window next
+calm-change d stream initial number change after None None a e h = calm-none d stream initial _
+calm-change d stream initial number change after None (Some next) a e h = cc
+calm-change d stream initial number change after (Some credit) None a e h = cc
+calm-change d stream initial number change after (Some credit) (Some next) a e h =
+    let one = h credit refl next refl in
+    let i = side_of d initial in
+    let to : next ≡ moved i after credit = cc in
+    let now : counted d stream initial (change_alone number change) credit ≡ next =
+    rw (← a) (omega (arith, ints, to)) in
+    calm-some d stream initial (change_alone number change) credit next now one.1 refl refl one.0
 
-pub never-both : (a b : Bool) → a ≡ b → (a && not b) ≡ false
-never-both true true e = refl
-never-both true false e = cc
-never-both false b e = refl
+pub calm-changes : (stream : ℕ) (initial : Sides ℕ) (number : ℕ) (change : Option Change) (after : Sides ℕ)
+    (window next : Sides (Option ℤ)) → after ≡ initial_after change initial
+    → next.client ≡ option_map (moved initial.client after.client) window.client
+    → next.server ≡ option_map (moved initial.server after.server) window.server
+    → IsSilent window.client next.client → IsSilent window.server next.server → (d : Side)
+    → IsCalm d stream initial (change_alone number change) (side_of d window) (side_of d next)
+calm-changes stream initial number change after window next a c s p q Client =
+    calm-change Client stream initial number change after.client window.client next.client
+    (ap (λ (now : Sides ℕ). now.client) a) c p
+calm-changes stream initial number change after window next a c s p q Server =
+    calm-change Server stream initial number change after.server window.server next.server
+    (ap (λ (now : Sides ℕ). now.server) a) s q
 
-pub never-other : (a b : Bool) → a ≡ b → (not a && b) ≡ false
-never-other true b e = refl
-never-other false true e = cc
-never-other false false e = refl
-
-pub and-false : (a b : Bool) → b ≡ false → (a && b) ≡ false
-and-false true b e = e
-and-false false b e = refl
-
-window-unshown : (d : Side) (stream : ℕ) (initial : Sides ℕ) (number : ℕ) (change : Option Change) (before : ℤ)
-    → is_used_up before ≡ is_used_up (moved_to d initial change before)
-    → overflows before (moved_to d initial change before) ≡ false
-    → AreUnshown (live_window_said d stream (change_alone number change)
-    (window_step d stream initial (change_alone number change) before))
-window-unshown d stream initial number change before used over =
-    let after = counted d stream initial (change_alone number change) before in
-    let same : after ≡ moved_to d initial change before =
-    nothing-added before (side_of d initial) (new_initial change d (side_of d initial)) in
-    let still : is_used_up before ≡ is_used_up after = used ∙ ap is_used_up (sym same) in
-    let step = change_alone number change in
-    parts (say (is_some change && overflows before after) (stream_finding SettingOverflow stream step d after))
-    (say (overruns before 0) (stream_finding StreamOverrun stream step d after))
-    (say false (stream_finding StreamOverflow stream step d after))
-    (say (is_used_up before && not (is_used_up after)) (stream_finding StreamStallEnd stream step d after))
-    (say (not (is_used_up before) && is_used_up after) (stream_finding StreamStallBegin stream step d after))
-    (say (not (int_eq before after)) (stream_finding StreamCredit stream step d after))
-    (unsaid (is_some change && overflows before after) _
-    (and-false (is_some change) _ (ap (overflows before) same ∙ over)))
-    tt
-    tt
-    (unsaid (is_used_up before && not (is_used_up after)) _ (never-both (is_used_up before) (is_used_up after) still))
-    (unsaid (not (is_used_up before) && is_used_up after) _ (never-other (is_used_up before) (is_used_up after) still))
-    (said-unshown (not (int_eq before after)) _ refl)
-
-module _ (stream : ℕ) (initial : Sides ℕ) (entry : Stream) (number : ℕ) (change : Option Change) where
-  abbrev window_moved_to : Side → Option ℤ
-  window_moved_to d = option_map (moved_to d initial change) (side_of d entry.window)
-
-  side-unshown : (d : Side) (window : Option ℤ) → IsSilent window (option_map (moved_to d initial change) window)
-      → AreUnshown (say_of (λ before. live_window_said d stream (change_alone number change)
-      (window_step d stream initial (change_alone number change) before)) window)
-  side-unshown d None h = tt
-  side-unshown d (Some credit) h =
-      let one = h credit refl (moved_to d initial change credit) refl in
-      window-unshown d stream initial number change credit one.0 one.1
-
-  pub silent-unshown : IsSilent entry.window.client (window_moved_to Client)
-      → IsSilent entry.window.server (window_moved_to Server)
-      → shown false (in_order (stream_said stream initial entry (change_alone number change))) ≡ []
-  silent-unshown client server =
-      none-shown (in_order (stream_said stream initial entry (change_alone number change)))
-      (each-in_order IsUnshown (stream_said stream initial entry (change_alone number change))
-      (both _ _ (side-unshown Client entry.window.client client) (side-unshown Server entry.window.server server)))
-
-  abbrev window_after_of : Side → Option ℤ → Option ℤ
-  window_after_of d None = None
-  window_after_of d (Some credit) = Some (counted d stream initial (change_alone number change) credit)
-
-  same-window : (d : Side) (window : Option ℤ) → window_after_of d window ≡ option_map (moved_to d initial change)
-      window
-  same-window d None = refl
-  same-window d (Some credit) = ap Some
-      (nothing-added credit (side_of d initial) (new_initial change d (side_of d initial)))
-
-  pub silent-after : (client server : Option ℤ) → entry.window ≡ record { client = client; server = server }
-      → stream_after stream initial entry (change_alone number change)
-      ≡ record {
-        life = entry.life;
-        window = record {
-          client = option_map (moved_to Client initial change) client;
-          server = option_map (moved_to Server initial change) server;
-        };
-      }
-  silent-after None None e = rw (e) refl
-  silent-after None (Some credit) e = rw (e, ← same-window Server (Some credit)) refl
-  silent-after (Some credit) None e = rw (e, ← same-window Client (Some credit)) refl
-  silent-after (Some one) (Some other) e = rw (e, ← same-window Client (Some one), ← same-window Server (Some other))
-      refl
-
--- ---- the walk that moves its windows has counted the change
-
-abbrev moved_walk : Walk → (initial : Sides ℕ) → (client server : Option ℤ) → Walk
-moved_walk old initial client server = record old {
-  entry = record { life = old.entry.life; window = record { client = client; server = server } };
-  initial = initial;
-}
-
-alone : (old : Walk) (number : ℕ) (change : Option Change) (initial : Sides ℕ) (client server : Option ℤ)
-    → old.credits_shown ≡ false → initial ≡ initial_after change old.initial
-    → client ≡ option_map (moved old.initial.client initial.client) old.entry.window.client
-    → server ≡ option_map (moved old.initial.server initial.server) old.entry.window.server
-    → IsSilent old.entry.window.client client → IsSilent old.entry.window.server server
-    → IsCounted old (change_alone number change) (moved_walk old initial client server)
-alone old number change initial client server hidden i c s p q =
-    let to_client : client ≡ option_map (moved_to Client old.initial change) old.entry.window.client =
-    c ∙ ap (λ (now : Sides ℕ). option_map (moved old.initial.client now.client) old.entry.window.client) i in
-    let to_server : server ≡ option_map (moved_to Server old.initial change) old.entry.window.server =
-    s ∙ ap (λ (now : Sides ℕ). option_map (moved old.initial.server now.server) old.entry.window.server) i in
+-- the walk that moves its windows has counted the change
+pub silent-counted : (old : Walk) (number : ℕ) (frame : Option Frame) (change : Option Change) (after : Sides ℕ)
+    (next : Sides (Option ℤ)) → old.credits_shown ≡ false → is_some frame ≡ false
+    → after ≡ initial_after change old.initial
+    → next.client ≡ option_map (moved old.initial.client after.client) old.entry.window.client
+    → next.server ≡ option_map (moved old.initial.server after.server) old.entry.window.server
+    → IsSilent old.entry.window.client next.client → IsSilent old.entry.window.server next.server
+    → IsCounted old (record { number = number; frame = frame; change = change })
+    (record old { entry = record { life = old.entry.life; window = next }; initial = after })
+silent-counted old number (Some frame) change after next hidden none a c s p q = cc
+silent-counted old number None change after next hidden none a c s p q =
+    let calm = calm-changes old.stream old.initial number change after old.entry.window next a c s p q in
     record {
       stream = refl;
       credits_shown = refl;
-      found = rw (
-        hidden,
-        silent-unshown old.stream old.initial old.entry number change
-            (subst (IsSilent old.entry.window.client) to_client p)
-            (subst (IsSilent old.entry.window.server) to_server q),
-      )
+      found = rw (hidden, stream-shown old.stream old.initial old.entry (change_alone number change) next refl calm tt)
           (sym (append-nil old.found.items));
-      entry = rw (to_client, to_server)
-          (sym (silent-after old.stream old.initial old.entry number change old.entry.window.client
-          old.entry.window.server refl));
-      initial = i;
+      entry = sym (stream-moved old.stream old.initial old.entry (change_alone number change) next refl calm);
+      initial = a;
       watch = refl;
     }
-
-pub silent-counted : (old : Walk) (step : Step) (initial : Sides ℕ) (client server : Option ℤ)
-    → old.credits_shown ≡ false → is_some step.frame ≡ false → initial ≡ initial_after step.change old.initial
-    → client ≡ option_map (moved old.initial.client initial.client) old.entry.window.client
-    → server ≡ option_map (moved old.initial.server initial.server) old.entry.window.server
-    → IsSilent old.entry.window.client client → IsSilent old.entry.window.server server
-    → IsCounted old step (moved_walk old initial client server)
-silent-counted old step initial client server hidden none i c s p q =
-    subst (λ (frame : Option Frame). IsCounted old
-    (record { number = step.number; frame = frame; change = step.change })
-    (moved_walk old initial client server)) (sym (no-frame step.frame none))
-    (alone old step.number step.change initial client server hidden i c s p q)
-  where
-    no-frame : (frame : Option Frame) → is_some frame ≡ false → frame ≡ None
-    no-frame None e = refl
-    no-frame (Some frame) e = cc

@@ -86,7 +86,8 @@ fn meet_all<L: Look>(
         }
         rest = later;
     }
-    walk.meet_changes(look, left)
+    let is_met = walk.meet_changes(look, left)?;
+    Ok(is_met)
 }
 
 /// The findings of one stream, from its frames and all changes of its connection, and its opening.

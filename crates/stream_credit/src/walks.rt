@@ -5,7 +5,6 @@ ghost use Rattle.audit_terms.specs.declared.items.Step.{Step};
 ghost use Rattle.audit_terms.specs.declared.findings.Finding.{Finding as FindingTerm};
 ghost use Rattle.audit_terms.specs.InForce.{initial_in_force};
 ghost use Rattle.audit_terms.specs.code.runs.Look.{found_before, steps_between};
-ghost use Rattle.audit_terms.specs.code.runs.Streams.{change_step};
 ghost use Rattle.audit_terms.specs.Stream.{idle_stream, stream_after};
 ghost use Rattle.audit_terms.specs.code.runs.Streams.{IsAcknowledged, initial_after};
 ghost use Rattle.audit_terms.specs.code.Watch.{Watches, IsStopped, NeverFallFrom};
@@ -220,7 +219,12 @@ impl Walk {
             (self.new.initial ≡ after_changes self.old.initial changes.now)) }
     {
         for change in changes {
-            if !self.meet(look, &with_change(change))? {
+            let step = Step {
+                number: change.number,
+                frame: None,
+                change: Some(*change),
+            };
+            if !self.meet(look, &step)? {
                 return Ok(false);
             }
         }
@@ -258,7 +262,8 @@ impl Walk {
             return Ok(false);
         }
         let change = left.take(frame.number);
-        self.meet_with(look, frame, &change)
+        let is_met = self.meet_with(look, frame, &change)?;
+        Ok(is_met)
     }
 
     /// Meets a frame and the change that it brings, if it brings one, under the same conditions as any step.
@@ -326,16 +331,5 @@ impl Walk {
         };
         self.entry.window = windows;
         true
-    }
-}
-
-/// The step of a change whose frame is on another stream.
-fn with_change(change: &Change) -> Step
-    ensures { result ≡ change_step change.now }
-{
-    Step {
-        number: change.number,
-        frame: None,
-        change: Some(*change),
     }
 }

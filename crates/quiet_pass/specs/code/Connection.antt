@@ -9,11 +9,11 @@ use Rattle.audit_terms.specs.Frame.{promised_in, content_by, grant_to, grants_no
 use Rattle.audit_terms.specs.Connection.{connection_said, connection_after, connection_window_said, credit_after}
 use Rattle.audit_terms.specs.Connection.{is_opened_by_headers, is_even_promise, opening_order_said}
 use Rattle.audit_terms.specs.Connection.{promise_order_said, push_said}
-use Rattle.quiet_pass.specs.declared.connections.QuietConnection.{QuietConnection}
+use Rattle.quiet_pass.specs.declared.connections.KeptConnection.{KeptConnection}
 use Rattle.quiet_pass.specs.code.Standing.{AreUnshown}
 
 -- the connection that is kept so
-abbrev pub connection_of : QuietConnection → ConnectionState
+abbrev pub connection_of : KeptConnection → ConnectionState
 connection_of now = record {
   credit = record { client = pos now.credit.client; server = pos now.credit.server };
   opened = now.opened;
@@ -28,7 +28,7 @@ item_of frame opens change = record { frame = frame; opens = opens; change = cha
 
 -- the connection after a frame: nothing of that is shown
 pub record IsConnectionAfter (frame : Frame) (opens : Bool) (change : Option Change)
-    (old new : QuietConnection) : Type 0 where
+    (old new : KeptConnection) : Type 0 where
   pub said : AreUnshown (connection_said (connection_of old) (item_of frame opens change))
   pub after : connection_of new ≡ connection_after (connection_of old) (item_of frame opens change)
 

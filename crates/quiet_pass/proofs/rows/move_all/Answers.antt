@@ -1,7 +1,8 @@
-use Rattle.std.proofs.Common.{◌≡◌, ◌<◌, ◌+◌, suc, List, length, slice_set, sym, ◌∙◌, ap, subst, arith}
+use Rattle.stream_credit.proofs.Words.{◌≡◌, ◌<◌, ◌+◌, suc, List, length, sym, ◌∙◌, ap, subst, arith, slice_get-get_or}
+use Rattle.std.proofs.Common.{slice_set}
 use Rattle.quiet_pass.specs.declared.rows.Row.{Row}
 use Rattle.quiet_pass.specs.code.Rows.{AreMoved}
-use Rattle.quiet_pass.proofs.RowLists.{AreMovedTo, there-read, moved-more, moved-all, written-back}
+use Rattle.quiet_pass.proofs.RowLists.{AreMovedTo, moved-more, moved-all, written-back}
 use Rattle.quiet_pass.proofs.rows.move_all.Goals as goal
 
 pub loop-row-preserved : goal.loop-row-preserved
@@ -15,7 +16,7 @@ loop-row-preserved c =
     let more : suc at ≡ at + 1 = omega arith in
     let inside : at < length new = omega (arith, c.loop-row.auto.row-items, c.loop-row-test.true) in
     subst (λ n. AreMovedTo before after n old (slice_set new at next)) more
-    (moved-more before after at old new _ next c.loop-row.invariant (there-read new at _ inside)
+    (moved-more before after at old new _ next c.loop-row.invariant (slice_get-get_or new at _ inside)
     (c.moved.ensures next c.in-Some.is))
 
 pub returns : goal.returns

@@ -1,7 +1,5 @@
-use Rattle.std.proofs.Common.{◌∷◌, ◌++◌, [], take, sym, ap, ◌∙◌}
-use Rattle.audit_terms.specs.declared.frames.Frame.{Frame}
-use Rattle.stream_credit.specs.code.Part.{frames_at}
-use Rattle.stream_credit.proofs.FrameLemmas.{frames-more}
+use Rattle.stream_credit.proofs.Words.{◌∷◌, ◌++◌, [], slice_get, slice_index_or, take, ap, ◌∙◌, option_to_list}
+use Rattle.stream_credit.proofs.Words.{flat_map-append, take_more, slice_get-get_or, Frame}
 use Rattle.stream_credit.proofs.runs.gather.Goals as goal
 
 pub loop-position-preserved : goal.loop-position-preserved
@@ -11,7 +9,10 @@ loop-position-preserved c =
     let i = c.loop-position.position-index in
     let frame : Frame = c.index-frames-position.result in
     let within = c.loop-position-test.true in
-    c.in_ok-extend_from_slice.ensures.items
-    ∙ ap (λ l. l ++ frame ∷ []) c.loop-position.invariant
-    ∙ ap (λ (one : Frame). frames_at frames (take i positions) ++ one ∷ []) c.index-frames-position.is
-    ∙ sym (frames-more frames positions i 0 frame within (c.requires i 0 within))
+    rw (
+      take_more positions i 0 within,
+      flat_map-append (λ position. option_to_list (slice_get frames position)) (take i positions)
+          (slice_index_or positions i 0 ∷ []),
+      slice_get-get_or frames _ frame (c.requires i 0 within),
+      ← c.index-frames-position.is,
+    ) (c.in_ok-extend_from_slice.ensures.items ∙ ap (λ l. l ++ frame ∷ []) c.loop-position.invariant)

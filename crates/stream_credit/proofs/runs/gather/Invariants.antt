@@ -1,5 +1,4 @@
-use Rattle.std.proofs.Common.{◌≡◌, take}
-use Rattle.stream_credit.specs.code.Part.{frames_at}
+use Rattle.stream_credit.proofs.Words.{◌≡◌, take, frames_at}
 use Rattle.stream_credit.proofs.runs.gather.Given as goal
 
 abbrev pub invariant-loop-position : goal.invariant-loop-position

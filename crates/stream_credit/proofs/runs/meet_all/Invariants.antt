@@ -1,7 +1,6 @@
-use Rattle.std.proofs.Common.{ℕ, ◌<◌, length}
+use Rattle.stream_credit.proofs.Words.{ℕ, ◌<◌, length, frames_at, part_frames}
 use Rattle.std.specs.List.{All}
-use Rattle.stream_credit.specs.code.Part.{frames_at, part_frames}
-use Rattle.stream_credit.proofs.FrameLemmas.{MeetsFrames}
+use Rattle.stream_credit.proofs.RunLemmas.{MeetsFrames}
 use Rattle.stream_credit.proofs.runs.meet_all.Given as goal
 
 -- the walk so far is the one at the beginning, with fewer frames and changes to come

@@ -1,7 +1,8 @@
-use Rattle.std.proofs.Common.{drop}
-use Rattle.stream_credit.proofs.FrameLemmas.{MeetsSome}
+use Rattle.stream_credit.proofs.Words.{◌++◌, List, drop, Frame}
+use Rattle.stream_credit.proofs.RunLemmas.{MeetsFrames}
 use Rattle.stream_credit.proofs.runs.meet_frames.Given as goal
 
 abbrev pub invariant-loop-frame : goal.invariant-loop-frame
 invariant-loop-frame g l =
-    MeetsSome g.L.Look.answers l.fn.look l.fn.walk l.fn.left l.frames l.look l.walk l.left (drop l.frame-index l.frames)
+    (rest : List Frame) → MeetsFrames g.L.Look.answers l.fn.look l.fn.walk l.fn.left (l.frames ++ rest)
+    l.look l.walk l.left (drop l.frame-index l.frames ++ rest)

@@ -1,5 +1,4 @@
-use Rattle.std.proofs.Common.{rules, ap, Some, SFits, w64}
-use Rattle.std.proofs.lemmas.Int.{to_z-of_z}
+use Rattle.stream_credit.proofs.Words.{rules, ap, Some, SFits, w64, to_z-of_z}
 use Rattle.stream_credit.proofs.silent.moved.Goals as goal
 
 pub returns-in-Some-clause-moved : goal.returns-in-Some-clause-moved

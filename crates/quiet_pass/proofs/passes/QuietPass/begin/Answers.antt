@@ -1,7 +1,4 @@
-use Rattle.std.proofs.Common.{List, refl, sym, ap, subst}
-use Rattle.audit_terms.specs.declared.sides.Side.TheVariants.{Client, Server}
-use Rattle.quiet_pass.specs.declared.rows.Row.{Row}
-use Rattle.quiet_pass.specs.code.Rows.{entry_in, AreRising}
+use Rattle.stream_credit.proofs.Words.{refl, Client, Server}
 use Rattle.quiet_pass.proofs.passes.QuietPass.begin.Goals as goal
 
 pub returns : goal.returns
@@ -22,10 +19,10 @@ returns c =
         initial = refl;
         connection = c.start.ensures;
         streams = record {
-          odd = λ s p. ap (λ (rows : List Row). entry_in rows s) (sym opened);
-          even = λ s p above. ap (λ (rows : List Row). entry_in rows s) (sym promised);
-          opened = subst AreRising (sym opened) tt;
-          promised = subst AreRising (sym promised) tt;
+          odd = λ s p. rw opened refl;
+          even = λ s p above. rw promised refl;
+          opened = rw opened tt;
+          promised = rw promised tt;
         };
       };
     }

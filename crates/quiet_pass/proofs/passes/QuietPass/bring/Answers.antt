@@ -1,5 +1,5 @@
-use Rattle.std.proofs.Common.{refl, sym, ◌∙◌}
-use Rattle.quiet_pass.proofs.ChangedStreams.{same-sides, unmoved}
+use Rattle.stream_credit.proofs.Words.{refl, sym, ◌∙◌}
+use Rattle.quiet_pass.proofs.StreamLemmas.{same-sides, unmoved}
 use Rattle.quiet_pass.proofs.passes.QuietPass.bring.Goals as goal
 
 pub returns-then-after-self-2 : goal.returns-then-after-self-2

@@ -1,8 +1,10 @@
-use Rattle.std.proofs.Common.{refl, sym, ◌∙◌}
-use Rattle.quiet_pass.proofs.PassLemmas.{connection-told}
+use Rattle.stream_credit.proofs.Words.{refl, sym, ◌∙◌, OnTrue_at, OnTrue_from}
+use Rattle.quiet_pass.proofs.PassLemmas.{rest-stream, unmet}
 use Rattle.quiet_pass.proofs.passes.QuietPass.meet_connection.Goals as goal
 
 pub returns : goal.returns
 returns c =
-    connection-told c.meet_plain.result c.args.frame.now c.args.self.now _ c.requires.plain c.requires.streamed
-    (sym c.is_server_promise.ensures ∙ c.if-is_server_promise.false) c.meet_plain.ensures refl refl refl refl
+    let unpromised = sym c.is_server_promise.ensures ∙ c.if-is_server_promise.false in
+    OnTrue_from c.meet_plain.result _ (λ quiet.
+    rest-stream c.requires.plain (λ streams h. unmet _ streams _ c.requires.streamed unpromised h)
+    (OnTrue_at quiet c.meet_plain.ensures) refl refl refl)

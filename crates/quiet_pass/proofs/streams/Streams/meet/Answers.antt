@@ -1,32 +1,28 @@
-use Rattle.std.proofs.Common.{ℕ, ◌≡◌, ◌%◌, Bool, refl, sym, ◌∙◌, subst, arith}
-use Rattle.std.proofs.lemmas.Bool.{OnTrue_at}
-use Rattle.std.proofs.lemmas.Option.{same_Some}
+use Rattle.std.proofs.Common.{◌%◌}
+use Rattle.stream_credit.proofs.Words.{◌≡◌, refl, sym, ◌∙◌, arith, OnTrue_at, same_Some}
 use Rattle.std.proofs.lemmas.Result.{IfOk-weaker}
-use Rattle.audit_terms.specs.declared.streams.Stream.{Stream}
-use Rattle.quiet_pass.specs.code.Streams.{AreStreams, AreMetOn}
 use Rattle.quiet_pass.proofs.StreamLemmas.{met-odd, met-even}
 use Rattle.quiet_pass.proofs.streams.Streams.meet.Goals as goal
 
 pub returns-then-is_quiet : goal.returns-then-is_quiet
-returns-then-is_quiet c =
-    λ x e.
-    subst (λ (b : Bool). (streams : ℕ → Stream) → AreStreams streams c.args.self.now
-    → AreMetOn c.args.initial.now c.args.frame.now b streams c.promise.new.self) (same_Some _ _ e)
-    (OnTrue_at c.if-is_quiet.true c.in_ok-is_quiet.ensures)
+returns-then-is_quiet c = λ x e.
+    rw (← same_Some _ _ e) (OnTrue_at c.if-is_quiet.true c.in_ok-is_quiet.ensures)
 
 pub returns-then-frame-eq1 : goal.returns-then-frame-eq1
 returns-then-frame-eq1 c =
+    let unpromised = sym c.is_server_promise.ensures ∙ c.if-is_server_promise.false in
     IfOk-weaker c.meet_on.result _ _
     (λ met h. λ opens e streams k.
-    met-odd c.args.initial.now c.args.frame.now opens c.args.self.now _ streams k
-    (sym c.is_server_promise.ensures ∙ c.if-is_server_promise.false) c.if-frame-eq1.true (h opens e) refl)
+    met-odd c.args.initial.now c.args.frame.now opens c.args.self.now _ streams k unpromised c.if-frame-eq1.true
+    (h opens e) refl)
     c.meet_on.ensures
 
 pub returns-else-frame-eq1 : goal.returns-else-frame-eq1
 returns-else-frame-eq1 c =
     let even : c.args.frame.now.stream % 2 ≡ 0 = omega (arith, c.if-frame-eq1.false) in
+    let unpromised = sym c.is_server_promise.ensures ∙ c.if-is_server_promise.false in
     IfOk-weaker c.meet_on-else-frame-eq1.result _ _
     (λ met h. λ opens e streams k.
-    met-even c.args.initial.now c.args.frame.now opens c.args.self.now _ streams k
-    (sym c.is_server_promise.ensures ∙ c.if-is_server_promise.false) even c.requires (h opens e) refl)
+    met-even c.args.initial.now c.args.frame.now opens c.args.self.now _ streams k unpromised even c.requires
+    (h opens e) refl)
     c.meet_on-else-frame-eq1.ensures

@@ -1,6 +1,4 @@
-use Rattle.std.proofs.Common.{◌≡◌, ◌++◌, drop}
-use Rattle.audit_terms.specs.InForce.{initial_in_force}
-use Rattle.stream_credit.specs.code.Left.{after_each}
+use Rattle.stream_credit.proofs.Words.{◌≡◌, ◌++◌, drop, initial_in_force, after_each}
 use Rattle.stream_credit.proofs.changes.Changes.of.Given as goal
 
 -- what stands so far, and what comes into force with the changes that are left

@@ -1,6 +1,6 @@
+use Rattle.stream_credit.proofs.Words.{refl}
 use Rattle.stream_credit.proofs.QuietStreams.{ahead-idle}
 use Rattle.stream_credit.proofs.quiet_streams.QuietStream.idle.Goals as goal
 
 pub returns : goal.returns
-returns c =
-    λ stream changes all. ahead-idle c.of.result stream changes all c.of.ensures
+returns c = λ stream changes all s o k a quiet. ahead-idle _ refl c.of.ensures stream changes all s o k a

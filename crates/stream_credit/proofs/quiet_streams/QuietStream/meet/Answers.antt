@@ -1,5 +1,4 @@
-use Rattle.std.proofs.Common.{◌∷◌, refl}
-use Rattle.std.proofs.lemmas.Bool.{OnTrue_at}
+use Rattle.stream_credit.proofs.Words.{◌∷◌, refl, OnTrue_at}
 use Rattle.stream_credit.proofs.QuietStreams.{ahead-told}
 use Rattle.stream_credit.proofs.quiet_streams.QuietStream.meet.Goals as goal
 
@@ -22,8 +21,7 @@ meet_frame-requires-clause-ahead c =
     )
 
 pub returns : goal.returns
-returns c =
-    λ all rest h quiet.
-    ahead-told c.args.stream c.args.changes.now all rest c.meet_frame.new.self _
-    (OnTrue_at quiet c.in_ok-self.ensures all rest
-    (c.if-not-meet_changes.ensures.ahead c.args.stream all (c.args.frame.now ∷ rest) refl (h c.if-not-self.false)))
+returns c = λ all rest h quiet.
+    let met = c.if-not-meet_changes.ensures.ahead c.args.stream all (c.args.frame.now ∷ rest) refl
+    (h c.if-not-self.false) in
+    ahead-told (OnTrue_at quiet c.in_ok-self.ensures all rest met) _

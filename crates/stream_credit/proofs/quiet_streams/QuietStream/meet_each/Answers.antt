@@ -1,8 +1,4 @@
-use Rattle.std.proofs.Common.{◌≡◌, ℕ, Some, slice_get, drop, ap, ◌∙◌, subst, arith}
-use Rattle.std.proofs.lemmas.Option.{slice_get_within}
-use Rattle.audit_terms.specs.declared.sides.Sides.{Sides as SidesTerm}
-use Rattle.audit_terms.specs.code.runs.Streams.{initial_after}
-use Rattle.stream_credit.specs.code.QuietStream.{initial_at, AreFrom, IsPassed}
+use Rattle.stream_credit.proofs.Words.{arith, slice_get_within}
 use Rattle.stream_credit.proofs.QuietStreams.{few-changes, ahead-change}
 use Rattle.stream_credit.proofs.quiet_streams.QuietStream.meet_each.Goals as goal
 
@@ -28,24 +24,16 @@ loop-change-smaller c =
     omega (arith, there, met, more)
 
 pub loop-change-preserved : goal.loop-change-preserved
-loop-change-preserved c =
-    λ stream all rest s h.
-    let changes = c.args.changes.now in
-    let old = c.loop-change.self in
+loop-change-preserved c = λ stream all rest s h.
+    let before = c.before-in-loop-change.ensures in
     let change = c.in-Some.change in
-    let there = subst (λ n. slice_get changes n ≡ Some change) c.get.ensures
-    (c.before-in-loop-change.ensures.change change c.in-Some.is) in
-    let initial = c.initial_at-initial.ensures ∙ ap (λ n. initial_at n changes) c.get-in-Some.ensures in
-    ahead-change stream c.args.number changes all rest old c.meet_change.new.self change c.initial_after.result
-    (c.loop-change.invariant stream all rest s h) s there
-    (c.before-in-loop-change.ensures.below change c.in-Some.is)
-    (c.initial_after.ensures ∙ ap (initial_after (Some change)) initial)
-    (subst (λ (before : SidesTerm ℕ). IsPassed before c.initial_after.result old c.meet_change.new.self) initial
-    c.if-not-meet_change.ensures)
+    let initial = rw c.get-in-Some.ensures at c.initial_at-initial.ensures in
+    ahead-change (c.loop-change.invariant stream all rest s h) c.args.number s
+    (rw c.get.ensures at (before.change change c.in-Some.is)) (before.below change c.in-Some.is)
+    (rw initial at c.initial_after.ensures) (rw initial at c.if-not-meet_change.ensures)
 
 pub returns : goal.returns
 returns c = record {
-  passed = subst (λ n. AreFrom c.args.number (drop n c.args.changes.now)) c.get.ensures
-      (c.before-in-loop-change.ensures.none c.in_default.is);
-  ahead = λ stream all rest s h. c.loop-change.invariant stream all rest s h;
+  passed = rw c.get.ensures at (c.before-in-loop-change.ensures.none c.in_default.is);
+  ahead = c.loop-change.invariant;
 }

@@ -1,6 +1,5 @@
-use Rattle.std.proofs.Common.{ℕ, length, List, ◌-◌}
+use Rattle.stream_credit.proofs.Words.{ℕ, length, List, ◌-◌, IsAhead, StartsAt}
 use Rattle.audit_terms.specs.declared.frames.Frame.{Frame as FrameTerm}
-use Rattle.stream_credit.specs.code.QuietStream.{IsAhead, StartsAt}
 use Rattle.stream_credit.proofs.quiet_streams.QuietStream.meet_each.Given as goal
 
 abbrev pub invariant-loop-change : goal.invariant-loop-change

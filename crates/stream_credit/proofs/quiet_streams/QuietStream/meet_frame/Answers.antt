@@ -1,32 +1,15 @@
-use Rattle.std.proofs.Common.{◌+◌, drop, ap, ◌∙◌, subst}
-use Rattle.stream_credit.specs.code.QuietStream.{initial_at, AreFrom}
-use Rattle.stream_credit.proofs.FrameLemmas.{goes-tail}
-use Rattle.stream_credit.proofs.QuietStreams.{ahead-frame, frame-tail}
+use Rattle.stream_credit.proofs.Words.{OnTrue_at, OnTrue_from}
+use Rattle.stream_credit.proofs.QuietStreams.{ahead-frame}
 use Rattle.stream_credit.proofs.quiet_streams.QuietStream.meet_frame.Goals as goal
 
 pub returns-then-moves : goal.returns-then-moves
-returns-then-moves c =
-    λ all rest h.
-    let changes = c.args.changes.now in
-    let old = c.args.self.now in
-    let number = c.args.frame.now.number in
-    let next : AreFrom number (drop old.met changes) → AreFrom (number + 1) (drop old.met changes) =
-    subst (λ n. AreFrom number (drop n changes) → AreFrom (number + 1) (drop n changes)) c.get.ensures
-    c.if-is_at.ensures in
-    ahead-frame c.args.stream changes all rest c.args.frame.now old c.moves.new.self h (next c.requires.passed)
-    (c.if-moves.ensures.moved (initial_at old.met changes))
+returns-then-moves c = λ all rest h.
+    ahead-frame h ((rw c.get.ensures at c.if-is_at.ensures) c.requires.passed) (c.if-moves.ensures.moved _)
 
 pub returns : goal.returns
 returns c =
-    let changes = c.args.changes.now in
-    let old = c.args.self.now in
-    let number = c.args.frame.now.number in
-    let next : AreFrom number (drop old.met changes) → AreFrom (number + 1) (drop old.met changes) =
-    subst (λ n. AreFrom number (drop n changes) → AreFrom (number + 1) (drop n changes)) c.get.ensures
-    c.if-is_at.ensures in
-    let initial = c.initial_at-initial.ensures ∙ ap (λ n. initial_at n changes) c.get-2.ensures in
-    goes-tail c.meet_step.result _ _
-    (λ is_next. λ all rest h.
-    frame-tail c.args.stream changes all rest c.args.frame.now old c.moves.new.self c.meet_step.new.self
-    c.initial_at-initial.result c.if-moves.ensures.kept initial (next c.requires.passed) is_next h)
-    c.meet_step.ensures
+    let initial = rw c.get-2.ensures at c.initial_at-initial.ensures in
+    OnTrue_from c.in_ok-is_quiet.is_quiet _ (λ quiet. λ all rest h.
+    ahead-frame (rw (← c.if-moves.ensures.kept) at h)
+    (rw c.if-moves.ensures.kept ((rw c.get.ensures at c.if-is_at.ensures) c.requires.passed))
+    (rw initial at (OnTrue_at quiet c.in_ok-is_quiet.ensures)))

@@ -1,10 +1,6 @@
-use Rattle.std.proofs.Common.{◌≡◌, ◌++◌, sym, ap, ◌∙◌, arith}
-use Rattle.std.proofs.lemmas.Bool.Decides.{nat_tests}
-use Rattle.std.proofs.lemmas.List.{nil_from_length}
-use Rattle.audit_terms.specs.declared.streams.Stream.{Stream}
-use Rattle.audit_terms.specs.Stream.{stream_said, stream_after}
-use Rattle.audit_terms.specs.code.runs.Streams.{frame_step}
-use Rattle.stream_credit.proofs.QuietStreams.{step-tail}
+use Rattle.stream_credit.proofs.Words.{◌≡◌, ◌++◌, sym, ap, ◌∙◌, arith, OnTrue_at, OnTrue_from, nat_tests}
+use Rattle.stream_credit.proofs.Words.{nil_from_length, Stream, stream_said, stream_after, frame_step}
+use Rattle.stream_credit.proofs.QuietStreams.{none-in_order}
 use Rattle.stream_credit.proofs.quiet_streams.QuietStream.meet_step.Goals as goal
 
 pub returns : goal.returns
@@ -17,6 +13,8 @@ returns c =
     ∙ ap (λ (entry : Stream). stream_after c.args.stream c.args.initial.now entry step) c.stream-entry.ensures in
     let none : c.keep_shown.new.found.len ≡ 0 = grind (arith, nat_tests, c.if-not-is_empty.ensures) in
     let empty = nil_from_length c.keep_shown.new.found.items (sym c.keep_shown.new.found.ok.0 ∙ none) in
-    step-tail c.becomes.result c.args.stream c.args.initial.now c.args.frame.now c.args.self.now c.becomes.new.self
-    c.meet.new.self
-    c.meet.new.found.items c.becomes.ensures.stream c.becomes.ensures.met said after (sym c.keep_shown.ensures ∙ empty)
+    OnTrue_from c.becomes.result _ (λ quiet. record {
+      shown = rw said at (none-in_order c.meet.new.found.items (sym c.keep_shown.ensures ∙ empty));
+      after = OnTrue_at quiet c.becomes.ensures.stream ∙ after;
+      met = OnTrue_at quiet c.becomes.ensures.met;
+    })

@@ -1,10 +1,6 @@
-use Rattle.std.proofs.Common.{sym, subst}
-use Rattle.std.proofs.lemmas.Bool.{OnFalse_at}
-use Rattle.stream_credit.specs.declared.walks.Walk.{Walk}
-use Rattle.stream_credit.specs.code.Walk.{HasRoomAt}
+use Rattle.stream_credit.proofs.Words.{OnFalse_at}
 use Rattle.stream_credit.proofs.walks.Walk.count.Goals as goal
 
 pub count_shown-requires-clause-room : goal.count_shown-requires-clause-room
 count_shown-requires-clause-room c =
-    subst (λ (now : Walk). HasRoomAt c.args.step.now.number now.entry)
-    (sym (OnFalse_at c.if-count_silent.false c.count_silent.ensures.otherwise)) c.requires.room
+    rw (OnFalse_at c.if-count_silent.false c.count_silent.ensures.otherwise) c.requires.room

@@ -1,18 +1,15 @@
-use Rattle.std.proofs.Common.{◌∙◌, arith, refl, sym}
-use Rattle.audit_terms.specs.declared.sides.Side.TheVariants.{Client, Server}
+use Rattle.stream_credit.proofs.Words.{◌∙◌, refl, sym, Client, Server}
 use Rattle.stream_credit.proofs.WalkLemmas.{room-wide}
-use Rattle.stream_credit.proofs.QuietLemmas.{quiet-counted, quiet-fits}
+use Rattle.stream_credit.proofs.QuietLemmas.{quiet-counted, quiet-room}
 use Rattle.stream_credit.proofs.walks.Walk.count_quiet.Goals as goal
 
 pub moved_quietly-requires-clause-client : goal.moved_quietly-requires-clause-client
 moved_quietly-requires-clause-client c =
-    room-wide c.args.frame.now.number c.args.self.now.entry.window.client (let n = c.requires.numbered in omega arith)
-    (c.requires.room Client)
+    room-wide c.args.frame.now.number c.args.self.now.entry c.requires.numbered c.requires.room Client
 
 pub moved_quietly-requires-clause-server : goal.moved_quietly-requires-clause-server
 moved_quietly-requires-clause-server c =
-    room-wide c.args.frame.now.number c.args.self.now.entry.window.server (let n = c.requires.numbered in omega arith)
-    (c.requires.room Server)
+    room-wide c.args.frame.now.number c.args.self.now.entry c.requires.numbered c.requires.room Server
 
 pub returns-clause-counted : goal.returns-clause-counted
 returns-clause-counted c =
@@ -22,7 +19,6 @@ returns-clause-counted c =
 
 pub returns-clause-room : goal.returns-clause-room
 returns-clause-room c =
-    quiet-fits c.args.self.now.stream c.args.self.now.entry c.args.frame.now c.in-Some.one
-    c.in-Some-moved_quietly.windows
-    (c.in-Some.ensures c.in-Some.one refl)
+    quiet-room c.args.self.now.entry c.args.frame.now.number c.in-Some.one c.in-Some-moved_quietly.windows
+    (c.in-Some.ensures c.in-Some.one refl).small
     (c.in-Some-moved_quietly.ensures c.in-Some-moved_quietly.windows refl) c.requires.room

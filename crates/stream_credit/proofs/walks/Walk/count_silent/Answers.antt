@@ -1,30 +1,27 @@
-use Rattle.std.proofs.Common.{◌∙◌, arith, sym}
-use Rattle.audit_terms.specs.declared.sides.Side.TheVariants.{Client, Server}
-use Rattle.stream_credit.proofs.WalkLemmas.{room-wide, HasRoomAt-next}
+use Rattle.stream_credit.proofs.Words.{◌∙◌, sym, Client, Server}
+use Rattle.stream_credit.proofs.WalkLemmas.{room-wide, room-next}
 use Rattle.stream_credit.proofs.SilentLemmas.{silent-counted}
 use Rattle.stream_credit.proofs.walks.Walk.count_silent.Goals as goal
 
 pub moved-next_client-requires : goal.moved-next_client-requires
 moved-next_client-requires c =
-    room-wide c.args.step.now.number c.args.self.now.entry.window.client (let n = c.requires.numbered in omega arith)
-    (c.requires.room Client)
+    room-wide c.args.step.now.number c.args.self.now.entry c.requires.numbered c.requires.room Client
 
 pub moved-next_server-requires : goal.moved-next_server-requires
 moved-next_server-requires c =
-    room-wide c.args.step.now.number c.args.self.now.entry.window.server (let n = c.requires.numbered in omega arith)
-    (c.requires.room Server)
+    room-wide c.args.step.now.number c.args.self.now.entry c.requires.numbered c.requires.room Server
 
 pub returns-clause-counted : goal.returns-clause-counted
 returns-clause-counted c =
-    silent-counted c.args.self.now c.args.step.now c.initial_after-initial.result c.moved-next_client.result
-    c.moved-next_server.result
+    let step = c.args.step.now in
+    silent-counted c.args.self.now step.number step.frame step.change c.initial_after-initial.result _
     c.if-self.false (sym c.is_some.ensures ∙ c.if-is_some.false) c.initial_after-initial.ensures
-    c.moved-next_client.ensures.moved
-    c.moved-next_server.ensures.moved c.if-not-is_silent.ensures c.if-not-is_silent-2.ensures
+    c.moved-next_client.ensures.moved c.moved-next_server.ensures.moved c.if-not-is_silent.ensures
+    c.if-not-is_silent-2.ensures
 
 pub returns-clause-room : goal.returns-clause-room
 returns-clause-room c =
-    HasRoomAt-next c.args.step.now.number
+    room-next c.args.step.now.number
     (record {
       life = c.args.self.now.entry.life;
       window = record { client = c.moved-next_client.result; server = c.moved-next_server.result };

@@ -1,20 +1,14 @@
-use Rattle.stream_credit.proofs.WalkLemmas.{room-kept, step-stops, step-on}
+use Rattle.stream_credit.proofs.WalkLemmas.{step-stops, step-on}
 use Rattle.stream_credit.proofs.walks.Walk.meet.Goals as goal
 
 pub returns-then-not-goes_on-clause-stops : goal.returns-then-not-goes_on-clause-stops
-returns-then-not-goes_on-clause-stops g c = λ run.
-    step-stops g.L.Look.answers run c.args.look.now c.goes_on.new.look c.args.self.now c.goes_on.new.self
-    c.args.step.now
-    c.if-not-goes_on.ensures.kept c.if-not-goes_on.ensures.stops c.requires.met
+returns-then-not-goes_on-clause-stops g c = λ run rest h.
+    step-stops c.requires.met h c.if-not-goes_on.ensures.kept c.if-not-goes_on.ensures.stops
 
 pub count-requires-clause-room : goal.count-requires-clause-room
-count-requires-clause-room g c =
-    let r = c.requires.at in
-    room-kept c.args.step.now.number c.args.self.now c.goes_on.new.self c.if-not-goes_on.ensures.kept r.2.room
+count-requires-clause-room g c = rw c.if-not-goes_on.ensures.kept c.requires.at.2.room
 
 pub returns-clause-goes_on : goal.returns-clause-goes_on
-returns-clause-goes_on g c = λ run.
-    step-on g.L.Look.answers run c.args.look.now c.goes_on.new.look c.args.self.now c.goes_on.new.self c.count.new.self
-    c.args.step.now
-    c.if-not-goes_on.ensures.kept c.if-not-goes_on.ensures.goes_on
-    c.in_ok-count.ensures.counted c.in_ok-count.ensures.room c.requires.met
+returns-clause-goes_on g c = λ run rest h.
+    step-on c.requires.met h c.if-not-goes_on.ensures.kept c.if-not-goes_on.ensures.goes_on
+    c.in_ok-count.ensures.counted c.in_ok-count.ensures.room

@@ -1,6 +1,4 @@
-use Rattle.std.proofs.Common.{◌≡◌, true, drop}
-use Rattle.stream_credit.specs.code.Looks.{is_live}
-use Rattle.stream_credit.specs.code.Left.{after_changes}
+use Rattle.stream_credit.proofs.Words.{◌≡◌, true, drop, is_live, after_changes}
 use Rattle.stream_credit.proofs.WalkLemmas.{MeetsChanges}
 use Rattle.stream_credit.proofs.walks.Walk.meet_each.Given as goal
 

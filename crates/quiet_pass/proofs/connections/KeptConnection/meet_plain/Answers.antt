@@ -1,8 +1,6 @@
-use Rattle.std.proofs.Common.{◌≡◌, nat_lt, false, subst, arith}
-use Rattle.std.proofs.lemmas.Bool.Decides.{nat_tests}
-use Rattle.audit_terms.specs.declared.sides.Side.TheVariants.{Server}
+use Rattle.stream_credit.proofs.Words.{◌≡◌, nat_lt, false, subst, arith, nat_tests, Server}
 use Rattle.quiet_pass.proofs.ConnectionLemmas.{plain-met, credit_unmoved}
-use Rattle.quiet_pass.proofs.connections.QuietConnection.meet_plain.Goals as goal
+use Rattle.quiet_pass.proofs.connections.KeptConnection.meet_plain.Goals as goal
 
 pub returns-in-Some : goal.returns-in-Some
 returns-in-Some c =

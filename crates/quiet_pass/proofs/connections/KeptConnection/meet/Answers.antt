@@ -1,8 +1,7 @@
-use Rattle.std.proofs.Common.{◌≡◌, nat_lt, false, ap, subst, ◌∙◌, arith}
-use Rattle.std.proofs.lemmas.Bool.Decides.{nat_tests}
+use Rattle.stream_credit.proofs.Words.{◌≡◌, nat_lt, false, ap, subst, ◌∙◌, arith, nat_tests}
 use Rattle.audit_terms.specs.Change.{new_limit}
 use Rattle.quiet_pass.proofs.ConnectionLemmas.{connection-met}
-use Rattle.quiet_pass.proofs.connections.QuietConnection.meet.Goals as goal
+use Rattle.quiet_pass.proofs.connections.KeptConnection.meet.Goals as goal
 
 pub returns : goal.returns
 returns c =

@@ -1,0 +1,229 @@
+-- A stream after a frame of which nothing is shown: how each side stands, and the row that is kept of it.
+use Rattle.std.proofs.Common.{◌⊎◌}
+use Rattle.std.proofs.lemmas.Bool.{or_parts}
+use Rattle.stream_credit.proofs.Words.{◌≡◌, ℕ, pos, ◌<◌, int_lt, nat_lt, ◌==◌, Bool, true, false, ◌&&◌, if◌then◌else◌}
+use Rattle.stream_credit.proofs.Words.{inl, inr, List, Some, None, refl, sym, ap, ◌∙◌, arith, subst, and-false}
+use Rattle.stream_credit.proofs.Words.{or-false, and_right, eq-eqb, ne_eqb, nat_tests, ints, Side, Client, Server}
+use Rattle.stream_credit.proofs.Words.{Sides, Body, WindowUpdate, Frame, StreamLife, Stream, other, is_side, side_of}
+use Rattle.stream_credit.proofs.Words.{is_reset, increment, is_zero_grant, content_by, grant_to, sends_end, is_last_of}
+use Rattle.stream_credit.proofs.Words.{ends_window, is_not_opened, is_after_end, life_after, is_used_up, overflows}
+use Rattle.stream_credit.proofs.Words.{overruns, say_of, idle_stream, stream_said, stream_after, counted, frame_step}
+use Rattle.stream_credit.proofs.Words.{has_credit, has_ended, window_of}
+use Rattle.audit_terms.specs.Frame.{is_content, is_headers, is_update, needs_opening, is_server_promise, promises}
+use Rattle.audit_terms.specs.Life.{idle_life, is_opening}
+use Rattle.audit_terms.specs.Stream.{opened_window_said, stream_window_said}
+use Rattle.stream_credit.specs.code.QuietStream.{opened_of}
+use Rattle.stream_credit.proofs.SilentLemmas.{both, unsaid, frame-unshown, IsCalm, calm-some, calm-ended, calm-same}
+use Rattle.stream_credit.proofs.SilentLemmas.{stream-unshown, stream-moved}
+use Rattle.quiet_pass.specs.declared.rows.Row.{Row}
+use Rattle.quiet_pass.specs.code.Standing.{mark, AreUnshown, IsCounted, IsStandingAfter, IsOpeningStanding}
+use Rattle.quiet_pass.specs.code.Rows.{life_of, stream_of, entry_in, AreRising, IsRowAfter, IsOpened, HasMet}
+
+-- a promise on a stream is of another
+pub promises-other : (frame : Frame) → promises frame.stream frame ≡ false
+promises-other frame = rw (eq-eqb frame.stream frame.stream refl) (and-false _)
+
+-- a frame that ends no window of a side is not its last
+unlast : (d : Side) (frame : Frame) → ends_window d frame ≡ false → is_last_of d frame.stream frame ≡ false
+unlast d frame e =
+    let parts = or_parts (sends_end d frame) (is_reset frame.body) e in
+    simp (parts.0, parts.1, promises-other, and-false)
+
+-- ---- how a side stands after a frame on a stream that is opened
+
+-- a frame sends through a window or grants to it, never both
+one_side : (d side : Side) (b c : Bool) (m n : ℕ) → ((if is_side (other d) side && b then m else 0) ≡ 0)
+    ⊎ ((if is_side d side && c then n else 0) ≡ 0)
+one_side Client Client b c m n = inl refl
+one_side Client Server b c m n = inr refl
+one_side Server Client b c m n = inr refl
+one_side Server Server b c m n = inl refl
+
+live-used : (standing : ℕ) → has_credit standing ≡ true → is_used_up (pos standing) ≡ false
+live-used standing h = grind (arith, nat_tests, ints)
+
+live-window : (standing : ℕ) → has_credit standing ≡ true → window_of standing ≡ Some (pos standing)
+live-window standing h = rw h refl
+
+live-unended : (standing : ℕ) → has_credit standing ≡ true → has_ended standing ≡ false
+live-unended standing h = grind (arith, nat_tests)
+
+module _ (d : Side) (frame : Frame) (standing after : ℕ) (live : has_credit standing ≡ true)
+    (c : IsCounted d frame standing after) where
+  overrun : overruns (pos standing) (content_by d frame) ≡ false
+  overrun =
+      let moved = c.moved in
+      elim (one_side d frame.side (frame.stream == frame.stream) (is_content frame.body) (increment frame.body)
+      frame.length) [
+        | inl e ↦
+            let grants : grant_to d frame.stream frame ≡ 0 = e in
+            let enough : int_lt (pos standing) (pos (content_by d frame)) ≡ false =
+            grind (arith, ints, moved, grants) in
+            and_right (nat_lt 0 (content_by d frame)) _ enough
+        | inr e ↦ rw e refl
+      ]
+
+  fits : overflows (pos standing) (pos after) ≡ false
+  fits =
+      let within = c.within in
+      let small : int_lt (pos 2147483647) (pos after) ≡ false = grind (arith, ints, within) in
+      and_right (int_lt (pos standing) (pos after)) _ small
+
+  now : (initial : Sides ℕ) → counted d frame.stream initial (frame_step frame) (pos standing) ≡ pos after
+  now initial = let moved = c.moved in omega (arith, ints, moved)
+
+  standing-by : (next : ℕ) → ((initial : Sides ℕ)
+      → IsCalm d frame.stream initial (frame_step frame) (Some (pos standing)) (window_of next))
+      → has_ended next ≡ is_last_of d frame.stream frame → IsStandingAfter d frame standing next
+  standing-by next calm ended = record {
+    said = λ initial. rw (live-window standing live) (calm initial).said;
+    window = λ initial. rw (live-window standing live) (sym (calm initial).after);
+    ended = rw (live-unended standing live) ended;
+  }
+
+  -- the window lives on
+  pub standing_goes_on : ends_window d frame ≡ false → 0 < after → IsStandingAfter d frame standing after
+  standing_goes_on goes_on some =
+      let within = c.within in
+      let still : has_credit after ≡ true = grind (arith, nat_tests, within, some) in
+      standing-by after (λ initial. rw (live-window after still)
+      (calm-some d frame.stream initial (frame_step frame) (pos standing) (pos after) (now initial) fits overrun goes_on
+      (live-used standing live ∙ sym (live-used after still))))
+      (live-unended after still ∙ sym (unlast d frame goes_on))
+
+  -- the window ends, and with it perhaps what the side sends
+  pub standing_ends : ends_window d frame ≡ true
+      → IsStandingAfter d frame standing (mark (is_last_of d frame.stream frame))
+  standing_ends ends =
+      standing-by (mark (is_last_of d frame.stream frame)) (λ initial. rw no-window
+      (calm-ended d frame.stream initial (frame_step frame) (pos standing) (pos after) (now initial) fits overrun ends
+      (live-used standing live)))
+      (as-marked (is_last_of d frame.stream frame))
+    where
+      no-window : (last : Bool) → window_of (mark last) ≡ None
+      no-window true = refl
+      no-window false = refl
+
+      as-marked : (last : Bool) → has_ended (mark last) ≡ last
+      as-marked true = refl
+      as-marked false = refl
+
+-- ---- a row
+
+some-number : (n : ℕ) → (n ≡ 0 → ⊥) → opened_of n ≡ Some n
+some-number n h = rw (ne_eqb n 0 h) refl
+
+pub row-after : (frame : Frame) (old : Row) (client server : ℕ) → frame.stream ≡ old.stream → (old.opened ≡ 0 → ⊥)
+    → is_not_opened old.stream (life_of old) frame ≡ false → is_after_end (life_of old) frame ≡ false
+    → is_zero_grant frame.body ≡ false → IsStandingAfter Client frame old.client client
+    → IsStandingAfter Server frame old.server server
+    → IsRowAfter frame old (record old { client = client; server = server })
+row-after frame old client server own numbered used late zero c s =
+    let number = some-number old.opened numbered in
+    let unopened : is_opening frame.stream (life_of old) frame ≡ false = rw number refl in
+    let next = stream_of (record old { client = client; server = server }) in
+    record {
+      same = refl;
+      unopened = unopened;
+      said = λ initial.
+          stream-unshown frame.stream initial (stream_of old) (frame_step frame) next.window unopened (calm initial)
+          (frame-unshown frame.stream (stream_of old) (frame_step frame) frame
+          (subst (λ stream. is_not_opened stream (life_of old) frame ≡ false) (sym own) used) late (rw zero refl));
+      after = λ initial.
+          rw (
+            stream-moved frame.stream initial (stream_of old) (frame_step frame) next.window unopened (calm initial),
+            number,
+            c.ended,
+            s.ended,
+          ) refl;
+    }
+  where
+    calm : (initial : Sides ℕ) (d : Side) → IsCalm d frame.stream initial (frame_step frame)
+        (side_of d (stream_of old).window)
+        (side_of d (stream_of (record old { client = client; server = server })).window)
+    calm initial Client = record { said = c.said initial; after = sym (c.window initial) }
+    calm initial Server = record { said = s.said initial; after = sym (s.window initial) }
+
+-- ---- a stream that is opened
+
+module _ (stream : ℕ) (initial : Sides ℕ) (frame : Frame) (opening : is_opening stream idle_life frame ≡ true) where
+  opened-said : (d : Side) (last : Bool) (n : ℕ) → (last ≡ false → is_used_up (pos n) ≡ false)
+      → AreUnshown (say_of (opened_window_said d stream (frame_step frame)) (if last then None else Some (pos n)))
+  opened-said d true n h = tt
+  opened-said d false n h = both _ _ (unsaid (is_used_up (pos n)) _ (h refl)) (refl, tt)
+
+  side-said : (d : Side) → (is_last_of d stream frame ≡ false → is_used_up (pos (side_of d initial)) ≡ false)
+      → AreUnshown (stream_window_said d stream initial idle_stream (frame_step frame))
+  side-said d h = rw opening (opened-said d (is_last_of d stream frame) (side_of d initial) h)
+
+  pub idle-opened : (client server : ℕ) → (frame.number ≡ 0 → ⊥) → is_not_opened stream idle_life frame ≡ false
+      → IsOpeningStanding initial.client (is_last_of Client stream frame) client
+      → IsOpeningStanding initial.server (is_last_of Server stream frame) server
+      → IsOpened stream initial frame
+      (record { stream = stream; opened = frame.number; client = client; server = server })
+  idle-opened client server numbered used c s =
+      let number = some-number frame.number numbered in
+      record {
+        same = refl;
+        opening = opening;
+        said = both _ _
+            (both _ _ (frame-unshown stream idle_stream (frame_step frame) frame used (simp and-false) (simp and-false))
+            (side-said Client c.some)) (side-said Server s.some);
+        after = rw (opening, number, c.ended, s.ended, c.window, s.window) refl;
+      }
+
+-- ---- a frame that needs no opened stream does nothing to the stream that it is on
+
+no-increment : (body : Body) → is_update body ≡ false → increment body ≡ 0
+no-increment (WindowUpdate amount) e = cc
+no-increment _ e = refl
+
+same-if : (b : Bool) → ◌≡◌ {A = ℕ} (if b then 0 else 0) 0
+same-if true = refl
+same-if false = refl
+
+module _ (frame : Frame) (content : is_content frame.body ≡ false) (headers : is_headers frame.body ≡ false)
+    (reset : is_reset frame.body ≡ false) (update : is_update frame.body ≡ false)
+    (unpromised : is_server_promise frame ≡ false) (initial : Sides ℕ) (entry : Stream) where
+  goes_on : (d : Side) → ends_window d frame ≡ false
+  goes_on d = simp (content, headers, reset, and-false)
+
+  unopened : is_opening frame.stream entry.life frame ≡ false
+  unopened = simp (headers, promises-other, and-false)
+
+  calm : (d : Side) → IsCalm d frame.stream initial (frame_step frame) (side_of d entry.window) (side_of d entry.window)
+  calm d =
+      calm-same d frame.stream initial frame (simp (no-increment frame.body update, same-if))
+      (simp (content, and-false)) (goes_on d) (side_of d entry.window)
+
+  said : AreUnshown (stream_said frame.stream initial entry (frame_step frame))
+  said =
+      stream-unshown frame.stream initial entry (frame_step frame) entry.window unopened calm
+      (frame-unshown frame.stream entry (frame_step frame) frame
+      (simp (content, headers, reset, update, unpromised)) (simp (content, headers)) (simp update))
+
+  after : entry ≡ stream_after frame.stream initial entry (frame_step frame)
+  after =
+      sym (stream-moved frame.stream initial entry (frame_step frame) entry.window unopened calm
+      ∙ ap (λ (life : StreamLife). record { life = life; window = entry.window }) kept)
+    where
+      kept : life_after frame.stream entry.life frame ≡ entry.life
+      kept =
+          let client = unlast Client frame (goes_on Client) in
+          let server = unlast Server frame (goes_on Server) in
+          simp (unopened, client, server, and-false, or-false)
+
+pub idle-met : (frame : Frame) → needs_opening frame ≡ false → is_server_promise frame ≡ false → (initial : Sides ℕ)
+    (rows : List Row) → AreRising rows → HasMet frame.stream initial frame false rows rows
+idle-met frame unneeded unpromised initial rows rising =
+    let (others, update) = or_parts _ _ unneeded in
+    let (either, reset) = or_parts _ _ others in
+    let (content, headers) = or_parts _ _ either in
+    let entry = entry_in rows frame.stream in
+    record {
+      opening = unopened frame content headers reset update unpromised initial entry;
+      said = said frame content headers reset update unpromised initial entry;
+      after = after frame content headers reset update unpromised initial entry;
+      others = λ other differ. refl;
+      rising = rising;
+    }
