@@ -1,4 +1,4 @@
-mod Numbered
+mod Terms
 pub mod NamedStreams
 pub mod Rising
 pub mod Visited
@@ -8,6 +8,5 @@ pub mod Placed
 pub mod Ahead
 pub mod LoudStreams
 pub mod SplitIs
-pub mod LoudLaid
 pub mod GroupRanges
 pub mod ShownMerge
