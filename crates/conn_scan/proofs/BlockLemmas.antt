@@ -1,19 +1,9 @@
 -- The run of a block, item by item.
-use Rattle.std.proofs.Common.{◌≡◌, ℕ, ◌^◌, ◌+◌, Bool, List, ◌∷◌, ◌++◌, append_assoc, sym, ap}
-use Rattle.std.proofs.Common.{◌∙◌, arith}
+use Rattle.conn_scan.proofs.Terms.{◌≡◌, ℕ, ◌^◌, ◌+◌, Bool, List, ◌∷◌, ◌++◌, append_assoc, sym, ap, ◌∙◌, arith}
+use Rattle.conn_scan.proofs.Terms.{ConnectionState, Item, Finding, in_order, is_shown, shown, connection_said}
+use Rattle.conn_scan.proofs.Terms.{connection_after, block_run, HasRoom, Block, BlockFits, items_in, IsBlock, walked}
+use Rattle.conn_scan.proofs.Terms.{room-wider}
 use Rattle.std.proofs.lemmas.List.Elements.{filter-append}
-use Rattle.audit_terms.specs.declared.connections.ConnectionState.{ConnectionState}
-use Rattle.audit_terms.specs.declared.items.Item.{Item}
-use Rattle.audit_terms.specs.declared.findings.Finding.{Finding}
-use Rattle.audit_terms.specs.Finding.{in_order, is_shown, shown}
-use Rattle.audit_terms.specs.Connection.{connection_said, connection_after}
-use Rattle.audit_terms.specs.code.runs.Blocks.{block_run}
-use Rattle.audit_terms.specs.code.Room.{HasRoom}
-use Rattle.conn_scan.specs.declared.block_items.Block.{Block}
-use Rattle.conn_scan.specs.code.Block.{BlockFits}
-use Rattle.conn_scan.specs.code.Items.{items_in, IsBlock}
-use Rattle.conn_scan.specs.code.Walk.{walked}
-use Rattle.conn_scan.specs.code.FitLaws.{room-wider}
 use Rattle.conn_scan.proofs.WalkLemmas.{walked-items_with}
 
 pub block_walked : (block : Block) → IsBlock block

@@ -1,17 +1,8 @@
 -- At which frames the findings of items stand.
-use Rattle.std.proofs.Common.{◌≡◌, ℕ, ◌+◌, List, [], ◌∷◌, map, arith}
-use Rattle.std.specs.List.{AllByRecursion}
-use Rattle.audit_terms.specs.declared.connections.ConnectionState.{ConnectionState}
-use Rattle.audit_terms.specs.declared.findings.Finding.{Finding}
-use Rattle.audit_terms.specs.declared.frames.Frame.{Frame}
-use Rattle.audit_terms.specs.declared.items.Item.{Item}
-use Rattle.audit_terms.specs.Connection.{connection_said, connection_after}
-use Rattle.audit_terms.specs.code.runs.Blocks.{block_run}
-use Rattle.audit_terms.specs.Finding.{in_order}
-use Rattle.audit_terms.specs.code.runs.Orderly.{IsInRange, IsOrderlyFrom}
-use Rattle.audit_terms.specs.Place.{place_number}
-use Rattle.audit_terms.proofs.FindingLists.{each-append, each-in_order, each-weaker}
-use Rattle.audit_terms.proofs.SaidPlaces.{IsBelow, IsFrom, at-connection, numbered-at}
+use Rattle.conn_scan.proofs.Terms.{◌≡◌, ℕ, ◌+◌, List, [], ◌∷◌, map, arith, AllByRecursion, ConnectionState, Finding}
+use Rattle.conn_scan.proofs.Terms.{Frame, Item, connection_said, connection_after, block_run, in_order, IsInRange}
+use Rattle.conn_scan.proofs.Terms.{IsOrderlyFrom, place_number, each-append, each-in_order, each-weaker, IsBelow}
+use Rattle.conn_scan.proofs.Terms.{IsFrom, at-connection, numbered-at}
 
 -- what an item shows stands at its frame
 item-at : (now : ConnectionState) (item : Item) → IsInRange item.frame

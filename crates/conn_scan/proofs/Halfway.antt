@@ -1,28 +1,15 @@
 -- A block's run between two items, and how it goes on.
-use Rattle.std.proofs.Common.{◌≡◌, ℕ, ◌+◌, ◌-◌, ◌*◌, ◌^◌, ◌≤◌, Bool, List, [], ◌∷◌, ◌++◌, append_assoc, length, map}
-use Rattle.std.proofs.Common.{All, Option, Some, None, refl, sym, ap, ◌∙◌, subst, arith, length-append}
-use Rattle.std.specs.List.{AllByRecursion}
+use Rattle.conn_scan.proofs.Terms.{◌≡◌, ℕ, ◌+◌, ◌-◌, ◌*◌, ◌^◌, ◌≤◌, Bool, List, [], ◌∷◌, ◌++◌, append_assoc, length}
+use Rattle.conn_scan.proofs.Terms.{map, All, Option, Some, None, refl, sym, ap, ◌∙◌, subst, arith, length-append}
+use Rattle.conn_scan.proofs.Terms.{AllByRecursion, ConnectionState, Finding, Frame, Change, Item, connection_said}
+use Rattle.conn_scan.proofs.Terms.{connection_after, block_run, in_order, is_shown, shown, IsOrderlyFrom, place_number}
+use Rattle.conn_scan.proofs.Terms.{Watches, IsStopped, NeverFallFrom, append_nil, Block, items_with, items_in, IsBlock}
+use Rattle.conn_scan.proofs.Terms.{each-append, each-filter, each-weaker, IsBelow, before-front}
 use Rattle.std.proofs.lemmas.List.Elements.{All-from_recursion}
-use Rattle.audit_terms.specs.declared.connections.ConnectionState.{ConnectionState}
-use Rattle.audit_terms.specs.declared.findings.Finding.{Finding}
-use Rattle.audit_terms.specs.declared.frames.Frame.{Frame}
-use Rattle.audit_terms.specs.declared.items.Change.{Change}
-use Rattle.audit_terms.specs.declared.items.Item.{Item}
 use Rattle.audit_terms.specs.declared.looks.Watch.{Watch}
-use Rattle.audit_terms.specs.Connection.{connection_said, connection_after}
-use Rattle.audit_terms.specs.code.runs.Blocks.{block_run}
-use Rattle.audit_terms.specs.Finding.{in_order, is_shown, shown}
-use Rattle.audit_terms.specs.code.runs.Orderly.{IsOrderlyFrom}
 use Rattle.audit_terms.specs.code.runs.Look.{found_before, up_to, steps_between, IsRun}
-use Rattle.audit_terms.specs.Place.{place_number}
-use Rattle.audit_terms.specs.code.Watch.{Watches, IsStopped, NeverFallFrom}
 use Rattle.audit_terms.proofs.Watching.{ends, is-cut}
-use Rattle.block_scan.specs.code.Shown.{append_nil}
-use Rattle.conn_scan.specs.declared.block_items.Block.{Block}
-use Rattle.conn_scan.specs.code.Items.{items_with, items_in, IsBlock}
 use Rattle.conn_scan.proofs.BlockLemmas.{shown_next}
-use Rattle.audit_terms.proofs.FindingLists.{each-append, each-filter, each-weaker}
-use Rattle.audit_terms.proofs.SaidPlaces.{IsBelow, before-front}
 use Rattle.conn_scan.proofs.FindingPlaces.{frames_of, item-from, block-from}
 
 abbrev pub numbers_of : List Frame → List ℕ

@@ -1,3 +1,4 @@
+mod Terms
 pub mod Words
 pub mod BlockLemmas
 pub mod SumLemmas

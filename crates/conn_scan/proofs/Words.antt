@@ -1,8 +1,6 @@
 -- Numbers that fit their machine word are what the word holds.
-use Rattle.std.proofs.Common.{◌≡◌, ℤ, ◌^◌, ◌+ℤ◌, w64, to_z, of_z, arith, ap, ◌∙◌}
-use Rattle.std.specs.Int.{int_max, int_min}
-use Rattle.std.proofs.lemmas.Int.{ints, clamps}
-use Rattle.audit_terms.specs.code.Room.{HasRoom}
+use Rattle.conn_scan.proofs.Terms.{◌≡◌, ℤ, ◌^◌, ◌+ℤ◌, w64, to_z, of_z, arith, ap, ◌∙◌, int_max, int_min, ints, clamps}
+use Rattle.conn_scan.proofs.Terms.{HasRoom}
 
 -- what a word holds of a number
 abbrev held : ℤ → ℤ

@@ -1,10 +1,6 @@
-use Rattle.std.proofs.Common.{◌≡◌, ◌+◌, [], ◌∷◌, ◌++◌, append_assoc, sym, ap, subst, ◌∙◌}
-use Rattle.std.specs.List.{AllByRecursion}
-use Rattle.std.proofs.lemmas.List.{append-nil}
-use Rattle.conn_scan.specs.code.Items.{items_in}
-use Rattle.conn_scan.specs.code.Block.{MovesLittle}
-use Rattle.conn_scan.specs.code.ConnSum.{conn_sum_of, conn_met, conn_framed}
-use Rattle.conn_scan.specs.code.Walk.{numbers_from, changes_from, item_at, walked}
+use Rattle.conn_scan.proofs.Terms.{◌≡◌, ◌+◌, [], ◌∷◌, ◌++◌, append_assoc, sym, ap, subst, ◌∙◌, AllByRecursion}
+use Rattle.conn_scan.proofs.Terms.{append-nil, items_in, MovesLittle, conn_sum_of, conn_met, conn_framed, numbers_from}
+use Rattle.conn_scan.proofs.Terms.{changes_from, item_at, walked}
 use Rattle.conn_scan.specs.code.ConnSumLaws.{conn_sum_of-met}
 use Rattle.conn_scan.proofs.BlockLemmas.{block_walked}
 use Rattle.conn_scan.proofs.WalkLemmas.{idle_at, walked-idle, walked-from, walked-none}
