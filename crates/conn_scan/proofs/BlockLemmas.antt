@@ -31,9 +31,7 @@ pub shown_next : (credits : Bool) (whole : List Finding) (state next : Connectio
     → said ≡ shown credits (in_order (connection_said state item)) → new ≡ old ++ said
     → whole ≡ new ++ shown credits (block_run next rest)
 shown_next credits whole state next item rest old new said so_far after here added =
+    let own = in_order (connection_said state item) in
     let later = block_run (connection_after state item) rest in
-    so_far ∙ ap (λ l. old ++ l) (filter-append (is_shown credits) (in_order (connection_said state item)) later)
-    ∙ ap (λ l. old ++ (l ++ shown credits later)) (sym here)
-    ∙ sym (append_assoc old said (shown credits later))
-    ∙ ap (λ l. l ++ shown credits later) (sym added)
-    ∙ ap (λ s. new ++ shown credits (block_run s rest)) (sym after)
+    rw (so_far, added, here, after) (ap (λ l. old ++ l) (filter-append (is_shown credits) own later)
+    ∙ sym (append_assoc old (shown credits own) (shown credits later)))

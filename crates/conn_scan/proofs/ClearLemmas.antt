@@ -1,8 +1,8 @@
 -- What the summary of a block tells is what its items do.
-use Rattle.conn_scan.proofs.Terms.{◌≡◌, ℕ, min, max, ◌%◌, ℤ, pos, neg_ℤ, ◌+ℤ◌, ◌-ℤ◌, Bool, true, false, ◌&&◌, ◌||◌, not}
-use Rattle.conn_scan.proofs.Terms.{◌==◌, nat_lt, nat_le, ◌<ℤ◌, ◌≤ℤ◌, int_lt, int_le, if◌then◌else◌, List, [], ◌∷◌, map}
-use Rattle.conn_scan.proofs.Terms.{Option, Some, None, refl, sym, ap, ◌∙◌, arith, list_all, int_max, int_min, ints}
-use Rattle.conn_scan.proofs.Terms.{clamps, by_lt_z, nat_tests, Side, Client, Server, new_limit, ConnectionState, Item}
+use Rattle.conn_scan.proofs.Terms.{◌≡◌, ℕ, max, ◌%◌, ℤ, pos, neg_ℤ, ◌+ℤ◌, ◌-ℤ◌, Bool, true, false, ◌&&◌, ◌||◌, not}
+use Rattle.conn_scan.proofs.Terms.{◌==◌, nat_le, ◌<ℤ◌, ◌≤ℤ◌, int_lt, int_le, if◌then◌else◌, List, [], ◌∷◌, map, Option}
+use Rattle.conn_scan.proofs.Terms.{Some, None, refl, sym, ap, ◌∙◌, arith, list_all, int_max, int_min, ints, clamps}
+use Rattle.conn_scan.proofs.Terms.{by_lt_z, nat_tests, Side, Client, Server, new_limit, ConnectionState, Item}
 use Rattle.conn_scan.proofs.Terms.{largest_window, is_opened_by_headers, connection_after, change_of, high, low}
 use Rattle.conn_scan.proofs.Terms.{credit_of, limit_in, push_in, is_zero, lesser, least_limit, longest_by, grants_zero}
 use Rattle.conn_scan.proofs.Terms.{some_zero_grant, some_odd_promise, some_early_promise, some_barred_promise}

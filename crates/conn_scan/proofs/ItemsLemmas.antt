@@ -1,8 +1,8 @@
 -- The items of a connection's frames are those of the pass, and those of consecutive blocks join.
 use Rattle.conn_scan.proofs.Terms.{◌≡◌, ℕ, ◌+◌, ◌<◌, ◌≤◌, ◌==◌, false, List, [], ◌∷◌, ◌++◌, append_assoc, Option, Some}
-use Rattle.conn_scan.proofs.Terms.{None, refl, sym, ap, ◌∙◌, arith, map, AllByRecursion, list_any, nat_tests}
-use Rattle.conn_scan.proofs.Terms.{map-append, all-append, Frame, Change, Item, IsOrderlyFrom, is_marked, change_at}
-use Rattle.conn_scan.proofs.Terms.{item_with, items_with}
+use Rattle.conn_scan.proofs.Terms.{None, refl, ap, ◌∙◌, arith, map, AllByRecursion, list_any, nat_tests, map-append}
+use Rattle.conn_scan.proofs.Terms.{all-append, Frame, Change, Item, IsOrderlyFrom, is_marked, change_at, item_with}
+use Rattle.conn_scan.proofs.Terms.{items_with}
 use Rattle.audit_terms.specs.code.runs.Changes.{changes_from}
 use Rattle.std.specs.Option.{option_to_list}
 use Rattle.std.proofs.Math.Bool.{or-false}
@@ -11,7 +11,7 @@ use Rattle.audit_terms.specs.declared.settings.Settings.{Settings}
 use Rattle.audit_terms.specs.InForce.{InForce, taken, change_taking, change_of, in_force_after}
 use Rattle.audit_terms.specs.Pass.{PassState, pass_start, item_of, next}
 use Rattle.audit_terms.specs.code.runs.States.{items_from}
-use Rattle.conn_scan.specs.laws.Items.{ItemsAreThePass, AreSplit, ItemsOfBlocksJoin}
+use Rattle.conn_scan.specs.laws.Items.{ItemsAreThePass, ItemsOfBlocksJoin}
 
 all-weaker : {X : Type 0} {P Q : X → Type 0} → ((x : X) → P x → Q x) → (xs : List X) → AllByRecursion P xs
     → AllByRecursion Q xs

@@ -1,11 +1,11 @@
 -- A clear block shows connection credit alone.
-use Rattle.conn_scan.proofs.Terms.{◌≡◌, ℕ, ◌<◌, ◌≤◌, ℤ, pos, ◌+ℤ◌, ◌-ℤ◌, ◌<ℤ◌, int_lt, int_le, nat_lt, nat_le, Bool}
-use Rattle.conn_scan.proofs.Terms.{true, false, ◌&&◌, not, cond, if◌then◌else◌, List, [], ◌∷◌, ◌++◌, refl, ap, ◌∙◌}
-use Rattle.conn_scan.proofs.Terms.{arith, true≢false, AllByRecursion, list_all, ints, nat_tests, Side, Client, Server}
-use Rattle.conn_scan.proofs.Terms.{ConnectionState, Item, Frame, Finding, largest_window, is_used_up, overflows}
-use Rattle.conn_scan.proofs.Terms.{overruns, stall_ends, stall_begins, new_limit, say, in_order, shown, credit_after}
-use Rattle.conn_scan.proofs.Terms.{length_said, connection_window_said, connection_said, connection_after, block_run}
-use Rattle.conn_scan.proofs.Terms.{each-append, each-in_order, each-said, length_by, longest_by, connections, is_usable}
+use Rattle.conn_scan.proofs.Terms.{◌≡◌, ℕ, ◌<◌, ◌≤◌, ℤ, pos, ◌+ℤ◌, ◌-ℤ◌, ◌<ℤ◌, int_lt, nat_le, Bool, true, false, ◌&&◌}
+use Rattle.conn_scan.proofs.Terms.{not, cond, if◌then◌else◌, List, [], ◌∷◌, ◌++◌, refl, ap, ◌∙◌, arith, true≢false}
+use Rattle.conn_scan.proofs.Terms.{AllByRecursion, list_all, ints, nat_tests, Side, Client, Server, ConnectionState}
+use Rattle.conn_scan.proofs.Terms.{Item, Frame, Finding, largest_window, is_used_up, overflows, overruns, stall_ends}
+use Rattle.conn_scan.proofs.Terms.{stall_begins, new_limit, say, in_order, shown, credit_after, length_said}
+use Rattle.conn_scan.proofs.Terms.{connection_window_said, connection_said, connection_after, block_run, each-append}
+use Rattle.conn_scan.proofs.Terms.{each-in_order, each-said, length_by, longest_by, connections, is_usable}
 use Rattle.conn_scan.proofs.Terms.{keeps_credit, grants_something, openings_rise, promises_allowed, promises_rise}
 use Rattle.conn_scan.proofs.Terms.{not_above}
 use Rattle.std.proofs.lemmas.Bool.{and_parts, or_parts, not-true, and_left, and_right}

@@ -71,12 +71,10 @@ pub states_carried : (now : ConnectionState) (blocks : List (List Item))
     → states_before connection_after now blocks ≡ connections_before now blocks
 states_carried now [] = refl
 states_carried now (block ∷ blocks) =
-    ap (λ s. now ∷ states_before connection_after s blocks) (sym (all-after now block))
-    ∙ ap (λ states. now ∷ states) (states_carried (connection_after_all now block) blocks)
+    rw (← all-after now block, states_carried (connection_after_all now block) blocks) refl
 
 -- the summaries of blocks
-pub sums-shown : (blocks : List (List Item)) → map conn_sum_of blocks
-    ≡ map (summary_of conn_none conn_one conn_join) blocks
+pub sums-shown : (blocks : List (List Item))
+    → map conn_sum_of blocks ≡ map (summary_of conn_none conn_one conn_join) blocks
 sums-shown [] = refl
-sums-shown (block ∷ blocks) = ap (λ sum. sum ∷ map conn_sum_of blocks) (sym (summary-shown conn_shows block))
-    ∙ ap (λ sums. summary_of conn_none conn_one conn_join block ∷ sums) (sums-shown blocks)
+sums-shown (block ∷ blocks) = rw (summary-shown conn_shows block, sums-shown blocks) refl

@@ -1,12 +1,12 @@
 -- The names that several proofs of this crate cite, passed on from one place.
-pub use Rattle.std.proofs.Common.{All, Bool, IfOk, List, None, Option, SFits, Some, [], ap, append_assoc, arith, cond}
-pub use Rattle.std.proofs.Common.{false, if◌then◌else◌, int_le, int_lt, length, length-append, map, max, min, nat_le}
-pub use Rattle.std.proofs.Common.{nat_lt, neg_ℤ, not, of_z, pos, refl, rules, subst, suc, sym, to_z, true, true≢false}
+pub use Rattle.std.proofs.Common.{All, Bool, IfOk, List, None, Option, SFits, Some, [], ap, append-nil, append_assoc}
+pub use Rattle.std.proofs.Common.{arith, cond, false, if◌then◌else◌, int_le, int_lt, length, length-append, map, max}
+pub use Rattle.std.proofs.Common.{nat_le, neg_ℤ, not, of_z, pos, refl, rules, subst, suc, sym, to_z, true, true≢false}
 pub use Rattle.std.proofs.Common.{w64, ℕ, ℤ, ◌%◌, ◌&&◌, ◌*◌, ◌++◌, ◌+ℤ◌, ◌+◌, ◌-ℤ◌, ◌-◌, ◌<ℤ◌, ◌<◌, ◌==◌, ◌^◌, ◌||◌}
 pub use Rattle.std.proofs.Common.{◌∙◌, ◌∷◌, ◌≡◌, ◌≤ℤ◌, ◌≤◌}
 pub use Rattle.std.proofs.lemmas.Bool.Decides.{nat_tests}
 pub use Rattle.std.proofs.lemmas.Int.{by_lt_z, clamps, ints, to_z-of_z}
-pub use Rattle.std.proofs.lemmas.List.{append-nil, length-map, map-append}
+pub use Rattle.std.proofs.lemmas.List.{length-map, map-append}
 pub use Rattle.std.specs.Int.{int_max, int_min}
 pub use Rattle.std.specs.List.{AllByRecursion, find, list_all, list_any}
 pub use Rattle.audit_terms.proofs.FindingLists.{each-append, each-filter, each-in_order, each-said, each-weaker}
@@ -34,7 +34,7 @@ pub use Rattle.conn_scan.specs.code.Block.{BlockFits, ItemsFit, MovesLittle, con
 pub use Rattle.conn_scan.specs.code.Clear.{connections, grants_something, is_clear, is_usable, keeps_credit}
 pub use Rattle.conn_scan.specs.code.Clear.{openings_rise, promises_allowed, promises_rise}
 pub use Rattle.conn_scan.specs.code.Cleared.{credit_clear, ids_clear, is_within, length_clear, push_clear, sum_clear}
-pub use Rattle.conn_scan.specs.code.ConnSum.{conn_framed, conn_join, conn_met, conn_none, conn_one, conn_sum_of}
+pub use Rattle.conn_scan.specs.code.ConnSum.{conn_join, conn_none, conn_one, conn_sum_of}
 pub use Rattle.conn_scan.specs.code.Credit.{AreSmall, ChangesFit, change_of, credit_join, credit_of, high, low}
 pub use Rattle.conn_scan.specs.code.Credit.{no_change, one_change}
 pub use Rattle.conn_scan.specs.code.CreditLaws.{IsRoomy, credit_shows, high-signed, low-signed, not_above, rest_fits}
@@ -45,6 +45,6 @@ pub use Rattle.conn_scan.specs.code.Items.{IsBlock, change_at, is_marked, item_w
 pub use Rattle.conn_scan.specs.code.Latest.{grants_zero, is_zero, latest_of, least_limit, length_by, lesser, limit_in}
 pub use Rattle.conn_scan.specs.code.Latest.{longest_by, push_in, some_barred_promise, some_early_promise}
 pub use Rattle.conn_scan.specs.code.Latest.{some_odd_promise, some_zero_grant}
-pub use Rattle.conn_scan.specs.code.Walk.{ChangesStartFrom, StartFrom, changes_from, first_change, is_first, item_at}
+pub use Rattle.conn_scan.specs.code.Walk.{ChangesStartFrom, StartFrom, changes_from, first_change, is_first}
 pub use Rattle.conn_scan.specs.code.Walk.{numbers_from, walked}
 pub use Rattle.conn_scan.specs.declared.block_items.Block.{Block}

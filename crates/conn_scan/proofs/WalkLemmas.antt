@@ -1,9 +1,8 @@
 -- The forward walk gives the items of the definition.
-use Rattle.conn_scan.proofs.Terms.{◌≡◌, ℕ, suc, ◌+◌, ◌<◌, ◌≤◌, ◌==◌, false, ◌&&◌, List, [], ◌∷◌, length, None, refl}
-use Rattle.conn_scan.proofs.Terms.{sym, ap, ◌∙◌, arith, list_any, find, nat_tests, Frame, Change, Item, IsOrderlyFrom}
-use Rattle.conn_scan.proofs.Terms.{item_with, items_with, NeverFallFrom, numbers_from, changes_from, is_first}
-use Rattle.conn_scan.proofs.Terms.{first_change, item_at, walked, StartFrom, ChangesStartFrom}
-use Rattle.audit_terms.specs.Frame.{is_headers}
+use Rattle.conn_scan.proofs.Terms.{◌≡◌, ℕ, suc, ◌+◌, ◌<◌, ◌≤◌, ◌==◌, false, List, [], ◌∷◌, length, None, refl, ap}
+use Rattle.conn_scan.proofs.Terms.{arith, list_any, find, nat_tests, Frame, Change, Item, IsOrderlyFrom, items_with}
+use Rattle.conn_scan.proofs.Terms.{NeverFallFrom, numbers_from, changes_from, is_first, first_change, walked, StartFrom}
+use Rattle.conn_scan.proofs.Terms.{ChangesStartFrom}
 use Rattle.settings_pair.specs.code.Changes.{AreOrderlyFrom}
 
 -- ---- opening numbers
