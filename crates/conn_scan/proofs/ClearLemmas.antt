@@ -3,14 +3,13 @@ use Rattle.conn_scan.proofs.Terms.{◌≡◌, ℕ, max, ◌%◌, ℤ, pos, neg_�
 use Rattle.conn_scan.proofs.Terms.{◌==◌, nat_le, ◌<ℤ◌, ◌≤ℤ◌, int_lt, int_le, if◌then◌else◌, List, [], ◌∷◌, map, Option}
 use Rattle.conn_scan.proofs.Terms.{Some, None, refl, sym, ap, ◌∙◌, arith, list_all, int_max, int_min, ints, clamps}
 use Rattle.conn_scan.proofs.Terms.{by_lt_z, nat_tests, Side, Client, Server, new_limit, ConnectionState, Item}
-use Rattle.conn_scan.proofs.Terms.{largest_window, is_opened_by_headers, connection_after, change_of, high, low}
-use Rattle.conn_scan.proofs.Terms.{credit_of, limit_in, push_in, is_zero, lesser, least_limit, longest_by, grants_zero}
-use Rattle.conn_scan.proofs.Terms.{some_zero_grant, some_odd_promise, some_early_promise, some_barred_promise}
-use Rattle.conn_scan.proofs.Terms.{latest_of, conn_sum_of, connections, is_usable, grants_something, openings_rise}
-use Rattle.conn_scan.proofs.Terms.{promises_allowed, promises_rise, is_clear, high-signed, low-signed, credit_clear}
-use Rattle.conn_scan.proofs.Terms.{ids_clear, push_clear, is_within, length_clear, sum_clear}
+use Rattle.conn_scan.proofs.Terms.{largest_window, connection_after, change_of, high, low, credit_of, limit_in, push_in}
+use Rattle.conn_scan.proofs.Terms.{is_zero, lesser, least_limit, longest_by, some_zero_grant, some_odd_promise}
+use Rattle.conn_scan.proofs.Terms.{some_early_promise, some_barred_promise, latest_of, conn_sum_of, connections}
+use Rattle.conn_scan.proofs.Terms.{is_usable, grants_something, openings_rise, promises_allowed, promises_rise}
+use Rattle.conn_scan.proofs.Terms.{is_clear, high-signed, low-signed, credit_clear, ids_clear, push_clear, is_within}
+use Rattle.conn_scan.proofs.Terms.{length_clear, sum_clear, is_server_promise, promised_in}
 use Rattle.std.specs.Prelude.{unwrap_or, is_none}
-use Rattle.audit_terms.specs.Frame.{is_server_promise, promised_in}
 use Rattle.conn_scan.specs.code.Rising.{present, rising_of}
 use Rattle.conn_scan.specs.code.Ids.{opened_in, promised_by}
 use Rattle.conn_scan.specs.code.LatestLaws.{limit_is, push_is}
@@ -84,24 +83,18 @@ openings_same : (now : ConnectionState) (items : List Item)
     → openings_rise now items ≡ ids_clear now.opened (rising_of (present (map opened_in items)))
 openings_same now [] = refl
 openings_same now (item ∷ items) =
-    ap (λ b. not (is_opened_by_headers item && nat_le item.frame.stream now.opened) && b)
-    (openings_same (connection_after now item) items)
-    ∙ turn (is_opened_by_headers item) item.frame.stream now.opened (map opened_in items) where
-      turn : (b : Bool) (s g : ℕ) (later : List (Option ℕ))
-          → not (b && nat_le s g) && ids_clear (if b then max g s else g) (rising_of (present later))
-          ≡ ids_clear g (rising_of (present ((if b then Some s else None) ∷ later)))
-      turn true s g later = id_same g s (present later)
-      turn false s g later = refl
+    let later = openings_same (connection_after now item) items in
+    let one = id_same now.opened item.frame.stream (present (map opened_in items)) in
+    grind arith
 
 promises_same : (now : ConnectionState) (items : List Item) → promises_rise now items
     ≡ ids_clear now.promised (rising_of (present (map promised_by items))) && not (some_odd_promise items)
 promises_same now [] = refl
 promises_same now (item ∷ items) =
     let n = promised_in item.frame.body in
-    ap (λ b. not (is_server_promise item.frame && ((n % 2 == 1) || nat_le n now.promised)) && b)
-    (promises_same (connection_after now item) items)
-    ∙ turn (is_server_promise item.frame) (n % 2 == 0) (n % 2 == 1) n now.promised (map promised_by items)
-    (some_odd_promise items) (grind (arith, nat_tests)) where
+    rw (promises_same (connection_after now item) items)
+    (turn (is_server_promise item.frame) (n % 2 == 0) (n % 2 == 1) n now.promised (map promised_by items)
+    (some_odd_promise items) (grind (arith, nat_tests))) where
       turn : (p e d : Bool) (n g : ℕ) (later : List (Option ℕ)) (o : Bool) → d ≡ not e
           → not (p && (d || nat_le n g))
           && (ids_clear (if p && e then max g n else g) (rising_of (present later)) && not o)
@@ -114,12 +107,9 @@ push_same : (now : ConnectionState) (items : List Item) → promises_allowed now
     ≡ push_clear now.push (latest_of items)
 push_same now [] = refl
 push_same now (item ∷ items) =
-    ap (λ t. not (is_server_promise item.frame && (now.push == 0)) && t) (push_same (connection_after now item) items)
-    ∙ ap (λ n. not (is_server_promise item.frame && (now.push == 0))
-    && (not (some_early_promise items && (n == 0)) && not (some_barred_promise items)))
-    (sym (push_is item.change now.push))
-    ∙ turn (is_server_promise item.frame) (push_in item.change) now.push (some_early_promise items)
-    (some_barred_promise items) where
+    rw (push_same (connection_after now item) items, ← push_is item.change now.push)
+    (turn (is_server_promise item.frame) (push_in item.change) now.push (some_early_promise items)
+    (some_barred_promise items)) where
       turn : (p : Bool) (c : Option ℕ) (push : ℕ) (e b : Bool)
           → not (p && (push == 0)) && (not (e && (unwrap_or c push == 0)) && not b)
           ≡ not ((p || (is_none c && e)) && (push == 0)) && not ((is_zero c && e) || b)
@@ -130,10 +120,7 @@ push_same now (item ∷ items) =
 
 grants_same : (now : ConnectionState) (items : List Item) → grants_something now items ≡ not (some_zero_grant items)
 grants_same now [] = refl
-grants_same now (item ∷ items) =
-    rw (grants_same (connection_after now item) items) (turn (grants_zero item.frame) _) where
-      turn : (a b : Bool) → not a && not b ≡ not (a || b)
-      turn a b = grind arith
+grants_same now (item ∷ items) = let later = grants_same (connection_after now item) items in grind arith
 
 within_same : (d : Side) (limit : ConnectionState → ℕ)
     → ((now : ConnectionState) (item : Item)
@@ -143,10 +130,12 @@ within_same : (d : Side) (limit : ConnectionState → ℕ)
     ≡ length_clear (limit now) l (least_limit d items)
 within_same d limit step l now [] = refl
 within_same d limit step l now (item ∷ items) =
-    ap (λ b. nat_le l (limit now) && b) (within_same d limit step l (connection_after now item) items)
-    ∙ ap (λ n. nat_le l (limit now) && (nat_le l n && is_within l (least_limit d items)))
-    (step now item ∙ sym (limit_is d item.change (limit now)))
-    ∙ turn l (limit now) (limit_in d item.change) (least_limit d items) where
+    rw (
+      within_same d limit step l (connection_after now item) items,
+      step now item,
+      ← limit_is d item.change (limit now),
+    )
+    (turn l (limit now) (limit_in d item.change) (least_limit d items)) where
       turn : (l limit : ℕ) (m least : Option ℕ)
           → nat_le l limit && (nat_le l (unwrap_or m limit) && is_within l least)
           ≡ nat_le l limit && is_within l (lesser m least)

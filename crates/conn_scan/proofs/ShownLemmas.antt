@@ -1,20 +1,20 @@
 -- A clear block shows connection credit alone.
-use Rattle.conn_scan.proofs.Terms.{◌≡◌, ℕ, ◌<◌, ◌≤◌, ℤ, pos, ◌+ℤ◌, ◌-ℤ◌, ◌<ℤ◌, int_lt, nat_le, Bool, true, false, ◌&&◌}
-use Rattle.conn_scan.proofs.Terms.{not, cond, if◌then◌else◌, List, [], ◌∷◌, ◌++◌, refl, ap, ◌∙◌, arith, true≢false}
-use Rattle.conn_scan.proofs.Terms.{AllByRecursion, list_all, ints, nat_tests, Side, Client, Server, ConnectionState}
-use Rattle.conn_scan.proofs.Terms.{Item, Frame, Finding, largest_window, is_used_up, overflows, overruns, stall_ends}
-use Rattle.conn_scan.proofs.Terms.{stall_begins, new_limit, say, in_order, shown, credit_after, length_said}
-use Rattle.conn_scan.proofs.Terms.{connection_window_said, connection_said, connection_after, block_run, each-append}
-use Rattle.conn_scan.proofs.Terms.{each-in_order, each-said, length_by, longest_by, connections, is_usable}
-use Rattle.conn_scan.proofs.Terms.{keeps_credit, grants_something, openings_rise, promises_allowed, promises_rise}
-use Rattle.conn_scan.proofs.Terms.{not_above}
+use Rattle.conn_scan.proofs.Terms.{◌||◌, ◌%◌, ◌==◌, is_server_promise, promised_in, is_opened_by_headers, nat_lt, ◌≡◌}
+use Rattle.conn_scan.proofs.Terms.{ℕ, ◌<◌, ◌≤◌, ℤ, pos, ◌+ℤ◌, ◌-ℤ◌, ◌<ℤ◌, int_lt, nat_le, Bool, true, false, ◌&&◌, not}
+use Rattle.conn_scan.proofs.Terms.{cond, if◌then◌else◌, List, [], ◌∷◌, ◌++◌, refl, ap, ◌∙◌, arith, AllByRecursion}
+use Rattle.conn_scan.proofs.Terms.{list_all, ints, nat_tests, Side, Client, Server, ConnectionState, Item, Frame}
+use Rattle.conn_scan.proofs.Terms.{Finding, largest_window, is_used_up, overflows, overruns, new_limit, say, in_order}
+use Rattle.conn_scan.proofs.Terms.{shown, credit_after, connection_window_said, connection_said, connection_after}
+use Rattle.conn_scan.proofs.Terms.{block_run, each-append, each-in_order, each-said, length_by, longest_by, connections}
+use Rattle.conn_scan.proofs.Terms.{is_usable, keeps_credit, grants_something, openings_rise, promises_allowed}
+use Rattle.conn_scan.proofs.Terms.{promises_rise, not_above, is_content, content_by, grant_to, grants_nothing}
+use Rattle.conn_scan.proofs.Terms.{increment}
 use Rattle.std.proofs.lemmas.Bool.{and_parts, or_parts, not-true, and_left, and_right}
 use Rattle.audit_terms.specs.declared.kinds.Kind.{Kind}
 use Rattle.audit_terms.specs.declared.kinds.Kind.TheVariants.{ConnectionCredit}
 use Rattle.audit_terms.specs.Kind.{is_credit}
 use Rattle.audit_terms.specs.Side.{other, is_side}
 use Rattle.audit_terms.specs.Sides.{side_of}
-use Rattle.audit_terms.specs.Frame.{is_content, content_by, grant_to, grants_nothing, increment}
 use Rattle.conn_scan.specs.laws.Clear.{ClearShowsCredit}
 use Rattle.conn_scan.proofs.ClearLemmas.{not_most, usable_parts}
 
@@ -31,10 +31,6 @@ both_only = each-append IsCredit
 
 ordered_only : (a : List Finding) → Only a → Only (in_order a)
 ordered_only = each-in_order IsCredit
-
-none_said : (b : Bool) (found : Finding) → b ≡ false → Only (say b found)
-none_said true found e = absurd (true≢false e)
-none_said false found e = tt
 
 credit_said : (b : Bool) (found : Finding) → IsCredit found → Only (say b found)
 credit_said = each-said IsCredit
@@ -73,24 +69,18 @@ window_only d before frame entry left grants =
     (no_grant d frame.side (is_content frame.body) _ frame.length (increment frame.body)) kept.0 in
     let full : is_used_up before ≡ false = not_most before (pos 0) some in
     let still : is_used_up after ≡ false = not_most after (pos 0) kept.0 in
-    both_only _ _
-    (both_only _ _
-    (both_only _ _
-    (both_only _ _
-    (both_only _ _ (none_said (grants_nothing d 0 frame) _ grants) (none_said (overflows before after) _ overflow))
-    (none_said (overruns before (content_by d frame)) _ overrun))
-    (none_said (stall_ends before after) _ (and_left (is_used_up before) (not (is_used_up after)) full)))
-    (none_said (stall_begins before after) _ (and_right (not (is_used_up before)) (is_used_up after) still)))
-    (credit_said _ _ refl)
+    let ends = and_left (is_used_up before) (not (is_used_up after)) full in
+    let begins = and_right (not (is_used_up before)) (is_used_up after) still in
+    rw (grants, overflow, overrun, ends, begins) (credit_said _ _ refl)
 
 -- ---- an item
 
 -- the limit after an item bounds the frame of its side
-length_only : (d : Side) (now : ConnectionState) (item : Item) (longest : ℕ) → item.frame.side ≡ d
+length_kept : (d : Side) (now : ConnectionState) (item : Item) (longest : ℕ) → item.frame.side ≡ d
     → length_by d item.frame ≤ longest → nat_le longest (side_of d (connection_after now item).limit) ≡ true
-    → Only (length_said (new_limit item.change d (side_of d now.limit)) item.frame)
-length_only Client now item longest side short kept = none_said _ _ (grind (arith, nat_tests))
-length_only Server now item longest side short kept = none_said _ _ (grind (arith, nat_tests))
+    → nat_lt (new_limit item.change d (side_of d now.limit)) item.frame.length ≡ false
+length_kept Client now item longest side short kept = grind (arith, nat_tests)
+length_kept Server now item longest side short kept = grind (arith, nat_tests)
 
 -- what clears the items from one on, where no frame of a side is longer than its bound
 record Clears (longest : Side → ℕ) (now : ConnectionState) (items : List Item) : Type 0 where
@@ -127,21 +117,22 @@ module _ (longest : Side → ℕ) (now : ConnectionState) (item : Item) (items :
       let after = connection_after now item in
       let d = item.frame.side in
       let short = h.short item.frame.side in
+      let length = length_kept d now item (longest d) refl (omega arith)
+      (at_first (λ (at : ConnectionState). nat_le (longest d) (side_of d at.limit)) after items (rest_clear.limit d)) in
       let grants = or_parts (grants_nothing Client 0 item.frame) (grants_nothing Server 0 item.frame)
       (not-true _ (and_parts _ _ h.grants).0) in
       let client = at_first (λ (at : ConnectionState). is_usable at.credit.client) after items
       (rest_clear.credit Client) in
       let server = at_first (λ (at : ConnectionState). is_usable at.credit.server) after items
       (rest_clear.credit Server) in
-      both_only _ _
-      (both_only _ _
-      (both_only _ _
-      (both_only _ _
-      (length_only d now item (longest d) refl (omega arith)
-      (at_first (λ (at : ConnectionState). nat_le (longest d) (side_of d at.limit)) after items (rest_clear.limit d)))
-      (none_said _ _ (not-true _ (and_parts _ _ h.allowed).0)))
-      (none_said _ _ (not-true _ (and_parts _ _ h.openings).0)))
-      (none_said _ _ (not-true _ (and_parts _ _ h.promises).0)))
+      let allowed : is_server_promise item.frame && (now.push == 0) ≡ false =
+      not-true _ (and_parts _ _ h.allowed).0 in
+      let opening : is_opened_by_headers item && nat_le item.frame.stream now.opened ≡ false =
+      not-true _ (and_parts _ _ h.openings).0 in
+      let promise : is_server_promise item.frame
+      && ((promised_in item.frame.body % 2 == 1) || nat_le (promised_in item.frame.body) now.promised) ≡ false =
+      not-true _ (and_parts _ _ h.promises).0 in
+      rw (length, allowed, opening, promise)
       (both_only _ _
       (window_only Client now.credit.client item.frame (and_parts _ _ (h.credit Client)).0 client grants.0)
       (window_only Server now.credit.server item.frame (and_parts _ _ (h.credit Server)).0 server grants.1))

@@ -1,9 +1,9 @@
 -- The names that several proofs of this crate cite, passed on from one place.
 pub use Rattle.std.proofs.Common.{All, Bool, IfOk, List, None, Option, SFits, Some, [], ap, append-nil, append_assoc}
 pub use Rattle.std.proofs.Common.{arith, cond, false, if◌then◌else◌, int_le, int_lt, length, length-append, map, max}
-pub use Rattle.std.proofs.Common.{nat_le, neg_ℤ, not, of_z, pos, refl, rules, subst, suc, sym, to_z, true, true≢false}
-pub use Rattle.std.proofs.Common.{w64, ℕ, ℤ, ◌%◌, ◌&&◌, ◌*◌, ◌++◌, ◌+ℤ◌, ◌+◌, ◌-ℤ◌, ◌-◌, ◌<ℤ◌, ◌<◌, ◌==◌, ◌^◌, ◌||◌}
-pub use Rattle.std.proofs.Common.{◌∙◌, ◌∷◌, ◌≡◌, ◌≤ℤ◌, ◌≤◌}
+pub use Rattle.std.proofs.Common.{nat_le, nat_lt, neg_ℤ, not, of_z, pos, refl, rules, subst, suc, sym, to_z, true, w64}
+pub use Rattle.std.proofs.Common.{ℕ, ℤ, ◌%◌, ◌&&◌, ◌*◌, ◌++◌, ◌+ℤ◌, ◌+◌, ◌-ℤ◌, ◌-◌, ◌<ℤ◌, ◌<◌, ◌==◌, ◌^◌, ◌||◌, ◌∙◌}
+pub use Rattle.std.proofs.Common.{◌∷◌, ◌≡◌, ◌≤ℤ◌, ◌≤◌}
 pub use Rattle.std.proofs.lemmas.Bool.Decides.{nat_tests}
 pub use Rattle.std.proofs.lemmas.Int.{by_lt_z, clamps, ints, to_z-of_z}
 pub use Rattle.std.proofs.lemmas.List.{length-map, map-append}
@@ -13,10 +13,12 @@ pub use Rattle.audit_terms.proofs.FindingLists.{each-append, each-filter, each-i
 pub use Rattle.audit_terms.proofs.SaidPlaces.{IsBelow, IsFrom, at-connection, before-front, numbered-at}
 pub use Rattle.audit_terms.specs.Change.{new_limit}
 pub use Rattle.audit_terms.specs.Connection.{connection_after, connection_said, connection_window_said, credit_after}
-pub use Rattle.audit_terms.specs.Connection.{is_opened_by_headers, length_said}
+pub use Rattle.audit_terms.specs.Connection.{is_opened_by_headers}
 pub use Rattle.audit_terms.specs.Finding.{in_order, is_shown, say, shown}
+pub use Rattle.audit_terms.specs.Frame.{content_by, grant_to, grants_nothing, increment, is_content, is_server_promise}
+pub use Rattle.audit_terms.specs.Frame.{promised_in}
 pub use Rattle.audit_terms.specs.Place.{place_number}
-pub use Rattle.audit_terms.specs.Window.{is_used_up, largest_window, overflows, overruns, stall_begins, stall_ends}
+pub use Rattle.audit_terms.specs.Window.{is_used_up, largest_window, overflows, overruns}
 pub use Rattle.audit_terms.specs.code.Room.{HasRoom}
 pub use Rattle.audit_terms.specs.code.Watch.{IsStopped, NeverFallFrom, Watches}
 pub use Rattle.audit_terms.specs.code.runs.Blocks.{block_run, connection_after_all}
@@ -42,9 +44,9 @@ pub use Rattle.conn_scan.specs.code.CreditLaws.{roomy, summary_room}
 pub use Rattle.conn_scan.specs.code.Each.{all-append}
 pub use Rattle.conn_scan.specs.code.FitLaws.{first_fit, rest_fit, room-wider}
 pub use Rattle.conn_scan.specs.code.Items.{IsBlock, change_at, is_marked, item_with, items_in, items_with}
-pub use Rattle.conn_scan.specs.code.Latest.{grants_zero, is_zero, latest_of, least_limit, length_by, lesser, limit_in}
-pub use Rattle.conn_scan.specs.code.Latest.{longest_by, push_in, some_barred_promise, some_early_promise}
-pub use Rattle.conn_scan.specs.code.Latest.{some_odd_promise, some_zero_grant}
+pub use Rattle.conn_scan.specs.code.Latest.{is_zero, latest_of, least_limit, length_by, lesser, limit_in, longest_by}
+pub use Rattle.conn_scan.specs.code.Latest.{push_in, some_barred_promise, some_early_promise, some_odd_promise}
+pub use Rattle.conn_scan.specs.code.Latest.{some_zero_grant}
 pub use Rattle.conn_scan.specs.code.Walk.{ChangesStartFrom, StartFrom, changes_from, first_change, is_first}
 pub use Rattle.conn_scan.specs.code.Walk.{numbers_from, walked}
 pub use Rattle.conn_scan.specs.declared.block_items.Block.{Block}
