@@ -10,14 +10,12 @@ pub use Rattle.std.proofs.lemmas.List.{length-map, map-append}
 pub use Rattle.std.specs.Int.{int_max, int_min}
 pub use Rattle.std.specs.List.{AllByRecursion, find, list_all, list_any}
 pub use Rattle.audit_terms.proofs.FindingLists.{each-append, each-filter, each-in_order, each-said, each-weaker}
-pub use Rattle.audit_terms.proofs.SaidPlaces.{IsBelow, IsFrom, at-connection, before-front, numbered-at}
 pub use Rattle.audit_terms.specs.Change.{new_limit}
 pub use Rattle.audit_terms.specs.Connection.{connection_after, connection_said, connection_window_said, credit_after}
 pub use Rattle.audit_terms.specs.Connection.{is_opened_by_headers}
 pub use Rattle.audit_terms.specs.Finding.{in_order, is_shown, say, shown}
 pub use Rattle.audit_terms.specs.Frame.{content_by, grant_to, grants_nothing, increment, is_content, is_server_promise}
 pub use Rattle.audit_terms.specs.Frame.{promised_in}
-pub use Rattle.audit_terms.specs.Place.{place_number}
 pub use Rattle.audit_terms.specs.Window.{is_used_up, largest_window, overflows, overruns}
 pub use Rattle.audit_terms.specs.code.Room.{HasRoom}
 pub use Rattle.audit_terms.specs.code.Watch.{IsStopped, NeverFallFrom, Watches}

@@ -1,8 +1,8 @@
 -- The forward walk gives the items of the definition.
-use Rattle.conn_scan.proofs.Terms.{◌≡◌, ℕ, suc, ◌+◌, ◌<◌, ◌≤◌, ◌==◌, false, List, [], ◌∷◌, length, None, refl, ap}
-use Rattle.conn_scan.proofs.Terms.{arith, list_any, find, nat_tests, Frame, Change, Item, IsOrderlyFrom, items_with}
-use Rattle.conn_scan.proofs.Terms.{NeverFallFrom, numbers_from, changes_from, is_first, first_change, walked, StartFrom}
-use Rattle.conn_scan.proofs.Terms.{ChangesStartFrom}
+use Rattle.conn_scan.proofs.Terms.{Block, items_in, IsBlock, ◌≡◌, ℕ, suc, ◌+◌, ◌<◌, ◌≤◌, ◌==◌, false, List, [], ◌∷◌}
+use Rattle.conn_scan.proofs.Terms.{length, None, refl, ap, arith, list_any, find, nat_tests, Frame, Change, Item}
+use Rattle.conn_scan.proofs.Terms.{IsOrderlyFrom, items_with, NeverFallFrom, numbers_from, changes_from, is_first}
+use Rattle.conn_scan.proofs.Terms.{first_change, walked, StartFrom, ChangesStartFrom}
 use Rattle.settings_pair.specs.code.Changes.{AreOrderlyFrom}
 
 -- ---- opening numbers
@@ -138,3 +138,10 @@ pub walked-none : (opened : List ℕ) (changes : List Change) (frames : List Fra
     → walked opened changes frames ≡ []
 walked-none opened changes [] e = refl
 walked-none opened changes (frame ∷ frames) e = absurd (omega (arith, e))
+
+-- ---- the items of a block
+
+pub block_walked : (block : Block) → IsBlock block
+    → walked block.opened.now block.changes.now block.frames.now ≡ items_in block
+block_walked block h =
+    walked-items_with 0 0 0 block.opened.now block.changes.now block.frames.now h.frames h.opened h.changes

@@ -1,5 +1,6 @@
 use Rattle.conn_scan.proofs.Terms.{◌≡◌, ◌^◌, arith, items_in, room-wider, walked}
-use Rattle.conn_scan.proofs.BlockLemmas.{block_walked, fits_next}
+use Rattle.conn_scan.proofs.WalkLemmas.{block_walked}
+use Rattle.conn_scan.proofs.Halfway.{fits_next}
 use Rattle.conn_scan.proofs.Halfway.{begins, is-due, goes, stops, stops-numbered, is-whole, whole-numbered}
 use Rattle.conn_scan.proofs.blocks.block_findings.Goals as goal
 

@@ -1,7 +1,7 @@
 use Rattle.conn_scan.proofs.Terms.{◌≡◌, ◌+◌, [], ◌∷◌, ◌++◌, append_assoc, append-nil, sym, ◌∙◌, items_in, numbers_from}
 use Rattle.conn_scan.proofs.Terms.{changes_from}
 use Rattle.conn_scan.specs.code.ConnSumLaws.{conn_sum_of-met}
-use Rattle.conn_scan.proofs.BlockLemmas.{block_walked}
+use Rattle.conn_scan.proofs.WalkLemmas.{block_walked}
 use Rattle.conn_scan.proofs.WalkLemmas.{idle_at, walked-idle, walked-from, walked-none}
 use Rattle.conn_scan.proofs.SumLemmas.{little-append, sum_roomy}
 use Rattle.conn_scan.proofs.sums.block_sum.Goals as goal
