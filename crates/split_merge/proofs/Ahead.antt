@@ -9,7 +9,7 @@ use Rattle.split_merge.proofs.Terms.{with_next, AreAhead, ◌^◌, All-filter, c
 use Rattle.split_merge.proofs.Terms.{IsHushed}
 use Rattle.settings_pair.specs.code.Changes.{AreOrderly, AreAcknowledged}
 use Rattle.stream_credit.specs.code.QuietStream.{IsAheadIfQuiet}
-use Rattle.split_merge.proofs.NamedStreams.{above-at, not_among-at, not_among-front, not_among-push, one_index}
+use Rattle.split_merge.proofs.Visited.{above-at, not_among-at, not_among-front, not_among-push, one_index}
 use Rattle.split_merge.proofs.Positions.{promised-is}
 
 -- ---- the frames of one stream

@@ -1,14 +1,20 @@
--- The ranges of rows, one after the other, and what they hold as positions come in.
+-- The ranges of rows, one after the other, and what they hold as the positions of frames come in.
 use Rattle.split_merge.proofs.Terms.{◌≡◌, ◌≢◌, ℕ, zero, suc, ◌+◌, ◌-◌, ◌<◌, ◌≤◌, ◌==◌, ◌⊎◌, inl, inr, List, [], ◌∷◌}
 use Rattle.split_merge.proofs.Terms.{◌++◌, length, get_or, slice_get, set, take, Some, refl, ap, ◌∙◌, arith}
 use Rattle.split_merge.proofs.Terms.{if◌then◌else◌, between, nat_tests, get_or-set_at, length-append, length-set}
 use Rattle.split_merge.proofs.Terms.{get_or-set_same, get_or-set_other, length-map, get_or-map, length_push}
 use Rattle.split_merge.proofs.Terms.{slice_get_within, StreamRow, Visited, streams_in, row_positions, row_streams}
 use Rattle.split_merge.proofs.Terms.{total_of, laid_out, AreDistinct, HasRoomFor, IsFilled, cases_order, drop-set-lt}
-use Rattle.split_merge.proofs.Terms.{take-set-le, take-set, get_or_default, same_lists, longer, grown}
+use Rattle.split_merge.proofs.Terms.{take-set-le, take-set, get_or_default, same_lists, longer, grown, drop, Option}
+use Rattle.split_merge.proofs.Terms.{MatchOption, sym, append_assoc, append-nil, take_more, length-take-le}
+use Rattle.split_merge.proofs.Terms.{filter-append, Frame, promised_by, noted, notes_from, NotAmong, heard, None}
+use Rattle.split_merge.proofs.Terms.{take-append-drop, HasPlace, IsPut}
 use Rattle.std.proofs.lemmas.List.Edits.{between_more}
 use Rattle.std.proofs.lemmas.Slice.{between_is}
 use Rattle.split_merge.proofs.Visited.{noted_positions-append, positions-push}
+use Rattle.split_merge.proofs.Positions.{notes-append, notes-push}
+use Rattle.split_merge.proofs.LoudStreams.{heard-none, heard-one}
+use Rattle.split_merge.proofs.Visited.{above-at}
 
 pub length-row_streams : (rows : List StreamRow) → length (row_streams rows) ≡ length rows
 length-row_streams rows = length-map rows (λ (row : StreamRow). row.stream)
@@ -169,3 +175,110 @@ filled-streams empty rows notes positions filled =
     let one = get_or-map (λ (row : StreamRow). row.stream) rows k e d (omega (arith, l, n)) in
     let other = get_or-map (λ (row : StreamRow). row.stream) empty k e d (omega (arith, l, n, long)) in
     grind arith)
+
+-- which row is the stream's, if one is
+abbrev pub IsOf : (stream : ℕ) → List StreamRow → Option ℕ → Type 0
+IsOf stream rows place =
+    MatchOption place (NotAmong stream (row_streams rows)) (λ row. slice_get (row_streams rows) row ≡ Some stream)
+
+-- ---- one position more, if its stream is loud
+
+module _ (empty : List StreamRow) (all came later : List (ℕ × ℕ)) (total : ℕ) (room : HasRoomFor empty all total)
+    (distinct : AreDistinct (row_streams empty)) (zero : NotAmong 0 (row_streams empty)) (stream position : ℕ)
+    (parts : (came ++ heard (row_streams empty) (noted stream position)) ++ later ≡ all)
+    (rows : List StreamRow) (positions : List ℕ) (long : length positions ≡ total)
+    (filled : IsFilled empty came rows positions) where
+  abbrev loud : List ℕ
+  loud = row_streams empty
+
+  one-part : (r : ℕ) → slice_get (row_streams empty) r ≡ Some stream → (came ++ (stream, position) ∷ []) ++ later ≡ all
+  one-part r at = rw (heard-one loud stream position r (above-at loud r stream zero at) at) at parts
+
+  has-place : (o : Option ℕ) → IsOf stream empty o → HasPlace o rows (length positions)
+  has-place None out = tt
+  has-place (Some r) at =
+      let n = length-row_streams empty in (
+        omega (arith, slice_get_within loud r stream at, n, filled.long),
+        place-within empty all came later total room r stream position distinct at (above-at loud r stream zero at)
+            (one-part r at) rows positions long filled,
+      )
+
+  put-filled : (o : Option ℕ) → IsOf stream empty o → (rows' : List StreamRow) (positions' : List ℕ)
+      → IsPut o position rows positions rows' positions'
+      → (length positions' ≡ total)
+      × IsFilled empty (came ++ heard (row_streams empty) (noted stream position)) rows' positions'
+  put-filled None out rows' positions' put =
+      rw (put.0, put.1, heard-none loud stream position out, append-nil) (long, filled)
+  put-filled (Some r) at rows' positions' put =
+      let d : StreamRow = record { stream = 0; from = 0; to = 0 } in
+      let above = above-at loud r stream zero at in
+      let same = put d in
+      rw (same.0, same.1, heard-one loud stream position r above at) (
+        length-set positions (get_or rows r d).to position ∙ long,
+        placed-more empty all came later total room r stream position distinct at above (one-part r at) rows positions
+            long filled d,
+      )
+
+-- ---- the positions of one frame
+
+heard-append : (loud : List ℕ) (xs ys : List (ℕ × ℕ)) → heard loud (xs ++ ys) ≡ heard loud xs ++ heard loud ys
+heard-append _ xs ys = filter-append _ xs ys
+
+module _ {empty : List StreamRow} (frames : List Frame) {total : ℕ}
+    (room : HasRoomFor empty (heard (row_streams empty) (notes_from 0 frames)) total)
+    (distinct : AreDistinct (row_streams empty)) (zero : NotAmong 0 (row_streams empty)) (i at p : ℕ) (frame : Frame)
+    (is : frame ≡ get_or frames i frame) (within : i < length frames) (at_is : at ≡ i) (p_is : p ≡ promised_by frame)
+    {rows : List StreamRow} {positions : List ℕ} (long : length positions ≡ total)
+    (filled : IsFilled empty (heard (row_streams empty) (notes_from 0 (take i frames))) rows positions)
+    (own : Option ℕ) (own_is : IsOf frame.stream empty own) where
+  abbrev notes : List (ℕ × ℕ)
+  notes = notes_from 0 (take i frames)
+
+  -- what is noted up to the frame, and with the frames behind it
+  noted-now : notes_from 0 (take (i + 1) frames) ≡ (notes ++ noted frame.stream at) ++ noted p at
+  noted-now =
+      let n = length-take-le i frames (omega (arith, within)) in
+      rw (take_more frames i frame within, p_is, ← is) (notes-push 0 at (take i frames) frame (omega (arith, n, at_is)))
+
+  abbrev later : List (ℕ × ℕ)
+  later = heard (row_streams empty) (notes_from (0 + length (take (i + 1) frames)) (drop (i + 1) frames))
+
+  heard-now : heard (row_streams empty) (notes_from 0 (take (i + 1) frames))
+      ≡ (heard (row_streams empty) notes ++ heard (row_streams empty) (noted frame.stream at))
+      ++ heard (row_streams empty) (noted p at)
+  heard-now = rw noted-now (simp (heard-append (row_streams empty)))
+
+  second-parts : ((heard (row_streams empty) notes ++ heard (row_streams empty) (noted frame.stream at))
+      ++ heard (row_streams empty) (noted p at)) ++ later ≡ heard (row_streams empty) (notes_from 0 frames)
+  second-parts =
+      rw (← heard-now, ← heard-append (row_streams empty), ← notes-append, take-append-drop) refl
+
+  first-parts : (heard (row_streams empty) notes ++ heard (row_streams empty) (noted frame.stream at))
+      ++ (heard (row_streams empty) (noted p at) ++ later) ≡ heard (row_streams empty) (notes_from 0 frames)
+  first-parts = sym (append_assoc _ (heard (row_streams empty) (noted p at)) later) ∙ second-parts
+
+  pub first-place : HasPlace own rows (length positions)
+  first-place =
+      has-place empty _ _ _ total room distinct zero frame.stream at first-parts rows positions long filled own own_is
+
+  module _ (rows' : List StreamRow) (positions' : List ℕ) (put : IsPut own at rows positions rows' positions') where
+    once : (length positions' ≡ total) × IsFilled empty
+        (heard (row_streams empty) notes ++ heard (row_streams empty) (noted frame.stream at)) rows' positions'
+    once = put-filled empty _ _ _ total room distinct zero frame.stream at first-parts rows positions long filled own
+        own_is rows' positions' put
+
+    pub first-long : length positions' ≡ total
+    first-long = once.0
+
+    module _ (promised : Option ℕ) (promised_is : IsOf p empty promised) where
+      pub second-place : HasPlace promised rows' (length positions')
+      second-place = has-place empty _ _ _ total room distinct zero p at second-parts rows' positions' once.0 once.1
+          promised promised_is
+
+      pub frame-placed : (rows'' : List StreamRow) (positions'' : List ℕ)
+          → IsPut promised at rows' positions' rows'' positions''
+          → (length positions'' ≡ total)
+          × IsFilled empty (heard (row_streams empty) (notes_from 0 (take (i + 1) frames))) rows'' positions''
+      frame-placed rows'' positions'' again = rw heard-now
+          (put-filled empty _ _ _ total room distinct zero p at second-parts rows' positions' once.0 once.1 promised
+          promised_is rows'' positions'' again)

@@ -1,12 +1,13 @@
 -- The loud streams among all: which they are, where they stand, what they count, and what is noted of them.
-use Rattle.split_merge.proofs.Terms.{◌≡◌, ◌≢◌, ℕ, zero, suc, ◌+◌, ◌-◌, ◌<◌, ◌≤◌, ◌==◌, not, Bool, true, false}
-use Rattle.split_merge.proofs.Terms.{if◌then◌else◌, List, [], ◌∷◌, ◌++◌, length, get_or, slice_get, drop, filter}
-use Rattle.split_merge.proofs.Terms.{flat_map, Option, Some, MatchOption, option_to_list, refl, ◌∙◌, arith}
-use Rattle.split_merge.proofs.Terms.{append_assoc, nat_tests, drop_more, get_or_from_slice_get, slice_get_within}
-use Rattle.split_merge.proofs.Terms.{QuietStream, Visited, streams_in, noted, noted_positions, total_of, is_among}
-use Rattle.split_merge.proofs.Terms.{NotAmong, AreDistinct, loud_of, places_from, opened_in, quiet_in, heard, ArePlaces}
+use Rattle.split_merge.proofs.Terms.{All, AllByRecursion, All-from_recursion, recursion_from_All, ◌≡◌, ◌≢◌, ℕ, zero}
+use Rattle.split_merge.proofs.Terms.{suc, ◌+◌, ◌-◌, ◌<◌, ◌≤◌, ◌==◌, not, Bool, true, if◌then◌else◌, List, [], ◌∷◌, ◌++◌}
+use Rattle.split_merge.proofs.Terms.{length, get_or, slice_get, drop, filter, flat_map, Option, Some, MatchOption}
+use Rattle.split_merge.proofs.Terms.{option_to_list, refl, ◌∙◌, arith, append_assoc, nat_tests, drop_more}
+use Rattle.split_merge.proofs.Terms.{get_or_from_slice_get, slice_get_within, QuietStream, Visited, streams_in, noted}
+use Rattle.split_merge.proofs.Terms.{noted_positions, total_of, is_among, NotAmong, AreDistinct, loud_of, places_from}
+use Rattle.split_merge.proofs.Terms.{opened_in, quiet_in, heard, ArePlaces}
 use Rattle.stream_credit.specs.code.QuietStream.{opened_of}
-use Rattle.split_merge.proofs.NamedStreams.{none_among, found_among, not_among-at}
+use Rattle.split_merge.proofs.Visited.{none_among, found_among, not_among-at}
 
 -- ---- what holds of all holds of the loud ones
 
@@ -32,19 +33,15 @@ loud-total [] quiets = omega arith
 loud-total (row ∷ rows) [] = omega arith
 loud-total (row ∷ rows) (quiet ∷ quiets) = grind (arith, loud-total rows quiets)
 
-pub loud-each : (P : Visited → Type 0) (rows : List Visited) (quiets : List QuietStream) →
-    ((k : ℕ) (d : Visited) → k < length rows → P (get_or rows k d)) →
-    (k : ℕ) (d : Visited) → k < length (loud_of rows quiets) → P (get_or (loud_of rows quiets) k d)
-loud-each P [] quiets h = λ k d l. absurd (omega (arith, l))
-loud-each P (row ∷ rows) [] h = λ k d l. absurd (omega (arith, l))
-loud-each P (row ∷ rows) (quiet ∷ quiets) h =
-    let rest = loud-each P rows quiets (λ k d l. h (suc k) d (omega (arith, l))) in
-    elim quiet.is_quiet as (λ b. (k : ℕ) (d : Visited)
-    → k < length (if b then loud_of rows quiets else row ∷ loud_of rows quiets) →
-    P (get_or (if b then loud_of rows quiets else row ∷ loud_of rows quiets) k d)) [
-      | true ↦ rest
-      | false ↦ elim [ zero ↦ λ d l. h zero row (omega arith) | suc k ↦ λ d l. rest k d (omega (arith, l)) ]
-    ]
+loud-all : (P : Visited → Type 0) (rows : List Visited) (quiets : List QuietStream) → AllByRecursion P rows
+    → AllByRecursion P (loud_of rows quiets)
+loud-all P [] quiets h = tt
+loud-all P (row ∷ rows) [] h = tt
+loud-all P (row ∷ rows) (quiet ∷ quiets) h = grind (arith, loud-all P rows quiets h.1)
+
+pub loud-each : (P : Visited → Type 0) (rows : List Visited) (quiets : List QuietStream) → All P rows
+    → All P (loud_of rows quiets)
+loud-each P rows quiets h = All-from_recursion P _ (loud-all P rows quiets (recursion_from_All P rows h))
 
 -- ---- one row more
 

@@ -4,8 +4,7 @@ use Rattle.split_merge.proofs.Terms.{◌++◌, length, slice_get, Some, refl, ap
 use Rattle.split_merge.proofs.Terms.{append-nil, length_push, Frame, promised_by, meets, frames_of, positions_of, noted}
 use Rattle.split_merge.proofs.Terms.{notes_from, noted_positions, AllByRecursion, All-from_recursion, promises}
 use Rattle.split_merge.proofs.Terms.{positions_from, frames_at}
-use Rattle.split_merge.proofs.NamedStreams.{slice_get-last}
-use Rattle.split_merge.proofs.Visited.{noted_positions-append}
+use Rattle.split_merge.proofs.Visited.{slice_get-last, noted_positions-append}
 
 -- ---- a stream other than 0
 

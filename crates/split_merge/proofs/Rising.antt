@@ -12,16 +12,13 @@ use Rattle.std.specs.List.Sorted.{IsNonDecreasingBy, IsPartitionPoint}
 use Rattle.std.specs.Ordering.{nat_cmp, ordering_index}
 use Rattle.std.specs.declared.cmp.Ordering.TheVariants.{Less, Equal, Greater}
 use Rattle.indexmap.specs.IndexSet.{insert_key}
-use Rattle.split_merge.proofs.NamedStreams.{absent-by_index, distinct-push, found-passes, length-streams_in, none-from_test}
-use Rattle.split_merge.proofs.NamedStreams.{not_among-at, not_among-push, row-at, stream-at}
+use Rattle.split_merge.proofs.Visited.{absent-by_index, distinct-push, found-passes, length-streams_in, none-from_test}
+use Rattle.split_merge.proofs.Visited.{not_among-at, not_among-push, stream-at}
 
 -- ---- at the front
 
 ranks_rise : (a b n : ℕ) → a ≤ b → ordering_index (nat_cmp a n) ≤ ordering_index (nat_cmp b n)
 ranks_rise a b n le = grind (arith, common_steps)
-
-equal_streams : (a n : ℕ) → nat_cmp a n ≡ Equal → a ≡ n
-equal_streams a n e = grind (arith, common_steps)
 
 module _ (rows : List Visited) (many : ℕ) (m : many ≤ length rows) where
   front-stream : (i : ℕ) (d : Visited) → i < many
@@ -35,9 +32,10 @@ module _ (rows : List Visited) (many : ℕ) (m : many ≤ length rows) where
   row-from_front i stream l at =
       let d : Visited = record { stream = 0; count = 0 } in
       let n = length-take-le many rows m in
-      row-at rows i d (omega (arith, l, n, m))
-      ∙ ap Some (sym (ap (λ (row : Visited). row.stream) (get_or-take many rows i d (omega (arith, l, n))))
-      ∙ equal_streams _ _ (at d))
+      let is = front-stream i d (omega (arith, l, n)) in
+      let equal = at d in
+      slice_get-get_or (streams_in rows) i 0 (omega (arith, l, n, m, length-streams_in rows))
+      ∙ ap Some (grind (arith, common_steps))
 
   module _ (rises : (i j : ℕ) → i < j → j < many → get_or (streams_in rows) i 0 < get_or (streams_in rows) j 0) where
     streams-rise : (i j : ℕ) (d : Visited) → i ≤ j → j < many
@@ -117,9 +115,9 @@ module _ (streams : List ℕ) (before after : RowIndex) (is : IsIndex streams be
   index-alike e f = record {
     distinct = is.distinct;
     above = is.above;
-    within = omega (arith, e, is.within);
-    rises = λ i j p l. is.rises i j p (omega (arith, l, e));
-    others = f ∙ is.others ∙ ap (λ n. drop n streams) (sym e);
+    within = rw e is.within;
+    rises = rw e is.rises;
+    others = rw (e, f) is.others;
   }
 
   module _ (stream : ℕ) (above : stream ≢ 0) (new : NotAmong stream streams) where
@@ -199,9 +197,3 @@ pub row-above : (streams : List ℕ) (before after : RowIndex) → IsIndex strea
 row-above streams before after is stream row above all below e keys at =
     let new = absent-by_index stream streams (λ i l s. let b = below i l in absurd (omega (arith, b, s))) in
     (at, new, index-front streams before after is stream above new e all below keys)
-
--- which of both is told
-pub row-told : (is_new told : Bool) (stream row : ℕ) (rows seen : List Visited) (index : RowIndex) → seen ≡ rows
-    → is_new ≡ told → IsRowOf is_new stream row (streams_in seen) index
-    → IsRowOf told stream row (streams_in rows) index
-row-told is_new told stream row rows seen index e f h = rw (← e, ← f) h

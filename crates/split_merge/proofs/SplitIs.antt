@@ -6,7 +6,7 @@ use Rattle.split_merge.proofs.Terms.{StreamRow, Visited, SplitFrames, positions_
 use Rattle.split_merge.proofs.Terms.{noted_positions, laid_out, is_among, NotAmong, AreDistinct, IsListed, loud_of}
 use Rattle.split_merge.proofs.Terms.{opened_in, quiet_in, heard, stream_run, IsRange, IsPartOf, IsSplit, part_of}
 use Rattle.split_merge.proofs.Terms.{opening_of, AreHushed, AreCounted, IsLaid}
-use Rattle.split_merge.proofs.NamedStreams.{length-streams_in, found_among, not_among-at, stream-at}
+use Rattle.split_merge.proofs.Visited.{length-streams_in, found_among, not_among-at, stream-at}
 use Rattle.split_merge.proofs.Positions.{noted-positions, frames_at-positions, positions-within}
 use Rattle.split_merge.proofs.LaidOut.{laid-streams, length-row_streams, room-laid, filled-streams}
 use Rattle.split_merge.proofs.LoudStreams.{loud-streams, loud-not_among, loud-each, loud-filter, opened-filter}

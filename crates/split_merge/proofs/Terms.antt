@@ -14,6 +14,7 @@ pub use Rattle.std.proofs.lemmas.List.{length-map, length-set, length-take-le, l
 pub use Rattle.std.proofs.lemmas.List.{places, same_lists, take-append-drop, take-set, take-set-le, take_all, take_more}
 pub use Rattle.std.proofs.lemmas.List.{with_items_is}
 pub use Rattle.std.proofs.lemmas.List.Elements.{All-filter, All-from_recursion, filter-append, filter_agree}
+pub use Rattle.std.proofs.lemmas.List.Elements.{recursion_from_All}
 pub use Rattle.std.proofs.lemmas.Option.{get_or_from_slice_get, slice_get-get_or, slice_get-map, slice_get_within}
 pub use Rattle.std.specs.List.{All, AllByRecursion, between, find, position_or_len, range_with_len}
 pub use Rattle.audit_terms.specs.Finding.{comes_after, in_order, is_shown, shown, upto_stop}

@@ -1,5 +1,5 @@
 use Rattle.split_merge.proofs.Terms.{◌≡◌, length, refl, sym, ap, ◌∙◌, arith, streams_in, total_of, with_items_is}
-use Rattle.split_merge.proofs.NamedStreams.{length-streams_in}
+use Rattle.split_merge.proofs.Visited.{length-streams_in}
 use Rattle.split_merge.proofs.LaidOut.{laid-streams, room-laid}
 use Rattle.split_merge.proofs.LoudStreams.{loud-streams, loud-distinct, loud-total, are-places}
 use Rattle.split_merge.proofs.SplitIs.{loud-counted}

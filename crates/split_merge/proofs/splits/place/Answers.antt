@@ -1,5 +1,5 @@
 use Rattle.split_merge.proofs.Terms.{refl, ◌∙◌, arith}
-use Rattle.split_merge.proofs.Placed.{first-place, first-long, second-place, frame-placed}
+use Rattle.split_merge.proofs.LaidOut.{first-place, first-long, second-place, frame-placed}
 use Rattle.split_merge.proofs.splits.place.Goals as goal
 
 pub put_visit-requires-clause-place : goal.put_visit-requires-clause-place

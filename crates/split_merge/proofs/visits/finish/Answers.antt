@@ -1,5 +1,5 @@
 use Rattle.split_merge.proofs.Terms.{get_or, arith, slice_get_within, frames_of, Visited, streams_in}
-use Rattle.split_merge.proofs.NamedStreams.{length-streams_in, row-at}
+use Rattle.split_merge.proofs.Visited.{length-streams_in, row-at}
 use Rattle.split_merge.proofs.Ahead.{ended-more}
 use Rattle.split_merge.proofs.visits.finish.Goals as goal
 

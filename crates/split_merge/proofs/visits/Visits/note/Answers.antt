@@ -1,7 +1,7 @@
 use Rattle.split_merge.proofs.Terms.{length, ap, ◌∙◌, arith, length-set, slice_get_within, frames_of, streams_in}
 use Rattle.split_merge.proofs.Terms.{counted, total_of, with_next}
-use Rattle.split_merge.proofs.NamedStreams.{length-streams_in}
-use Rattle.split_merge.proofs.Visited.{named-row, noted-listed, streams-counted, total-counted, total-row}
+use Rattle.split_merge.proofs.Visited.{length-streams_in, named-row, noted-listed, streams-counted, total-counted}
+use Rattle.split_merge.proofs.Visited.{total-row}
 use Rattle.split_merge.proofs.Ahead.{ahead-zero, ahead-next, ahead-met}
 use Rattle.split_merge.proofs.visits.Visits.note.Goals as goal
 

@@ -1,7 +1,7 @@
 use Rattle.split_merge.proofs.Terms.{◌+◌, ◌*◌, ◌++◌, [], drop, take, refl, sym, ◌∙◌, arith, append-nil, take_more}
 use Rattle.split_merge.proofs.Terms.{drop_more, length-take-le, promised_by, first_of, streams_of, IsInRange, frames_of}
 use Rattle.split_merge.proofs.Terms.{streams_in, with_stream, with_next, at_drop_all, take_all}
-use Rattle.split_merge.proofs.NamedStreams.{without, named-more, named-first}
+use Rattle.split_merge.proofs.Visited.{at-most, without, named-more, named-first}
 use Rattle.split_merge.proofs.Positions.{notes-push}
 use Rattle.split_merge.proofs.Ahead.{ahead-none, ahead-frame, ahead-alike, promised-small, in_range_at}
 use Rattle.split_merge.proofs.visits.Visits.of.Goals as goal
@@ -26,10 +26,7 @@ loop-frame-init c =
 
 pub note-requires-clause-room : goal.note-requires-clause-room
 note-requires-clause-room c =
-    let room = c.loop-frame.invariant.room in
-    let within = c.loop-frame-test.true in
-    let short = c.requires.length in
-    record { rows = omega (arith, room.rows, within, short); visits = omega (arith, room.visits, within, short) }
+    at-most c.loop-frame.invariant.room (omega (arith, c.loop-frame-test.true, c.requires.length))
 
 pub note-requires-clause-streamed : goal.note-requires-clause-streamed
 note-requires-clause-streamed c =
@@ -53,10 +50,8 @@ note-requires-in-loop-frame-clause-index c =
 
 pub note-requires-in-loop-frame-clause-room : goal.note-requires-in-loop-frame-clause-room
 note-requires-in-loop-frame-clause-room c =
-    let h = c.in_ok-note.ensures.room (2 * c.loop-frame.frame-index) c.loop-frame.invariant.room in
-    let l = c.loop-frame-test.true in
-    let short = c.requires.length in
-    record { rows = omega (arith, h.rows, l, short); visits = omega (arith, h.visits, l, short) }
+    at-most (c.in_ok-note.ensures.room (2 * c.loop-frame.frame-index) c.loop-frame.invariant.room)
+    (omega (arith, c.loop-frame-test.true, c.requires.length))
 
 pub note-requires-in-loop-frame-clause-streamed : goal.note-requires-in-loop-frame-clause-streamed
 note-requires-in-loop-frame-clause-streamed c =
@@ -86,7 +81,6 @@ loop-frame-preserved c =
     let first = c.in_ok-note.ensures in
     let second = c.in_ok-note-2.ensures in
     let once = first.room (2 * i) was.room in
-    let twice = second.room (2 * i + 1) once in
     record {
       table = rw (
         take_more frames i frame within,
@@ -98,7 +92,7 @@ loop-frame-preserved c =
           (named-more (promised_by frame) (with_stream frame.stream seen) rest
           ∙ named-more frame.stream seen (first_of (promised_by frame) rest)
           ∙ (rw (drop_more frames i frame within, ← c.frame-item.is) at was.named));
-      room = record { rows = omega (arith, twice.rows); visits = omega (arith, twice.visits) };
+      room = at-most (second.room (2 * i + 1) once) (omega arith);
       ahead = second.ahead frames (λ s. frames_of s (drop (i + 1) frames)) (rw c.promised_by.ensures
           (first.ahead frames _ (ahead-frame c.args.changes.now frames i frame seen c.loop-frame.table.quiets.items
           within c.frame-item.is was.ahead)));
@@ -117,10 +111,7 @@ returns-clause-table c =
     rw (take_all c.loop-frame.frame-index c.args.frames.now c.loop-frame-test.false) at c.loop-frame.invariant.table
 
 pub returns-clause-room : goal.returns-clause-room
-returns-clause-room c =
-    let room = c.loop-frame.invariant.room in
-    let within = c.loop-frame.auto.frame-index-end in
-    record { rows = omega (arith, room.rows, within); visits = omega (arith, room.visits, within) }
+returns-clause-room c = at-most c.loop-frame.invariant.room (omega (arith, c.loop-frame.auto.frame-index-end))
 
 pub returns-clause-ahead : goal.returns-clause-ahead
 returns-clause-ahead c =

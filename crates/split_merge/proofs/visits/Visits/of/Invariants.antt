@@ -1,6 +1,6 @@
 use Rattle.split_merge.proofs.Terms.{◌≡◌, ◌*◌, ◌++◌, drop, take, streams_of, frames_of, streams_in, notes_from}
 use Rattle.split_merge.proofs.Terms.{AreAhead, IsTableOf, HasAtMost}
-use Rattle.split_merge.proofs.NamedStreams.{without}
+use Rattle.split_merge.proofs.Visited.{without}
 use Rattle.split_merge.proofs.visits.Visits.of.Given as goal
 
 abbrev pub invariant-loop-frame : goal.invariant-loop-frame

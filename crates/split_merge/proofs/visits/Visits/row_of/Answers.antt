@@ -1,6 +1,5 @@
 use Rattle.split_merge.proofs.Terms.{streams_in}
-use Rattle.split_merge.proofs.NamedStreams.{found_among}
-use Rattle.split_merge.proofs.Visited.{with_row-seen}
+use Rattle.split_merge.proofs.Visited.{found_among, with_row-seen}
 use Rattle.split_merge.proofs.visits.Visits.row_of.Goals as goal
 
 pub returns-then-is_row_of-clause-rows : goal.returns-then-is_row_of-clause-rows
