@@ -1,12 +1,13 @@
 -- The plain fold over two lists, one after the other, and over blocks.
 use Rattle.std.proofs.Common.{◌≡◌, ◌+◌, ◌-◌, ◌<◌, ℕ, suc, List, [], ◌∷◌, ◌++◌, map, length, get_or, take, drop}
-use Rattle.std.proofs.Common.{drop-cons, drop-drop, get_or-drop, take-append-drop, Option, Some, None, Bor, refl, sym}
-use Rattle.std.proofs.Common.{ap, ◌∙◌, append_assoc, arith}
-use Rattle.std.specs.Prelude.{slice_get, unwrap_or, Result, Ok, Err, IfOk, MatchResult, Contains}
+use Rattle.std.proofs.Common.{drop-drop, get_or-drop, take-append-drop, Option, Some, None, Bor, refl, sym, ap, ◌∙◌}
+use Rattle.std.proofs.Common.{append_assoc, arith}
 use Rattle.std.specs.List.{AllZip, range_with_len}
-use Rattle.std.specs.Option.{option_copied}
 use Rattle.block_scan.specs.code.Shown.{append_nil}
 use Rattle.block_scan.specs.code.List.{items_of, state_after, states_after, states_before}
+use Rattle.std.proofs.lemmas.List.{drop_more}
+use Rattle.std.specs.Prelude.{slice_get, unwrap_or, Result, Ok, Err, IfOk, MatchResult, Contains}
+use Rattle.std.specs.Option.{option_copied}
 
 module _ {State Item : Type 0} (step : State → Item → State) where
   pub states_after-append : (s : State) (a b : List Item)
@@ -14,17 +15,11 @@ module _ {State Item : Type 0} (step : State → Item → State) where
   states_after-append s [] b = refl
   states_after-append s (x ∷ a) b = ap (λ l. step s x ∷ l) (states_after-append (step s x) a b)
 
-pub none_left : {X : Type 0} (xs : List X) → length xs ≡ 0 → xs ≡ []
-none_left [] e = refl
-none_left (x ∷ xs) e = absurd (omega (arith, e))
-
 -- one block more
 pub items_of-push-now : {Item : Type 0} (blocks : List (Bor (List Item))) (block : Bor (List Item))
     → items_of (map (λ b. b.now) (blocks ++ block ∷ [])) ≡ items_of (map (λ b. b.now) blocks) ++ block.now
 items_of-push-now [] block = append_nil block.now
-items_of-push-now (b ∷ blocks) block =
-    ap (λ l. b.now ++ l) (items_of-push-now blocks block)
-    ∙ sym (append_assoc b.now (items_of (map (λ b. b.now) blocks)) block.now)
+items_of-push-now (b ∷ blocks) block = rw (items_of-push-now blocks block, append_assoc) refl
 
 module _ {State Item : Type 0} (step : State → Item → State) where
   length-states_after : (s : State) (a : List Item) → length (states_after step s a) ≡ length a
@@ -53,13 +48,11 @@ module _ {State Item : Type 0} (step : State → Item → State) where
 -- the rest of a list from a place within it
 pub drop_next : {X : Type 0} (xs : List X) (i : ℕ) (x : X) → i < length xs → x ≡ get_or xs i x
     → drop i xs ≡ x ∷ drop (i + 1) xs
-drop_next xs i x lt read =
-    let next : suc i ≡ i + 1 = omega arith in
-    drop-cons xs i x lt ∙ ap (λ y. y ∷ drop (suc i) xs) (sym read) ∙ ap (λ n. x ∷ drop n xs) next
+drop_next xs i x lt read = rw (drop_more xs i x lt, ← read) refl
 
 -- a list cut in two
 pub halves : {X : Type 0} (n : ℕ) (xs a b : List X) → a ≡ take n xs → b ≡ drop n xs → a ++ b ≡ xs
-halves n xs a b front back = ap (λ l. l ++ b) front ∙ ap (λ l. take n xs ++ l) back ∙ take-append-drop n xs
+halves n xs a b front back = rw (front, back) (take-append-drop n xs)
 
 pub map-now : {A B : Type 0} (f : A → B) (xs : List (Bor A)) → map (λ x. f x.now) xs ≡ map f (map (λ x. x.now) xs)
 map-now f [] = refl
@@ -86,20 +79,14 @@ module _ {State Item Part : Type 0} (Fault : Type 0) (step : State → Item → 
   parts_joined k start [] (p ∷ parts) c e h = absurd h
   parts_joined k start (b ∷ blocks) [] c e h = absurd h
   parts_joined k start (b ∷ blocks) (p ∷ parts) c e h =
-      let after = state_after step start b.now in
-      let same : k + 0 ≡ k = omega arith in
-      let carry : get_or carries k start ≡ start =
-      ap (λ n. get_or carries n start) (sym same) ∙ sym (get_or-drop k carries 0 start)
-      ∙ ap (λ l. get_or l 0 start) c in
-      let block : get_or all k b ≡ b = ap (λ n. get_or all n b) (sym same) ∙ sym (get_or-drop k all 0 b)
-      ∙ ap (λ l. get_or l 0 b) e in
-      let part : items p ≡ states_after step start b.now =
-      h.0 start b ∙ ap (λ s. states_after step s (get_or all k b).now) carry
-      ∙ ap (λ x. states_after step start x.now) block in
-      let rest = parts_joined (k + 1) after blocks parts (sym (drop-drop 1 k carries) ∙ ap (drop 1) c)
-      (sym (drop-drop 1 k all) ∙ ap (drop 1) e) h.1 in
-      ap (λ l. l ++ items_of (map items parts)) part ∙ ap (λ l. states_after step start b.now ++ l) rest
-      ∙ sym (states_after-append step start b.now (items_of (map (λ b. b.now) blocks)))
+      let carry : get_or carries k start ≡ start = let at = get_or-drop k carries 0 start in grind arith in
+      let block : get_or all k b ≡ b = let at = get_or-drop k all 0 b in grind arith in
+      rw (
+        states_after-append step start b.now (items_of (map (λ b. b.now) blocks)),
+        ← rw (carry, block) at (h.0 start b),
+        ← parts_joined (k + 1) (state_after step start b.now) blocks parts (rw c at (sym (drop-drop 1 k carries)))
+            (rw e at (sym (drop-drop 1 k all))) h.1,
+      ) refl
 
 -- what a list of results is, where it was collected into a list of values
 pub collected : {Values Value Fault : Type 0} (items : Values → List Value) (r : Result Values Fault)

@@ -1,9 +1,7 @@
 -- Where the items of all blocks fit, each block fits the connection before it.
-use Rattle.std.proofs.Common.{[], ◌∷◌}
-use Rattle.audit_terms.specs.code.runs.Blocks.{connection_after_all}
+use Rattle.conn_scan.proofs.Terms.{[], ◌∷◌, connection_after_all, first_fit, rest_fit}
 use Rattle.block_scan.specs.code.List.{items_of}
 use Rattle.conn_scan.specs.laws.Blocks.{BlocksFit}
-use Rattle.conn_scan.specs.code.FitLaws.{first_fit, rest_fit}
 
 pub blocks_fit : BlocksFit
 blocks_fit now [] fits little = tt

@@ -1,29 +1,63 @@
 -- A block's run between two items, and how it goes on.
-use Rattle.std.proofs.Common.{◌≡◌, ℕ, ◌+◌, ◌-◌, ◌*◌, ◌^◌, ◌≤◌, Bool, List, [], ◌∷◌, ◌++◌, append_assoc, length, map}
-use Rattle.std.proofs.Common.{All, Option, Some, None, refl, sym, ap, ◌∙◌, subst, arith, length-append}
-use Rattle.std.specs.List.{AllByRecursion}
-use Rattle.std.proofs.lemmas.List.Elements.{All-from_recursion}
-use Rattle.audit_terms.specs.declared.connections.ConnectionState.{ConnectionState}
-use Rattle.audit_terms.specs.declared.findings.Finding.{Finding}
-use Rattle.audit_terms.specs.declared.frames.Frame.{Frame}
-use Rattle.audit_terms.specs.declared.items.Change.{Change}
-use Rattle.audit_terms.specs.declared.items.Item.{Item}
-use Rattle.audit_terms.specs.declared.looks.Watch.{Watch}
-use Rattle.audit_terms.specs.Connection.{connection_said, connection_after}
-use Rattle.audit_terms.specs.code.runs.Blocks.{block_run}
-use Rattle.audit_terms.specs.Finding.{in_order, is_shown, shown}
-use Rattle.audit_terms.specs.code.runs.Orderly.{IsOrderlyFrom}
-use Rattle.audit_terms.specs.code.runs.Look.{found_before, up_to, steps_between, IsRun}
+use Rattle.conn_scan.proofs.Terms.{◌≡◌, ℕ, ◌+◌, ◌-◌, ◌*◌, ◌^◌, ◌≤◌, Bool, List, [], ◌∷◌, ◌++◌, append_assoc, length}
+use Rattle.conn_scan.proofs.Terms.{map, All, Option, Some, None, refl, sym, ap, ◌∙◌, subst, arith, length-append}
+use Rattle.conn_scan.proofs.Terms.{AllByRecursion, ConnectionState, Finding, Frame, Change, Item, connection_said}
+use Rattle.conn_scan.proofs.Terms.{connection_after, block_run, in_order, is_shown, shown, IsOrderlyFrom, Watches}
+use Rattle.conn_scan.proofs.Terms.{IsStopped, NeverFallFrom, append_nil, Block, items_with, items_in, IsBlock}
+use Rattle.conn_scan.proofs.Terms.{each-append, each-filter, each-weaker, IsInRange, each-in_order, HasRoom, BlockFits}
+use Rattle.conn_scan.proofs.Terms.{room-wider}
 use Rattle.audit_terms.specs.Place.{place_number}
-use Rattle.audit_terms.specs.code.Watch.{Watches, IsStopped, NeverFallFrom}
+use Rattle.audit_terms.proofs.SaidPlaces.{IsBelow, before-front, IsFrom, at-connection, numbered-at}
+use Rattle.std.proofs.lemmas.List.Elements.{All-from_recursion, filter-append}
+use Rattle.audit_terms.specs.declared.looks.Watch.{Watch}
+use Rattle.audit_terms.specs.code.runs.Look.{found_before, up_to, steps_between, IsRun}
 use Rattle.audit_terms.proofs.Watching.{ends, is-cut}
-use Rattle.block_scan.specs.code.Shown.{append_nil}
-use Rattle.conn_scan.specs.declared.block_items.Block.{Block}
-use Rattle.conn_scan.specs.code.Items.{items_with, items_in, IsBlock}
-use Rattle.conn_scan.proofs.BlockLemmas.{shown_next}
-use Rattle.audit_terms.proofs.FindingLists.{each-append, each-filter, each-weaker}
-use Rattle.audit_terms.proofs.SaidPlaces.{IsBelow, before-front}
-use Rattle.conn_scan.proofs.FindingPlaces.{frames_of, item-from, block-from}
+
+-- ---- at which frames the findings of items stand
+
+-- what an item shows stands at its frame
+item-at : (now : ConnectionState) (item : Item) → IsInRange item.frame
+    → AllByRecursion (λ (one : Finding). place_number one.place ≡ item.frame.number) (connection_said now item)
+item-at now item range = numbered-at item.frame.number (connection_said now item) (at-connection now item range)
+
+abbrev frames_of : List Item → List Frame
+frames_of items = map (λ (item : Item). item.frame) items
+
+-- what an item shows stands from its number on, and below the next
+item-from : (now : ConnectionState) (item : Item) → IsInRange item.frame
+    → AllByRecursion (IsBelow (item.frame.number + 1)) (in_order (connection_said now item))
+item-from now item range =
+    each-in_order (IsBelow (item.frame.number + 1)) (connection_said now item)
+    (each-weaker (λ (one : Finding). place_number one.place ≡ item.frame.number) (IsBelow (item.frame.number + 1))
+    (λ found at. omega arith) (connection_said now item) (item-at now item range))
+
+-- what items show, whose frames are numbered `low` or above, stands from `low` on
+block-from : (low : ℕ) (now : ConnectionState) (items : List Item) → IsOrderlyFrom low (frames_of items)
+    → AllByRecursion (IsFrom low) (block_run now items)
+block-from low now [] h = tt
+block-from low now (item ∷ items) h =
+    let first = h.0 in
+    each-append (IsFrom low) (in_order (connection_said now item)) (block_run (connection_after now item) items)
+    (each-in_order (IsFrom low) (connection_said now item)
+    (each-weaker (λ (one : Finding). place_number one.place ≡ item.frame.number) (IsFrom low) (λ found at. omega arith)
+    (connection_said now item) (item-at now item h.1)))
+    (each-weaker (IsFrom (item.frame.number + 1)) (IsFrom low) (λ found from. omega arith)
+    (block_run (connection_after now item) items)
+    (block-from (item.frame.number + 1) (connection_after now item) items h.2))
+
+-- ---- between two items
+
+-- the items that are left fit the connection after the first of them
+pub fits_next : (now next : ConnectionState) (item : Item) (rest : List Item) → BlockFits now (item ∷ rest)
+    → ((n : ℕ) → HasRoom n now.credit.client → HasRoom (n + 2 ^ 32) next.credit.client)
+    → ((n : ℕ) → HasRoom n now.credit.server → HasRoom (n + 2 ^ 32) next.credit.server) → BlockFits next rest
+fits_next now next item rest fits client server =
+    let number = fits.number in
+    record {
+      number = omega arith;
+      client = room-wider _ _ next.credit.client (omega arith) (client _ fits.client);
+      server = room-wider _ _ next.credit.server (omega arith) (server _ fits.server);
+    }
 
 abbrev pub numbers_of : List Frame → List ℕ
 numbers_of frames = map (λ (frame : Frame). frame.number) frames
@@ -120,7 +154,11 @@ module _ {L : Type 0} (answers : L → List Finding → Option ℕ → L → Typ
           few = omega arith;
           narrow = omega arith;
           orderly = h.orderly.2;
-          said = shown_next credits whole state next item left found new said h.said later here added;
+          said =
+              let own = in_order (connection_said state item) in
+              let rest = block_run (connection_after state item) left in
+              rw (h.said, added, here, later) (ap (λ l. found ++ l) (filter-append (is_shown credits) own rest)
+              ∙ sym (append_assoc found (shown credits own) (shown credits rest)));
           below = subst (AllByRecursion (IsBelow (item.frame.number + 1)))
               (sym (added ∙ ap (λ l. found ++ l) here))
               (each-append _ found (shown credits (in_order (connection_said state item)))

@@ -1,34 +1,21 @@
 -- A clear block shows connection credit alone.
-use Rattle.std.proofs.Common.{◌≡◌, ℕ, ◌<◌, ◌≤◌, ℤ, pos, ◌+ℤ◌, ◌-ℤ◌, ◌<ℤ◌, int_lt, int_le, nat_lt, nat_le, Bool}
-use Rattle.std.proofs.Common.{true, false, ◌&&◌, not, cond, if◌then◌else◌, List, [], ◌∷◌, ◌++◌, refl, ap, ◌∙◌}
-use Rattle.std.proofs.Common.{arith, true≢false, ⊎_elim}
-use Rattle.std.specs.List.{AllByRecursion, list_all}
-use Rattle.std.proofs.lemmas.Int.{ints}
-use Rattle.std.proofs.lemmas.Bool.{and_parts, or_parts, not-true, le-ltb, leb-true, cases_lt, and_left, and_right}
-use Rattle.audit_terms.specs.declared.sides.Side.{Side}
-use Rattle.audit_terms.specs.declared.sides.Side.TheVariants.{Client, Server}
-use Rattle.audit_terms.specs.declared.connections.ConnectionState.{ConnectionState}
-use Rattle.audit_terms.specs.declared.items.Item.{Item}
-use Rattle.audit_terms.specs.declared.frames.Frame.{Frame}
-use Rattle.audit_terms.specs.declared.findings.Finding.{Finding}
+use Rattle.conn_scan.proofs.Terms.{◌||◌, ◌%◌, ◌==◌, is_server_promise, promised_in, is_opened_by_headers, nat_lt, ◌≡◌}
+use Rattle.conn_scan.proofs.Terms.{ℕ, ◌<◌, ◌≤◌, ℤ, pos, ◌+ℤ◌, ◌-ℤ◌, ◌<ℤ◌, int_lt, nat_le, Bool, true, false, ◌&&◌, not}
+use Rattle.conn_scan.proofs.Terms.{cond, if◌then◌else◌, List, [], ◌∷◌, ◌++◌, refl, ap, ◌∙◌, arith, AllByRecursion}
+use Rattle.conn_scan.proofs.Terms.{list_all, ints, nat_tests, Side, Client, Server, ConnectionState, Item, Frame}
+use Rattle.conn_scan.proofs.Terms.{Finding, largest_window, is_used_up, overflows, overruns, new_limit, say, in_order}
+use Rattle.conn_scan.proofs.Terms.{shown, credit_after, connection_window_said, connection_said, connection_after}
+use Rattle.conn_scan.proofs.Terms.{block_run, each-append, each-in_order, each-said, length_by, longest_by, connections}
+use Rattle.conn_scan.proofs.Terms.{is_usable, keeps_credit, grants_something, openings_rise, promises_allowed}
+use Rattle.conn_scan.proofs.Terms.{promises_rise, not_above, is_content, content_by, grant_to, grants_nothing}
+use Rattle.conn_scan.proofs.Terms.{increment}
+use Rattle.std.proofs.lemmas.Bool.{and_parts, or_parts, not-true, and_left, and_right}
 use Rattle.audit_terms.specs.declared.kinds.Kind.{Kind}
 use Rattle.audit_terms.specs.declared.kinds.Kind.TheVariants.{ConnectionCredit}
 use Rattle.audit_terms.specs.Kind.{is_credit}
 use Rattle.audit_terms.specs.Side.{other, is_side}
 use Rattle.audit_terms.specs.Sides.{side_of}
-use Rattle.audit_terms.specs.Frame.{is_content, content_by, grant_to, grants_nothing, increment}
-use Rattle.audit_terms.specs.Window.{largest_window, is_used_up, overflows, overruns, stall_ends, stall_begins}
-use Rattle.audit_terms.specs.Change.{new_limit}
-use Rattle.audit_terms.specs.Finding.{say, in_order, shown}
-use Rattle.audit_terms.specs.Connection.{credit_after, length_said, connection_window_said, connection_said}
-use Rattle.audit_terms.specs.Connection.{connection_after}
-use Rattle.audit_terms.specs.code.runs.Blocks.{block_run}
-use Rattle.audit_terms.proofs.FindingLists.{each-append, each-in_order, each-said}
-use Rattle.conn_scan.specs.code.Latest.{length_by, longest_by}
-use Rattle.conn_scan.specs.code.Clear.{connections, is_usable, keeps_credit, grants_something, openings_rise}
-use Rattle.conn_scan.specs.code.Clear.{promises_allowed, promises_rise}
 use Rattle.conn_scan.specs.laws.Clear.{ClearShowsCredit}
-use Rattle.conn_scan.specs.code.CreditLaws.{not_above}
 use Rattle.conn_scan.proofs.ClearLemmas.{not_most, usable_parts}
 
 abbrev IsCredit : Finding → Type 0
@@ -44,10 +31,6 @@ both_only = each-append IsCredit
 
 ordered_only : (a : List Finding) → Only a → Only (in_order a)
 ordered_only = each-in_order IsCredit
-
-none_said : (b : Bool) (found : Finding) → b ≡ false → Only (say b found)
-none_said true found e = absurd (true≢false e)
-none_said false found e = tt
 
 credit_said : (b : Bool) (found : Finding) → IsCredit found → Only (say b found)
 credit_said = each-said IsCredit
@@ -70,12 +53,7 @@ no_grant Server Server b c length amount h = refl
 
 no_overrun : (before : ℤ) (grant content : ℕ) → (0 < content → grant ≡ 0)
     → pos 0 <ℤ (before +ℤ (pos grant -ℤ pos content)) → overruns before content ≡ false
-no_overrun before grant content none left = ⊎_elim
-    (λ some.
-    let zero = none some in
-    and_right (nat_lt 0 content) (int_lt before (pos content)) (not_above before (pos content) (omega (arith, ints))))
-    (λ empty. and_left (nat_lt 0 content) (int_lt before (pos content)) (le-ltb 0 content empty))
-    (cases_lt 0 content)
+no_overrun before grant content none left = grind (arith, ints, nat_tests)
 
 window_only : (d : Side) (before : ℤ) (frame : Frame) → is_usable before ≡ true
     → is_usable (credit_after d before frame) ≡ true → grants_nothing d 0 frame ≡ false
@@ -83,55 +61,37 @@ window_only : (d : Side) (before : ℤ) (frame : Frame) → is_usable before ≡
 window_only d before frame entry left grants =
     let after = credit_after d before frame in
     let some = (usable_parts before entry).0 in
-    let kept = (usable_parts after left).0 in
-    let most = (usable_parts after left).1 in
-    let full : int_le before (pos 0) ≡ false = not_most before (pos 0) some in
-    let still : int_le after (pos 0) ≡ false = not_most after (pos 0) kept in
-    both_only _ _
-    (both_only _ _
-    (both_only _ _
-    (both_only _ _
-    (both_only _ _ (none_said (grants_nothing d 0 frame) _ grants)
-    (none_said (overflows before after) _
-    (and_right (int_lt before after) (int_lt largest_window after) (not_above largest_window after most))))
-    (none_said (overruns before (content_by d frame)) _
-    (no_overrun before (grant_to d 0 frame) (content_by d frame)
-    (no_grant d frame.side (is_content frame.body) _ frame.length (increment frame.body)) kept)))
-    (none_said (stall_ends before after) _ (and_left (is_used_up before) (not (is_used_up after)) full)))
-    (none_said (stall_begins before after) _ (and_right (not (is_used_up before)) (is_used_up after) still)))
-    (credit_said _ _ refl)
+    let kept = usable_parts after left in
+    let overflow : overflows before after ≡ false =
+    and_right (int_lt before after) (int_lt largest_window after) (not_above largest_window after kept.1) in
+    let overrun : overruns before (content_by d frame) ≡ false =
+    no_overrun before (grant_to d 0 frame) (content_by d frame)
+    (no_grant d frame.side (is_content frame.body) _ frame.length (increment frame.body)) kept.0 in
+    let full : is_used_up before ≡ false = not_most before (pos 0) some in
+    let still : is_used_up after ≡ false = not_most after (pos 0) kept.0 in
+    let ends = and_left (is_used_up before) (not (is_used_up after)) full in
+    let begins = and_right (not (is_used_up before)) (is_used_up after) still in
+    rw (grants, overflow, overrun, ends, begins) (credit_said _ _ refl)
 
 -- ---- an item
 
 -- the limit after an item bounds the frame of its side
-length_only : (s : Side) (now : ConnectionState) (item : Item) (client server : ℕ) → item.frame.side ≡ s
-    → length_by Client item.frame ≤ client → length_by Server item.frame ≤ server
-    → nat_le client (connection_after now item).limit.client ≡ true
-    → nat_le server (connection_after now item).limit.server ≡ true
-    → Only (length_said (new_limit item.change s (side_of s now.limit)) item.frame)
-length_only Client now item client server side c s lc ls =
-    let bound = leb-true client (connection_after now item).limit.client lc in
-    let own : length_by Client item.frame ≡ item.frame.length =
-    ap (λ (d : Side). if is_side Client d then item.frame.length else 0) side in
-    none_said _ _ (le-ltb (new_limit item.change Client now.limit.client) item.frame.length (omega arith))
-length_only Server now item client server side c s lc ls =
-    let bound = leb-true server (connection_after now item).limit.server ls in
-    let own : length_by Server item.frame ≡ item.frame.length =
-    ap (λ (d : Side). if is_side Server d then item.frame.length else 0) side in
-    none_said _ _ (le-ltb (new_limit item.change Server now.limit.server) item.frame.length (omega arith))
+length_kept : (d : Side) (now : ConnectionState) (item : Item) (longest : ℕ) → item.frame.side ≡ d
+    → length_by d item.frame ≤ longest → nat_le longest (side_of d (connection_after now item).limit) ≡ true
+    → nat_lt (new_limit item.change d (side_of d now.limit)) item.frame.length ≡ false
+length_kept Client now item longest side short kept = grind (arith, nat_tests)
+length_kept Server now item longest side short kept = grind (arith, nat_tests)
 
--- what clears the items from one on, where no frame is longer than the bounds
-record Clears (client server : ℕ) (now : ConnectionState) (items : List Item) : Type 0 where
-  credit_client : keeps_credit Client now items ≡ true
-  credit_server : keeps_credit Server now items ≡ true
+-- what clears the items from one on, where no frame of a side is longer than its bound
+record Clears (longest : Side → ℕ) (now : ConnectionState) (items : List Item) : Type 0 where
+  credit : (d : Side) → keeps_credit d now items ≡ true
   grants : grants_something now items ≡ true
   openings : openings_rise now items ≡ true
   allowed : promises_allowed now items ≡ true
   promises : promises_rise now items ≡ true
-  limit_client : list_all (λ (at : ConnectionState). nat_le client at.limit.client) (connections now items) ≡ true
-  limit_server : list_all (λ (at : ConnectionState). nat_le server at.limit.server) (connections now items) ≡ true
-  longest_client : longest_by Client items ≤ client
-  longest_server : longest_by Server items ≤ server
+  limit : (d : Side)
+      → list_all (λ (at : ConnectionState). nat_le (longest d) (side_of d at.limit)) (connections now items) ≡ true
+  short : (d : Side) → longest_by d items ≤ longest d
 
 -- a test that holds at each connection holds at the first
 at_first : (test : ConnectionState → Bool) (now : ConnectionState) (items : List Item)
@@ -139,76 +99,68 @@ at_first : (test : ConnectionState → Bool) (now : ConnectionState) (items : Li
 at_first test now [] h = (and_parts (test now) true h).0
 at_first test now (item ∷ items) h = (and_parts (test now) _ h).0
 
-rest_clear : (client server : ℕ) (now : ConnectionState) (item : Item) (items : List Item)
-    → Clears client server now (item ∷ items) → Clears client server (connection_after now item) items
-rest_clear client server now item items h =
-    let long = h.longest_client in
-    let long' = h.longest_server in
-    record {
-      credit_client = (and_parts _ _ h.credit_client).1;
-      credit_server = (and_parts _ _ h.credit_server).1;
-      grants = (and_parts _ _ h.grants).1;
-      openings = (and_parts _ _ h.openings).1;
-      allowed = (and_parts _ _ h.allowed).1;
-      promises = (and_parts _ _ h.promises).1;
-      limit_client = (and_parts _ _ h.limit_client).1;
-      limit_server = (and_parts _ _ h.limit_server).1;
-      longest_client = omega arith;
-      longest_server = omega arith;
-    }
+module _ (longest : Side → ℕ) (now : ConnectionState) (item : Item) (items : List Item)
+    (h : Clears longest now (item ∷ items)) where
+  rest_clear : Clears longest (connection_after now item) items
+  rest_clear = record {
+    credit = λ d. (and_parts _ _ (h.credit d)).1;
+    grants = (and_parts _ _ h.grants).1;
+    openings = (and_parts _ _ h.openings).1;
+    allowed = (and_parts _ _ h.allowed).1;
+    promises = (and_parts _ _ h.promises).1;
+    limit = λ d. (and_parts _ _ (h.limit d)).1;
+    short = λ d. let short = h.short d in omega arith;
+  }
 
-item_only : (client server : ℕ) (now : ConnectionState) (item : Item) (items : List Item)
-    → Clears client server now (item ∷ items) → Only (connection_said now item)
-item_only client server now item items h =
-    let after = connection_after now item in
-    let rest = rest_clear client server now item items h in
-    let long = h.longest_client in
-    let long' = h.longest_server in
-    let grants = or_parts (grants_nothing Client 0 item.frame) (grants_nothing Server 0 item.frame)
-    (not-true _ (and_parts _ _ h.grants).0) in
-    both_only _ _
-    (both_only _ _
-    (both_only _ _
-    (both_only _ _
-    (length_only item.frame.side now item client server refl (omega arith) (omega arith)
-    (at_first (λ (at : ConnectionState). nat_le client at.limit.client) after items rest.limit_client)
-    (at_first (λ (at : ConnectionState). nat_le server at.limit.server) after items rest.limit_server))
-    (none_said _ _ (not-true _ (and_parts _ _ h.allowed).0)))
-    (none_said _ _ (not-true _ (and_parts _ _ h.openings).0)))
-    (none_said _ _ (not-true _ (and_parts _ _ h.promises).0)))
-    (both_only _ _
-    (window_only Client now.credit.client item.frame (and_parts _ _ h.credit_client).0
-    (at_first (λ (at : ConnectionState). is_usable at.credit.client) after items rest.credit_client) grants.0)
-    (window_only Server now.credit.server item.frame (and_parts _ _ h.credit_server).0
-    (at_first (λ (at : ConnectionState). is_usable at.credit.server) after items rest.credit_server) grants.1))
+  item_only : Only (connection_said now item)
+  item_only =
+      let after = connection_after now item in
+      let d = item.frame.side in
+      let short = h.short item.frame.side in
+      let length = length_kept d now item (longest d) refl (omega arith)
+      (at_first (λ (at : ConnectionState). nat_le (longest d) (side_of d at.limit)) after items (rest_clear.limit d)) in
+      let grants = or_parts (grants_nothing Client 0 item.frame) (grants_nothing Server 0 item.frame)
+      (not-true _ (and_parts _ _ h.grants).0) in
+      let client = at_first (λ (at : ConnectionState). is_usable at.credit.client) after items
+      (rest_clear.credit Client) in
+      let server = at_first (λ (at : ConnectionState). is_usable at.credit.server) after items
+      (rest_clear.credit Server) in
+      let allowed : is_server_promise item.frame && (now.push == 0) ≡ false =
+      not-true _ (and_parts _ _ h.allowed).0 in
+      let opening : is_opened_by_headers item && nat_le item.frame.stream now.opened ≡ false =
+      not-true _ (and_parts _ _ h.openings).0 in
+      let promise : is_server_promise item.frame
+      && ((promised_in item.frame.body % 2 == 1) || nat_le (promised_in item.frame.body) now.promised) ≡ false =
+      not-true _ (and_parts _ _ h.promises).0 in
+      rw (length, allowed, opening, promise)
+      (both_only _ _
+      (window_only Client now.credit.client item.frame (and_parts _ _ (h.credit Client)).0 client grants.0)
+      (window_only Server now.credit.server item.frame (and_parts _ _ (h.credit Server)).0 server grants.1))
 
-items_only : (client server : ℕ) (now : ConnectionState) (items : List Item) → Clears client server now items
+items_only : (longest : Side → ℕ) (now : ConnectionState) (items : List Item) → Clears longest now items
     → Only (block_run now items)
-items_only client server now [] h = tt
-items_only client server now (item ∷ items) h =
+items_only longest now [] h = tt
+items_only longest now (item ∷ items) h =
     both_only (in_order (connection_said now item)) (block_run (connection_after now item) items)
-    (ordered_only (connection_said now item) (item_only client server now item items h))
-    (items_only client server (connection_after now item) items (rest_clear client server now item items h))
+    (ordered_only (connection_said now item) (item_only longest now item items h))
+    (items_only longest (connection_after now item) items (rest_clear longest now item items h))
 
 pub clear_shows_credit : ClearShowsCredit
 clear_shows_credit now items e =
-    let all = and_parts _ _ e in
-    let first = and_parts _ _ all.0 in
-    let credits = and_parts _ _ first.0 in
-    let streams = and_parts _ _ first.1 in
-    let second = and_parts _ _ all.1 in
-    let pushes = and_parts _ _ second.0 in
-    let lengths = and_parts _ _ second.1 in
-    let only = items_only (longest_by Client items) (longest_by Server items) now items (record {
-      credit_client = credits.0;
-      credit_server = credits.1;
-      grants = streams.0;
-      openings = streams.1;
-      allowed = pushes.0;
-      promises = pushes.1;
-      limit_client = lengths.0;
-      limit_server = lengths.1;
-      longest_client = omega arith;
-      longest_server = omega arith;
-    }) in
+    let (credit_and_streams, promises_and_lengths) = and_parts _ _ e in
+    let (credits, streams) = and_parts _ _ credit_and_streams in
+    let (promises, lengths) = and_parts _ _ promises_and_lengths in
+    let credit = and_parts _ _ credits in
+    let stream = and_parts _ _ streams in
+    let promise = and_parts _ _ promises in
+    let length = and_parts _ _ lengths in
+    let only = items_only (λ d. longest_by d items) now items record {
+      credit = elim [ Client ↦ credit.0 | Server ↦ credit.1 ];
+      grants = stream.0;
+      openings = stream.1;
+      allowed = promise.0;
+      promises = promise.1;
+      limit = elim [ Client ↦ length.0 | Server ↦ length.1 ];
+      short = λ d. omega arith;
+    } in
     (only, hidden (block_run now items) only)

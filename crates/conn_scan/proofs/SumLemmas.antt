@@ -1,28 +1,14 @@
 -- What the sums of a block's items need.
-use Rattle.std.proofs.Common.{◌≡◌, ℤ, ◌-◌, ◌*◌, ◌^◌, ◌≤◌, List, [], ◌∷◌, ◌++◌, length, map, refl, ap}
-use Rattle.std.proofs.Common.{sym, ◌∙◌, arith, length-append}
-use Rattle.std.specs.List.{AllByRecursion}
-use Rattle.std.proofs.lemmas.List.{length-map}
-use Rattle.audit_terms.specs.declared.sides.Side.TheVariants.{Client, Server}
-use Rattle.audit_terms.specs.declared.connections.ConnectionState.{ConnectionState}
-use Rattle.audit_terms.specs.declared.items.Item.{Item}
-use Rattle.audit_terms.specs.Connection.{connection_after}
-use Rattle.audit_terms.specs.code.runs.Blocks.{connection_after_all}
-use Rattle.audit_terms.specs.code.Room.{HasRoom}
-use Rattle.block_scan.specs.code.Summary.{summary_of}
+use Rattle.conn_scan.proofs.Terms.{◌≡◌, ℤ, ◌-◌, ◌*◌, ◌^◌, ◌≤◌, List, [], ◌∷◌, ◌++◌, length, map, refl, ap, sym, ◌∙◌}
+use Rattle.conn_scan.proofs.Terms.{arith, length-append, AllByRecursion, length-map, Client, Server, ConnectionState}
+use Rattle.conn_scan.proofs.Terms.{Item, connection_after, connection_after_all, HasRoom, summary_of, summary-shown}
+use Rattle.conn_scan.proofs.Terms.{change_of, credit_of, no_change, one_change, credit_join, AreSmall, ChangesFit}
+use Rattle.conn_scan.proofs.Terms.{Block, walked, MovesLittle, ItemsFit, connections_before, conn_sum_of, conn_none}
+use Rattle.conn_scan.proofs.Terms.{conn_one, conn_join, all-append, room-wider, IsRoomy, roomy, credit_shows}
 use Rattle.block_scan.specs.code.List.{states_before}
-use Rattle.block_scan.specs.code.Shown.{summary-shown}
-use Rattle.conn_scan.specs.code.Credit.{change_of, credit_of, no_change, one_change, credit_join, AreSmall, ChangesFit}
-use Rattle.conn_scan.specs.declared.block_items.Block.{Block}
-use Rattle.conn_scan.specs.code.Walk.{walked}
-use Rattle.conn_scan.proofs.WalkLemmas.{length-walked}
-use Rattle.conn_scan.specs.code.Block.{MovesLittle, ItemsFit, connections_before}
 use Rattle.conn_scan.specs.declared.sums.ConnSum.{ConnSum}
-use Rattle.conn_scan.specs.code.ConnSum.{conn_sum_of, conn_none, conn_one, conn_join}
-use Rattle.conn_scan.specs.code.Each.{all-append}
-use Rattle.conn_scan.specs.code.FitLaws.{room-wider}
-use Rattle.conn_scan.specs.code.CreditLaws.{IsRoomy, roomy, credit_shows}
 use Rattle.conn_scan.specs.code.ConnSumLaws.{all-after, conn_shows}
+use Rattle.conn_scan.proofs.WalkLemmas.{length-walked}
 
 pub little-append : (a b : List Item) → AllByRecursion MovesLittle a → AllByRecursion MovesLittle b
     → AllByRecursion MovesLittle (a ++ b)
@@ -85,12 +71,10 @@ pub states_carried : (now : ConnectionState) (blocks : List (List Item))
     → states_before connection_after now blocks ≡ connections_before now blocks
 states_carried now [] = refl
 states_carried now (block ∷ blocks) =
-    ap (λ s. now ∷ states_before connection_after s blocks) (sym (all-after now block))
-    ∙ ap (λ states. now ∷ states) (states_carried (connection_after_all now block) blocks)
+    rw (← all-after now block, states_carried (connection_after_all now block) blocks) refl
 
 -- the summaries of blocks
-pub sums-shown : (blocks : List (List Item)) → map conn_sum_of blocks
-    ≡ map (summary_of conn_none conn_one conn_join) blocks
+pub sums-shown : (blocks : List (List Item))
+    → map conn_sum_of blocks ≡ map (summary_of conn_none conn_one conn_join) blocks
 sums-shown [] = refl
-sums-shown (block ∷ blocks) = ap (λ sum. sum ∷ map conn_sum_of blocks) (sym (summary-shown conn_shows block))
-    ∙ ap (λ sums. summary_of conn_none conn_one conn_join block ∷ sums) (sums-shown blocks)
+sums-shown (block ∷ blocks) = rw (summary-shown conn_shows block, sums-shown blocks) refl

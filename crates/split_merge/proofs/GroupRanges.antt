@@ -1,8 +1,7 @@
 -- Groups are consecutive, so what they hold, joined, is all there is.
-use Rattle.std.proofs.Common.{◌≡◌, ℕ, zero, suc, ◌+◌, ◌*◌, ◌/◌, ◌<◌, ◌≤◌, min, List, [], ◌∷◌, ◌++◌, length, map, drop}
-use Rattle.std.proofs.Common.{refl, sym, ap, ◌∙◌, subst, arith}
-use Rattle.std.specs.List.{range_with_len, between, flat_map}
-use Rattle.std.proofs.lemmas.List.{drop_all}
+use Rattle.split_merge.proofs.Terms.{◌≡◌, ℕ, zero, suc, ◌+◌, ◌*◌, ◌<◌, ◌≤◌, List, [], ◌∷◌, ◌++◌, length, drop, refl}
+use Rattle.split_merge.proofs.Terms.{sym, ap, ◌∙◌, subst, arith, between, flat_map, drop_all, ◌/◌, min, map}
+use Rattle.split_merge.proofs.Terms.{range_with_len}
 use Rattle.std.proofs.lemmas.List.Folds.{drop_split}
 use Rattle.std.proofs.lemmas.Nat.{div-mul-add, div-add-mod', le-div, mul-le}
 use Rattle.std.proofs.Math.Nat.{mul_comm}

@@ -1,13 +1,10 @@
-mod Numbered
-pub mod NamedStreams
+mod Terms
 pub mod Rising
 pub mod Visited
 pub mod Positions
 pub mod LaidOut
-pub mod Placed
 pub mod Ahead
 pub mod LoudStreams
 pub mod SplitIs
-pub mod LoudLaid
 pub mod GroupRanges
 pub mod ShownMerge

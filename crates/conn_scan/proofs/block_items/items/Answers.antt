@@ -1,6 +1,4 @@
-use Rattle.std.proofs.Common.{[], ◌∷◌, ◌++◌, append_assoc, sym, ap, ◌∙◌, arith}
-use Rattle.block_scan.specs.code.Shown.{append_nil}
-use Rattle.conn_scan.specs.code.Walk.{walked}
+use Rattle.conn_scan.proofs.Terms.{[], ◌∷◌, ◌++◌, append_assoc, sym, ap, ◌∙◌, arith, append_nil, walked}
 use Rattle.conn_scan.proofs.WalkLemmas.{walked-items_with}
 use Rattle.conn_scan.proofs.block_items.items.Goals as goal
 

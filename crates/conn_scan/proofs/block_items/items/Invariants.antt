@@ -1,5 +1,4 @@
-use Rattle.std.proofs.Common.{◌≡◌, ◌++◌}
-use Rattle.conn_scan.specs.code.Walk.{walked}
+use Rattle.conn_scan.proofs.Terms.{◌≡◌, ◌++◌, walked}
 use Rattle.conn_scan.proofs.block_items.items.Given as goal
 
 -- the items so far, and those that are left, are all items

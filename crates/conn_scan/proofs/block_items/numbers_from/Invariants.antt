@@ -1,5 +1,4 @@
-use Rattle.std.proofs.Common.{◌≡◌, length}
-use Rattle.conn_scan.specs.code.Walk.{numbers_from}
+use Rattle.conn_scan.proofs.Terms.{◌≡◌, length, numbers_from}
 use Rattle.conn_scan.proofs.block_items.numbers_from.Given as goal
 
 abbrev pub invariant-loop-first : goal.invariant-loop-first

@@ -1,8 +1,6 @@
-use Rattle.std.proofs.Common.{◌≡◌, ◌^◌, arith}
-use Rattle.conn_scan.specs.code.Items.{items_in}
-use Rattle.conn_scan.specs.code.FitLaws.{room-wider}
-use Rattle.conn_scan.specs.code.Walk.{walked}
-use Rattle.conn_scan.proofs.BlockLemmas.{block_walked, fits_next}
+use Rattle.conn_scan.proofs.Terms.{◌≡◌, ◌^◌, arith, items_in, room-wider, walked}
+use Rattle.conn_scan.proofs.WalkLemmas.{block_walked}
+use Rattle.conn_scan.proofs.Halfway.{fits_next}
 use Rattle.conn_scan.proofs.Halfway.{begins, is-due, goes, stops, stops-numbered, is-whole, whole-numbered}
 use Rattle.conn_scan.proofs.blocks.block_findings.Goals as goal
 

@@ -1,8 +1,4 @@
-use Rattle.audit_terms.specs.Finding.{shown}
-use Rattle.audit_terms.specs.code.runs.Blocks.{block_run}
-use Rattle.conn_scan.specs.code.Block.{BlockFits}
-use Rattle.conn_scan.specs.code.Items.{items_in}
-use Rattle.conn_scan.specs.code.Walk.{walked}
+use Rattle.conn_scan.proofs.Terms.{shown, block_run, BlockFits, items_in, walked}
 use Rattle.conn_scan.proofs.Halfway.{Halfway, numbers_of}
 use Rattle.conn_scan.proofs.blocks.block_findings.Given as goal
 

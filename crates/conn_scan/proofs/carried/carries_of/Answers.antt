@@ -1,4 +1,4 @@
-use Rattle.std.proofs.Common.{◌≡◌, IfOk, ◌∙◌, subst}
+use Rattle.conn_scan.proofs.Terms.{◌≡◌, IfOk, ◌∙◌, subst}
 use Rattle.conn_scan.proofs.SumLemmas.{states_carried, sums-shown}
 use Rattle.conn_scan.proofs.carried.carries_of.Goals as goal
 

@@ -1,5 +1,4 @@
-use Rattle.std.proofs.Common.{ap, ◌∙◌}
-use Rattle.conn_scan.specs.code.Cleared.{sum_clear}
+use Rattle.conn_scan.proofs.Terms.{ap, ◌∙◌, sum_clear}
 use Rattle.conn_scan.proofs.ClearLemmas.{clear_same}
 use Rattle.conn_scan.proofs.cleared.clear.Goals as goal
 

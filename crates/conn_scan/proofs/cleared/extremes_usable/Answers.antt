@@ -1,6 +1,5 @@
-use Rattle.std.proofs.Common.{◌≡◌, ◌-ℤ◌, true, neg_ℤ, int_lt, refl, rules, arith, SFits, to_z, of_z, w64}
-use Rattle.std.proofs.lemmas.Int.{ints, to_z-of_z}
-use Rattle.audit_terms.specs.Window.{largest_window}
+use Rattle.conn_scan.proofs.Terms.{◌≡◌, ◌-ℤ◌, true, neg_ℤ, int_lt, refl, rules, arith, SFits, to_z, of_z, w64, ints}
+use Rattle.conn_scan.proofs.Terms.{to_z-of_z, largest_window}
 use Rattle.conn_scan.proofs.cleared.extremes_usable.Goals as goal
 
 pub returns-then-low-changes : goal.returns-then-low-changes

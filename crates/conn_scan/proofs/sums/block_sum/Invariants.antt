@@ -1,10 +1,5 @@
-use Rattle.std.proofs.Common.{◌≡◌, ◌++◌, ℕ, List, length}
-use Rattle.std.specs.List.{AllByRecursion}
-use Rattle.audit_terms.specs.declared.items.Item.{Item}
-use Rattle.audit_terms.specs.code.runs.Orderly.{IsOrderlyFrom}
-use Rattle.conn_scan.specs.code.Block.{MovesLittle}
-use Rattle.conn_scan.specs.code.Walk.{walked, StartFrom, ChangesStartFrom}
-use Rattle.conn_scan.specs.code.ConnSum.{conn_sum_of}
+use Rattle.conn_scan.proofs.Terms.{◌≡◌, ◌++◌, ℕ, List, length, AllByRecursion, Item, IsOrderlyFrom, MovesLittle, walked}
+use Rattle.conn_scan.proofs.Terms.{StartFrom, ChangesStartFrom, conn_sum_of}
 use Rattle.conn_scan.proofs.sums.block_sum.Given as goal
 
 -- the sum is that of the items so far

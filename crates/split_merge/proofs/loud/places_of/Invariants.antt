@@ -1,5 +1,4 @@
-use Rattle.std.proofs.Common.{◌≡◌, ◌≤◌, ◌++◌, drop}
-use Rattle.split_merge.specs.code.Loud.{places_from}
+use Rattle.split_merge.proofs.Terms.{◌≡◌, ◌≤◌, ◌++◌, drop, places_from}
 use Rattle.split_merge.proofs.loud.places_of.Given as goal
 
 abbrev pub invariant-loop-quiet : goal.invariant-loop-quiet

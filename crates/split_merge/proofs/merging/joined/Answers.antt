@@ -1,4 +1,4 @@
-use Rattle.std.proofs.Common.{◌++◌, append_assoc, flat_map, refl, sym, ap, ◌∙◌}
+use Rattle.split_merge.proofs.Terms.{◌++◌, append_assoc, flat_map, refl, sym, ap, ◌∙◌}
 use Rattle.split_merge.proofs.merging.joined.Goals as goal
 
 pub loop-list-init : goal.loop-list-init

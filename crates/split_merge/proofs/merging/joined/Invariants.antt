@@ -1,4 +1,4 @@
-use Rattle.std.proofs.Common.{◌≡◌, ◌++◌, flat_map}
+use Rattle.split_merge.proofs.Terms.{◌≡◌, ◌++◌, flat_map}
 use Rattle.split_merge.proofs.merging.joined.Given as goal
 
 -- what was joined so far, and the lists that are left, are all of them

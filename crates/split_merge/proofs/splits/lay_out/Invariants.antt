@@ -1,5 +1,4 @@
-use Rattle.std.proofs.Common.{◌≡◌, ◌+◌, ◌++◌, drop}
-use Rattle.split_merge.specs.code.Visits.{laid_out, total_of}
+use Rattle.split_merge.proofs.Terms.{◌≡◌, ◌+◌, ◌++◌, drop, laid_out, total_of}
 use Rattle.split_merge.proofs.splits.lay_out.Given as goal
 
 abbrev pub invariant-loop-row : goal.invariant-loop-row

@@ -1,6 +1,4 @@
-use Rattle.std.proofs.Common.{◌≡◌, length, take}
-use Rattle.split_merge.specs.code.Visits.{IsFilled, notes_from, row_streams}
-use Rattle.split_merge.specs.code.Loud.{heard}
+use Rattle.split_merge.proofs.Terms.{◌≡◌, length, take, IsFilled, notes_from, row_streams, heard}
 use Rattle.split_merge.proofs.splits.place.Given as goal
 
 abbrev pub invariant-loop-frame : goal.invariant-loop-frame

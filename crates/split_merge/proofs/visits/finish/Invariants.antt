@@ -1,7 +1,4 @@
-use Rattle.std.proofs.Common.{List, []}
-use Rattle.audit_terms.specs.declared.frames.Frame.{Frame}
-use Rattle.split_merge.specs.code.Visits.{streams_in}
-use Rattle.split_merge.specs.code.Ahead.{AreAhead}
+use Rattle.split_merge.proofs.Terms.{List, [], Frame, streams_in, AreAhead}
 use Rattle.split_merge.proofs.Ahead.{IsPartEnded}
 use Rattle.split_merge.proofs.visits.finish.Given as goal
 

@@ -4,26 +4,20 @@ use Rattle.block_scan.proofs.both.BothSummary.join.Goals as goal
 
 pub join-requires : goal.join-requires
 join-requires g c =
-    let f = c.requires.fits in
+    let (state, mine, theirs, fit, is_mine, is_theirs) = c.requires.fits in
     let a = g.A.Summary in
     let b = g.B.Summary in
-    let is = summary-both a.empty a.of a.join b.empty b.of b.join in
-    record { fits = (f.0.first, f.1, f.2, f.3.0, ap (λ x. x.first) (f.4 ∙ is f.1), ap (λ x. x.first) (f.5 ∙ is f.2)) }
+    let both = summary-both a.empty a.of a.join b.empty b.of b.join in
+    let first = ap (λ x. x.first) (is_mine ∙ both mine) in
+    let later = ap (λ x. x.first) (is_theirs ∙ both theirs) in
+    record { fits = (state.first, mine, theirs, fit.0, first, later) }
 
 pub join-requires-2 : goal.join-requires-2
 join-requires-2 g c =
-    let f = c.requires.fits in
+    let (state, mine, theirs, fit, is_mine, is_theirs) = c.requires.fits in
     let a = g.A.Summary in
     let b = g.B.Summary in
-    let is = summary-both a.empty a.of a.join b.empty b.of b.join in
-    record {
-      fits = (
-        f.0.second,
-        f.1,
-        f.2,
-        f.3.1,
-        ap (λ x. x.second) (f.4 ∙ is f.1),
-        ap (λ x. x.second) (f.5
-            ∙ is f.2),
-      );
-    }
+    let both = summary-both a.empty a.of a.join b.empty b.of b.join in
+    let first = ap (λ x. x.second) (is_mine ∙ both mine) in
+    let later = ap (λ x. x.second) (is_theirs ∙ both theirs) in
+    record { fits = (state.second, mine, theirs, fit.1, first, later) }

@@ -1,6 +1,4 @@
-use Rattle.std.proofs.Common.{arith}
-use Rattle.std.proofs.lemmas.Int.{ints}
-use Rattle.conn_scan.specs.code.CreditLaws.{summary_room}
+use Rattle.conn_scan.proofs.Terms.{arith, ints, summary_room}
 use Rattle.conn_scan.proofs.credits.CreditSummary.advance.Goals as goal
 
 pub overflow_add-result : goal.overflow_add-result

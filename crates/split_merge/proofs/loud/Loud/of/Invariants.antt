@@ -1,5 +1,4 @@
-use Rattle.std.proofs.Common.{◌≡◌, ◌++◌, drop}
-use Rattle.split_merge.specs.code.Loud.{loud_of, opened_in}
+use Rattle.split_merge.proofs.Terms.{◌≡◌, ◌++◌, drop, loud_of, opened_in}
 use Rattle.split_merge.proofs.loud.Loud.of.Given as goal
 
 abbrev pub invariant-loop-row : goal.invariant-loop-row

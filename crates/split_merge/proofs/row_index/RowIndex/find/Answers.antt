@@ -1,6 +1,5 @@
-use Rattle.std.proofs.Common.{sym}
-use Rattle.split_merge.specs.code.Visits.{streams_in}
-use Rattle.split_merge.proofs.NamedStreams.{none-from_test}
+use Rattle.split_merge.proofs.Terms.{sym, streams_in}
+use Rattle.split_merge.proofs.Visited.{none-from_test}
 use Rattle.split_merge.proofs.Rising.{absent-from_both, row-from_table}
 use Rattle.split_merge.proofs.row_index.RowIndex.find.Goals as goal
 

@@ -1,7 +1,5 @@
-use Rattle.std.proofs.Common.{◌+◌, length, refl, sym, ◌∙◌}
-use Rattle.split_merge.specs.declared.row_index.RowIndex.{RowIndex}
-use Rattle.split_merge.specs.code.Visits.{streams_in}
-use Rattle.split_merge.proofs.NamedStreams.{length-streams_in}
+use Rattle.split_merge.proofs.Terms.{◌+◌, length, refl, sym, ◌∙◌, RowIndex, streams_in}
+use Rattle.split_merge.proofs.Visited.{length-streams_in}
 use Rattle.split_merge.proofs.Rising.{row-above, row-in_table}
 use Rattle.split_merge.proofs.row_index.RowIndex.insert.Goals as goal
 

@@ -1,4 +1,4 @@
-use Rattle.std.proofs.Common.{sym}
+use Rattle.split_merge.proofs.Terms.{sym}
 use Rattle.split_merge.proofs.Rising.{all-below}
 use Rattle.split_merge.proofs.row_index.RowIndex.is_above.Goals as goal
 

@@ -1,6 +1,6 @@
-use Rattle.std.proofs.Common.{◌≤◌, length, arith, rules}
+use Rattle.split_merge.proofs.Terms.{◌≤◌, length, arith, rules}
 use Rattle.std.proofs.lemmas.List.Sorted.{answers_always}
-use Rattle.split_merge.proofs.NamedStreams.{length-streams_in}
+use Rattle.split_merge.proofs.Visited.{length-streams_in}
 use Rattle.split_merge.proofs.Rising.{none-from_front, row-from_front}
 use Rattle.split_merge.proofs.row_index.RowIndex.rising_row.Goals as goal
 
@@ -15,5 +15,5 @@ pub returns-in-Err : goal.returns-in-Err
 returns-in-Err c =
     let n = length-streams_in c.args.rows.now in
     let within : c.args.self.now.rising ≤ length c.args.rows.now = omega (arith, n, c.requires.index.within) in
-    none-from_front c.args.rows.now c.args.self.now.rising within c.args.stream c.in-Err.field-0 c.requires.index.rises
+    none-from_front c.args.rows.now c.args.self.now.rising within c.requires.index.rises c.args.stream c.in-Err.field-0
     (c.in-Err.ensures.position (λ row. row.stream) (answers_always _ _ _ (λ f a r g called. search rules)))

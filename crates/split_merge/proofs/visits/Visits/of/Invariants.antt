@@ -1,9 +1,6 @@
-use Rattle.std.proofs.Common.{◌≡◌, ◌*◌, ◌++◌, drop, take}
-use Rattle.audit_terms.specs.Pass.{streams_of}
-use Rattle.audit_terms.specs.code.runs.Streams.{frames_of}
-use Rattle.split_merge.specs.code.Visits.{streams_in, notes_from, IsTableOf, HasAtMost}
-use Rattle.split_merge.specs.code.Ahead.{AreAhead}
-use Rattle.split_merge.proofs.NamedStreams.{without}
+use Rattle.split_merge.proofs.Terms.{◌≡◌, ◌*◌, ◌++◌, drop, take, streams_of, frames_of, streams_in, notes_from}
+use Rattle.split_merge.proofs.Terms.{AreAhead, IsTableOf, HasAtMost}
+use Rattle.split_merge.proofs.Visited.{without}
 use Rattle.split_merge.proofs.visits.Visits.of.Given as goal
 
 abbrev pub invariant-loop-frame : goal.invariant-loop-frame

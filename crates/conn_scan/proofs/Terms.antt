@@ -1,0 +1,50 @@
+-- The names that several proofs of this crate cite, passed on from one place.
+pub use Rattle.std.proofs.Common.{All, Bool, IfOk, List, None, Option, SFits, Some, [], ap, append-nil, append_assoc}
+pub use Rattle.std.proofs.Common.{arith, cond, false, if◌then◌else◌, int_le, int_lt, length, length-append, map, max}
+pub use Rattle.std.proofs.Common.{nat_le, nat_lt, neg_ℤ, not, of_z, pos, refl, rules, subst, suc, sym, to_z, true, w64}
+pub use Rattle.std.proofs.Common.{ℕ, ℤ, ◌%◌, ◌&&◌, ◌*◌, ◌++◌, ◌+ℤ◌, ◌+◌, ◌-ℤ◌, ◌-◌, ◌<ℤ◌, ◌<◌, ◌==◌, ◌^◌, ◌||◌, ◌∙◌}
+pub use Rattle.std.proofs.Common.{◌∷◌, ◌≡◌, ◌≤ℤ◌, ◌≤◌}
+pub use Rattle.std.proofs.lemmas.Bool.Decides.{nat_tests}
+pub use Rattle.std.proofs.lemmas.Int.{by_lt_z, clamps, ints, to_z-of_z}
+pub use Rattle.std.proofs.lemmas.List.{length-map, map-append}
+pub use Rattle.std.specs.Int.{int_max, int_min}
+pub use Rattle.std.specs.List.{AllByRecursion, find, list_all, list_any}
+pub use Rattle.audit_terms.proofs.FindingLists.{each-append, each-filter, each-in_order, each-said, each-weaker}
+pub use Rattle.audit_terms.specs.Change.{new_limit}
+pub use Rattle.audit_terms.specs.Connection.{connection_after, connection_said, connection_window_said, credit_after}
+pub use Rattle.audit_terms.specs.Connection.{is_opened_by_headers}
+pub use Rattle.audit_terms.specs.Finding.{in_order, is_shown, say, shown}
+pub use Rattle.audit_terms.specs.Frame.{content_by, grant_to, grants_nothing, increment, is_content, is_server_promise}
+pub use Rattle.audit_terms.specs.Frame.{promised_in}
+pub use Rattle.audit_terms.specs.Window.{is_used_up, largest_window, overflows, overruns}
+pub use Rattle.audit_terms.specs.code.Room.{HasRoom}
+pub use Rattle.audit_terms.specs.code.Watch.{IsStopped, NeverFallFrom, Watches}
+pub use Rattle.audit_terms.specs.code.runs.Blocks.{block_run, connection_after_all}
+pub use Rattle.audit_terms.specs.code.runs.Orderly.{IsInRange, IsOrderlyFrom}
+pub use Rattle.audit_terms.specs.declared.connections.ConnectionState.{ConnectionState}
+pub use Rattle.audit_terms.specs.declared.findings.Finding.{Finding}
+pub use Rattle.audit_terms.specs.declared.frames.Frame.{Frame}
+pub use Rattle.audit_terms.specs.declared.items.Change.{Change}
+pub use Rattle.audit_terms.specs.declared.items.Item.{Item}
+pub use Rattle.audit_terms.specs.declared.sides.Side.{Side}
+pub use Rattle.audit_terms.specs.declared.sides.Side.TheVariants.{Client, Server}
+pub use Rattle.block_scan.specs.code.Shown.{append_nil, summary-shown}
+pub use Rattle.block_scan.specs.code.Summary.{summary_of}
+pub use Rattle.conn_scan.specs.code.Block.{BlockFits, ItemsFit, MovesLittle, connections_before}
+pub use Rattle.conn_scan.specs.code.Clear.{connections, grants_something, is_clear, is_usable, keeps_credit}
+pub use Rattle.conn_scan.specs.code.Clear.{openings_rise, promises_allowed, promises_rise}
+pub use Rattle.conn_scan.specs.code.Cleared.{credit_clear, ids_clear, is_within, length_clear, push_clear, sum_clear}
+pub use Rattle.conn_scan.specs.code.ConnSum.{conn_join, conn_none, conn_one, conn_sum_of}
+pub use Rattle.conn_scan.specs.code.Credit.{AreSmall, ChangesFit, change_of, credit_join, credit_of, high, low}
+pub use Rattle.conn_scan.specs.code.Credit.{no_change, one_change}
+pub use Rattle.conn_scan.specs.code.CreditLaws.{IsRoomy, credit_shows, high-signed, low-signed, not_above, rest_fits}
+pub use Rattle.conn_scan.specs.code.CreditLaws.{roomy, summary_room}
+pub use Rattle.conn_scan.specs.code.Each.{all-append}
+pub use Rattle.conn_scan.specs.code.FitLaws.{first_fit, rest_fit, room-wider}
+pub use Rattle.conn_scan.specs.code.Items.{IsBlock, change_at, is_marked, item_with, items_in, items_with}
+pub use Rattle.conn_scan.specs.code.Latest.{is_zero, latest_of, least_limit, length_by, lesser, limit_in, longest_by}
+pub use Rattle.conn_scan.specs.code.Latest.{push_in, some_barred_promise, some_early_promise, some_odd_promise}
+pub use Rattle.conn_scan.specs.code.Latest.{some_zero_grant}
+pub use Rattle.conn_scan.specs.code.Walk.{ChangesStartFrom, StartFrom, changes_from, first_change, is_first}
+pub use Rattle.conn_scan.specs.code.Walk.{numbers_from, walked}
+pub use Rattle.conn_scan.specs.declared.block_items.Block.{Block}
