@@ -2,18 +2,11 @@
 -- of different streams, and different frames have different places.
 use Rattle.std.proofs.Common.{◌≡◌, ◌≢◌, ℕ, ◌+◌, ◌*◌, ◌^◌, ◌<◌, Bool, true, false, not, ◌==◌, List, [], ◌∷◌, refl, sym}
 use Rattle.std.proofs.Common.{◌∙◌, arith, filter, true≢false, if◌then◌else◌}
-use Rattle.std.specs.List.{AllByRecursion}
-use borrow.Author.Tests.{eq-eqb}
-use Rattle.audit_terms.specs.declared.frames.Frame.{Frame}
-use Rattle.audit_terms.specs.declared.findings.Finding.{Finding}
-use Rattle.audit_terms.specs.Finding.{comes_after}
-use Rattle.audit_terms.specs.Frame.{promised_by}
-use Rattle.audit_terms.specs.code.runs.Orderly.{IsInRange, IsOrderlyFrom, IsOrderly}
+use Rattle.audit_core.proofs.Words.{AllByRecursion, eq-eqb, Frame, Finding, comes_after, promised_by, IsInRange}
+use Rattle.audit_core.proofs.Words.{IsOrderlyFrom, IsOrderly, PassState, pass_start, said, full_from, full, next}
+use Rattle.audit_core.proofs.Words.{first_of, streams_of, EachPair, AreApart, StandApart, AreWithin, AreFrom}
 use Rattle.audit_core.proofs.NamedStreams.{NotAmong, AreDistinct}
-use Rattle.audit_terms.specs.Pass.{PassState, pass_start, said, full_from, full, next, first_of, streams_of}
-use Rattle.audit_core.specs.laws.Apart.{EachPair, AreApart, StandApart}
 use Rattle.audit_core.proofs.Pairs.{Across, pairs-append, pairs-ordered}
-use Rattle.audit_terms.proofs.SaidPlaces.{AreWithin, AreFrom}
 use Rattle.audit_core.proofs.PassOrder.{AreStreams, at-said, from-full_from, rows_of, streams-streams_of}
 use Rattle.audit_core.proofs.FrameRows.{rows-apart-at}
 

@@ -1,30 +1,14 @@
 -- A credit that is carried from frame to frame is the sum over the frames.
 use Rattle.std.proofs.Common.{◌≡◌, ℕ, ℤ, pos, ◌+◌, ◌+ℤ◌, ◌-ℤ◌, ◌<◌, ◌≤◌, Bool, true, false, nat_le, if◌then◌else◌, List}
 use Rattle.std.proofs.Common.{[], ◌∷◌, sum_by, Option, Some, None, refl, sym, ap, ◌∙◌, ◌⊎◌, inl, inr, arith}
-use Rattle.std.specs.Option.{option_map_or}
-use Rattle.std.proofs.lemmas.Int.{ints}
 use Rattle.std.proofs.lemmas.List.Sums.{sum_by-cons}
 use Rattle.std.proofs.lemmas.Option.{same_Some, none-some}
-use Rattle.std.proofs.lemmas.Bool.Decides.{nat_tests}
-use Rattle.audit_terms.specs.declared.sides.Side.{Side}
-use Rattle.audit_terms.specs.declared.sides.Side.TheVariants.{Client, Server}
-use Rattle.audit_terms.specs.declared.frames.Frame.{Frame}
-use Rattle.audit_terms.specs.declared.items.Step.{Step}
-use Rattle.audit_terms.specs.declared.streams.Stream.{Stream}
-use Rattle.audit_terms.specs.Sides.{side_of}
-use Rattle.audit_terms.specs.Frame.{content_by, grant_to}
-use Rattle.audit_terms.specs.code.runs.Orderly.{IsOrderlyFrom}
-use Rattle.audit_terms.specs.Life.{is_opening, is_last_of}
-use Rattle.audit_terms.specs.Window.{first_window}
-use Rattle.audit_terms.specs.Change.{new_initial}
-use Rattle.audit_terms.specs.InForce.{change_of}
-use Rattle.audit_terms.specs.Connection.{credit_after}
-use Rattle.audit_terms.specs.Stream.{step_test, opens, window_after, window_at_opening}
-use Rattle.audit_terms.specs.code.StreamSteps.{counted, window_ends}
-use Rattle.audit_terms.specs.Pass.{PassState, pass_start, step_of, next}
-use Rattle.audit_terms.specs.code.runs.States.{state_from}
-use Rattle.audit_core.specs.laws.Credit.{ConnectionCreditIsSum, StreamCreditIsSum}
-use Rattle.audit_terms.specs.laws.Credit.{content_on, since, stream_credit_sum}
+use Rattle.audit_core.proofs.Words.{option_map_or, ints, nat_tests, Side, Client, Server, Frame, Step, Stream, side_of}
+use Rattle.audit_core.proofs.Words.{content_by, grant_to, IsOrderlyFrom, is_opening, is_last_of, first_window}
+use Rattle.audit_core.proofs.Words.{new_initial, change_of, credit_after, step_test, opens, window_after}
+use Rattle.audit_core.proofs.Words.{window_at_opening, counted, window_ends, PassState, pass_start, step_of, next}
+use Rattle.audit_core.proofs.Words.{state_from, ConnectionCreditIsSum, StreamCreditIsSum, content_on, since}
+use Rattle.audit_core.proofs.Words.{stream_credit_sum}
 use Rattle.audit_core.proofs.Meetings.{CountsNothing, no-choice, and-false, step-grant, step-content, step-opening}
 use Rattle.audit_core.proofs.Meetings.{step-opened}
 

@@ -3,49 +3,23 @@
 use Rattle.std.proofs.Common.{◌≡◌, ℕ, ℤ, pos, ◌+ℤ◌, ◌-ℤ◌, ◌^◌, ◌<◌, Bool, true, false, ◌==◌, ◌&&◌, nat_le, int_lt, List}
 use Rattle.std.proofs.Common.{[], ◌∷◌, ◌++◌, refl, sym, ap, ◌∙◌, arith, Option, Some, None, is_some, if◌then◌else◌}
 use Rattle.std.proofs.Common.{nat_lt}
-use Rattle.std.specs.List.{AllByRecursion}
-use Rattle.std.specs.Option.{option_map_or}
-use Rattle.std.proofs.Math.Bool.{and-false}
 use Rattle.std.proofs.lemmas.Bool.{and_parts}
-use Rattle.std.proofs.lemmas.Int.{ints}
-use Rattle.audit_terms.specs.declared.sides.Side.{Side}
-use Rattle.audit_terms.specs.declared.sides.Side.TheVariants.{Client, Server}
-use Rattle.audit_terms.specs.declared.sides.Sides.{Sides}
-use Rattle.audit_terms.specs.declared.kinds.Kind.{Kind}
-use Rattle.audit_terms.specs.declared.kinds.Kind.TheVariants.{TooLong, WrongSize, BadPadding, BadSetting, LongFrame}
-use Rattle.audit_terms.specs.declared.kinds.Kind.TheVariants.{BadPriority, ZeroConnectionGrant, ConnectionOverflow}
-use Rattle.audit_terms.specs.declared.kinds.Kind.TheVariants.{SettingOverflow, StreamOverrun, StreamOverflow}
-use Rattle.audit_terms.specs.declared.kinds.Kind.TheVariants.{StreamStallEnd, StreamStallBegin, StreamCredit}
-use Rattle.audit_terms.specs.declared.frames.Body.{Body}
-use Rattle.audit_terms.specs.declared.frames.Body.TheVariants.{Content, Headers, Priority, RstStream}
-use Rattle.audit_terms.specs.declared.frames.Body.TheVariants.{Settings as SettingsBody, SettingsAck, PushPromise, Ping}
-use Rattle.audit_terms.specs.declared.frames.Body.TheVariants.{GoAway, WindowUpdate, Continuation, Unknown, Unreadable}
-use Rattle.audit_terms.specs.declared.settings.Settings.{Settings}
-use Rattle.audit_terms.specs.declared.frames.Frame.{Frame}
-use Rattle.audit_terms.specs.declared.items.Item.{Item}
-use Rattle.audit_terms.specs.declared.connections.ConnectionState.{ConnectionState}
-use Rattle.audit_terms.specs.declared.streams.Stream.{Stream}
-use Rattle.audit_terms.specs.declared.findings.Finding.{Finding}
-use Rattle.audit_terms.specs.Side.{other, is_side}
-use Rattle.audit_terms.specs.Sides.{side_of}
-use Rattle.audit_terms.specs.Kind.{rank_of}
-use Rattle.audit_terms.specs.code.Places.{place_rank}
-use Rattle.audit_terms.specs.Finding.{finding_at, say, say_of, stops, comes_after}
-use Rattle.audit_terms.specs.Frame.{is_ack, is_content, increment, content_by, grant_to, grants_nothing, meets}
-use Rattle.audit_terms.specs.code.runs.Orderly.{IsInRange, IsOrderly}
-use Rattle.audit_terms.specs.Change.{new_initial}
-use Rattle.audit_terms.specs.Window.{overflows}
-use Rattle.audit_terms.specs.LocalFault.{local_said, fault, body_said, reading_fault}
-use Rattle.audit_terms.specs.InForce.{InForce, settings_said, taken, change_of, change_taking}
-use Rattle.audit_terms.specs.Connection.{credit_after, connection_said, length_said, connection_windows_said}
-use Rattle.audit_terms.specs.Connection.{connection_window_said}
-use Rattle.audit_terms.specs.Stream.{opens, window_at_opening, window_step, stream_said, frame_said, stream_window_said}
-use Rattle.audit_terms.specs.Stream.{live_window_said, opened_window_said}
-use Rattle.audit_terms.specs.code.StreamSteps.{counted}
-use Rattle.audit_terms.specs.Pass.{PassState, pass_start, said, full, streams_of, streams_said, step_of, item_of}
-use Rattle.audit_core.specs.laws.Apart.{EachPair, AreApart, AreApartAsErrors}
+use Rattle.audit_core.proofs.Words.{AllByRecursion, option_map_or, and-false, ints, Side, Client, Server, Sides, Kind}
+use Rattle.audit_core.proofs.Words.{TooLong, WrongSize, BadPadding, BadSetting, LongFrame, BadPriority}
+use Rattle.audit_core.proofs.Words.{ZeroConnectionGrant, ConnectionOverflow, SettingOverflow, StreamOverrun}
+use Rattle.audit_core.proofs.Words.{StreamOverflow, StreamStallEnd, StreamStallBegin, StreamCredit, Body, Content}
+use Rattle.audit_core.proofs.Words.{Headers, Priority, RstStream, SettingsBody, SettingsAck, PushPromise, Ping, GoAway}
+use Rattle.audit_core.proofs.Words.{WindowUpdate, Continuation, Unknown, Unreadable, Settings, Frame, Item}
+use Rattle.audit_core.proofs.Words.{ConnectionState, Stream, Finding, other, is_side, side_of, rank_of, place_rank}
+use Rattle.audit_core.proofs.Words.{finding_at, say, say_of, stops, comes_after, is_ack, is_content, increment}
+use Rattle.audit_core.proofs.Words.{content_by, grant_to, grants_nothing, meets, IsInRange, IsOrderly, new_initial}
+use Rattle.audit_core.proofs.Words.{overflows, local_said, fault, body_said, reading_fault, InForce, settings_said}
+use Rattle.audit_core.proofs.Words.{taken, change_of, change_taking, credit_after, connection_said, length_said}
+use Rattle.audit_core.proofs.Words.{connection_windows_said, connection_window_said, opens, window_at_opening}
+use Rattle.audit_core.proofs.Words.{window_step, stream_said, frame_said, stream_window_said, live_window_said}
+use Rattle.audit_core.proofs.Words.{opened_window_said, counted, PassState, pass_start, said, full, streams_of}
+use Rattle.audit_core.proofs.Words.{streams_said, step_of, item_of, EachPair, AreApart, AreApartAsErrors, rank-small}
 use Rattle.audit_core.proofs.Pairs.{all-append, all-ordered, pairs-refine}
-use Rattle.audit_terms.proofs.SaidPlaces.{rank-small}
 use Rattle.audit_core.proofs.PassOrder.{AreStreams, rows_of, streams-streams_of}
 use Rattle.audit_core.proofs.TableRows.{rank-place}
 use Rattle.audit_core.proofs.Apart.{apart-said, distinct-streams_of, pairs-full_from}

@@ -1,46 +1,22 @@
 -- What is said at one frame stands in different rows of the table, or is of different streams.
 use Rattle.std.proofs.Common.{◌≡◌, ◌≢◌, ℕ, ℤ, pos, ◌+◌, ◌^◌, ◌<◌, Bool, true, false, ◌==◌, ◌&&◌, List, [], ◌∷◌, ◌++◌}
 use Rattle.std.proofs.Common.{append_assoc, append-nil, refl, sym, ap, subst, ◌∙◌, arith, Option, if◌then◌else◌, nat_lt}
-use Rattle.std.specs.List.{AllByRecursion}
-use Rattle.std.proofs.Math.Bool.{and-false}
-use Rattle.audit_terms.specs.declared.sides.Side.{Side}
-use Rattle.audit_terms.specs.declared.sides.Side.TheVariants.{Client, Server}
-use Rattle.audit_terms.specs.declared.sides.Sides.{Sides}
-use Rattle.audit_terms.specs.declared.kinds.Kind.{Kind}
-use Rattle.audit_terms.specs.declared.kinds.Kind.TheVariants.{BadPreface, BrokenBlock, TooLong, WrongStream, WrongSize}
-use Rattle.audit_terms.specs.declared.kinds.Kind.TheVariants.{BadPadding, BadSetting, Push, NotOpened, IdNotGreater}
-use Rattle.audit_terms.specs.declared.kinds.Kind.TheVariants.{ZeroConnectionGrant, ConnectionOverflow, SettingOverflow}
-use Rattle.audit_terms.specs.declared.kinds.Kind.TheVariants.{LongFrame, AfterEnd, ConnectionOverrun, StreamOverrun}
-use Rattle.audit_terms.specs.declared.kinds.Kind.TheVariants.{ZeroStreamGrant, StreamOverflow, UnmatchedAck}
-use Rattle.audit_terms.specs.declared.kinds.Kind.TheVariants.{BadPriority, ConnectionStallEnd, ConnectionStallBegin}
-use Rattle.audit_terms.specs.declared.kinds.Kind.TheVariants.{StreamStallEnd, StreamStallBegin, ConnectionCredit}
-use Rattle.audit_terms.specs.declared.kinds.Kind.TheVariants.{StreamCredit}
-use Rattle.audit_terms.specs.declared.frames.Body.{Body}
-use Rattle.audit_terms.specs.declared.frames.Body.TheVariants.{Content, Headers, Priority, RstStream}
-use Rattle.audit_terms.specs.declared.frames.Body.TheVariants.{Settings as SettingsBody, SettingsAck, PushPromise, Ping}
-use Rattle.audit_terms.specs.declared.frames.Body.TheVariants.{GoAway, WindowUpdate, Continuation, Unknown, Unreadable}
-use Rattle.audit_terms.specs.declared.frames.Frame.{Frame}
-use Rattle.audit_terms.specs.declared.items.Item.{Item}
-use Rattle.audit_terms.specs.declared.items.Step.{Step}
-use Rattle.audit_terms.specs.declared.connections.ConnectionState.{ConnectionState}
-use Rattle.audit_terms.specs.declared.streams.Stream.{Stream}
-use Rattle.audit_terms.specs.declared.findings.Finding.{Finding}
-use Rattle.audit_terms.specs.Side.{is_side}
-use Rattle.audit_terms.specs.Sides.{side_of}
-use Rattle.audit_terms.specs.Kind.{rank_of}
-use Rattle.audit_terms.specs.Place.{place_stream}
-use Rattle.audit_terms.specs.Finding.{finding_at, say}
-use Rattle.audit_terms.specs.Frame.{is_headers, is_promise, promised_in}
-use Rattle.audit_terms.specs.code.runs.Orderly.{IsInRange}
-use Rattle.audit_terms.specs.LocalFault.{local_said, fault, body_said, reading_fault}
-use Rattle.audit_terms.specs.InForce.{InForce, settings_said}
-use Rattle.audit_terms.specs.Connection.{connection_said, length_said, push_said, opening_order_said}
-use Rattle.audit_terms.specs.Connection.{promise_order_said, connection_windows_said, connection_window_said}
-use Rattle.audit_terms.specs.Stream.{WindowStep, opens, window_at_opening, window_step, stream_said, frame_said}
-use Rattle.audit_terms.specs.Stream.{stream_window_said, live_window_said, opened_window_said}
+use Rattle.audit_core.proofs.Words.{AllByRecursion, and-false, Side, Client, Server, Sides, Kind, BadPreface}
+use Rattle.audit_core.proofs.Words.{BrokenBlock, TooLong, WrongStream, WrongSize, BadPadding, BadSetting, Push}
+use Rattle.audit_core.proofs.Words.{NotOpened, IdNotGreater, ZeroConnectionGrant, ConnectionOverflow, SettingOverflow}
+use Rattle.audit_core.proofs.Words.{LongFrame, AfterEnd, ConnectionOverrun, StreamOverrun, ZeroStreamGrant}
+use Rattle.audit_core.proofs.Words.{StreamOverflow, UnmatchedAck, BadPriority, ConnectionStallEnd, ConnectionStallBegin}
+use Rattle.audit_core.proofs.Words.{StreamStallEnd, StreamStallBegin, ConnectionCredit, StreamCredit, Body, Content}
+use Rattle.audit_core.proofs.Words.{Headers, Priority, RstStream, SettingsBody, SettingsAck, PushPromise, Ping, GoAway}
+use Rattle.audit_core.proofs.Words.{WindowUpdate, Continuation, Unknown, Unreadable, Frame, Item, Step, ConnectionState}
+use Rattle.audit_core.proofs.Words.{Stream, Finding, is_side, side_of, rank_of, place_stream, finding_at, say}
+use Rattle.audit_core.proofs.Words.{is_headers, is_promise, promised_in, IsInRange, local_said, fault, body_said}
+use Rattle.audit_core.proofs.Words.{reading_fault, InForce, settings_said, connection_said, length_said, push_said}
+use Rattle.audit_core.proofs.Words.{opening_order_said, promise_order_said, connection_windows_said}
+use Rattle.audit_core.proofs.Words.{connection_window_said, WindowStep, opens, window_at_opening, window_step}
+use Rattle.audit_core.proofs.Words.{stream_said, frame_said, stream_window_said, live_window_said, opened_window_said}
+use Rattle.audit_core.proofs.Words.{PassState, streams_said, step_of, item_of, AreApart, StandApart}
 use Rattle.audit_core.proofs.NamedStreams.{NotAmong, AreDistinct}
-use Rattle.audit_terms.specs.Pass.{PassState, streams_said, step_of, item_of}
-use Rattle.audit_core.specs.laws.Apart.{AreApart, StandApart}
 use Rattle.audit_core.proofs.Pairs.{all-append, across-by, pairs-append}
 use Rattle.audit_core.proofs.PassOrder.{AreStreams, rows_of}
 use Rattle.audit_core.proofs.TableRows.{row_at, row-either, IsRow, AreRows, Only, rows-wider, rows-nil, rows-append}

@@ -1,20 +1,11 @@
 -- The steps of some frames and some changes are these frames and these changes, joined.
 use Rattle.std.proofs.Common.{◌≡◌, ℕ, ◌+◌, ◌<◌, Bool, true, false, ◌==◌, ◌||◌, nat_lt, if◌then◌else◌, List, [], ◌∷◌}
 use Rattle.std.proofs.Common.{◌++◌, map, Option, Some, None, is_some, refl, sym, ap, ◌∙◌, subst, arith}
-use Rattle.std.specs.Option.{option_to_list}
-use Rattle.std.specs.List.{AllByRecursion, flat_map}
-use Rattle.std.proofs.lemmas.Bool.Decides.{nat_tests}
-use borrow.Author.Tests.{eqb-true}
-use Rattle.audit_terms.specs.declared.settings.Settings.{Settings}
-use Rattle.audit_terms.specs.declared.frames.Frame.{Frame}
-use Rattle.audit_terms.specs.declared.items.Change.{Change}
-use Rattle.audit_terms.specs.declared.items.Step.{Step}
-use Rattle.audit_terms.specs.Frame.{meets}
-use Rattle.audit_terms.specs.code.runs.Orderly.{IsOrderlyFrom}
-use Rattle.audit_terms.specs.InForce.{InForce, initial_in_force, in_force_after, change_taking, taken}
-use Rattle.audit_terms.specs.code.runs.Changes.{changes_from, changes_of}
-use Rattle.audit_terms.specs.code.runs.Streams.{frames_of, frame_step, change_step, with_change, steps_of}
-use Rattle.audit_core.specs.laws.Steps.{AreRising, IsFilled, StepsJoinFramesAndChanges, StreamsHaveSteps}
+use Rattle.audit_core.proofs.Words.{option_to_list, AllByRecursion, flat_map, nat_tests, eqb-true, Settings, Frame}
+use Rattle.audit_core.proofs.Words.{Change, Step, meets, IsOrderlyFrom, InForce, initial_in_force, in_force_after}
+use Rattle.audit_core.proofs.Words.{change_taking, taken, changes_from, changes_of, frames_of, frame_step, change_step}
+use Rattle.audit_core.proofs.Words.{with_change, steps_of, AreRising, IsFilled, StepsJoinFramesAndChanges}
+use Rattle.audit_core.proofs.Words.{StreamsHaveSteps}
 use Rattle.audit_core.proofs.Pairs.{all-map}
 
 abbrev frame_numbers : List Frame → List ℕ

@@ -2,25 +2,12 @@
 use Rattle.std.proofs.Common.{◌≡◌, ℕ, ℤ, Bool, true, false, ◌==◌, ◌&&◌, ◌||◌, ◌%◌, if◌then◌else◌, pos, List, [], ◌∷◌}
 use Rattle.std.proofs.Common.{Option, Some, None, is_some, is_none, refl}
 use Rattle.std.specs.Prelude.{OnSome}
-use borrow.Author.Tests.{eqb-true}
-use Rattle.audit_terms.specs.declared.sides.Side.{Side}
-use Rattle.audit_terms.specs.declared.sides.Side.TheVariants.{Client, Server}
-use Rattle.audit_terms.specs.declared.sides.Sides.{Sides}
-use Rattle.audit_terms.specs.declared.frames.Frame.{Frame}
-use Rattle.audit_terms.specs.declared.items.Change.{Change}
-use Rattle.audit_terms.specs.declared.items.Step.{Step}
-use Rattle.audit_terms.specs.declared.streams.Stream.{Stream}
-use Rattle.audit_terms.specs.Side.{is_side}
-use Rattle.audit_terms.specs.Sides.{side_of}
-use Rattle.audit_terms.specs.Frame.{is_client_headers, is_reset, promises, sends_end, meets}
-use Rattle.audit_terms.specs.Life.{is_opening, is_last_of, ends_window}
-use Rattle.audit_terms.specs.Stream.{window_after, window_at_opening, stream_after}
-use Rattle.audit_terms.specs.code.StreamSteps.{counted, is_overflowing_grant}
-use Rattle.audit_terms.specs.InForce.{change_of}
-use Rattle.audit_terms.specs.Pass.{PassState, pass_start, next}
-use Rattle.audit_terms.specs.code.runs.States.{state_from}
+use Rattle.audit_core.proofs.Words.{eqb-true, Side, Client, Server, Sides, Frame, Change, Step, Stream, is_side}
+use Rattle.audit_core.proofs.Words.{side_of, is_client_headers, is_reset, promises, sends_end, meets, is_opening}
+use Rattle.audit_core.proofs.Words.{is_last_of, ends_window, window_after, window_at_opening, stream_after, counted}
+use Rattle.audit_core.proofs.Words.{is_overflowing_grant, change_of, PassState, pass_start, next, state_from}
+use Rattle.audit_core.proofs.Words.{LiveWindowsAreOpened, LiveWindowsAreUnended}
 use Rattle.audit_core.proofs.Meetings.{and-right, and-false}
-use Rattle.audit_core.specs.laws.LiveWindows.{LiveWindowsAreOpened, LiveWindowsAreUnended}
 
 on_some : {A : Type 0} (o : Option A) (P : Type 0) → P → OnSome o P
 on_some None P p = tt

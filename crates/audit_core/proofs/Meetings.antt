@@ -2,24 +2,12 @@
 -- stream is.
 use Rattle.std.proofs.Common.{◌≡◌, ℕ, Bool, true, false, ◌&&◌, ◌||◌, ◌==◌, if◌then◌else◌, ◌%◌, Some, None, is_none}
 use Rattle.std.proofs.Common.{refl, sym}
-use Rattle.std.specs.Option.{option_map_or}
-use Rattle.audit_terms.specs.declared.sides.Side.{Side}
-use Rattle.audit_terms.specs.declared.sides.Side.TheVariants.{Client, Server}
-use Rattle.audit_terms.specs.declared.frames.Body.{Body}
-use Rattle.audit_terms.specs.declared.frames.Body.TheVariants.{Content, Headers, Priority, RstStream}
-use Rattle.audit_terms.specs.declared.frames.Body.TheVariants.{Settings as SettingsBody, SettingsAck, PushPromise, Ping}
-use Rattle.audit_terms.specs.declared.frames.Body.TheVariants.{GoAway, WindowUpdate, Continuation, Unknown, Unreadable}
-use Rattle.audit_terms.specs.declared.frames.Frame.{Frame}
-use Rattle.audit_terms.specs.declared.lives.StreamLife.{StreamLife}
-use Rattle.audit_terms.specs.declared.streams.Stream.{Stream}
-use Rattle.audit_terms.specs.Side.{is_side}
-use Rattle.audit_terms.specs.Frame.{is_ack, is_content, is_headers, is_promise, is_server_promise, is_client_headers}
-use Rattle.audit_terms.specs.Frame.{increment, content_by, grant_to, promises, meets}
-use Rattle.audit_terms.specs.laws.Credit.{content_on}
-use Rattle.audit_terms.specs.InForce.{InForce}
-use Rattle.audit_terms.specs.Life.{is_opening, life_after}
-use Rattle.audit_terms.specs.Stream.{step_amount, opens, life_at}
-use Rattle.audit_terms.specs.Pass.{step_of}
+use Rattle.audit_core.proofs.Words.{option_map_or, Side, Client, Server, Body, Content, Headers, Priority, RstStream}
+use Rattle.audit_core.proofs.Words.{SettingsBody, SettingsAck, PushPromise, Ping, GoAway, WindowUpdate, Continuation}
+use Rattle.audit_core.proofs.Words.{Unknown, Unreadable, Frame, StreamLife, Stream, is_side, is_ack, is_content}
+use Rattle.audit_core.proofs.Words.{is_headers, is_promise, is_server_promise, is_client_headers, increment, content_by}
+use Rattle.audit_core.proofs.Words.{grant_to, promises, meets, content_on, InForce, is_opening, life_after, step_amount}
+use Rattle.audit_core.proofs.Words.{opens, life_at, step_of}
 
 pub and-left : (a b : Bool) → (a && b) ≡ true → a ≡ true
 and-left true b e = refl

@@ -2,8 +2,7 @@
 use Rattle.std.proofs.Common.{◌≡◌, ◌≢◌, ℕ, Bool, true, false, not, ◌==◌, ◌||◌, ◌&&◌, if◌then◌else◌, List, [], ◌∷◌, ◌++◌}
 use Rattle.std.proofs.Common.{filter, refl, sym, ap, ◌∙◌, append_assoc}
 use Rattle.std.proofs.lemmas.List.Elements.{filter_agree}
-use borrow.Author.Tests.{eqb-true}
-use Rattle.audit_terms.specs.Pass.{first_of}
+use Rattle.audit_core.proofs.Words.{eqb-true, first_of}
 
 -- the stream is not among these
 abbrev pub NotAmong : ℕ → List ℕ → Type 0

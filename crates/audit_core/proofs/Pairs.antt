@@ -1,8 +1,6 @@
 -- What holds of each two elements of a list holds of them in any order.
 use Rattle.std.proofs.Common.{◌≡◌, Bool, true, false, List, [], ◌∷◌, ◌++◌, refl}
-use Rattle.std.specs.List.{AllByRecursion}
-use Rattle.audit_terms.specs.Order.{put_by, ordered_by}
-use Rattle.audit_core.specs.laws.Apart.{EachPair}
+use Rattle.audit_core.proofs.Words.{AllByRecursion, put_by, ordered_by, EachPair}
 
 module _ {X : Type 0} (P : X → Type 0) where
   pub all-append : (xs ys : List X) → AllByRecursion P xs → AllByRecursion P ys → AllByRecursion P (xs ++ ys)

@@ -1,27 +1,12 @@
 -- The pass, put together from its parts.
 use Rattle.std.proofs.Common.{◌≡◌, ℕ, List, [], ◌∷◌, ◌++◌, refl, sym, ap, ◌∙◌, append_assoc, append-nil}
 use Rattle.std.proofs.lemmas.Grind.{flat_map-append}
-use Rattle.std.specs.List.{flat_map}
-use Rattle.audit_terms.specs.declared.frames.Frame.{Frame}
-use Rattle.audit_terms.specs.declared.items.Item.{Item}
-use Rattle.audit_terms.specs.declared.connections.ConnectionState.{ConnectionState}
-use Rattle.audit_terms.specs.declared.findings.Finding.{Finding}
-use Rattle.audit_terms.specs.Sides.{side_of}
-use Rattle.audit_terms.specs.code.runs.Orderly.{IsOrderly}
-use Rattle.audit_terms.specs.Finding.{in_order}
-use Rattle.audit_terms.specs.LocalFault.{local_said}
-use Rattle.audit_terms.specs.code.runs.LocalFaults.{local_run_from}
-use Rattle.audit_terms.specs.InForce.{settings_said}
-use Rattle.audit_terms.specs.code.runs.Changes.{settings_run_from, changes_of}
-use Rattle.audit_terms.specs.Connection.{connection_start, connection_said, connection_after}
-use Rattle.audit_terms.specs.code.runs.Blocks.{connection_after_all, block_run}
-use Rattle.audit_terms.specs.Stream.{stream_said}
-use Rattle.audit_terms.specs.Pass.{PassState, pass_start, next, item_of, step_of, streams_of, streams_said, full_from}
-use Rattle.audit_terms.specs.code.runs.States.{items_from}
-use Rattle.audit_terms.specs.code.runs.Streams.{frames_of, stream_run, group_run}
-use Rattle.audit_terms.specs.code.runs.Blocks.{block_runs}
-use Rattle.audit_core.specs.laws.Parts.{joined, PartsMakeFull}
-use Rattle.audit_terms.proofs.FindingOrder.{in_order-append_comm, in_order-alike, in_order-in_order}
+use Rattle.audit_core.proofs.Words.{flat_map, Frame, Item, ConnectionState, Finding, side_of, IsOrderly, in_order}
+use Rattle.audit_core.proofs.Words.{local_said, local_run_from, settings_said, settings_run_from, changes_of}
+use Rattle.audit_core.proofs.Words.{connection_start, connection_said, connection_after, connection_after_all}
+use Rattle.audit_core.proofs.Words.{block_run, stream_said, PassState, pass_start, next, item_of, step_of, streams_of}
+use Rattle.audit_core.proofs.Words.{streams_said, full_from, items_from, frames_of, stream_run, group_run, block_runs}
+use Rattle.audit_core.proofs.Words.{joined, PartsMakeFull, in_order-append_comm, in_order-alike, in_order-in_order}
 use Rattle.audit_core.proofs.PassOrder.{full-in_order}
 use Rattle.audit_core.proofs.StreamAlone.{alone, run-alone}
 

@@ -1,21 +1,13 @@
 -- The pass stands in order: what is said at a frame has the frame's number, and the numbers rise.
 use Rattle.std.proofs.Common.{◌≡◌, ℕ, ◌+◌, ◌^◌, ◌<◌, Bool, true, false, not, ◌==◌, List, [], ◌∷◌, ◌++◌, refl, arith}
 use Rattle.std.proofs.Common.{if◌then◌else◌, filter}
-use Rattle.audit_terms.specs.declared.frames.Frame.{Frame}
-use Rattle.audit_terms.specs.declared.findings.Finding.{Finding}
-use Rattle.audit_terms.specs.Sides.{side_of}
-use Rattle.audit_terms.specs.Finding.{comes_after, in_order}
-use Rattle.audit_terms.specs.Frame.{promised_in, promises, promised_by}
-use Rattle.audit_terms.specs.code.runs.Orderly.{IsInRange, IsOrderlyFrom, IsOrderly}
-use Rattle.audit_terms.specs.LocalFault.{local_said}
-use Rattle.audit_terms.specs.InForce.{settings_said}
-use Rattle.audit_terms.specs.Connection.{connection_said}
-use Rattle.audit_terms.specs.Pass.{PassState, pass_start, said, full_from, full, next, first_of, streams_of}
-use Rattle.audit_terms.specs.Pass.{streams_said, step_of, item_of}
-use Rattle.audit_terms.proofs.OrderedLists.{IsInOrder, in_order-ordered, in_order-append, ordered-in_order}
-use Rattle.audit_terms.proofs.FindingOrder.{comes_after_is}
-use Rattle.audit_terms.proofs.SaidPlaces.{AreAt, AreFrom, at-append, at-in_order, at-nil, at-local, at-settings}
-use Rattle.audit_terms.proofs.SaidPlaces.{at-connection, at-stream, from-at, from-from, from-append, precedes-at}
+use Rattle.audit_core.proofs.Words.{Frame, Finding, side_of, comes_after, in_order, promised_in, promises, promised_by}
+use Rattle.audit_core.proofs.Words.{IsInRange, IsOrderlyFrom, IsOrderly, local_said, settings_said, connection_said}
+use Rattle.audit_core.proofs.Words.{PassState, pass_start, said, full_from, full, next, first_of, streams_of}
+use Rattle.audit_core.proofs.Words.{streams_said, step_of, item_of, IsInOrder, in_order-ordered, in_order-append}
+use Rattle.audit_core.proofs.Words.{ordered-in_order, comes_after_is, AreAt, AreFrom, at-append, at-in_order, at-nil}
+use Rattle.audit_core.proofs.Words.{at-local, at-settings, at-connection, at-stream, from-at, from-from, from-append}
+use Rattle.audit_core.proofs.Words.{precedes-at}
 
 -- all streams have 31 bits
 abbrev pub AreStreams : List ℕ → Type 0

@@ -2,40 +2,20 @@
 use Rattle.std.proofs.Common.{◌≡◌, ◌≢◌, ℕ, pos, ◌^◌, ◌<◌, ◌≤◌, ◌%◌, Bool, true, false, not, ◌==◌, ◌&&◌, ◌||◌, List, []}
 use Rattle.std.proofs.Common.{◌∷◌, ◌++◌, length, map, filter, get_or, Option, is_none, refl, sym, ap, ◌∙◌, subst}
 use Rattle.std.proofs.Common.{append_assoc, ◌+◌, if◌then◌else◌, Some, None, is_some, slice_get, drop, arith}
-use Rattle.std.specs.List.{All, flat_map, list_any, find}
 use Rattle.std.proofs.lemmas.List.Elements.{All-nil, All-cons}
 use Rattle.std.proofs.lemmas.Bool.{and_right}
 use Rattle.std.proofs.lemmas.Simd.{map-map}
 use Rattle.std.proofs.lemmas.List.Folds.{flat_map-map, list_any_at}
-use borrow.Author.Tests.{eqb-true, eq-eqb, ne_eqb}
-use Rattle.audit_terms.specs.declared.sides.Sides.{Sides}
-use Rattle.audit_terms.specs.declared.kinds.Kind.TheVariants.{UnmatchedAck}
-use Rattle.audit_terms.specs.declared.frames.Frame.{Frame}
-use Rattle.audit_terms.specs.declared.items.Change.{Change}
-use Rattle.audit_terms.specs.declared.items.Item.{Item}
-use Rattle.audit_terms.specs.declared.connections.ConnectionState.{ConnectionState}
-use Rattle.audit_terms.specs.declared.findings.Finding.{Finding}
-use Rattle.audit_terms.specs.Sides.{side_of}
-use Rattle.audit_terms.specs.Frame.{is_ack, meets, promises}
-use Rattle.audit_terms.specs.Finding.{finding_at, in_order, say}
-use Rattle.audit_terms.specs.LocalFault.{local_said}
-use Rattle.audit_terms.specs.InForce.{change_of, InForce, in_force_after, change_taking, taken, settings_said}
-use Rattle.audit_terms.specs.Connection.{connection_said}
-use Rattle.audit_terms.specs.Life.{is_opening}
-use Rattle.audit_terms.specs.Stream.{idle_stream}
-use Rattle.audit_terms.specs.Pass.{PassState, full_from, next, said, streams_of, streams_said, item_of, opens_stream}
-use Rattle.audit_terms.specs.Pass.{first_of, step_of}
-use Rattle.audit_terms.proofs.Bounds.{room-wider}
-use Rattle.audit_core.specs.declared.rows.StreamRow.{StreamRow}
-use Rattle.audit_core.specs.code.StreamRows.{rows_in, idle_rows, row_opens, row_said, row_after, RowFits}
+use borrow.Author.Tests.{ne_eqb}
+use Rattle.audit_core.proofs.Words.{All, flat_map, list_any, find, eqb-true, eq-eqb, Sides, UnmatchedAck, Frame, Change}
+use Rattle.audit_core.proofs.Words.{Item, ConnectionState, Finding, side_of, is_ack, meets, promises, finding_at}
+use Rattle.audit_core.proofs.Words.{in_order, say, local_said, change_of, InForce, in_force_after, change_taking, taken}
+use Rattle.audit_core.proofs.Words.{settings_said, connection_said, is_opening, idle_stream, PassState, full_from, next}
+use Rattle.audit_core.proofs.Words.{said, streams_of, streams_said, item_of, opens_stream, first_of, step_of}
+use Rattle.audit_core.proofs.Words.{room-wider, StreamRow, rows_in, idle_rows, row_opens, row_said, row_after, RowFits}
+use Rattle.audit_core.proofs.Words.{option_to_list, Settings, other, changes_from, IsOrderlyFrom, IsAcknowledged}
 use Rattle.audit_core.proofs.PassOrder.{rows_of, AreStreams}
 use Rattle.audit_core.proofs.StreamsMet.{streams_met_lem}
-use Rattle.std.specs.Option.{option_to_list}
-use Rattle.audit_terms.specs.declared.settings.Settings.{Settings}
-use Rattle.audit_terms.specs.Side.{other}
-use Rattle.audit_terms.specs.code.runs.Changes.{changes_from}
-use Rattle.audit_terms.specs.code.runs.Orderly.{IsOrderlyFrom}
-use Rattle.audit_terms.specs.code.runs.Streams.{IsAcknowledged}
 use Rattle.audit_core.proofs.OrderlyRest.{drop-at}
 use Rattle.audit_core.proofs.StreamSteps.{ChangesFrom, changes-later, differ_test, differ_test_back, same_test}
 

@@ -1,8 +1,6 @@
 -- What is kept of the findings ends at the first that stops.
 use Rattle.std.proofs.Common.{◌≡◌, Bool, true, false, List, [], ◌∷◌, refl, ap, ◌⊎◌, inl, inr}
-use Rattle.audit_terms.specs.declared.findings.Finding.{Finding}
-use Rattle.audit_terms.specs.Finding.{stops, upto_stop}
-use Rattle.audit_core.specs.laws.Stop.{NoneStops, EndsAt, KeptUptoFirstStop}
+use Rattle.audit_core.proofs.Words.{Finding, stops, upto_stop, NoneStops, EndsAt, KeptUptoFirstStop}
 
 abbrev Kept : List Finding → Type 0
 Kept findings =

@@ -1,19 +1,9 @@
 -- The steps of one stream are those frames of the connection at which it has a frame or a change is brought.
 use Rattle.std.proofs.Common.{◌≡◌, ℕ, ◌+◌, ◌<◌, ◌≤◌, Bool, true, false, ◌==◌, nat_lt, List, [], ◌∷◌, ◌++◌, map, Option}
 use Rattle.std.proofs.Common.{Some, None, refl, ap, ◌∙◌, if◌then◌else◌, arith}
-use Rattle.std.specs.Option.{option_to_list}
-use Rattle.std.proofs.lemmas.Bool.Decides.{nat_tests}
-use Rattle.audit_terms.specs.declared.settings.Settings.{Settings}
-use Rattle.audit_terms.specs.declared.frames.Frame.{Frame}
-use Rattle.audit_terms.specs.declared.items.Change.{Change}
-use Rattle.audit_terms.specs.declared.items.Step.{Step}
-use Rattle.audit_terms.specs.Frame.{meets}
-use Rattle.audit_terms.specs.code.runs.Orderly.{IsOrderlyFrom}
-use Rattle.audit_terms.specs.Change.{change_by}
-use Rattle.audit_terms.specs.InForce.{InForce, in_force_after, change_taking, taken}
-use Rattle.audit_terms.specs.code.runs.Changes.{changes_from}
-use Rattle.audit_terms.specs.Pass.{step_of}
-use Rattle.audit_terms.specs.code.runs.Streams.{frames_of, frame_step, change_step, with_change, steps_of}
+use Rattle.audit_core.proofs.Words.{option_to_list, nat_tests, Settings, Frame, Change, Step, meets, IsOrderlyFrom}
+use Rattle.audit_core.proofs.Words.{change_by, InForce, in_force_after, change_taking, taken, changes_from, step_of}
+use Rattle.audit_core.proofs.Words.{frames_of, frame_step, change_step, with_change, steps_of}
 
 -- all numbers at or above one
 abbrev pub FramesFrom : (low : ℕ) → List Frame → Type 0

@@ -1,14 +1,9 @@
 -- The streams that frames name are those that meet one of them.
 use Rattle.std.proofs.Common.{◌≡◌, ◌≢◌, ℕ, Bool, true, false, ◌==◌, ◌&&◌, ◌||◌, not, if◌then◌else◌, List, [], ◌∷◌}
 use Rattle.std.proofs.Common.{filter, refl, sym, ap, ◌∙◌}
-use Rattle.std.specs.List.{list_any}
-use borrow.Author.Tests.{eqb-true, eq-eqb}
-use Rattle.audit_terms.specs.declared.frames.Frame.{Frame}
-use Rattle.audit_terms.specs.Frame.{promised_in, promises, promised_by, meets}
-use Rattle.audit_terms.specs.Pass.{first_of, streams_of}
+use Rattle.audit_core.proofs.Words.{list_any, eqb-true, eq-eqb, Frame, promised_in, promises, promised_by, meets}
+use Rattle.audit_core.proofs.Words.{first_of, streams_of, EachPair, StreamsAreThoseMet, StreamsAreNamedOnce}
 use Rattle.audit_core.proofs.NamedStreams.{AreDistinct, or_assoc}
-use Rattle.audit_core.specs.laws.Apart.{EachPair}
-use Rattle.audit_core.specs.laws.Streams.{StreamsAreThoseMet, StreamsAreNamedOnce}
 use Rattle.audit_core.proofs.Meetings.{and-false}
 use Rattle.audit_core.proofs.FrameRows.{all-differ}
 use Rattle.audit_core.proofs.Apart.{distinct-streams_of}

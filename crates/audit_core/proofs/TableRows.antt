@@ -2,18 +2,9 @@
 -- in rows of different numbers.
 use Rattle.std.proofs.Common.{◌≡◌, ℕ, ℤ, ◌+◌, ◌^◌, ◌<◌, ◌≤◌, Bool, true, false, List, [], ◌∷◌, ◌++◌, get_or, ap, ◌∙◌}
 use Rattle.std.proofs.Common.{arith, Option, Some, None, if◌then◌else◌}
-use Rattle.std.specs.List.{AllByRecursion}
-use Rattle.audit_terms.specs.declared.sides.Side.{Side}
-use Rattle.audit_terms.specs.declared.sides.Side.TheVariants.{Client, Server}
-use Rattle.audit_terms.specs.declared.kinds.Kind.{Kind}
-use Rattle.audit_terms.specs.declared.findings.Finding.{Finding}
-use Rattle.audit_terms.specs.Kind.{rank_of}
-use Rattle.audit_terms.specs.Place.{place_of, place_stream}
-use Rattle.audit_terms.specs.code.Places.{place_rank}
-use Rattle.audit_terms.specs.Finding.{finding_at, say, say_of}
-use Rattle.audit_core.specs.laws.Apart.{AreApart, StandApart}
+use Rattle.audit_core.proofs.Words.{AllByRecursion, Side, Client, Server, Kind, Finding, rank_of, place_of}
+use Rattle.audit_core.proofs.Words.{place_stream, place_rank, finding_at, say, say_of, AreApart, StandApart, rank-small}
 use Rattle.audit_core.proofs.Pairs.{all-append, all-map, across-by, pairs-append}
-use Rattle.audit_terms.proofs.SaidPlaces.{rank-small}
 
 -- the row in which a rank is said of an endpoint, by rank: 0 to 4 local faults, 5 settings, 6 length, 7 the server's
 -- push, 8 order of openings, 9 to 14 and 15 to 20 the connection windows of client and server, 21 to 23 what a frame

@@ -1,19 +1,8 @@
 use Rattle.std.proofs.Common.{◌≡◌, pos, ◌+◌, ◌*◌, ◌^◌, ◌∷◌, ◌&&◌, drop, is_none, refl, sym, ap, ◌∙◌, subst, arith}
-use Rattle.std.specs.List.{All, list_any, find}
 use Rattle.std.proofs.lemmas.List.Elements.{All-weaker}
-use Rattle.std.proofs.lemmas.Int.{ints}
-use Rattle.audit_terms.specs.declared.frames.Frame.{Frame}
-use Rattle.audit_terms.specs.declared.items.Item.{Item}
-use Rattle.audit_terms.specs.declared.connections.ConnectionState.{ConnectionState}
-use Rattle.audit_terms.specs.Frame.{is_ack}
-use Rattle.audit_terms.specs.code.Room.{HasRoom}
-use Rattle.audit_terms.specs.InForce.{change_of}
-use Rattle.audit_terms.specs.Connection.{connection_after}
-use Rattle.audit_terms.specs.Pass.{PassState, pass_start, next, item_of, streams_of}
-use Rattle.audit_terms.specs.code.runs.Changes.{changes_from}
-use Rattle.audit_terms.specs.code.runs.Orderly.{IsOrderlyFrom}
-use Rattle.audit_terms.proofs.Bounds.{room-wider}
-use Rattle.audit_core.specs.code.StreamRows.{RowFits, row_opens}
+use Rattle.audit_core.proofs.Words.{All, list_any, find, ints, Frame, Item, ConnectionState, is_ack, HasRoom, change_of}
+use Rattle.audit_core.proofs.Words.{connection_after, PassState, pass_start, next, item_of, streams_of, changes_from}
+use Rattle.audit_core.proofs.Words.{IsOrderlyFrom, room-wider, RowFits, row_opens}
 use Rattle.audit_core.proofs.OrderlyRest.{length-orderly, drop-at}
 use Rattle.audit_core.proofs.PassOrder.{streams-streams_of}
 use Rattle.audit_core.proofs.PassRows.{is_at, change-at, change-past, none-test, step_of-acknowledged, idle_rows-fit}

@@ -1,6 +1,5 @@
 use Rattle.std.proofs.Common.{◌≡◌, ℕ, ◌+◌, ◌^◌, ◌++◌, map, take}
-use Rattle.std.specs.List.{All, flat_map}
-use Rattle.audit_core.specs.code.StreamRows.{RowFits, row_said, row_after}
+use Rattle.audit_core.proofs.Words.{All, flat_map, RowFits, row_said, row_after}
 use Rattle.audit_core.proofs.rows.meet_all.Given as goal
 
 abbrev pub invariant-loop-row : goal.invariant-loop-row

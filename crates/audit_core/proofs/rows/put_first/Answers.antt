@@ -1,7 +1,6 @@
 use Rattle.std.proofs.Common.{◌==◌, not, ◌∷◌, ◌∙◌, ap, rules}
 use Rattle.std.proofs.lemmas.Fn.{filter_same}
-use Rattle.audit_terms.specs.declared.streams.Stream.{Stream}
-use Rattle.audit_core.specs.declared.rows.StreamRow.{StreamRow}
+use Rattle.audit_core.proofs.Words.{Stream, StreamRow}
 use Rattle.audit_core.proofs.PassRows.{first-more}
 use Rattle.audit_core.proofs.rows.put_first.Goals as goal
 
