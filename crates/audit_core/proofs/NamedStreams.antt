@@ -1,18 +1,8 @@
 -- The streams that frames name, gathered one by one.
-use Rattle.std.proofs.Common.{◌≡◌, ◌≢◌, ℕ, Bool, true, false, not, ◌==◌, ◌||◌, ◌&&◌, if◌then◌else◌, List, [], ◌∷◌, ◌++◌}
+use Rattle.std.proofs.Common.{◌≡◌, ℕ, Bool, true, false, not, ◌==◌, ◌||◌, ◌&&◌, if◌then◌else◌, List, [], ◌∷◌, ◌++◌}
 use Rattle.std.proofs.Common.{filter, refl, sym, ap, ◌∙◌, append_assoc}
 use Rattle.std.proofs.lemmas.List.Elements.{filter_agree}
-use Rattle.audit_core.proofs.Words.{eqb-true, first_of}
-
--- the stream is not among these
-abbrev pub NotAmong : ℕ → List ℕ → Type 0
-NotAmong stream [] = Unit {0}
-NotAmong stream (other ∷ others) = (stream ≢ other) × NotAmong stream others
-
--- no stream stands twice
-abbrev pub AreDistinct : List ℕ → Type 0
-AreDistinct [] = Unit {0}
-AreDistinct (stream ∷ streams) = NotAmong stream streams × AreDistinct streams
+use Rattle.audit_core.proofs.Words.{eqb-true, first_of, other}
 
 -- does the stream stand among these?
 abbrev pub is_among : ℕ → List ℕ → Bool

@@ -1,5 +1,5 @@
 -- What holds of each two elements of a list holds of them in any order.
-use Rattle.std.proofs.Common.{◌≡◌, Bool, true, false, List, [], ◌∷◌, ◌++◌, refl}
+use Rattle.std.proofs.Common.{◌≡◌, Bool, true, false, List, [], ◌∷◌, ◌++◌, refl, filter}
 use Rattle.audit_core.proofs.Words.{AllByRecursion, put_by, ordered_by, EachPair}
 
 module _ {X : Type 0} (P : X → Type 0) where
@@ -20,6 +20,13 @@ module _ {X : Type 0} (P : X → Type 0) where
   all-ordered after [] p = tt
   all-ordered after (x ∷ xs) p = all-put after x (ordered_by after xs) p.0 (all-ordered after xs p.1)
 
+  pub all-filter : (test : X → Bool) (xs : List X) → AllByRecursion P xs → AllByRecursion P (filter test xs)
+  all-filter test [] p = tt
+  all-filter test (x ∷ xs) p = step _ refl (all-filter test xs p.1) where
+    step : (b : Bool) → test x ≡ b → AllByRecursion P (filter test xs) → AllByRecursion P (filter test (x ∷ xs))
+    step true e ih = rw e (p.0, ih)
+    step false e ih = rw e ih
+
 pub all-map : {X : Type 0} (P Q : X → Type 0) → ((x : X) → P x → Q x) → (xs : List X) → AllByRecursion P xs →
     AllByRecursion Q xs
 all-map P Q f [] h = tt
@@ -39,6 +46,13 @@ module _ {X : Type 0} (R : X → X → Type 0) where
   pub pairs-append : (xs ys : List X) → EachPair R xs → EachPair R ys → Across xs ys → EachPair R (xs ++ ys)
   pairs-append [] ys p q r = q
   pairs-append (x ∷ xs) ys p q r = (all-append (R x) xs ys p.0 r.0, pairs-append xs ys p.1 q r.1)
+
+  pub pairs-filter : (test : X → Bool) (xs : List X) → EachPair R xs → EachPair R (filter test xs)
+  pairs-filter test [] p = tt
+  pairs-filter test (x ∷ xs) p = step _ refl (pairs-filter test xs p.1) where
+    step : (b : Bool) → test x ≡ b → EachPair R (filter test xs) → EachPair R (filter test (x ∷ xs))
+    step true e ih = rw e (all-filter (R x) test xs p.0, ih)
+    step false e ih = rw e ih
 
   module _ (after : X → X → Bool) (turned : (x y : X) → R x y → R y x) where
     pairs-put : (x : X) (ys : List X) → AllByRecursion (R x) ys → EachPair R ys → EachPair R (put_by after x ys)

@@ -1,11 +1,10 @@
 -- The streams that frames name are those that meet one of them.
-use Rattle.std.proofs.Common.{◌≡◌, ◌≢◌, ℕ, Bool, true, false, ◌==◌, ◌&&◌, ◌||◌, not, if◌then◌else◌, List, [], ◌∷◌}
-use Rattle.std.proofs.Common.{filter, refl, sym, ap, ◌∙◌}
+use Rattle.std.proofs.Common.{◌≡◌, ℕ, Bool, true, false, ◌==◌, ◌&&◌, ◌||◌, not, if◌then◌else◌, List, [], ◌∷◌, filter}
+use Rattle.std.proofs.Common.{refl, sym, ap, ◌∙◌, zero}
 use Rattle.audit_core.proofs.Words.{list_any, eqb-true, eq-eqb, Frame, promised_in, promises, promised_by, meets}
-use Rattle.audit_core.proofs.Words.{first_of, streams_of, EachPair, StreamsAreThoseMet, StreamsAreNamedOnce}
-use Rattle.audit_core.proofs.NamedStreams.{AreDistinct, or_assoc}
+use Rattle.audit_core.proofs.Words.{first_of, streams_of, StreamsAreThoseMet, StreamsAreNamedOnce, other}
+use Rattle.audit_core.proofs.NamedStreams.{or_assoc}
 use Rattle.audit_core.proofs.Meetings.{and-false}
-use Rattle.audit_core.proofs.FrameRows.{all-differ}
 use Rattle.audit_core.proofs.Apart.{distinct-streams_of}
 
 -- another stream is named still when this one is left out
@@ -108,9 +107,5 @@ streams_met_lem stream frames = by_test _ refl where
       ap (λ x. list_any (λ other. other == x) (streams_of frames)) (eqb-true stream 0 e) ∙ named-zero frames ∙ rw e refl
   by_test false e = rw e (named-met stream e frames)
 
-once : (streams : List ℕ) → AreDistinct streams → EachPair (λ stream other. stream ≢ other) streams
-once [] h = tt
-once (stream ∷ streams) h = (all-differ stream streams h.0, once streams h.1)
-
 pub streams_once_lem : StreamsAreNamedOnce
-streams_once_lem frames = once (streams_of frames) (distinct-streams_of frames)
+streams_once_lem frames = distinct-streams_of frames

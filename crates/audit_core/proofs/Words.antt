@@ -11,7 +11,7 @@ pub use Rattle.audit_terms.proofs.OrderedLists.{in_order-append, ordered-in_orde
 pub use Rattle.audit_terms.proofs.SaidPlaces.{rank-small, AreWithin, AreFrom, at-in_order, from-at, precedes-at, at-nil}
 pub use Rattle.audit_terms.proofs.SaidPlaces.{from-append, at-local, from-from, at-append, at-settings, at-connection}
 pub use Rattle.audit_terms.proofs.SaidPlaces.{AreAt, at-stream}
-pub use Rattle.audit_terms.specs.Change.{new_initial, change_by}
+pub use Rattle.audit_terms.specs.Change.{new_initial, new_limit, change_by}
 pub use Rattle.audit_terms.specs.Connection.{credit_after, promise_order_said, connection_window_said, length_said}
 pub use Rattle.audit_terms.specs.Connection.{push_said, connection_said, connection_windows_said, opening_order_said}
 pub use Rattle.audit_terms.specs.Connection.{connection_after, connection_start}

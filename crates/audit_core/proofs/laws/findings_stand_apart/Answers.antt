@@ -1,5 +1,4 @@
-use Rattle.audit_core.proofs.Apart.{findings_stand_apart}
-use Rattle.audit_core.proofs.ErrorSides.{errors_stand_alone}
+use Rattle.audit_core.proofs.Apart.{findings_stand_apart, errors_stand_alone}
 use Rattle.audit_core.proofs.laws.findings_stand_apart.Goals as goal
 
 pub returns-clause-apart : goal.returns-clause-apart
