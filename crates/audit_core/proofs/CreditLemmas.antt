@@ -8,9 +8,8 @@ use Rattle.audit_core.proofs.Words.{content_by, grant_to, IsOrderlyFrom, is_open
 use Rattle.audit_core.proofs.Words.{new_initial, change_of, credit_after, step_test, opens, window_after}
 use Rattle.audit_core.proofs.Words.{window_at_opening, counted, window_ends, PassState, pass_start, step_of, next}
 use Rattle.audit_core.proofs.Words.{state_from, ConnectionCreditIsSum, StreamCreditIsSum, content_on, since}
-use Rattle.audit_core.proofs.Words.{stream_credit_sum}
-use Rattle.audit_core.proofs.Meetings.{CountsNothing, no-choice, and-false, step-grant, step-content, step-opening}
-use Rattle.audit_core.proofs.Meetings.{step-opened}
+use Rattle.audit_core.proofs.Words.{stream_credit_sum, and-false}
+use Rattle.audit_core.proofs.Meetings.{CountsNothing, no-choice, step-grant, step-content, step-opening, step-opened}
 
 -- ---- the connection
 

@@ -2,12 +2,12 @@
 -- change moves the windows of the side alone that acknowledges it.
 use Rattle.std.proofs.Common.{◌≡◌, ℕ, ℤ, pos, ◌+ℤ◌, ◌-ℤ◌, Bool, true, false, ◌&&◌, int_lt, refl, arith, Option, Some}
 use Rattle.std.proofs.Common.{None, is_some, if◌then◌else◌}
-use Rattle.std.proofs.lemmas.Bool.{and_parts}
 use Rattle.audit_core.proofs.Words.{option_map_or, ints, and-false, Side, Client, Server, Sides, Body, SettingsAck}
 use Rattle.audit_core.proofs.Words.{Settings, Frame, other, is_side, side_of, is_ack, is_content, increment, content_by}
 use Rattle.audit_core.proofs.Words.{grant_to, meets, new_initial, overflows, InForce, taken, change_of, change_taking}
-use Rattle.audit_core.proofs.Words.{credit_after, counted, step_of}
+use Rattle.audit_core.proofs.Words.{credit_after, counted, step_of, and_parts}
 use Rattle.audit_core.proofs.TableRows.{same_side}
+
 
 other_side : (d e : Side) → is_side (other d) e ≡ true → d ≡ other e
 other_side Client Server h = refl

@@ -2,7 +2,6 @@
 use Rattle.std.proofs.Common.{◌≡◌, ◌≢◌, ℕ, ℤ, pos, ◌+◌, ◌^◌, ◌<◌, ◌≤◌, Bool, true, false, ◌&&◌, List, [], ◌∷◌, ◌++◌}
 use Rattle.std.proofs.Common.{append_assoc, refl, sym, subst, ◌∙◌, ap, arith, Option, Some, None, nat_lt, nat_le}
 use Rattle.std.proofs.Common.{if◌then◌else◌, true≢false, zero}
-use Rattle.std.proofs.lemmas.Bool.{and_parts}
 use Rattle.audit_terms.specs.declared.kinds.Kind.TheVariants as K
 use Rattle.audit_core.proofs.Words.{AllByRecursion, Side, Client, Server, Sides, Kind, Body, Headers, SettingsBody}
 use Rattle.audit_core.proofs.Words.{Unreadable, Frame, ConnectionState, Stream, Finding, is_side, other, side_of}
@@ -11,12 +10,13 @@ use Rattle.audit_core.proofs.Words.{IsInRange, local_said, fault, body_said, rea
 use Rattle.audit_core.proofs.Words.{length_said, opening_order_said, promise_order_said, connection_window_said, opens}
 use Rattle.audit_core.proofs.Words.{window_at_opening, window_step, stream_said, frame_said, stream_window_said}
 use Rattle.audit_core.proofs.Words.{live_window_said, PassState, streams_said, step_of, EachPair, AreApart, change_of}
-use Rattle.audit_core.proofs.Words.{rank_of, opens_stream, Change, Step, push_said, new_limit}
+use Rattle.audit_core.proofs.Words.{rank_of, opens_stream, Change, Step, push_said, new_limit, and_parts}
 use Rattle.audit_core.proofs.Pairs.{all-append, all-map, across-by, pairs-append}
 use Rattle.audit_core.proofs.PassOrder.{AreStreams, rows_of}
 use Rattle.audit_core.proofs.TableRows.{IsRow, AreRows, ◌⊕◌, is_row, same_side, rows-nil, rows-say_of, rows-choice}
 use Rattle.audit_core.proofs.TableRows.{row-say, told, quiet}
 use Rattle.audit_core.proofs.ErrorSides.{granted-side, moved-side}
+
 
 -- any stream
 abbrev pub Any : ℕ → Type 0

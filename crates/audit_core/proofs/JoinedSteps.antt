@@ -5,7 +5,7 @@ use Rattle.audit_core.proofs.Words.{option_to_list, AllByRecursion, flat_map, na
 use Rattle.audit_core.proofs.Words.{Change, Step, meets, IsOrderlyFrom, InForce, initial_in_force, in_force_after}
 use Rattle.audit_core.proofs.Words.{change_taking, taken, changes_from, changes_of, frames_of, frame_step, change_step}
 use Rattle.audit_core.proofs.Words.{with_change, steps_of, AreRising, IsFilled, StepsJoinFramesAndChanges}
-use Rattle.audit_core.proofs.Words.{StreamsHaveSteps}
+use Rattle.audit_core.proofs.Words.{StreamsHaveSteps, other, joined}
 use Rattle.audit_core.proofs.Pairs.{all-map}
 
 abbrev frame_numbers : List Frame → List ℕ

@@ -6,8 +6,7 @@ use Rattle.audit_core.proofs.Words.{eqb-true, Side, Client, Server, Sides, Frame
 use Rattle.audit_core.proofs.Words.{side_of, is_client_headers, is_reset, promises, sends_end, meets, is_opening}
 use Rattle.audit_core.proofs.Words.{is_last_of, ends_window, window_after, window_at_opening, stream_after, counted}
 use Rattle.audit_core.proofs.Words.{is_overflowing_grant, change_of, PassState, pass_start, next, state_from}
-use Rattle.audit_core.proofs.Words.{LiveWindowsAreOpened, LiveWindowsAreUnended}
-use Rattle.audit_core.proofs.Meetings.{and-right, and-false}
+use Rattle.audit_core.proofs.Words.{LiveWindowsAreOpened, LiveWindowsAreUnended, and-false, and_parts}
 
 on_some : {A : Type 0} (o : Option A) (P : Type 0) → P → OnSome o P
 on_some None P p = tt
@@ -128,7 +127,7 @@ module _ (stream : ℕ) (initial : Sides ℕ) (number : ℕ) (change : Option Ch
     by_opening true e =
         sending-opening d stream initial number change frame (side_of d entry.life.ended)
         (h.idle (not-opened entry.life.opened _ e))
-        (and-right (is_none entry.life.opened) _ e)
+        ((and_parts _ _ e).1)
     by_opening false e =
         sending-frame d stream initial number change frame (side_of d entry.life.ended) (is_some entry.life.opened)
         (side_of d entry.window) h

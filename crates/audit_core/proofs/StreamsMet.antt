@@ -2,9 +2,8 @@
 use Rattle.std.proofs.Common.{◌≡◌, ℕ, Bool, true, false, ◌==◌, ◌&&◌, ◌||◌, not, if◌then◌else◌, List, [], ◌∷◌, filter}
 use Rattle.std.proofs.Common.{refl, sym, ap, ◌∙◌, zero}
 use Rattle.audit_core.proofs.Words.{list_any, eqb-true, eq-eqb, Frame, promised_in, promises, promised_by, meets}
-use Rattle.audit_core.proofs.Words.{first_of, streams_of, StreamsAreThoseMet, StreamsAreNamedOnce, other}
+use Rattle.audit_core.proofs.Words.{first_of, streams_of, StreamsAreThoseMet, StreamsAreNamedOnce, other, and-false}
 use Rattle.audit_core.proofs.NamedStreams.{or_assoc}
-use Rattle.audit_core.proofs.Meetings.{and-false}
 use Rattle.audit_core.proofs.Apart.{distinct-streams_of}
 
 -- another stream is named still when this one is left out

@@ -2,12 +2,12 @@
 -- numbers, and an error of the connection is said of one endpoint only.
 use Rattle.std.proofs.Common.{◌≡◌, ℕ, ℤ, ◌^◌, ◌<◌, ◌≤◌, ◌==◌, Bool, true, false, ◌&&◌, ◌||◌, nat_le, nat_lt, List, []}
 use Rattle.std.proofs.Common.{◌∷◌, ◌++◌, get_or, refl, sym, ap, ◌∙◌, subst, arith, Option, Some, None, if◌then◌else◌}
-use Rattle.std.proofs.lemmas.Bool.{and_parts}
 use borrow.Author.Tests.{leb-true, ltb-true, le-ltb}
 use Rattle.audit_core.proofs.Words.{AllByRecursion, Side, Client, Server, Kind, Finding, other, is_side, rank_of}
 use Rattle.audit_core.proofs.Words.{place_of, place_stream, place_rank, finding_at, say, say_of, stops, AreApart}
-use Rattle.audit_core.proofs.Words.{StandApart, rank-small}
+use Rattle.audit_core.proofs.Words.{StandApart, rank-small, and_parts}
 use Rattle.audit_core.proofs.Pairs.{all-append, all-map, across-by, pairs-append}
+
 
 -- the row in which a rank is said of an endpoint, by rank: 0 to 4 local faults, 5 settings, 6 length, 7 the server's
 -- push, 8 order of openings, 9 to 14 and 15 to 20 the connection windows of client and server, 21 to 23 what a frame
