@@ -8,7 +8,6 @@ use Rattle.audit_core.proofs.Words.{grant_to, meets, new_initial, overflows, InF
 use Rattle.audit_core.proofs.Words.{credit_after, counted, step_of, and_parts}
 use Rattle.audit_core.proofs.TableRows.{same_side}
 
-
 other_side : (d e : Side) → is_side (other d) e ≡ true → d ≡ other e
 other_side Client Server h = refl
 other_side Server Client h = refl
@@ -31,12 +30,15 @@ ack-only : (body : Body) → is_ack body ≡ true → (increment body ≡ 0) × 
 ack-only SettingsAck e = (refl, refl)
 ack-only _ e = cc
 
+-- a frame that brings a change is an acknowledgement
+pub change-ack : (now : InForce) (frame : Frame) → is_some (change_of now frame) ≡ true → is_ack frame.body ≡ true
+change-ack now frame c = by_ack _ refl where
+  by_ack : (b : Bool) → is_ack frame.body ≡ b → is_ack frame.body ≡ true
+  by_ack true e = e
+  by_ack false e = let k : is_some (change_of now frame) ≡ false = rw e refl in cc
+
 -- a change moves only the windows of the side that acknowledges
 module _ (d : Side) (stream : ℕ) (now : InForce) (initial : Sides ℕ) (frame : Frame) (before : ℤ) where
-  by_ack : (b : Bool) → is_ack frame.body ≡ b → is_some (change_of now frame) ≡ true → is_ack frame.body ≡ true
-  by_ack true e c = e
-  by_ack false e c = let k : is_some (change_of now frame) ≡ false = rw e refl in cc
-
   no_amount : (amount : Frame → ℕ) (b : Bool) → amount frame ≡ 0 →
       option_map_or amount (if b then Some frame else None) 0 ≡ 0
   no_amount amount true e = e
@@ -53,7 +55,7 @@ module _ (d : Side) (stream : ℕ) (now : InForce) (initial : Sides ℕ) (frame 
   still : is_some (change_of now frame) ≡ true → is_side d frame.side ≡ false
       → int_lt before (counted d stream initial (step_of now frame stream) before) ≡ true → ⊥
   still c e above =
-      let ack = ack-only frame.body (by_ack _ refl c) in
+      let ack = ack-only frame.body (change-ack now frame c) in
       let grant = no_amount (grant_to d stream) (meets stream frame) (no_grant _ _ ack.0) in
       let content = no_amount (content_by d) (meets stream frame) (rw (ack.1, and-false) refl) in
       let same = same_initial (taken now frame) (side_of d initial) e in

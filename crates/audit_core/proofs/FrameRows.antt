@@ -17,7 +17,6 @@ use Rattle.audit_core.proofs.TableRows.{IsRow, AreRows, ◌⊕◌, is_row, same_
 use Rattle.audit_core.proofs.TableRows.{row-say, told, quiet}
 use Rattle.audit_core.proofs.ErrorSides.{granted-side, moved-side}
 
-
 -- any stream
 abbrev pub Any : ℕ → Type 0
 Any stream = Unit {0}

@@ -8,7 +8,6 @@ use Rattle.audit_core.proofs.Words.{place_of, place_stream, place_rank, finding_
 use Rattle.audit_core.proofs.Words.{StandApart, rank-small, and_parts}
 use Rattle.audit_core.proofs.Pairs.{all-append, all-map, across-by, pairs-append}
 
-
 -- the row in which a rank is said of an endpoint, by rank: 0 to 4 local faults, 5 settings, 6 length, 7 the server's
 -- push, 8 order of openings, 9 to 14 and 15 to 20 the connection windows of client and server, 21 to 23 what a frame
 -- shows of its stream, 24 to 29 and 30 to 35 the stream windows of client and server. The server is told that it
