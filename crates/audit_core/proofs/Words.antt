@@ -4,7 +4,7 @@ pub use Rattle.std.proofs.lemmas.Bool.Decides.{nat_tests}
 pub use Rattle.std.proofs.lemmas.Int.{ints}
 pub use Rattle.std.specs.List.{AllByRecursion, flat_map, find, list_any, All}
 pub use Rattle.std.specs.Option.{option_map_or, option_to_list}
-pub use Rattle.std.proofs.lemmas.Bool.{and_parts, cond_both}
+pub use Rattle.std.proofs.lemmas.Bool.{and_parts, cond_both, or_parts, or_right}
 pub use Rattle.std.proofs.lemmas.Simd.{map-map}
 pub use borrow.Author.Tests.{eqb-true, eq-eqb, ltb-true, leb-true, ne_eqb}
 pub use Rattle.audit_terms.proofs.Bounds.{room-wider}
