@@ -1,12 +1,12 @@
 -- The words that the proofs of this crate use, of the crates below and of its own specs.
-pub use Rattle.std.proofs.Math.Bool.{and-false}
+pub use Rattle.std.proofs.Math.Bool.{and-false, and-true, or_assoc, or-false, or-true}
 pub use Rattle.std.proofs.lemmas.Bool.Decides.{nat_tests}
 pub use Rattle.std.proofs.lemmas.Int.{ints}
 pub use Rattle.std.specs.List.{AllByRecursion, flat_map, find, list_any, All}
 pub use Rattle.std.specs.Option.{option_map_or, option_to_list}
 pub use Rattle.std.proofs.lemmas.Bool.{and_parts, cond_both, or_parts, or_right, cases_Bool}
 pub use Rattle.std.proofs.lemmas.Simd.{map-map}
-pub use borrow.Author.Tests.{eqb-true, eq-eqb, ltb-true, leb-true, ne_eqb, le-leb, lt-leb}
+pub use borrow.Author.Tests.{eqb-true, eq-eqb, ltb-true, leb-true, ne_eqb, le-leb, lt-leb, eqb-false}
 pub use Rattle.audit_terms.proofs.Bounds.{room-wider}
 pub use Rattle.audit_terms.proofs.FindingOrder.{comes_after_is, in_order-alike, in_order-append_comm, in_order-in_order}
 pub use Rattle.audit_terms.proofs.OrderedLists.{in_order-append, ordered-in_order, in_order-ordered, IsInOrder}
