@@ -1,7 +1,7 @@
 -- What is said at one frame stands in different rows of the table, or is of different streams.
 use Rattle.std.proofs.Common.{◌≡◌, ◌≢◌, ℕ, ℤ, pos, ◌+◌, ◌^◌, ◌<◌, ◌≤◌, Bool, true, false, ◌&&◌, List, [], ◌∷◌, ◌++◌}
 use Rattle.std.proofs.Common.{append_assoc, refl, sym, subst, ◌∙◌, ap, arith, Option, Some, None, nat_lt, nat_le}
-use Rattle.std.proofs.Common.{if◌then◌else◌, true≢false, zero}
+use Rattle.std.proofs.Common.{if◌then◌else◌, true≢false}
 use Rattle.audit_terms.specs.declared.kinds.Kind.TheVariants as K
 use Rattle.audit_core.proofs.Words.{AllByRecursion, Side, Client, Server, Sides, Kind, Body, Headers, SettingsBody}
 use Rattle.audit_core.proofs.Words.{Unreadable, Frame, ConnectionState, Stream, Finding, is_side, other, side_of}

@@ -7,7 +7,7 @@ use Rattle.audit_core.proofs.Words.{PassState, pass_start, said, full_from, full
 use Rattle.audit_core.proofs.Words.{streams_said, step_of, item_of, IsInOrder, in_order-ordered, in_order-append}
 use Rattle.audit_core.proofs.Words.{ordered-in_order, comes_after_is, AreAt, AreFrom, at-append, at-in_order, at-nil}
 use Rattle.audit_core.proofs.Words.{at-local, at-settings, at-connection, at-stream, from-at, from-from, from-append}
-use Rattle.audit_core.proofs.Words.{precedes-at, AllByRecursion, other}
+use Rattle.audit_core.proofs.Words.{precedes-at, AllByRecursion}
 use Rattle.audit_core.proofs.Pairs.{all-filter}
 
 -- all streams have 31 bits

@@ -12,7 +12,7 @@ use Rattle.audit_core.proofs.Words.{in_order, say, local_said, change_of, InForc
 use Rattle.audit_core.proofs.Words.{settings_said, connection_said, is_opening, idle_stream, PassState, full_from, next}
 use Rattle.audit_core.proofs.Words.{said, streams_of, streams_said, item_of, opens_stream, step_of, room-wider}
 use Rattle.audit_core.proofs.Words.{StreamRow, rows_in, idle_rows, row_opens, row_said, row_after, RowFits}
-use Rattle.audit_core.proofs.Words.{option_to_list, Settings, other, changes_from, IsOrderlyFrom, IsAcknowledged, opens}
+use Rattle.audit_core.proofs.Words.{option_to_list, Settings, changes_from, IsOrderlyFrom, IsAcknowledged, opens}
 use Rattle.audit_core.proofs.Words.{AllByRecursion}
 use Rattle.audit_core.proofs.PassOrder.{rows_of, AreStreams}
 use Rattle.audit_core.proofs.StreamsMet.{streams_met_lem}

@@ -5,7 +5,7 @@ use Rattle.std.specs.declared.cmp.Ordering.TheVariants.{Less, Equal, Greater}
 use Rattle.std.proofs.lemmas.Cmp.{int_cmp_total, tied_itself}
 use Rattle.audit_core.proofs.Words.{ints, Side, Client, Server, Sides, Change, Step, StreamLife, Stream, say_of}
 use Rattle.audit_core.proofs.Words.{side_of, new_initial, is_used_up, window_step, live_window_said, window_after}
-use Rattle.audit_core.proofs.Words.{stream_window_said, stream_said, stream_after, counted, initial_after, said}
+use Rattle.audit_core.proofs.Words.{stream_window_said, stream_said, stream_after, counted, initial_after}
 
 -- a step of a change alone, or of nothing
 abbrev pub bare_step : ℕ → Option Change → Step

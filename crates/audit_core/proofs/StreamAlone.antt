@@ -3,7 +3,7 @@ use Rattle.std.proofs.Common.{◌≡◌, ℕ, List, [], ◌∷◌, ◌++◌, Opt
 use Rattle.audit_core.proofs.Words.{Sides, Frame, Change, Step, Stream, Finding, in_order, IsOrderly, initial_in_force}
 use Rattle.audit_core.proofs.Words.{in_force_after, change_of, changes_of, idle_stream, stream_said, stream_after}
 use Rattle.audit_core.proofs.Words.{stream_run_from, initial_after, PassState, pass_start, next, step_of, frames_of}
-use Rattle.audit_core.proofs.Words.{stream_run, said}
+use Rattle.audit_core.proofs.Words.{stream_run}
 use Rattle.audit_core.proofs.QuietSteps.{stream_said-quiet, stream_after-quiet}
 use Rattle.audit_core.proofs.StreamSteps.{step_if_any, steps_from, steps_of-steps_from}
 

@@ -2,9 +2,9 @@
 use Rattle.std.proofs.Common.{◌≡◌, Bool, List, None, Option, Some, [], ap, arith, false, if◌then◌else◌, ltb-true}
 use Rattle.std.proofs.Common.{nat_lt, refl, true, ℕ, ◌++◌, ◌+◌, ◌<◌, ◌==◌, ◌∙◌, ◌∷◌, ◌≤◌}
 use Rattle.audit_core.proofs.Words.{eqb-true, option_to_list, nat_tests, cond_both, change_by, meets, change_of}
-use Rattle.audit_core.proofs.Words.{InForce, taken, change_taking, in_force_after, step_of, other, changes_from}
+use Rattle.audit_core.proofs.Words.{InForce, taken, change_taking, in_force_after, step_of, changes_from}
 use Rattle.audit_core.proofs.Words.{IsOrderlyFrom, frame_step, with_change, steps_of, change_step, frames_of, Frame}
-use Rattle.audit_core.proofs.Words.{Change, Step, Settings, joined, AllByRecursion}
+use Rattle.audit_core.proofs.Words.{Change, Step, Settings, AllByRecursion}
 use Rattle.audit_core.proofs.Pairs.{all-mapped, all-filter, all-append}
 
 pub differ_test : (m n : ℕ) → m < n → (m == n) ≡ false

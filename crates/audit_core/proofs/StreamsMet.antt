@@ -1,9 +1,9 @@
 -- The streams that frames name are those that meet one of them.
-use Rattle.std.proofs.Common.{◌≡◌, Bool, List, [], ap, false, filter, not, refl, sym, true, zero, ℕ, ◌&&◌, ◌==◌, ◌||◌}
+use Rattle.std.proofs.Common.{◌≡◌, Bool, List, [], ap, false, filter, not, refl, sym, true, ℕ, ◌&&◌, ◌==◌, ◌||◌}
 use Rattle.std.proofs.Common.{◌∙◌, ◌∷◌}
 use Rattle.std.proofs.lemmas.Map.Views.{any-filter_same}
 use Rattle.audit_core.proofs.Words.{eq-eqb, eqb-true, ne_eqb, and-false, list_any, cond_both, eqb-false, promised_in}
-use Rattle.audit_core.proofs.Words.{meets, promises, promised_by, first_of, other, Frame, StreamsAreNamedOnce}
+use Rattle.audit_core.proofs.Words.{meets, promises, promised_by, first_of, Frame, StreamsAreNamedOnce}
 use Rattle.audit_core.proofs.Words.{StreamsAreThoseMet, and-true, or_assoc}
 use Rattle.audit_core.proofs.Apart.{distinct-streams_of}
 

@@ -3,7 +3,7 @@ use Rattle.std.proofs.lemmas.List.Elements.{All-weaker}
 use Rattle.audit_core.proofs.passes.one_pass.Goals as goal
 use Rattle.audit_core.proofs.Words.{All, list_any, find, ints, Frame, Item, ConnectionState, HasRoom, change_of}
 use Rattle.audit_core.proofs.Words.{connection_after, PassState, pass_start, next, item_of, streams_of, changes_from}
-use Rattle.audit_core.proofs.Words.{IsOrderlyFrom, room-wider, RowFits, row_opens, said, opens}
+use Rattle.audit_core.proofs.Words.{IsOrderlyFrom, room-wider, RowFits, row_opens}
 use Rattle.audit_core.proofs.OrderlyRest.{length-orderly, drop-at}
 use Rattle.audit_core.proofs.PassOrder.{streams-streams_of}
 use Rattle.audit_core.proofs.PassRows.{is_at, change-at, change-past, step_of-acknowledged, idle_rows-fit, fits-wider}

@@ -2,7 +2,6 @@ use Rattle.std.proofs.Common.{◌==◌, not, ◌∷◌, ◌∙◌, ap, rules}
 use Rattle.std.proofs.lemmas.Fn.{filter_same}
 use borrow.Author.Tests.{ne_eqb}
 use Rattle.audit_core.proofs.rows.put_first.Goals as goal
-use Rattle.audit_core.proofs.Words.{other}
 
 pub returns-in_ok-insert : goal.returns-in_ok-insert
 returns-in_ok-insert c =
