@@ -2,26 +2,12 @@
 use Rattle.std.proofs.Common.{◌≡◌, ℕ, suc, zero, ◌+◌, ◌<◌, ◌≤◌, Bool, true, false, ◌&&◌, if◌then◌else◌, List, [], ◌∷◌}
 use Rattle.std.proofs.Common.{◌++◌, length, drop, slice_get, get_or, append_assoc, Option, Some, None, is_some, is_none}
 use Rattle.std.proofs.Common.{pos, refl, sym, ap, ◌∙◌, add-zero, length-append, arith}
-use Rattle.std.specs.Option.{option_to_list}
-use Rattle.std.proofs.lemmas.List.{append-nil, drop-drop, drop_all, drop-append-le, at_drop_more}
+use Rattle.std.proofs.lemmas.List.{drop-drop, drop-append-le, at_drop_more}
 use Rattle.std.proofs.lemmas.Option.{slice_get_within}
-use Rattle.audit_terms.specs.declared.sides.Side.{Side}
-use Rattle.audit_terms.specs.declared.sides.Side.TheVariants.{Client, Server}
-use Rattle.audit_terms.specs.declared.settings.Settings.{Settings}
-use Rattle.audit_terms.specs.declared.frames.Body.{Body}
-use Rattle.audit_terms.specs.declared.frames.Body.TheVariants.{Settings as SettingsBody, SettingsAck, Content, Headers}
-use Rattle.audit_terms.specs.declared.frames.Body.TheVariants.{Priority, RstStream, PushPromise, Ping, GoAway}
-use Rattle.audit_terms.specs.declared.frames.Body.TheVariants.{WindowUpdate, Continuation, Unknown, Unreadable}
-use Rattle.audit_terms.specs.declared.frames.Frame.{Frame}
-use Rattle.audit_terms.specs.Side.{other, is_side}
-use Rattle.audit_terms.specs.Sides.{side_of}
-use Rattle.audit_terms.specs.Frame.{is_ack, settings_in}
-use Rattle.audit_terms.specs.declared.kinds.Kind.TheVariants.{UnmatchedAck}
-use Rattle.audit_terms.specs.Finding.{finding_at, say}
-use Rattle.audit_terms.specs.InForce.{InForce, initial_in_force, taken, change_taking, change_of, in_force_after}
-use Rattle.audit_terms.specs.InForce.{settings_said}
-use Rattle.settings_pair.specs.declared.waiting.Waiting.{Waiting}
-use Rattle.settings_pair.specs.code.Waiting.{sent_of, sent_by, waiting_of, IsWaiting}
+use Rattle.settings_pair.proofs.Words.{option_to_list, append-nil, drop_all, Side, Client, Server, Settings, Body}
+use Rattle.settings_pair.proofs.Words.{SettingsAck, Frame, other, is_side, side_of, is_ack, settings_in, UnmatchedAck}
+use Rattle.settings_pair.proofs.Words.{finding_at, say, InForce, initial_in_force, taken, change_taking, change_of}
+use Rattle.settings_pair.proofs.Words.{in_force_after, settings_said, Waiting, sent_of, sent_by, waiting_of, IsWaiting}
 
 -- ---- the settings of one side, frame by frame
 
@@ -31,50 +17,28 @@ sent-at d seen at frame within is =
     at_drop_more (sent_by d) seen at frame within
     ∙ ap (λ (one : Frame). sent_of d one ++ sent_by d (drop (at + 1) seen)) (sym is)
 
-module _ (d : Side) (seen : List Frame) (from at : ℕ) (frame : Frame) (sent : Option Settings)
-    (within : at < length seen)
-    (is : frame ≡ get_or seen at frame) (e : option_to_list sent ≡ sent_of d frame)
-    (left : sent_by d (drop at seen) ≡ sent_by d (drop from seen)) where
-  from-here : option_to_list sent ++ sent_by d (drop (at + 1) seen) ≡ sent_by d (drop from seen)
-  from-here = ap (λ l. l ++ sent_by d (drop (at + 1) seen)) e ∙ sym (sent-at d seen at frame within is) ∙ left
+-- what is left after a place, by what is sent there
+pub record IsSent (sent : Option Settings) (left after : List Settings) : Type 0 where
+  pub first : is_some sent ≡ true → sent ≡ slice_get left 0
+  pub rest : is_some sent ≡ true → after ≡ drop 1 left
+  pub none : is_some sent ≡ false → after ≡ left
 
-  pub sent-first : is_some sent ≡ true → sent ≡ slice_get (sent_by d (drop from seen)) 0
-  sent-first some = by_sent sent some from-here where
-    by_sent : (one : Option Settings) → is_some one ≡ true
-        → option_to_list one ++ sent_by d (drop (at + 1) seen) ≡ sent_by d (drop from seen)
-        → one ≡ slice_get (sent_by d (drop from seen)) 0
-    by_sent None h k = cc
-    by_sent (Some settings) h k = ap (λ l. slice_get l 0) k
+pub sent-here : (d : Side) (seen : List Frame) (from at : ℕ) (frame : Frame) (sent : Option Settings)
+    → at < length seen → frame ≡ get_or seen at frame → option_to_list sent ≡ sent_of d frame
+    → sent_by d (drop at seen) ≡ sent_by d (drop from seen)
+    → IsSent sent (sent_by d (drop from seen)) (sent_by d (drop (at + 1) seen))
+sent-here d seen from at frame sent within is e left =
+    by_sent sent (ap (λ l. l ++ sent_by d (drop (at + 1) seen)) e ∙ sym (sent-at d seen at frame within is) ∙ left) where
+      by_sent : (one : Option Settings) → option_to_list one ++ sent_by d (drop (at + 1) seen)
+          ≡ sent_by d (drop from seen) → IsSent one (sent_by d (drop from seen)) (sent_by d (drop (at + 1) seen))
+      by_sent None k = record { first = λ h. cc; rest = λ h. cc; none = λ h. k }
+      by_sent (Some settings) k =
+          record { first = λ h. ap (λ l. slice_get l 0) k; rest = λ h. ap (drop 1) k; none = λ h. cc }
 
-  pub sent-rest : is_some sent ≡ true → sent_by d (drop (at + 1) seen) ≡ drop 1 (sent_by d (drop from seen))
-  sent-rest some = by_sent sent some from-here where
-    by_sent : (one : Option Settings) → is_some one ≡ true
-        → option_to_list one ++ sent_by d (drop (at + 1) seen) ≡ sent_by d (drop from seen)
-        → sent_by d (drop (at + 1) seen) ≡ drop 1 (sent_by d (drop from seen))
-    by_sent None h k = cc
-    by_sent (Some settings) h k = ap (drop 1) k
-
-  pub sent-none : is_some sent ≡ false → sent_by d (drop (at + 1) seen) ≡ sent_by d (drop from seen)
-  sent-none none = by_sent sent none from-here where
-    by_sent : (one : Option Settings) → is_some one ≡ false
-        → option_to_list one ++ sent_by d (drop (at + 1) seen) ≡ sent_by d (drop from seen)
-        → sent_by d (drop (at + 1) seen) ≡ sent_by d (drop from seen)
-    by_sent None h k = k
-    by_sent (Some settings) h k = cc
-
-none-left_by : (d : Side) (seen : List Frame) (from at : ℕ) → sent_by d (drop at seen) ≡ sent_by d (drop from seen)
-    → length seen ≤ at
-    → sent_by d (drop from seen) ≡ []
+-- nothing is left at the end
+pub none-left_by : (d : Side) (seen : List Frame) (from at : ℕ) → sent_by d (drop at seen) ≡ sent_by d (drop from seen)
+    → length seen ≤ at → sent_by d (drop from seen) ≡ []
 none-left_by d seen from at left past = sym left ∙ ap (sent_by d) (drop_all at seen past)
-
-pub none-sent_by : (d : Side) (seen : List Frame) (from at : ℕ) → sent_by d (drop at seen) ≡ sent_by d (drop from seen)
-    → length seen ≤ at → None ≡ slice_get (sent_by d (drop from seen)) 0
-none-sent_by d seen from at left past = ap (λ l. slice_get l 0) (sym (none-left_by d seen from at left past))
-
-pub none-rest : (d : Side) (seen : List Frame) (from at : ℕ) → sent_by d (drop at seen) ≡ sent_by d (drop from seen)
-    → length seen ≤ at → sent_by d (drop at seen) ≡ drop 1 (sent_by d (drop from seen))
-none-rest d seen from at left past =
-    let none = none-left_by d seen from at left past in left ∙ none ∙ ap (drop 1) (sym none)
 
 -- what waits grows by the settings of a frame more
 waiting-on : (d : Side) (from : ℕ) (seen : List Frame) (frame : Frame) → from ≤ length seen
@@ -94,9 +58,8 @@ other-other Server = refl
 
 is_side-same : (d e : Side) → is_side d e ≡ true → d ≡ e
 is_side-same Client Client h = refl
-is_side-same Client Server h = cc
-is_side-same Server Client h = cc
 is_side-same Server Server h = refl
+is_side-same _ _ h = cc
 
 is_side-other : (d e : Side) → is_side d (other e) ≡ is_side (other d) e
 is_side-other Client Client = refl
@@ -143,19 +106,8 @@ queue-after true xs k None low h = (omega arith, none-left xs k (sym (h refl)))
 queue-after true xs k (Some s) low h = (omega (arith, slice_get_within xs k s (sym (h refl))), drop-drop 1 k xs)
 
 ack-sends : (body : Body) → is_ack body ≡ true → settings_in body ≡ []
-ack-sends (SettingsBody settings) e = cc
 ack-sends SettingsAck e = refl
-ack-sends Content e = refl
-ack-sends Headers e = refl
-ack-sends Priority e = refl
-ack-sends RstStream e = refl
-ack-sends (PushPromise stream) e = refl
-ack-sends Ping e = refl
-ack-sends GoAway e = refl
-ack-sends (WindowUpdate amount) e = refl
-ack-sends Continuation e = refl
-ack-sends Unknown e = refl
-ack-sends (Unreadable kind value) e = refl
+ack-sends _ e = cc
 
 -- ---- an acknowledgement
 
