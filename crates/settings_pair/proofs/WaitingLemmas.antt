@@ -4,10 +4,10 @@ use Rattle.std.proofs.Common.{◌++◌, length, drop, slice_get, get_or, append_
 use Rattle.std.proofs.Common.{pos, refl, sym, ap, ◌∙◌, add-zero, length-append, arith}
 use Rattle.std.proofs.lemmas.List.{drop-drop, drop-append-le, at_drop_more}
 use Rattle.std.proofs.lemmas.Option.{slice_get_within}
-use Rattle.settings_pair.proofs.Words.{option_to_list, append-nil, drop_all, Side, Client, Server, Settings, Body}
-use Rattle.settings_pair.proofs.Words.{SettingsAck, Frame, other, is_side, side_of, is_ack, settings_in, UnmatchedAck}
-use Rattle.settings_pair.proofs.Words.{finding_at, say, InForce, initial_in_force, taken, change_taking, change_of}
-use Rattle.settings_pair.proofs.Words.{in_force_after, settings_said, Waiting, sent_of, sent_by, waiting_of, IsWaiting}
+use Rattle.settings_pair.proofs.Words.{option_to_list, append-nil, drop_all, Side, Client, Server, Settings, Frame}
+use Rattle.settings_pair.proofs.Words.{other, is_side, side_of, is_ack, settings_in, UnmatchedAck, finding_at, say}
+use Rattle.settings_pair.proofs.Words.{InForce, initial_in_force, taken, change_taking, change_of, in_force_after}
+use Rattle.settings_pair.proofs.Words.{settings_said, Waiting, sent_of, sent_by, waiting_of, IsWaiting}
 
 -- ---- the settings of one side, frame by frame
 
@@ -85,10 +85,6 @@ slice_get-drop zero xs = refl
 slice_get-drop (suc k) [] = refl
 slice_get-drop (suc k) (x ∷ xs) = slice_get-drop k xs
 
-nothing_chosen : {A : Type 0} (b : Bool) (xs : List A) → xs ≡ [] → (if b then xs else []) ≡ []
-nothing_chosen true xs e = e
-nothing_chosen false xs e = refl
-
 -- nothing is left from a place with no element
 none-left : (xs : List Settings) (k : ℕ) → slice_get xs k ≡ None → drop 1 (drop k xs) ≡ drop (k + 0) xs
 none-left [] zero e = refl
@@ -105,17 +101,30 @@ queue-after false xs k t low h = (omega arith, rw add-zero refl)
 queue-after true xs k None low h = (omega arith, none-left xs k (sym (h refl)))
 queue-after true xs k (Some s) low h = (omega (arith, slice_get_within xs k s (sym (h refl))), drop-drop 1 k xs)
 
-ack-sends : (body : Body) → is_ack body ≡ true → settings_in body ≡ []
-ack-sends SettingsAck e = refl
-ack-sends _ e = cc
+-- a frame more, by what is left of each side's SETTINGS before it
+waiting-step : (now : InForce) (seen : List Frame) (frame : Frame) (new : Waiting)
+    → ((d : Side) → (side_of (other d) (in_force_after now frame).paired ≤ length (side_of d now.sent))
+    × (waiting_of d seen new ≡ drop (side_of (other d) (in_force_after now frame).paired) (side_of d now.sent)))
+    → ((d : Side) → side_of d new.taken ≤ length seen) → IsWaiting (in_force_after now frame) (seen ++ frame ∷ []) new
+waiting-step now seen frame new queue inside = record {
+  taken = λ d.
+      let low = (queue d).0 in
+      let sent : length (side_of d (in_force_after now frame).sent)
+      ≡ length (side_of d now.sent) + length (sent_of d frame) =
+      ap length (sent-after now frame d) ∙ length-append (side_of d now.sent) (sent_of d frame) in
+      omega arith;
+  queued = λ d.
+      waiting-on d (side_of d new.taken) seen frame (inside d)
+      ∙ ap (λ l. l ++ sent_of d frame) (queue d).1
+      ∙ sym (drop-append-le _ (side_of d now.sent) (sent_of d frame) (queue d).0)
+      ∙ ap (drop (side_of (other d) (in_force_after now frame).paired)) (sym (sent-after now frame d));
+  within = λ d. let low = inside d in let more = length-append seen (frame ∷ []) in omega arith;
+}
 
 -- ---- an acknowledgement
 
 module _ (now : InForce) (seen : List Frame) (frame : Frame) (old : Waiting) (ack : is_ack frame.body ≡ true)
     (h : IsWaiting now seen old) where
-  sends-nothing : (d : Side) → sent_of d frame ≡ []
-  sends-nothing d = nothing_chosen (is_side d frame.side) (settings_in frame.body) (ack-sends frame.body ack)
-
   -- what it takes is the first that waits of the other side
   taken-ack : taken now frame ≡ slice_get (waiting_of (other frame.side) seen old) 0
   taken-ack =
@@ -126,32 +135,19 @@ module _ (now : InForce) (seen : List Frame) (frame : Frame) (old : Waiting) (ac
       (takes : (d : Side) → waiting_of d seen new
       ≡ (if is_side d of then drop 1 (waiting_of d seen old) else waiting_of d seen old))
       (fits : (d : Side) → side_of d old.taken ≤ length seen → side_of d new.taken ≤ length seen) where
-    -- for one side
-    queue-after_ack : (d : Side)
-        → (side_of (other d) (in_force_after now frame).paired ≤ length (side_of d (in_force_after now frame).sent))
-        × (waiting_of d seen new ≡ drop (side_of (other d) (in_force_after now frame).paired)
-        (side_of d (in_force_after now frame).sent))
-    queue-after_ack d =
+    pub waiting-after_ack : IsWaiting (in_force_after now frame) (seen ++ frame ∷ []) new
+    waiting-after_ack =
+        waiting-step now seen frame new
+        (λ d.
         let chosen : is_side (other d) frame.side ≡ true → taken now frame ≡ slice_get (side_of d now.sent)
         (side_of (other d) now.paired) =
         λ same. let at : other d ≡ frame.side = is_side-same (other d) frame.side same in
         rw (ack, ← at, other-other) refl in
         let after = queue-after (is_side (other d) frame.side) (side_of d now.sent) (side_of (other d) now.paired)
         (taken now frame) (h.taken d) chosen in
-        let sent : side_of d (in_force_after now frame).sent ≡ side_of d now.sent =
-        sent-after now frame d ∙ ap (λ added. side_of d now.sent ++ added) (sends-nothing d) ∙ append-nil _ in
-        rw (sent, paired-after now frame (other d))
-        (after.0, rw (takes d, s, is_side-other d frame.side, h.queued d) after.1)
-
-    pub waiting-after_ack : IsWaiting (in_force_after now frame) (seen ++ frame ∷ []) new
-    waiting-after_ack =
-        let inside : (d : Side) → side_of d new.taken ≤ length seen = λ d. fits d (h.within d) in
-        record {
-          taken = λ d. (queue-after_ack d).0;
-          queued = λ d. waiting-on d (side_of d new.taken) seen frame (inside d)
-              ∙ ap (λ l. waiting_of d seen new ++ l) (sends-nothing d) ∙ append-nil _ ∙ (queue-after_ack d).1;
-          within = λ d. let low = inside d in let more = length-append seen (frame ∷ []) in omega arith;
-        }
+        rw (paired-after now frame (other d))
+        (after.0, rw (takes d, s, is_side-other d frame.side, h.queued d) after.1))
+        (λ d. fits d (h.within d))
 
   -- what it brings and shows, by what it took
   module _ (t : Option Settings) (of : Side) (s : of ≡ other frame.side)
@@ -186,22 +182,8 @@ module _ (now : InForce) (seen : List Frame) (frame : Frame) (waiting : Waiting)
       none-added false n = omega arith
 
   pub waiting-after : IsWaiting (in_force_after now frame) (seen ++ frame ∷ []) waiting
-  waiting-after = record {
-    taken = λ d.
-        let low = h.taken d in
-        let sent : length (side_of d (in_force_after now frame).sent) ≡ length (side_of d now.sent) + length
-        (sent_of d frame) =
-        ap length (sent-after now frame d) ∙ length-append (side_of d now.sent) (sent_of d frame) in
-        let same = still-paired (other d) in
-        omega arith;
-    queued = λ d.
-        waiting-on d (side_of d waiting.taken) seen frame (h.within d)
-        ∙ ap (λ l. l ++ sent_of d frame) (h.queued d)
-        ∙ sym (drop-append-le (side_of (other d) now.paired) (side_of d now.sent) (sent_of d frame) (h.taken d))
-        ∙ ap (drop (side_of (other d) now.paired)) (sym (sent-after now frame d))
-        ∙ ap (λ n. drop n (side_of d (in_force_after now frame).sent)) (sym (still-paired (other d)));
-    within = λ d. let low = h.within d in let more = length-append seen (frame ∷ []) in omega arith;
-  }
+  waiting-after =
+      waiting-step now seen frame waiting (λ d. rw (still-paired (other d)) (h.taken d, h.queued d)) h.within
 
   pub change_of-other : option_to_list (change_of now frame) ≡ []
   change_of-other = rw (takes-nothing) refl
