@@ -1,16 +1,8 @@
 -- Going on in a flow's arrivals.
 use Rattle.std.proofs.Common.{◌≡◌, ℕ, ◌+◌, ◌-◌, ◌^◌, ◌<◌, ◌≤◌, Bool, true, false, cond, List, [], ◌∷◌, length, get_or}
 use Rattle.std.proofs.Common.{refl, ap₂, arith}
-use Rattle.std.specs.Prelude.{nat_lt}
-use Rattle.std.specs.List.{AllByRecursion}
-use Rattle.std.proofs.lemmas.Bool.Decides.{nat_tests}
-use Rattle.tcp_streams.specs.declared.streams.Arrival.{Arrival}
-use Rattle.tcp_streams.specs.Arrivals.{Rises}
-use Rattle.audit_terms.specs.declared.sides.Side.{Side}
-use Rattle.audit_terms.specs.declared.frames.Frame.{Frame}
-use Rattle.h2_frames.specs.declared.spelling.Spelled.{Spelled}
-use Rattle.h2_frames.specs.CaptureOrder.{byte_arrival, captured, captured_from}
-use Rattle.h2_frames.specs.code.Steps.{arrivals_from}
+use Rattle.h2_frames.proofs.Words.{nat_lt, AllByRecursion, nat_tests, Arrival, Rises, Side, Frame, Spelled}
+use Rattle.h2_frames.proofs.Words.{byte_arrival, captured, captured_from, arrivals_from}
 
 below_later : (m n k : ℕ) → nat_lt m k ≡ false → m ≤ n → nat_lt n k ≡ false
 below_later m n k e h = grind (arith, nat_tests)

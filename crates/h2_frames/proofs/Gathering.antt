@@ -3,8 +3,8 @@ use Rattle.std.proofs.Common.{◌≡◌, ℕ, zero, suc, ◌+◌, ◌-◌, ◌<�
 use Rattle.std.proofs.Common.{refl, ap, sym, ◌∙◌, arith, append_assoc, add-one, length-append, length-drop, drop-cons}
 use Rattle.std.proofs.Math.Seq.{take-length}
 use Rattle.std.specs.Borrow.{Bor}
-use Rattle.h2_frames.specs.declared.pieces.Pieces.{Pieces}
-use Rattle.h2_frames.specs.code.Pieces.{bytes_of, joined, IsCounted}
+use Rattle.h2_frames.proofs.Words.{Pieces, joined, IsCounted}
+use Rattle.h2_frames.specs.code.Pieces.{bytes_of}
 
 none_before : (xs ys : List ℕ) → length xs ≡ 0 → xs ++ ys ≡ ys
 none_before [] ys h = refl

@@ -1,18 +1,10 @@
 -- Frames that stand in order are merged into order.
-use Rattle.std.proofs.Common.{◌≡◌, ℕ, ◌+◌, ◌-◌, ◌<◌, ◌≤◌, Bool, true, false, cond, List, [], ◌∷◌, ◌++◌}
-use Rattle.std.proofs.Common.{length, refl, ap, sym, ◌∙◌, arith, length-append}
-use Rattle.std.specs.Prelude.{nat_lt, ◌==◌, ◌&&◌, ◌||◌}
-use Rattle.std.proofs.lemmas.Bool.Decides.{nat_tests}
-use Rattle.tcp_streams.specs.declared.streams.Arrival.{Arrival}
-use Rattle.tcp_streams.specs.Arrivals.{Rises}
-use Rattle.audit_terms.specs.declared.sides.Side.{Side}
-use Rattle.audit_terms.specs.declared.frames.Frame.{Frame}
-use Rattle.audit_terms.specs.Order.{put_by, ordered_by}
-use Rattle.audit_terms.specs.Side.{side_order}
-use Rattle.h2_frames.specs.code.Merge.{merged, merged_with}
-use Rattle.h2_frames.specs.declared.spelling.Spelled.{Spelled}
-use Rattle.h2_frames.specs.Spelling.{Spells}
-use Rattle.h2_frames.specs.CaptureOrder.{byte_arrival, captured, captured_from, comes_after, numbered, capture_order}
+use Rattle.std.proofs.Common.{◌≡◌, ℕ, ◌+◌, ◌-◌, ◌<◌, ◌≤◌, Bool, true, false, cond, List, [], ◌∷◌, ◌++◌, length, refl}
+use Rattle.std.proofs.Common.{ap, sym, ◌∙◌, arith, length-append}
+use Rattle.std.specs.Prelude.{◌&&◌, ◌||◌}
+use Rattle.h2_frames.proofs.Words.{nat_lt, ◌==◌, nat_tests, Arrival, Rises, Side, Frame, put_by, ordered_by, side_order}
+use Rattle.h2_frames.proofs.Words.{merged, merged_with, Spelled, Spells, byte_arrival, captured, captured_from}
+use Rattle.h2_frames.proofs.Words.{comes_after, numbered, capture_order}
 
 -- comes_after, on the three numbers
 is_above : (a b c x y z : ℕ) → Bool

@@ -1,10 +1,8 @@
 -- The identifier out of range of a payload is one whose values have a range.
 use Rattle.std.proofs.Common.{◌≡◌, ℕ, ◌≤◌, Bool, true, false, not, ◌==◌, if◌then◌else◌, List, [], ◌∷◌, Some, refl, sym}
 use Rattle.std.proofs.Common.{subst, ◌∙◌, arith, true≢false}
-use Rattle.std.specs.Option.{ForSome}
 use borrow.Author.Tests.{eqb-true}
-use Rattle.h2_frames.specs.declared.settings.Setting.{Setting}
-use Rattle.h2_frames.specs.Settings.{settings_in, is_in_range, first_bad, settings_of}
+use Rattle.h2_frames.proofs.Words.{ForSome, Setting, settings_in, is_in_range, first_bad, settings_of}
 use Rattle.h2_frames.proofs.SettingsRead.{bad_cons}
 
 some-value : (x y : ℕ) (P : ℕ → Type 0) → P x → Some x ≡ Some y → P y

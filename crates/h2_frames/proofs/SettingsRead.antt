@@ -1,12 +1,10 @@
 -- Reading the settings of a payload one after the other.
 use Rattle.std.proofs.Common.{◌≡◌, ℕ, ◌≤◌, ◌+◌, Bool, true, false, cond, not, ◌&&◌, List, [], ◌∷◌, length, take, drop}
 use Rattle.std.proofs.Common.{Option, None, Some, refl, ap, arith, sym, ◌∙◌}
-use Rattle.std.specs.Prelude.{option_map, find, is_none, if◌then◌else◌, ◌==◌}
+use Rattle.std.specs.Prelude.{option_map, find, is_none, if◌then◌else◌}
 use Rattle.std.specs.Option.{option_or}
-use Rattle.audit_terms.specs.declared.settings.Settings.{Settings}
-use Rattle.h2_frames.specs.declared.settings.Setting.{Setting}
-use Rattle.h2_frames.specs.Settings.{setting_at, settings_in, is_in_range, last_value, first_bad}
-use Rattle.h2_frames.specs.code.Steps.{with_setting}
+use Rattle.h2_frames.proofs.Words.{◌==◌, Settings, Setting, setting_at, settings_in, is_in_range, last_value, first_bad}
+use Rattle.h2_frames.proofs.Words.{with_setting}
 
 -- the settings so far, with later ones put over them
 abbrev pub with_later : Settings → List Setting → Settings

@@ -1,29 +1,15 @@
 -- Bytes have one spelling, flows one cut.
-use Rattle.std.specs.Prelude.{Result, Ok, Err, IfOk}
-use Rattle.std.specs.declared.alloc.AllocError.{AllocError}
-use Rattle.h2_frames.specs.declared.connections.Cut.{Cut}
 use Rattle.std.proofs.Common.{◌≡◌, ℕ, ◌+◌, ◌<◌, List, [], ◌∷◌, ◌++◌, length, take, drop, refl, ap, ap₂, sym, ◌∙◌, subst}
 use Rattle.std.proofs.Common.{arith, length-append, append_assoc, inl, inr}
+use Rattle.std.specs.Prelude.{IfOk}
+use Rattle.std.specs.declared.alloc.AllocError.{AllocError}
 use Rattle.std.proofs.lemmas.Bool.{false≢true}
 use Rattle.std.proofs.lemmas.List.{append_cancel_left, take_at, drop_at}
-use Rattle.tcp_streams.specs.declared.streams.Arrival.{Arrival}
-use Rattle.tcp_streams.specs.declared.streams.Flow.{Flow}
-use Rattle.tcp_streams.specs.Bytes.{bytes_of}
-use Rattle.audit_terms.specs.declared.frames.Body.{Body}
-use Rattle.audit_terms.specs.declared.frames.Frame.{Frame}
-use Rattle.audit_terms.specs.declared.sides.Side.TheVariants.{Client, Server}
-use Rattle.audit_terms.specs.declared.sides.Sides.{Sides}
-use Rattle.h2_frames.specs.declared.connections.Cut.TheVariants.{Http2, NotHttp2, NoPreface, NoHandshake}
-use Rattle.h2_frames.specs.declared.headers.Header.{Header}
-use Rattle.h2_frames.specs.declared.spelling.Spelled.{Spelled}
-use Rattle.h2_frames.specs.Header.{header_of}
-use Rattle.h2_frames.specs.Body.{body_of}
-use Rattle.h2_frames.specs.Spelling.{HoldsNoFrame, Makes, Spells}
-use Rattle.h2_frames.specs.CaptureOrder.{captured_from, capture_order}
-use Rattle.h2_frames.specs.Preface.{preface, IsPrefaceCutShort, BeginsWithPreface}
-use Rattle.h2_frames.specs.Cut.{IsCut, IsHttp2}
-use Rattle.h2_frames.specs.laws.Unique.{SpellingIsUnique, IsSameFlow, CutIsUnique}
-use Rattle.h2_frames.specs.code.SameCut.{IsSameCut}
+use Rattle.h2_frames.proofs.Words.{Result, Ok, Err, Cut, Arrival, Flow, bytes_of, Body, Frame, Client, Server, Sides}
+use Rattle.h2_frames.proofs.Words.{Http2, NotHttp2, NoPreface, NoHandshake, Header, Spelled, header_of, body_of}
+use Rattle.h2_frames.proofs.Words.{HoldsNoFrame, Makes, Spells, captured_from, capture_order, preface}
+use Rattle.h2_frames.proofs.Words.{IsPrefaceCutShort, BeginsWithPreface, IsCut, IsHttp2, SpellingIsUnique, IsSameFlow}
+use Rattle.h2_frames.proofs.Words.{CutIsUnique, IsSameCut}
 
 -- two fronts of one length are one front, and so are the rests
 same_parts : (a b x y : List ℕ) → a ++ x ≡ b ++ y → length a ≡ length b → (a ≡ b) × (x ≡ y)

@@ -1,6 +1,5 @@
 use Rattle.std.proofs.Common.{sym, subst, ◌≤◌}
-use Rattle.std.specs.Option.{ForSome}
-use Rattle.audit_terms.specs.declared.settings.Settings.{Settings}
+use Rattle.h2_frames.proofs.Words.{ForSome, Settings}
 use Rattle.h2_frames.proofs.SettingsRanges.{settings-bad}
 use Rattle.h2_frames.proofs.bodies.settings_body.Goals as goal
 

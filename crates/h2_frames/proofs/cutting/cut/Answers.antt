@@ -1,5 +1,5 @@
-use Rattle.std.specs.Prelude.{Result, Ok, Err, OnErr}
-use Rattle.h2_frames.specs.declared.connections.Cut.TheVariants.{NoHandshake, NoPreface, NotHttp2}
+use Rattle.std.specs.Prelude.{OnErr}
+use Rattle.h2_frames.proofs.Words.{Result, Ok, Err, NoHandshake, NoPreface, NotHttp2}
 use Rattle.h2_frames.proofs.Uniqueness.{only-cut, only-found}
 use Rattle.h2_frames.proofs.cutting.cut.Goals as goal
 

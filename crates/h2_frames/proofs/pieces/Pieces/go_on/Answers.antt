@@ -1,5 +1,5 @@
 use Rattle.std.proofs.Common.{◌≡◌, ◌<◌, [], length, ◌∙◌, arith, refl}
-use Rattle.std.proofs.lemmas.Bool.Decides.{nat_tests}
+use Rattle.h2_frames.proofs.Words.{nat_tests}
 use Rattle.h2_frames.proofs.Gathering.{gone_on}
 use Rattle.h2_frames.proofs.pieces.Pieces.go_on.Goals as goal
 

@@ -1,6 +1,5 @@
 use Rattle.std.proofs.Common.{◌≡◌, ◌<◌, length, refl, ap, arith}
-use Rattle.audit_terms.specs.declared.frames.Frame.{Frame}
-use Rattle.h2_frames.specs.code.Pieces.{IsOneTaken}
+use Rattle.h2_frames.proofs.Words.{Frame, IsOneTaken}
 use Rattle.h2_frames.proofs.Reading.{ahead_before, frame_arrives, frame_readable, placed_after}
 use Rattle.h2_frames.proofs.unread.Unread.read.Goals as goal
 
