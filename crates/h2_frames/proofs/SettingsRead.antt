@@ -1,5 +1,5 @@
 -- Reading the settings of a payload one after the other.
-use Rattle.std.proofs.Common.{◌≡◌, ℕ, ◌≤◌, ◌+◌, Bool, true, false, cond, not, ◌&&◌, List, [], ◌∷◌, length, take, drop}
+use Rattle.std.proofs.Common.{◌≡◌, ℕ, ◌≤◌, ◌+◌, Bool, true, false, cond, not, ◌&&◌, List, ◌∷◌, length, take, drop}
 use Rattle.std.proofs.Common.{Option, None, Some, refl, ap, arith, sym, ◌∙◌}
 use Rattle.std.specs.Prelude.{option_map, find, is_none, if◌then◌else◌}
 use Rattle.std.specs.Option.{option_or}
@@ -61,12 +61,7 @@ with_later-step settings s later =
 pub settings_in-step : (payload : List ℕ) → 6 ≤ length payload →
     settings_in payload ≡ setting_at (take 6 payload) ∷ settings_in (drop 6 payload)
 settings_in-step (a ∷ b ∷ c ∷ d ∷ e ∷ f ∷ later) h = refl
-settings_in-step [] h = absurd (omega arith)
-settings_in-step (a ∷ []) h = absurd (omega arith)
-settings_in-step (a ∷ b ∷ []) h = absurd (omega arith)
-settings_in-step (a ∷ b ∷ c ∷ []) h = absurd (omega arith)
-settings_in-step (a ∷ b ∷ c ∷ d ∷ []) h = absurd (omega arith)
-settings_in-step (a ∷ b ∷ c ∷ d ∷ e ∷ []) h = absurd (omega arith)
+settings_in-step _ h = absurd (omega arith)
 
 -- one turn of the loop over a payload
 pub with_later-turn : (settings new : Settings) (s : Setting) (rest pair later : List ℕ) →
