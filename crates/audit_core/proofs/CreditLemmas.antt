@@ -227,3 +227,5 @@ connection_credit_is_sum d frames =
 pub stream_credit_is_sum : StreamCreditIsSum
 stream_credit_is_sum d stream opening credit frames h above opened last =
     window-is_sum d stream opening 0 pass_start frames credit h refl opened last
+
+pub ruleset credit_laws = (connection_credit_is_sum, stream_credit_is_sum)

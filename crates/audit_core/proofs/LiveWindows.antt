@@ -67,12 +67,11 @@ module _ (d : Side) (stream : ℕ) (initial : Sides ℕ) (number : ℕ) (change 
   sending-opening frame ended idle opening = record {
     idle = λ e. absurd (true≢false e);
     live = λ e.
-        let last = live-unless _ _ e in
-        (
+        let last = live-unless _ _ e in (
           refl,
           rw (idle, last) refl,
           sends-on (is_side Client d) (stream % 2 == 1) (is_client_headers frame) (promises stream frame) _
-          (stream % 2 == 0) opening last (odd-even stream),
+              (stream % 2 == 0) opening last (odd-even stream),
         );
   }
 
@@ -142,3 +141,5 @@ live_windows_are_opened_lem d stream frames =
 pub live_windows_are_unended_lem : LiveWindowsAreUnended
 live_windows_are_unended_lem d stream frames =
     on_some _ _ (λ e. ((sending-from d stream pass_start frames (sending-start d stream)).live e).1)
+
+pub ruleset live_laws = (live_windows_are_opened_lem, live_windows_are_unended_lem)

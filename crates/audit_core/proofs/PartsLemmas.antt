@@ -7,7 +7,7 @@ use Rattle.audit_core.proofs.Words.{connection_start, connection_said, connectio
 use Rattle.audit_core.proofs.Words.{block_run, PassState, pass_start, next, item_of, streams_of, streams_said}
 use Rattle.audit_core.proofs.Words.{full_from, items_from, frames_of, stream_run, group_run, block_runs, joined}
 use Rattle.audit_core.proofs.Words.{PartsMakeFull, in_order-append_comm, in_order-alike, in_order-in_order}
-use Rattle.audit_core.proofs.PassOrder.{full-in_order}
+use Rattle.audit_core.proofs.PassOrder.{findings_stand_in_order}
 use Rattle.audit_core.proofs.StreamAlone.{alone, run-alone}
 
 -- the same findings, in any order
@@ -129,7 +129,7 @@ parts_make_full_lem frames groups blocks h same_streams same_items =
     groups-joined frames groups ∙ ap (group_run frames) same_streams ∙ group-alone frames (streams_of frames) h in
     let by_block : block_runs connection_start blocks ≡ block_run connection_start (items_from pass_start frames) =
     block_runs-joined connection_start blocks ∙ ap (block_run connection_start) same_items in
-    sym (full-in_order frames h)
+    sym (findings_stand_in_order frames h)
     ∙ (full-sorts (streams_of frames) pass_start frames
     ▸ turned (whole (local_run_from pass_start.previous frames ++ settings_run_from pass_start.in_force frames)
     ⊕ equal by_stream ⊕ equal by_block)).same

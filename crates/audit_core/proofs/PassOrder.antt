@@ -85,7 +85,7 @@ streams-streams_of low (frame ∷ frames) h =
     (streams-first_of (promised_by frame) _ (promised_by-small frame h.1.promised)
     (streams-streams_of (frame.number + 1) frames h.2))
 
-pub full-in_order : (frames : List Frame) → IsOrderly frames → in_order (full frames) ≡ full frames
-full-in_order frames h =
+pub findings_stand_in_order : (frames : List Frame) → IsOrderly frames → in_order (full frames) ≡ full frames
+findings_stand_in_order frames h =
     ordered-in_order comes_after comes_after_is (full frames)
     (in_order-full_from (streams_of frames) pass_start 0 frames (streams-streams_of 0 frames h) h)
