@@ -146,3 +146,7 @@ pub only-found : (client server : Flow) (result : Result Cut AllocError) → IfO
     IfOk result (λ found. (other : Cut) → IsCut client server other → IsSameCut found other)
 only-found client server (Ok cut) is = λ other second. only-cut client server cut other is second
 only-found client server (Err e) is = tt
+
+pub ruleset uniqueness = (spelling-unique, cut-unique)
+
+pub ruleset only_cuts = (only-cut, only-found)
