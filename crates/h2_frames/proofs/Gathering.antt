@@ -63,3 +63,5 @@ partly_taken-turn count wanted old now next part taken part_is fits counted =
       counted = counted;
       there = omega arith;
     }
+
+pub ruleset piece_lengths = (length-from, joined-over)

@@ -10,6 +10,7 @@ use audit_terms::Body;
 use std::alloc::AllocError;
 
 /// How many bytes the pieces have.
+#[tactic(auto, using(crate::proofs::Gathering::piece_lengths))]
 fn length_of(pieces: &[&[u8]]) -> usize
     requires { length (joined pieces.now) < 2 ^ 31 }
     ensures { result ≡ length (joined pieces.now) }
