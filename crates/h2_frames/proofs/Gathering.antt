@@ -65,3 +65,5 @@ partly_taken-turn count wanted old now next part taken part_is fits counted =
     }
 
 pub ruleset piece_lengths = (length-from, joined-over)
+
+pub ruleset part_turns = (partly_taken-turn, gone_on)

@@ -21,3 +21,5 @@ bad (s ∷ later) =
 -- the first pair out of range has an identifier whose values have a range
 pub settings-bad : (payload : List ℕ) → ForSome (settings_of payload).bad (λ identifier. identifier ≤ 5)
 settings-bad payload = bad (settings_in payload)
+
+pub ruleset bad_settings = (settings-bad)

@@ -78,3 +78,5 @@ with_later-turn settings new s rest pair later pair_is later_is size s_is new_is
     ap (λ (n : Settings). with_later n (settings_in later)) new_is
     ∙ with_later-step settings s (settings_in later)
     ∙ ap (with_later settings) begins
+
+pub ruleset later_turns = (with_later-turn)

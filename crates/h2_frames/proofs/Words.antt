@@ -3,6 +3,7 @@ pub use Rattle.std.proofs.{lemmas.Bool.Decides.nat_tests, lemmas.List.append-nil
 pub use Rattle.std.specs.{List.AllByRecursion, Option.ForSome, Prelude.nat_lt, Prelude.◌==◌, Prelude.Ok, Prelude.Result}
 pub use Rattle.std.specs.{Prelude.Err}
 pub use Rattle.std.proofs.lemmas.Bool.{cond_both, ltb-false, ltb-true, not-true}
+pub use Rattle.std.proofs.lemmas.List.{take-append-drop, length-take-le}
 pub use Rattle.audit_terms.specs.{Frame.promised_in, Order.ordered_by, Order.put_by, Side.side_order}
 pub use Rattle.audit_terms.specs.code.runs.Orderly.{IsOrderlyFrom, IsInRange}
 pub use Rattle.audit_terms.specs.declared.{frames.Body.Body, frames.Frame.Frame, settings.Settings.Settings}
