@@ -162,35 +162,6 @@ module _ (now : InForce) (seen : List Frame) (frame : Frame) (old : Waiting) (ac
         (finding_at UnmatchedAck frame.number frame.stream frame.side (pos 0))
     settings_said-ack = rw (took, ack) refl
 
--- ---- any other frame
-
-module _ (now : InForce) (seen : List Frame) (frame : Frame) (waiting : Waiting)
-    (other_frame : is_ack frame.body ≡ false)
-    (h : IsWaiting now seen waiting) where
-  takes-nothing : taken now frame ≡ None
-  takes-nothing = rw (other_frame) refl
-
-  still-paired : (d : Side) → side_of d (in_force_after now frame).paired ≡ side_of d now.paired
-  still-paired d =
-      paired-after now frame d
-      ∙ ap (λ (t : Option Settings). side_of d now.paired + (if is_side d frame.side && is_some t then 1 else 0))
-      takes-nothing
-      ∙ none-added (is_side d frame.side) (side_of d now.paired)
-    where
-      none-added : (b : Bool) (n : ℕ) → n + (if b && false then 1 else 0) ≡ n
-      none-added true n = omega arith
-      none-added false n = omega arith
-
-  pub waiting-after : IsWaiting (in_force_after now frame) (seen ++ frame ∷ []) waiting
-  waiting-after =
-      waiting-step now seen frame waiting (λ d. rw (still-paired (other d)) (h.taken d, h.queued d)) h.within
-
-  pub change_of-other : option_to_list (change_of now frame) ≡ []
-  change_of-other = rw (takes-nothing) refl
-
-  pub settings_said-other : settings_said now frame ≡ []
-  settings_said-other = rw (other_frame) refl
-
 pub waiting-at_start : (waiting : Waiting) → ((d : Side) → side_of d waiting.taken ≡ 0)
     → IsWaiting initial_in_force [] waiting
 waiting-at_start waiting none = record {
