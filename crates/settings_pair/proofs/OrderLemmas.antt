@@ -88,3 +88,5 @@ changes_of-acknowledged frames h =
           → AllByRecursion (λ frame. All (AcknowledgesAt frame) (changes_of frames)) fs
       by_frame [] k = tt
       by_frame (f ∷ fs) k = (All-from_recursion (AcknowledgesAt f) (changes_of frames) k.0, by_frame fs k.1)
+
+pub ruleset found_changes = (all-changes, changes_from-orderly, changes_of-acknowledged)

@@ -177,3 +177,7 @@ waiting-at_start waiting none = record {
       (side_of d initial_in_force.sent)
   at_start_queued Client = ap (λ n. sent_by Client (drop n [])) (none Client)
   at_start_queued Server = ap (λ n. sent_by Server (drop n [])) (none Server)
+
+pub ruleset acknowledged = (waiting-after_ack, change_of-ack, settings_said-ack)
+
+pub ruleset here = (sent-here, none-left_by)
