@@ -4,6 +4,8 @@ pub use Rattle.std.proofs.Math.Bool.{and-false, and-true, or_assoc, or-false}
 pub use Rattle.std.proofs.lemmas.Bool.{and_parts, cond_both, or_parts, or_right, cases_Bool}
 pub use Rattle.std.specs.List.{AllByRecursion, flat_map, find, list_any, All}
 pub use Rattle.std.specs.Option.{option_map_or, option_to_list}
+pub use Rattle.std.proofs.lemmas.List.Elements.{All-weaker}
+pub use Rattle.std.proofs.lemmas.Fn.{filter_same}
 pub use borrow.Author.Tests.{eqb-true, eq-eqb, ne_eqb, le-leb, lt-leb, eqb-false}
 pub use Rattle.audit_terms.proofs.Bounds.{room-wider}
 pub use Rattle.audit_terms.proofs.FindingOrder.{comes_after_is, in_order-alike, in_order-append_comm, in_order-in_order}
