@@ -1,54 +1,34 @@
 -- No two findings of a connection share place and side: at one frame they stand in different rows of the table or are
 -- of different streams, and different frames have different places.
 use Rattle.std.proofs.Common.{◌≡◌, ◌≢◌, ℕ, ◌+◌, ◌*◌, ◌^◌, ◌<◌, Bool, true, false, not, ◌==◌, List, [], ◌∷◌, refl, sym}
-use Rattle.std.proofs.Common.{◌∙◌, arith, filter, true≢false, if◌then◌else◌}
-use Rattle.std.specs.List.{AllByRecursion}
-use borrow.Author.Tests.{eq-eqb}
-use Rattle.audit_terms.specs.declared.frames.Frame.{Frame}
-use Rattle.audit_terms.specs.declared.findings.Finding.{Finding}
-use Rattle.audit_terms.specs.Finding.{comes_after}
-use Rattle.audit_terms.specs.Frame.{promised_by}
-use Rattle.audit_terms.specs.code.runs.Orderly.{IsInRange, IsOrderlyFrom, IsOrderly}
-use Rattle.audit_core.proofs.NamedStreams.{NotAmong, AreDistinct}
-use Rattle.audit_terms.specs.Pass.{PassState, pass_start, said, full_from, full, next, first_of, streams_of}
-use Rattle.audit_core.specs.laws.Apart.{EachPair, AreApart, StandApart}
-use Rattle.audit_core.proofs.Pairs.{Across, pairs-append, pairs-ordered}
-use Rattle.audit_terms.proofs.SaidPlaces.{AreWithin, AreFrom}
-use Rattle.audit_core.proofs.PassOrder.{AreStreams, at-said, from-full_from, rows_of, streams-streams_of}
-use Rattle.audit_core.proofs.FrameRows.{rows-apart-at}
+use Rattle.std.proofs.Common.{◌∙◌, arith, filter, true≢false, if◌then◌else◌, ap}
+use Rattle.audit_core.proofs.Words.{AllByRecursion, eq-eqb, Frame, Finding, comes_after, promised_by, IsInRange}
+use Rattle.audit_core.proofs.Words.{IsOrderlyFrom, IsOrderly, PassState, pass_start, said, full_from, full, next}
+use Rattle.audit_core.proofs.Words.{first_of, streams_of, EachPair, AreApart, StandApart, AreWithin, AreFrom, other}
+use Rattle.audit_core.proofs.Words.{place_rank, Side, AreApartAsErrors}
+use Rattle.audit_core.proofs.Pairs.{Across, pairs-append, pairs-ordered, all-ordered, pairs-filter, pairs-refine}
+use Rattle.audit_core.proofs.PassOrder.{AreStreams, at-said, from-full_from, streams-streams_of}
+use Rattle.audit_core.proofs.FrameRows.{Any, rows-at}
+use Rattle.audit_core.proofs.TableRows.{error_side, IsRow}
 
-not_among-filter : (test : ℕ → Bool) (stream : ℕ) (streams : List ℕ) → NotAmong stream streams →
-    NotAmong stream (filter test streams)
-not_among-filter test stream [] h = tt
-not_among-filter test stream (other ∷ others) h = step _ refl (not_among-filter test stream others h.1) where
-  step : (b : Bool) → test other ≡ b → NotAmong stream (filter test others) →
-      NotAmong stream (filter test (other ∷ others))
-  step true e ih = rw e (h.0, ih)
-  step false e ih = rw e ih
-
-distinct-filter : (test : ℕ → Bool) (streams : List ℕ) → AreDistinct streams → AreDistinct (filter test streams)
-distinct-filter test [] h = tt
-distinct-filter test (stream ∷ streams) h = step _ refl (distinct-filter test streams h.1) where
-  step : (b : Bool) → test stream ≡ b → AreDistinct (filter test streams) → AreDistinct (filter test (stream ∷ streams))
-  step true e ih = rw e (not_among-filter test stream streams h.0, ih)
-  step false e ih = rw e ih
-
-not_among-others : (stream : ℕ) (streams : List ℕ) → NotAmong stream (filter (λ other. not (other == stream)) streams)
+not_among-others : (stream : ℕ) (streams : List ℕ)
+    → AllByRecursion (λ other. stream ≢ other) (filter (λ other. not (other == stream)) streams)
 not_among-others stream [] = tt
 not_among-others stream (other ∷ others) = step _ refl (not_among-others stream others) where
-  step : (b : Bool) → (other == stream) ≡ b → NotAmong stream (filter (λ x. not (x == stream)) others) →
-      NotAmong stream (filter (λ x. not (x == stream)) (other ∷ others))
+  step : (b : Bool) → (other == stream) ≡ b
+      → AllByRecursion (λ x. stream ≢ x) (filter (λ x. not (x == stream)) others)
+      → AllByRecursion (λ x. stream ≢ x) (filter (λ x. not (x == stream)) (other ∷ others))
   step true e ih = rw e ih
   step false e ih = rw e (λ p. true≢false (sym (eq-eqb other stream (sym p)) ∙ e), ih)
 
-distinct-first_of : (stream : ℕ) (streams : List ℕ) → AreDistinct streams → AreDistinct (first_of stream streams)
+distinct-first_of : (stream : ℕ) (streams : List ℕ) → EachPair ◌≢◌ streams → EachPair ◌≢◌ (first_of stream streams)
 distinct-first_of stream streams h = by_test (stream == 0) where
-  by_test : (b : Bool) → AreDistinct (if b then streams else stream ∷ filter (λ other. not (other == stream)) streams)
+  by_test : (b : Bool) → EachPair ◌≢◌ (if b then streams else stream ∷ filter (λ other. not (other == stream)) streams)
   by_test true = h
-  by_test false = (not_among-others stream streams, distinct-filter _ streams h)
+  by_test false = (not_among-others stream streams, pairs-filter ◌≢◌ _ streams h)
 
 -- no stream is named twice
-pub distinct-streams_of : (frames : List Frame) → AreDistinct (streams_of frames)
+pub distinct-streams_of : (frames : List Frame) → EachPair ◌≢◌ (streams_of frames)
 distinct-streams_of [] = tt
 distinct-streams_of (frame ∷ frames) =
     distinct-first_of frame.stream _ (distinct-first_of (promised_by frame) _ (distinct-streams_of frames))
@@ -69,7 +49,7 @@ module _ (R : Finding → Finding → Type 0) (elsewhere : (x y : Finding) → x
 
   module _ (streams : List ℕ) (small : AreStreams streams) (at : (state : PassState) (frame : Frame) → IsInRange frame →
       EachPair R (said streams state frame)) where
-    pub pairs-full_from : (state : PassState) (low : ℕ) (frames : List Frame) → IsOrderlyFrom low frames →
+    pairs-full_from : (state : PassState) (low : ℕ) (frames : List Frame) → IsOrderlyFrom low frames →
         EachPair R (full_from streams state frames)
     pairs-full_from state low [] h = tt
     pairs-full_from state low (frame ∷ frames) h =
@@ -79,20 +59,25 @@ module _ (R : Finding → Finding → Type 0) (elsewhere : (x y : Finding) → x
         (across-frames frame.number _ _ (at-said streams state frame small h.1).within
         (from-full_from streams (next state frame) (frame.number + 1) frames small h.2))
 
-apart-turned : (x y : Finding) → AreApart x y → AreApart y x
-apart-turned x y h p s = h (sym p) (sym s)
+  -- so it is with all findings, where it is with two rows of a frame that are apart
+  pairs-full : ((sender : Side) (x y : Finding) → IsRow sender Any 0 36 x → IsRow sender Any 0 36 y → AreApart x y →
+      R x y) → (frames : List Frame) → IsOrderly frames → EachPair R (full frames)
+  pairs-full refine frames h = pairs-full_from (streams_of frames) small at pass_start 0 frames h where
+    small : AreStreams (streams_of frames)
+    small = streams-streams_of 0 frames h
 
-pub apart-said : (streams : List ℕ) (state : PassState) (frame : Frame) → AreStreams streams → AreDistinct streams →
-    IsInRange frame →
-    StandApart (said streams state frame)
-apart-said streams state frame small distinct h =
-    pairs-ordered AreApart comes_after apart-turned (rows_of streams state frame)
-    (rows-apart-at streams state frame small distinct h)
+    at : (state : PassState) (frame : Frame) → IsInRange frame → EachPair R (said (streams_of frames) state frame)
+    at state frame k =
+        let rows = rows-at (streams_of frames) state frame small (distinct-streams_of frames) k in
+        pairs-refine AreApart R (IsRow frame.side Any 0 36) (refine frame.side) _
+        (all-ordered (IsRow frame.side Any 0 36) comes_after _ rows.within)
+        (pairs-ordered AreApart comes_after (λ x y f p s. f (sym p) (sym s)) _ rows.apart)
 
 pub findings_stand_apart : (frames : List Frame) → IsOrderly frames → StandApart (full frames)
-findings_stand_apart frames h =
-    pairs-full_from AreApart (λ x y n p. absurd (n p)) (streams_of frames) small
-    (λ state frame k. apart-said (streams_of frames) state frame small (distinct-streams_of frames) k)
-    pass_start 0 frames h where
-      small : AreStreams (streams_of frames)
-      small = streams-streams_of 0 frames h
+findings_stand_apart = pairs-full AreApart (λ x y n p. absurd (n p)) (λ sender x y p q apart. apart)
+
+-- two errors at one place would be of one endpoint
+pub errors_stand_alone : (frames : List Frame) → IsOrderly frames → EachPair AreApartAsErrors (full frames)
+errors_stand_alone = pairs-full AreApartAsErrors (λ x y n s t. n)
+    (λ sender x y p q apart s t e. apart e
+    (p.error s ∙ ap (λ place. error_side sender (place_rank place)) e ∙ sym (q.error t)))

@@ -1,315 +1,220 @@
 -- What is said at one frame stands in different rows of the table, or is of different streams.
-use Rattle.std.proofs.Common.{◌≡◌, ◌≢◌, ℕ, ℤ, pos, ◌+◌, ◌^◌, ◌<◌, Bool, true, false, ◌==◌, ◌&&◌, List, [], ◌∷◌, ◌++◌}
-use Rattle.std.proofs.Common.{append_assoc, append-nil, refl, sym, ap, subst, ◌∙◌, arith, Option, if◌then◌else◌, nat_lt}
-use Rattle.std.specs.List.{AllByRecursion}
-use Rattle.std.proofs.Math.Bool.{and-false}
-use Rattle.audit_terms.specs.declared.sides.Side.{Side}
-use Rattle.audit_terms.specs.declared.sides.Side.TheVariants.{Client, Server}
-use Rattle.audit_terms.specs.declared.sides.Sides.{Sides}
-use Rattle.audit_terms.specs.declared.kinds.Kind.{Kind}
-use Rattle.audit_terms.specs.declared.kinds.Kind.TheVariants.{BadPreface, BrokenBlock, TooLong, WrongStream, WrongSize}
-use Rattle.audit_terms.specs.declared.kinds.Kind.TheVariants.{BadPadding, BadSetting, Push, NotOpened, IdNotGreater}
-use Rattle.audit_terms.specs.declared.kinds.Kind.TheVariants.{ZeroConnectionGrant, ConnectionOverflow, SettingOverflow}
-use Rattle.audit_terms.specs.declared.kinds.Kind.TheVariants.{LongFrame, AfterEnd, ConnectionOverrun, StreamOverrun}
-use Rattle.audit_terms.specs.declared.kinds.Kind.TheVariants.{ZeroStreamGrant, StreamOverflow, UnmatchedAck}
-use Rattle.audit_terms.specs.declared.kinds.Kind.TheVariants.{BadPriority, ConnectionStallEnd, ConnectionStallBegin}
-use Rattle.audit_terms.specs.declared.kinds.Kind.TheVariants.{StreamStallEnd, StreamStallBegin, ConnectionCredit}
-use Rattle.audit_terms.specs.declared.kinds.Kind.TheVariants.{StreamCredit}
-use Rattle.audit_terms.specs.declared.frames.Body.{Body}
-use Rattle.audit_terms.specs.declared.frames.Body.TheVariants.{Content, Headers, Priority, RstStream}
-use Rattle.audit_terms.specs.declared.frames.Body.TheVariants.{Settings as SettingsBody, SettingsAck, PushPromise, Ping}
-use Rattle.audit_terms.specs.declared.frames.Body.TheVariants.{GoAway, WindowUpdate, Continuation, Unknown, Unreadable}
-use Rattle.audit_terms.specs.declared.frames.Frame.{Frame}
-use Rattle.audit_terms.specs.declared.items.Item.{Item}
-use Rattle.audit_terms.specs.declared.items.Step.{Step}
-use Rattle.audit_terms.specs.declared.connections.ConnectionState.{ConnectionState}
-use Rattle.audit_terms.specs.declared.streams.Stream.{Stream}
-use Rattle.audit_terms.specs.declared.findings.Finding.{Finding}
-use Rattle.audit_terms.specs.Side.{is_side}
-use Rattle.audit_terms.specs.Sides.{side_of}
-use Rattle.audit_terms.specs.Kind.{rank_of}
-use Rattle.audit_terms.specs.Place.{place_stream}
-use Rattle.audit_terms.specs.Finding.{finding_at, say}
-use Rattle.audit_terms.specs.Frame.{is_headers, is_promise, promised_in}
-use Rattle.audit_terms.specs.code.runs.Orderly.{IsInRange}
-use Rattle.audit_terms.specs.LocalFault.{local_said, fault, body_said, reading_fault}
-use Rattle.audit_terms.specs.InForce.{InForce, settings_said}
-use Rattle.audit_terms.specs.Connection.{connection_said, length_said, push_said, opening_order_said}
-use Rattle.audit_terms.specs.Connection.{promise_order_said, connection_windows_said, connection_window_said}
-use Rattle.audit_terms.specs.Stream.{WindowStep, opens, window_at_opening, window_step, stream_said, frame_said}
-use Rattle.audit_terms.specs.Stream.{stream_window_said, live_window_said, opened_window_said}
-use Rattle.audit_core.proofs.NamedStreams.{NotAmong, AreDistinct}
-use Rattle.audit_terms.specs.Pass.{PassState, streams_said, step_of, item_of}
-use Rattle.audit_core.specs.laws.Apart.{AreApart, StandApart}
-use Rattle.audit_core.proofs.Pairs.{all-append, across-by, pairs-append}
+use Rattle.std.proofs.Common.{◌≡◌, ◌≢◌, ℕ, ℤ, pos, ◌+◌, ◌^◌, ◌<◌, ◌≤◌, Bool, true, false, ◌&&◌, List, [], ◌∷◌, ◌++◌}
+use Rattle.std.proofs.Common.{append_assoc, refl, sym, subst, ◌∙◌, ap, arith, Option, Some, None, nat_lt, nat_le}
+use Rattle.std.proofs.Common.{if◌then◌else◌, true≢false}
+use Rattle.audit_terms.specs.declared.kinds.Kind.TheVariants as K
+use Rattle.audit_core.proofs.Words.{AllByRecursion, Side, Client, Server, Sides, Kind, Body, Headers, SettingsBody}
+use Rattle.audit_core.proofs.Words.{Unreadable, Frame, ConnectionState, Stream, Finding, is_side, other, side_of}
+use Rattle.audit_core.proofs.Words.{place_stream, finding_at, say, say_of, is_headers, is_promise, promised_in, meets}
+use Rattle.audit_core.proofs.Words.{IsInRange, local_said, fault, body_said, reading_fault, InForce, connection_said}
+use Rattle.audit_core.proofs.Words.{length_said, opening_order_said, promise_order_said, connection_window_said, opens}
+use Rattle.audit_core.proofs.Words.{window_at_opening, window_step, stream_said, frame_said, stream_window_said}
+use Rattle.audit_core.proofs.Words.{live_window_said, PassState, streams_said, step_of, EachPair, AreApart, change_of}
+use Rattle.audit_core.proofs.Words.{rank_of, opens_stream, Change, Step, push_said, new_limit, and_parts}
+use Rattle.audit_core.proofs.Pairs.{all-append, all-map, across-by, pairs-append}
 use Rattle.audit_core.proofs.PassOrder.{AreStreams, rows_of}
-use Rattle.audit_core.proofs.TableRows.{row_at, row-either, IsRow, AreRows, Only, rows-wider, rows-nil, rows-append}
-use Rattle.audit_core.proofs.TableRows.{rows-three, rows-six, rows-say_of, rows-choice, rows-say}
+use Rattle.audit_core.proofs.TableRows.{IsRow, AreRows, ◌⊕◌, is_row, same_side, rows-nil, rows-say_of, rows-choice}
+use Rattle.audit_core.proofs.TableRows.{row-say, told, quiet}
+use Rattle.audit_core.proofs.ErrorSides.{granted-side, moved-side}
 
 -- any stream
-abbrev Any : ℕ → Type 0
+abbrev pub Any : ℕ → Type 0
 Any stream = Unit {0}
 
-any : (on : ℕ → Type 0) (low high : ℕ) (xs : List Finding) → AreRows on low high xs → AreRows Any low high xs
-any on low high xs h = rows-wider on Any low high low high (λ s p. tt) (omega arith) (omega arith) xs h
+-- the one stream
+abbrev Only : (stream : ℕ) → ℕ → Type 0
+Only stream other = other ≡ stream
 
--- what is said of a frame by itself
-module _ (frame : Frame) (h : frame.stream < 2 ^ 31) where
-  -- a row that is said of the frame's sender
-  said : (kind : Kind) (value : ℤ) (holds : Bool) (row : ℕ) → row_at Client (rank_of kind) ≡ row →
-      row_at Server (rank_of kind) ≡ row →
-      AreRows (Only frame.stream) row (row + 1) (say holds (finding_at kind frame.number frame.stream frame.side value))
-  said kind value holds row p q =
-      rows-say kind frame.number frame.stream frame.side value holds row h
-      (row-either (rank_of kind) row p q frame.side)
+-- the rows of an endpoint's windows, of the connection and of a stream
+abbrev connection_row : Side → ℕ → ℕ
+connection_row Client k = 9 + k
+connection_row Server k = 15 + k
 
-  rows-reading_fault : (kind : Kind) (value : ℕ) → AreRows (Only frame.stream) 3 4 (reading_fault kind frame value)
-  rows-reading_fault WrongSize value = said WrongSize (pos value) true 3 refl refl
-  rows-reading_fault BadPadding value = said BadPadding (pos value) true 3 refl refl
-  rows-reading_fault BadPriority value = said BadPriority (pos value) true 3 refl refl
-  rows-reading_fault _ value = rows-nil _ 3 4
+abbrev stream_row : Side → ℕ → ℕ
+stream_row Client k = 24 + k
+stream_row Server k = 30 + k
 
-  rows-body : (body : Body) → AreRows (Only frame.stream) 3 4 (body_said frame body)
+-- what is said of a frame by itself and of the connection
+module _ (frame : Frame) (h : IsInRange frame) where
+  abbrev Rows : (low high : ℕ) → List Finding → Type 0
+  Rows low high xs = AreRows frame.side Any low high xs
+
+  said : (kind : Kind) (low high : ℕ) (value : ℤ) (holds : Bool) → nat_le low high ≡ true →
+      (is_row Client Client (rank_of kind) low high && is_row Server Server (rank_of kind) low high) ≡ true →
+      Rows low high (say holds (finding_at kind frame.number frame.stream frame.side value))
+  said = told frame.side Any frame.number frame.stream h.stream tt
+
+  rows-reading_fault : (kind : Kind) (value : ℕ) → Rows 3 4 (reading_fault kind frame value)
+  rows-reading_fault K.WrongSize value = said K.WrongSize 3 4 (pos value) true refl refl
+  rows-reading_fault K.BadPadding value = said K.BadPadding 3 4 (pos value) true refl refl
+  rows-reading_fault K.BadPriority value = said K.BadPriority 3 4 (pos value) true refl refl
+  rows-reading_fault _ value = rows-nil _ _ 3 4 (omega arith)
+
+  rows-body : (body : Body) → Rows 3 4 (body_said frame body)
   rows-body (Unreadable kind value) = rows-reading_fault kind value
   rows-body (SettingsBody words) =
-      rows-say_of (Only frame.stream) 3 4 (λ identifier. fault BadSetting frame identifier ∷ []) words.bad
-      (λ identifier. said BadSetting (pos identifier) true 3 refl refl)
-  rows-body _ = rows-nil _ 3 4
+      rows-say_of _ _ 3 4 (λ identifier. fault K.BadSetting frame identifier ∷ []) words.bad (omega arith)
+      (λ identifier. said K.BadSetting 3 4 (pos identifier) true refl refl)
+  rows-body _ = rows-nil _ _ 3 4 (omega arith)
 
-  -- a push of the client, and one of the server
-  rows-client_push : (code : Bool) →
-      AreRows (Only frame.stream) 4 5 (say (code && is_side Client frame.side) (fault Push frame 0))
-  rows-client_push code = by_side frame.side where
-    by_side : (side : Side) →
-        AreRows (Only frame.stream) 4 5
-        (say (code && is_side Client side) (finding_at Push frame.number frame.stream side (pos 0)))
-    by_side Client = rows-say Push frame.number frame.stream Client (pos 0) _ 4 h refl
-    by_side Server = rw and-false (rows-nil _ 4 5)
+  -- a promise of the client, and one of the server
+  rows-push : (d : Side) (low high : ℕ) (holds : Bool) → low ≤ high → is_row d d 7 low high ≡ true →
+      (holds ≡ true → is_side d frame.side ≡ true) →
+      Rows low high (say holds (finding_at K.Push frame.number frame.stream frame.side (pos 0)))
+  rows-push d low high holds p e f =
+      row-say frame.side Any frame.number frame.stream h.stream tt K.Push frame.side low high _ holds p
+      (λ k. rw (sym (same_side d frame.side (f k))) e)
 
-  rows-server_push : (push : ℕ) → AreRows (Only frame.stream) 7 8 (push_said push frame)
-  rows-server_push push = by_side frame.side where
-    by_side : (side : Side) → AreRows (Only frame.stream) 7 8
-        (say ((is_side Server side && is_promise frame.body) && (push == 0))
-        (finding_at Push frame.number frame.stream side (pos 0)))
-    by_side Client = rows-nil _ 7 8
-    by_side Server = rows-say Push frame.number frame.stream Server (pos 0) _ 7 h refl
-
-  rows-local : (previous : Option Frame) → AreRows (Only frame.stream) 0 5 (local_said previous frame)
+  rows-local : (previous : Option Frame) → Rows 0 5 (local_said previous frame)
   rows-local previous =
-      rows-append (Only frame.stream) 0 4 5 (omega arith) (omega arith) _ _
-      (rows-append (Only frame.stream) 0 3 4 (omega arith) (omega arith) _ _
-      (rows-three (Only frame.stream) 0 _ _ _ (said BadPreface _ _ 0 refl refl) (said BrokenBlock _ _ 1 refl refl)
-      (said WrongStream _ _ 2 refl refl))
-      (rows-body frame.body))
-      (rows-client_push _)
+      said K.BadPreface 0 1 _ _ refl refl ⊕ said K.BrokenBlock 1 2 _ _ refl refl
+      ⊕ said K.WrongStream 2 3 _ _ refl refl ⊕ rows-body frame.body
+      ⊕ rows-push Client 4 5 _ (omega arith) refl (λ e. (and_parts _ _ e).1)
 
-  rows-settings : (now : InForce) → AreRows (Only frame.stream) 5 6 (settings_said now frame)
-  rows-settings now = said UnmatchedAck _ _ 5 refl refl
+  rows-length : (limit : ℕ) → Rows 6 7 (length_said limit frame)
+  rows-length limit = by_kind _ where
+    by_kind : (b : Bool) → Rows 6 7 (say (nat_lt limit frame.length) (finding_at (if b then K.TooLong else K.LongFrame)
+        frame.number frame.stream frame.side (pos frame.length)))
+    by_kind true = said K.TooLong 6 7 _ _ refl refl
+    by_kind false = said K.LongFrame 6 7 _ _ refl refl
 
-  rows-length : (limit : ℕ) → AreRows (Only frame.stream) 6 7 (length_said limit frame)
-  rows-length limit = step _ where
-    step : (b : Bool) → AreRows (Only frame.stream) 6 7 (say (nat_lt limit frame.length)
-        (finding_at (if b then TooLong else LongFrame) frame.number frame.stream frame.side (pos frame.length)))
-    step true = said TooLong _ _ 6 refl refl
-    step false = said LongFrame _ _ 6 refl refl
+  -- one finding of two that exclude each other
+  rows-one_of : (low high : ℕ) (a b : Bool) (x y : Finding) → (a ≡ true → b ≡ true → ⊥) → Rows low high (say a x) →
+      Rows low high (say b y) → Rows low high (say a x ++ say b y)
+  rows-one_of low high true true x y n p q = absurd (n refl refl)
+  rows-one_of low high true false x y n p q = p
+  rows-one_of low high false b x y n p q = q
 
-  zero-small : 0 < 2 ^ 31
-  zero-small = omega arith
+  -- HEADERS open their own stream, and a promise opens another
+  rows-order : (opened promised : ℕ) (opens : Bool) (change : Option Change) →
+      Rows 8 9 (opening_order_said opened (record { frame = frame; opens = opens; change = change })
+      ++ promise_order_said promised frame)
+  rows-order opened promised opens change =
+      rows-one_of 8 9 _ _ _ _
+      (λ p q. neither frame.body (and_parts _ _ (and_parts _ _ p).0).1 (and_parts _ _ (and_parts _ _ q).0).1)
+      (said K.IdNotGreater 8 9 _ _ refl refl)
+      (told frame.side Any frame.number (promised_in frame.body) h.promised tt K.IdNotGreater 8 9 _ _ refl refl) where
+        neither : (body : Body) → is_headers body ≡ true → is_promise body ≡ true → ⊥
+        neither Headers p q = absurd (true≢false (sym q))
+        neither _ p q = absurd (true≢false (sym p))
 
-  rows-client_window : (before : ℤ) → AreRows (Only 0) 9 15 (connection_window_said Client before frame)
-  rows-client_window before =
-      rows-six (Only 0) 9 _ _ _ _ _ _
-      (rows-say ZeroConnectionGrant frame.number 0 Server _ _ 9 zero-small refl)
-      (rows-say ConnectionOverflow frame.number 0 Client _ _ 10 zero-small refl)
-      (rows-say ConnectionOverrun frame.number 0 Client _ _ 11 zero-small refl)
-      (rows-say ConnectionStallEnd frame.number 0 Client _ _ 12 zero-small refl)
-      (rows-say ConnectionStallBegin frame.number 0 Client _ _ 13 zero-small refl)
-      (rows-say ConnectionCredit frame.number 0 Client _ _ 14 zero-small refl)
+  rows-connection_window : (d : Side) (before : ℤ) →
+      Rows (connection_row d 0) (connection_row d 6) (connection_window_said d before frame)
+  rows-connection_window d before =
+      let zero : 0 < 2 ^ 31 = omega arith in
+      let still = quiet frame.side Any frame.number 0 zero tt connection_row d in
+      row-say frame.side Any frame.number 0 zero tt K.ZeroConnectionGrant (other d) (connection_row d 0)
+      (connection_row d 1) _ _ (up d 0) (λ e. granted d (and_parts _ _ (and_parts _ _ e).0).0)
+      ⊕ row-say frame.side Any frame.number 0 zero tt K.ConnectionOverflow d (connection_row d 1)
+      (connection_row d 2) _ _ (up d 1) (λ e. risen d (granted-side d before frame e))
+      ⊕ still K.ConnectionOverrun 2 3 _ _ refl refl ⊕ still K.ConnectionStallEnd 3 4 _ _ refl refl
+      ⊕ still K.ConnectionStallBegin 4 5 _ _ refl refl ⊕ still K.ConnectionCredit 5 6 _ _ refl refl where
+        up : (side : Side) (k : ℕ) → connection_row side k ≤ connection_row side (k + 1)
+        up Client k = omega arith
+        up Server k = omega arith
 
-  rows-server_window : (before : ℤ) → AreRows (Only 0) 15 21 (connection_window_said Server before frame)
-  rows-server_window before =
-      rows-six (Only 0) 15 _ _ _ _ _ _
-      (rows-say ZeroConnectionGrant frame.number 0 Client _ _ 15 zero-small refl)
-      (rows-say ConnectionOverflow frame.number 0 Server _ _ 16 zero-small refl)
-      (rows-say ConnectionOverrun frame.number 0 Server _ _ 17 zero-small refl)
-      (rows-say ConnectionStallEnd frame.number 0 Server _ _ 18 zero-small refl)
-      (rows-say ConnectionStallBegin frame.number 0 Server _ _ 19 zero-small refl)
-      (rows-say ConnectionCredit frame.number 0 Server _ _ 20 zero-small refl)
+        granted : (side : Side) → is_side (other side) frame.side ≡ true →
+            is_row frame.side (other side) 10 (connection_row side 0) (connection_row side 1) ≡ true
+        granted Client e = e
+        granted Server e = e
 
-  rows-connection_windows : (credit : Sides ℤ) → AreRows (Only 0) 9 21 (connection_windows_said credit frame)
-  rows-connection_windows credit =
-      rows-append (Only 0) 9 15 21 (omega arith) (omega arith) _ _ (rows-client_window credit.client)
-      (rows-server_window credit.server)
+        risen : (side : Side) → side ≡ other frame.side →
+            is_row frame.side side 11 (connection_row side 1) (connection_row side 2) ≡ true
+        risen Client e = rw (sym e) refl
+        risen Server e = rw (sym e) refl
 
--- ---- the order of opened streams: HEADERS open their own stream, and a promise opens another
+  rows-server_push : (push : ℕ) → Rows 7 8 (push_said push frame)
+  rows-server_push push =
+      rows-push Server 7 8 _ (omega arith) refl (λ e. (and_parts _ _ (and_parts _ _ e).0).0)
 
-headers-promise : (body : Body) → is_headers body ≡ true → is_promise body ≡ false
-headers-promise Headers e = refl
-headers-promise (PushPromise stream) e = cc
-headers-promise Content e = refl
-headers-promise Priority e = refl
-headers-promise RstStream e = refl
-headers-promise (SettingsBody words) e = refl
-headers-promise SettingsAck e = refl
-headers-promise Ping e = refl
-headers-promise GoAway e = refl
-headers-promise (WindowUpdate amount) e = refl
-headers-promise Continuation e = refl
-headers-promise Unknown e = refl
-headers-promise (Unreadable kind value) e = refl
-
-module _ (item : Item) (h : IsInRange item.frame) where
-  rows-opening : (opened : ℕ) → AreRows Any 8 9 (opening_order_said opened item)
-  rows-opening opened = any (Only item.frame.stream) 8 9 _ (said item.frame h.stream IdNotGreater _ _ 8 refl refl)
-
-  rows-promise : (promised : ℕ) → AreRows Any 8 9 (promise_order_said promised item.frame)
-  rows-promise promised =
-      any (Only (promised_in item.frame.body)) 8 9 _
-      (rows-say IdNotGreater item.frame.number (promised_in item.frame.body) item.frame.side _ _ 8 h.promised
-      (row-either 9 8 refl refl item.frame.side))
-
-  no-promise : (promised : ℕ) → is_promise item.frame.body ≡ false → promise_order_said promised item.frame ≡ []
-  no-promise promised e = rw (e, and-false) refl
-
-  no-opening : (opened : ℕ) → is_headers item.frame.body ≡ false → opening_order_said opened item ≡ []
-  no-opening opened e = rw (e, and-false) refl
-
-  rows-order : (opened promised : ℕ) →
-      AreRows Any 8 9 (opening_order_said opened item ++ promise_order_said promised item.frame)
-  rows-order opened promised = by_headers _ refl where
-    by_headers : (b : Bool) → is_headers item.frame.body ≡ b →
-        AreRows Any 8 9 (opening_order_said opened item ++ promise_order_said promised item.frame)
-    by_headers true e = subst (λ l. AreRows Any 8 9 (opening_order_said opened item ++ l))
-        (sym (no-promise promised (headers-promise item.frame.body e)))
-        (subst (AreRows Any 8 9) (sym (append-nil (opening_order_said opened item))) (rows-opening opened))
-    by_headers false e =
-        subst (λ l. AreRows Any 8 9 (l ++ promise_order_said promised item.frame)) (sym (no-opening opened e))
-        (rows-promise promised)
-
-  rows-connection : (now : ConnectionState) → AreRows Any 6 21 (connection_said now item)
-  rows-connection now =
-      rows-append Any 6 9 21 (omega arith) (omega arith) _ _
-      (subst (AreRows Any 6 9)
-      (sym (append_assoc _ (opening_order_said now.opened item) (promise_order_said now.promised item.frame)))
-      (rows-append Any 6 8 9 (omega arith) (omega arith) _ _
-      (any (Only item.frame.stream) 6 8 _
-      (rows-append (Only item.frame.stream) 6 7 8 (omega arith) (omega arith) _ _ (rows-length item.frame h.stream _)
-      (rows-server_push item.frame h.stream now.push)))
-      (rows-order now.opened now.promised)))
-      (any (Only 0) 9 21 _ (rows-connection_windows item.frame h.stream now.credit))
+  rows-connection : (now : ConnectionState) (opens : Bool) (change : Option Change) →
+      Rows 6 21 (connection_said now (record { frame = frame; opens = opens; change = change }))
+  rows-connection now opens change =
+      let limit = new_limit change frame.side (side_of frame.side now.limit) in
+      subst (Rows 6 9)
+      (sym (append_assoc (length_said limit frame ++ push_said now.push frame)
+      (opening_order_said now.opened (record { frame = frame; opens = opens; change = change }))
+      (promise_order_said now.promised frame)))
+      (rows-length limit ⊕ rows-server_push now.push ⊕ rows-order now.opened now.promised opens change)
+      ⊕ (rows-connection_window Client now.credit.client ⊕ rows-connection_window Server now.credit.server)
 
 -- what is said of a stream
-module _ (stream : ℕ) (initial : Sides ℕ) (entry : Stream) (step : Step) (h : stream < 2 ^ 31) where
-  -- a row that is said of an endpoint
-  of_side : (d : Side) (kind : Kind) (value : ℤ) (holds : Bool) (row : ℕ) → row_at d (rank_of kind) ≡ row →
-      AreRows (Only stream) row (row + 1) (say holds (finding_at kind step.number stream d value))
-  of_side d kind value holds row e = rows-say kind step.number stream d value holds row h e
+module _ (frame : Frame) (now : InForce) (on : ℕ → Type 0) (stream : ℕ) (small : stream < 2 ^ 31)
+    (here : on stream) (initial : Sides ℕ) (entry : Stream) where
+  abbrev step : Step
+  step = step_of now frame stream
 
-  of_sender : (d : Side) (kind : Kind) (value : ℤ) (holds : Bool) (row : ℕ) → row_at Client (rank_of kind) ≡ row →
-      row_at Server (rank_of kind) ≡ row →
-      AreRows (Only stream) row (row + 1) (say holds (finding_at kind step.number stream d value))
-  of_sender d kind value holds row p q = of_side d kind value holds row (row-either (rank_of kind) row p q d)
+  abbrev Told : (low high : ℕ) → List Finding → Type 0
+  Told low high xs = AreRows frame.side on low high xs
 
-  rows-frame : (frame : Frame) → AreRows (Only stream) 21 24 (frame_said stream entry step frame)
-  rows-frame frame =
-      rows-three (Only stream) 21 _ _ _ (of_sender frame.side NotOpened _ _ 21 refl refl)
-      (of_sender frame.side AfterEnd _ _ 22 refl refl) (of_sender frame.side ZeroStreamGrant _ _ 23 refl refl)
+  rows-frame : (met : Bool) → Told 21 24 (say_of (frame_said stream entry step) (if met then Some frame else None))
+  rows-frame true =
+      let sent = told frame.side on frame.number stream small here in
+      sent K.NotOpened 21 22 _ _ refl refl ⊕ sent K.AfterEnd 22 23 _ _ refl refl
+      ⊕ sent K.ZeroStreamGrant 23 24 _ _ refl refl
+  rows-frame false = rows-nil _ _ 21 24 (omega arith)
 
-  rows-live_client : (window : WindowStep) → AreRows (Only stream) 24 30 (live_window_said Client stream step window)
-  rows-live_client window =
-      rows-six (Only stream) 24 _ _ _ _ _ _
-      (of_side Client SettingOverflow _ _ 24 refl) (of_side Client StreamOverrun _ _ 25 refl)
-      (of_side Client StreamOverflow _ _ 26 refl)
-      (of_side Client StreamStallEnd _ _ 27 refl) (of_side Client StreamStallBegin _ _ 28 refl)
-      (of_side Client StreamCredit _ _ 29 refl)
+  up : (side : Side) → (stream_row side 0 ≤ stream_row side 1) × (stream_row side 0 ≤ stream_row side 6)
+  up Client = (omega arith, omega arith)
+  up Server = (omega arith, omega arith)
 
-  rows-opened_client : (credit : ℤ) → AreRows (Only stream) 24 30 (opened_window_said Client stream step credit)
-  rows-opened_client credit =
-      rows-wider (Only stream) (Only stream) 28 30 24 30 (λ s e. e) (omega arith) (omega arith) _
-      (rows-append (Only stream) 28 29 30 (omega arith) (omega arith) _ _
-      (of_side Client StreamStallBegin _ _ 28 refl) (of_side Client StreamCredit _ true 29 refl))
+  still : (d : Side) (kind : Kind) (low high : ℕ) (value : ℤ) (holds : Bool) →
+      (nat_le (stream_row Client low) (stream_row Client high)
+      && nat_le (stream_row Server low) (stream_row Server high)) ≡ true →
+      (is_row frame.side Client (rank_of kind) (stream_row Client low) (stream_row Client high)
+      && is_row frame.side Server (rank_of kind) (stream_row Server low) (stream_row Server high)) ≡ true →
+      Told (stream_row d low) (stream_row d high) (say holds (finding_at kind frame.number stream d value))
+  still = quiet frame.side on frame.number stream small here stream_row
 
-  rows-live_server : (window : WindowStep) → AreRows (Only stream) 30 36 (live_window_said Server stream step window)
-  rows-live_server window =
-      rows-six (Only stream) 30 _ _ _ _ _ _
-      (of_side Server SettingOverflow _ _ 30 refl) (of_side Server StreamOverrun _ _ 31 refl)
-      (of_side Server StreamOverflow _ _ 32 refl)
-      (of_side Server StreamStallEnd _ _ 33 refl) (of_side Server StreamStallBegin _ _ 34 refl)
-      (of_side Server StreamCredit _ _ 35 refl)
+  rows-live_window : (d : Side) (before : ℤ) →
+      Told (stream_row d 0) (stream_row d 6) (live_window_said d stream step (window_step d stream initial step before))
+  rows-live_window d before =
+      row-say frame.side on frame.number stream small here K.SettingOverflow d (stream_row d 0) (stream_row d 1) _ _
+      (up d).0 (λ e. moved d (moved-side d stream now initial frame before e))
+      ⊕ still d K.StreamOverrun 1 2 _ _ refl refl ⊕ still d K.StreamOverflow 2 3 _ _ refl refl
+      ⊕ still d K.StreamStallEnd 3 4 _ _ refl refl ⊕ still d K.StreamStallBegin 4 5 _ _ refl refl
+      ⊕ still d K.StreamCredit 5 6 _ _ refl refl where
+        moved : (side : Side) → side ≡ frame.side →
+            is_row frame.side side 12 (stream_row side 0) (stream_row side 1) ≡ true
+        moved Client e = rw (sym e) refl
+        moved Server e = rw (sym e) refl
 
-  rows-opened_server : (credit : ℤ) → AreRows (Only stream) 30 36 (opened_window_said Server stream step credit)
-  rows-opened_server credit =
-      rows-wider (Only stream) (Only stream) 34 36 30 36 (λ s e. e) (omega arith) (omega arith) _
-      (rows-append (Only stream) 34 35 36 (omega arith) (omega arith) _ _
-      (of_side Server StreamStallBegin _ _ 34 refl) (of_side Server StreamCredit _ true 35 refl))
+  rows-window : (d : Side) → Told (stream_row d 0) (stream_row d 6) (stream_window_said d stream initial entry step)
+  rows-window d =
+      rows-choice _ _ _ _ (opens stream entry step) _ _
+      (rows-say_of _ _ _ _ _ (window_at_opening d stream initial step) (up d).1
+      (λ credit. still d K.StreamStallBegin 0 5 _ _ refl refl ⊕ still d K.StreamCredit 5 6 _ true refl refl))
+      (rows-say_of _ _ _ _ _ (side_of d entry.window) (up d).1 (rows-live_window d))
 
-  rows-client : AreRows (Only stream) 24 30 (stream_window_said Client stream initial entry step)
-  rows-client =
-      rows-choice (Only stream) 24 30 (opens stream entry step) _ _
-      (rows-say_of (Only stream) 24 30 _ (window_at_opening Client stream initial step) rows-opened_client)
-      (rows-say_of (Only stream) 24 30 _ entry.window.client
-      (λ before. rows-live_client (window_step Client stream initial step before)))
-
-  rows-server : AreRows (Only stream) 30 36 (stream_window_said Server stream initial entry step)
-  rows-server =
-      rows-choice (Only stream) 30 36 (opens stream entry step) _ _
-      (rows-say_of (Only stream) 30 36 _ (window_at_opening Server stream initial step) rows-opened_server)
-      (rows-say_of (Only stream) 30 36 _ entry.window.server
-      (λ before. rows-live_server (window_step Server stream initial step before)))
-
-  rows-stream : AreRows (Only stream) 21 36 (stream_said stream initial entry step)
-  rows-stream =
-      rows-append (Only stream) 21 30 36 (omega arith) (omega arith) _ _
-      (rows-append (Only stream) 21 24 30 (omega arith) (omega arith) _ _
-      (rows-say_of (Only stream) 21 24 _ step.frame rows-frame) rows-client) rows-server
-
-pub all-differ : (stream : ℕ) (streams : List ℕ) → NotAmong stream streams
-    → AllByRecursion (λ other. stream ≢ other) streams
-all-differ stream [] h = tt
-all-differ stream (other ∷ others) h = (h.0, all-differ stream others h.1)
-
--- two streams differ in place
-streams-apart : (stream low high : ℕ) (x y : Finding) → IsRow (Only stream) low high x
-    → IsRow (λ other. stream ≢ other) low high y → AreApart x y
-streams-apart stream low high x y p q e s = q.stream (sym p.stream ∙ ap place_stream e)
+  rows-stream : Told 21 36 (stream_said stream initial entry step)
+  rows-stream = rows-frame (meets stream frame) ⊕ rows-window Client ⊕ rows-window Server
 
 -- what is said of streams that are all different, each of this sort
 module _ (state : PassState) (frame : Frame) where
-  rows-streams : (on : ℕ → Type 0) (streams : List ℕ) → AreStreams streams → AreDistinct streams →
-      AllByRecursion on streams →
-      AreRows on 21 36 (streams_said streams state frame)
-  rows-streams on [] h d all = rows-nil on 21 36
+  rows-streams : (on : ℕ → Type 0) (streams : List ℕ) → AreStreams streams → EachPair ◌≢◌ streams →
+      AllByRecursion on streams → AreRows frame.side on 21 36 (streams_said streams state frame)
+  rows-streams on [] h d all = rows-nil _ _ 21 36 (omega arith)
   rows-streams on (stream ∷ streams) h d all =
-      let one =
-      rows-stream stream state.in_force.initial (state.streams stream) (step_of state.in_force frame stream) h.0 in
+      let one = rows-one on all.0 in
       let others = rows-streams on streams h.1 d.1 all.1 in
-      let differ = rows-streams (λ other. stream ≢ other) streams h.1 d.1 (all-differ stream streams d.0) in
-      let first =
-      rows-wider (Only stream) on 21 36 21 36 (λ s e. subst on (sym e) all.0) (omega arith) (omega arith) _ one in
       record {
-        within = all-append (IsRow on 21 36) _ _ first.within others.within;
+        rising = omega arith;
+        within = all-append (IsRow frame.side on 21 36) _ _ one.within others.within;
         apart = pairs-append AreApart _ _ one.apart others.apart
-            (across-by AreApart (IsRow (Only stream) 21 36) (IsRow (λ other. stream ≢ other) 21 36)
-            (streams-apart stream 21 36) _ _
-            one.within differ.within);
-      }
+            (across-by AreApart (IsRow frame.side (Only stream) 21 36) (IsRow frame.side (λ other. stream ≢ other) 21 36)
+            (λ x y p q e s. q.stream (sym p.stream ∙ ap place_stream e)) _ _ (rows-one (Only stream) refl).within
+            (rows-streams (λ other. stream ≢ other) streams h.1 d.1 d.0).within);
+      } where
+        rows-one : (sort : ℕ → Type 0) → sort stream → AreRows frame.side sort 21 36 (stream_said stream
+            state.in_force.initial (state.streams stream) (step_of state.in_force frame stream))
+        rows-one sort here =
+            rows-stream frame state.in_force sort stream h.0 here state.in_force.initial (state.streams stream)
 
-all-any : (streams : List ℕ) → AllByRecursion Any streams
-all-any [] = tt
-all-any (stream ∷ streams) = (tt, all-any streams)
-
--- no two findings at a frame share place and side
-pub rows-apart-at : (streams : List ℕ) (state : PassState) (frame : Frame) → AreStreams streams → AreDistinct streams →
-    IsInRange frame →
-    StandApart (rows_of streams state frame)
-rows-apart-at streams state frame small distinct h = all.apart where
-  all : AreRows Any 0 36 (rows_of streams state frame)
-  all =
-      rows-append Any 0 21 36 (omega arith) (omega arith) _ _
-      (rows-append Any 0 6 21 (omega arith) (omega arith) _ _
-      (any (Only frame.stream) 0 6 _
-      (rows-append (Only frame.stream) 0 5 6 (omega arith) (omega arith) _ _
-      (rows-local frame h.stream (side_of frame.side state.previous))
-      (rows-settings frame h.stream state.in_force)))
-      (rows-connection (item_of state frame) h state.connection))
-      (rows-streams state frame Any streams small distinct (all-any streams))
+-- no two findings at a frame share place and side, and errors are of the sides that they may be of
+pub rows-at : (streams : List ℕ) (state : PassState) (frame : Frame) → AreStreams streams → EachPair ◌≢◌ streams →
+    IsInRange frame → AreRows frame.side Any 0 36 (rows_of streams state frame)
+rows-at streams state frame small distinct h =
+    rows-local frame h (side_of frame.side state.previous)
+    ⊕ said frame h K.UnmatchedAck 5 6 _ _ refl refl
+    ⊕ rows-connection frame h state.connection (opens_stream state frame) (change_of state.in_force frame)
+    ⊕ rows-streams state frame Any streams small distinct (all-map _ Any (λ s k. tt) streams small)

@@ -1,27 +1,13 @@
 -- The steps of some frames and some changes are these frames and these changes, joined.
-use Rattle.std.proofs.Common.{◌≡◌, ℕ, ◌+◌, ◌<◌, Bool, true, false, ◌==◌, ◌||◌, nat_lt, if◌then◌else◌, List, [], ◌∷◌}
-use Rattle.std.proofs.Common.{◌++◌, map, Option, Some, None, is_some, refl, sym, ap, ◌∙◌, subst, arith}
-use Rattle.std.specs.Option.{option_to_list}
-use Rattle.std.specs.List.{AllByRecursion, flat_map}
-use Rattle.std.proofs.lemmas.Bool.Decides.{nat_tests}
-use borrow.Author.Tests.{eqb-true}
-use Rattle.audit_terms.specs.declared.settings.Settings.{Settings}
-use Rattle.audit_terms.specs.declared.frames.Frame.{Frame}
-use Rattle.audit_terms.specs.declared.items.Change.{Change}
-use Rattle.audit_terms.specs.declared.items.Step.{Step}
-use Rattle.audit_terms.specs.Frame.{meets}
-use Rattle.audit_terms.specs.code.runs.Orderly.{IsOrderlyFrom}
-use Rattle.audit_terms.specs.InForce.{InForce, initial_in_force, in_force_after, change_taking, taken}
-use Rattle.audit_terms.specs.code.runs.Changes.{changes_from, changes_of}
-use Rattle.audit_terms.specs.code.runs.Streams.{frames_of, frame_step, change_step, with_change, steps_of}
-use Rattle.audit_core.specs.laws.Steps.{AreRising, IsFilled, StepsJoinFramesAndChanges, StreamsHaveSteps}
-use Rattle.audit_core.proofs.Pairs.{all-map}
-
-abbrev frame_numbers : List Frame → List ℕ
-frame_numbers frames = map (λ (frame : Frame). frame.number) frames
-
-abbrev change_numbers : List Change → List ℕ
-change_numbers changes = map (λ (change : Change). change.number) changes
+use Rattle.std.proofs.Common.{◌≡◌, Bool, List, None, Option, Some, [], ap, arith, false, is_some, map, refl, sym, true}
+use Rattle.std.proofs.Common.{ℕ, ◌++◌, ◌+◌, ◌<◌, ◌||◌, ◌∙◌, ◌∷◌, ◌≤◌}
+use Rattle.audit_core.proofs.Words.{flat_map, option_to_list, AllByRecursion, map-map, meets, InForce, taken}
+use Rattle.audit_core.proofs.Words.{change_taking, in_force_after, initial_in_force, changes_from, changes_of}
+use Rattle.audit_core.proofs.Words.{IsOrderlyFrom, frame_step, with_change, steps_of, frames_of, Frame, Change, Step}
+use Rattle.audit_core.proofs.Words.{Settings, EachPair, StreamsHaveSteps, AreRising, IsFilled}
+use Rattle.audit_core.proofs.Words.{StepsJoinFramesAndChanges}
+use Rattle.audit_core.proofs.Pairs.{all-before_map, all-map, pairs-mapped, pairs-filter, all-mapped}
+use Rattle.audit_core.proofs.StreamSteps.{with_change-cases, all-with, all-steps, all-numbers, all-change_numbers}
 
 abbrev step_numbers : List Step → List ℕ
 step_numbers steps = map (λ (step : Step). step.number) steps
@@ -32,19 +18,9 @@ frames_in steps = flat_map (λ (step : Step). option_to_list step.frame) steps
 abbrev changes_in : List Step → List Change
 changes_in steps = flat_map (λ (step : Step). option_to_list step.change) steps
 
--- all numbers are above this one
-abbrev Above : (number : ℕ) → List ℕ → Type 0
-Above number numbers = AllByRecursion (λ other. number < other) numbers
-
--- the changes of the steps stand above this number
-abbrev ChangedAbove : (number : ℕ) → List Step → Type 0
-ChangedAbove number steps = AllByRecursion (λ (step : Step). is_some step.change ≡ true → number < step.number) steps
-
-before-test : (m n : ℕ) → nat_lt m n ≡ true → m < n
-before-test m n e = grind (arith, nat_tests)
-
-after-test : (m n : ℕ) → (m == n) ≡ false → nat_lt n m ≡ false → m < n
-after-test m n e f = grind (arith, nat_tests)
+-- where the step has a change, it stands above this number
+abbrev IsChangedAbove : (number : ℕ) → Step → Type 0
+IsChangedAbove number step = is_some step.change ≡ true → number < step.number
 
 or-true : (b : Bool) → (b || true) ≡ true
 or-true true = refl
@@ -56,103 +32,37 @@ no-change (Some change) h = absurd (h refl)
 
 -- ---- one more change among some steps
 
--- where a change goes: to the step of its number, before a step, or further on
-abbrev placed : (same before : Bool) → Step → List Step → Change → List Step
-placed same before step steps change =
-    if same then record step { change = Some change } ∷ steps
-    else if before then change_step change ∷ step ∷ steps else step ∷ with_change steps change
-
 module _ (change : Change) where
-  above-with : (n : ℕ) (steps : List Step) → Above n (step_numbers steps) → n < change.number
-      → Above n (step_numbers (with_change steps change))
-  above-with n [] h p = (p, tt)
-  above-with n (step ∷ steps) h p = by_tests _ _ (above-with n steps h.1 p) where
-    by_tests : (same before : Bool) → Above n (step_numbers (with_change steps change))
-        → Above n (step_numbers (placed same before step steps change))
-    by_tests true before ih = h
-    by_tests false true ih = (p, h)
-    by_tests false false ih = (h.0, ih)
-
-  rising-with : (steps : List Step) → AreRising (step_numbers steps)
-      → AreRising (step_numbers (with_change steps change))
+  rising-with : (steps : List Step) → AreRising (step_numbers steps) → AreRising (step_numbers (with_change steps change))
   rising-with [] h = (tt, tt)
-  rising-with (step ∷ steps) h = by_tests _ _ refl refl (rising-with steps h.1) where
-    by_tests : (same before : Bool) → (step.number == change.number) ≡ same → nat_lt change.number step.number ≡ before
-        → AreRising (step_numbers (with_change steps change))
-        → AreRising (step_numbers (placed same before step steps change))
-    by_tests true before e f ih = h
-    by_tests false true e f ih =
-        let p : change.number < step.number = before-test change.number step.number f in
-        ((p, all-map (λ n. step.number < n) (λ n. change.number < n) (λ n q. omega arith) (step_numbers steps) h.0), h)
-    by_tests false false e f ih = (above-with step.number steps h.0 (after-test step.number change.number e f), ih)
-
-  filled-with : (steps : List Step) → AllByRecursion IsFilled steps → AllByRecursion IsFilled (with_change steps change)
-  filled-with [] h = (record { has_one = refl; frame = tt; change = refl }, tt)
-  filled-with (step ∷ steps) h = by_tests _ _ refl (filled-with steps h.1) where
-    by_tests : (same before : Bool) → (step.number == change.number) ≡ same
-        → AllByRecursion IsFilled (with_change steps change)
-        → AllByRecursion IsFilled (placed same before step steps change)
-    by_tests true before e ih = (
-      record {
-        has_one = or-true (is_some step.frame);
-        frame = h.0.frame;
-        change = sym (eqb-true step.number change.number e);
-      },
-      h.1,
-    )
-    by_tests false true e ih = (record { has_one = refl; frame = tt; change = refl }, h)
-    by_tests false false e ih = (h.0, ih)
+  rising-with (step ∷ steps) h =
+      with_change-cases (λ l. AreRising (step_numbers l)) change step steps (λ e. h)
+      (λ e. ((e, all-map (λ n. step.number < n) (λ n. change.number < n) (λ n q. omega arith) (step_numbers steps) h.0), h))
+      (λ e. (above e, rising-with steps h.1)) where
+        above : step.number < change.number →
+            AllByRecursion (λ n. step.number < n) (step_numbers (with_change steps change))
+        above e =
+            all-mapped (λ n. step.number < n) (λ (one : Step). one.number) _
+            (all-with (λ one. step.number < one.number) (λ c one f new old. old) change steps e
+            (all-before_map (λ n. step.number < n) (λ (one : Step). one.number) steps h.0))
 
   frames-with : (steps : List Step) → frames_in (with_change steps change) ≡ frames_in steps
   frames-with [] = refl
-  frames-with (step ∷ steps) = by_tests _ _ (frames-with steps) where
-    by_tests : (same before : Bool) → frames_in (with_change steps change) ≡ frames_in steps
-        → frames_in (placed same before step steps change) ≡ frames_in (step ∷ steps)
-    by_tests true before ih = refl
-    by_tests false true ih = refl
-    by_tests false false ih = ap (λ l. option_to_list step.frame ++ l) ih
+  frames-with (step ∷ steps) =
+      with_change-cases (λ l. frames_in l ≡ frames_in (step ∷ steps)) change step steps (λ e. refl) (λ e. refl)
+      (λ e. ap (λ l. option_to_list step.frame ++ l) (frames-with steps))
 
-  changes-with : (steps : List Step) → ChangedAbove change.number steps
+  changes-with : (steps : List Step) → AllByRecursion (IsChangedAbove change.number) steps
       → changes_in (with_change steps change) ≡ change ∷ changes_in steps
   changes-with [] h = refl
-  changes-with (step ∷ steps) h = by_tests _ _ refl refl (changes-with steps h.1) where
-    -- the step has no change yet, unless it stands after this one
-    free : (nat_lt change.number step.number ≡ true → ⊥) → option_to_list step.change ≡ []
-    free n = no-change step.change (λ e. let p : change.number < step.number = h.0 e in n (grind (arith, nat_tests)))
-
-    by_tests : (same before : Bool) → (step.number == change.number) ≡ same → nat_lt change.number step.number ≡ before
-        → changes_in (with_change steps change) ≡ change ∷ changes_in steps
-        → changes_in (placed same before step steps change) ≡ change ∷ changes_in (step ∷ steps)
-    by_tests true before e f ih =
-        let same : step.number ≡ change.number = eqb-true step.number change.number e in
-        ap (λ l. change ∷ l ++ changes_in steps)
-        (sym (free (λ b. absurd (omega (arith, before-test change.number step.number b)))))
-    by_tests false true e f ih = refl
-    by_tests false false e f ih = rw (free (λ b. cc)) ih
-
-changed-with : (n : ℕ) (change : Change) (steps : List Step) → ChangedAbove n steps → n < change.number
-    → ChangedAbove n (with_change steps change)
-changed-with n change [] h p = (λ e. p, tt)
-changed-with n change (step ∷ steps) h p = by_tests _ _ refl (changed-with n change steps h.1 p) where
-  by_tests : (same before : Bool) → (step.number == change.number) ≡ same → ChangedAbove n (with_change steps change)
-      → ChangedAbove n (placed same before step steps change)
-  by_tests true before e ih = (λ f. subst (λ m. n < m) (sym (eqb-true step.number change.number e)) p, h.1)
-  by_tests false true e ih = (λ f. p, h)
-  by_tests false false e ih = (h.0, ih)
+  changes-with (step ∷ steps) h =
+      with_change-cases (λ l. changes_in l ≡ change ∷ changes_in (step ∷ steps)) change step steps
+      (λ e. rw (free (omega arith)) refl) (λ e. refl) (λ e. rw (free (omega arith)) (changes-with steps h.1)) where
+        -- the step has no change yet, unless it stands after this one
+        free : step.number ≤ change.number → option_to_list step.change ≡ []
+        free n = no-change step.change (λ e. absurd (omega (arith, h.0 e)))
 
 -- ---- the steps of frames alone
-
-unchanged : (n : ℕ) (frames : List Frame) → ChangedAbove n (map frame_step frames)
-unchanged n [] = tt
-unchanged n (frame ∷ frames) = (λ e. cc, unchanged n frames)
-
-frame_steps-numbers : (frames : List Frame) → step_numbers (map frame_step frames) ≡ frame_numbers frames
-frame_steps-numbers [] = refl
-frame_steps-numbers (frame ∷ frames) = ap (λ l. frame.number ∷ l) (frame_steps-numbers frames)
-
-frame_steps-filled : (frames : List Frame) → AllByRecursion IsFilled (map frame_step frames)
-frame_steps-filled [] = tt
-frame_steps-filled (frame ∷ frames) = (record { has_one = refl; frame = refl; change = tt }, frame_steps-filled frames)
 
 frame_steps-frames : (frames : List Frame) → frames_in (map frame_step frames) ≡ frames
 frame_steps-frames [] = refl
@@ -162,79 +72,66 @@ frame_steps-changes : (frames : List Frame) → changes_in (map frame_step frame
 frame_steps-changes [] = refl
 frame_steps-changes (frame ∷ frames) = frame_steps-changes frames
 
--- ---- all changes
+unchanged : (n : ℕ) (frames : List Frame) → AllByRecursion (λ frame. IsChangedAbove n (frame_step frame)) frames
+unchanged n [] = tt
+unchanged n (frame ∷ frames) = (λ e. cc, unchanged n frames)
 
-changed-above : (n : ℕ) (frames : List Frame) (changes : List Change) → Above n (change_numbers changes)
-    → ChangedAbove n (steps_of frames changes)
-changed-above n frames [] h = unchanged n frames
-changed-above n frames (change ∷ changes) h =
-    changed-with n change (steps_of frames changes) (changed-above n frames changes h.1) h.0
+filled : (frames : List Frame) → AllByRecursion (λ frame. IsFilled (frame_step frame)) frames
+filled [] = tt
+filled (frame ∷ frames) = (record { has_one = refl; frame = refl; change = tt }, filled frames)
+
+-- ---- all changes
 
 pub steps_join_lem : StepsJoinFramesAndChanges
 steps_join_lem frames [] rising changing = record {
-  rising = subst AreRising (sym (frame_steps-numbers frames)) rising;
-  filled = frame_steps-filled frames;
+  rising = rw (map-map (λ (step : Step). step.number) frame_step frames) rising;
+  filled = all-mapped IsFilled frame_step frames (filled frames);
   its_frames = frame_steps-frames frames;
   its_changes = frame_steps-changes frames;
 }
 steps_join_lem frames (change ∷ changes) rising changing =
+    let steps = steps_of frames changes in
     let joined = steps_join_lem frames changes rising changing.1 in
+    let above =
+    all-steps (IsChangedAbove change.number) (λ c step e new old f. rw e (new refl)) frames changes
+    (unchanged change.number frames)
+    (all-map (λ (c : Change). change.number < c.number) _ (λ c p e. p) changes
+    (all-before_map (λ n. change.number < n) (λ (c : Change). c.number) changes changing.0)) in
     record {
-      rising = rising-with change (steps_of frames changes) joined.rising;
-      filled = filled-with change (steps_of frames changes) joined.filled;
-      its_frames = frames-with change (steps_of frames changes) ∙ joined.its_frames;
-      its_changes =
-          changes-with change (steps_of frames changes) (changed-above change.number frames changes changing.0)
-          ∙ ap (λ l. change ∷ l) joined.its_changes;
+      rising = rising-with change steps joined.rising;
+      filled = all-with IsFilled
+          (λ c step e new old. record { has_one = or-true _; frame = old.frame; change = sym e }) change steps
+          (record { has_one = refl; frame = tt; change = refl }) joined.filled;
+      its_frames = frames-with change steps ∙ joined.its_frames;
+      its_changes = changes-with change steps above ∙ ap (λ l. change ∷ l) joined.its_changes;
     }
 
 -- ---- the frames of a stream and the changes of a connection
 
-frames-above : (n low stream : ℕ) (frames : List Frame) → n < low → IsOrderlyFrom low frames
-    → Above n (frame_numbers (frames_of stream frames))
-frames-above n low stream [] p h = tt
-frames-above n low stream (frame ∷ frames) p h =
-    by_test (meets stream frame) (frames-above n (frame.number + 1) stream frames (omega (arith, h.0)) h.2) where
-      by_test : (met : Bool) → Above n (frame_numbers (frames_of stream frames))
-          → Above n (frame_numbers (if met then frame ∷ frames_of stream frames else frames_of stream frames))
-      by_test true rest = (omega (arith, h.0), rest)
-      by_test false rest = rest
-
-frames-rising : (low stream : ℕ) (frames : List Frame) → IsOrderlyFrom low frames
-    → AreRising (frame_numbers (frames_of stream frames))
-frames-rising low stream [] h = tt
-frames-rising low stream (frame ∷ frames) h =
-    by_test (meets stream frame) (frames-rising (frame.number + 1) stream frames h.2) where
-      by_test : (met : Bool) → AreRising (frame_numbers (frames_of stream frames))
-          → AreRising (frame_numbers (if met then frame ∷ frames_of stream frames else frames_of stream frames))
-      by_test true rest = (frames-above frame.number (frame.number + 1) stream frames (omega arith) h.2, rest)
-      by_test false rest = rest
-
-changes-above : (n low : ℕ) (now : InForce) (frames : List Frame) → n < low → IsOrderlyFrom low frames
-    → Above n (change_numbers (changes_from now frames))
-changes-above n low now [] p h = tt
-changes-above n low now (frame ∷ frames) p h =
-    by_taken (taken now frame)
-    (changes-above n (frame.number + 1) (in_force_after now frame) frames (omega (arith, h.0)) h.2) where
-      by_taken : (o : Option Settings) → Above n (change_numbers (changes_from (in_force_after now frame) frames))
-          → Above n (change_numbers
-          (option_to_list (change_taking frame o) ++ changes_from (in_force_after now frame) frames))
-      by_taken None rest = rest
-      by_taken (Some settings) rest = (omega (arith, h.0), rest)
+frames-rising : (low : ℕ) (frames : List Frame) → IsOrderlyFrom low frames
+    → EachPair (λ (f g : Frame). f.number < g.number) frames
+frames-rising low [] h = tt
+frames-rising low (frame ∷ frames) h = (
+  all-numbers (λ n. frame.number < n) (frame.number + 1) frames (λ m l. omega arith) h.2,
+  frames-rising (frame.number + 1) frames h.2,
+)
 
 changes-rising : (low : ℕ) (now : InForce) (frames : List Frame) → IsOrderlyFrom low frames
-    → AreRising (change_numbers (changes_from now frames))
+    → EachPair (λ (a b : Change). a.number < b.number) (changes_from now frames)
 changes-rising low now [] h = tt
 changes-rising low now (frame ∷ frames) h =
-    by_taken (taken now frame) (changes-rising (frame.number + 1) (in_force_after now frame) frames h.2) where
-      by_taken : (o : Option Settings) → AreRising (change_numbers (changes_from (in_force_after now frame) frames))
-          → AreRising (change_numbers
-          (option_to_list (change_taking frame o) ++ changes_from (in_force_after now frame) frames))
-      by_taken None rest = rest
-      by_taken (Some settings) rest =
-          (changes-above frame.number (frame.number + 1) (in_force_after now frame) frames (omega arith) h.2, rest)
+    by_taken (taken now frame) _ (changes-rising (frame.number + 1) (in_force_after now frame) frames h.2)
+    (all-change_numbers (λ n. frame.number < n) (frame.number + 1) (in_force_after now frame) frames
+    (λ m l. omega arith) h.2) where
+      by_taken : (o : Option Settings) (later : List Change) → EachPair (λ (a b : Change). a.number < b.number) later
+          → AllByRecursion (λ (change : Change). frame.number < change.number) later
+          → EachPair (λ (a b : Change). a.number < b.number) (option_to_list (change_taking frame o) ++ later)
+      by_taken None later h all = h
+      by_taken (Some settings) later h all = (all, h)
 
 pub streams_have_steps_lem : StreamsHaveSteps
 streams_have_steps_lem stream frames h =
-    steps_join_lem (frames_of stream frames) (changes_of frames) (frames-rising 0 stream frames h)
-    (changes-rising 0 initial_in_force frames h)
+    steps_join_lem (frames_of stream frames) (changes_of frames)
+    (pairs-mapped ◌<◌ (λ (frame : Frame). frame.number) _
+    (pairs-filter (λ (f g : Frame). f.number < g.number) (meets stream) frames (frames-rising 0 frames h)))
+    (pairs-mapped ◌<◌ (λ (change : Change). change.number) _ (changes-rising 0 initial_in_force frames h))

@@ -1,3 +1,4 @@
+mod Words
 pub mod PassOrder
 pub mod PassRows
 pub mod OrderlyRest

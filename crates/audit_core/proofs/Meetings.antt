@@ -1,37 +1,11 @@
 -- How a stream meets a frame: it is on the stream, or promises it, or does neither; and what the frame that opens a
 -- stream is.
-use Rattle.std.proofs.Common.{◌≡◌, ℕ, Bool, true, false, ◌&&◌, ◌||◌, ◌==◌, if◌then◌else◌, ◌%◌, Some, None, is_none}
-use Rattle.std.proofs.Common.{refl, sym}
-use Rattle.std.specs.Option.{option_map_or}
-use Rattle.audit_terms.specs.declared.sides.Side.{Side}
-use Rattle.audit_terms.specs.declared.sides.Side.TheVariants.{Client, Server}
-use Rattle.audit_terms.specs.declared.frames.Body.{Body}
-use Rattle.audit_terms.specs.declared.frames.Body.TheVariants.{Content, Headers, Priority, RstStream}
-use Rattle.audit_terms.specs.declared.frames.Body.TheVariants.{Settings as SettingsBody, SettingsAck, PushPromise, Ping}
-use Rattle.audit_terms.specs.declared.frames.Body.TheVariants.{GoAway, WindowUpdate, Continuation, Unknown, Unreadable}
-use Rattle.audit_terms.specs.declared.frames.Frame.{Frame}
-use Rattle.audit_terms.specs.declared.lives.StreamLife.{StreamLife}
-use Rattle.audit_terms.specs.declared.streams.Stream.{Stream}
-use Rattle.audit_terms.specs.Side.{is_side}
-use Rattle.audit_terms.specs.Frame.{is_ack, is_content, is_headers, is_promise, is_server_promise, is_client_headers}
-use Rattle.audit_terms.specs.Frame.{increment, content_by, grant_to, promises, meets}
-use Rattle.audit_terms.specs.laws.Credit.{content_on}
-use Rattle.audit_terms.specs.InForce.{InForce}
-use Rattle.audit_terms.specs.Life.{is_opening, life_after}
-use Rattle.audit_terms.specs.Stream.{step_amount, opens, life_at}
-use Rattle.audit_terms.specs.Pass.{step_of}
-
-pub and-left : (a b : Bool) → (a && b) ≡ true → a ≡ true
-and-left true b e = refl
-and-left false b e = cc
-
-pub and-right : (a b : Bool) → (a && b) ≡ true → b ≡ true
-and-right true b e = e
-and-right false b e = cc
-
-pub and-false : (b : Bool) → (b && false) ≡ false
-and-false true = refl
-and-false false = refl
+use Rattle.std.proofs.Common.{◌≡◌, ℕ, Bool, true, false, ◌&&◌, ◌||◌, ◌==◌, if◌then◌else◌, ◌%◌, Some, None, refl, sym}
+use Rattle.std.proofs.Common.{true≢false}
+use Rattle.audit_core.proofs.Words.{option_map_or, Side, Body, Headers, PushPromise, Frame, StreamLife, Stream, is_ack}
+use Rattle.audit_core.proofs.Words.{is_content, is_headers, is_promise, is_client_headers, increment, content_by}
+use Rattle.audit_core.proofs.Words.{grant_to, promises, meets, content_on, InForce, is_opening, life_after, step_amount}
+use Rattle.audit_core.proofs.Words.{opens, life_at, step_of, and-false, and_parts}
 
 pub no-choice : {A : Type 0} (b : Bool) (x : A) → (if b then x else x) ≡ x
 no-choice true x = refl
@@ -45,39 +19,16 @@ pub record CountsNothing (body : Body) : Type 0 where
 
 headers-count : (body : Body) → is_headers body ≡ true → CountsNothing body
 headers-count Headers e = record { grants = refl; content = refl; ack = refl }
-headers-count Content e = cc
-headers-count Priority e = cc
-headers-count RstStream e = cc
-headers-count (SettingsBody settings) e = cc
-headers-count SettingsAck e = cc
-headers-count (PushPromise stream) e = cc
-headers-count Ping e = cc
-headers-count GoAway e = cc
-headers-count (WindowUpdate amount) e = cc
-headers-count Continuation e = cc
-headers-count Unknown e = cc
-headers-count (Unreadable kind value) e = cc
+headers-count _ e = absurd (true≢false (sym e))
 
 promise-count : (body : Body) → is_promise body ≡ true → CountsNothing body
 promise-count (PushPromise stream) e = record { grants = refl; content = refl; ack = refl }
-promise-count Content e = cc
-promise-count Headers e = cc
-promise-count Priority e = cc
-promise-count RstStream e = cc
-promise-count (SettingsBody settings) e = cc
-promise-count SettingsAck e = cc
-promise-count Ping e = cc
-promise-count GoAway e = cc
-promise-count (WindowUpdate amount) e = cc
-promise-count Continuation e = cc
-promise-count Unknown e = cc
-promise-count (Unreadable kind value) e = cc
+promise-count _ e = absurd (true≢false (sym e))
 
 -- a frame that promises a stream
 pub promised-counts : (stream : ℕ) (frame : Frame) → promises stream frame ≡ true → CountsNothing frame.body
 promised-counts stream frame e =
-    promise-count frame.body
-    (and-right (is_side Server frame.side) _ (and-left (is_server_promise frame) _ (and-left _ _ (and-left _ _ e))))
+    promise-count frame.body (and_parts _ _ (and_parts _ _ (and_parts _ _ (and_parts _ _ e).0).0).0).1
 
 -- a frame that opens a stream
 opening-by : (odd headers promised : Bool) → ((odd && headers) || promised) ≡ true → (headers ≡ false → promised ≡ true)
@@ -89,11 +40,11 @@ pub opening-counts : (stream : ℕ) (life : StreamLife) (frame : Frame) → is_o
     → CountsNothing frame.body
 opening-counts stream life frame e = by_headers (is_client_headers frame) refl where
   by_headers : (b : Bool) → is_client_headers frame ≡ b → CountsNothing frame.body
-  by_headers true h = headers-count frame.body (and-right (is_side Client frame.side) _ h)
+  by_headers true h = headers-count frame.body (and_parts _ _ h).1
   by_headers false h =
       promised-counts stream frame
       (opening-by (stream % 2 == 1) (is_client_headers frame) (promises stream frame)
-      (and-right (is_none life.opened) _ e) h)
+      (and_parts _ _ e).1 h)
 
 -- ---- the step of a stream at a frame
 

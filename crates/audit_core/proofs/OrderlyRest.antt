@@ -1,8 +1,7 @@
 -- What is left of orderly frames.
 use Rattle.std.proofs.Common.{◌≡◌, ℕ, ◌+◌, ◌^◌, ◌<◌, List, [], ◌∷◌, length, drop, get_or, sym, ap, ◌∙◌, arith}
 use Rattle.std.proofs.lemmas.List.{drop_more}
-use Rattle.audit_terms.specs.declared.frames.Frame.{Frame}
-use Rattle.audit_terms.specs.code.runs.Orderly.{IsOrderlyFrom}
+use Rattle.audit_core.proofs.Words.{Frame, IsOrderlyFrom}
 
 -- there are not more frames than numbers
 pub length-orderly : (low : ℕ) (frames : List Frame) → low < 2 ^ 28 → IsOrderlyFrom low frames →

@@ -1,8 +1,6 @@
 -- What holds of each two elements of a list holds of them in any order.
-use Rattle.std.proofs.Common.{◌≡◌, Bool, true, false, List, [], ◌∷◌, ◌++◌, refl}
-use Rattle.std.specs.List.{AllByRecursion}
-use Rattle.audit_terms.specs.Order.{put_by, ordered_by}
-use Rattle.audit_core.specs.laws.Apart.{EachPair}
+use Rattle.std.proofs.Common.{Bool, List, [], ◌∷◌, ◌++◌, filter, map}
+use Rattle.audit_core.proofs.Words.{AllByRecursion, put_by, ordered_by, EachPair, cond_both}
 
 module _ {X : Type 0} (P : X → Type 0) where
   pub all-append : (xs ys : List X) → AllByRecursion P xs → AllByRecursion P ys → AllByRecursion P (xs ++ ys)
@@ -12,15 +10,26 @@ module _ {X : Type 0} (P : X → Type 0) where
   pub all-put : (after : X → X → Bool) (x : X) (ys : List X) → P x → AllByRecursion P ys →
       AllByRecursion P (put_by after x ys)
   all-put after x [] p q = (p, tt)
-  all-put after x (y ∷ ys) p q = step _ refl (all-put after x ys p q.1) where
-    step : (b : Bool) → after x y ≡ b → AllByRecursion P (put_by after x ys) →
-        AllByRecursion P (put_by after x (y ∷ ys))
-    step true e ih = rw e (q.0, ih)
-    step false e ih = rw e (p, q)
+  all-put after x (y ∷ ys) p q =
+      cond_both (after x y) _ _ (AllByRecursion P) (λ e. (q.0, all-put after x ys p q.1)) (λ e. (p, q))
 
   pub all-ordered : (after : X → X → Bool) (xs : List X) → AllByRecursion P xs → AllByRecursion P (ordered_by after xs)
   all-ordered after [] p = tt
   all-ordered after (x ∷ xs) p = all-put after x (ordered_by after xs) p.0 (all-ordered after xs p.1)
+
+  pub all-mapped : {Y : Type 0} (f : Y → X) (ys : List Y) → AllByRecursion (λ y. P (f y)) ys → AllByRecursion P (map f ys)
+  all-mapped f [] p = tt
+  all-mapped f (y ∷ ys) p = (p.0, all-mapped f ys p.1)
+
+  pub all-before_map : {Y : Type 0} (f : Y → X) (ys : List Y) → AllByRecursion P (map f ys) →
+      AllByRecursion (λ y. P (f y)) ys
+  all-before_map f [] p = tt
+  all-before_map f (y ∷ ys) p = (p.0, all-before_map f ys p.1)
+
+  pub all-filter : (test : X → Bool) (xs : List X) → AllByRecursion P xs → AllByRecursion P (filter test xs)
+  all-filter test [] p = tt
+  all-filter test (x ∷ xs) p =
+      cond_both (test x) _ _ (AllByRecursion P) (λ e. (p.0, all-filter test xs p.1)) (λ e. all-filter test xs p.1)
 
 pub all-map : {X : Type 0} (P Q : X → Type 0) → ((x : X) → P x → Q x) → (xs : List X) → AllByRecursion P xs →
     AllByRecursion Q xs
@@ -42,13 +51,22 @@ module _ {X : Type 0} (R : X → X → Type 0) where
   pairs-append [] ys p q r = q
   pairs-append (x ∷ xs) ys p q r = (all-append (R x) xs ys p.0 r.0, pairs-append xs ys p.1 q r.1)
 
+  pub pairs-mapped : {Y : Type 0} (f : Y → X) (ys : List Y) → EachPair (λ x y. R (f x) (f y)) ys → EachPair R (map f ys)
+  pairs-mapped f [] p = tt
+  pairs-mapped f (y ∷ ys) p = (all-mapped (R (f y)) f ys p.0, pairs-mapped f ys p.1)
+
+  pub pairs-filter : (test : X → Bool) (xs : List X) → EachPair R xs → EachPair R (filter test xs)
+  pairs-filter test [] p = tt
+  pairs-filter test (x ∷ xs) p =
+      let rest = pairs-filter test xs p.1 in
+      cond_both (test x) _ _ (EachPair R) (λ e. (all-filter (R x) test xs p.0, rest)) (λ e. rest)
+
   module _ (after : X → X → Bool) (turned : (x y : X) → R x y → R y x) where
     pairs-put : (x : X) (ys : List X) → AllByRecursion (R x) ys → EachPair R ys → EachPair R (put_by after x ys)
     pairs-put x [] p q = (tt, tt)
-    pairs-put x (y ∷ ys) p q = step _ refl (pairs-put x ys p.1 q.1) where
-      step : (b : Bool) → after x y ≡ b → EachPair R (put_by after x ys) → EachPair R (put_by after x (y ∷ ys))
-      step true e ih = rw e (all-put (R y) after x ys (turned x y p.0) q.0, ih)
-      step false e ih = rw e (p, q)
+    pairs-put x (y ∷ ys) p q =
+        cond_both (after x y) _ _ (EachPair R)
+        (λ e. (all-put (R y) after x ys (turned x y p.0) q.0, pairs-put x ys p.1 q.1)) (λ e. (p, q))
 
     pub pairs-ordered : (xs : List X) → EachPair R xs → EachPair R (ordered_by after xs)
     pairs-ordered [] p = tt

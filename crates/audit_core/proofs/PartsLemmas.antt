@@ -1,73 +1,69 @@
 -- The pass, put together from its parts.
 use Rattle.std.proofs.Common.{◌≡◌, ℕ, List, [], ◌∷◌, ◌++◌, refl, sym, ap, ◌∙◌, append_assoc, append-nil}
 use Rattle.std.proofs.lemmas.Grind.{flat_map-append}
-use Rattle.std.specs.List.{flat_map}
-use Rattle.audit_terms.specs.declared.frames.Frame.{Frame}
-use Rattle.audit_terms.specs.declared.items.Item.{Item}
-use Rattle.audit_terms.specs.declared.connections.ConnectionState.{ConnectionState}
-use Rattle.audit_terms.specs.declared.findings.Finding.{Finding}
-use Rattle.audit_terms.specs.Sides.{side_of}
-use Rattle.audit_terms.specs.code.runs.Orderly.{IsOrderly}
-use Rattle.audit_terms.specs.Finding.{in_order}
-use Rattle.audit_terms.specs.LocalFault.{local_said}
-use Rattle.audit_terms.specs.code.runs.LocalFaults.{local_run_from}
-use Rattle.audit_terms.specs.InForce.{settings_said}
-use Rattle.audit_terms.specs.code.runs.Changes.{settings_run_from, changes_of}
-use Rattle.audit_terms.specs.Connection.{connection_start, connection_said, connection_after}
-use Rattle.audit_terms.specs.code.runs.Blocks.{connection_after_all, block_run}
-use Rattle.audit_terms.specs.Stream.{stream_said}
-use Rattle.audit_terms.specs.Pass.{PassState, pass_start, next, item_of, step_of, streams_of, streams_said, full_from}
-use Rattle.audit_terms.specs.code.runs.States.{items_from}
-use Rattle.audit_terms.specs.code.runs.Streams.{frames_of, stream_run, group_run}
-use Rattle.audit_terms.specs.code.runs.Blocks.{block_runs}
-use Rattle.audit_core.specs.laws.Parts.{joined, PartsMakeFull}
-use Rattle.audit_terms.proofs.FindingOrder.{in_order-append_comm, in_order-alike, in_order-in_order}
-use Rattle.audit_core.proofs.PassOrder.{full-in_order}
+use Rattle.audit_core.proofs.Words.{flat_map, Frame, Item, ConnectionState, Finding, side_of, IsOrderly, in_order}
+use Rattle.audit_core.proofs.Words.{local_said, local_run_from, settings_said, settings_run_from, changes_of}
+use Rattle.audit_core.proofs.Words.{connection_start, connection_said, connection_after, connection_after_all}
+use Rattle.audit_core.proofs.Words.{block_run, PassState, pass_start, next, item_of, streams_of, streams_said}
+use Rattle.audit_core.proofs.Words.{full_from, items_from, frames_of, stream_run, group_run, block_runs, joined}
+use Rattle.audit_core.proofs.Words.{PartsMakeFull, in_order-append_comm, in_order-alike, in_order-in_order}
+use Rattle.audit_core.proofs.PassOrder.{findings_stand_in_order}
 use Rattle.audit_core.proofs.StreamAlone.{alone, run-alone}
 
 -- the same findings, in any order
-abbrev Same : List Finding → List Finding → Type 0
-Same xs ys = in_order xs ≡ in_order ys
+record Same (xs ys : List Finding) : Type 0 where
+  same : in_order xs ≡ in_order ys
 
-same_left : (xs ys us : List Finding) → Same xs ys → Same (xs ++ us) (ys ++ us)
-same_left xs ys us h = in_order-alike xs ys us us h refl
+whole : (xs : List Finding) → Same xs xs
+whole xs = record { same = refl }
 
-same_right : (us xs ys : List Finding) → Same xs ys → Same (us ++ xs) (us ++ ys)
-same_right us xs ys h = in_order-alike us us xs ys refl h
+equal : {xs ys : List Finding} → xs ≡ ys → Same xs ys
+equal e = record { same = ap in_order e }
 
--- two pairs of lists, joined crosswise
-crosswise : (a b c d : List Finding) → Same ((a ++ b) ++ (c ++ d)) ((a ++ c) ++ (b ++ d))
-crosswise a b c d =
-    let inner : Same (b ++ (c ++ d)) (c ++ (b ++ d)) =
-    ap in_order (sym (append_assoc b c d)) ∙ same_left (b ++ c) (c ++ b) d (in_order-append_comm b c)
-    ∙ ap in_order (append_assoc c b d) in
-    ap in_order (append_assoc a b (c ++ d)) ∙ same_right a _ _ inner ∙ ap in_order (sym (append_assoc a c (b ++ d)))
+turned : {xs ys : List Finding} → Same xs ys → Same ys xs
+turned p = record { same = sym p.same }
+
+infixl 15 ◌▸◌
+◌▸◌ : {xs ys zs : List Finding} → Same xs ys → Same ys zs → Same xs zs
+p ▸ q = record { same = p.same ∙ q.same }
+
+both : (xs ys us vs : List Finding) → Same xs ys → Same us vs → Same (xs ++ us) (ys ++ vs)
+both xs ys us vs p q = record { same = in_order-alike xs ys us vs p.same q.same }
+
+infixl 20 ◌⊕◌
+◌⊕◌ : {xs ys us vs : List Finding} → Same xs ys → Same us vs → Same (xs ++ us) (ys ++ vs)
+p ⊕ q = both _ _ _ _ p q
+
+ordered : (xs : List Finding) → Same xs (in_order xs)
+ordered xs = record { same = sym (in_order-in_order xs) }
+
+grouped : (a b c : List Finding) → Same ((a ++ b) ++ c) (a ++ (b ++ c))
+grouped a b c = equal (append_assoc a b c)
 
 -- the last two of three lists change places
 last_two : (a b c : List Finding) → Same ((a ++ b) ++ c) ((a ++ c) ++ b)
 last_two a b c =
-    ap in_order (append_assoc a b c) ∙ same_right a (b ++ c) (c ++ b) (in_order-append_comm b c)
-    ∙ ap in_order (sym (append_assoc a c b))
+    grouped a b c ▸ (whole a ⊕ record { same = in_order-append_comm b c }) ▸ turned (grouped a c b)
+
+-- two pairs of lists, joined crosswise
+crosswise : (a b c d : List Finding) → Same ((a ++ b) ++ (c ++ d)) ((a ++ c) ++ (b ++ d))
+crosswise a b c d = turned (grouped (a ++ b) c d) ▸ (last_two a b c ⊕ whole d) ▸ grouped (a ++ c) b d
 
 -- what some streams show together, and each after the other
 streams-apart : (f g : ℕ → List Finding) (streams : List ℕ)
     → Same (flat_map f streams ++ flat_map g streams) (flat_map (λ s. in_order (f s) ++ g s) streams)
-streams-apart f g [] = refl
+streams-apart f g [] = whole []
 streams-apart f g (s ∷ streams) =
     crosswise (f s) (flat_map f streams) (g s) (flat_map g streams)
-    ∙ in_order-alike (f s ++ g s) (in_order (f s) ++ g s) _ _
-    (in_order-alike (f s) (in_order (f s)) (g s) (g s) (sym (in_order-in_order (f s))) refl)
-    (streams-apart f g streams)
+    ▸ ((ordered (f s) ⊕ whole (g s)) ⊕ streams-apart f g streams)
 
 -- a frame's findings of four sorts, before the findings of the frames after it
 four_sorts : (l s t c lr sr tr cr : List Finding)
     → Same ((((l ++ s) ++ c) ++ t) ++ (((lr ++ sr) ++ tr) ++ cr)) ((((l ++ lr) ++ (s ++ sr)) ++ (t ++ tr)) ++ (c ++ cr))
 four_sorts l s t c lr sr tr cr =
-    same_left (((l ++ s) ++ c) ++ t) (((l ++ s) ++ t) ++ c) (((lr ++ sr) ++ tr) ++ cr) (last_two (l ++ s) c t)
-    ∙ crosswise ((l ++ s) ++ t) c ((lr ++ sr) ++ tr) cr
-    ∙ same_left (((l ++ s) ++ t) ++ ((lr ++ sr) ++ tr)) (((l ++ lr) ++ (s ++ sr)) ++ (t ++ tr)) (c ++ cr)
-    (crosswise (l ++ s) t (lr ++ sr) tr
-    ∙ same_left ((l ++ s) ++ (lr ++ sr)) ((l ++ lr) ++ (s ++ sr)) (t ++ tr) (crosswise l s lr sr))
+    (last_two (l ++ s) c t ⊕ whole (((lr ++ sr) ++ tr) ++ cr))
+    ▸ crosswise ((l ++ s) ++ t) c ((lr ++ sr) ++ tr) cr
+    ▸ ((crosswise (l ++ s) t (lr ++ sr) tr ▸ (crosswise l s lr sr ⊕ whole (t ++ tr))) ⊕ whole (c ++ cr))
 
 -- the findings from a state on, by their sorts
 abbrev sorts_from : List ℕ → PassState → List Frame → List Finding
@@ -76,40 +72,24 @@ sorts_from streams state frames =
     ++ flat_map (λ stream. alone stream state frames) streams)
     ++ block_run state.connection (items_from state frames)
 
-abbrev no_findings : ℕ → List Finding
-no_findings stream = []
-
-nothing_of : (streams : List ℕ) → flat_map no_findings streams ≡ []
+nothing_of : (streams : List ℕ) → flat_map (λ stream. alone stream pass_start []) streams ≡ []
 nothing_of [] = refl
 nothing_of (s ∷ streams) = nothing_of streams
 
 full-sorts : (streams : List ℕ) (state : PassState) (frames : List Frame)
     → Same (full_from streams state frames) (sorts_from streams state frames)
-full-sorts streams state [] = ap in_order (sym (append-nil _ ∙ nothing_of streams))
+full-sorts streams state [] = equal (sym (append-nil _ ∙ nothing_of streams))
 full-sorts streams state (frame ∷ frames) =
     let l = local_said (side_of frame.side state.previous) frame in
     let s = settings_said state.in_force frame in
     let c = connection_said state.connection (item_of state frame) in
-    let t = streams_said streams state frame in
     let rest = next state frame in
     let lr = local_run_from rest.previous frames in
     let sr = settings_run_from rest.in_force frames in
-    let tr = flat_map (λ stream. alone stream rest frames) streams in
     let cr = block_run rest.connection (items_from rest frames) in
-    in_order-alike (in_order (((l ++ s) ++ c) ++ t)) (((l ++ s) ++ c) ++ t) (full_from streams rest frames)
-    (((lr ++ sr) ++ tr) ++ cr)
-    (in_order-in_order (((l ++ s) ++ c) ++ t)) (full-sorts streams rest frames)
-    ∙ four_sorts l s t c lr sr tr cr
-    ∙ in_order-alike (((l ++ lr) ++ (s ++ sr)) ++ (t ++ tr))
-    (((in_order l ++ lr) ++ (s ++ sr)) ++ flat_map (λ stream. alone stream state (frame ∷ frames)) streams)
-    (c ++ cr) (in_order c ++ cr)
-    (in_order-alike ((l ++ lr) ++ (s ++ sr)) ((in_order l ++ lr) ++ (s ++ sr)) (t ++ tr)
-    (flat_map (λ stream. alone stream state (frame ∷ frames)) streams)
-    (same_left (l ++ lr) (in_order l ++ lr) (s ++ sr) (same_left l (in_order l) lr (sym (in_order-in_order l))))
-    (streams-apart
-    (λ stream. stream_said stream state.in_force.initial (state.streams stream) (step_of state.in_force frame stream))
-    (λ stream. alone stream rest frames) streams))
-    (same_left c (in_order c) cr (sym (in_order-in_order c)))
+    (turned (ordered _) ⊕ full-sorts streams rest frames)
+    ▸ four_sorts l s (streams_said streams state frame) c lr sr (flat_map (λ stream. alone stream rest frames) streams) cr
+    ▸ (((ordered l ⊕ whole lr) ⊕ whole (s ++ sr)) ⊕ streams-apart _ _ streams ⊕ (ordered c ⊕ whole cr))
 
 -- blocks, one after the other, are one block
 block_run-append : (now : ConnectionState) (xs ys : List Item)
@@ -143,16 +123,13 @@ group-alone frames (stream ∷ streams) h =
     ∙ ap (λ l. alone stream pass_start frames ++ l) (group-alone frames streams h)
 
 pub parts_make_full_lem : PartsMakeFull
-parts_make_full_lem frames groups blocks h grouped cut =
+parts_make_full_lem frames groups blocks h same_streams same_items =
     let by_stream : flat_map (group_run frames) groups ≡ flat_map (λ stream. alone stream pass_start frames)
     (streams_of frames) =
-    groups-joined frames groups ∙ ap (group_run frames) grouped ∙ group-alone frames (streams_of frames) h in
+    groups-joined frames groups ∙ ap (group_run frames) same_streams ∙ group-alone frames (streams_of frames) h in
     let by_block : block_runs connection_start blocks ≡ block_run connection_start (items_from pass_start frames) =
-    block_runs-joined connection_start blocks ∙ ap (block_run connection_start) cut in
-    sym (full-in_order frames h)
-    ∙ full-sorts (streams_of frames) pass_start frames
-    ∙ sym (ap in_order
-    (ap (λ l. ((local_run_from pass_start.previous frames ++ settings_run_from pass_start.in_force frames)
-    ++ l) ++ block_runs connection_start blocks) by_stream
-    ∙ ap (λ l. ((local_run_from pass_start.previous frames ++ settings_run_from pass_start.in_force frames)
-    ++ flat_map (λ stream. alone stream pass_start frames) (streams_of frames)) ++ l) by_block))
+    block_runs-joined connection_start blocks ∙ ap (block_run connection_start) same_items in
+    sym (findings_stand_in_order frames h)
+    ∙ (full-sorts (streams_of frames) pass_start frames
+    ▸ turned (whole (local_run_from pass_start.previous frames ++ settings_run_from pass_start.in_force frames)
+    ⊕ equal by_stream ⊕ equal by_block)).same

@@ -1,26 +1,18 @@
 -- The pass stands in order: what is said at a frame has the frame's number, and the numbers rise.
-use Rattle.std.proofs.Common.{◌≡◌, ℕ, ◌+◌, ◌^◌, ◌<◌, Bool, true, false, not, ◌==◌, List, [], ◌∷◌, ◌++◌, refl, arith}
+use Rattle.std.proofs.Common.{◌≡◌, ℕ, ◌+◌, ◌^◌, ◌<◌, Bool, true, false, not, ◌==◌, List, [], ◌∷◌, ◌++◌, arith}
 use Rattle.std.proofs.Common.{if◌then◌else◌, filter}
-use Rattle.audit_terms.specs.declared.frames.Frame.{Frame}
-use Rattle.audit_terms.specs.declared.findings.Finding.{Finding}
-use Rattle.audit_terms.specs.Sides.{side_of}
-use Rattle.audit_terms.specs.Finding.{comes_after, in_order}
-use Rattle.audit_terms.specs.Frame.{promised_in, promises, promised_by}
-use Rattle.audit_terms.specs.code.runs.Orderly.{IsInRange, IsOrderlyFrom, IsOrderly}
-use Rattle.audit_terms.specs.LocalFault.{local_said}
-use Rattle.audit_terms.specs.InForce.{settings_said}
-use Rattle.audit_terms.specs.Connection.{connection_said}
-use Rattle.audit_terms.specs.Pass.{PassState, pass_start, said, full_from, full, next, first_of, streams_of}
-use Rattle.audit_terms.specs.Pass.{streams_said, step_of, item_of}
-use Rattle.audit_terms.proofs.OrderedLists.{IsInOrder, in_order-ordered, in_order-append, ordered-in_order}
-use Rattle.audit_terms.proofs.FindingOrder.{comes_after_is}
-use Rattle.audit_terms.proofs.SaidPlaces.{AreAt, AreFrom, at-append, at-in_order, at-nil, at-local, at-settings}
-use Rattle.audit_terms.proofs.SaidPlaces.{at-connection, at-stream, from-at, from-from, from-append, precedes-at}
+use Rattle.audit_core.proofs.Words.{Frame, Finding, side_of, comes_after, in_order, promised_in, promises, promised_by}
+use Rattle.audit_core.proofs.Words.{IsInRange, IsOrderlyFrom, IsOrderly, local_said, settings_said, connection_said}
+use Rattle.audit_core.proofs.Words.{PassState, pass_start, said, full_from, full, next, first_of, streams_of}
+use Rattle.audit_core.proofs.Words.{streams_said, step_of, item_of, IsInOrder, in_order-ordered, in_order-append}
+use Rattle.audit_core.proofs.Words.{ordered-in_order, comes_after_is, AreAt, AreFrom, at-append, at-in_order, at-nil}
+use Rattle.audit_core.proofs.Words.{at-local, at-settings, at-connection, at-stream, from-at, from-from, from-append}
+use Rattle.audit_core.proofs.Words.{precedes-at, AllByRecursion}
+use Rattle.audit_core.proofs.Pairs.{all-filter}
 
 -- all streams have 31 bits
 abbrev pub AreStreams : List ℕ → Type 0
-AreStreams [] = Unit {0}
-AreStreams (stream ∷ streams) = (stream < 2 ^ 31) × AreStreams streams
+AreStreams streams = AllByRecursion (λ stream. stream < 2 ^ 31) streams
 
 pub at-streams : (streams : List ℕ) (state : PassState) (frame : Frame) → AreStreams streams →
     AreAt frame.number (streams_said streams state frame)
@@ -72,19 +64,12 @@ in_order-full_from streams state low (frame ∷ frames) small h =
     (precedes-at frame.number _ _ (at-said streams state frame small h.1).within
     (from-full_from streams (next state frame) (frame.number + 1) frames small h.2))
 
-streams-filter : (test : ℕ → Bool) (streams : List ℕ) → AreStreams streams → AreStreams (filter test streams)
-streams-filter test [] h = tt
-streams-filter test (stream ∷ streams) h = step _ refl (streams-filter test streams h.1) where
-  step : (b : Bool) → test stream ≡ b → AreStreams (filter test streams) → AreStreams (filter test (stream ∷ streams))
-  step true e ih = rw e (h.0, ih)
-  step false e ih = rw e ih
-
 streams-first_of : (stream : ℕ) (streams : List ℕ) → stream < 2 ^ 31 → AreStreams streams →
     AreStreams (first_of stream streams)
 streams-first_of stream streams p h = step (stream == 0) where
   step : (b : Bool) → AreStreams (if b then streams else stream ∷ filter (λ other. not (other == stream)) streams)
   step true = h
-  step false = (p, streams-filter _ streams h)
+  step false = (p, all-filter (λ other. other < 2 ^ 31) _ streams h)
 
 promised_by-small : (frame : Frame) → promised_in frame.body < 2 ^ 31 → promised_by frame < 2 ^ 31
 promised_by-small frame h = step (promises (promised_in frame.body) frame) where
@@ -100,7 +85,7 @@ streams-streams_of low (frame ∷ frames) h =
     (streams-first_of (promised_by frame) _ (promised_by-small frame h.1.promised)
     (streams-streams_of (frame.number + 1) frames h.2))
 
-pub full-in_order : (frames : List Frame) → IsOrderly frames → in_order (full frames) ≡ full frames
-full-in_order frames h =
+pub findings_stand_in_order : (frames : List Frame) → IsOrderly frames → in_order (full frames) ≡ full frames
+findings_stand_in_order frames h =
     ordered-in_order comes_after comes_after_is (full frames)
     (in_order-full_from (streams_of frames) pass_start 0 frames (streams-streams_of 0 frames h) h)

@@ -1,43 +1,24 @@
 -- The rows and the changes that a pass keeps, beside its state, and what is said at a frame.
-use Rattle.std.proofs.Common.{◌≡◌, ◌≢◌, ℕ, pos, ◌^◌, ◌<◌, ◌≤◌, ◌%◌, Bool, true, false, not, ◌==◌, ◌&&◌, ◌||◌, List, []}
-use Rattle.std.proofs.Common.{◌∷◌, ◌++◌, length, map, filter, get_or, Option, is_none, refl, sym, ap, ◌∙◌, subst}
-use Rattle.std.proofs.Common.{append_assoc, ◌+◌, if◌then◌else◌, Some, None, is_some, slice_get, drop, arith}
-use Rattle.std.specs.List.{All, flat_map, list_any, find}
+use Rattle.std.proofs.Common.{◌≡◌, ℕ, pos, ◌^◌, ◌<◌, ◌≤◌, ◌%◌, Bool, true, false, not, ◌==◌, ◌&&◌, ◌||◌, List, [], ◌∷◌}
+use Rattle.std.proofs.Common.{◌++◌, length, map, get_or, Option, is_none, refl, sym, ap, ◌∙◌, subst, append_assoc, ◌+◌}
+use Rattle.std.proofs.Common.{if◌then◌else◌, Some, None, is_some, drop, arith}
 use Rattle.std.proofs.lemmas.List.Elements.{All-nil, All-cons}
 use Rattle.std.proofs.lemmas.Bool.{and_right}
 use Rattle.std.proofs.lemmas.Simd.{map-map}
 use Rattle.std.proofs.lemmas.List.Folds.{flat_map-map, list_any_at}
-use borrow.Author.Tests.{eqb-true, eq-eqb, ne_eqb}
-use Rattle.audit_terms.specs.declared.sides.Sides.{Sides}
-use Rattle.audit_terms.specs.declared.kinds.Kind.TheVariants.{UnmatchedAck}
-use Rattle.audit_terms.specs.declared.frames.Frame.{Frame}
-use Rattle.audit_terms.specs.declared.items.Change.{Change}
-use Rattle.audit_terms.specs.declared.items.Item.{Item}
-use Rattle.audit_terms.specs.declared.connections.ConnectionState.{ConnectionState}
-use Rattle.audit_terms.specs.declared.findings.Finding.{Finding}
-use Rattle.audit_terms.specs.Sides.{side_of}
-use Rattle.audit_terms.specs.Frame.{is_ack, meets, promises}
-use Rattle.audit_terms.specs.Finding.{finding_at, in_order, say}
-use Rattle.audit_terms.specs.LocalFault.{local_said}
-use Rattle.audit_terms.specs.InForce.{change_of, InForce, in_force_after, change_taking, taken, settings_said}
-use Rattle.audit_terms.specs.Connection.{connection_said}
-use Rattle.audit_terms.specs.Life.{is_opening}
-use Rattle.audit_terms.specs.Stream.{idle_stream}
-use Rattle.audit_terms.specs.Pass.{PassState, full_from, next, said, streams_of, streams_said, item_of, opens_stream}
-use Rattle.audit_terms.specs.Pass.{first_of, step_of}
-use Rattle.audit_terms.proofs.Bounds.{room-wider}
-use Rattle.audit_core.specs.declared.rows.StreamRow.{StreamRow}
-use Rattle.audit_core.specs.code.StreamRows.{rows_in, idle_rows, row_opens, row_said, row_after, RowFits}
+use Rattle.audit_core.proofs.Words.{All, flat_map, list_any, find, eqb-true, eq-eqb, Sides, UnmatchedAck, Frame, Change}
+use Rattle.audit_core.proofs.Words.{Item, ConnectionState, Finding, side_of, is_ack, meets, promises, finding_at}
+use Rattle.audit_core.proofs.Words.{in_order, say, local_said, change_of, InForce, in_force_after, change_taking, taken}
+use Rattle.audit_core.proofs.Words.{settings_said, connection_said, is_opening, idle_stream, PassState, full_from, next}
+use Rattle.audit_core.proofs.Words.{said, streams_of, streams_said, item_of, opens_stream, step_of, room-wider}
+use Rattle.audit_core.proofs.Words.{StreamRow, rows_in, idle_rows, row_opens, row_said, row_after, RowFits}
+use Rattle.audit_core.proofs.Words.{option_to_list, Settings, changes_from, IsOrderlyFrom, IsAcknowledged, opens}
+use Rattle.audit_core.proofs.Words.{AllByRecursion}
 use Rattle.audit_core.proofs.PassOrder.{rows_of, AreStreams}
 use Rattle.audit_core.proofs.StreamsMet.{streams_met_lem}
-use Rattle.std.specs.Option.{option_to_list}
-use Rattle.audit_terms.specs.declared.settings.Settings.{Settings}
-use Rattle.audit_terms.specs.Side.{other}
-use Rattle.audit_terms.specs.code.runs.Changes.{changes_from}
-use Rattle.audit_terms.specs.code.runs.Orderly.{IsOrderlyFrom}
-use Rattle.audit_terms.specs.code.runs.Streams.{IsAcknowledged}
 use Rattle.audit_core.proofs.OrderlyRest.{drop-at}
-use Rattle.audit_core.proofs.StreamSteps.{ChangesFrom, changes-later, differ_test, differ_test_back, same_test}
+use Rattle.audit_core.proofs.StreamSteps.{differ_test, differ_test_back, same_test, all-change_numbers}
+use Rattle.audit_core.proofs.ErrorSides.{change-ack}
 
 -- ---- the change of a frame, among all changes
 
@@ -45,7 +26,7 @@ use Rattle.audit_core.proofs.StreamSteps.{ChangesFrom, changes-later, differ_tes
 abbrev pub is_at : ℕ → Change → Bool
 is_at number change = change.number == number
 
-none-later : (number : ℕ) (changes : List Change) → ChangesFrom (number + 1) changes →
+none-later : (number : ℕ) (changes : List Change) → AllByRecursion (λ (change : Change). number + 1 ≤ change.number) changes →
     find (is_at number) changes ≡ None
 none-later number [] h = refl
 none-later number (change ∷ changes) h =
@@ -63,7 +44,7 @@ module _ (now : InForce) (frame : Frame) (later : List Frame) where
         → find (is_at frame.number) (option_to_list (change_taking frame o) ++ rest) ≡ change_taking frame o
     by_taken None =
         none-later frame.number rest
-        (changes-later (frame.number + 1) (frame.number + 1) (in_force_after now frame) later (omega arith) h)
+        (all-change_numbers (λ n. frame.number + 1 ≤ n) (frame.number + 1) (in_force_after now frame) later (λ m l. l) h)
     by_taken (Some settings) = rw (same_test frame.number) refl
 
   -- a change past the frame is one of the later frames
@@ -88,54 +69,25 @@ change-at now low frames i frame changes orderly is within same =
     ∙ ap (λ l. find (is_at frame.number) (changes_from now l)) left
     ∙ change-here now frame (drop (i + 1) frames) ahead.2
 
--- what `is_none` answers
-pub none-test : (o : Option Change) (answer : Bool) → is_some o ≡ not answer → answer ≡ is_none o
-none-test None true e = refl
-none-test None false e = cc
-none-test (Some change) true e = cc
-none-test (Some change) false e = refl
-
 -- an acknowledgement that brings no change has taken nothing
 pub settings_said-change : (now : InForce) (frame : Frame) →
     say (is_ack frame.body && is_none (change_of now frame))
     (finding_at UnmatchedAck frame.number frame.stream frame.side (pos 0)) ≡ settings_said now frame
-settings_said-change now frame = by_taken (taken now frame) where
-  by_taken : (o : Option Settings) → say (is_ack frame.body && is_none (change_taking frame o))
-      (finding_at UnmatchedAck frame.number frame.stream frame.side (pos 0))
-      ≡ say (is_ack frame.body && is_none o) (finding_at UnmatchedAck frame.number frame.stream frame.side (pos 0))
-  by_taken None = refl
-  by_taken (Some settings) = refl
+settings_said-change now frame = rw (same (taken now frame)) refl where
+  same : (o : Option Settings) → is_none (change_taking frame o) ≡ is_none o
+  same None = refl
+  same (Some settings) = refl
 
 -- a frame that brings a change is an acknowledgement
 pub step_of-acknowledged : (now : InForce) (frame : Frame) (stream : ℕ) → IsAcknowledged (step_of now frame stream)
-step_of-acknowledged now frame stream = λ change e one f.
-    by_tests (is_ack frame.body) refl (meets stream frame)
-    (slice_get (side_of (other frame.side) now.sent) (side_of frame.side now.paired)) change e one f where
-      by_tests : (ack : Bool) → is_ack frame.body ≡ ack → (met : Bool) (o : Option Settings) (change : Change)
-          → change_taking frame (if ack then o else None) ≡ Some change
-          → (one : Frame) → (if met then Some frame else None) ≡ Some one → is_ack one.body ≡ true
-      by_tests true a true o change e one f = let same : frame ≡ one = cc in cc
-      by_tests true a false o change e one f = cc
-      by_tests false a met o change e one f = cc
+step_of-acknowledged now frame stream change e one f =
+    let ack = change-ack now frame (ap is_some e) in
+    ap (λ (its : Frame). is_ack its.body) (sym (by_test (meets stream frame) f)) ∙ ack where
+      by_test : (met : Bool) → (if met then Some frame else None) ≡ Some one → frame ≡ one
+      by_test true f = cc
+      by_test false f = cc
 
 -- ---- the rows before the first frame
-
-filter-map : {X Y : Type 0} (test : Y → Bool) (f : X → Y) (xs : List X) →
-    filter test (map f xs) ≡ map f (filter (λ x. test (f x)) xs)
-filter-map test f [] = refl
-filter-map test f (x ∷ xs) = by_test (test (f x)) refl (filter-map test f xs) where
-  by_test : (b : Bool) → test (f x) ≡ b → filter test (map f xs) ≡ map f (filter (λ x. test (f x)) xs) →
-      filter test (map f (x ∷ xs)) ≡ map f (filter (λ x. test (f x)) (x ∷ xs))
-  by_test true e ih = rw e (ap (λ l. f x ∷ l) ih)
-  by_test false e ih = rw e ih
-
--- a stream that is not 0 comes before the others
-pub first-more : (stream : ℕ) (streams : List ℕ) (old left new : List StreamRow) → stream ≢ 0 →
-    old ≡ idle_rows streams → left ≡ filter (λ (row : StreamRow). not (row.stream == stream)) old →
-    new ≡ record { stream = stream; entry = idle_stream } ∷ left → new ≡ idle_rows (first_of stream streams)
-first-more stream streams old left new above e f g =
-    rw (g, f, e, ne_eqb stream 0 above)
-    (ap (λ rows. record { stream = stream; entry = idle_stream } ∷ rows) (filter-map _ _ streams))
 
 idle-fits : (bound stream : ℕ) → stream < 2 ^ 31 → RowFits bound (record { stream = stream; entry = idle_stream })
 idle-fits bound stream h = record { stream = h; client = λ x e. cc; server = λ x e. cc }
@@ -168,14 +120,13 @@ module _ (state : PassState) (frame : Frame) where
   opens-rows : (streams : List ℕ) → list_any (row_opens frame) (rows_in state.streams streams)
       ≡ (list_any (λ other. other == frame.stream) streams && opens_it frame.stream)
   opens-rows [] = refl
-  opens-rows (stream ∷ streams) = by_test (stream == frame.stream) refl (opens-rows streams) where
-    by_test : (b : Bool) → (stream == frame.stream) ≡ b →
-        list_any (row_opens frame) (rows_in state.streams streams)
-        ≡ (list_any (λ other. other == frame.stream) streams && opens_it frame.stream) →
-        list_any (row_opens frame) (rows_in state.streams (stream ∷ streams))
-        ≡ (list_any (λ other. other == frame.stream) (stream ∷ streams) && opens_it frame.stream)
-    by_test true e ih = rw (e, ap opens_it (eqb-true stream frame.stream e), ih) (absorb _ _)
-    by_test false e ih = rw e ih
+  opens-rows (stream ∷ streams) = by_test (stream == frame.stream) refl _ _ (opens-rows streams) where
+    by_test : (b : Bool) → (stream == frame.stream) ≡ b → (rest named : Bool) →
+        rest ≡ (named && opens_it frame.stream) →
+        ((stream == frame.stream) && opens_it stream || rest)
+        ≡ (((stream == frame.stream) || named) && opens_it frame.stream)
+    by_test true e rest named ih = rw (e, ap opens_it (eqb-true stream frame.stream e), ih) (absorb _ _)
+    by_test false e rest named ih = rw e ih
 
   -- the frame meets its own stream
   meets-own : meets frame.stream frame ≡ true

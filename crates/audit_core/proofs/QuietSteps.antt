@@ -3,22 +3,9 @@ use Rattle.std.proofs.Common.{◌≡◌, ℕ, ℤ, Bool, true, false, not, ◌&&
 use Rattle.std.proofs.Common.{None, is_some, int_lt, cond}
 use Rattle.std.specs.declared.cmp.Ordering.TheVariants.{Less, Equal, Greater}
 use Rattle.std.proofs.lemmas.Cmp.{int_cmp_total, tied_itself}
-use Rattle.std.proofs.lemmas.Int.{ints}
-use Rattle.audit_terms.specs.declared.sides.Side.{Side}
-use Rattle.audit_terms.specs.declared.sides.Side.TheVariants.{Client, Server}
-use Rattle.audit_terms.specs.declared.sides.Sides.{Sides}
-use Rattle.audit_terms.specs.declared.items.Change.{Change}
-use Rattle.audit_terms.specs.declared.items.Step.{Step}
-use Rattle.audit_terms.specs.declared.lives.StreamLife.{StreamLife}
-use Rattle.audit_terms.specs.declared.streams.Stream.{Stream}
-use Rattle.audit_terms.specs.Finding.{say_of}
-use Rattle.audit_terms.specs.Sides.{side_of}
-use Rattle.audit_terms.specs.Change.{new_initial}
-use Rattle.audit_terms.specs.Window.{is_used_up}
-use Rattle.audit_terms.specs.Stream.{window_step, live_window_said, window_after, stream_window_said, stream_said}
-use Rattle.audit_terms.specs.Stream.{stream_after}
-use Rattle.audit_terms.specs.code.StreamSteps.{counted}
-use Rattle.audit_terms.specs.code.runs.Streams.{initial_after}
+use Rattle.audit_core.proofs.Words.{ints, Side, Client, Server, Sides, Change, Step, StreamLife, Stream, say_of}
+use Rattle.audit_core.proofs.Words.{side_of, new_initial, is_used_up, window_step, live_window_said, window_after}
+use Rattle.audit_core.proofs.Words.{stream_window_said, stream_said, stream_after, counted, initial_after}
 
 -- a step of a change alone, or of nothing
 abbrev pub bare_step : ℕ → Option Change → Step

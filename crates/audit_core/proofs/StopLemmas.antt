@@ -1,8 +1,7 @@
 -- What is kept of the findings ends at the first that stops.
 use Rattle.std.proofs.Common.{◌≡◌, Bool, true, false, List, [], ◌∷◌, refl, ap, ◌⊎◌, inl, inr}
-use Rattle.audit_terms.specs.declared.findings.Finding.{Finding}
-use Rattle.audit_terms.specs.Finding.{stops, upto_stop}
-use Rattle.audit_core.specs.laws.Stop.{NoneStops, EndsAt, KeptUptoFirstStop}
+use Rattle.audit_core.proofs.Words.{Finding, stops, upto_stop, NoneStops, EndsAt, KeptUptoFirstStop}
+use Rattle.audit_core.proofs.PassOrder.{findings_stand_in_order}
 
 abbrev Kept : List Finding → Type 0
 Kept findings =
@@ -27,3 +26,5 @@ kept-step x xs false e (inr h) = inr (
 pub kept_upto_first_stop : KeptUptoFirstStop
 kept_upto_first_stop [] = inl (tt, refl)
 kept_upto_first_stop (x ∷ xs) = kept-step x xs _ refl (kept_upto_first_stop xs)
+
+pub ruleset stop_laws = (kept_upto_first_stop, findings_stand_in_order)

@@ -1,19 +1,9 @@
 -- A stream's run by itself is what the pass says of it, frame by frame.
 use Rattle.std.proofs.Common.{◌≡◌, ℕ, List, [], ◌∷◌, ◌++◌, Option, Some, None, refl, sym, ap, ◌∙◌}
-use Rattle.audit_terms.specs.declared.sides.Sides.{Sides}
-use Rattle.audit_terms.specs.declared.frames.Frame.{Frame}
-use Rattle.audit_terms.specs.declared.items.Change.{Change}
-use Rattle.audit_terms.specs.declared.items.Step.{Step}
-use Rattle.audit_terms.specs.declared.streams.Stream.{Stream}
-use Rattle.audit_terms.specs.declared.findings.Finding.{Finding}
-use Rattle.audit_terms.specs.Finding.{in_order}
-use Rattle.audit_terms.specs.code.runs.Orderly.{IsOrderly}
-use Rattle.audit_terms.specs.InForce.{initial_in_force, in_force_after, change_of}
-use Rattle.audit_terms.specs.code.runs.Changes.{changes_of}
-use Rattle.audit_terms.specs.Stream.{idle_stream, stream_said, stream_after}
-use Rattle.audit_terms.specs.code.runs.Streams.{stream_run_from, initial_after}
-use Rattle.audit_terms.specs.Pass.{PassState, pass_start, next, step_of}
-use Rattle.audit_terms.specs.code.runs.Streams.{frames_of, stream_run}
+use Rattle.audit_core.proofs.Words.{Sides, Frame, Change, Step, Stream, Finding, in_order, IsOrderly, initial_in_force}
+use Rattle.audit_core.proofs.Words.{in_force_after, change_of, changes_of, idle_stream, stream_said, stream_after}
+use Rattle.audit_core.proofs.Words.{stream_run_from, initial_after, PassState, pass_start, next, step_of, frames_of}
+use Rattle.audit_core.proofs.Words.{stream_run}
 use Rattle.audit_core.proofs.QuietSteps.{stream_said-quiet, stream_after-quiet}
 use Rattle.audit_core.proofs.StreamSteps.{step_if_any, steps_from, steps_of-steps_from}
 

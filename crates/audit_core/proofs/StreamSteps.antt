@@ -1,32 +1,11 @@
 -- The steps of one stream are those frames of the connection at which it has a frame or a change is brought.
-use Rattle.std.proofs.Common.{◌≡◌, ℕ, ◌+◌, ◌<◌, ◌≤◌, Bool, true, false, ◌==◌, nat_lt, List, [], ◌∷◌, ◌++◌, map, Option}
-use Rattle.std.proofs.Common.{Some, None, refl, ap, ◌∙◌, if◌then◌else◌, arith}
-use Rattle.std.specs.Option.{option_to_list}
-use Rattle.std.proofs.lemmas.Bool.Decides.{nat_tests}
-use Rattle.audit_terms.specs.declared.settings.Settings.{Settings}
-use Rattle.audit_terms.specs.declared.frames.Frame.{Frame}
-use Rattle.audit_terms.specs.declared.items.Change.{Change}
-use Rattle.audit_terms.specs.declared.items.Step.{Step}
-use Rattle.audit_terms.specs.Frame.{meets}
-use Rattle.audit_terms.specs.code.runs.Orderly.{IsOrderlyFrom}
-use Rattle.audit_terms.specs.Change.{change_by}
-use Rattle.audit_terms.specs.InForce.{InForce, in_force_after, change_taking, taken}
-use Rattle.audit_terms.specs.code.runs.Changes.{changes_from}
-use Rattle.audit_terms.specs.Pass.{step_of}
-use Rattle.audit_terms.specs.code.runs.Streams.{frames_of, frame_step, change_step, with_change, steps_of}
-
--- all numbers at or above one
-abbrev pub FramesFrom : (low : ℕ) → List Frame → Type 0
-FramesFrom low [] = Unit {0}
-FramesFrom low (frame ∷ frames) = (low ≤ frame.number) × FramesFrom low frames
-
-abbrev pub ChangesFrom : (low : ℕ) → List Change → Type 0
-ChangesFrom low [] = Unit {0}
-ChangesFrom low (change ∷ changes) = (low ≤ change.number) × ChangesFrom low changes
-
-abbrev pub StepsFrom : (low : ℕ) → List Step → Type 0
-StepsFrom low [] = Unit {0}
-StepsFrom low (step ∷ steps) = (low ≤ step.number) × StepsFrom low steps
+use Rattle.std.proofs.Common.{◌≡◌, Bool, List, None, Option, Some, [], ap, arith, false, if◌then◌else◌, ltb-true}
+use Rattle.std.proofs.Common.{nat_lt, refl, true, ℕ, ◌++◌, ◌+◌, ◌<◌, ◌==◌, ◌∙◌, ◌∷◌, ◌≤◌}
+use Rattle.audit_core.proofs.Words.{eqb-true, option_to_list, nat_tests, cond_both, change_by, meets, change_of}
+use Rattle.audit_core.proofs.Words.{InForce, taken, change_taking, in_force_after, step_of, changes_from}
+use Rattle.audit_core.proofs.Words.{IsOrderlyFrom, frame_step, with_change, steps_of, change_step, frames_of, Frame}
+use Rattle.audit_core.proofs.Words.{Change, Step, Settings, AllByRecursion}
+use Rattle.audit_core.proofs.Pairs.{all-mapped, all-filter, all-append}
 
 pub differ_test : (m n : ℕ) → m < n → (m == n) ≡ false
 differ_test m n h = grind (arith, nat_tests)
@@ -34,58 +13,63 @@ differ_test m n h = grind (arith, nat_tests)
 pub differ_test_back : (m n : ℕ) → m < n → (n == m) ≡ false
 differ_test_back m n h = grind (arith, nat_tests)
 
-less_test : (m n : ℕ) → m < n → nat_lt m n ≡ true
-less_test m n h = grind (arith, nat_tests)
-
-not_less_test : (m n : ℕ) → m < n → nat_lt n m ≡ false
-not_less_test m n h = grind (arith, nat_tests)
-
 pub same_test : (n : ℕ) → (n == n) ≡ true
 same_test n = grind (arith, nat_tests)
 
-with_change-from : (low : ℕ) (steps : List Step) (change : Change) → StepsFrom low steps → low ≤ change.number
-    → StepsFrom low (with_change steps change)
-with_change-from low [] change h p = (p, tt)
-with_change-from low (step ∷ steps) change h p =
-    by_tests (step.number == change.number) (nat_lt change.number step.number)
-    (with_change-from low steps change h.1 p) where
-      by_tests : (same before : Bool) → StepsFrom low (with_change steps change)
-          → StepsFrom low (if same then record step { change = Some change } ∷ steps
-          else (if before then change_step change ∷ step ∷ steps else step ∷ with_change steps change))
-      by_tests true before rest = h
-      by_tests false true rest = (p, h)
-      by_tests false false rest = (h.0, rest)
+-- ---- one more change among some steps
 
-frame_steps-from : (low : ℕ) (frames : List Frame) → FramesFrom low frames → StepsFrom low (map frame_step frames)
-frame_steps-from low [] h = tt
-frame_steps-from low (frame ∷ frames) h = (h.0, frame_steps-from low frames h.1)
+-- where a change goes: to the step of its number, before a step, or further on
+pub with_change-cases : (P : List Step → Type 0) (change : Change) (step : Step) (steps : List Step)
+    → (step.number ≡ change.number → P (record step { change = Some change } ∷ steps))
+    → (change.number < step.number → P (change_step change ∷ step ∷ steps))
+    → (step.number < change.number → P (step ∷ with_change steps change))
+    → P (with_change (step ∷ steps) change)
+with_change-cases P change step steps same before after =
+    cond_both (step.number == change.number) _ _ P (λ e. same (eqb-true _ _ e))
+    (λ e. cond_both (nat_lt change.number step.number) _ _ P (λ f. before (ltb-true _ _ f))
+    (λ f. after (above step.number change.number e f))) where
+      above : (m n : ℕ) → (m == n) ≡ false → nat_lt n m ≡ false → m < n
+      above m n e f = grind (arith, nat_tests)
 
-steps_of-from : (low : ℕ) (frames : List Frame) (changes : List Change) → FramesFrom low frames
-    → ChangesFrom low changes → StepsFrom low (steps_of frames changes)
-steps_of-from low frames [] h p = frame_steps-from low frames h
-steps_of-from low frames (change ∷ changes) h p =
-    with_change-from low (steps_of frames changes) change (steps_of-from low frames changes h p.1) p.0
+-- what holds of steps of frames alone and of changes alone, and of both together, holds of all steps
+module _ (P : Step → Type 0) (joined : (change : Change) (step : Step) → step.number ≡ change.number →
+    P (change_step change) → P step → P (record step { change = Some change })) where
+  pub all-with : (change : Change) (steps : List Step) → P (change_step change) → AllByRecursion P steps
+      → AllByRecursion P (with_change steps change)
+  all-with change [] new h = (new, tt)
+  all-with change (step ∷ steps) new h =
+      with_change-cases (AllByRecursion P) change step steps (λ e. (joined change step e new h.0, h.1))
+      (λ e. (new, h)) (λ e. (h.0, all-with change steps new h.1))
 
--- a change before all steps comes first
-with_change-first : (steps : List Step) (change : Change) → StepsFrom (change.number + 1) steps
-    → with_change steps change ≡ change_step change ∷ steps
-with_change-first [] change h = refl
-with_change-first (step ∷ steps) change h =
-    rw (
-      differ_test_back change.number step.number (omega (arith, h.0)),
-      less_test change.number step.number (omega (arith, h.0)),
-    ) refl
+  pub all-steps : (frames : List Frame) (changes : List Change) → AllByRecursion (λ frame. P (frame_step frame)) frames
+      → AllByRecursion (λ change. P (change_step change)) changes → AllByRecursion P (steps_of frames changes)
+  all-steps frames [] h new = all-mapped P frame_step frames h
+  all-steps frames (change ∷ changes) h new =
+      all-with change (steps_of frames changes) new.0 (all-steps frames changes h new.1)
 
--- a frame before all changes comes first
-steps_of-first : (frame : Frame) (frames : List Frame) (changes : List Change) → ChangesFrom (frame.number + 1) changes
-    → steps_of (frame ∷ frames) changes ≡ frame_step frame ∷ steps_of frames changes
-steps_of-first frame frames [] h = refl
-steps_of-first frame frames (change ∷ changes) h =
-    ap (λ steps. with_change steps change) (steps_of-first frame frames changes h.1)
-    ∙ rw (
-      differ_test frame.number change.number (omega (arith, h.0)),
-      not_less_test frame.number change.number (omega (arith, h.0)),
-    ) refl
+-- ---- numbers of orderly frames, and of the changes that they bring
+
+module _ (P : ℕ → Type 0) where
+  pub all-numbers : (low : ℕ) (frames : List Frame) → ((m : ℕ) → low ≤ m → P m) → IsOrderlyFrom low frames
+      → AllByRecursion (λ (frame : Frame). P frame.number) frames
+  all-numbers low [] p h = tt
+  all-numbers low (frame ∷ frames) p h =
+      (p frame.number h.0, all-numbers (frame.number + 1) frames (λ m l. p m (omega (arith, h.0))) h.2)
+
+  pub all-change_numbers : (low : ℕ) (now : InForce) (frames : List Frame) → ((m : ℕ) → low ≤ m → P m)
+      → IsOrderlyFrom low frames → AllByRecursion (λ (change : Change). P change.number) (changes_from now frames)
+  all-change_numbers low now [] p h = tt
+  all-change_numbers low now (frame ∷ frames) p h =
+      all-append (λ (change : Change). P change.number) (option_to_list (change_of now frame)) _
+      (by_taken (taken now frame))
+      (all-change_numbers (frame.number + 1) (in_force_after now frame) frames (λ m l. p m (omega (arith, h.0))) h.2)
+    where
+      by_taken : (o : Option Settings) →
+          AllByRecursion (λ (change : Change). P change.number) (option_to_list (change_taking frame o))
+      by_taken None = tt
+      by_taken (Some settings) = (p frame.number h.0, tt)
+
+-- ---- the steps of a stream
 
 -- the steps at which something is there
 abbrev pub step_if_any : Step → List Step
@@ -99,74 +83,56 @@ steps_from stream now [] = []
 steps_from stream now (frame ∷ frames) =
     step_if_any (step_of now frame stream) ++ steps_from stream (in_force_after now frame) frames
 
--- where frames and changes stand
-frames-later : (low high : ℕ) (frames : List Frame) → low ≤ high → IsOrderlyFrom high frames → FramesFrom low frames
-frames-later low high [] p h = tt
-frames-later low high (frame ∷ frames) p h =
-    (omega (arith, h.0), frames-later low (frame.number + 1) frames (omega (arith, h.0)) h.2)
+-- a change before all steps comes first
+with_change-first : (steps : List Step) (change : Change)
+    → AllByRecursion (λ (step : Step). change.number + 1 ≤ step.number) steps
+    → with_change steps change ≡ change_step change ∷ steps
+with_change-first [] change h = refl
+with_change-first (step ∷ steps) change h =
+    with_change-cases (λ l. l ≡ change_step change ∷ step ∷ steps) change step steps
+    (λ e. absurd (omega (arith, h.0))) (λ e. refl) (λ e. absurd (omega (arith, h.0)))
 
-frames_of-from : (low stream : ℕ) (frames : List Frame) → FramesFrom low frames
-    → FramesFrom low (frames_of stream frames)
-frames_of-from low stream [] h = tt
-frames_of-from low stream (frame ∷ frames) h = by_test (meets stream frame) (frames_of-from low stream frames h.1) where
-  by_test : (met : Bool) → FramesFrom low (frames_of stream frames)
-      → FramesFrom low (if met then frame ∷ frames_of stream frames else frames_of stream frames)
-  by_test true rest = (h.0, rest)
-  by_test false rest = rest
-
-pub changes-later : (low high : ℕ) (now : InForce) (frames : List Frame) → low ≤ high → IsOrderlyFrom high frames
-    → ChangesFrom low (changes_from now frames)
-changes-later low high now [] p h = tt
-changes-later low high now (frame ∷ frames) p h =
-    by_taken (taken now frame)
-    (changes-later low (frame.number + 1) (in_force_after now frame) frames (omega (arith, h.0)) h.2) where
-      by_taken : (o : Option Settings) → ChangesFrom low (changes_from (in_force_after now frame) frames)
-          → ChangesFrom low (option_to_list (change_taking frame o) ++ changes_from (in_force_after now frame) frames)
-      by_taken None rest = rest
-      by_taken (Some settings) rest = (omega (arith, h.0), rest)
+-- a frame before all changes comes first
+steps_of-first : (frame : Frame) (frames : List Frame) (changes : List Change)
+    → AllByRecursion (λ (change : Change). frame.number + 1 ≤ change.number) changes
+    → steps_of (frame ∷ frames) changes ≡ frame_step frame ∷ steps_of frames changes
+steps_of-first frame frames [] h = refl
+steps_of-first frame frames (change ∷ changes) h =
+    ap (λ steps. with_change steps change) (steps_of-first frame frames changes h.1)
+    ∙ with_change-cases (λ l. l ≡ frame_step frame ∷ with_change (steps_of frames changes) change) change
+    (frame_step frame) (steps_of frames changes)
+    (λ e. absurd (omega (arith, h.0))) (λ e. absurd (omega (arith, h.0))) (λ e. refl)
 
 -- the steps of a stream's frames and all changes are those of the connection's frames at which something is there
 pub steps_of-steps_from : (low stream : ℕ) (now : InForce) (frames : List Frame) → IsOrderlyFrom low frames
     → steps_of (frames_of stream frames) (changes_from now frames) ≡ steps_from stream now frames
 steps_of-steps_from low stream now [] h = refl
 steps_of-steps_from low stream now (frame ∷ frames) h =
-    by_cases (meets stream frame) (taken now frame)
-    (steps_of-steps_from (frame.number + 1) stream (in_force_after now frame) frames h.2) where
-      later-from : ChangesFrom (frame.number + 1) (changes_from (in_force_after now frame) frames)
-      later-from =
-          changes-later (frame.number + 1) (frame.number + 1) (in_force_after now frame) frames (omega arith) h.2
+    by_cases (meets stream frame) (taken now frame) (frames_of stream frames) (changes_from after frames)
+    (all-filter (λ (other : Frame). frame.number + 1 ≤ other.number) (meets stream) frames
+    (all-numbers (λ n. frame.number + 1 ≤ n) (frame.number + 1) frames (λ m l. l) h.2))
+    (all-change_numbers (λ n. frame.number + 1 ≤ n) (frame.number + 1) after frames (λ m l. l) h.2)
+    (steps_from stream after frames) (steps_of-steps_from (frame.number + 1) stream after frames h.2) where
+      after : InForce
+      after = in_force_after now frame
 
-      steps-from : StepsFrom (frame.number + 1)
-          (steps_of (frames_of stream frames) (changes_from (in_force_after now frame) frames))
-      steps-from =
-          steps_of-from (frame.number + 1) (frames_of stream frames) (changes_from (in_force_after now frame) frames)
-          (frames_of-from (frame.number + 1) stream frames
-          (frames-later (frame.number + 1) (frame.number + 1) frames (omega arith) h.2)) later-from
-
-      by_cases : (met : Bool) (o : Option Settings)
-          → steps_of (frames_of stream frames) (changes_from (in_force_after now frame) frames)
-          ≡ steps_from stream (in_force_after now frame) frames
-          → steps_of (if met then frame ∷ frames_of stream frames else frames_of stream frames)
-          (option_to_list (change_taking frame o) ++ changes_from (in_force_after now frame) frames)
+      by_cases : (met : Bool) (o : Option Settings) (own : List Frame) (changes : List Change)
+          → AllByRecursion (λ (other : Frame). frame.number + 1 ≤ other.number) own
+          → AllByRecursion (λ (change : Change). frame.number + 1 ≤ change.number) changes
+          → (later : List Step) → steps_of own changes ≡ later
+          → steps_of (if met then frame ∷ own else own) (option_to_list (change_taking frame o) ++ changes)
           ≡ step_if_any (record {
             number = frame.number;
             frame = (if met then Some frame else None);
             change = change_taking frame o;
-          }) ++ steps_from stream (in_force_after now frame) frames
-      by_cases true None ih =
-          steps_of-first frame (frames_of stream frames) (changes_from (in_force_after now frame) frames) later-from
-          ∙ ap (λ steps. frame_step frame ∷ steps) ih
-      by_cases true (Some settings) ih =
-          ap (λ steps. with_change steps (change_by frame settings))
-          (steps_of-first frame (frames_of stream frames) (changes_from (in_force_after now frame) frames) later-from)
-          ∙ rw (same_test frame.number)
-          (ap (λ steps. record {
-            number = frame.number;
-            frame = Some frame;
-            change = Some (change_by frame settings);
-          } ∷ steps) ih)
-      by_cases false None ih = ih
-      by_cases false (Some settings) ih =
-          with_change-first (steps_of (frames_of stream frames) (changes_from (in_force_after now frame) frames))
-          (change_by frame settings) steps-from
+          }) ++ later
+      by_cases true None own changes p q later ih =
+          steps_of-first frame own changes q ∙ ap (λ steps. frame_step frame ∷ steps) ih
+      by_cases true (Some settings) own changes p q later ih =
+          ap (λ steps. with_change steps (change_by frame settings)) (steps_of-first frame own changes q)
+          ∙ rw (same_test frame.number, ih) refl
+      by_cases false None own changes p q later ih = ih
+      by_cases false (Some settings) own changes p q later ih =
+          with_change-first (steps_of own changes) (change_by frame settings)
+          (all-steps (λ step. frame.number + 1 ≤ step.number) (λ change step e n m. m) own changes p q)
           ∙ ap (λ steps. change_step (change_by frame settings) ∷ steps) ih

@@ -1,121 +1,67 @@
 -- The streams that frames name are those that meet one of them.
-use Rattle.std.proofs.Common.{◌≡◌, ◌≢◌, ℕ, Bool, true, false, ◌==◌, ◌&&◌, ◌||◌, not, if◌then◌else◌, List, [], ◌∷◌}
-use Rattle.std.proofs.Common.{filter, refl, sym, ap, ◌∙◌}
-use Rattle.std.specs.List.{list_any}
-use borrow.Author.Tests.{eqb-true, eq-eqb}
-use Rattle.audit_terms.specs.declared.frames.Frame.{Frame}
-use Rattle.audit_terms.specs.Frame.{promised_in, promises, promised_by, meets}
-use Rattle.audit_terms.specs.Pass.{first_of, streams_of}
-use Rattle.audit_core.proofs.NamedStreams.{AreDistinct, or_assoc}
-use Rattle.audit_core.specs.laws.Apart.{EachPair}
-use Rattle.audit_core.specs.laws.Streams.{StreamsAreThoseMet, StreamsAreNamedOnce}
-use Rattle.audit_core.proofs.Meetings.{and-false}
-use Rattle.audit_core.proofs.FrameRows.{all-differ}
+use Rattle.std.proofs.Common.{◌≡◌, Bool, List, [], ap, false, filter, not, refl, sym, true, ℕ, ◌&&◌, ◌==◌, ◌||◌}
+use Rattle.std.proofs.Common.{◌∙◌, ◌∷◌}
+use Rattle.std.proofs.lemmas.Map.Views.{any-filter_same}
+use Rattle.audit_core.proofs.Words.{eq-eqb, eqb-true, ne_eqb, and-false, list_any, cond_both, eqb-false, promised_in}
+use Rattle.audit_core.proofs.Words.{meets, promises, promised_by, first_of, Frame, StreamsAreNamedOnce}
+use Rattle.audit_core.proofs.Words.{StreamsAreThoseMet, and-true, or_assoc}
 use Rattle.audit_core.proofs.Apart.{distinct-streams_of}
 
--- another stream is named still when this one is left out
-named-others : (stream left : ℕ) (streams : List ℕ) → (left == stream) ≡ false
-    → list_any (λ other. other == stream) (filter (λ other. not (other == left)) streams)
-    ≡ list_any (λ other. other == stream) streams
-named-others stream left [] e = refl
-named-others stream left (other ∷ others) e = by_test _ refl (named-others stream left others e) where
-  by_test : (b : Bool) → (other == left) ≡ b
-      → list_any (λ x. x == stream) (filter (λ x. not (x == left)) others) ≡ list_any (λ x. x == stream) others
-      → list_any (λ x. x == stream) (filter (λ x. not (x == left)) (other ∷ others))
-      ≡ list_any (λ x. x == stream) (other ∷ others)
-  by_test true f ih =
-      let g : (other == stream) ≡ false = ap (λ x. x == stream) (eqb-true other left f) ∙ e in
-      rw (f, g) ih
-  by_test false f ih = rw f (ap (λ b. (other == stream) || b) ih)
+module _ (stream : ℕ) where
+  abbrev is_named : List ℕ → Bool
+  is_named streams = list_any (λ other. other == stream) streams
 
-named-first_of : (stream first : ℕ) (streams : List ℕ) → list_any (λ other. other == stream) (first_of first streams)
-    ≡ ((not (first == 0) && (first == stream)) || list_any (λ other. other == stream) streams)
-named-first_of stream first streams = by_tests (first == 0) _ refl where
-  by_tests : (zero same : Bool) → (first == stream) ≡ same
-      → list_any (λ other. other == stream) (if zero then streams
-      else first ∷ filter (λ other. not (other == first)) streams)
-      ≡ ((not zero && (first == stream)) || list_any (λ other. other == stream) streams)
-  by_tests true same e = refl
-  by_tests false true e = rw e refl
-  by_tests false false e = rw e (named-others stream first streams e)
+  -- how one more stream counts, which is left out where it is 0
+  abbrev NamesFirst : (first : ℕ) → List ℕ → Type 0
+  NamesFirst first streams =
+      is_named (first_of first streams) ≡ ((not (stream == 0) && (first == stream)) || is_named streams)
 
--- ---- a stream other than 0
+  names-first : (first : ℕ) (streams : List ℕ) → NamesFirst first streams
+  names-first first streams = by_tests _ _ refl refl where
+    still-named : (first == stream) ≡ false → is_named (filter (λ other. not (other == first)) streams) ≡ is_named streams
+    still-named e = any-filter_same (λ other. other == stream) (λ other. not (other == first)) true
+        (λ other q. rw (eqb-true other stream q, ne_eqb stream first (λ p. eqb-false first stream e (sym p))) refl) streams
 
-module _ (stream : ℕ) (above : (stream == 0) ≡ false) where
-  named-own : (own : ℕ) → (not (own == 0) && (own == stream)) ≡ (own == stream)
-  named-own own = by_test _ refl where
-    by_test : (b : Bool) → (own == stream) ≡ b → (not (own == 0) && (own == stream)) ≡ (own == stream)
+    by_tests : (zero same : Bool) → (first == 0) ≡ zero → (first == stream) ≡ same → NamesFirst first streams
+    by_tests true true z e = rw (← eqb-true first stream e, z) refl
+    by_tests true false z e = rw (z, e, and-false) refl
+    by_tests false true z e = rw (← eqb-true first stream e, z, eq-eqb first first refl) refl
+    by_tests false false z e = rw (z, e, and-false) (still-named e)
+
+  -- a frame promises the stream that it carries
+  promises-own : (frame : Frame) →
+      promises stream frame ≡ (promises (promised_in frame.body) frame && (promised_in frame.body == stream))
+  promises-own frame = by_test _ refl where
+    by_test : (same : Bool) → (promised_in frame.body == stream) ≡ same → promises stream frame
+        ≡ (promises (promised_in frame.body) frame && (promised_in frame.body == stream))
     by_test true e =
-        let zero : (own == 0) ≡ false = ap (λ x. x == 0) (eqb-true own stream e) ∙ above in rw (zero, e) refl
-    by_test false e = rw (e, and-false) refl
+        ap (λ n. promises n frame) (sym (eqb-true (promised_in frame.body) stream e))
+        ∙ sym (ap (λ b. promises (promised_in frame.body) frame && b) e ∙ and-true _)
+    by_test false e = simp (e, and-false)
 
-  -- the stream, named by a promise
-  abbrev is_it : (promised : ℕ) → Bool
-  is_it promised = not (promised == 0) && (promised == stream)
-
-  named-promised : (frame : Frame) →
-      (not (promised_by frame == 0) && (promised_by frame == stream)) ≡ promises stream frame
-  named-promised frame = by_tests _ _ refl refl where
-    chosen : (promised : Bool) → promises (promised_in frame.body) frame ≡ promised
-        → is_it (promised_by frame) ≡ is_it (if promised then promised_in frame.body else 0)
-    chosen promised f = ap (λ (b : Bool). is_it (if b then promised_in frame.body else 0)) f
-
-    by_tests : (same promised : Bool) → (promised_in frame.body == stream) ≡ same
-        → promises (promised_in frame.body) frame ≡ promised → is_it (promised_by frame) ≡ promises stream frame
-    by_tests true true e f =
-        chosen true f
-        ∙ ap is_it (eqb-true (promised_in frame.body) stream e)
-        ∙ rw (above, eq-eqb stream stream refl) refl
-        ∙ sym f
-        ∙ ap (λ x. promises x frame) (eqb-true (promised_in frame.body) stream e)
-    by_tests true false e f =
-        chosen false f ∙ sym f ∙ ap (λ x. promises x frame) (eqb-true (promised_in frame.body) stream e)
-    by_tests false true e f = chosen true f ∙ simp (e, and-false)
-    by_tests false false e f = chosen false f ∙ rw (e, and-false) refl
-
-  named-frame : (frame : Frame) (named met : Bool) → named ≡ met
-      → ((not (frame.stream == 0) && (frame.stream == stream))
-      || ((not (promised_by frame == 0) && (promised_by frame == stream)) || named))
-      ≡ (meets stream frame || met)
-  named-frame frame named met e =
-      ap (λ b. b || ((not (promised_by frame == 0) && (promised_by frame == stream)) || named)) (named-own frame.stream)
-      ∙ ap (λ b. (frame.stream == stream) || (b || named)) (named-promised frame)
-      ∙ ap (λ b. (frame.stream == stream) || (promises stream frame || b)) e
-      ∙ sym (or_assoc (frame.stream == stream) (promises stream frame) met)
-
-  named-met : (frames : List Frame) → list_any (λ other. other == stream) (streams_of frames)
-      ≡ list_any (meets stream) frames
-  named-met [] = refl
-  named-met (frame ∷ frames) =
-      named-first_of stream frame.stream _
-      ∙ ap (λ b. (not (frame.stream == 0) && (frame.stream == stream)) || b)
-      (named-first_of stream (promised_by frame) _)
-      ∙ named-frame frame _ _ (named-met frames)
-
-named-zero : (frames : List Frame) → list_any (λ other. other == 0) (streams_of frames) ≡ false
-named-zero [] = refl
-named-zero (frame ∷ frames) =
-    named-first_of 0 frame.stream _
-    ∙ rw (no-zero frame.stream)
-    (named-first_of 0 (promised_by frame) _ ∙ rw (no-zero (promised_by frame)) (named-zero frames)) where
-      neither : (b : Bool) → (not b && b) ≡ false
-      neither true = refl
-      neither false = refl
-
-      no-zero : (first : ℕ) → (not (first == 0) && (first == 0)) ≡ false
-      no-zero first = neither (first == 0)
+  -- the stream, other than 0, is the one that the frame promises
+  promised-is : (frame : Frame) → (stream == 0) ≡ false → (promised_by frame == stream) ≡ promises stream frame
+  promised-is frame e =
+      cond_both (promises (promised_in frame.body) frame) (promised_in frame.body) 0
+      (λ promised. (promised == stream) ≡ promises stream frame)
+      (λ f. rw (promises-own frame, f) refl)
+      (λ f. rw (promises-own frame, f) (ne_eqb 0 stream (λ p. eqb-false stream 0 e (sym p))))
 
 pub streams_met_lem : StreamsAreThoseMet
-streams_met_lem stream frames = by_test _ refl where
-  by_test : (b : Bool) → (stream == 0) ≡ b
-      → list_any (λ other. other == stream) (streams_of frames) ≡ (not (stream == 0) && list_any (meets stream) frames)
-  by_test true e =
-      ap (λ x. list_any (λ other. other == x) (streams_of frames)) (eqb-true stream 0 e) ∙ named-zero frames ∙ rw e refl
-  by_test false e = rw e (named-met stream e frames)
-
-once : (streams : List ℕ) → AreDistinct streams → EachPair (λ stream other. stream ≢ other) streams
-once [] h = tt
-once (stream ∷ streams) h = (all-differ stream streams h.0, once streams h.1)
+streams_met_lem stream [] = sym (and-false (not (stream == 0)))
+streams_met_lem stream (frame ∷ frames) =
+    names-first stream frame.stream _
+    ∙ ap (λ b. (not (stream == 0) && (frame.stream == stream)) || b) (names-first stream (promised_by frame) _)
+    ∙ by_zero _ refl _ (streams_met_lem stream frames) where
+      by_zero : (zero : Bool) → (stream == 0) ≡ zero → (named : Bool) →
+          named ≡ (not (stream == 0) && list_any (meets stream) frames) →
+          ((not (stream == 0) && (frame.stream == stream))
+          || ((not (stream == 0) && (promised_by frame == stream)) || named))
+          ≡ (not (stream == 0) && (meets stream frame || list_any (meets stream) frames))
+      by_zero true e named h = rw (h, e) refl
+      by_zero false e named h =
+          rw (h, e, promised-is stream frame e)
+          (sym (or_assoc (frame.stream == stream) (promises stream frame) (list_any (meets stream) frames)))
 
 pub streams_once_lem : StreamsAreNamedOnce
-streams_once_lem frames = once (streams_of frames) (distinct-streams_of frames)
+streams_once_lem frames = distinct-streams_of frames

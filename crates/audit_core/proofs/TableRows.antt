@@ -1,19 +1,12 @@
--- The table of findings: each row has a number, and what is said at one frame for one stream and one endpoint is said
--- in rows of different numbers.
-use Rattle.std.proofs.Common.{◌≡◌, ℕ, ℤ, ◌+◌, ◌^◌, ◌<◌, ◌≤◌, Bool, true, false, List, [], ◌∷◌, ◌++◌, get_or, ap, ◌∙◌}
-use Rattle.std.proofs.Common.{arith, Option, Some, None, if◌then◌else◌}
-use Rattle.std.specs.List.{AllByRecursion}
-use Rattle.audit_terms.specs.declared.sides.Side.{Side}
-use Rattle.audit_terms.specs.declared.sides.Side.TheVariants.{Client, Server}
-use Rattle.audit_terms.specs.declared.kinds.Kind.{Kind}
-use Rattle.audit_terms.specs.declared.findings.Finding.{Finding}
-use Rattle.audit_terms.specs.Kind.{rank_of}
-use Rattle.audit_terms.specs.Place.{place_of, place_stream}
-use Rattle.audit_terms.specs.code.Places.{place_rank}
-use Rattle.audit_terms.specs.Finding.{finding_at, say, say_of}
-use Rattle.audit_core.specs.laws.Apart.{AreApart, StandApart}
+-- The table of findings: each row has a number. What is said at one frame for one stream stands in rows of rising
+-- numbers, and an error of the connection is said of one endpoint only.
+use Rattle.std.proofs.Common.{◌≡◌, ℕ, ℤ, ◌^◌, ◌<◌, ◌≤◌, ◌==◌, Bool, true, false, ◌&&◌, ◌||◌, nat_le, nat_lt, List, []}
+use Rattle.std.proofs.Common.{◌∷◌, ◌++◌, get_or, refl, sym, ap, ◌∙◌, subst, arith, Option, Some, None, if◌then◌else◌}
+use borrow.Author.Tests.{leb-true, ltb-true, le-ltb}
+use Rattle.audit_core.proofs.Words.{AllByRecursion, Side, Client, Server, Kind, Finding, other, is_side, rank_of}
+use Rattle.audit_core.proofs.Words.{place_of, place_stream, place_rank, finding_at, say, say_of, stops, AreApart}
+use Rattle.audit_core.proofs.Words.{StandApart, rank-small, and_parts}
 use Rattle.audit_core.proofs.Pairs.{all-append, all-map, across-by, pairs-append}
-use Rattle.audit_terms.proofs.SaidPlaces.{rank-small}
 
 -- the row in which a rank is said of an endpoint, by rank: 0 to 4 local faults, 5 settings, 6 length, 7 the server's
 -- push, 8 order of openings, 9 to 14 and 15 to 20 the connection windows of client and server, 21 to 23 what a frame
@@ -36,124 +29,146 @@ row_at Server rank = get_or server_rows rank 0
 pub row_of : Finding → ℕ
 row_of found = row_at found.side (place_rank found.place)
 
+-- the endpoint of which an error of this rank is said at a frame of a sender: the sender, or, where a grant overflows
+-- the connection window, the other one
+abbrev pub error_side : (sender : Side) → (rank : ℕ) → Side
+error_side sender rank = if rank == 11 then other sender else sender
+
+-- a finding in one of the rows from low up to below high, for a stream of this sort
+pub record IsRow (sender : Side) (on : ℕ → Type 0) (low high : ℕ) (x : Finding) : Type 0 where
+  pub stream : on (place_stream x.place)
+  pub from : low ≤ row_of x
+  pub below : row_of x < high
+  pub error : stops x ≡ true → x.side ≡ error_side sender (place_rank x.place)
+
+-- findings in these rows, no two of one place and side
+pub record AreRows (sender : Side) (on : ℕ → Type 0) (low high : ℕ) (xs : List Finding) : Type 0 where
+  pub rising : low ≤ high
+  pub within : AllByRecursion (IsRow sender on low high) xs
+  pub apart : StandApart xs
+
 same-row : (x y : Finding) → x.place ≡ y.place → x.side ≡ y.side → row_of x ≡ row_of y
 unfolding row_of
 same-row x y p s = cc
 
-pub rank-place : (number rank stream : ℕ) → rank ≤ 26 → stream < 2 ^ 31 →
-    place_rank (place_of number rank stream) ≡ rank
-rank-place number rank stream r s = omega arith
-
-stream-place : (number rank stream : ℕ) → stream < 2 ^ 31 → place_stream (place_of number rank stream) ≡ stream
-stream-place number rank stream s = omega arith
-
-row-found : (kind : Kind) (number stream : ℕ) (side : Side) (value : ℤ) → stream < 2 ^ 31 →
-    row_of (finding_at kind number stream side value) ≡ row_at side (rank_of kind)
-unfolding row_of
-row-found kind number stream side value h =
-    ap (row_at side) (rank-place number (rank_of kind) stream (rank-small kind) h)
-
--- a finding in one of the rows from low up to below high, for a stream of this sort
-pub record IsRow (on : ℕ → Type 0) (low high : ℕ) (x : Finding) : Type 0 where
-  pub stream : on (place_stream x.place)
-  pub from : low ≤ row_of x
-  pub below : row_of x < high
-
--- findings in these rows, no two of one place and side
-pub record AreRows (on : ℕ → Type 0) (low high : ℕ) (xs : List Finding) : Type 0 where
-  pub within : AllByRecursion (IsRow on low high) xs
-  pub apart : StandApart xs
-
-row-wider : (on other : ℕ → Type 0) (low high bottom top : ℕ) → ((stream : ℕ) → on stream → other stream) →
-    bottom ≤ low → high ≤ top →
-    (x : Finding) → IsRow on low high x → IsRow other bottom top x
-row-wider on other low high bottom top f p q x h =
-    let a = h.from in
-    let b = h.below in
-    record { stream = f _ h.stream; from = omega arith; below = omega arith }
-
--- more rows, and streams of a wider sort
-pub rows-wider : (on other : ℕ → Type 0) (low high bottom top : ℕ) → ((stream : ℕ) → on stream → other stream) →
-    bottom ≤ low → high ≤ top →
-    (xs : List Finding) → AreRows on low high xs → AreRows other bottom top xs
-rows-wider on other low high bottom top f p q xs h = record {
-  within =
-      all-map (IsRow on low high) (IsRow other bottom top) (row-wider on other low high bottom top f p q) xs h.within;
-  apart = h.apart;
-}
-
-rows-apart : (on : ℕ → Type 0) (low mid high : ℕ) (x y : Finding) → IsRow on low mid x → IsRow on mid high y →
-    AreApart x y
-rows-apart on low mid high x y p q e s =
+pub rows-apart : (by : Side) (on other : ℕ → Type 0) (low mid high : ℕ) (x y : Finding) →
+    IsRow by on low mid x → IsRow by other mid high y → AreApart x y
+rows-apart by on other low mid high x y p q e s =
     let a = p.below in
     let b = q.from in
     let k : row_of x ≡ row_of y = same-row x y e s in
     absurd (omega arith)
 
-module _ (on : ℕ → Type 0) where
-  pub rows-nil : (low high : ℕ) → AreRows on low high []
-  rows-nil low high = record { within = tt; apart = tt }
+-- ---- findings one after the other
 
-  pub rows-append : (low mid high : ℕ) → low ≤ mid → mid ≤ high → (xs ys : List Finding) →
-      AreRows on low mid xs → AreRows on mid high ys → AreRows on low high (xs ++ ys)
-  rows-append low mid high p q xs ys a b = record {
-    within = all-append (IsRow on low high) xs ys
-        (all-map (IsRow on low mid) (IsRow on low high)
-        (row-wider on on low mid low high (λ s h. h) (omega arith) q) xs a.within)
-        (all-map (IsRow on mid high) (IsRow on low high)
-        (row-wider on on mid high low high (λ s h. h) p (omega arith)) ys b.within);
-    apart = pairs-append AreApart xs ys a.apart b.apart
-        (across-by AreApart (IsRow on low mid) (IsRow on mid high)
-        (rows-apart on low mid high) xs ys a.within b.within);
-  }
+module _ (sender : Side) (on : ℕ → Type 0) where
+  pub rows-wider : (low high bottom top : ℕ) → bottom ≤ low → high ≤ top → (xs : List Finding) →
+      AllByRecursion (IsRow sender on low high) xs → AllByRecursion (IsRow sender on bottom top) xs
+  rows-wider low high bottom top p q =
+      all-map (IsRow sender on low high) (IsRow sender on bottom top)
+      (λ x h. let a = h.from in
+      let b = h.below in
+      record { stream = h.stream; from = omega arith; below = omega arith; error = h.error })
 
-  pub rows-three : (low : ℕ) (a b c : List Finding) → AreRows on low (low + 1) a → AreRows on (low + 1) (low + 2) b →
-      AreRows on (low + 2) (low + 3) c → AreRows on low (low + 3) ((a ++ b) ++ c)
-  rows-three low a b c p q r =
-      rows-append low (low + 2) (low + 3) (omega arith) (omega arith) (a ++ b) c
-      (rows-append low (low + 1) (low + 2) (omega arith) (omega arith) a b p q) r
+  pub rows-nil : (low high : ℕ) → low ≤ high → AreRows sender on low high []
+  rows-nil low high p = record { rising = p; within = tt; apart = tt }
 
-  pub rows-six : (low : ℕ) (a b c d e f : List Finding) → AreRows on low (low + 1) a →
-      AreRows on (low + 1) (low + 2) b →
-      AreRows on (low + 2) (low + 3) c → AreRows on (low + 3) (low + 4) d → AreRows on (low + 4) (low + 5) e →
-      AreRows on (low + 5) (low + 6) f → AreRows on low (low + 6) (((((a ++ b) ++ c) ++ d) ++ e) ++ f)
-  rows-six low a b c d e f p q r s t u =
-      rows-append low (low + 5) (low + 6) (omega arith) (omega arith) _ f
-      (rows-append low (low + 4) (low + 5) (omega arith) (omega arith) _ e
-      (rows-append low (low + 3) (low + 4) (omega arith) (omega arith) _ d (rows-three low a b c p q r) s) t) u
+  pub rows-append : (low mid high : ℕ) (xs ys : List Finding) → AreRows sender on low mid xs →
+      AreRows sender on mid high ys → AreRows sender on low high (xs ++ ys)
+  rows-append low mid high xs ys a b =
+      let p = a.rising in
+      let q = b.rising in
+      record {
+        rising = omega arith;
+        within = all-append (IsRow sender on low high) xs ys
+            (rows-wider low mid low high (omega arith) q xs a.within)
+            (rows-wider mid high low high p (omega arith) ys b.within);
+        apart = pairs-append AreApart xs ys a.apart b.apart
+            (across-by AreApart (IsRow sender on low mid) (IsRow sender on mid high)
+            (rows-apart sender on on low mid high) xs ys a.within b.within);
+      }
 
-  pub rows-say_of : {A : Type 0} (low high : ℕ) (f : A → List Finding) (o : Option A) →
-      ((a : A) → AreRows on low high (f a)) →
-      AreRows on low high (say_of f o)
-  rows-say_of low high f None h = rows-nil low high
-  rows-say_of low high f (Some a) h = h a
+  pub rows-say_of : {A : Type 0} (low high : ℕ) (f : A → List Finding) (o : Option A) → low ≤ high →
+      ((a : A) → AreRows sender on low high (f a)) → AreRows sender on low high (say_of f o)
+  rows-say_of low high f None p h = rows-nil low high p
+  rows-say_of low high f (Some a) p h = h a
 
-  pub rows-choice : (low high : ℕ) (b : Bool) (xs ys : List Finding) → AreRows on low high xs → AreRows on low high ys →
-      AreRows on low high (if b then xs else ys)
+  pub rows-choice : (low high : ℕ) (b : Bool) (xs ys : List Finding) → AreRows sender on low high xs →
+      AreRows sender on low high ys → AreRows sender on low high (if b then xs else ys)
   rows-choice low high true xs ys p q = p
   rows-choice low high false xs ys p q = q
 
--- the one stream
-abbrev pub Only : (stream : ℕ) → ℕ → Type 0
-Only stream other = other ≡ stream
+infixl 20 ◌⊕◌
+pub ◌⊕◌ : {sender : Side} {on : ℕ → Type 0} {low mid high : ℕ} {xs ys : List Finding} →
+    AreRows sender on low mid xs → AreRows sender on mid high ys → AreRows sender on low high (xs ++ ys)
+a ⊕ b = rows-append _ _ _ _ _ _ _ a b
 
--- a row of the table, for the stream that it is said of
-pub rows-say : (kind : Kind) (number stream : ℕ) (side : Side) (value : ℤ) (holds : Bool) (row : ℕ) → stream < 2 ^ 31 →
-    row_at side (rank_of kind) ≡ row →
-    AreRows (Only stream) row (row + 1) (say holds (finding_at kind number stream side value))
-rows-say kind number stream side value false row h e = rows-nil (Only stream) row (row + 1)
-rows-say kind number stream side value true row h e =
-    let k : row_of (finding_at kind number stream side value) ≡ row = row-found kind number stream side value h ∙ e in
-    record {
-      within = (
-        record { stream = stream-place number (rank_of kind) stream h; from = omega arith; below = omega arith },
-        tt,
-      );
-      apart = (tt, tt);
-    }
+-- ---- one finding
 
--- a row that is the same for both endpoints
-pub row-either : (rank row : ℕ) → row_at Client rank ≡ row → row_at Server rank ≡ row → (side : Side) →
-    row_at side rank ≡ row
-row-either rank row p q Client = p
-row-either rank row p q Server = q
+-- does this rank of this endpoint stand in the rows from low up to below high, and may it be an error?
+abbrev pub is_row : (sender side : Side) → (rank low high : ℕ) → Bool
+is_row sender side rank low high =
+    (nat_le low (row_at side rank) && nat_lt (row_at side rank) high)
+    && (nat_lt 12 rank || is_side side (error_side sender rank))
+
+pub same_side : (d e : Side) → is_side d e ≡ true → d ≡ e
+same_side Client Client h = refl
+same_side Server Server h = refl
+same_side _ _ h = cc
+
+error-fits : (side right : Side) (rank : ℕ) → (nat_lt 12 rank || is_side side right) ≡ true → nat_le rank 12 ≡ true
+    → side ≡ right
+error-fits side right rank h e =
+    same_side side right (rw (le-ltb 12 rank (leb-true rank 12 e)) at h)
+
+each-side : (P : Side → Bool) → (P Client && P Server) ≡ true → (d : Side) → P d ≡ true
+each-side P e Client = (and_parts _ _ e).0
+each-side P e Server = (and_parts _ _ e).1
+
+module _ (sender : Side) (on : ℕ → Type 0) (number stream : ℕ) (small : stream < 2 ^ 31) (here : on stream) where
+  -- a finding that stands in these rows, if it is said
+  pub row-say : (kind : Kind) (side : Side) (low high : ℕ) (value : ℤ) (holds : Bool) → low ≤ high →
+      (holds ≡ true → is_row sender side (rank_of kind) low high ≡ true) →
+      AreRows sender on low high (say holds (finding_at kind number stream side value))
+  unfolding row_of
+  row-say kind side low high value false p h = rows-nil sender on low high p
+  row-say kind side low high value true p h =
+      let few = rank-small kind in
+      let rank : place_rank (place_of number (rank_of kind) stream) ≡ rank_of kind = omega arith in
+      let its : place_stream (place_of number (rank_of kind) stream) ≡ stream = omega arith in
+      let test = and_parts _ _ (h refl) in
+      let rows = and_parts _ _ test.0 in
+      let from = leb-true low (row_at side (rank_of kind)) rows.0 in
+      let below = ltb-true (row_at side (rank_of kind)) high rows.1 in
+      record {
+        rising = p;
+        within = (
+          record {
+            stream = subst on (sym its) here;
+            from = subst (λ r. low ≤ row_at side r) (sym rank) from;
+            below = subst (λ r. row_at side r < high) (sym rank) below;
+            error = λ e. error-fits side _ (rank_of kind) test.1 e ∙ ap (error_side sender) (sym rank);
+          },
+          tt,
+        );
+        apart = (tt, tt);
+      }
+
+  -- one that is said of the frame's sender, in the same rows for both endpoints
+  pub told : (kind : Kind) (low high : ℕ) (value : ℤ) (holds : Bool) → nat_le low high ≡ true →
+      (is_row Client Client (rank_of kind) low high && is_row Server Server (rank_of kind) low high) ≡ true →
+      AreRows sender on low high (say holds (finding_at kind number stream sender value))
+  told kind low high value holds p e =
+      row-say kind sender low high value holds (leb-true low high p)
+      (λ _. each-side (λ d. is_row d d (rank_of kind) low high) e sender)
+
+  -- one of an endpoint's window that is no error
+  pub quiet : (row : Side → ℕ → ℕ) (d : Side) (kind : Kind) (low high : ℕ) (value : ℤ) (holds : Bool) →
+      (nat_le (row Client low) (row Client high) && nat_le (row Server low) (row Server high)) ≡ true →
+      (is_row sender Client (rank_of kind) (row Client low) (row Client high)
+      && is_row sender Server (rank_of kind) (row Server low) (row Server high)) ≡ true →
+      AreRows sender on (row d low) (row d high) (say holds (finding_at kind number stream d value))
+  quiet row d kind low high value holds p e =
+      row-say kind d (row d low) (row d high) value holds
+      (leb-true (row d low) (row d high) (each-side (λ s. nat_le (row s low) (row s high)) p d))
+      (λ _. each-side (λ s. is_row sender s (rank_of kind) (row s low) (row s high)) e d)

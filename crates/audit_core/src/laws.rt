@@ -4,6 +4,7 @@ ghost use Rattle.audit_core.specs.laws.Credit.{ConnectionCreditIsSum, StreamCred
 
 /// Every credit that the pass carries is the sum of RFC 9113, 6.9: of each side's connection window, and of each live
 /// window of each stream.
+#[tactic(auto, using(crate::proofs::CreditLemmas::credit_laws))]
 pub fn credit_is_sum()
     ensures connection { ConnectionCreditIsSum }
     ensures stream { StreamCreditIsSum }
@@ -13,6 +14,7 @@ ghost use Rattle.audit_core.specs.laws.LiveWindows.{LiveWindowsAreOpened, LiveWi
 
 /// A live window of a stream is of one that is opened, and that the window's endpoint has not ended: so the law on the
 /// credit of streams speaks of each live window.
+#[tactic(auto, using(crate::proofs::LiveWindows::live_laws))]
 pub fn live_windows_are_opened()
     ensures opened { LiveWindowsAreOpened }
     ensures unended { LiveWindowsAreUnended }
@@ -22,6 +24,7 @@ ghost use Rattle.audit_core.specs.laws.Steps.{StepsJoinFramesAndChanges, Streams
 
 /// The steps of a stream rise in number, and have all of its frames and all changes of the connection, each at its own
 /// number, and nothing else.
+#[tactic(auto, using(crate::proofs::JoinedSteps::steps_join_lem))]
 pub fn steps_join_frames_and_changes()
     ensures joined { StepsJoinFramesAndChanges }
     ensures streams { StreamsHaveSteps }
@@ -30,6 +33,7 @@ pub fn steps_join_frames_and_changes()
 ghost use Rattle.audit_core.specs.laws.Streams.{StreamsAreThoseMet, StreamsAreNamedOnce};
 
 /// The streams that the pass looks at are those other than 0 that its frames meet, each once.
+#[tactic(auto, using(crate::proofs::StreamsMet::streams_met_lem, crate::proofs::StreamsMet::streams_once_lem))]
 pub fn streams_are_those_met()
     ensures met { StreamsAreThoseMet }
     ensures once { StreamsAreNamedOnce }
@@ -40,6 +44,7 @@ ghost use Rattle.audit_core.specs.laws.Parts.{PartsMakeFull};
 /// All findings of a connection's frames are, put in order, the local faults, the unmatched acknowledgements, the
 /// findings of each stream alone and those of each block of frames, however the streams are grouped and the frames cut
 /// into blocks.
+#[tactic(auto, using(crate::proofs::PartsLemmas::parts_make_full_lem))]
 pub fn parts_make_full()
     ensures { PartsMakeFull }
 {}
@@ -48,6 +53,7 @@ ghost use Rattle.audit_core.specs.laws.Stop.{KeptUptoFirstStop, FindingsStandInO
 
 /// What the pass keeps is a front of all findings, in which nothing but its last is an error of the connection; and all
 /// findings stand in order, so that this error is the least.
+#[tactic(auto, using(crate::proofs::StopLemmas::stop_laws))]
 pub fn findings_end_at_first_stop()
     ensures kept { KeptUptoFirstStop }
     ensures in_order { FindingsStandInOrder }
@@ -57,6 +63,7 @@ ghost use Rattle.audit_core.specs.laws.Apart.{FindingsStandApart, ErrorsStandAlo
 
 /// No two of all findings of a connection share place and side: at each place at most one thing is said of an endpoint.
 /// Errors of the connection do not even share a place.
+#[tactic(auto, using(crate::proofs::Apart::findings_stand_apart, crate::proofs::Apart::errors_stand_alone))]
 pub fn findings_stand_apart()
     ensures apart { FindingsStandApart }
     ensures errors { ErrorsStandAlone }

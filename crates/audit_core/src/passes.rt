@@ -1,5 +1,6 @@
-ghost use Rattle.std.specs.Prelude.{◌≡◌, ◌==◌, IfOk};
+ghost use Rattle.std.specs.Prelude.{◌≡◌, ◌==◌, ◌&&◌, is_none, IfOk};
 ghost use Rattle.std.specs.List.{find};
+ghost use Rattle.audit_terms.specs.Frame.{is_ack};
 ghost use Rattle.audit_terms.specs.code.runs.Orderly.{IsOrderly};
 ghost use Rattle.audit_terms.specs.Pass.{pass};
 
@@ -35,7 +36,7 @@ pub fn one_pass(alloc: Global, frames: &[Frame]) -> Result<Vec<Finding>, AllocEr
         let change = change_at(&pairs.changes, frame.number);
         let kind = Kind::UnmatchedAck;
         let ack = Finding::at(kind, frame.number, frame.stream, frame.side, 0);
-        say_if(&mut said, frame.body.is_ack() && change.is_none(), ack)?;
+        say_if(&mut said, is_unmatched(frame, &change), ack)?;
         let item = Item {
             frame: *frame,
             opens: opens(&rows, frame),
@@ -50,6 +51,16 @@ pub fn one_pass(alloc: Global, frames: &[Frame]) -> Result<Vec<Finding>, AllocEr
     }
     cut_at_stop(&mut found);
     Ok(found)
+}
+
+/// Is it an acknowledgement that brings no change?
+fn is_unmatched(frame: &Frame, change: &Option<Change>) -> bool
+    ensures { result ≡ (is_ack frame.now.body && is_none change.now) }
+{
+    match change {
+        Some(_) => false,
+        None => frame.body.is_ack(),
+    }
 }
 
 /// The change of this number.

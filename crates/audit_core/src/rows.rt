@@ -14,28 +14,39 @@ pub struct StreamRow {
     pub entry: Stream,
 }
 
-/// Each stream other than 0 that meets one of the frames, in order of its first frame, not opened yet.
+/// A row for each stream other than 0 that meets one of the frames, in order of its first frame, not opened yet.
 pub fn idle_rows(alloc: Global, frames: &[Frame]) -> Result<Vec<StreamRow>, AllocError>
     ensures { IfOk result (λ rows. rows.items ≡ idle_rows (streams_of frames.now)) }
+{
+    let mut rows = Vec::new(alloc);
+    for stream in &streams_of(alloc, frames)? {
+        let entry = Stream::idle();
+        let stream = *stream;
+        rows.push(StreamRow { stream, entry })?;
+    }
+    Ok(rows)
+}
+
+/// Each stream other than 0 that meets one of the frames, in order of its first frame.
+fn streams_of(alloc: Global, frames: &[Frame]) -> Result<Vec<u32>, AllocError>
+    ensures { IfOk result (λ streams. streams.items ≡ streams_of frames.now) }
 {
     let Some((frame, later)) = frames.split_first() else {
         return Ok(Vec::new(alloc));
     };
-    let mut rows = idle_rows(alloc, later)?;
-    put_first(&mut rows, frame.promised_by())?;
-    put_first(&mut rows, frame.stream)?;
-    Ok(rows)
+    let mut streams = streams_of(alloc, later)?;
+    put_first(&mut streams, frame.promised_by())?;
+    put_first(&mut streams, frame.stream)?;
+    Ok(streams)
 }
 
-/// Puts a stream that is not opened before the others, unless it is 0.
-fn put_first(rows: &mut Vec<StreamRow>, stream: u32) -> Result<(), AllocError>
-    ensures { OnOk result ((streams : List ℕ) → rows.old.items ≡ idle_rows streams
-        → rows.new.items ≡ idle_rows (first_of stream streams)) }
+/// Puts a stream before the others, unless it is 0.
+fn put_first(streams: &mut Vec<u32>, stream: u32) -> Result<(), AllocError>
+    ensures { OnOk result (streams.new.items ≡ first_of stream streams.old.items) }
 {
     if stream != 0 {
-        rows.retain(|row| row.stream != stream);
-        let entry = Stream::idle();
-        rows.insert(0, StreamRow { stream, entry })?;
+        streams.retain(|other| *other != stream);
+        streams.insert(0, stream)?;
     }
     Ok(())
 }

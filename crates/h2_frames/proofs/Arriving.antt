@@ -1,16 +1,7 @@
 -- Going on in a flow's arrivals.
-use Rattle.std.proofs.Common.{◌≡◌, ℕ, ◌+◌, ◌-◌, ◌^◌, ◌<◌, ◌≤◌, Bool, true, false, cond, List, [], ◌∷◌, length, get_or}
-use Rattle.std.proofs.Common.{refl, ap₂, arith}
-use Rattle.std.specs.Prelude.{nat_lt}
-use Rattle.std.specs.List.{AllByRecursion}
-use Rattle.std.proofs.lemmas.Bool.Decides.{nat_tests}
-use Rattle.tcp_streams.specs.declared.streams.Arrival.{Arrival}
-use Rattle.tcp_streams.specs.Arrivals.{Rises}
-use Rattle.audit_terms.specs.declared.sides.Side.{Side}
-use Rattle.audit_terms.specs.declared.frames.Frame.{Frame}
-use Rattle.h2_frames.specs.declared.spelling.Spelled.{Spelled}
-use Rattle.h2_frames.specs.CaptureOrder.{byte_arrival, captured, captured_from}
-use Rattle.h2_frames.specs.code.Steps.{arrivals_from}
+use Rattle.std.proofs.Common.{◌≡◌, ℕ, ◌+◌, ◌-◌, ◌^◌, ◌<◌, ◌≤◌, false, List, [], ◌∷◌, length, get_or, refl, ap₂, arith}
+use Rattle.h2_frames.proofs.Words.{nat_lt, AllByRecursion, nat_tests, Arrival, Rises, Side, Frame, Spelled}
+use Rattle.h2_frames.proofs.Words.{byte_arrival, captured, captured_from, arrivals_from, cond_both}
 
 below_later : (m n k : ℕ) → nat_lt m k ≡ false → m ≤ n → nat_lt n k ≡ false
 below_later m n k e h = grind (arith, nat_tests)
@@ -22,12 +13,9 @@ past m k e = grind (arith, nat_tests)
 byte_arrival-from : (o p : ℕ) (arrivals : List Arrival) → o ≤ p → byte_arrival (arrivals_from o arrivals) p
     ≡ byte_arrival arrivals p
 byte_arrival-from o p [] h = refl
-byte_arrival-from o p (a ∷ later) h = by (nat_lt o a.upto) refl (byte_arrival-from o p later h)
-  where
-    by : (test : Bool) → nat_lt o a.upto ≡ test → byte_arrival (arrivals_from o later) p ≡ byte_arrival later p →
-        byte_arrival (cond test (a ∷ later) (arrivals_from o later)) p ≡ byte_arrival (a ∷ later) p
-    by true e same = refl
-    by false e same = let over = below_later o p a.upto e h in rw over same
+byte_arrival-from o p (a ∷ later) h =
+    cond_both (nat_lt o a.upto) _ _ (λ xs. byte_arrival xs p ≡ byte_arrival (a ∷ later) p) (λ e. refl)
+    (λ e. let over = below_later o p a.upto e h in rw over (byte_arrival-from o p later h))
 
 -- so do later frames
 pub captured_from-from : (side : Side) (arrivals : List Arrival) (o number offset : ℕ) (spelled : List Spelled)
@@ -45,14 +33,9 @@ captured_from-from side arrivals o number offset (s ∷ later) h =
 pub get_or-arrivals_from : (o : ℕ) (arrivals : List Arrival) (d : Arrival) → 0 < length (arrivals_from o arrivals) →
     get_or (arrivals_from o arrivals) 0 d ≡ byte_arrival arrivals o
 get_or-arrivals_from o [] d h = absurd (omega arith)
-get_or-arrivals_from o (a ∷ later) d h = by (nat_lt o a.upto) refl (get_or-arrivals_from o later d) h
-  where
-    by : (test : Bool) → nat_lt o a.upto ≡ test →
-        (0 < length (arrivals_from o later) → get_or (arrivals_from o later) 0 d ≡ byte_arrival later o) →
-        0 < length (cond test (a ∷ later) (arrivals_from o later)) →
-        get_or (cond test (a ∷ later) (arrivals_from o later)) 0 d ≡ byte_arrival (a ∷ later) o
-    by true e rest h = rw e refl
-    by false e rest h = rw e (rest h)
+get_or-arrivals_from o (a ∷ later) d h =
+    cond_both (nat_lt o a.upto) _ _ (λ xs. 0 < length xs → get_or xs 0 d ≡ byte_arrival (a ∷ later) o)
+    (λ e k. rw e refl) (λ e k. rw e (get_or-arrivals_from o later d k)) h
 
 -- each byte of the flow arrives
 pub arrivals_from-not_empty : (low rec high o : ℕ) (arrivals : List Arrival) → Rises low rec arrivals high → low ≤ o
@@ -60,12 +43,8 @@ pub arrivals_from-not_empty : (low rec high o : ℕ) (arrivals : List Arrival) �
     0 < length (arrivals_from o arrivals)
 arrivals_from-not_empty low rec high o [] rises h k = absurd (omega arith)
 arrivals_from-not_empty low rec high o (a ∷ later) rises h k =
-    by (nat_lt o a.upto) refl (λ over. arrivals_from-not_empty a.upto a.rec high o later rises.2 over k)
-  where
-    by : (test : Bool) → nat_lt o a.upto ≡ test → (a.upto ≤ o → 0 < length (arrivals_from o later)) →
-        0 < length (cond test (a ∷ later) (arrivals_from o later))
-    by true e rest = omega arith
-    by false e rest = rest (past o a.upto e)
+    cond_both (nat_lt o a.upto) _ _ (λ xs. 0 < length xs) (λ e. omega arith)
+    (λ e. arrivals_from-not_empty a.upto a.rec high o later rises.2 (past o a.upto e) k)
 
 -- the arrivals from a byte on rise too, from that byte or from before it
 abbrev pub RiseFrom : (o : ℕ) → List Arrival → (high : ℕ) → Type 0
@@ -75,24 +54,17 @@ pub arrivals_from-rise : (low rec high o : ℕ) (arrivals : List Arrival) → Ri
     RiseFrom o (arrivals_from o arrivals) high
 arrivals_from-rise low rec high o [] rises h = (low, rec, h, rises)
 arrivals_from-rise low rec high o (a ∷ later) rises h =
-    by (nat_lt o a.upto) refl (λ over. arrivals_from-rise a.upto a.rec high o later rises.2 over)
-  where
-    by : (test : Bool) → nat_lt o a.upto ≡ test → (a.upto ≤ o → RiseFrom o (arrivals_from o later) high) →
-        RiseFrom o (cond test (a ∷ later) (arrivals_from o later)) high
-    by true e rest = (low, rec, h, rises)
-    by false e rest = rest (past o a.upto e)
+    cond_both (nat_lt o a.upto) _ _ (λ xs. RiseFrom o xs high) (λ e. (low, rec, h, rises))
+    (λ e. arrivals_from-rise a.upto a.rec high o later rises.2 (past o a.upto e))
 
 -- and come at times of the capture
 pub arrivals_from-timely : (o : ℕ) (arrivals : List Arrival)
     → AllByRecursion (λ (a : Arrival). a.nanos < 2 ^ 63) arrivals →
     AllByRecursion (λ (a : Arrival). a.nanos < 2 ^ 63) (arrivals_from o arrivals)
 arrivals_from-timely o [] all = all
-arrivals_from-timely o (a ∷ later) all = by (nat_lt o a.upto) (arrivals_from-timely o later all.1)
-  where
-    by : (test : Bool) → AllByRecursion (λ (x : Arrival). x.nanos < 2 ^ 63) (arrivals_from o later) →
-        AllByRecursion (λ (x : Arrival). x.nanos < 2 ^ 63) (cond test (a ∷ later) (arrivals_from o later))
-    by true rest = all
-    by false rest = rest
+arrivals_from-timely o (a ∷ later) all =
+    cond_both (nat_lt o a.upto) _ _ (AllByRecursion (λ (x : Arrival). x.nanos < 2 ^ 63)) (λ e. all)
+    (λ e. arrivals_from-timely o later all.1)
 
 pub first_timely : (arrivals : List Arrival) (d : Arrival)
     → AllByRecursion (λ (a : Arrival). a.nanos < 2 ^ 63) arrivals →

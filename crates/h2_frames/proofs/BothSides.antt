@@ -1,15 +1,7 @@
 -- The frames of both sides make an HTTP/2 connection's cut.
 use Rattle.std.proofs.Common.{◌≡◌, ℕ, ◌+◌, List, length, refl, ap, ap₂, ◌∙◌, arith, length-append}
-use Rattle.tcp_streams.specs.declared.streams.Flow.{Flow}
-use Rattle.tcp_streams.specs.Bytes.{bytes_of}
-use Rattle.tcp_streams.specs.code.Orderly.{IsOrderly}
-use Rattle.audit_terms.specs.declared.sides.Side.TheVariants.{Client, Server}
-use Rattle.audit_terms.specs.declared.frames.Frame.{Frame}
-use Rattle.h2_frames.specs.CaptureOrder.{numbered}
-use Rattle.h2_frames.specs.Preface.{preface, BeginsWithPreface}
-use Rattle.h2_frames.specs.Cut.{IsHttp2}
-use Rattle.h2_frames.specs.code.Merge.{merged}
-use Rattle.h2_frames.specs.code.Unread.{AreAhead}
+use Rattle.h2_frames.proofs.Words.{Flow, bytes_of, IsOrderly, Client, Server, Frame, numbered, preface}
+use Rattle.h2_frames.proofs.Words.{BeginsWithPreface, IsHttp2, merged, AreAhead}
 use Rattle.h2_frames.proofs.Merging.{captured-in_order, merged-capture_order}
 
 pub http2-is : (client server : Flow) (rest : List ℕ) (sent answered all : List Frame)

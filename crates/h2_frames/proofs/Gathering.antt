@@ -3,8 +3,8 @@ use Rattle.std.proofs.Common.{◌≡◌, ℕ, zero, suc, ◌+◌, ◌-◌, ◌<�
 use Rattle.std.proofs.Common.{refl, ap, sym, ◌∙◌, arith, append_assoc, add-one, length-append, length-drop, drop-cons}
 use Rattle.std.proofs.Math.Seq.{take-length}
 use Rattle.std.specs.Borrow.{Bor}
-use Rattle.h2_frames.specs.declared.pieces.Pieces.{Pieces}
-use Rattle.h2_frames.specs.code.Pieces.{bytes_of, joined, IsCounted}
+use Rattle.h2_frames.proofs.Words.{Pieces, joined, IsCounted}
+use Rattle.h2_frames.specs.code.Pieces.{bytes_of}
 
 none_before : (xs ys : List ℕ) → length xs ≡ 0 → xs ++ ys ≡ ys
 none_before [] ys h = refl
@@ -63,3 +63,7 @@ partly_taken-turn count wanted old now next part taken part_is fits counted =
       counted = counted;
       there = omega arith;
     }
+
+pub ruleset piece_lengths = (length-from, joined-over)
+
+pub ruleset part_turns = (partly_taken-turn, gone_on)

@@ -1,3 +1,4 @@
+mod Words
 pub mod SettingsRead
 pub mod SettingsRanges
 pub mod Arriving

@@ -1,18 +1,10 @@
 -- Frames that stand in order are merged into order.
-use Rattle.std.proofs.Common.{◌≡◌, ℕ, ◌+◌, ◌-◌, ◌<◌, ◌≤◌, Bool, true, false, cond, List, [], ◌∷◌, ◌++◌}
-use Rattle.std.proofs.Common.{length, refl, ap, sym, ◌∙◌, arith, length-append}
-use Rattle.std.specs.Prelude.{nat_lt, ◌==◌, ◌&&◌, ◌||◌}
-use Rattle.std.proofs.lemmas.Bool.Decides.{nat_tests}
-use Rattle.tcp_streams.specs.declared.streams.Arrival.{Arrival}
-use Rattle.tcp_streams.specs.Arrivals.{Rises}
-use Rattle.audit_terms.specs.declared.sides.Side.{Side}
-use Rattle.audit_terms.specs.declared.frames.Frame.{Frame}
-use Rattle.audit_terms.specs.Order.{put_by, ordered_by}
-use Rattle.audit_terms.specs.Side.{side_order}
-use Rattle.h2_frames.specs.code.Merge.{merged, merged_with}
-use Rattle.h2_frames.specs.declared.spelling.Spelled.{Spelled}
-use Rattle.h2_frames.specs.Spelling.{Spells}
-use Rattle.h2_frames.specs.CaptureOrder.{byte_arrival, captured, captured_from, comes_after, numbered, capture_order}
+use Rattle.std.proofs.Common.{◌≡◌, ℕ, ◌+◌, ◌-◌, ◌<◌, ◌≤◌, Bool, true, false, cond, List, [], ◌∷◌, ◌++◌, length, refl}
+use Rattle.std.proofs.Common.{ap, sym, ◌∙◌, arith, length-append}
+use Rattle.std.specs.Prelude.{◌&&◌, ◌||◌}
+use Rattle.h2_frames.proofs.Words.{nat_lt, ◌==◌, nat_tests, Arrival, Rises, Side, Frame, put_by, ordered_by, side_order}
+use Rattle.h2_frames.proofs.Words.{merged, merged_with, Spelled, Spells, byte_arrival, captured, captured_from}
+use Rattle.h2_frames.proofs.Words.{comes_after, numbered, capture_order, ltb-false, cond_both, ltb-true}
 
 -- comes_after, on the three numbers
 is_above : (a b c x y z : ℕ) → Bool
@@ -64,20 +56,13 @@ put-merge x [] (y ∷ ys) h = by (comes_after x y) (put-merge x [] ys h)
         cond test (y ∷ put_by comes_after x ys) (x ∷ y ∷ ys) ≡ cond test (y ∷ merged_with x (λ zs. zs) ys) (x ∷ y ∷ ys)
     by true rest = ap (λ (zs : List Frame). y ∷ zs) rest
     by false rest = refl
-put-merge x (c ∷ xs) (y ∷ ys) h = by (comes_after x y) refl (put-merge x (c ∷ xs) ys h)
-  where
-    by : (test : Bool) → comes_after x y ≡ test →
-        put_by comes_after x (merged (c ∷ xs) ys) ≡ merged (x ∷ c ∷ xs) ys →
-        put_by comes_after x (merged (c ∷ xs) (y ∷ ys)) ≡ cond test (y ∷ merged (x ∷ c ∷ xs) ys)
-        (x ∷ merged (c ∷ xs) (y ∷ ys))
-    by true e rest = let past = after_trans x c y h.0 e in rw (past, e) (ap (λ (zs : List Frame). y ∷ zs) rest)
-    by false e rest = both (comes_after c y)
-      where
-        both : (test : Bool) →
-            put_by comes_after x (cond test (y ∷ merged_with c (merged xs) ys) (c ∷ merged xs (y ∷ ys)))
-            ≡ x ∷ cond test (y ∷ merged_with c (merged xs) ys) (c ∷ merged xs (y ∷ ys))
-        both true = rw e refl
-        both false = let first = h.0 in rw first refl
+put-merge x (c ∷ xs) (y ∷ ys) h =
+    cond_both (comes_after x y) _ _ (λ zs. put_by comes_after x (merged (c ∷ xs) (y ∷ ys)) ≡ zs)
+    (λ e. let past = after_trans x c y h.0 e in
+    rw (past, e) (ap (λ (zs : List Frame). y ∷ zs) (put-merge x (c ∷ xs) ys h)))
+    (λ e. let first = h.0 in
+    cond_both (comes_after c y) (y ∷ merged (c ∷ xs) ys) (c ∷ merged xs (y ∷ ys))
+    (λ zs. put_by comes_after x zs ≡ x ∷ zs) (λ f. rw e refl) (λ f. rw first refl))
 
 -- merging puts the frames of both sides in order
 pub ordered-merge : (xs ys : List Frame) → IsAscending xs → IsAscending ys →
@@ -87,38 +72,33 @@ ordered-merge (x ∷ xs) ys h k =
     let rest = ordered-merge xs ys (rest_ascending x xs h) k in
     ap (put_by comes_after x) rest ∙ put-merge x xs ys h
 
+-- a byte arrives with the first arrival or with a later one
+arrival-cases : (P : Arrival → Type 0) (o : ℕ) (a : Arrival) (later : List Arrival) → (o < a.upto → P a)
+    → (a.upto ≤ o → P (byte_arrival later o)) → P (byte_arrival (a ∷ later) o)
+arrival-cases P o a later here there = by (nat_lt o a.upto) refl where
+  by : (test : Bool) → nat_lt o a.upto ≡ test → P (byte_arrival (a ∷ later) o)
+  by true e = rw e (here (ltb-true o a.upto e))
+  by false e = rw e (there (ltb-false o a.upto e))
+
 -- bytes arrive at later and later records
 rec_above : (low rec high o : ℕ) (arrivals : List Arrival) → Rises low rec arrivals high → low ≤ o → o < high →
     rec ≤ (byte_arrival arrivals o).rec
 rec_above low rec high o [] rises h k = absurd (omega arith)
 rec_above low rec high o (a ∷ later) rises h k =
-    by (nat_lt o a.upto) refl (λ past. rec_above a.upto a.rec high o later rises.2 past k)
-  where
-    by : (test : Bool) → nat_lt o a.upto ≡ test → (a.upto ≤ o → a.rec ≤ (byte_arrival later o).rec)
-        → rec ≤ (byte_arrival (a ∷ later) o).rec
-    by true e rest = let above : rec < a.rec = rises.1 in rw e (omega arith)
-    by false e rest =
-        let above : rec < a.rec = rises.1 in
-        let past : a.rec ≤ (byte_arrival later o).rec = rest (grind (arith, nat_tests)) in
-        rw e (omega arith)
+    let above : rec < a.rec = rises.1 in
+    arrival-cases (λ x. rec ≤ x.rec) o a later (λ e. omega arith)
+    (λ e. let rest = rec_above a.upto a.rec high o later rises.2 e k in omega arith)
 
 pub rec_rises : (low rec high o p : ℕ) (arrivals : List Arrival) → Rises low rec arrivals high → low ≤ o → o ≤ p
     → p < high →
     (byte_arrival arrivals o).rec ≤ (byte_arrival arrivals p).rec
 rec_rises low rec high o p [] rises h k l = absurd (omega arith)
 rec_rises low rec high o p (a ∷ later) rises h k l =
-    by (nat_lt o a.upto) (nat_lt p a.upto) refl refl
-    (λ past. rec_above a.upto a.rec high p later rises.2 past l)
-    (λ past. rec_rises a.upto a.rec high o p later rises.2 past k l)
-  where
-    by : (first second : Bool) → nat_lt o a.upto ≡ first → nat_lt p a.upto ≡ second →
-        (a.upto ≤ p → a.rec ≤ (byte_arrival later p).rec) →
-        (a.upto ≤ o → (byte_arrival later o).rec ≤ (byte_arrival later p).rec) →
-        (byte_arrival (a ∷ later) o).rec ≤ (byte_arrival (a ∷ later) p).rec
-    by true true e f above rest = rw (e, f) (omega arith)
-    by true false e f above rest = rw (e, f) (above (grind (arith, nat_tests)))
-    by false true e f above rest = absurd (grind (arith, nat_tests))
-    by false false e f above rest = rw (e, f) (rest (grind (arith, nat_tests)))
+    arrival-cases (λ x. (byte_arrival (a ∷ later) o).rec ≤ x.rec) p a later
+    (λ f. arrival-cases (λ x. x.rec ≤ a.rec) o a later (λ e. omega arith) (λ e. absurd (omega arith)))
+    (λ past. arrival-cases (λ x. x.rec ≤ (byte_arrival later p).rec) o a later
+    (λ e. rec_above a.upto a.rec high p later rises.2 past l)
+    (λ e. rec_rises a.upto a.rec high o p later rises.2 e k l))
 
 later_number : (x y : Frame) → x.number < y.number → x.rec ≤ y.rec → comes_after x y ≡ false
 later_number x y h k = grind (arith, nat_tests)
@@ -151,15 +131,8 @@ pub captured-in_order : (side : Side) (arrivals : List Arrival) (high : ℕ) →
     IsAscending (captured_from side arrivals 1 offset spelled)
 captured-in_order side arrivals high rises offset [] bytes tail spells within = tt
 captured-in_order side arrivals high rises offset (s ∷ later) bytes tail spells within =
-    let header = spells.0 in let payload = spells.1 in let rest = spells.2 in
-    let makes = spells.4 in
-    let size : length bytes ≡ (length header + length payload) + length rest = simp length-append at
-    (ap length spells.3) in
-    let nine : length header ≡ 9 = makes.nine in
-    let whole : length payload ≡ s.header.length = makes.whole in
-    let upto = offset + (9 + s.header.length) in
-    captured-ascending side arrivals high rises 2 upto later rest tail spells.5 (omega arith)
-    (captured side 1 (byte_arrival arrivals (upto - 1)) s) (upto - 1) (omega arith) (omega arith) refl
+    (captured-ascending side arrivals high rises 1 offset (s ∷ later) bytes tail spells within
+    (captured side 0 (byte_arrival arrivals 0) s) 0 (omega arith) (omega arith) refl).1
 
 -- merged and numbered, they are the frames in capture order
 pub merged-capture_order : (client server : List Frame) → IsAscending client → IsAscending server →

@@ -1,18 +1,10 @@
 -- One frame is read of what is ahead.
 use Rattle.std.proofs.Common.{◌≡◌, ℕ, ◌+◌, ◌-◌, ◌^◌, ◌<◌, ◌≤◌, List, ◌∷◌, ◌++◌, length, get_or, ap, ap₂, ◌∙◌, arith}
 use Rattle.std.proofs.Common.{length-append}
-use Rattle.std.specs.List.{AllByRecursion}
-use Rattle.tcp_streams.specs.declared.streams.Arrival.{Arrival}
-use Rattle.audit_terms.specs.declared.sides.Side.{Side}
-use Rattle.audit_terms.specs.declared.frames.Frame.{Frame}
-use Rattle.audit_terms.specs.Frame.{promised_in}
-use Rattle.h2_frames.specs.declared.spelling.Spelled.{Spelled}
-use Rattle.h2_frames.specs.declared.unread.Unread.{Unread}
-use Rattle.h2_frames.specs.Spelling.{Makes}
-use Rattle.h2_frames.specs.CaptureOrder.{byte_arrival, captured, captured_from}
-use Rattle.h2_frames.specs.code.Pieces.{bytes_of, IsCounted}
-use Rattle.h2_frames.specs.code.Steps.{arrivals_from, IsReadable}
-use Rattle.h2_frames.specs.code.Unread.{AreAhead, IsPlaced}
+use Rattle.h2_frames.proofs.Words.{AllByRecursion, Arrival, Side, Frame, promised_in, Spelled, Unread, Makes}
+use Rattle.h2_frames.proofs.Words.{byte_arrival, captured, captured_from, IsCounted, arrivals_from, IsReadable}
+use Rattle.h2_frames.proofs.Words.{AreAhead, IsPlaced}
+use Rattle.h2_frames.specs.code.Pieces.{bytes_of}
 use Rattle.h2_frames.proofs.Arriving.{captured_from-from, get_or-arrivals_from, arrivals_from-not_empty}
 use Rattle.h2_frames.proofs.Arriving.{arrivals_from-rise, arrivals_from-timely, first_timely}
 

@@ -1,12 +1,10 @@
 -- Reading the settings of a payload one after the other.
-use Rattle.std.proofs.Common.{◌≡◌, ℕ, ◌≤◌, ◌+◌, Bool, true, false, cond, not, ◌&&◌, List, [], ◌∷◌, length, take, drop}
+use Rattle.std.proofs.Common.{◌≡◌, ℕ, ◌≤◌, ◌+◌, Bool, true, false, cond, not, ◌&&◌, List, ◌∷◌, length, take, drop}
 use Rattle.std.proofs.Common.{Option, None, Some, refl, ap, arith, sym, ◌∙◌}
-use Rattle.std.specs.Prelude.{option_map, find, is_none, if◌then◌else◌, ◌==◌}
+use Rattle.std.specs.Prelude.{option_map, find, is_none, if◌then◌else◌}
 use Rattle.std.specs.Option.{option_or}
-use Rattle.audit_terms.specs.declared.settings.Settings.{Settings}
-use Rattle.h2_frames.specs.declared.settings.Setting.{Setting}
-use Rattle.h2_frames.specs.Settings.{setting_at, settings_in, is_in_range, last_value, first_bad}
-use Rattle.h2_frames.specs.code.Steps.{with_setting}
+use Rattle.h2_frames.proofs.Words.{◌==◌, Settings, Setting, setting_at, settings_in, is_in_range, last_value, first_bad}
+use Rattle.h2_frames.proofs.Words.{with_setting}
 
 -- the settings so far, with later ones put over them
 abbrev pub with_later : Settings → List Setting → Settings
@@ -63,12 +61,7 @@ with_later-step settings s later =
 pub settings_in-step : (payload : List ℕ) → 6 ≤ length payload →
     settings_in payload ≡ setting_at (take 6 payload) ∷ settings_in (drop 6 payload)
 settings_in-step (a ∷ b ∷ c ∷ d ∷ e ∷ f ∷ later) h = refl
-settings_in-step [] h = absurd (omega arith)
-settings_in-step (a ∷ []) h = absurd (omega arith)
-settings_in-step (a ∷ b ∷ []) h = absurd (omega arith)
-settings_in-step (a ∷ b ∷ c ∷ []) h = absurd (omega arith)
-settings_in-step (a ∷ b ∷ c ∷ d ∷ []) h = absurd (omega arith)
-settings_in-step (a ∷ b ∷ c ∷ d ∷ e ∷ []) h = absurd (omega arith)
+settings_in-step _ h = absurd (omega arith)
 
 -- one turn of the loop over a payload
 pub with_later-turn : (settings new : Settings) (s : Setting) (rest pair later : List ℕ) →
@@ -85,3 +78,5 @@ with_later-turn settings new s rest pair later pair_is later_is size s_is new_is
     ap (λ (n : Settings). with_later n (settings_in later)) new_is
     ∙ with_later-step settings s (settings_in later)
     ∙ ap (with_later settings) begins
+
+pub ruleset later_turns = (with_later-turn)

@@ -1,12 +1,8 @@
 -- The first frame of both sides is taken.
 use Rattle.std.proofs.Common.{◌≡◌, ℕ, true, false, List, [], ◌∷◌, refl, ap, sym, ◌∙◌, true≢false}
-use Rattle.audit_terms.specs.declared.frames.Frame.{Frame}
-use Rattle.h2_frames.specs.declared.unread.Next.{Next}
-use Rattle.h2_frames.specs.declared.unread.Next.TheVariants.{Over, Read, Unread as ToRead}
-use Rattle.h2_frames.specs.declared.unread.Unread.{Unread}
-use Rattle.h2_frames.specs.code.Merge.{is_server_first, merged}
+use Rattle.h2_frames.proofs.Words.{Frame, Next, Over, Read, ToRead, Unread, is_server_first, merged, AreLeft}
+use Rattle.h2_frames.proofs.Words.{AreLeftAfter, AreMerged, IsKnown, IsNext, IsReady}
 use Rattle.h2_frames.specs.code.Pieces.{bytes_of}
-use Rattle.h2_frames.specs.code.Unread.{AreLeft, AreLeftAfter, AreMerged, IsKnown, IsNext, IsReady}
 
 client_first : (f : Frame) (next : Next) (server : Unread) (xs ys : List Frame) (tail : List ℕ) → IsKnown next →
     is_server_first (Read f) next ≡ false → AreLeftAfter next server ys tail → f ∷ merged xs ys ≡ merged (f ∷ xs) ys

@@ -1,29 +1,14 @@
 -- Bytes have one spelling, flows one cut.
-use Rattle.std.specs.Prelude.{Result, Ok, Err, IfOk}
-use Rattle.std.specs.declared.alloc.AllocError.{AllocError}
-use Rattle.h2_frames.specs.declared.connections.Cut.{Cut}
-use Rattle.std.proofs.Common.{◌≡◌, ℕ, ◌+◌, ◌<◌, List, [], ◌∷◌, ◌++◌, length, take, drop, refl, ap, ap₂, sym, ◌∙◌, subst}
+use Rattle.std.proofs.Common.{◌≡◌, ℕ, ◌+◌, ◌<◌, List, [], ◌∷◌, ◌++◌, length, take, drop, refl, ap, sym, ◌∙◌, subst}
 use Rattle.std.proofs.Common.{arith, length-append, append_assoc, inl, inr}
+use Rattle.std.specs.Prelude.{IfOk}
+use Rattle.std.specs.declared.alloc.AllocError.{AllocError}
 use Rattle.std.proofs.lemmas.Bool.{false≢true}
 use Rattle.std.proofs.lemmas.List.{append_cancel_left, take_at, drop_at}
-use Rattle.tcp_streams.specs.declared.streams.Arrival.{Arrival}
-use Rattle.tcp_streams.specs.declared.streams.Flow.{Flow}
-use Rattle.tcp_streams.specs.Bytes.{bytes_of}
-use Rattle.audit_terms.specs.declared.frames.Body.{Body}
-use Rattle.audit_terms.specs.declared.frames.Frame.{Frame}
-use Rattle.audit_terms.specs.declared.sides.Side.TheVariants.{Client, Server}
-use Rattle.audit_terms.specs.declared.sides.Sides.{Sides}
-use Rattle.h2_frames.specs.declared.connections.Cut.TheVariants.{Http2, NotHttp2, NoPreface, NoHandshake}
-use Rattle.h2_frames.specs.declared.headers.Header.{Header}
-use Rattle.h2_frames.specs.declared.spelling.Spelled.{Spelled}
-use Rattle.h2_frames.specs.Header.{header_of}
-use Rattle.h2_frames.specs.Body.{body_of}
-use Rattle.h2_frames.specs.Spelling.{HoldsNoFrame, Makes, Spells}
-use Rattle.h2_frames.specs.CaptureOrder.{captured_from, capture_order}
-use Rattle.h2_frames.specs.Preface.{preface, IsPrefaceCutShort, BeginsWithPreface}
-use Rattle.h2_frames.specs.Cut.{IsCut, IsHttp2}
-use Rattle.h2_frames.specs.laws.Unique.{SpellingIsUnique, IsSameFlow, CutIsUnique}
-use Rattle.h2_frames.specs.code.SameCut.{IsSameCut}
+use Rattle.h2_frames.proofs.Words.{Result, Ok, Err, Cut, Flow, Body, Frame, Sides, Http2, NotHttp2, NoPreface}
+use Rattle.h2_frames.proofs.Words.{NoHandshake, Header, Spelled, header_of, body_of, HoldsNoFrame, Makes, Spells}
+use Rattle.h2_frames.proofs.Words.{preface, IsPrefaceCutShort, BeginsWithPreface, IsCut, IsHttp2, SpellingIsUnique}
+use Rattle.h2_frames.proofs.Words.{IsSameFlow, CutIsUnique, IsSameCut}
 
 -- two fronts of one length are one front, and so are the rests
 same_parts : (a b x y : List ℕ) → a ++ x ≡ b ++ y → length a ≡ length b → (a ≡ b) × (x ≡ y)
@@ -34,17 +19,8 @@ same_parts a b x y e h = (
 
 -- a header is read from its own nine bytes, whatever follows
 header_of-append : (header later : List ℕ) → length header ≡ 9 → header_of (header ++ later) ≡ header_of header
-header_of-append [] later nine = absurd (omega arith)
-header_of-append (a ∷ []) later nine = absurd (omega arith)
-header_of-append (a ∷ b ∷ []) later nine = absurd (omega arith)
-header_of-append (a ∷ b ∷ c ∷ []) later nine = absurd (omega arith)
-header_of-append (a ∷ b ∷ c ∷ d ∷ []) later nine = absurd (omega arith)
-header_of-append (a ∷ b ∷ c ∷ d ∷ e ∷ []) later nine = absurd (omega arith)
-header_of-append (a ∷ b ∷ c ∷ d ∷ e ∷ f ∷ []) later nine = absurd (omega arith)
-header_of-append (a ∷ b ∷ c ∷ d ∷ e ∷ f ∷ g ∷ []) later nine = absurd (omega arith)
-header_of-append (a ∷ b ∷ c ∷ d ∷ e ∷ f ∷ g ∷ h ∷ []) later nine = absurd (omega arith)
 header_of-append (a ∷ b ∷ c ∷ d ∷ e ∷ f ∷ g ∷ h ∷ i ∷ []) later nine = refl
-header_of-append (a ∷ b ∷ c ∷ d ∷ e ∷ f ∷ g ∷ h ∷ i ∷ j ∷ more) later nine = absurd (omega arith)
+header_of-append _ later nine = absurd (omega arith)
 
 -- the header that the bytes of a frame begin with is the frame's
 header_is : (bytes header payload rest : List ℕ) (frame : Spelled) → bytes ≡ header ++ payload ++ rest
@@ -118,72 +94,43 @@ not_both bytes rest short begins =
 short_along : (bytes others : List ℕ) → bytes ≡ others → IsPrefaceCutShort bytes → IsPrefaceCutShort others
 short_along bytes others e short = (short.0, short.1, ap (λ (b : List ℕ). b ++ short.0) (sym e) ∙ short.2)
 
-same_http2 : (client server other_client other_server : Flow) (frames others : List Frame)
-    (tails other_tails : Sides ℕ) →
-    IsSameFlow client other_client → IsSameFlow server other_server →
-    IsHttp2 client server frames tails → IsHttp2 other_client other_server others other_tails →
-    (frames ≡ others) × (tails ≡ other_tails)
-same_http2 client server other_client other_server frames others tails other_tails same_client same_server first
-    second =
-    let rests : first.after_preface ≡ second.after_preface =
-    append_cancel_left preface _ _ (sym first.client_begins ∙ same_client.bytes ∙ second.client_begins) in
-    let clients = spelling-unique first.after_preface first.client_frames second.client_frames first.client_tail
-    second.client_tail
-    first.client_spells (subst (λ (r : List ℕ). Spells r second.client_frames second.client_tail)
-    (sym rests) second.client_spells) in
-    let servers = spelling-unique (bytes_of server) first.server_frames second.server_frames first.server_tail
-    second.server_tail
-    first.server_spells (subst (λ (r : List ℕ). Spells r second.server_frames second.server_tail)
-    (sym same_server.bytes) second.server_spells) in (
-      first.in_order
-          ∙ ap (λ (fs : List Spelled). capture_order (captured_from Client client.arrivals.items 1 24 fs)
-          (captured_from Server server.arrivals.items 1 0 first.server_frames)) clients.0
-          ∙ ap (λ (fs : List Spelled). capture_order
-          (captured_from Client client.arrivals.items 1 24 second.client_frames)
-          (captured_from Server server.arrivals.items 1 0 fs)) servers.0
-          ∙ ap (λ (xs : List Arrival). capture_order (captured_from Client xs 1 24 second.client_frames)
-          (captured_from Server server.arrivals.items 1 0 second.server_frames)) same_client.arrivals
-          ∙ ap (λ (xs : List Arrival). capture_order
-          (captured_from Client other_client.arrivals.items 1 24 second.client_frames)
-          (captured_from Server xs 1 0 second.server_frames)) same_server.arrivals
-          ∙ sym second.in_order,
-      first.tails_are
-          ∙ ap₂ (λ (c s : List ℕ). record { client = length c; server = length s }) clients.1 servers.1
-          ∙ sym second.tails_are,
-    )
+module _ (client server other_client other_server : Flow) (c : IsSameFlow client other_client)
+    (s : IsSameFlow server other_server) where
+  same_http2 : (frames others : List Frame) (tails other_tails : Sides ℕ) → IsHttp2 client server frames tails →
+      IsHttp2 other_client other_server others other_tails → (frames ≡ others) × (tails ≡ other_tails)
+  same_http2 frames others tails other_tails first second =
+      let rests : first.after_preface ≡ second.after_preface =
+      append_cancel_left preface _ _ (sym first.client_begins ∙ c.bytes ∙ second.client_begins) in
+      let clients = spelling-unique _ _ _ _ _ first.client_spells
+      (subst (λ (r : List ℕ). Spells r second.client_frames second.client_tail) (sym rests) second.client_spells) in
+      let servers = spelling-unique _ _ _ _ _ first.server_spells
+      (subst (λ (r : List ℕ). Spells r second.server_frames second.server_tail) (sym s.bytes) second.server_spells) in
+      (
+        rw (first.in_order, second.in_order, clients.0, servers.0, c.arrivals, s.arrivals) refl,
+        rw (first.tails_are, second.tails_are, clients.1, servers.1) refl,
+      )
+
+  same_cuts : (cut other : Cut) → IsCut client server cut → IsCut other_client other_server other → IsSameCut cut other
+  same_cuts NoHandshake NoHandshake first second = tt
+  same_cuts NoHandshake _ first second = absurd (false≢true (sym first ∙ s.started ∙ second.0))
+  same_cuts _ NoHandshake first second = absurd (false≢true (sym second ∙ sym s.started ∙ first.0))
+  same_cuts NoPreface NoPreface first second = tt
+  same_cuts NoPreface NotHttp2 first second = absurd (second.1 (short_along _ _ c.bytes first.1))
+  same_cuts NoPreface (Http2 frames tails) first second =
+      absurd (not_both _ _ (short_along _ _ c.bytes first.1) second.1.client_begins)
+  same_cuts NotHttp2 NoPreface first second = absurd (first.1 (short_along _ _ (sym c.bytes) second.1))
+  same_cuts NotHttp2 NotHttp2 first second = tt
+  same_cuts NotHttp2 (Http2 frames tails) first second = absurd (first.2 _ (c.bytes ∙ second.1.client_begins))
+  same_cuts (Http2 frames tails) NoPreface first second =
+      absurd (not_both _ _ (short_along _ _ (sym c.bytes) second.1) first.1.client_begins)
+  same_cuts (Http2 frames tails) NotHttp2 first second =
+      absurd (second.2 _ (sym c.bytes ∙ first.1.client_begins))
+  same_cuts (Http2 frames tails) (Http2 others other_tails) first second =
+      same_http2 frames.items others.items tails other_tails first.1 second.1
 
 pub cut-unique : CutIsUnique
-cut-unique client server other_client other_server NoHandshake NoHandshake c s first second = tt
-cut-unique client server other_client other_server NoHandshake NoPreface c s first second = absurd
-    (false≢true (sym first ∙ s.started ∙ second.0))
-cut-unique client server other_client other_server NoHandshake NotHttp2 c s first second = absurd
-    (false≢true (sym first ∙ s.started ∙ second.0))
-cut-unique client server other_client other_server NoHandshake (Http2 frames tails) c s first second = absurd
-    (false≢true (sym first ∙ s.started ∙ second.0))
-cut-unique client server other_client other_server NoPreface NoHandshake c s first second = absurd
-    (false≢true (sym second ∙ sym s.started ∙ first.0))
-cut-unique client server other_client other_server NotHttp2 NoHandshake c s first second = absurd
-    (false≢true (sym second ∙ sym s.started ∙ first.0))
-cut-unique client server other_client other_server (Http2 frames tails) NoHandshake c s first second = absurd
-    (false≢true (sym second ∙ sym s.started ∙ first.0))
-cut-unique client server other_client other_server NoPreface NoPreface c s first second = tt
-cut-unique client server other_client other_server NoPreface NotHttp2 c s first second =
-    absurd (second.1 (short_along _ _ c.bytes first.1))
-cut-unique client server other_client other_server NoPreface (Http2 frames tails) c s first second =
-    absurd (not_both (bytes_of other_client) second.1.after_preface (short_along _ _ c.bytes first.1)
-    second.1.client_begins)
-cut-unique client server other_client other_server NotHttp2 NoPreface c s first second =
-    absurd (first.1 (short_along _ _ (sym c.bytes) second.1))
-cut-unique client server other_client other_server NotHttp2 NotHttp2 c s first second = tt
-cut-unique client server other_client other_server NotHttp2 (Http2 frames tails) c s first second =
-    absurd (first.2 second.1.after_preface (c.bytes ∙ second.1.client_begins))
-cut-unique client server other_client other_server (Http2 frames tails) NoPreface c s first second =
-    absurd (not_both (bytes_of client) first.1.after_preface (short_along _ _ (sym c.bytes) second.1)
-    first.1.client_begins)
-cut-unique client server other_client other_server (Http2 frames tails) NotHttp2 c s first second =
-    absurd (second.2 first.1.after_preface (sym c.bytes ∙ first.1.client_begins))
-cut-unique client server other_client other_server (Http2 frames tails) (Http2 others other_tails) c s first second =
-    same_http2 client server other_client other_server frames.items others.items tails other_tails c s first.1 second.1
+cut-unique client server other_client other_server cut other c s =
+    same_cuts client server other_client other_server c s cut other
 
 -- two flows have no other cut
 pub only-cut : (client server : Flow) (cut other : Cut) → IsCut client server cut → IsCut client server other
@@ -199,3 +146,7 @@ pub only-found : (client server : Flow) (result : Result Cut AllocError) → IfO
     IfOk result (λ found. (other : Cut) → IsCut client server other → IsSameCut found other)
 only-found client server (Ok cut) is = λ other second. only-cut client server cut other is second
 only-found client server (Err e) is = tt
+
+pub ruleset uniqueness = (spelling-unique, cut-unique)
+
+pub ruleset only_cuts = (only-cut, only-found)

@@ -1,14 +1,8 @@
 -- A walk over the frames of both sides goes on by one frame, or is over.
 use Rattle.std.proofs.Common.{◌≡◌, ℕ, ◌+◌, ◌≤◌, List, [], ◌∷◌, ◌++◌, length, ap, sym, ◌∙◌, arith, append_assoc}
-use Rattle.std.proofs.lemmas.List.{append-nil, length_push}
-use Rattle.tcp_streams.specs.declared.streams.Flow.{Flow}
-use Rattle.audit_terms.specs.declared.frames.Frame.{Frame}
-use Rattle.audit_terms.specs.code.runs.Orderly.{IsInRange, IsOrderlyFrom}
-use Rattle.h2_frames.specs.declared.walk.FrameWalk.{FrameWalk}
-use Rattle.h2_frames.specs.Cut.{IsHttp2}
-use Rattle.h2_frames.specs.CaptureOrder.{numbered}
-use Rattle.h2_frames.specs.code.Unread.{AreMerged}
-use Rattle.h2_frames.specs.code.Walk.{IsWalkAfter, taken_of}
+use Rattle.std.proofs.lemmas.List.{length_push}
+use Rattle.h2_frames.proofs.Words.{append-nil, Flow, Frame, IsInRange, IsOrderlyFrom, FrameWalk, IsHttp2, numbered}
+use Rattle.h2_frames.proofs.Words.{AreMerged, IsWalkAfter, taken_of}
 
 -- one frame more is numbered
 numbered_push : (k : ℕ) (frames : List Frame) (f : Frame) →

@@ -118,6 +118,7 @@ fn priority_body(payload: &[u8]) -> Body
 }
 
 /// SETTINGS (RFC 9113, 6.5).
+#[tactic(auto, using(crate::proofs::SettingsRanges::bad_settings))]
 fn settings_body(flags: u8, payload: &[u8]) -> Body
     requires { length payload.now < 2 ^ 24 }
     ensures exact { result ≡ settings_body flags payload.now }

@@ -43,6 +43,7 @@ fn all_of(walk: FrameWalk<'_>, room: Vec<Frame>) -> Result<Cut, AllocError>
 /// The frames are put in the memory of `room`, whose elements are dropped. It may be empty, and then the list grows as
 /// it is filled, as it does where there are more frames than `room` has memory for. Where there are no frames it is
 /// dropped.
+#[tactic(auto, using(crate::proofs::Uniqueness::only_cuts))]
 pub fn cut(alloc: Global, client: &Flow, server: &Flow, room: Vec<Frame>) -> Result<Cut, AllocError>
     requires client { IsOrderly client.now }
     requires server { IsOrderly server.now }

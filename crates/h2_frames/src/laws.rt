@@ -3,11 +3,13 @@
 ghost use Rattle.h2_frames.specs.laws.Unique.{CutIsUnique, SpellingIsUnique};
 
 /// One list of bytes has one spelling: its frames and its tail are determined (RFC 9113, 4.1).
+#[tactic(auto, using(crate::proofs::Uniqueness::uniqueness))]
 pub fn spelling_is_unique()
     ensures { SpellingIsUnique }
 {}
 
 /// Two flows have one cut: its kind, its frames and its tails are determined by their bytes and arrivals.
+#[tactic(auto, using(crate::proofs::Uniqueness::uniqueness))]
 pub fn cut_is_unique()
     ensures { CutIsUnique }
 {}

@@ -10,6 +10,7 @@ use audit_terms::Body;
 use std::alloc::AllocError;
 
 /// How many bytes the pieces have.
+#[tactic(auto, using(crate::proofs::Gathering::piece_lengths))]
 fn length_of(pieces: &[&[u8]]) -> usize
     requires { length (joined pieces.now) < 2 ^ 31 }
     ensures { result ≡ length (joined pieces.now) }
@@ -54,6 +55,7 @@ impl<'a> Pieces<'a> {
     }
 
     /// Goes on to the next piece that has bytes, where the first has none.
+    #[tactic(auto, using(crate::proofs::Gathering::part_turns))]
     fn go_on(&mut self)
         requires { IsCounted self.old }
         ensures bytes { bytes_of self.new ≡ bytes_of self.old }
@@ -114,6 +116,7 @@ impl<'a> Pieces<'a> {
     }
 
     /// Takes this many bytes out without a look at them.
+    #[tactic(auto, using(crate::proofs::Gathering::part_turns))]
     fn skip(&mut self, count: usize)
         requires counted { IsCounted self.old }
         requires there { count ≤ length (bytes_of self.old) }

@@ -114,6 +114,7 @@ impl<'a> Unread<'a> {
     }
 
     /// Reads the frame that the bytes begin with, which gets this number within the side.
+    #[tactic(auto, using(crate::proofs::Reading::frame_arrives))]
     fn read(&mut self, number: u32) -> Result<(), AllocError>
         requires placed { IsPlaced self.old }
         requires number { 9 * number ≤ self.old.offset + 9 }

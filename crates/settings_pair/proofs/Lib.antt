@@ -1,3 +1,3 @@
+mod Words
 pub mod WaitingLemmas
 pub mod OrderLemmas
-pub mod FrameByFrame

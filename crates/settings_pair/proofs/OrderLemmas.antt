@@ -1,18 +1,11 @@
 -- The changes of orderly frames are orderly, and each is that of an acknowledgement.
 use Rattle.std.proofs.Common.{◌≡◌, ℕ, ◌+◌, ◌≤◌, Bool, true, false, if◌then◌else◌, List, [], ◌∷◌, ◌++◌, All, Option}
-use Rattle.std.proofs.Common.{Some, None, length, drop, refl, sym, ap, ◌∙◌, subst, arith}
-use Rattle.std.specs.Option.{option_to_list}
+use Rattle.std.proofs.Common.{Some, None, length, drop, refl, sym, ap, ◌∙◌, arith}
 use Rattle.std.specs.List.{AllByRecursion}
-use Rattle.std.proofs.lemmas.List.{append-nil, drop_all}
 use Rattle.std.proofs.lemmas.List.Elements.{All-from_recursion}
-use Rattle.audit_terms.specs.declared.settings.Settings.{Settings}
-use Rattle.audit_terms.specs.declared.frames.Frame.{Frame}
-use Rattle.audit_terms.specs.declared.items.Change.{Change}
-use Rattle.audit_terms.specs.Frame.{is_ack}
-use Rattle.audit_terms.specs.code.runs.Orderly.{IsInRange, IsOrderlyFrom, IsOrderly}
-use Rattle.audit_terms.specs.InForce.{InForce, initial_in_force, taken, change_taking, in_force_after}
-use Rattle.audit_terms.specs.code.runs.Changes.{changes_of, changes_from}
-use Rattle.settings_pair.specs.code.Changes.{AreOrderlyFrom, AreOrderly, AreAcknowledged}
+use Rattle.settings_pair.proofs.Words.{option_to_list, append-nil, drop_all, Settings, Frame, Change, is_ack, IsInRange}
+use Rattle.settings_pair.proofs.Words.{IsOrderlyFrom, IsOrderly, InForce, initial_in_force, taken, change_taking}
+use Rattle.settings_pair.proofs.Words.{in_force_after, changes_of, changes_from, AreOrderlyFrom, AreAcknowledged}
 
 orderly-lower : (low lower : ℕ) (changes : List Change) → lower ≤ low → AreOrderlyFrom low changes
     → AreOrderlyFrom lower changes
@@ -33,13 +26,10 @@ changes_from-orderly low now (frame ∷ frames) h =
     (changes_from-orderly (frame.number + 1) (in_force_after now frame) frames h.2)
 
 -- what a loop over all of the frames found
-pub found-orderly : (now : InForce) (found : List Change) (frames : List Frame) (i : ℕ) → IsOrderly frames
-    → length frames ≤ i
-    → found ++ changes_from now (drop i frames) ≡ changes_of frames → AreOrderly found
-found-orderly now found frames i h past e =
-    let all : found ≡ changes_of frames = sym (append-nil found) ∙ ap (λ rest. found ++ changes_from now rest)
-    (sym (drop_all i frames past)) ∙ e in
-    subst AreOrderly (sym all) (changes_from-orderly 0 initial_in_force frames h)
+pub all-changes : (now : InForce) (found : List Change) (frames : List Frame) (i : ℕ) → length frames ≤ i
+    → found ++ changes_from now (drop i frames) ≡ changes_of frames → found ≡ changes_of frames
+all-changes now found frames i past e =
+    sym (append-nil found) ∙ ap (λ rest. found ++ changes_from now rest) (sym (drop_all i frames past)) ∙ e
 
 -- ---- the frame of a change is an acknowledgement
 
@@ -90,21 +80,13 @@ changes_from-acknowledge low now (frame ∷ frames) h = (
       (changes_from-acknowledge (frame.number + 1) (in_force_after now frame) frames h.2),
 )
 
-all-acknowledged : (frames : List Frame) (changes : List Change) → Acknowledge frames changes
-    → AreAcknowledged frames changes
-all-acknowledged frames changes h =
-    All-from_recursion (λ (frame : Frame). All (AcknowledgesAt frame) changes) frames (by_frame frames h) where
-      by_frame : (fs : List Frame) → Acknowledge fs changes
-          → AllByRecursion (λ frame. All (AcknowledgesAt frame) changes) fs
+pub changes_of-acknowledged : (frames : List Frame) → IsOrderly frames → AreAcknowledged frames (changes_of frames)
+changes_of-acknowledged frames h =
+    All-from_recursion (λ (frame : Frame). All (AcknowledgesAt frame) (changes_of frames)) frames
+    (by_frame frames (changes_from-acknowledge 0 initial_in_force frames h)) where
+      by_frame : (fs : List Frame) → Acknowledge fs (changes_of frames)
+          → AllByRecursion (λ frame. All (AcknowledgesAt frame) (changes_of frames)) fs
       by_frame [] k = tt
-      by_frame (f ∷ fs) k = (All-from_recursion (AcknowledgesAt f) changes k.0, by_frame fs k.1)
+      by_frame (f ∷ fs) k = (All-from_recursion (AcknowledgesAt f) (changes_of frames) k.0, by_frame fs k.1)
 
--- what a loop over all of the frames found
-pub found-acknowledged : (now : InForce) (found : List Change) (frames : List Frame) (i : ℕ) → IsOrderly frames
-    → length frames ≤ i
-    → found ++ changes_from now (drop i frames) ≡ changes_of frames → AreAcknowledged frames found
-found-acknowledged now found frames i h past e =
-    let all : found ≡ changes_of frames = sym (append-nil found) ∙ ap (λ rest. found ++ changes_from now rest)
-    (sym (drop_all i frames past)) ∙ e in
-    subst (AreAcknowledged frames) (sym all)
-    (all-acknowledged frames (changes_of frames) (changes_from-acknowledge 0 initial_in_force frames h))
+pub ruleset found_changes = (all-changes, changes_from-orderly, changes_of-acknowledged)

@@ -2,26 +2,12 @@
 use Rattle.std.proofs.Common.{◌≡◌, ℕ, suc, zero, ◌+◌, ◌<◌, ◌≤◌, Bool, true, false, ◌&&◌, if◌then◌else◌, List, [], ◌∷◌}
 use Rattle.std.proofs.Common.{◌++◌, length, drop, slice_get, get_or, append_assoc, Option, Some, None, is_some, is_none}
 use Rattle.std.proofs.Common.{pos, refl, sym, ap, ◌∙◌, add-zero, length-append, arith}
-use Rattle.std.specs.Option.{option_to_list}
-use Rattle.std.proofs.lemmas.List.{append-nil, drop-drop, drop_all, drop-append-le, at_drop_more}
+use Rattle.std.proofs.lemmas.List.{drop-drop, drop-append-le, at_drop_more}
 use Rattle.std.proofs.lemmas.Option.{slice_get_within}
-use Rattle.audit_terms.specs.declared.sides.Side.{Side}
-use Rattle.audit_terms.specs.declared.sides.Side.TheVariants.{Client, Server}
-use Rattle.audit_terms.specs.declared.settings.Settings.{Settings}
-use Rattle.audit_terms.specs.declared.frames.Body.{Body}
-use Rattle.audit_terms.specs.declared.frames.Body.TheVariants.{Settings as SettingsBody, SettingsAck, Content, Headers}
-use Rattle.audit_terms.specs.declared.frames.Body.TheVariants.{Priority, RstStream, PushPromise, Ping, GoAway}
-use Rattle.audit_terms.specs.declared.frames.Body.TheVariants.{WindowUpdate, Continuation, Unknown, Unreadable}
-use Rattle.audit_terms.specs.declared.frames.Frame.{Frame}
-use Rattle.audit_terms.specs.Side.{other, is_side}
-use Rattle.audit_terms.specs.Sides.{side_of}
-use Rattle.audit_terms.specs.Frame.{is_ack, settings_in}
-use Rattle.audit_terms.specs.declared.kinds.Kind.TheVariants.{UnmatchedAck}
-use Rattle.audit_terms.specs.Finding.{finding_at, say}
-use Rattle.audit_terms.specs.InForce.{InForce, initial_in_force, taken, change_taking, change_of, in_force_after}
-use Rattle.audit_terms.specs.InForce.{settings_said}
-use Rattle.settings_pair.specs.declared.waiting.Waiting.{Waiting}
-use Rattle.settings_pair.specs.code.Waiting.{sent_of, sent_by, waiting_of, IsWaiting}
+use Rattle.settings_pair.proofs.Words.{option_to_list, append-nil, drop_all, Side, Client, Server, Settings, Frame}
+use Rattle.settings_pair.proofs.Words.{other, is_side, side_of, is_ack, settings_in, UnmatchedAck, finding_at, say}
+use Rattle.settings_pair.proofs.Words.{InForce, initial_in_force, taken, change_taking, change_of, in_force_after}
+use Rattle.settings_pair.proofs.Words.{settings_said, Waiting, sent_of, sent_by, waiting_of, IsWaiting}
 
 -- ---- the settings of one side, frame by frame
 
@@ -31,50 +17,28 @@ sent-at d seen at frame within is =
     at_drop_more (sent_by d) seen at frame within
     ∙ ap (λ (one : Frame). sent_of d one ++ sent_by d (drop (at + 1) seen)) (sym is)
 
-module _ (d : Side) (seen : List Frame) (from at : ℕ) (frame : Frame) (sent : Option Settings)
-    (within : at < length seen)
-    (is : frame ≡ get_or seen at frame) (e : option_to_list sent ≡ sent_of d frame)
-    (left : sent_by d (drop at seen) ≡ sent_by d (drop from seen)) where
-  from-here : option_to_list sent ++ sent_by d (drop (at + 1) seen) ≡ sent_by d (drop from seen)
-  from-here = ap (λ l. l ++ sent_by d (drop (at + 1) seen)) e ∙ sym (sent-at d seen at frame within is) ∙ left
+-- what is left after a place, by what is sent there
+pub record IsSent (sent : Option Settings) (left after : List Settings) : Type 0 where
+  pub first : is_some sent ≡ true → sent ≡ slice_get left 0
+  pub rest : is_some sent ≡ true → after ≡ drop 1 left
+  pub none : is_some sent ≡ false → after ≡ left
 
-  pub sent-first : is_some sent ≡ true → sent ≡ slice_get (sent_by d (drop from seen)) 0
-  sent-first some = by_sent sent some from-here where
-    by_sent : (one : Option Settings) → is_some one ≡ true
-        → option_to_list one ++ sent_by d (drop (at + 1) seen) ≡ sent_by d (drop from seen)
-        → one ≡ slice_get (sent_by d (drop from seen)) 0
-    by_sent None h k = cc
-    by_sent (Some settings) h k = ap (λ l. slice_get l 0) k
+pub sent-here : (d : Side) (seen : List Frame) (from at : ℕ) (frame : Frame) (sent : Option Settings)
+    → at < length seen → frame ≡ get_or seen at frame → option_to_list sent ≡ sent_of d frame
+    → sent_by d (drop at seen) ≡ sent_by d (drop from seen)
+    → IsSent sent (sent_by d (drop from seen)) (sent_by d (drop (at + 1) seen))
+sent-here d seen from at frame sent within is e left =
+    by_sent sent (ap (λ l. l ++ sent_by d (drop (at + 1) seen)) e ∙ sym (sent-at d seen at frame within is) ∙ left) where
+      by_sent : (one : Option Settings) → option_to_list one ++ sent_by d (drop (at + 1) seen)
+          ≡ sent_by d (drop from seen) → IsSent one (sent_by d (drop from seen)) (sent_by d (drop (at + 1) seen))
+      by_sent None k = record { first = λ h. cc; rest = λ h. cc; none = λ h. k }
+      by_sent (Some settings) k =
+          record { first = λ h. ap (λ l. slice_get l 0) k; rest = λ h. ap (drop 1) k; none = λ h. cc }
 
-  pub sent-rest : is_some sent ≡ true → sent_by d (drop (at + 1) seen) ≡ drop 1 (sent_by d (drop from seen))
-  sent-rest some = by_sent sent some from-here where
-    by_sent : (one : Option Settings) → is_some one ≡ true
-        → option_to_list one ++ sent_by d (drop (at + 1) seen) ≡ sent_by d (drop from seen)
-        → sent_by d (drop (at + 1) seen) ≡ drop 1 (sent_by d (drop from seen))
-    by_sent None h k = cc
-    by_sent (Some settings) h k = ap (drop 1) k
-
-  pub sent-none : is_some sent ≡ false → sent_by d (drop (at + 1) seen) ≡ sent_by d (drop from seen)
-  sent-none none = by_sent sent none from-here where
-    by_sent : (one : Option Settings) → is_some one ≡ false
-        → option_to_list one ++ sent_by d (drop (at + 1) seen) ≡ sent_by d (drop from seen)
-        → sent_by d (drop (at + 1) seen) ≡ sent_by d (drop from seen)
-    by_sent None h k = k
-    by_sent (Some settings) h k = cc
-
-none-left_by : (d : Side) (seen : List Frame) (from at : ℕ) → sent_by d (drop at seen) ≡ sent_by d (drop from seen)
-    → length seen ≤ at
-    → sent_by d (drop from seen) ≡ []
+-- nothing is left at the end
+pub none-left_by : (d : Side) (seen : List Frame) (from at : ℕ) → sent_by d (drop at seen) ≡ sent_by d (drop from seen)
+    → length seen ≤ at → sent_by d (drop from seen) ≡ []
 none-left_by d seen from at left past = sym left ∙ ap (sent_by d) (drop_all at seen past)
-
-pub none-sent_by : (d : Side) (seen : List Frame) (from at : ℕ) → sent_by d (drop at seen) ≡ sent_by d (drop from seen)
-    → length seen ≤ at → None ≡ slice_get (sent_by d (drop from seen)) 0
-none-sent_by d seen from at left past = ap (λ l. slice_get l 0) (sym (none-left_by d seen from at left past))
-
-pub none-rest : (d : Side) (seen : List Frame) (from at : ℕ) → sent_by d (drop at seen) ≡ sent_by d (drop from seen)
-    → length seen ≤ at → sent_by d (drop at seen) ≡ drop 1 (sent_by d (drop from seen))
-none-rest d seen from at left past =
-    let none = none-left_by d seen from at left past in left ∙ none ∙ ap (drop 1) (sym none)
 
 -- what waits grows by the settings of a frame more
 waiting-on : (d : Side) (from : ℕ) (seen : List Frame) (frame : Frame) → from ≤ length seen
@@ -94,9 +58,8 @@ other-other Server = refl
 
 is_side-same : (d e : Side) → is_side d e ≡ true → d ≡ e
 is_side-same Client Client h = refl
-is_side-same Client Server h = cc
-is_side-same Server Client h = cc
 is_side-same Server Server h = refl
+is_side-same _ _ h = cc
 
 is_side-other : (d e : Side) → is_side d (other e) ≡ is_side (other d) e
 is_side-other Client Client = refl
@@ -122,10 +85,6 @@ slice_get-drop zero xs = refl
 slice_get-drop (suc k) [] = refl
 slice_get-drop (suc k) (x ∷ xs) = slice_get-drop k xs
 
-nothing_chosen : {A : Type 0} (b : Bool) (xs : List A) → xs ≡ [] → (if b then xs else []) ≡ []
-nothing_chosen true xs e = e
-nothing_chosen false xs e = refl
-
 -- nothing is left from a place with no element
 none-left : (xs : List Settings) (k : ℕ) → slice_get xs k ≡ None → drop 1 (drop k xs) ≡ drop (k + 0) xs
 none-left [] zero e = refl
@@ -142,28 +101,30 @@ queue-after false xs k t low h = (omega arith, rw add-zero refl)
 queue-after true xs k None low h = (omega arith, none-left xs k (sym (h refl)))
 queue-after true xs k (Some s) low h = (omega (arith, slice_get_within xs k s (sym (h refl))), drop-drop 1 k xs)
 
-ack-sends : (body : Body) → is_ack body ≡ true → settings_in body ≡ []
-ack-sends (SettingsBody settings) e = cc
-ack-sends SettingsAck e = refl
-ack-sends Content e = refl
-ack-sends Headers e = refl
-ack-sends Priority e = refl
-ack-sends RstStream e = refl
-ack-sends (PushPromise stream) e = refl
-ack-sends Ping e = refl
-ack-sends GoAway e = refl
-ack-sends (WindowUpdate amount) e = refl
-ack-sends Continuation e = refl
-ack-sends Unknown e = refl
-ack-sends (Unreadable kind value) e = refl
+-- a frame more, by what is left of each side's SETTINGS before it
+waiting-step : (now : InForce) (seen : List Frame) (frame : Frame) (new : Waiting)
+    → ((d : Side) → (side_of (other d) (in_force_after now frame).paired ≤ length (side_of d now.sent))
+    × (waiting_of d seen new ≡ drop (side_of (other d) (in_force_after now frame).paired) (side_of d now.sent)))
+    → ((d : Side) → side_of d new.taken ≤ length seen) → IsWaiting (in_force_after now frame) (seen ++ frame ∷ []) new
+waiting-step now seen frame new queue inside = record {
+  taken = λ d.
+      let low = (queue d).0 in
+      let sent : length (side_of d (in_force_after now frame).sent)
+      ≡ length (side_of d now.sent) + length (sent_of d frame) =
+      ap length (sent-after now frame d) ∙ length-append (side_of d now.sent) (sent_of d frame) in
+      omega arith;
+  queued = λ d.
+      waiting-on d (side_of d new.taken) seen frame (inside d)
+      ∙ ap (λ l. l ++ sent_of d frame) (queue d).1
+      ∙ sym (drop-append-le _ (side_of d now.sent) (sent_of d frame) (queue d).0)
+      ∙ ap (drop (side_of (other d) (in_force_after now frame).paired)) (sym (sent-after now frame d));
+  within = λ d. let low = inside d in let more = length-append seen (frame ∷ []) in omega arith;
+}
 
 -- ---- an acknowledgement
 
 module _ (now : InForce) (seen : List Frame) (frame : Frame) (old : Waiting) (ack : is_ack frame.body ≡ true)
     (h : IsWaiting now seen old) where
-  sends-nothing : (d : Side) → sent_of d frame ≡ []
-  sends-nothing d = nothing_chosen (is_side d frame.side) (settings_in frame.body) (ack-sends frame.body ack)
-
   -- what it takes is the first that waits of the other side
   taken-ack : taken now frame ≡ slice_get (waiting_of (other frame.side) seen old) 0
   taken-ack =
@@ -174,32 +135,19 @@ module _ (now : InForce) (seen : List Frame) (frame : Frame) (old : Waiting) (ac
       (takes : (d : Side) → waiting_of d seen new
       ≡ (if is_side d of then drop 1 (waiting_of d seen old) else waiting_of d seen old))
       (fits : (d : Side) → side_of d old.taken ≤ length seen → side_of d new.taken ≤ length seen) where
-    -- for one side
-    queue-after_ack : (d : Side)
-        → (side_of (other d) (in_force_after now frame).paired ≤ length (side_of d (in_force_after now frame).sent))
-        × (waiting_of d seen new ≡ drop (side_of (other d) (in_force_after now frame).paired)
-        (side_of d (in_force_after now frame).sent))
-    queue-after_ack d =
+    pub waiting-after_ack : IsWaiting (in_force_after now frame) (seen ++ frame ∷ []) new
+    waiting-after_ack =
+        waiting-step now seen frame new
+        (λ d.
         let chosen : is_side (other d) frame.side ≡ true → taken now frame ≡ slice_get (side_of d now.sent)
         (side_of (other d) now.paired) =
         λ same. let at : other d ≡ frame.side = is_side-same (other d) frame.side same in
         rw (ack, ← at, other-other) refl in
         let after = queue-after (is_side (other d) frame.side) (side_of d now.sent) (side_of (other d) now.paired)
         (taken now frame) (h.taken d) chosen in
-        let sent : side_of d (in_force_after now frame).sent ≡ side_of d now.sent =
-        sent-after now frame d ∙ ap (λ added. side_of d now.sent ++ added) (sends-nothing d) ∙ append-nil _ in
-        rw (sent, paired-after now frame (other d))
-        (after.0, rw (takes d, s, is_side-other d frame.side, h.queued d) after.1)
-
-    pub waiting-after_ack : IsWaiting (in_force_after now frame) (seen ++ frame ∷ []) new
-    waiting-after_ack =
-        let inside : (d : Side) → side_of d new.taken ≤ length seen = λ d. fits d (h.within d) in
-        record {
-          taken = λ d. (queue-after_ack d).0;
-          queued = λ d. waiting-on d (side_of d new.taken) seen frame (inside d)
-              ∙ ap (λ l. waiting_of d seen new ++ l) (sends-nothing d) ∙ append-nil _ ∙ (queue-after_ack d).1;
-          within = λ d. let low = inside d in let more = length-append seen (frame ∷ []) in omega arith;
-        }
+        rw (paired-after now frame (other d))
+        (after.0, rw (takes d, s, is_side-other d frame.side, h.queued d) after.1))
+        (λ d. fits d (h.within d))
 
   -- what it brings and shows, by what it took
   module _ (t : Option Settings) (of : Side) (s : of ≡ other frame.side)
@@ -213,49 +161,6 @@ module _ (now : InForce) (seen : List Frame) (frame : Frame) (old : Waiting) (ac
     pub settings_said-ack : settings_said now frame ≡ say (is_none t)
         (finding_at UnmatchedAck frame.number frame.stream frame.side (pos 0))
     settings_said-ack = rw (took, ack) refl
-
--- ---- any other frame
-
-module _ (now : InForce) (seen : List Frame) (frame : Frame) (waiting : Waiting)
-    (other_frame : is_ack frame.body ≡ false)
-    (h : IsWaiting now seen waiting) where
-  takes-nothing : taken now frame ≡ None
-  takes-nothing = rw (other_frame) refl
-
-  still-paired : (d : Side) → side_of d (in_force_after now frame).paired ≡ side_of d now.paired
-  still-paired d =
-      paired-after now frame d
-      ∙ ap (λ (t : Option Settings). side_of d now.paired + (if is_side d frame.side && is_some t then 1 else 0))
-      takes-nothing
-      ∙ none-added (is_side d frame.side) (side_of d now.paired)
-    where
-      none-added : (b : Bool) (n : ℕ) → n + (if b && false then 1 else 0) ≡ n
-      none-added true n = omega arith
-      none-added false n = omega arith
-
-  pub waiting-after : IsWaiting (in_force_after now frame) (seen ++ frame ∷ []) waiting
-  waiting-after = record {
-    taken = λ d.
-        let low = h.taken d in
-        let sent : length (side_of d (in_force_after now frame).sent) ≡ length (side_of d now.sent) + length
-        (sent_of d frame) =
-        ap length (sent-after now frame d) ∙ length-append (side_of d now.sent) (sent_of d frame) in
-        let same = still-paired (other d) in
-        omega arith;
-    queued = λ d.
-        waiting-on d (side_of d waiting.taken) seen frame (h.within d)
-        ∙ ap (λ l. l ++ sent_of d frame) (h.queued d)
-        ∙ sym (drop-append-le (side_of (other d) now.paired) (side_of d now.sent) (sent_of d frame) (h.taken d))
-        ∙ ap (drop (side_of (other d) now.paired)) (sym (sent-after now frame d))
-        ∙ ap (λ n. drop n (side_of d (in_force_after now frame).sent)) (sym (still-paired (other d)));
-    within = λ d. let low = h.within d in let more = length-append seen (frame ∷ []) in omega arith;
-  }
-
-  pub change_of-other : option_to_list (change_of now frame) ≡ []
-  change_of-other = rw (takes-nothing) refl
-
-  pub settings_said-other : settings_said now frame ≡ []
-  settings_said-other = rw (other_frame) refl
 
 pub waiting-at_start : (waiting : Waiting) → ((d : Side) → side_of d waiting.taken ≡ 0)
     → IsWaiting initial_in_force [] waiting
@@ -272,3 +177,7 @@ waiting-at_start waiting none = record {
       (side_of d initial_in_force.sent)
   at_start_queued Client = ap (λ n. sent_by Client (drop n [])) (none Client)
   at_start_queued Server = ap (λ n. sent_by Server (drop n [])) (none Server)
+
+pub ruleset acknowledged = (waiting-after_ack, change_of-ack, settings_said-ack)
+
+pub ruleset here = (sent-here, none-left_by)

@@ -1,10 +1,10 @@
-ghost use Rattle.std.specs.Prelude.{◌≡◌, [], ◌∷◌, ◌++◌, pos, IfOk, OnOk};
+ghost use Rattle.std.specs.Prelude.{◌≡◌, [], ◌∷◌, ◌++◌, pos, is_none, IfOk, OnOk};
 ghost use Rattle.std.specs.Option.{option_to_list};
 ghost use Rattle.audit_terms.specs.code.runs.Orderly.{IsInRange, IsOrderly};
 ghost use Rattle.audit_terms.specs.Change.{change_by};
-ghost use Rattle.audit_terms.specs.InForce.{InForce, in_force_after, change_of, settings_said};
+ghost use Rattle.audit_terms.specs.InForce.{InForce, in_force_after, change_of, change_taking, settings_said};
 ghost use Rattle.audit_terms.specs.code.runs.Changes.{changes_of, settings_run};
-ghost use Rattle.audit_terms.specs.Finding.{finding_at};
+ghost use Rattle.audit_terms.specs.Finding.{finding_at, say};
 ghost use Rattle.settings_pair.specs.code.Changes.{AreOrderly, AreAcknowledged};
 ghost use Rattle.settings_pair.specs.code.Waiting.{IsWaiting};
 
@@ -22,6 +22,7 @@ pub struct Pairs {
 }
 
 /// The changes and the unmatched acknowledgements of a connection's frames.
+#[tactic(auto, using(crate::proofs::OrderLemmas::found_changes))]
 pub fn pair(alloc: Global, frames: &[Frame]) -> Result<Pairs, AllocError>
     requires { IsOrderly frames.now }
     ensures changes { IfOk result (λ pairs. pairs.changes.items ≡ changes_of frames.now) }
@@ -41,6 +42,7 @@ pub fn pair(alloc: Global, frames: &[Frame]) -> Result<Pairs, AllocError>
 }
 
 /// The next frame after those seen: an acknowledgement takes what waits longest of the SETTINGS seen.
+#[tactic(auto, using(crate::proofs::WaitingLemmas::acknowledged))]
 fn meet(
     waiting: &mut Waiting,
     pairs: &mut Pairs,
@@ -58,7 +60,20 @@ fn meet(
     if !frame.body.is_ack() {
         return Ok(());
     }
-    match waiting.take(seen, frame.side.other()) {
+    let taken = waiting.take(seen, frame.side.other());
+    add(pairs, frame, taken)?;
+    Ok(())
+}
+
+/// Adds what an acknowledgement brings that takes these settings, or that it takes none.
+fn add(pairs: &mut Pairs, frame: &Frame, taken: Option<Settings>) -> Result<(), AllocError>
+    requires { IsInRange frame.now }
+    ensures changes { OnOk result (pairs.new.changes.items
+        ≡ pairs.old.changes.items ++ option_to_list (change_taking frame.now taken)) }
+    ensures findings { OnOk result (pairs.new.findings.items ≡ pairs.old.findings.items ++ say (is_none taken)
+        (finding_at Kind.UnmatchedAck frame.now.number frame.now.stream frame.now.side (pos 0))) }
+{
+    match taken {
         Some(settings) => pairs.changes.push(change_by(frame, settings))?,
         None => pairs.findings.push(unmatched(frame))?,
     }

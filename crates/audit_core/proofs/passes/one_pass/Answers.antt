@@ -1,25 +1,13 @@
-use Rattle.std.proofs.Common.{◌≡◌, pos, ◌+◌, ◌*◌, ◌^◌, ◌∷◌, ◌&&◌, drop, is_none, refl, sym, ap, ◌∙◌, subst, arith}
-use Rattle.std.specs.List.{All, list_any, find}
+use Rattle.std.proofs.Common.{◌≡◌, pos, ◌+◌, ◌*◌, ◌^◌, ◌∷◌, drop, refl, sym, ap, ◌∙◌, subst, arith}
 use Rattle.std.proofs.lemmas.List.Elements.{All-weaker}
-use Rattle.std.proofs.lemmas.Int.{ints}
-use Rattle.audit_terms.specs.declared.frames.Frame.{Frame}
-use Rattle.audit_terms.specs.declared.items.Item.{Item}
-use Rattle.audit_terms.specs.declared.connections.ConnectionState.{ConnectionState}
-use Rattle.audit_terms.specs.Frame.{is_ack}
-use Rattle.audit_terms.specs.code.Room.{HasRoom}
-use Rattle.audit_terms.specs.InForce.{change_of}
-use Rattle.audit_terms.specs.Connection.{connection_after}
-use Rattle.audit_terms.specs.Pass.{PassState, pass_start, next, item_of, streams_of}
-use Rattle.audit_terms.specs.code.runs.Changes.{changes_from}
-use Rattle.audit_terms.specs.code.runs.Orderly.{IsOrderlyFrom}
-use Rattle.audit_terms.proofs.Bounds.{room-wider}
-use Rattle.audit_core.specs.code.StreamRows.{RowFits, row_opens}
+use Rattle.audit_core.proofs.passes.one_pass.Goals as goal
+use Rattle.audit_core.proofs.Words.{All, list_any, find, ints, Frame, Item, ConnectionState, HasRoom, change_of}
+use Rattle.audit_core.proofs.Words.{connection_after, PassState, pass_start, next, item_of, streams_of, changes_from}
+use Rattle.audit_core.proofs.Words.{IsOrderlyFrom, room-wider, RowFits, row_opens}
 use Rattle.audit_core.proofs.OrderlyRest.{length-orderly, drop-at}
 use Rattle.audit_core.proofs.PassOrder.{streams-streams_of}
-use Rattle.audit_core.proofs.PassRows.{is_at, change-at, change-past, none-test, step_of-acknowledged, idle_rows-fit}
-use Rattle.audit_core.proofs.PassRows.{fits-wider, opens-frame, same_item, rows-more, said-more, found-more}
-use Rattle.audit_core.proofs.passes.one_pass.Goals.{then-is_ack, else-is_ack}
-use Rattle.audit_core.proofs.passes.one_pass.Goals as goal
+use Rattle.audit_core.proofs.PassRows.{is_at, change-at, change-past, step_of-acknowledged, idle_rows-fit, fits-wider}
+use Rattle.audit_core.proofs.PassRows.{opens-frame, same_item, rows-more, said-more, found-more}
 
 start-room : HasRoom (2 ^ 17) (pos 65535)
 start-room = (omega (arith, ints), omega (arith, ints))
@@ -93,19 +81,12 @@ loop-frame-preserved c =
     ∙ opens-frame state frames i frame c.frame-item.is c.loop-frame-test.true in
     let met : Item = record { frame = frame; opens = c.opens.result; change = c.change_at-change.result } in
     let item : met ≡ item_of state frame = same_item state frame (streams_of frames) _ _ opens brings in
-    let unmatched : c.if-is_ack.say_if ≡ (is_ack frame.body && is_none c.change_at-change.result) =
-    elim c.if-is_ack.branch [
-      | then-is_ack w ↦ w.say_if-is ∙ none-test c.change_at-change.result _ w.is_none.ensures
-          ∙ sym (ap (λ b. b && is_none c.change_at-change.result) (sym c.is_ack.ensures ∙ w.if-is_ack.true))
-      | else-is_ack w ↦ w.say_if-is ∙ w.if-is_ack.false
-          ∙ sym (ap (λ b. b && is_none c.change_at-change.result) (sym c.is_ack.ensures ∙ w.if-is_ack.false))
-    ] in
     let rows = c.deref-in-loop-frame-2.ensures.value ∙ old.rows in
     let said = said-more state frame (streams_of frames) _ _ _ _ _ _ _ _ _
     (rw old.previous at c.of.ensures)
     old.initial old.connection item rows
     (rw c.new-said.ensures.items at c.in_ok-say_local.ensures)
-    (rw (unmatched, c.at-ack.ensures) at c.in_ok-say_if.ensures.ok)
+    (rw (c.is_unmatched.ensures, c.at-ack.ensures) at c.in_ok-say_if.ensures.ok)
     c.in_ok-meet.ensures.said c.in_ok-rows-2.ensures.said in
     record {
       state = next state frame;

@@ -1,12 +1,8 @@
 use Rattle.std.proofs.Common.{◌≡◌, ℕ, ◌+◌, ◌*◌, ◌^◌, ◌≤◌, ◌++◌, drop}
-use Rattle.std.specs.List.{All, find}
-use Rattle.audit_terms.specs.code.Room.{HasRoom}
-use Rattle.audit_terms.specs.code.runs.Changes.{changes_from}
-use Rattle.audit_terms.specs.code.runs.Orderly.{IsOrderlyFrom}
-use Rattle.audit_terms.specs.Pass.{PassState, full, full_from, streams_of}
-use Rattle.audit_core.specs.code.StreamRows.{RowFits, rows_in}
-use Rattle.audit_core.proofs.PassRows.{is_at}
 use Rattle.audit_core.proofs.passes.one_pass.Given as goal
+use Rattle.audit_core.proofs.Words.{All, find, HasRoom, changes_from, IsOrderlyFrom, PassState, full, full_from}
+use Rattle.audit_core.proofs.Words.{streams_of, RowFits, rows_in}
+use Rattle.audit_core.proofs.PassRows.{is_at}
 
 abbrev pub invariant-loop-frame : goal.invariant-loop-frame
 invariant-loop-frame l = record {

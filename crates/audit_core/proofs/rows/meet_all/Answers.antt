@@ -1,15 +1,9 @@
 use Rattle.std.proofs.Common.{◌≡◌, ℕ, ◌+◌, ◌^◌, ◌<◌, List, [], ◌∷◌, ◌++◌, length, get_or, take, map, refl, sym, subst}
-use Rattle.std.specs.List.{All, flat_map}
 use Rattle.std.proofs.lemmas.List.{take_more, map_more, flat_map_more}
 use Rattle.std.proofs.lemmas.List.Elements.{All-push}
-use Rattle.audit_terms.specs.declared.sides.Sides.{Sides}
-use Rattle.audit_terms.specs.declared.items.Item.{Item}
-use Rattle.audit_terms.specs.declared.streams.Stream.{Stream}
-use Rattle.audit_terms.specs.declared.findings.Finding.{Finding}
-use Rattle.audit_terms.specs.code.runs.Streams.{IsAcknowledged}
-use Rattle.audit_core.specs.declared.rows.StreamRow.{StreamRow}
-use Rattle.audit_core.specs.code.StreamRows.{RowFits, row_said, row_after}
 use Rattle.audit_core.proofs.rows.meet_all.Goals as goal
+use Rattle.audit_core.proofs.Words.{All, flat_map, Sides, Item, Stream, Finding, IsAcknowledged, StreamRow, RowFits}
+use Rattle.audit_core.proofs.Words.{row_said, row_after}
 
 module _ (initial : Sides ℕ) (item : Item) (rows : List StreamRow) (i : ℕ) (d : StreamRow)
     (within : i < length rows) where

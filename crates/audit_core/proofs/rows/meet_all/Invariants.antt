@@ -1,7 +1,6 @@
 use Rattle.std.proofs.Common.{◌≡◌, ℕ, ◌+◌, ◌^◌, ◌++◌, map, take}
-use Rattle.std.specs.List.{All, flat_map}
-use Rattle.audit_core.specs.code.StreamRows.{RowFits, row_said, row_after}
 use Rattle.audit_core.proofs.rows.meet_all.Given as goal
+use Rattle.audit_core.proofs.Words.{All, flat_map, RowFits, row_said, row_after}
 
 abbrev pub invariant-loop-row : goal.invariant-loop-row
 invariant-loop-row l = record {

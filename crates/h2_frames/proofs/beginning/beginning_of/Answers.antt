@@ -1,7 +1,6 @@
 use Rattle.std.proofs.Common.{◌≡◌, ◌≢◌, ℕ, zero, suc, ◌<◌, List, [], ◌∷◌, ◌++◌, length, get_or, take, drop, sym, ap}
 use Rattle.std.proofs.Common.{◌∙◌, arith, length-drop, append_assoc}
-use Rattle.std.proofs.lemmas.List.{append-nil, take-append-drop}
-use Rattle.h2_frames.specs.Preface.{preface, IsPrefaceCutShort}
+use Rattle.h2_frames.proofs.Words.{append-nil, take-append-drop, preface, IsPrefaceCutShort}
 use Rattle.h2_frames.specs.code.Pieces.{bytes_of}
 use Rattle.h2_frames.proofs.beginning.beginning_of.Goals as goal
 

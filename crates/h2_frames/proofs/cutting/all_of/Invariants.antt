@@ -1,6 +1,5 @@
 use Rattle.std.proofs.Common.{[]}
-use Rattle.tcp_streams.specs.declared.streams.Flow.{Flow}
-use Rattle.h2_frames.specs.code.Walk.{IsReadyWalk, IsWalkAfter, weight_of}
+use Rattle.h2_frames.proofs.Words.{Flow, IsReadyWalk, IsWalkAfter, weight_of}
 use Rattle.h2_frames.proofs.cutting.all_of.Given as goal
 
 abbrev pub invariant-loop-frames : goal.invariant-loop-frames

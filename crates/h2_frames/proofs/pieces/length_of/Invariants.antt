@@ -1,5 +1,5 @@
 use Rattle.std.proofs.Common.{◌≡◌, ◌+◌, length, drop}
-use Rattle.h2_frames.specs.code.Pieces.{joined}
+use Rattle.h2_frames.proofs.Words.{joined}
 use Rattle.h2_frames.proofs.pieces.length_of.Given as goal
 
 abbrev pub invariant-loop-piece : goal.invariant-loop-piece

@@ -1,5 +1,5 @@
 use Rattle.std.proofs.Common.{◌≡◌, length}
-use Rattle.h2_frames.specs.Settings.{settings_in, settings_of}
+use Rattle.h2_frames.proofs.Words.{settings_in, settings_of}
 use Rattle.h2_frames.proofs.SettingsRead.{with_later}
 use Rattle.h2_frames.proofs.settings.settings_of.Given as goal
 

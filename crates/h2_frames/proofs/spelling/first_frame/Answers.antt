@@ -1,5 +1,6 @@
 use Rattle.std.proofs.Common.{◌≡◌, ℕ, List, ◌++◌, take, drop, length, arith, ap, sym, ◌∙◌, append_assoc}
-use Rattle.std.proofs.lemmas.List.{take-append-drop, length-take-le}
+use Rattle.std.proofs.lemmas.List.{length-take-le}
+use Rattle.h2_frames.proofs.Words.{take-append-drop}
 use Rattle.h2_frames.proofs.spelling.first_frame.Goals as goal
 
 -- two cuts leave three parts

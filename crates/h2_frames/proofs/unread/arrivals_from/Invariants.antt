@@ -1,5 +1,5 @@
 use Rattle.std.proofs.Common.{◌≡◌, length}
-use Rattle.h2_frames.specs.code.Steps.{arrivals_from}
+use Rattle.h2_frames.proofs.Words.{arrivals_from}
 use Rattle.h2_frames.proofs.unread.arrivals_from.Given as goal
 
 abbrev pub invariant-loop-first : goal.invariant-loop-first

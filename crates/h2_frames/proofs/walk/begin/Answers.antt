@@ -1,6 +1,6 @@
 use Rattle.std.proofs.Common.{◌≡◌, ap, ◌∙◌}
-use Rattle.tcp_streams.specs.Bytes.{bytes_of, joined}
-use Rattle.h2_frames.specs.code.Pieces.{bytes_of as bytes_left}
+use Rattle.h2_frames.proofs.Words.{bytes_of, bytes_left}
+use Rattle.tcp_streams.specs.Bytes.{joined}
 use Rattle.h2_frames.proofs.walk.begin.Goals as goal
 
 pub returns-in-Other : goal.returns-in-Other

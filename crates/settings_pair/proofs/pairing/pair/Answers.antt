@@ -1,14 +1,6 @@
-use Rattle.std.proofs.Common.{◌≡◌, ◌+◌, ◌∷◌, ◌++◌, drop, append_assoc, refl, sym, ap, subst, ◌∙◌, arith}
-use Rattle.std.specs.Option.{option_to_list}
-use Rattle.std.proofs.lemmas.List.{append-nil, drop_all}
-use Rattle.audit_terms.specs.declared.frames.Frame.{Frame}
-use Rattle.audit_terms.specs.code.runs.Orderly.{IsOrderlyFrom}
-use Rattle.audit_terms.specs.InForce.{initial_in_force, in_force_after, change_of, settings_said}
-use Rattle.audit_terms.specs.code.runs.Changes.{changes_from, settings_run_from}
-use Rattle.settings_pair.specs.code.Waiting.{IsWaiting}
-use Rattle.settings_pair.proofs.FrameByFrame.{drop-at, take-at}
+use Rattle.std.proofs.Common.{refl}
+use Rattle.settings_pair.proofs.Words.{initial_in_force}
 use Rattle.settings_pair.proofs.WaitingLemmas.{waiting-at_start}
-use Rattle.settings_pair.proofs.OrderLemmas.{found-orderly, found-acknowledged}
 use Rattle.settings_pair.proofs.pairing.pair.Goals as goal
 
 pub loop-at-init : goal.loop-at-init
@@ -20,51 +12,3 @@ loop-at-init c = record {
   changes = rw c.new.ensures.items refl;
   findings = rw c.new-2.ensures.items refl;
 }
-
-pub returns-clause-orderly : goal.returns-clause-orderly
-returns-clause-orderly c =
-    let i = c.loop-at.invariant in
-    found-orderly i.now c.loop-at.pairs.changes.items c.args.frames.now c.loop-at.at c.requires (omega arith) i.changes
-
-pub returns-clause-acknowledged : goal.returns-clause-acknowledged
-returns-clause-acknowledged c =
-    let i = c.loop-at.invariant in
-    found-acknowledged i.now c.loop-at.pairs.changes.items c.args.frames.now c.loop-at.at c.requires
-    (omega arith) i.changes
-
-pub loop-at-preserved : goal.loop-at-preserved
-loop-at-preserved c =
-    let frames = c.args.frames.now in
-    let at = c.loop-at.at in
-    let i = c.loop-at.invariant in
-    let frame : Frame = c.index-frames-at.result in
-    let after = in_force_after i.now frame in
-    let rest = drop (at + 1) frames in
-    let left : drop at frames ≡ frame ∷ rest = drop-at frames at frame c.index-frames-at.is c.loop-at-test.true in
-    let met = c.in_ok-meet.ensures in
-    let orderly : IsOrderlyFrom i.low (frame ∷ rest) = subst (IsOrderlyFrom i.low) left i.orderly in
-    record {
-      now = after;
-      low = frame.number + 1;
-      waiting = subst (λ seen. IsWaiting after seen c.meet.new.waiting)
-          (sym (take-at frames at frame c.index-frames-at.is c.loop-at-test.true)) (met.waiting i.now i.waiting);
-      orderly = orderly.2;
-      changes = ap (λ l. l ++ changes_from after rest) (met.changes i.now i.waiting)
-          ∙ append_assoc _ (option_to_list (change_of i.now frame)) _
-          ∙ ap (λ l. c.loop-at.pairs.changes.items ++ changes_from i.now l) (sym left) ∙ i.changes;
-      findings = ap (λ l. l ++ settings_run_from after rest) (met.findings i.now i.waiting)
-          ∙ append_assoc _ (settings_said i.now frame) _
-          ∙ ap (λ l. c.loop-at.pairs.findings.items ++ settings_run_from i.now l) (sym left) ∙ i.findings;
-    }
-
-pub returns-clause-changes : goal.returns-clause-changes
-returns-clause-changes c =
-    let i = c.loop-at.invariant in
-    sym (append-nil _) ∙ ap (λ l. c.loop-at.pairs.changes.items ++ changes_from i.now l)
-    (sym (drop_all c.loop-at.at c.args.frames.now c.loop-at-test.false)) ∙ i.changes
-
-pub returns-clause-findings : goal.returns-clause-findings
-returns-clause-findings c =
-    let i = c.loop-at.invariant in
-    sym (append-nil _) ∙ ap (λ l. c.loop-at.pairs.findings.items ++ settings_run_from i.now l)
-    (sym (drop_all c.loop-at.at c.args.frames.now c.loop-at-test.false)) ∙ i.findings

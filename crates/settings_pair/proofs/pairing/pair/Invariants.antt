@@ -1,8 +1,6 @@
 use Rattle.std.proofs.Common.{◌≡◌, ◌++◌, ℕ, take, drop}
-use Rattle.audit_terms.specs.code.runs.Orderly.{IsOrderlyFrom}
-use Rattle.audit_terms.specs.InForce.{InForce}
-use Rattle.audit_terms.specs.code.runs.Changes.{changes_from, changes_of, settings_run_from, settings_run}
-use Rattle.settings_pair.specs.code.Waiting.{IsWaiting}
+use Rattle.settings_pair.proofs.Words.{IsOrderlyFrom, InForce, changes_from, changes_of, settings_run_from}
+use Rattle.settings_pair.proofs.Words.{settings_run, IsWaiting}
 use Rattle.settings_pair.proofs.pairing.pair.Given as goal
 
 -- what was found so far, and what the rest shows from the settings in force there, is the whole answer

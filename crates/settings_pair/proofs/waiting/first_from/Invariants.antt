@@ -1,5 +1,5 @@
 use Rattle.std.proofs.Common.{◌≡◌, ◌≤◌, ◌-◌, length, drop}
-use Rattle.settings_pair.specs.code.Waiting.{sent_by}
+use Rattle.settings_pair.proofs.Words.{sent_by}
 use Rattle.settings_pair.proofs.waiting.first_from.Given as goal
 
 -- the sender sent no settings at the frames gone through

@@ -1,6 +1,6 @@
 use Rattle.std.proofs.Common.{List, [], ◌++◌, refl, ap, sym, ◌∙◌, append_assoc, arith}
 use Rattle.std.specs.Prelude.{ℕ}
-use Rattle.std.proofs.lemmas.List.{append-nil}
+use Rattle.h2_frames.proofs.Words.{append-nil}
 use Rattle.h2_frames.proofs.Gathering.{partly_taken-turn}
 use Rattle.h2_frames.proofs.pieces.Pieces.gather.Goals as goal
 

@@ -1,18 +1,7 @@
-use Rattle.std.proofs.Common.{◌≡◌, ◌<◌, length, refl, ap, arith}
-use Rattle.audit_terms.specs.declared.frames.Frame.{Frame}
-use Rattle.h2_frames.specs.code.Pieces.{IsOneTaken}
-use Rattle.h2_frames.proofs.Reading.{ahead_before, frame_arrives, frame_readable, placed_after}
+use Rattle.std.proofs.Common.{◌≡◌, refl, ap, arith}
 use Rattle.h2_frames.proofs.unread.Unread.read.Goals as goal
-
-pub bounds-to_come-0 : goal.bounds-to_come-0
-bounds-to_come-0 c =
-    let one : IsOneTaken c.in-Some.spelled c.args.self.now.bytes c.take_frame.new.self = rw c.in-Some.is at
-    c.in_ok-spelled.ensures in
-    let there : 0 < length c.arrivals_of_frame-to_come.result.now =
-    rw c.arrivals_of_frame-to_come.ensures
-    (frame_arrives c.args.self.now c.requires.placed c.in-Some.spelled one.header one.payload
-    _ one.bytes one.makes _ refl) in
-    omega (arith, there)
+use Rattle.h2_frames.proofs.Words.{Frame, IsOneTaken}
+use Rattle.h2_frames.proofs.Reading.{ahead_before, frame_arrives, frame_readable, placed_after}
 
 pub returns-clause-ready : goal.returns-clause-ready
 returns-clause-ready c =

@@ -1,7 +1,5 @@
 use Rattle.std.proofs.Common.{◌+◌, refl, arith}
-use Rattle.audit_terms.specs.code.runs.Orderly.{IsInRange}
-use Rattle.h2_frames.specs.code.Walk.{taken_of}
-use Rattle.h2_frames.specs.code.Steps.{IsReadable}
+use Rattle.h2_frames.proofs.Words.{IsInRange, taken_of, IsReadable}
 use Rattle.h2_frames.proofs.Walking.{walk-turn}
 use Rattle.h2_frames.proofs.walk.FrameWalk.take_next.Goals as goal
 
