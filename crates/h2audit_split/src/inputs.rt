@@ -2,8 +2,12 @@
 
 ghost use Rattle.std.specs.Prelude.{◌<◌, ◌≤◌, length};
 
+use crate::dealer::Dealer;
 use crate::failure::Failure;
-use capture_split::{Dealer, Part, SplitFault, link_type, read_header, split_file, split_last};
+use crate::fault::SplitFault;
+use crate::header::link_type;
+use crate::part::Part;
+use crate::splitting::{read_header, split_file, split_last};
 use pcap_records::refusal;
 use std::alloc::Global;
 use std::fs::File;

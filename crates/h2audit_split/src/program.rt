@@ -3,10 +3,12 @@
 ghost use Rattle.std.specs.Prelude.{◌≡◌, ◌<◌, ◌≤◌, IfOk, length, vec_len};
 
 use crate::command::{Asked, Words, parse_words};
+use crate::dealer::Dealer;
 use crate::failure::{Ending, Failure};
 use crate::inputs::{CaptureFile, Header, begin, open, split_later, split_named};
 use crate::outputs::{create_parts, finish_parts};
-use capture_split::{Dealer, Part, split_capture};
+use crate::part::Part;
+use crate::splitting::split_capture;
 use std::alloc::Global;
 use std::env;
 use std::io::{Read, Write};
