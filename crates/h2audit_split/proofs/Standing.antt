@@ -1,10 +1,11 @@
 -- From one place of a dealer in a capture to the next.
-use Rattle.std.proofs.Common.{◌≡◌, ℕ, ◌+◌, ◌-◌, ◌<◌, ◌≤◌, ◌==◌, ◌∙◌, min, Bool, true, false, if◌then◌else◌, Option}
-use Rattle.std.proofs.Common.{List, [], ◌∷◌, ◌++◌, length, drop, take, take-append-drop, refl, sym, ap, subst, arith}
-use Rattle.std.proofs.Common.{append_assoc, append-nil, length-append, inl, inr}
+use Rattle.std.proofs.Common.{◌≡◌, ℕ, ◌+◌, ◌-◌, ◌<◌, ◌≤◌, ◌∙◌, min, Bool, true, false, Option}
+use Rattle.std.proofs.Common.{List, [], ◌∷◌, ◌++◌, length, drop, take, take-append-drop, refl, sym, ap, ap₂, subst}
+use Rattle.std.proofs.Common.{arith, append_assoc, append-nil, length-append, inl, inr}
 use Rattle.std.specs.List.{AllByRecursion, concat}
 use Rattle.std.proofs.lemmas.Bool.{cases_eq}
-use Rattle.std.proofs.lemmas.List.{length-take-le}
+use Rattle.std.proofs.lemmas.List.{length-take-le, take_min}
+use Rattle.std.proofs.lemmas.List.Elements.{All-from_recursion, All-push, recursion_from_All}
 use Rattle.std.proofs.lemmas.List.Folds.{concat-append}
 use Rattle.byteorder.specs.Endian.{big_bytes}
 use Rattle.byteorder.specs.Numbers.{big_from-append, little_from-append}
@@ -13,16 +14,16 @@ use Rattle.pcap_records.proofs.Fronts.{ReadsFirst, in_front}
 use Rattle.h2audit_split.specs.Dealt.{IsRecord, part_at, part_bytes, part_numbers}
 use Rattle.h2audit_split.specs.Parts.{AllGrow, AreSplit}
 use Rattle.h2audit_split.specs.Files.{IsDealt, order_of}
-use Rattle.h2audit_split.specs.code.Dealing.{OneGrows}
+use Rattle.h2audit_split.specs.code.Dealing.{HasEntered, OneGrows}
 use Rattle.h2audit_split.specs.declared.dealer.Dealer.{Dealer}
 use Rattle.h2audit_split.specs.declared.part.Part.{Part}
-use Rattle.h2audit_split.specs.Pair.{front_of, pair_of, part_of}
-use Rattle.h2audit_split.proofs.Given.{bytes-first, bytes-more, front-first, given_from-empty, numbers-first}
-use Rattle.h2audit_split.proofs.Given.{numbers-more, part_at-more}
-use Rattle.h2audit_split.proofs.Growth.{AllGrow-named, AllGrow-none, AllGrow-one}
+use Rattle.h2audit_split.specs.Pair.{front_of}
+use Rattle.h2audit_split.proofs.Given.{given-more, given-some, given_from-empty, given_from-more}
+use Rattle.h2audit_split.proofs.Given.{part_at-more}
+use Rattle.h2audit_split.proofs.Growth.{AllGrow-named, AllGrow-none, AllGrow-one, OneGrows-bytes}
 
 -- numbers are read from their own bytes
-pub reads_first : (little : Bool) → ReadsFirst (order_of little)
+reads_first : (little : Bool) → ReadsFirst (order_of little)
 reads_first true n xs ys h = little_from-append n xs ys h
 reads_first false n xs ys h = big_from-append n xs ys h
 
@@ -33,17 +34,53 @@ captured-more little front more long = in_front (order_of little) (reads_first l
     (omega (arith, long))
 
 -- one record more
-pub all-snoc : {X : Type 0} (P : X → Type 0) (xs : List X) (x : X) → AllByRecursion P xs → P x
+all-snoc : {X : Type 0} (P : X → Type 0) (xs : List X) (x : X) → AllByRecursion P xs → P x
     → AllByRecursion P (xs ++ x ∷ [])
-all-snoc P [] x all one = (one, tt)
-all-snoc P (y ∷ ys) x all one = (all.0, all-snoc P ys x all.1 one)
+all-snoc P xs x all one = recursion_from_All P (xs ++ x ∷ []) (All-push P xs x (All-from_recursion P xs all) one)
 
-pub concat-snoc : (xs : List (List ℕ)) (x : List ℕ) → concat (xs ++ x ∷ []) ≡ concat xs ++ x
+concat-snoc : (xs : List (List ℕ)) (x : List ℕ) → concat (xs ++ x ∷ []) ≡ concat xs ++ x
 concat-snoc xs x = concat-append xs (x ∷ []) ∙ ap (λ (l : List ℕ). concat xs ++ l) (append-nil x)
 
+-- of a record its bytes are taken, or its number
+abbrev bytes_taken : ℕ → List ℕ → List ℕ
+bytes_taken n bytes = bytes
+
+abbrev number_taken : ℕ → List ℕ → List ℕ
+number_taken n bytes = big_bytes 8 n
+
 module _ {W : Type 0} (contents : W → Option (List ℕ)) where
+  -- the parts have got these records and this front of one more
+  abbrev HaveGot : (link : ℕ) (first new : List (Part W)) (records : List (List ℕ)) (front : List ℕ) → Type 0
+  HaveGot link first new records front = AllGrow contents first new
+      (λ i. part_bytes link (length first) i records front) (λ i. part_numbers link (length first) i records front)
+
+  -- behind a record's number and its first bytes, where the dealer stood between two records
+  begun : {d : Dealer} (e : Dealer) {first old mid new : List (Part W)} {bytes x : List ℕ} → d.left ≡ 0
+      → 0 < length x → HasEntered contents d e old mid (front_of (drop 16 x)) → OneGrows contents mid new e.part x []
+      → (was : IsDealt contents d first old bytes)
+      → (bytes ++ x ≡ concat was.records ++ x) × (e.number ≡ length was.records + 1)
+      × (e.part ≡ part_at d.link (length first) e.number x) × HaveGot d.link first new was.records x
+  begun {d} e {first} {old} {mid} {new} {bytes} {x} none some entered one was =
+      let (empty, so_far) = was.stands.between none in
+      let are = was.are ∙ ap (λ (l : List ℕ). concat was.records ++ l) empty ∙ append-nil (concat was.records) in
+      let next : e.number ≡ length was.records + 1 = entered.number ∙ ap (λ (k : ℕ). k + 1) so_far in
+      let parts : ℕ = length first in
+      let at : e.part ≡ part_at d.link parts e.number x =
+      rw (← entered.link, ← was.parts.count, ← entered.grows.count) entered.part in (
+        ap (λ (l : List ℕ). l ++ x) are,
+        next,
+        at,
+        AllGrow-one contents first old new e.part _ _ _ _ x (big_bytes 8 e.number)
+            (λ i. given_from-more d.link parts bytes_taken i was.records e.number [] x _ next
+            (rw at (sym (given-some d.link parts bytes_taken i e.number x some))))
+            (λ i. given_from-more d.link parts number_taken i was.records e.number [] x _ next
+            (rw at (sym (given-some d.link parts number_taken i e.number x some))))
+            (subst (HaveGot d.link first old was.records) empty was.parts)
+            (OneGrows-bytes contents old mid new e.part x (big_bytes 8 e.number) entered.grows one),
+      )
+
   -- behind the bytes x of a record that was begun behind others
-  pub settled : (d : Dealer) (first new : List (Part W)) (records : List (List ℕ)) (x bytes : List ℕ)
+  settled : (d : Dealer) (first new : List (Part W)) (records : List (List ℕ)) (x bytes : List ℕ)
       → bytes ≡ concat records ++ x
       → AllByRecursion (IsRecord (order_of d.is_little)) records
       → d.number ≡ length records + 1
@@ -51,15 +88,13 @@ module _ {W : Type 0} (contents : W → Option (List ℕ)) where
       → (0 < d.left → 98 ≤ length x)
       → 16 ≤ length x
       → length x + d.left ≡ 16 + captured_length (order_of d.is_little) x
-      → AllGrow contents first new (λ i. part_bytes d.link (length first) i records x)
-      (λ i. part_numbers d.link (length first) i records x)
+      → HaveGot d.link first new records x
       → IsDealt contents d first new bytes
   settled d first new records x bytes are whole number part enough header left parts = elim (cases_eq d.left 0) [
     | inl done ↦ record {
       records = records ++ x ∷ [];
       front = [];
-      are = are ∙ sym (append-nil (concat records ++ x) ∙ refl)
-          ∙ ap (λ (l : List ℕ). l ++ []) (sym (concat-snoc records x));
+      are = are ∙ sym (concat-snoc records x) ∙ sym (append-nil (concat (records ++ x ∷ [])));
       stands = record {
         whole = all-snoc (IsRecord (order_of d.is_little)) records x whole
             ((header, omega (arith, left, done)), omega (arith, left, done));
@@ -67,8 +102,8 @@ module _ {W : Type 0} (contents : W → Option (List ℕ)) where
         within = λ some. absurd (omega (arith, some, done));
       };
       parts = AllGrow-named contents first new _ _ _ _
-          (λ i. sym (given_from-empty d.link (length first) (λ n b. b) i 1 (records ++ x ∷ [])))
-          (λ i. sym (given_from-empty d.link (length first) (λ n b. big_bytes 8 n) i 1 (records ++ x ∷ []))) parts;
+          (λ i. sym (given_from-empty d.link (length first) bytes_taken i 1 (records ++ x ∷ [])))
+          (λ i. sym (given_from-empty d.link (length first) number_taken i 1 (records ++ x ∷ []))) parts;
     }
     | inr more ↦
         let some : 0 < d.left = omega (arith, more) in
@@ -86,100 +121,64 @@ module _ {W : Type 0} (contents : W → Option (List ℕ)) where
   ]
 
   -- more of a record was dealt
-  pub dealt_more : (d : Dealer) (first old new : List (Part W)) (bytes unread : List ℕ) (n : ℕ) → 0 < d.left
+  pub dealt_more : {d : Dealer} {first old new : List (Part W)} {bytes : List ℕ} (unread : List ℕ) (n : ℕ) → 0 < d.left
       → n ≡ min d.left (length unread) → OneGrows contents old new d.part (take n unread) []
-      → IsDealt contents d first old bytes → IsDealt contents (record d { left = d.left - n }) first new
-      (bytes ++ take n unread)
-  dealt_more d first old new bytes unread n some count one was =
-      let w = was.stands.within some in
+      → IsDealt contents d first old bytes
+      → IsDealt contents (record d { left = d.left - n }) first new (bytes ++ take n unread)
+  dealt_more {d} {first} {old} {new} {bytes} unread n some count one was =
+      let record { number = number; part = part; enough = enough; left = left } = was.stands.within some in
+      let parts : ℕ = length first in
+      let front : List ℕ = was.front in
       let chunk : List ℕ = take n unread in
-      let x : List ℕ = was.front ++ chunk in
       let size : length chunk ≡ n = length-take-le n unread (omega (arith, count)) in
-      let sum : length x ≡ length was.front + n = length-append was.front chunk
-      ∙ ap (λ (k : ℕ). length was.front + k) size in
-      let same_part : part_at d.link (length first) d.number x ≡ part_at d.link (length first) d.number was.front =
-      part_at-more d.link (length first) d.number was.front chunk w.enough in
-      let grown : AllGrow contents first new
-      (λ i. part_bytes d.link (length first) i was.records was.front ++ (if d.part == i then chunk else []))
-      (λ i. part_numbers d.link (length first) i was.records was.front ++ (if d.part == i then [] else [])) =
-      AllGrow-one contents first old new d.part _ _ chunk [] was.parts one in
-      settled (record d { left = d.left - n }) first new was.records x (bytes ++ chunk)
-      (ap (λ (l : List ℕ). l ++ chunk) was.are ∙ append_assoc (concat was.records) was.front chunk)
-      was.stands.whole w.number (w.part ∙ sym same_part)
-      (λ _. omega (arith, sum, w.enough)) (omega (arith, sum, w.enough))
-      (let captured = captured-more d.is_little was.front chunk (omega (arith, w.enough)) in
-      omega (arith, sum, w.left, captured, count))
-      (AllGrow-named contents first new _ _ _ _
-      (λ i. ap (λ (p : ℕ). part_bytes d.link (length first) i was.records was.front
-      ++ (if p == i then chunk else [])) w.part
-      ∙ bytes-more d.link (length first) i was.records was.front chunk d.number w.enough w.number)
-      (λ i. ap (λ (p : ℕ). part_numbers d.link (length first) i was.records was.front
-      ++ (if p == i then [] else [])) w.part
-      ∙ numbers-more d.link (length first) i was.records was.front chunk d.number w.enough w.number)
-      grown)
+      let sum : length (front ++ chunk) ≡ length front + n = omega (arith, length-append front chunk, size) in
+      let captured = captured-more d.is_little front chunk (omega (arith, enough)) in
+      let none_more : big_bytes 8 d.number ≡ big_bytes 8 d.number ++ [] = sym (append-nil (big_bytes 8 d.number)) in
+      settled (record d { left = d.left - n }) first new was.records (front ++ chunk) (bytes ++ chunk)
+      (ap (λ (l : List ℕ). l ++ chunk) was.are ∙ append_assoc (concat was.records) front chunk)
+      was.stands.whole number (part ∙ sym (part_at-more d.link parts d.number front chunk enough))
+      (λ _. omega (arith, sum, enough)) (omega (arith, sum, enough)) (omega (arith, sum, left, captured, count))
+      (AllGrow-one contents first old new d.part _ _ _ _ chunk []
+      (λ i. given_from-more d.link parts bytes_taken i was.records d.number front (front ++ chunk) _ number
+      (rw part (given-more d.link parts bytes_taken i d.number front chunk chunk enough refl)))
+      (λ i. given_from-more d.link parts number_taken i was.records d.number front (front ++ chunk) _ number
+      (rw part (given-more d.link parts number_taken i d.number front chunk [] enough none_more)))
+      was.parts one)
 
   -- a record was begun, and its first bytes were dealt
-  pub dealt_first : (d e : Dealer) (first old mid new : List (Part W)) (bytes unread : List ℕ) (n : ℕ) → d.left ≡ 0
-      → (e.link ≡ d.link) × (e.is_little ≡ d.is_little)
-      → e.number ≡ d.number + 1
-      → e.part ≡ part_of (length mid) e.number
-      (pair_of e.link (front_of (take (captured_length (order_of d.is_little) unread) (drop 16 unread))))
+  pub dealt_first : {d : Dealer} (e : Dealer) {first old mid new : List (Part W)} {bytes : List ℕ} (unread : List ℕ)
+      (n : ℕ) → d.left ≡ 0 → e.is_little ≡ d.is_little
+      → HasEntered contents d e old mid
+      (front_of (drop 16 (take (16 + captured_length (order_of d.is_little) unread) unread)))
       → e.left ≡ 16 + captured_length (order_of d.is_little) unread
       → 16 + min 82 (captured_length (order_of d.is_little) unread) ≤ length unread
       → n ≡ min e.left (length unread)
-      → OneGrows contents old mid e.part [] (big_bytes 8 e.number)
       → OneGrows contents mid new e.part (take n unread) []
-      → IsDealt contents d first old bytes → IsDealt contents (record e { left = e.left - n }) first new
-      (bytes ++ take n unread)
-  dealt_first d e first old mid new bytes unread n none same number part left enough count begun one was =
-      let w = was.stands.between none in
-      let captured : ℕ = captured_length (order_of d.is_little) unread in
+      → IsDealt contents d first old bytes
+      → IsDealt contents (record e { left = e.left - n }) first new (bytes ++ take n unread)
+  dealt_first {d} e {first} {old} {mid} {new} {bytes} unread n none little entered left enough count one was =
       let chunk : List ℕ = take n unread in
       let size : length chunk ≡ n = length-take-le n unread (omega (arith, count)) in
       let long : 16 ≤ length chunk = omega (arith, size, count, left, enough) in
-      let whole : chunk ++ drop n unread ≡ unread = take-append-drop n unread in
-      let order : order_of e.is_little ≡ order_of d.is_little = ap order_of same.1 in
-      let captured_same : captured ≡ captured_length (order_of e.is_little) chunk =
-      ap (captured_length (order_of d.is_little)) (sym whole) ∙ captured-more d.is_little chunk (drop n unread) long
-      ∙ ap (λ (b : Bool). captured_length (order_of b) chunk) (sym same.1) in
-      let front : front_of (take captured (drop 16 unread)) ≡ front_of (drop 16 chunk) =
-      front-first captured n unread (omega (arith, enough)) (omega (arith, count, left)) in
-      let mid_count : length mid ≡ length first = begun.count ∙ was.parts.count in
-      let at : e.part ≡ part_at e.link (length first) e.number chunk =
-      part ∙ ap (λ (f : List ℕ). part_of (length mid) e.number (pair_of e.link f)) front
-      ∙ ap (λ (k : ℕ). part_of k e.number (pair_of e.link (front_of (drop 16 chunk)))) mid_count in
-      let next : e.number ≡ length was.records + 1 = number ∙ ap (λ (k : ℕ). k + 1) w.1 in
-      let some : 0 < length chunk = omega (arith, long) in
-      let parts : AllGrow contents first old (λ i. part_bytes d.link (length first) i was.records [])
-      (λ i. part_numbers d.link (length first) i was.records []) =
-      subst (λ (f : List ℕ). AllGrow contents first old (λ i. part_bytes d.link (length first) i was.records f)
-      (λ i. part_numbers d.link (length first) i was.records f)) w.0 was.parts in
-      let of_link : AllGrow contents first old (λ i. part_bytes e.link (length first) i was.records [])
-      (λ i. part_numbers e.link (length first) i was.records []) =
-      subst (λ (link : ℕ). AllGrow contents first old (λ i. part_bytes link (length first) i was.records [])
-      (λ i. part_numbers link (length first) i was.records [])) (sym same.0) parts in
-      let grown = AllGrow-one contents first mid new e.part _ _ chunk []
-      (AllGrow-one contents first old mid e.part _ _ [] (big_bytes 8 e.number) of_link begun) one in
-      settled (record e { left = e.left - n }) first new was.records chunk (bytes ++ chunk)
-      (ap (λ (l : List ℕ). l ++ chunk) (was.are ∙ ap (λ (l : List ℕ). concat was.records ++ l) w.0
-      ∙ append-nil (concat was.records)))
-      (subst (λ (b : Bool). AllByRecursion (IsRecord (order_of b)) was.records) (sym same.1) was.stands.whole)
-      next at
-      (λ more. omega (arith, more, size, count, left, enough)) long
-      (omega (arith, size, count, left, captured_same))
-      (AllGrow-named contents first new _ _ _ _
-      (λ i. ap (λ (p : ℕ). (part_bytes e.link (length first) i was.records [] ++ (if p == i then [] else []))
-      ++ (if p == i then chunk else [])) at
-      ∙ bytes-first e.link (length first) i was.records chunk e.number some next)
-      (λ i. ap (λ (p : ℕ). (part_numbers e.link (length first) i was.records []
-      ++ (if p == i then big_bytes 8 e.number else [])) ++ (if p == i then [] else [])) at
-      ∙ numbers-first e.link (length first) i was.records chunk e.number some next)
-      grown)
+      let whole : chunk ≡ take (16 + captured_length (order_of d.is_little) unread) unread =
+      ap (λ (k : ℕ). take k unread) count ∙ take_min e.left unread ∙ ap (λ (k : ℕ). take k unread) left in
+      let captured : captured_length (order_of d.is_little) unread ≡ captured_length (order_of d.is_little) chunk =
+      ap (captured_length (order_of d.is_little)) (sym (take-append-drop n unread))
+      ∙ captured-more d.is_little chunk (drop n unread) long in
+      let (are, next, at, parts) = begun e none (omega (arith, long)) (rw whole entered) one was in
+      -- by the order and the link type, which stay
+      let settles : Dealer = record e { is_little = d.is_little; link = d.link; left = e.left - n } in
+      let same : settles ≡ record e { left = e.left - n } =
+      ap₂ (λ (b : Bool) (l : ℕ). record e { is_little = b; link = l; left = e.left - n }) (sym little)
+      (sym entered.link) in
+      subst (λ (x : Dealer). IsDealt contents x first new (bytes ++ chunk)) same
+      (settled settles first new was.records chunk (bytes ++ chunk) are was.stands.whole next at
+      (λ more. omega (arith, more, size, count, left, enough)) long (omega (arith, size, count, left, captured)) parts)
 
   -- the end of a capture, where no bytes are left
-  pub dealt_all : (d : Dealer) (first new : List (Part W)) (bytes : List ℕ)
+  pub dealt_all : {d : Dealer} {first new : List (Part W)} {bytes : List ℕ}
       → IsDealt contents d first new bytes → AreSplit contents (order_of d.is_little) d.link bytes first new
-  dealt_all d first new bytes was = record {
+  dealt_all {d} was = record {
     records = was.records;
     rest = was.front;
     reading = record {
@@ -194,46 +193,18 @@ module _ {W : Type 0} (contents : W → Option (List ℕ)) where
   }
 
   -- the end of a capture within a record, of which too little is there to tell that it is cut
-  pub dealt_rest : (d e : Dealer) (first old mid new : List (Part W)) (bytes rest : List ℕ) → d.left ≡ 0
-      → ¬ BeginsWithRecord (order_of d.is_little) rest
-      → 0 < length rest
-      → (e.link ≡ d.link)
-      → e.number ≡ d.number + 1
-      → e.part ≡ part_of (length mid) e.number (pair_of e.link (front_of (drop 16 rest)))
-      → OneGrows contents old mid e.part [] (big_bytes 8 e.number)
-      → OneGrows contents mid new e.part rest []
+  pub dealt_rest : {d : Dealer} (e : Dealer) {first old mid new : List (Part W)} {bytes rest : List ℕ} → d.left ≡ 0
+      → ¬ BeginsWithRecord (order_of d.is_little) rest → 0 < length rest
+      → HasEntered contents d e old mid (front_of (drop 16 rest)) → OneGrows contents mid new e.part rest []
       → IsDealt contents d first old bytes
       → AreSplit contents (order_of d.is_little) d.link (bytes ++ rest) first new
-  dealt_rest d e first old mid new bytes rest none cut some link number part begun one was =
-      let w = was.stands.between none in
-      let mid_count : length mid ≡ length first = begun.count ∙ was.parts.count in
-      let at : e.part ≡ part_at d.link (length first) e.number rest =
-      part ∙ ap (λ (l : ℕ). part_of (length mid) e.number (pair_of l (front_of (drop 16 rest)))) link
-      ∙ ap (λ (k : ℕ). part_of k e.number (pair_of d.link (front_of (drop 16 rest)))) mid_count in
-      let next : e.number ≡ length was.records + 1 = number ∙ ap (λ (k : ℕ). k + 1) w.1 in
-      let parts : AllGrow contents first old (λ i. part_bytes d.link (length first) i was.records [])
-      (λ i. part_numbers d.link (length first) i was.records []) =
-      subst (λ (f : List ℕ). AllGrow contents first old (λ i. part_bytes d.link (length first) i was.records f)
-      (λ i. part_numbers d.link (length first) i was.records f)) w.0 was.parts in
-      let grown = AllGrow-one contents first mid new e.part _ _ rest []
-      (AllGrow-one contents first old mid e.part _ _ [] (big_bytes 8 e.number) parts begun) one in
+  dealt_rest e {rest = rest} none cut some entered one was =
+      let (are, _, _, parts) = begun e none some entered one was in
       record {
         records = was.records;
         rest = rest;
-        reading = record {
-          are = ap (λ (l : List ℕ). l ++ rest) (was.are ∙ ap (λ (l : List ℕ). concat was.records ++ l) w.0
-              ∙ append-nil (concat was.records));
-          whole = was.stands.whole;
-          none_left = cut;
-        };
-        parts = AllGrow-named contents first new _ _ _ _
-            (λ i. ap (λ (p : ℕ). (part_bytes d.link (length first) i was.records [] ++ (if p == i then [] else []))
-            ++ (if p == i then rest else [])) at
-            ∙ bytes-first d.link (length first) i was.records rest e.number some next)
-            (λ i. ap (λ (p : ℕ). (part_numbers d.link (length first) i was.records []
-            ++ (if p == i then big_bytes 8 e.number else [])) ++ (if p == i then [] else [])) at
-            ∙ numbers-first d.link (length first) i was.records rest e.number some next)
-            grown;
+        reading = record { are = are; whole = was.stands.whole; none_left = cut };
+        parts = parts;
       }
 
   -- before the first byte
@@ -247,5 +218,5 @@ module _ {W : Type 0} (contents : W → Option (List ℕ)) where
       between = λ _. (refl, number);
       within = λ some. absurd (omega (arith, some, left));
     };
-    parts = AllGrow-named contents parts parts _ _ _ _ (λ i. refl) (λ i. refl) (AllGrow-none contents parts);
+    parts = AllGrow-none contents parts;
   }

@@ -3,13 +3,12 @@
 ghost use Rattle.std.specs.Prelude.{◌≡◌, ◌+◌, ◌-◌, ◌<◌, ◌≤◌, ◌^◌, ℕ, List, [], ◌++◌, false, length, min, take, drop};
 ghost use Rattle.std.specs.Prelude.{IfOk, IfSome, OnOk, IsTrue};
 ghost use Rattle.std.specs.Bool.{Decides};
-ghost use Rattle.byteorder.specs.Endian.{big_bytes};
 ghost use Rattle.pcap_records.specs.FileHeader.{format_of, link_of, number_of};
 ghost use Rattle.pcap_records.specs.Record.{BeginsWithRecord, captured_length};
-ghost use Rattle.h2audit_split.specs.Pair.{front_of, pair_of, part_of};
+ghost use Rattle.h2audit_split.specs.Pair.{front_of};
 ghost use Rattle.h2audit_split.specs.Parts.{AreSplit};
 ghost use Rattle.h2audit_split.specs.Files.{IsDealt, order_of};
-ghost use Rattle.h2audit_split.specs.code.Dealing.{OneGrows};
+ghost use Rattle.h2audit_split.specs.code.Dealing.{Deals, HasEntered, OneGrows};
 ghost use Rattle.h2audit_split.specs.declared.part.Part.{Part};
 
 use crate::fault::SplitFault;
@@ -80,9 +79,8 @@ impl Dealer {
         ensures few { IfOk result (λ n. length unread.now < n + 98) }
         ensures rest { IfOk result (λ n. n < length unread.now → (self.new.left ≡ 0)
             × ¬ BeginsWithRecord (order_of self.new.is_little) (drop n unread.now)) }
-        ensures dealt { IfOk result (λ n. (first : List (Part W)) (bytes : List ℕ)
-            → IsDealt W.contents self.old first parts.old bytes
-            → IsDealt W.contents self.new first parts.new (bytes ++ take n unread.now)) }
+        ensures dealt { IfOk result
+            (λ n. Deals W.contents self.old self.new parts.old parts.new (take n unread.now)) }
     {
         let mut at = 0;
         while at < unread.len() {
@@ -108,9 +106,8 @@ impl Dealer {
         ensures within { IfOk result (λ n. n ≤ length unread.now) }
         ensures stops { IfOk result (λ n. n ≡ 0 → (length unread.now < 98) × (self.new.left ≡ 0)
             × ¬ BeginsWithRecord (order_of self.new.is_little) unread.now) }
-        ensures dealt { IfOk result (λ n. (first : List (Part W)) (bytes : List ℕ)
-            → IsDealt W.contents self.old first parts.old bytes
-            → IsDealt W.contents self.new first parts.new (bytes ++ take n unread.now)) }
+        ensures dealt { IfOk result
+            (λ n. Deals W.contents self.old self.new parts.old parts.new (take n unread.now)) }
     {
         if self.left == 0 {
             return self.deal_first(unread, parts);
@@ -133,9 +130,8 @@ impl Dealer {
         ensures within { IfOk result (λ n. n ≤ length unread.now) }
         ensures stops { IfOk result (λ n. n ≡ 0 → (length unread.now < 98) × (self.new.left ≡ 0)
             × ¬ BeginsWithRecord (order_of self.new.is_little) unread.now) }
-        ensures dealt { IfOk result (λ n. (first : List (Part W)) (bytes : List ℕ)
-            → IsDealt W.contents self.old first parts.old bytes
-            → IsDealt W.contents self.new first parts.new (bytes ++ take n unread.now)) }
+        ensures dealt { IfOk result
+            (λ n. Deals W.contents self.old self.new parts.old parts.new (take n unread.now)) }
     {
         if !self.begin(unread, parts)? {
             return Ok(0);
@@ -178,16 +174,13 @@ impl Dealer {
         ensures few { IfOk result (λ begun. begun ≡ false → (length unread.now < 98)
             × ¬ BeginsWithRecord (order_of self.new.is_little) unread.now) }
         ensures kept { IfOk result (λ begun. begun ≡ false → (self.new ≡ self.old) × (parts.new ≡ parts.old)) }
-        ensures number { IfOk result (λ begun. IsTrue begun → self.new.number ≡ self.old.number + 1) }
-        ensures part { IfOk result (λ begun. IsTrue begun → self.new.part ≡ part_of (length parts.new) self.new.number
-            (pair_of self.new.link (front_of (take (captured_length (order_of self.old.is_little) unread.now)
-            (drop 16 unread.now))))) }
+        ensures entered { IfOk result (λ begun. IsTrue begun
+            → HasEntered W.contents self.old self.new parts.old parts.new (front_of (drop 16
+            (take (16 + captured_length (order_of self.old.is_little) unread.now) unread.now)))) }
         ensures left { IfOk result (λ begun. IsTrue begun
             → self.new.left ≡ 16 + captured_length (order_of self.old.is_little) unread.now) }
         ensures front { IfOk result (λ begun. IsTrue begun
             → 16 + min 82 (captured_length (order_of self.old.is_little) unread.now) ≤ length unread.now) }
-        ensures grows { IfOk result (λ begun. IsTrue begun
-            → OneGrows W.contents parts.old parts.new self.new.part [] (big_bytes 8 self.new.number)) }
         ensures in_range { self.new.part < length parts.new }
     {
         if unread.len() < RECORD_HEADER {
@@ -225,12 +218,8 @@ impl Dealer {
         requires { self.old.part < length parts.old }
         ensures same { (self.new.link ≡ self.old.link) × (self.new.is_little ≡ self.old.is_little)
             × (self.new.left ≡ self.old.left) }
-        ensures number { OnOk result (self.new.number ≡ self.old.number + 1) }
-        ensures part { OnOk result (self.new.part ≡ part_of (length parts.new) self.new.number
-            (pair_of self.new.link front.now)) }
+        ensures entered { OnOk result (HasEntered W.contents self.old self.new parts.old parts.new front.now) }
         ensures in_range { self.new.part < length parts.new }
-        ensures grows { OnOk result (OneGrows W.contents parts.old parts.new self.new.part []
-            (big_bytes 8 self.new.number)) }
     {
         if self.number == u64::MAX {
             return Err(SplitFault::TooLong);
@@ -257,9 +246,9 @@ impl Dealer {
         if rest.is_empty() {
             return Ok(());
         }
-        let header = rest.len().min(RECORD_HEADER);
-        let end = rest.len().min(RECORD_HEADER + FRONT);
-        self.enter(&rest[header..end], parts)?;
+        let header = RECORD_HEADER.min(rest.len());
+        let packet = &rest[header..];
+        self.enter(&packet[..FRONT.min(packet.len())], parts)?;
         give(parts, self.part, rest, self.pair)?;
         Ok(())
     }

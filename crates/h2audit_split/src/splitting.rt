@@ -6,7 +6,7 @@ ghost use Rattle.pcap_records.specs.FileHeader.{format_of, link_of, number_of};
 ghost use Rattle.pcap_records.specs.Record.{BeginsWithRecord};
 ghost use Rattle.h2audit_split.specs.Parts.{AreSplit};
 ghost use Rattle.h2audit_split.specs.Files.{IsDealt, order_of};
-ghost use Rattle.h2audit_split.specs.code.Dealing.{HasTurned};
+ghost use Rattle.h2audit_split.specs.code.Dealing.{Deals, HasTurned};
 ghost use Rattle.h2audit_split.specs.declared.part.Part.{Part};
 
 use crate::dealer::Dealer;
@@ -147,9 +147,8 @@ fn deal_buffer<W: Write + Drop>(
     ensures moved { IfOk result (λ n. take filled buffer.old ≡ take (filled - n) buffer.old ++ take n buffer.new) }
     ensures rest { IfOk result (λ n. 0 < n → (dealer.new.left ≡ 0)
         × ¬ BeginsWithRecord (order_of dealer.new.is_little) (take n buffer.new)) }
-    ensures dealt { IfOk result (λ n. (first : List (Part W)) (bytes : List ℕ)
-        → IsDealt W.contents dealer.old first parts.old bytes
-        → IsDealt W.contents dealer.new first parts.new (bytes ++ take (filled - n) buffer.old)) }
+    ensures dealt { IfOk result
+        (λ n. Deals W.contents dealer.old dealer.new parts.old parts.new (take (filled - n) buffer.old)) }
 {
     let dealt = dealer.deal(&buffer[..filled], parts)?;
     buffer.copy_within(dealt..filled, 0);

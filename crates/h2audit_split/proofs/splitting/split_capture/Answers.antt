@@ -1,8 +1,7 @@
-use Rattle.std.proofs.Common.{◌≡◌, ℕ, List, [], Option, Some, None, IfSome, subst}
-use Rattle.pcap_records.specs.FileHeader.{ByteOrder, format_of, link_of, number_of}
+use Rattle.std.proofs.Common.{◌≡◌, ℕ, List, [], Option, Some, None, IfSome}
+use Rattle.pcap_records.specs.FileHeader.{ByteOrder, link_of, number_of}
 use Rattle.pcap_records.specs.declared.format.Format.{Format}
 use Rattle.h2audit_split.specs.Parts.{AreSplit}
-use Rattle.h2audit_split.specs.Files.{order_of}
 use Rattle.h2audit_split.proofs.Standing.{none_dealt}
 use Rattle.h2audit_split.proofs.splitting.split_capture.Goals as goal
 
@@ -13,20 +12,16 @@ by_header : (P : ByteOrder → ℕ → Type 0) (order : ByteOrder) (link : ℕ) 
     → P order link
     → IfSome told (λ format. P (number_of format.endian) (link_of (number_of format.endian) header))
 by_header P order link header None orders links holds = tt
-by_header P order link header (Some format) orders links holds =
-    subst (λ (n : ByteOrder). P n (link_of (number_of format.endian) header)) orders (subst (P order) links holds)
+by_header P order link header (Some format) orders links holds = rw (← links, ← orders) holds
 
 pub returns : goal.returns
 returns g c =
-    let split = c.in_ok-split_last.ensures.split in
-    let d = c.behind-dealer.result in (
-      split.0,
-      split.1,
-      split.2,
-      by_header (λ number link. AreSplit g.W.Write.contents number link split.0 c.args.parts.now c.split_last.new.parts)
-          (order_of d.is_little) d.link c.args.header.now (format_of c.args.header.now) c.behind-dealer.ensures.order
-          c.behind-dealer.ensures.link
-          (split.3 c.args.parts.now []
-          (none_dealt g.W.Write.contents d c.args.parts.now
-          c.behind-dealer.ensures.number c.behind-dealer.ensures.left)),
+    let (given, consumed, end, split) = c.in_ok-split_last.ensures.split in
+    let behind = c.behind-dealer.ensures in
+    let none = none_dealt g.W.Write.contents c.behind-dealer.result c.args.parts.now behind.number behind.left in (
+      given,
+      consumed,
+      end,
+      by_header (λ number link. AreSplit g.W.Write.contents number link given c.args.parts.now c.split_last.new.parts)
+          _ _ c.args.header.now _ behind.order behind.link (split c.args.parts.now [] none),
     )

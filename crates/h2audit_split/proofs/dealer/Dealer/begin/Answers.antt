@@ -1,17 +1,17 @@
-use Rattle.std.proofs.Common.{◌≡◌, ◌+◌, ◌-◌, ◌∙◌, ℕ, List, min, take, drop, length, sym, ap, arith}
-use Rattle.h2audit_split.specs.Pair.{pair_of, part_of}
+use Rattle.std.proofs.Common.{◌≡◌, ◌+◌, ◌-◌, ℕ, min, arith}
+use Rattle.std.proofs.lemmas.List.{drop-take}
 use Rattle.h2audit_split.proofs.Given.{take-min}
 use Rattle.h2audit_split.proofs.dealer.Dealer.begin.Goals as goal
 
-pub returns-clause-part : goal.returns-clause-part
-returns-clause-part g c = λ _.
-    let packet : List ℕ = drop 16 c.args.unread.now in
+pub returns-clause-entered : goal.returns-clause-entered
+returns-clause-entered g c = λ _.
     let captured : ℕ = c.captured_length-captured.result in
-    let count : 16 + c.min-front.result - 16 ≡ min 82 captured = omega (arith, c.min-front.ensures) in
-    let front : take (16 + c.min-front.result - 16) packet ≡ take 82 (take captured packet) =
-    ap (λ (k : ℕ). take k packet) count ∙ sym (take-min 82 captured packet) in
-    let read : take 82 (take captured packet) ≡ _ = ap (λ (k : ℕ). take 82 (take k packet))
-    c.captured_length-captured.ensures.length in
-    c.in_ok-enter.ensures.part
-    ∙ ap (λ (f : List ℕ). part_of (length c.enter.new.parts) c.enter.new.self.number (pair_of c.enter.new.self.link f))
-    (front ∙ read)
+    let front : 16 + c.min-front.result - 16 ≡ min 82 captured = omega (arith, c.min-front.ensures) in
+    let length = c.captured_length-captured.ensures.length in
+    let entered = c.in_ok-enter.ensures.entered in
+    record {
+      link = entered.link;
+      number = entered.number;
+      part = rw (← length, drop-take 16 captured c.args.unread.now, take-min, ← front) entered.part;
+      grows = entered.grows;
+    }

@@ -1,6 +1,5 @@
-use Rattle.std.proofs.Common.{◌≡◌, ◌-◌, ◌<◌, ◌≤◌, ◌++◌, ℕ, List, length, take}
-use Rattle.h2audit_split.specs.Files.{IsDealt}
-use Rattle.h2audit_split.specs.declared.part.Part.{Part}
+use Rattle.std.proofs.Common.{◌≡◌, ◌-◌, ◌<◌, ◌≤◌, length, take}
+use Rattle.h2audit_split.specs.code.Dealing.{Deals}
 use Rattle.h2audit_split.proofs.dealer.Dealer.deal.Given as goal
 
 abbrev pub invariant-loop-at : goal.invariant-loop-at
@@ -9,9 +8,7 @@ invariant-loop-at g l = record {
   part : l.self.part < length l.parts;
   link : l.self.link ≡ l.initial.self.link;
   little : l.self.is_little ≡ l.initial.self.is_little;
-  dealt : (first : List (Part g.row.W.Denot)) (bytes : List ℕ)
-      → IsDealt g.W.Write.contents l.initial.self first l.initial.parts bytes
-      → IsDealt g.W.Write.contents l.self first l.parts (bytes ++ take l.at l.unread);
+  dealt : Deals g.W.Write.contents l.initial.self l.self l.initial.parts l.parts (take l.at l.unread);
 }
 
 abbrev pub decreases-loop-at : goal.decreases-loop-at

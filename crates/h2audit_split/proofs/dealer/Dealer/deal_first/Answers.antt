@@ -12,8 +12,5 @@ returns-clause-dealt g c = λ first bytes was.
     subst (λ (d : Dealer). IsDealt g.W.Write.contents d first c.deal_more.new.parts
     (bytes ++ take c.in_ok-count.count c.args.unread.now))
     (sym done.left)
-    (dealt_first g.W.Write.contents c.args.self.now c.begin.new.self first c.args.parts.now c.begin.new.parts
-    c.deal_more.new.parts bytes
-    c.args.unread.now c.in_ok-count.count c.requires.between begun.same (begun.number test) (begun.part test)
-    (begun.left test)
-    (begun.front test) done.count (begun.grows test) done.grows was)
+    (dealt_first g.W.Write.contents c.begin.new.self c.args.unread.now c.in_ok-count.count c.requires.between
+    begun.same.1 (begun.entered test) (begun.left test) (begun.front test) done.count done.grows was)

@@ -10,6 +10,5 @@ returns-clause-dealt g c = λ first bytes was.
     subst (λ (d : Dealer). IsDealt g.W.Write.contents d first c.deal_more.new.parts
     (bytes ++ take c.in_ok-count.count c.args.unread.now))
     (sym done.left)
-    (dealt_more g.W.Write.contents c.args.self.now first c.args.parts.now c.deal_more.new.parts bytes c.args.unread.now
-    c.in_ok-count.count
-    (omega (arith, c.if-self-eq0.false)) done.count done.grows was)
+    (dealt_more g.W.Write.contents c.args.unread.now c.in_ok-count.count (omega (arith, c.if-self-eq0.false)) done.count
+    done.grows was)
