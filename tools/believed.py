@@ -29,8 +29,8 @@ CALLS = {
     "command_line/src/words.rt": ["parse"],
 }
 SPLITTER_CALLS = {
-    "capture_split/src/splitting.rt": ["split_capture", "split_file", "split_last"],
-    "capture_split/src/laws.rt": ["one_part", "segments_name", "either_order", "same_records"],
+    "h2audit_split/src/splitting.rt": ["split_capture", "split_file", "split_last"],
+    "h2audit_split/src/laws.rt": ["one_part", "segments_name", "either_order", "same_records"],
 }
 VIEWS = {"byte_accounts/src/kept_bytes.rt": ["KeptBytes"]}
 # The folders of specs/ that hold what is not believed.

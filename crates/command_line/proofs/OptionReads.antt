@@ -1,7 +1,7 @@
 -- What the getters of clap's matches read for the program's options.
 use Rattle.std.proofs.Common.{ℕ, ◌≡◌, ◌∙◌, ◌<◌, ◌≤◌, ◌^◌, ap, sym, subst, refl, Bool, true, false, List, Option, Some}
-use Rattle.std.proofs.Common.{None, Result, codes, option_map}
-use Rattle.std.specs.Prelude.{unwrap_or, SomeIff, IsSome}
+use Rattle.std.proofs.Common.{None, Result, codes}
+use Rattle.std.specs.Prelude.{unwrap_or, IfSome, IsSome}
 use Rattle.std.specs.Bool.{Decides}
 use Rattle.std.specs.Str.Parse.{ParsesBool, ParsesUnsigned, ExplainsUnsignedError, HasUnsignedDigitsIfOk}
 use Rattle.std.specs.declared.num.ParseIntError.{ParseIntError}
@@ -22,28 +22,16 @@ ReadsU32 bs r = ParsesUnsigned 32 10 bs r × ExplainsUnsignedError 10 bs r × Ha
 abbrev pub IsReadOf : Found → (name : Text) → Option ℕ → Type 0
 IsReadOf f name r = (t : Text) → one_text f name ≡ Some t → ReadsOne ReadsU32 t r
 
-number_read : (f : Found) (name : Text) (most : ℕ) (r : Option ℕ) → most < 2 ^ 32 → HasNumber f name most
+-- a number that was found is read, is in its range, and the one that is spelled
+pub number_read : (f : Found) (name : Text) (most : ℕ) (r : Option ℕ) → most < 2 ^ 32 → HasNumber f name most
     → IsReadOf f name r
-    → (n : ℕ) × (r ≡ Some n) × (1 ≤ n) × (n ≤ most) × IsNumberOf name (rows_of f) n
-number_read f name most r fits has reads =
-    let read = reads (without_minus has.0) has.1 in
-    let got = signed_reads ParseIntError ReadsU32 32 1 most has.0 r read (λ u x g. g.0) fits has.2 in
-    let spelled = (rw got.1 at read).0 in
-    (got.0, got.1, got.2, got.3, (without_minus has.0, sym (one_text-rows f name) ∙ has.1, (spelled.0.0, spelled.1)))
-
--- a number that was found is read
-pub number_some : (f : Found) (name : Text) (most : ℕ) (r : Option ℕ) → most < 2 ^ 32 → HasNumber f name most
-    → IsReadOf f name r
-    → IsSome r
-number_some f name most r fits has reads = rw (number_read f name most r fits has reads).1 refl
-
--- it is in its range, and the one that is spelled
-pub number_is : (f : Found) (name : Text) (most : ℕ) (r : Option ℕ) (n : ℕ) → most < 2 ^ 32 → HasNumber f name most
-    → IsReadOf f name r → r ≡ Some n → ((1 ≤ n) × (n ≤ most)) × IsNumberOf name (rows_of f) n
-number_is f name most r n fits has reads is =
-    let got = number_read f name most r fits has reads in
-    let same : got.0 ≡ n = ap (λ (o : Option ℕ). unwrap_or o n) (sym got.1 ∙ is) in
-    subst (λ (k : ℕ). ((1 ≤ k) × (k ≤ most)) × IsNumberOf name (rows_of f) k) same ((got.2, got.3), got.4)
+    → IsSome r × IfSome r (λ n. ((1 ≤ n) × (n ≤ most)) × IsNumberOf name (rows_of f) n)
+number_read f name most r fits (text, found, signed) reads =
+    let read = reads (without_minus text) found in
+    let (n, is, some, few) = signed_reads ParseIntError ReadsU32 32 1 most text r read (λ u x g. g.0) fits signed in
+    let ((numeral, _), value) = (rw is at read).0 in
+    let named = sym (one_text-rows f name) ∙ found in
+    rw is (refl, ((some, few), (without_minus text, named, (numeral, value))))
 
 -- a flag is true exactly where its text is
 pub flag_read : (E : Type 0) (f : Found) (name : Text) (r : Option Bool) → (one_text f name ≡ None → r ≡ None)
@@ -64,20 +52,15 @@ flag_read E f name r none reads = rw (sym (one_text-rows f name)) (go (one_text 
     go None e = rw (none e) (λ h. let bad : false ≡ true = h in cc, λ h. cc)
     go (Some t) e = at_text t r (reads t e)
 
--- options in range are some
-pub options_some : (o : Option Options) (P : Type 0) (v : Choices) → SomeIff (option_map choices o) P v → P → IsSome o
-options_some None P v fails holds = absurd (fails holds)
-options_some (Some x) P v made holds = refl
+-- the choices are what was found
+abbrev AreFoundIn : List Row → Choices → Type 0
+AreFoundIn found v = IsNumberOf (codes "workers") found v.workers × IsNumberOf (codes "groups") found v.groups
+    × IsNumberOf (codes "block") found v.block
+    × Decides v.frames_shown (one_of (codes "frames") found ≡ Some (codes "true"))
 
--- options with these choices are found where the choices are
-pub found_of-choices : (found : List Row) (options : Options) (v : Choices) → choices options ≡ v
-    → IsNumberOf (codes "workers") found v.workers → IsNumberOf (codes "groups") found v.groups
-    → IsNumberOf (codes "block") found v.block
-    → Decides v.frames_shown (one_of (codes "frames") found ≡ Some (codes "true")) → IsFound found options
-found_of-choices found options v is workers groups block frames_shown = record {
-  workers = subst (IsNumberOf (codes "workers") found) (sym (ap (λ (c : Choices). c.workers) is)) workers;
-  groups = subst (IsNumberOf (codes "groups") found) (sym (ap (λ (c : Choices). c.groups) is)) groups;
-  block = subst (IsNumberOf (codes "block") found) (sym (ap (λ (c : Choices). c.block) is)) block;
-  frames_shown = subst (λ (b : Bool). Decides b (one_of (codes "frames") found ≡ Some (codes "true")))
-      (sym (ap (λ (c : Choices). c.frames_shown) is)) frames_shown;
-}
+-- and so are options with these choices
+pub found_of-choices : (found : List Row) (options : Options) (v : Choices) → choices options ≡ v → AreFoundIn found v
+    → IsFound found options
+found_of-choices found options v is by =
+    let (workers, groups, block, shown) = subst (AreFoundIn found) (sym is) by in
+    record { workers = workers; groups = groups; block = block; frames_shown = shown }

@@ -1,8 +1,8 @@
-ghost use Rattle.std.specs.Prelude.{IfOk, List, [], codes, map, option_map, string_bytes, ◌≡◌};
+ghost use Rattle.std.specs.Prelude.{IfOk, List, [], codes, map, option_map, string_bytes, ◌≡◌, ◌≤◌};
 ghost use Rattle.clap.specs.Words.{HasKind, Text, fault_of, first_of, found_of, matches_of, rows_of};
-ghost use Rattle.command_line.specs.Asked.{Asks, IsFound};
+ghost use Rattle.command_line.specs.Asked.{Asks, IsFound, IsNumberOf};
 ghost use Rattle.command_line.specs.Words.{app};
-ghost use Rattle.command_line.specs.code.Numbers.{HasNumbers};
+ghost use Rattle.command_line.specs.code.Numbers.{HasNumber, HasNumbers};
 
 use crate::command::{BLOCK, FILE, FRAMES, GROUPS, WORKERS, matches};
 use crate::options::Options;
@@ -67,11 +67,20 @@ fn options_in(found: &ArgMatches<'_>) -> Options
     requires { HasNumbers (found_of found.now) }
     ensures { IsFound (rows_of (found_of found.now)) result }
 {
-    let workers = found.get_one::<u32>(WORKERS).unwrap();
-    let groups = found.get_one::<u32>(GROUPS).unwrap();
-    let block = found.get_one::<u32>(BLOCK).unwrap();
+    let workers = number_in(found, WORKERS, Options::MOST_WORKERS);
+    let groups = number_in(found, GROUPS, Options::MOST_GROUPS);
+    let block = number_in(found, BLOCK, Options::LONGEST_BLOCK);
     let frames_shown = found.get_one(FRAMES).unwrap_or(false);
     Options::of(workers, groups, block, frames_shown).unwrap()
+}
+
+/// The number of this name.
+fn number_in(found: &ArgMatches<'_>, name: &str, most: u32) -> u32
+    requires { HasNumber (found_of found.now) name.now most }
+    ensures range { (1 ≤ result) × (result ≤ most) }
+    ensures value { IsNumberOf name.now (rows_of (found_of found.now)) result }
+{
+    found.get_one::<u32>(name).unwrap()
 }
 
 /// The path of the capture, if a word gives one.

@@ -1,6 +1,6 @@
 //! How the program ends.
 
-use capture_split::SplitFault;
+use crate::fault::SplitFault;
 use pcap_records::PcapFault;
 use std::alloc::{AllocError, AllocFailed};
 use std::io;

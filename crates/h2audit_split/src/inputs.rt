@@ -2,8 +2,12 @@
 
 ghost use Rattle.std.specs.Prelude.{◌<◌, ◌≤◌, length};
 
+use crate::dealer::Dealer;
 use crate::failure::Failure;
-use capture_split::{Dealer, Part, SplitFault, link_type, read_header, split_file, split_last};
+use crate::fault::SplitFault;
+use crate::header::link_type;
+use crate::part::Part;
+use crate::splitting::{read_header, split_file, split_last};
 use pcap_records::refusal;
 use std::alloc::Global;
 use std::fs::File;
@@ -12,6 +16,13 @@ use std::rt::Files;
 
 /// A file header.
 pub type Header = [u8; 24];
+
+/// A file of a capture that stands in several.
+#[derive(Clone, Copy)]
+pub struct CaptureFile<'a> {
+    pub path: &'a str,
+    pub is_last: bool,
+}
 
 /// The header of a file, or why the capture that it begins is refused.
 pub fn begin<R: Read>(reader: &mut R) -> Result<Header, Failure> {
@@ -33,9 +44,8 @@ pub fn open<R: Files + AllocGlobal>(rt: &R, path: &str) -> Result<R::File, Failu
 /// Splits a later file of a capture that began with this header.
 pub fn split_later<R: Files + AllocGlobal, W: Write + Drop>(
     rt: &R,
-    path: &str,
+    later: CaptureFile<'_>,
     header: &Header,
-    is_last: bool,
     dealer: &mut Dealer,
     buffer: &mut [u8],
     parts: &mut [Part<W>],
@@ -44,28 +54,27 @@ pub fn split_later<R: Files + AllocGlobal, W: Write + Drop>(
     requires buffer { 98 ≤ length buffer.old }
     ensures { dealer.new.part < length parts.new }
 {
-    let mut file = open(rt, path)?;
+    let mut file = open(rt, later.path)?;
     match begin(&mut file) {
-        Ok(later) => {
-            if later[..4] != header[..4] {
-                return Err(refused(rt.alloc(), path, "another-format"));
+        Ok(own) => {
+            if own[..4] != header[..4] {
+                return Err(refused(rt.alloc(), later.path, "another-format"));
             }
-            if link_type(&later) != link_type(header) {
-                return Err(refused(rt.alloc(), path, "another-link-type"));
+            if link_type(&own) != link_type(header) {
+                return Err(refused(rt.alloc(), later.path, "another-link-type"));
             }
         }
-        Err(Failure::Capture(name)) => return Err(refused(rt.alloc(), path, name)),
+        Err(Failure::Capture(name)) => return Err(refused(rt.alloc(), later.path, name)),
         Err(failure) => return Err(failure),
     }
-    split_named(rt, path, &mut file, is_last, dealer, buffer, parts)
+    split_named(rt, later, &mut file, dealer, buffer, parts)
 }
 
 /// Splits what stands behind the header of a file.
 pub fn split_named<R: AllocGlobal, F: Read, W: Write + Drop>(
     rt: &R,
-    path: &str,
+    named: CaptureFile<'_>,
     file: &mut F,
-    is_last: bool,
     dealer: &mut Dealer,
     buffer: &mut [u8],
     parts: &mut [Part<W>],
@@ -74,14 +83,14 @@ pub fn split_named<R: AllocGlobal, F: Read, W: Write + Drop>(
     requires buffer { 98 ≤ length buffer.old }
     ensures { dealer.new.part < length parts.new }
 {
-    let split = if is_last {
+    let split = if named.is_last {
         split_last(dealer, file, buffer, parts)
     } else {
         split_file(dealer, file, buffer, parts)
     };
     match split {
         Ok(()) => Ok(()),
-        Err(SplitFault::CutRecord) => Err(refused(rt.alloc(), path, "cut-record")),
+        Err(SplitFault::CutRecord) => Err(refused(rt.alloc(), named.path, "cut-record")),
         Err(fault) => Err(Failure::from(fault)),
     }
 }

@@ -4,7 +4,7 @@ ghost use Rattle.std.specs.Prelude.{◌≡◌, IfOk, vec_len};
 
 use crate::failure::Failure;
 use crate::inputs::Header;
-use capture_split::{FullPart, Part};
+use crate::part::{FullPart, Part};
 use packet_heads::Endpoint;
 use std::alloc::{AllocError, Global};
 use std::fs::File;

@@ -3,10 +3,12 @@
 ghost use Rattle.std.specs.Prelude.{◌≡◌, ◌<◌, ◌≤◌, IfOk, length, vec_len};
 
 use crate::command::{Asked, Words, parse_words};
+use crate::dealer::Dealer;
 use crate::failure::{Ending, Failure};
-use crate::inputs::{Header, begin, open, split_later, split_named};
+use crate::inputs::{CaptureFile, Header, begin, open, split_later, split_named};
 use crate::outputs::{create_parts, finish_parts};
-use capture_split::{Dealer, Part, split_capture};
+use crate::part::Part;
+use crate::splitting::split_capture;
 use std::alloc::Global;
 use std::env;
 use std::io::{Read, Write};
@@ -83,12 +85,14 @@ fn split_files<R: Files + AllocGlobal + Eprint>(rt: &R, words: &Words) -> Result
     let mut parts = create_parts(rt, folder, words.parts, &header)?;
     let buffer = buffer.as_mut_slice();
     let mut dealer = Dealer::behind(&header);
-    let is_last = later.is_empty();
+    let named = CaptureFile {
+        path: first.as_str(),
+        is_last: later.is_empty(),
+    };
     split_named(
         rt,
-        first.as_str(),
+        named,
         &mut file,
-        is_last,
         &mut dealer,
         buffer,
         parts.as_mut_slice(),
@@ -118,15 +122,11 @@ fn split_others<R: Files + AllocGlobal, W: Write + Drop>(
 {
     let count = later.len();
     for (index, path) in later.iter().enumerate() {
-        split_later(
-            rt,
-            path.as_str(),
-            header,
-            index + 1 == count,
-            dealer,
-            buffer,
-            parts,
-        )?;
+        let named = CaptureFile {
+            path: path.as_str(),
+            is_last: index + 1 == count,
+        };
+        split_later(rt, named, header, dealer, buffer, parts)?;
     }
     Ok(())
 }

@@ -1,8 +1,7 @@
-use Rattle.std.proofs.Common.{Bor, List, Result, true, refl, ◌≡◌, ◌∙◌, ap, map, subst}
+use Rattle.std.proofs.Common.{List, true, refl, ◌≡◌, ◌∙◌, ap, map, subst}
 use Rattle.std.proofs.lemmas.Result.{IfOk-weaker}
-use Rattle.clap.specs.Words.{App, FailsBy, HasMatchesOf, Text, app_of, fault_of, found_of, is_simple}
+use Rattle.clap.specs.Words.{App, FailsBy, HasMatchesOf, Text, fault_of, found_of, is_simple}
 use Rattle.clap.specs.Words.{is_simple_and_free, matches_of, rows_of}
-use Rattle.clap.specs.declared.error.Error.{Error}
 use Rattle.clap.specs.declared.parser.matches.ArgMatches.{ArgMatches}
 use Rattle.command_line.specs.Words.{app}
 use Rattle.command_line.proofs.Numbers.{numbers_found}
@@ -14,12 +13,6 @@ rows_of_equal : (a b : App) (words : List Text) (m : ArgMatches) → a ≡ b →
 rows_of_equal a b words m is simple taken =
     (taken (ap is_simple is ∙ simple)).0 ∙ ap (λ (x : App). matches_of x words) is
 
-fails_of_equal : {T : Type 0} (a b : App) (words : List Text) (r : Result T Error) → a ≡ b
-    → is_simple_and_free b ≡ true → (is_simple_and_free a ≡ true → FailsBy (fault_of a words) r)
-    → FailsBy (fault_of b words) r
-fails_of_equal a b words r is simple fails =
-    subst (λ (x : App). FailsBy (fault_of x words) r) is (fails (ap is_simple_and_free is ∙ simple))
-
 app_simple : is_simple app ≡ true
 app_simple = refl
 
@@ -28,10 +21,9 @@ app_free = refl
 
 pub returns-clause-rows : goal.returns-clause-rows
 returns-clause-rows c =
-    let made = app_of c.in_ok-command.field-0 in
-    let words = map (λ (w : Bor Text). w.now) c.args.words.now in
+    let words = map (λ w. w.now) c.args.words.now in
     IfOk-weaker c.try_get_matches_from.result _ _
-    (λ m taken. rows_of_equal made app words m c.in_ok-command.ensures app_simple taken)
+    (λ m taken. rows_of_equal _ app words m c.in_ok-command.ensures app_simple taken)
     c.try_get_matches_from.ensures.matches
 
 pub returns-clause-numbers : goal.returns-clause-numbers
@@ -41,7 +33,7 @@ returns-clause-numbers c = IfOk-weaker c.try_get_matches_from.result _ _
 
 pub returns-clause-fails : goal.returns-clause-fails
 returns-clause-fails c =
-    let made = app_of c.in_ok-command.field-0 in
-    let words = map (λ (w : Bor Text). w.now) c.args.words.now in
-    fails_of_equal made app words c.try_get_matches_from.result c.in_ok-command.ensures app_free
-    c.try_get_matches_from.ensures.kinds
+    let same = c.in_ok-command.ensures in
+    let words = map (λ w. w.now) c.args.words.now in
+    subst (λ (a : App). FailsBy (fault_of a words) c.try_get_matches_from.result) same
+    (c.try_get_matches_from.ensures.kinds (ap is_simple_and_free same ∙ app_free))

@@ -1,5 +1,0 @@
-use Rattle.capture_split.proofs.Segments.{segments_name_lem}
-use Rattle.capture_split.proofs.laws.segments_name.Goals as goal
-
-pub returns : goal.returns
-returns c = segments_name_lem

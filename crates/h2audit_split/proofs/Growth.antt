@@ -1,0 +1,86 @@
+-- How parts grow, step by step.
+use Rattle.std.proofs.Common.{◌≡◌, ℕ, ◌==◌, ◌∙◌, true, false, if◌then◌else◌, Option, List}
+use Rattle.std.proofs.Common.{[], ◌++◌, get_or, refl, sym, subst, arith, append-nil, length-append, inl, inr, is_some}
+use Rattle.std.proofs.KnownBytes.{Appends-trans, Appends-nil}
+use Rattle.std.proofs.lemmas.Bool.{eq-eqb, ne_eqb, cases_eq, cases_Bool, both_ways}
+use Rattle.h2audit_split.specs.Parts.{AllGrow, Grows}
+use Rattle.h2audit_split.specs.code.Dealing.{OneGrows}
+use Rattle.h2audit_split.specs.declared.part.Part.{Part}
+
+module _ {W : Type 0} (contents : W → Option (List ℕ)) where
+  -- the same by other names of what the part got
+  Grows-named : (a b : Part W) (x y m n : List ℕ) → x ≡ y → m ≡ n → Grows contents a b x m → Grows contents a b y n
+  Grows-named a b x y m n same same_numbers grows = rw (← same, ← same_numbers) grows
+
+  -- one step after another
+  Grows-trans : (a b c : Part W) (x y m n : List ℕ) → Grows contents a b x m → Grows contents b c y n
+      → Grows contents a c (x ++ y) (m ++ n)
+  Grows-trans a b c x y m n p q = record {
+    packets = λ h. Appends-trans (contents a.packets) (contents b.packets) (contents c.packets) x y
+        (p.packets (q.stood h)) (q.packets h);
+    numbering = λ h. Appends-trans (contents a.numbers) (contents b.numbers) (contents c.numbers) m n
+        (p.numbering (q.stood h)) (q.numbering h);
+    size = λ h. omega (arith, p.size (q.stood h), q.size h, length-append x y);
+    stood = λ h. p.stood (q.stood h);
+    full = λ stands full. elim (cases_Bool (is_some b.full)) [
+      | inl filled ↦ omega (arith, p.full stands filled, length-append x y)
+      | inr stood ↦ omega (arith, q.full stood full, p.size stood, length-append x y)
+    ];
+  }
+
+  -- one part grows by a number, and then by bytes
+  pub OneGrows-bytes : (old mid new : List (Part W)) (p : ℕ) (bytes numbers : List ℕ)
+      → OneGrows contents old mid p [] numbers → OneGrows contents mid new p bytes []
+      → OneGrows contents old new p bytes numbers
+  OneGrows-bytes old mid new p bytes numbers begun more = record {
+    count = more.count ∙ begun.count;
+    one = λ d. Grows-named _ _ bytes bytes (numbers ++ []) numbers refl (append-nil numbers)
+        (Grows-trans _ _ _ [] bytes numbers [] (begun.one d) (more.one d));
+    others = λ j d other. more.others j d other ∙ begun.others j d other;
+  }
+
+  -- all parts have grown by what they got so far, and now one grows
+  pub AllGrow-one : (first old new : List (Part W)) (p : ℕ) (bytes numbers all all_numbers : ℕ → List ℕ)
+      (more more_numbers : List ℕ)
+      → ((i : ℕ) → bytes i ++ (if p == i then more else []) ≡ all i)
+      → ((i : ℕ) → numbers i ++ (if p == i then more_numbers else []) ≡ all_numbers i)
+      → AllGrow contents first old bytes numbers → OneGrows contents old new p more more_numbers
+      → AllGrow contents first new all all_numbers
+  AllGrow-one first old new p bytes numbers all all_numbers more more_numbers is is_numbers grown one = record {
+    count = one.count ∙ grown.count;
+    each = λ i d small. elim (cases_eq p i) [
+      | inl same ↦
+          let at : (p == i) ≡ true = eq-eqb p i same in
+          let step : Grows contents (get_or old i d) (get_or new i d) more more_numbers =
+          subst (λ (k : ℕ). Grows contents (get_or old k d) (get_or new k d) more more_numbers) same (one.one d) in
+          Grows-named _ _ _ _ _ _ (rw at at (is i)) (rw at at (is_numbers i))
+          (Grows-trans _ _ _ (bytes i) more (numbers i) more_numbers (grown.each i d small) step)
+      | inr other ↦
+          let at : (p == i) ≡ false = ne_eqb p i other in
+          subst (λ (x : Part W). Grows contents (get_or first i d) x (all i) (all_numbers i))
+          (sym (one.others i d (λ e. other (sym e))))
+          (Grows-named _ _ _ _ _ _ (sym (append-nil (bytes i)) ∙ rw at at (is i))
+          (sym (append-nil (numbers i)) ∙ rw at at (is_numbers i)) (grown.each i d small))
+    ];
+  }
+
+  -- the same by other names of what the parts got
+  pub AllGrow-named : (first new : List (Part W)) (bytes numbers named named_numbers : ℕ → List ℕ)
+      → ((i : ℕ) → bytes i ≡ named i) → ((i : ℕ) → numbers i ≡ named_numbers i)
+      → AllGrow contents first new bytes numbers → AllGrow contents first new named named_numbers
+  AllGrow-named first new bytes numbers named named_numbers same same_numbers all = record {
+    count = all.count;
+    each = λ i d small. Grows-named _ _ _ _ _ _ (same i) (same_numbers i) (all.each i d small);
+  }
+
+  pub AllGrow-none : (parts : List (Part W)) → AllGrow contents parts parts (λ i. []) (λ i. [])
+  AllGrow-none parts = record { count = refl; each = λ i d small. none (get_or parts i d) }
+    where
+      none : (a : Part W) → Grows contents a a [] []
+      none a = record {
+        packets = λ h. Appends-nil (contents a.packets);
+        numbering = λ h. Appends-nil (contents a.numbers);
+        size = λ h. omega arith;
+        stood = λ h. h;
+        full = λ stands full. absurd (both_ways (is_some a.full) stands full);
+      }

@@ -1,0 +1,13 @@
+use Rattle.std.proofs.Common.{◌==◌, ◌∙◌, ℕ, refl, sym}
+use Rattle.std.proofs.lemmas.Bool.{cond-false, cond-true, eq-eqb, ne_eqb}
+use Rattle.h2audit_split.specs.Dealt.{part_at}
+use Rattle.h2audit_split.proofs.Given.{given-some}
+use Rattle.h2audit_split.proofs.laws.one_part.Goals as goal
+
+pub returns : goal.returns
+returns c = λ link parts taken n bytes some.
+    let part : ℕ = part_at link parts n bytes in (
+      given-some link parts taken part n bytes some ∙ cond-true (part == part) _ _ (eq-eqb part part refl),
+      λ i other. given-some link parts taken i n bytes some
+          ∙ cond-false (part == i) _ _ (ne_eqb part i (λ e. other (sym e))),
+    )

@@ -1,0 +1,15 @@
+use Rattle.std.proofs.Common.{◌++◌, List, ℕ, take, append_assoc}
+use Rattle.h2audit_split.proofs.splitting.split_last.Goals as goal
+
+pub returns-clause-split : goal.returns-clause-split
+returns-clause-split g c =
+    let filed = c.in_ok-filled.ensures in
+    let turned = filed.turned in
+    let rest : List ℕ = take c.in_ok-filled.filled c.deal_file.new.buffer in (
+      turned.given ++ rest,
+      turned.consumed,
+      filed.end,
+      λ first bytes was. rw (← filed.same.0, ← filed.same.1, ← append_assoc bytes turned.given rest)
+          (c.in_ok-finish.ensures.split first (bytes ++ turned.given) turned.none_whole
+          (turned.dealt first bytes was)),
+    )

@@ -1,0 +1,39 @@
+-- What a dealer does with the bytes at hand.
+use Rattle.std.specs.Prelude.{◌≡◌, ◌≢◌, ℕ, ◌+◌, ◌<◌, Option, List, [], ◌++◌, length, slice_index_or}
+use Rattle.std.specs.Io.KnownBytes.{Consumes}
+use Rattle.byteorder.specs.Endian.{big_bytes}
+use Rattle.pcap_records.specs.Record.{BeginsWithRecord}
+use Rattle.h2audit_split.specs.Files.{IsDealt, order_of}
+use Rattle.h2audit_split.specs.Pair.{pair_of, part_of}
+use Rattle.h2audit_split.specs.Parts.{Grows}
+use Rattle.h2audit_split.specs.declared.dealer.Dealer.{Dealer}
+use Rattle.h2audit_split.specs.declared.part.Part.{Part}
+
+module _ {W : Type 0} (contents : W → Option (List ℕ)) where
+  -- one part grows, and all others are as they were
+  pub record OneGrows (old new : List (Part W)) (i : ℕ) (bytes numbers : List ℕ) : Type 0 where
+    pub count : length new ≡ length old
+    pub one : (d : Part W) → Grows contents (slice_index_or old i d) (slice_index_or new i d) bytes numbers
+    pub others : (j : ℕ) (d : Part W) → j ≢ i → slice_index_or new j d ≡ slice_index_or old j d
+
+  -- a record was entered whose packet has this front: it has the next number, which its part got
+  pub record HasEntered (d e : Dealer) (old new : List (Part W)) (front : List ℕ) : Type 0 where
+    pub link : e.link ≡ d.link
+    pub number : e.number ≡ d.number + 1
+    pub part : e.part ≡ part_of (length new) e.number (pair_of e.link front)
+    pub grows : OneGrows old new e.part [] (big_bytes 8 e.number)
+
+  -- these bytes were dealt: they stand behind all that was dealt before
+  abbrev pub Deals : (d e : Dealer) (old new : List (Part W)) → List ℕ → Type 0
+  Deals d e old new given = (first : List (Part W)) (bytes : List ℕ) → IsDealt contents d first old bytes
+      → IsDealt contents e first new (bytes ++ given)
+
+  -- a reader gave bytes, which were dealt but for some at their end; those hold no whole record. `left` tells the bytes
+  -- that a reader will give, where they are known
+  pub record HasTurned {R : Type 0} (left : R → Option (List ℕ)) (d e : Dealer) (old new : List (Part W))
+      (before after : R)
+      (unread : List ℕ) : Type 0 where
+    pub given : List ℕ
+    pub consumed : Consumes (left before) (left after) (given ++ unread)
+    pub none_whole : 0 < length unread → (e.left ≡ 0) × ¬ BeginsWithRecord (order_of e.is_little) unread
+    pub dealt : Deals d e old new given
