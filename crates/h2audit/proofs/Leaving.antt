@@ -1,6 +1,6 @@
 -- What a run on the front of a reader's bytes leaves is what a run on all of them leaves.
 use Rattle.std.proofs.Common.{◌≡◌, ◌∙◌, ℕ, Bool, ◌<◌, ◌≤◌, min, List, ◌++◌, length, take, Option, Some, None, IfSome}
-use Rattle.std.proofs.Common.{Ok, Err, refl, sym, ap, subst, arith}
+use Rattle.std.proofs.Common.{Ok, Err, inl, inr, true≢false, refl, sym, ap, subst, arith}
 use Rattle.std.specs.Prelude.{Result, IfErr, IfOk, MatchResult}
 use Rattle.std.proofs.lemmas.List.{append-nil, length-take, take_all}
 use Rattle.std.specs.Io.KnownBytes.{Appends, Keeps}
@@ -9,7 +9,7 @@ use Rattle.pcap_records.specs.declared.faults.PcapFault.{PcapFault}
 use Rattle.pcap_records.proofs.Sizes.{front_decides_lem, allowed_is_short_lem}
 use Rattle.byte_accounts.specs.Account.{HaveGiven, IsReadToEnd, IsUnwritten, OfGiven, kept, written}
 use Rattle.h2audit.specs.Account.{Tells}
-use Rattle.h2audit.specs.code.Reading.{AnswersFor}
+use Rattle.h2audit.specs.code.Reading.{AnswersFor, IsAuditingFault}
 use Rattle.h2audit.specs.Report.{IsNoReport, IsReport}
 use Rattle.h2audit.specs.laws.Run.{FaultsAreSilent, IsJudged, Leaves, RunsLeave}
 use Rattle.h2audit.specs.declared.fault.AuditFault.{AuditFault}
@@ -81,6 +81,20 @@ module _ {R W : Type 0} where
   tells_no_report reader writer shown fault.Read read answers unwritten is = absurd is
   tells_no_report reader writer shown fault.Write read answers unwritten is = absurd is
 
+  -- where the audit of what is kept fails, the account tells why
+  pub tells_fault : (old new : CaptureReader R) (writer : ReportWriter W) (shown : Bool) (e : AuditFault)
+      → IsReadToEnd old → OfGiven old (AnswersFor (kept old)) → IsUnwritten writer
+      → IsAuditingFault e old new → Tells new writer shown (Err e)
+  tells_fault old new writer shown e read answers unwritten (inl (same, is)) =
+      subst (λ reader. Tells reader writer shown (Err e)) (sym same)
+      (tells_no_report old writer shown e read answers unwritten is)
+  tells_fault old new writer shown e read answers unwritten (inr (lacked, wanting)) =
+      subst (λ fault. Tells new writer shown (Err fault)) (sym wanting) (
+        ap (λ (reader : CaptureReader R). reader.has_failed) lacked ∙ read.has_failed,
+        (λ room. absurd (true≢false (sym (ap (λ (reader : CaptureReader R). reader.lacked_memory) lacked) ∙ room))),
+        unwritten,
+      )
+
   -- what the accounts tell, of a reader and a writer that tell their bytes
   pub leaves_by_account : (all : List ℕ) (reader : CaptureReader R) (writer : ReportWriter W) (shown : Bool)
       (old new : Option (List ℕ)) (answer : Result Verdict AuditFault)
@@ -134,3 +148,10 @@ module _ (R W : Type 0) where
       keeps_unwritten old new writer.written writer.text.items told.1.written appends
   faults_are_silent_lem reader writer shown old new fault.OutOfMemory told appends other =
       keeps_unwritten old new writer.written writer.text.items told.2.written appends
+
+-- and the reads gave what they gave
+pub given_fault : {R : Type 0} (old new : CaptureReader R) (e : AuditFault) (given : List ℕ)
+    → IsAuditingFault e old new → HaveGiven old given → HaveGiven new given
+given_fault old new e given (inl (same, is)) gave = subst (λ reader. HaveGiven reader given) (sym same) gave
+given_fault old new e given (inr (lacked, wanting)) gave =
+    subst (λ reader. HaveGiven reader given) (sym lacked) gave

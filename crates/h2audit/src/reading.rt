@@ -1,10 +1,10 @@
-ghost use Rattle.std.specs.Prelude.{◌≡◌, ◌^◌, IfErr, IfOk, IfSome, OnOk, Some, take};
+ghost use Rattle.std.specs.Prelude.{◌≡◌, ◌^◌, List, ℕ, IfErr, IfOk, IfSome, OnOk, Some, take};
 ghost use Rattle.pcap_records.specs.Refusal.{refusal};
 ghost use Rattle.packet_heads.specs.code.Walk.{IsPacketWalkIn};
 ghost use Rattle.byte_accounts.specs.Account.{HaveGiven, IsReadToEnd, IsUnread, OfGiven, kept};
 ghost use Rattle.byte_accounts.specs.code.Reading as accounted;
 ghost use Rattle.h2audit.specs.Account.{IsBrief};
-ghost use Rattle.h2audit.specs.code.Reading.{AnswersFor, IsReadingFault};
+ghost use Rattle.h2audit.specs.code.Reading.{AnswersFor, IsHeaderOf, IsReadingFault};
 
 use crate::fault::AuditFault;
 use byte_accounts::{CaptureReader, PartsAhead, ReadFault, keep_and_walk, keep_up_to, pass_over};
@@ -17,6 +17,15 @@ use std::thread::Threads;
 /// The number of bytes in a file header.
 const HEADER: usize = 24;
 
+/// What the file header of a capture gives.
+#[derive(Drop)]
+pub(crate) enum FileHeader {
+    /// It is taken: the walk has made the packets so far.
+    Taken(PacketWalk),
+    /// Why it is refused.
+    Refused(PcapFault),
+}
+
 /// Reads to the end, or until there are 2^31 bytes, and keeps what its answer can depend on: all of it, or the file
 /// header alone where that refuses it. Answers that refusal, or a walk that has made the packets so far.
 ///
@@ -26,15 +35,14 @@ pub(crate) fn read_capture<R: Read>(
     alloc: Global,
     workers: u32,
     reader: &mut CaptureReader<R>,
-) -> Result<Result<PacketWalk, PcapFault>, AuditFault>
+) -> Result<FileHeader, AuditFault>
     requires { IsUnread reader.old }
     ensures bytes { OnOk result (IfSome (R.remaining reader.old.reader)
         (λ all. HaveGiven reader.new (take (2 ^ 31) all))) }
     ensures ok { OnOk result (IsReadToEnd reader.new) }
     ensures answers { OnOk result (OfGiven reader.new (AnswersFor (kept reader.new))) }
     ensures brief { OnOk result (IsBrief reader.new) }
-    ensures walk { IfOk result (λ read. IfOk read (IsPacketWalkIn (kept reader.new))) }
-    ensures refused { IfOk result (λ read. IfErr read (λ e. refusal (kept reader.new) ≡ Some e)) }
+    ensures header { IfOk result (IsHeaderOf (kept reader.new)) }
     ensures err { IfErr result (λ e. IsReadingFault e reader.new) }
 {
     let mut ahead = PartsAhead::new(rt, alloc, workers);
@@ -52,30 +60,40 @@ fn read_in_parts<T: Threads, R: Read>(
     alloc: Global,
     ahead: &mut PartsAhead<'_, T>,
     reader: &mut CaptureReader<R>,
-) -> Result<Result<PacketWalk, PcapFault>, ReadFault>
+) -> Result<FileHeader, ReadFault>
     requires { IsUnread reader.old }
     ensures bytes { OnOk result (IfSome (R.remaining reader.old.reader)
         (λ all. HaveGiven reader.new (take (2 ^ 31) all))) }
     ensures ok { OnOk result (IsReadToEnd reader.new) }
     ensures answers { OnOk result (OfGiven reader.new (AnswersFor (kept reader.new))) }
     ensures brief { OnOk result (IsBrief reader.new) }
-    ensures walk { IfOk result (λ read. IfOk read (IsPacketWalkIn (kept reader.new))) }
-    ensures refused { IfOk result (λ read. IfErr read (λ e. refusal (kept reader.new) ≡ Some e)) }
+    ensures header { IfOk result (IsHeaderOf (kept reader.new)) }
     ensures err { IfErr result (λ e. accounted.IsReadingFault e reader.new) }
 {
     keep_up_to(ahead, reader, HEADER)?;
     let begun = PacketWalk::begin(alloc, reader.together());
     if reader.has_ended() {
-        return Ok(begun);
+        return Ok(header_by(begun));
     }
     match begun {
         Ok(mut walk) => {
             keep_and_walk(ahead, reader, &mut walk)?;
-            Ok(Ok(walk))
+            Ok(FileHeader::Taken(walk))
         }
         Err(refusal) => {
             pass_over(reader)?;
-            Ok(Err(refusal))
+            Ok(FileHeader::Refused(refusal))
         }
+    }
+}
+
+/// The walk or the refusal that the beginning of a capture gives.
+fn header_by(begun: Result<PacketWalk, PcapFault>) -> FileHeader
+    ensures { (kept : List ℕ) → IfOk begun (IsPacketWalkIn kept) → IfErr begun (λ e. refusal kept ≡ Some e)
+        → IsHeaderOf kept result }
+{
+    match begun {
+        Ok(walk) => FileHeader::Taken(walk),
+        Err(refusal) => FileHeader::Refused(refusal),
     }
 }

@@ -1,20 +1,17 @@
-ghost use Rattle.std.specs.Prelude.{◌≡◌, IfErr, IfOk, Some};
+ghost use Rattle.std.specs.Prelude.{◌≡◌, IfErr, IfOk, OnOk};
 ghost use Rattle.std.specs.Io.KnownBytes.{Appends};
-ghost use Rattle.pcap_records.specs.Refusal.{refusal};
-ghost use Rattle.packet_heads.specs.code.Walk.{IsPacketWalkIn};
 ghost use Rattle.byte_accounts.specs.Account.{IsReadToEnd, IsUnread, IsUnwritten, kept, written};
 ghost use Rattle.h2audit.specs.Account.{HasGiven, IsBrief, Tells};
-ghost use Rattle.h2audit.specs.Report.{IsNoReport, IsReport};
+ghost use Rattle.h2audit.specs.Report.{IsReport};
+ghost use Rattle.h2audit.specs.code.Reading.{IsAuditingFault, IsHeaderOf};
 
 use crate::auditing::audit_parts;
 use crate::fault::AuditFault;
-use crate::reading::read_capture;
+use crate::reading::{FileHeader, read_capture};
 use crate::verdict::Verdict;
 use byte_accounts::{CaptureReader, ReportWriter, write_report};
 use command_line::Options;
-use packet_heads::PacketWalk;
-use pcap_records::PcapFault;
-use std::alloc::{AllocError, Global};
+use std::alloc::Global;
 use std::io::{Read, Write};
 use std::random::RandomSource;
 use std::thread::Threads;
@@ -45,44 +42,38 @@ pub fn run<R: Read, W: Write>(
     ensures brief { IsReadToEnd reader.new → IsBrief reader.new }
     ensures taken { Appends (W.contents writer.old.writer) (W.contents writer.new.writer) (written writer.new) }
 {
-    let read = read_capture(rt, alloc, options.workers(), reader)?;
-    match audit_kept(rt, alloc, options, reader, read, gate) {
-        Ok(Ok((text, verdict))) => {
-            writer.begin(text);
-            match write_report(writer) {
-                Ok(()) => Ok(verdict),
-                Err(_) => Err(AuditFault::Write),
-            }
-        }
-        Ok(Err(fault)) => Err(fault),
-        Err(_) => {
-            reader.lack_memory();
-            Err(AuditFault::OutOfMemory)
-        }
+    let header = read_capture(rt, alloc, options.workers(), reader)?;
+    let (text, verdict) = audit_kept(rt, alloc, options, reader, header, gate)?;
+    writer.begin(text);
+    match write_report(writer) {
+        Ok(()) => Ok(verdict),
+        Err(_) => Err(AuditFault::Write),
     }
 }
 
-/// Audits what is kept of a capture, if there is memory for the list of its parts, or answers the refusal that was
-/// read.
+/// Audits what is kept of a capture, or answers the refusal that was read. Where there is no memory for the list of its
+/// parts, the account has that.
 fn audit_kept<R: Read>(
     rt: &(impl Threads + Sync + RandomSource),
     alloc: Global,
     options: &Options,
-    reader: &CaptureReader<R>,
-    read: Result<PacketWalk, PcapFault>,
+    reader: &mut CaptureReader<R>,
+    header: FileHeader,
     gate: &impl Gate,
-) -> Result<Result<(Vec<u8>, Verdict), AuditFault>, AllocError>
-    requires walk { IfOk read (IsPacketWalkIn (kept reader.now)) }
-    requires refused { IfErr read (λ e. refusal (kept reader.now) ≡ Some e) }
-    ensures report { IfOk result (λ answer. IfOk answer
-        (λ r. IsReport (kept reader.now) options.now.frames_shown r.0.items r.1)) }
-    ensures refused { IfOk result (λ answer. IfErr answer (λ e. IsNoReport (kept reader.now) e)) }
+) -> Result<(Vec<u8>, Verdict), AuditFault>
+    requires { IsHeaderOf (kept reader.old) header }
+    ensures same { OnOk result (reader.new ≡ reader.old) }
+    ensures report { IfOk result (λ r. IsReport (kept reader.old) options.now.frames_shown r.0.items r.1) }
+    ensures fault { IfErr result (λ e. IsAuditingFault e reader.old reader.new) }
 {
-    match read {
-        Ok(walk) => {
-            let capture = reader.capture(alloc)?;
-            Ok(audit_parts(rt, alloc, options, walk, &capture, gate))
+    match header {
+        FileHeader::Taken(walk) => {
+            if let Ok(capture) = reader.capture(alloc) {
+                return audit_parts(rt, alloc, options, walk, &capture, gate);
+            }
+            reader.lack_memory();
+            Err(AuditFault::OutOfMemory)
         }
-        Err(refusal) => Ok(Err(AuditFault::Pcap(refusal))),
+        FileHeader::Refused(refusal) => Err(AuditFault::Pcap(refusal)),
     }
 }

@@ -1,10 +1,14 @@
 -- What is kept of a capture, what the capture answers, and how reading it fails.
-use Rattle.std.specs.Prelude.{◌≡◌, ℕ, true, false, List, None}
+use Rattle.std.specs.Prelude.{◌≡◌, ◌⊎◌, ℕ, true, false, List, None, Some}
 use Rattle.pcap_records.specs.Refusal.{refusal}
 use Rattle.byte_accounts.specs.Account.{HasReadFailed}
 use Rattle.byte_accounts.specs.declared.capture_reader.CaptureReader.{CaptureReader}
 use Rattle.h2audit.specs.declared.fault.AuditFault.{AuditFault}
 use Rattle.h2audit.specs.declared.fault.AuditFault.TheVariants as fault
+use Rattle.h2audit.specs.declared.reading.FileHeader.{FileHeader}
+use Rattle.h2audit.specs.declared.reading.FileHeader.TheVariants as header
+use Rattle.h2audit.specs.Report.{IsNoReport}
+use Rattle.packet_heads.specs.code.Walk.{IsPacketWalkIn}
 
 -- what is kept of a capture answers for it: both have the same refusal, and where they have none they are the same
 abbrev pub AnswersFor : (kept given : List ℕ) → Type 0
@@ -15,3 +19,13 @@ abbrev pub IsReadingFault : {R : Type 0} → AuditFault → CaptureReader R → 
 IsReadingFault fault.Read reader = HasReadFailed reader
 IsReadingFault fault.OutOfMemory reader = (reader.has_failed ≡ false) × (reader.lacked_memory ≡ true)
 IsReadingFault _ _ = ⊥
+
+-- what the file header of these bytes gives: a walk over them, or their refusal
+abbrev pub IsHeaderOf : List ℕ → FileHeader → Type 0
+IsHeaderOf kept (header.Taken walk) = IsPacketWalkIn kept walk
+IsHeaderOf kept (header.Refused e) = refusal kept ≡ Some e
+
+-- the faults of an audit of what is kept: it has no report, or there was no memory for the list of its parts
+abbrev pub IsAuditingFault : {R : Type 0} → AuditFault → (old new : CaptureReader R) → Type 0
+IsAuditingFault e old new = ((new ≡ old) × IsNoReport old.bytes.kept e)
+    ⊎ ((new ≡ record old { lacked_memory = true }) × (e ≡ fault.OutOfMemory))
