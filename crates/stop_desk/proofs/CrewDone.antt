@@ -5,7 +5,8 @@ use Rattle.std.proofs.Common.{Bool, true, false, nat_lt, if◌then◌else◌, lt
 use Rattle.std.proofs.Common.{ne_eqb, ◌++◌, take}
 use Rattle.std.proofs.lemmas.Bool.{cases_lt}
 use Rattle.std.proofs.lemmas.Bool.Decides.{nat_tests}
-use Rattle.std.proofs.lemmas.List.{length-map, length-drop, get_or-map, get_or-drop, get_or_past, take_more, length-take-le}
+use Rattle.std.proofs.lemmas.List.{length-map, length-drop, get_or-map, get_or-drop, get_or_past, take_more}
+use Rattle.std.proofs.lemmas.List.{length-take-le}
 use Rattle.stop_desk.specs.declared.parts.Part.{Part}
 use Rattle.stop_desk.specs.code.Counts.{marks, is_mark, once_below}
 use Rattle.stop_desk.specs.code.Stop.{place_at, past_places, IsStop}
