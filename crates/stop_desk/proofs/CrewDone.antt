@@ -2,10 +2,11 @@
 use Rattle.std.proofs.Common.{◌≡◌, ℕ, zero, suc, ◌+◌, ◌<◌, ◌≤◌, ◌⊎◌, inl, inr, ⊎_elim, List, [], ◌∷◌, length, drop, map}
 use Rattle.std.proofs.Common.{get_or, Option, Some, None, refl, sym, ap, subst, ◌∙◌, arith, Contains, slice_get, All}
 use Rattle.std.proofs.Common.{Bool, true, false, nat_lt, if◌then◌else◌, ltb-true, ◌≢◌, ◌==◌, count_by, eqb-true, eq-eqb}
-use Rattle.std.proofs.Common.{ne_eqb}
+use Rattle.std.proofs.Common.{ne_eqb, ◌++◌, take}
 use Rattle.std.proofs.lemmas.Bool.{cases_lt}
 use Rattle.std.proofs.lemmas.Bool.Decides.{nat_tests}
-use Rattle.std.proofs.lemmas.List.{length-map, length-drop, get_or-map, get_or-drop, get_or_past, same_lists}
+use Rattle.std.proofs.lemmas.List.{length-map, length-drop, get_or-map, get_or-drop, get_or_past, take_more}
+use Rattle.std.proofs.lemmas.List.{length-take-le}
 use Rattle.stop_desk.specs.declared.parts.Part.{Part}
 use Rattle.stop_desk.specs.code.Counts.{marks, is_mark, once_below}
 use Rattle.stop_desk.specs.code.Stop.{place_at, past_places, IsStop}
@@ -69,24 +70,31 @@ last-at closed first (w ∷ ws) zero d lt = ap (final_stop closed) (omega arith)
 last-at closed first (w ∷ ws) (suc c) d lt =
     last-at closed (first + 1) ws c d (omega arith) ∙ ap (final_stop closed) (omega arith)
 
-pub length-last_stops : (closed : ClosedView) → length (last_stops closed) ≡ length (opening_stops closed.desk)
-length-last_stops closed =
-    length-last_stops_from closed 0 (drop 1 closed.desk.opened) ∙ sym (length-map (drop 1 closed.desk.opened) place_at)
-
 final-at : (closed : ClosedView) (c : ℕ) (d : Option ℕ) → IsConnection closed.desk c →
     get_or (last_stops closed) c d ≡ final_stop closed c
 final-at closed c d there =
     last-at closed 0 (drop 1 closed.desk.opened) c d (omega (arith, length-drop 1 closed.desk.opened))
     ∙ ap (final_stop closed) (omega arith)
 
--- a list with the stop of each connection is all
-pub last_stops-all : (closed : ClosedView) (n : ℕ) (stops : List (Option ℕ)) → length closed.desk.opened ≡ n + 1 →
-    length stops ≡ n → ((k : ℕ) (d : Option ℕ) → k < n → get_or stops k d ≡ final_stop closed k) →
-    stops ≡ last_stops closed
-last_stops-all closed n stops wide long each =
-    same_lists stops (last_stops closed)
-    (omega (arith, length-last_stops_from closed 0 (drop 1 closed.desk.opened), length-drop 1 closed.desk.opened))
-    (λ k d lt. each k d (omega arith) ∙ sym (final-at closed k d (omega arith)))
+last-snoc : (closed : ClosedView) (first : ℕ) (words : List ℕ) (word : ℕ) →
+    last_stops_from closed first (words ++ word ∷ [])
+    ≡ last_stops_from closed first words ++ final_stop closed (first + length words) ∷ []
+last-snoc closed first [] word = ap (λ n. final_stop closed n ∷ []) (omega arith)
+last-snoc closed first (w ∷ ws) word =
+    ap (λ stops. final_stop closed first ∷ stops) (last-snoc closed (first + 1) ws word
+    ∙ ap (λ n. last_stops_from closed (first + 1) ws ++ final_stop closed n ∷ []) (omega arith))
+
+-- one connection more
+pub last_stops-more : (closed : ClosedView) (n : ℕ) → IsConnection closed.desk n →
+    last_stops_from closed 0 (take (n + 1) (drop 1 closed.desk.opened))
+    ≡ last_stops_from closed 0 (take n (drop 1 closed.desk.opened)) ++ final_stop closed n ∷ []
+last_stops-more closed n there =
+    let words = drop 1 closed.desk.opened in
+    let lt : n < length words = omega (arith, length-drop 1 closed.desk.opened) in
+    ap (last_stops_from closed 0) (take_more words n 0 lt)
+    ∙ last-snoc closed 0 (take n words) (get_or words n 0)
+    ∙ ap (λ m. last_stops_from closed 0 (take n words) ++ final_stop closed m ∷ [])
+    (omega (arith, length-take-le n words (omega arith)))
 
 final-past : (closed : ClosedView) (c : ℕ) → length closed.desk.opened ≤ c + 1 → stop_of (last_stops closed) c ≡ None
 final-past closed c past =
@@ -348,9 +356,11 @@ module _ {M : Type 0} (makes : ℕ → Option ℕ → M → Type 0) (jobs : List
         count = run.length_is;
         in_order = λ n part e.
             let is : part.job ≡ n = let at = run.each n part e in omega arith in
-            (is, subst (λ m. makes m part.upto part.made) is (made-in sorted same part (contains-got sorted n part e)).1);
+            let made = (made-in sorted same part (contains-got sorted n part e)).1 in
+            (is, subst (λ m. makes m part.upto part.made) is made);
         connections =
-            ap length stops_are ∙ length-last_stops closed
+            ap length stops_are ∙ length-last_stops_from closed 0 (drop 1 closed.desk.opened)
+            ∙ sym (length-map (drop 1 closed.desk.opened) place_at)
             ∙ ap (λ d. length (opening_stops d)) done.desk_is ∙ ap length opened;
         places = subst (All IsStop) (sym stops_are) (last_stops-places closed);
         heeded = not-below jobs opening parts sorted closed.seen closed.lowered stops same board;

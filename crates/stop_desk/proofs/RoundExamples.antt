@@ -30,7 +30,8 @@ abbrev the_place : List (ℕ × ℕ)
 the_place = (0, (error 7 3).place) ∷ []
 
 -- no stop among these
-none_stops : (xs : List Finding) (place : ℕ) → AllByRecursion (λ (x : Finding). stops x ≡ false) xs → StopsAt xs place → ⊥
+none_stops : (xs : List Finding) (place : ℕ) → AllByRecursion (λ (x : Finding). stops x ≡ false) xs →
+    StopsAt xs place → ⊥
 none_stops xs place none (found, among, s, at) =
     let all = All-from_recursion (λ (x : Finding). stops x ≡ false) xs none in
     true≢false (sym s ∙ All-contains (λ (x : Finding). stops x ≡ false) xs found all among)
@@ -152,7 +153,8 @@ lowered-wrong : (number : ℕ) (j : Job) → 0 ≡ number → slice_get example.
     StopsAt j.findings (overrun 6 1).place → ⊥
 lowered-wrong zero j e got h =
     let same : job_0 ≡ j = cc in
-    none_stops job_0.findings (overrun 6 1).place (pair refl (pair refl tt)) (subst (λ (k : Job). StopsAt k.findings (overrun 6 1).place) (sym same) h)
+    none_stops job_0.findings (overrun 6 1).place (pair refl (pair refl tt))
+    (subst (λ (k : Job). StopsAt k.findings (overrun 6 1).place) (sym same) h)
 lowered-wrong (suc number) j e got h = absurd (omega arith)
 
 pub overrun_lowered : OverrunLowered

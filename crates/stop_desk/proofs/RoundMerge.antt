@@ -1,6 +1,6 @@
--- The parts of a settled board, taken job by job, hold with what they leave out the findings of all jobs. So it gives, up
--- to the stop, what the whole jobs give: each place seen is a real error, so none lies below the least; each part has
--- everything up to the least; so the least is kept and was lowered.
+-- The parts of a settled board, taken job by job, hold with what they leave out the findings of all jobs. So it gives,
+-- up to the stop, what the whole jobs give: each place seen is a real error, so none lies below the least; each part
+-- has everything up to the least; so the least is kept and was lowered.
 use Rattle.std.proofs.Common.{◌≡◌, ℕ, zero, suc, ◌+◌, ◌<◌, true, List, [], ◌∷◌, ◌++◌, length, refl, sym, ap, subst, ◌∙◌}
 use Rattle.std.proofs.Common.{arith, append_assoc, ⊎_elim, Contains, Option, Some, None, slice_get, eqb-true, eq-eqb}
 use Rattle.std.proofs.Common.{ne_eqb, if◌then◌else◌, ◌==◌, ◌≤◌, Bool, false, ◌⊎◌, inl, inr}

@@ -13,7 +13,7 @@ use Rattle.stop_desk.specs.code.Desk.{DeskId, PassView, pass_of, IsConnection, p
 use Rattle.stop_desk.specs.code.Calls.{IsLook, Draws, IsClaim}
 use Rattle.stop_desk.specs.code.Board.{Job, StopsAt, IsCut, Part as BoardPart, parts_of}
 use Rattle.stop_desk.specs.code.Worked.{stops_on, Goes, DoesJob, IsLaid, IsWorked, IsAllWorked, DrewJobs}
-use Rattle.stop_desk.proofs.RoundMembers.{pair, contains-none, contains-cases, contains-got, contains-in_order}
+use Rattle.stop_desk.proofs.RoundMembers.{pair, contains-none, contains-each, contains-got, contains-in_order}
 use Rattle.stop_desk.proofs.RoundMembers.{contains-map, map-contains, in_order-contains, contains-filter}
 use Rattle.stop_desk.proofs.RoundMembers.{filter-contains, count-cons}
 use Rattle.std.proofs.lemmas.Bool.{cases_lt}
@@ -76,10 +76,8 @@ watched-first c before between after first rest look w = by_answer first.answer 
     kept = w.kept;
     seen_kept = w.seen_kept;
     seen_from = w.seen_from;
-    answered = λ one p k f. ⊎_elim
-        (λ same. let g = ap (λ (a : Asked). a.answer) same in cc)
-        (λ m. w.answered one p m f)
-        (contains-cases first rest one k);
+    answered = λ one p. contains-each first rest (λ one. one.answer ≡ Some p → Contains after.seen (c, p))
+        (λ f. cc) (λ one m f. w.answered one p m f) one;
   })
   by_answer (Some q) e l =
       let same : between ≡ pass_of before.desk before.allowance before.drawn (before.seen ++ (c, q) ∷ [])
@@ -95,13 +93,9 @@ watched-first c before between after first rest look w = by_answer first.answer 
             (Contains-push_cases before.seen (c, q) (d, p) (subst (λ xs. Contains xs (d, p)) seen m)))
             (λ f. inr f)
             (w.seen_from d p k);
-        answered = λ one p k f. ⊎_elim
-            (λ is.
-            let g = ap (λ (a : Asked). a.answer) is in
-            let at : q ≡ p = cc in
-            w.seen_kept c p (rw (seen, ← at) (Contains-push before.seen (c, q))))
-            (λ m. w.answered one p m f)
-            (contains-cases first rest one k);
+        answered = λ one p. contains-each first rest (λ one. one.answer ≡ Some p → Contains after.seen (c, p))
+            (λ f. let at : q ≡ p = cc in w.seen_kept c p (rw (seen, ← at) (Contains-push before.seen (c, q))))
+            (λ one m f. w.answered one p m f) one;
       }
 
 module _ {L : Type 0} (answers : L → List Finding → Option ℕ → L → Type 0) (pass : L → PassView) (c : ℕ)

@@ -1,8 +1,10 @@
-use Rattle.std.proofs.Common.{arith}
-use Rattle.stop_desk.proofs.CrewDone.{last_stops-all}
+use Rattle.std.proofs.Common.{◌++◌, ◌∷◌, [], sym, ◌∙◌, arith}
+use Rattle.stop_desk.proofs.CrewDone.{last_stops-more}
 use Rattle.stop_desk.proofs.settling.stops_of.Goals as goal
 
-pub returns : goal.returns
-returns c =
-    last_stops-all c.args.closed.now c.loop-connection.connection c.loop-connection.stops.items (omega arith)
-    c.loop-connection.invariant.0 c.loop-connection.invariant.1
+pub loop-connection-preserved : goal.loop-connection-preserved
+loop-connection-preserved c =
+    c.in_ok-push.ensures.items
+    ∙ (λ i. c.loop-connection.invariant i ++ c.stop.ensures i ∷ [])
+    ∙ sym (last_stops-more c.args.closed.now c.loop-connection.connection
+    (omega (arith, c.requires, c.loop-connection-test.true)))

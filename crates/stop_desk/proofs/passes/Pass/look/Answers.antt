@@ -14,7 +14,8 @@ load-word-requires c =
     )
 
 pub invariant_of-self : goal.invariant_of-self
-invariant_of-self c = same-fields _ c.self.inside.seat.me _ _ _ (c.load-word.ensures.2 c.args.connection refl).added c.self.invariant
+invariant_of-self c =
+    same-fields _ c.self.inside.seat.me _ _ _ (c.load-word.ensures.2 c.args.connection refl).added c.self.invariant
 
 pub returns-clause-desk : goal.returns-clause-desk
 returns-clause-desk c =

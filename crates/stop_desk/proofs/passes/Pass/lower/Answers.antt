@@ -18,7 +18,8 @@ fetch_min-requires c =
     )
 
 pub invariant_of-self : goal.invariant_of-self
-invariant_of-self c = same-fields _ c.self.inside.seat.me _ _ _ (c.fetch_min.ensures.2 c.args.connection refl) c.self.invariant
+invariant_of-self c =
+    same-fields _ c.self.inside.seat.me _ _ _ (c.fetch_min.ensures.2 c.args.connection refl) c.self.invariant
 
 pub returns : goal.returns
 returns c = rw (← c.self.view_is, ← c.word-word.ensures)
