@@ -1,7 +1,9 @@
 -- On the pieces of a side's segments: they bring what the segments bring.
+use Rattle.std.proofs.Common.{min}
+use Rattle.tcp_streams.specs.Sequence.{modulus, brings, distance, earlier_of, start_of}
 use Rattle.tcp_streams.proofs.Lists.{by_option, by_Bool, by_lt}
 use Rattle.tcp_streams.proofs.Words.{◌≡◌, ℕ, zero, suc, ◌+◌, ◌-◌, ◌%◌, ◌<◌, ◌≤◌, ◌^◌, Bool, List, [], ◌∷◌, length}
-use Rattle.tcp_streams.proofs.Words.{filter, get_or, slice_get, Option, None, Some, ◌⊎◌, refl, sym, ◌∙◌, arith, IsSome}
+use Rattle.tcp_streams.proofs.Words.{filter, get_or, slice_get, Option, None, Some, refl, sym, ◌∙◌, arith, IsSome}
 use Rattle.tcp_streams.proofs.Words.{if◌then◌else◌, nat_lt, All, IfSome, option_and_then, filter_map, option_or}
 use Rattle.tcp_streams.proofs.Words.{option_to_list, lt-ltb, nat_tests, IfSome_then, none-some, All-cons, All-nil}
 use Rattle.tcp_streams.proofs.Words.{sum_by-cons, width, Side, Packet, Carried, Segment, AreNumberedFrom, PayloadsRise}
@@ -11,7 +13,6 @@ use Rattle.tcp_streams.proofs.Words.{segment_of, Source, end_of_offsets, payload
 use Rattle.std.specs.List.{cons_option}
 use Rattle.tcp_streams.specs.code.Interval.{PayloadsFit, stretch}
 use Rattle.tcp_streams.specs.laws.Flows.{ByteHasOffset}
-use Rattle.tcp_streams.specs.Sequence.{brings, distance, earlier_of, start_of}
 use Rattle.tcp_streams.proofs.IntervalLemmas.{at-append}
 
 -- a payload that stands in the capture
@@ -41,14 +42,14 @@ stretch-is s skipped from upto counts within =
     (λ e lt. rw e (record { some = lt; counts = counts; first = omega arith; within = within lt; rec_is = refl }))
     (λ e _. rw e tt)
 
--- a segment brings its payload from one offset on, of 2 ^ 31 offsets
-module _ (s : Segment) (distance skipped from upto o : ℕ) where
-  stretch-same : (from ≤ o → o < upto → (distance < payload_length s) × (distance ≡ skipped + (o - from)))
-      → ((o < from) ⊎ (upto ≤ o) → payload_length s ≤ distance)
-      → (if nat_lt distance (payload_length s)
-      then Some (let x : Source = record { rec = s.rec; nanos = s.nanos; index = s.lo + distance } in x) else None)
-      ≡ at (option_to_list (stretch s skipped from upto)) o
-  stretch-same inside outside = grind (arith, nat_tests)
+-- where a segment's payload begins at st, its piece brings what the segment brings
+same-at : (st size o : ℕ) (s : Segment) → StandsIn size s → size < 2 ^ 31 → st < 2 ^ 32 → o < 2 ^ 31
+    → (if nat_lt ((o + (2 ^ 32 - st)) % 2 ^ 32) (payload_length s)
+    then Some (let x : Source = record { rec = s.rec; nanos = s.nanos; index = s.lo + (o + (2 ^ 32 - st)) % 2 ^ 32 } in x)
+    else None)
+    ≡ at (option_to_list (if nat_lt st end_of_offsets then stretch s 0 st (min (st + payload_length s) end_of_offsets)
+    else stretch s (modulus - st) 0 (st + payload_length s - modulus))) o
+same-at st size o s stands small low lt = grind (arith, nat_tests, distance-past st o low lt, distance-before st o low)
 
 module _ (initial_number size : ℕ) (small : size < 2 ^ 31) (s : Segment) (stands : StandsIn size s) where
   pub piece-is : IfSome (piece initial_number s) (IsPieceOf s)
@@ -61,16 +62,8 @@ module _ (initial_number size : ℕ) (small : size < 2 ^ 31) (s : Segment) (stan
   -- the piece of a segment brings what the segment brings
   pub piece-same : IsSame (brings initial_number s) (at (option_to_list (piece initial_number s)))
   piece-same = λ o lt.
-      let start = start_of initial_number s in
-      let low : start < 2 ^ 32 = omega arith in
-      by_lt start end_of_offsets
-      (λ e below. rw e (by_lt o start
-      (λ _ before. let d = distance-before start o low before in
-      stretch-same s _ 0 start _ o (λ a b. absurd (omega arith)) (λ out. omega arith))
-      (λ _ past. let d = distance-past start o low lt past in
-      stretch-same s _ 0 start _ o (λ a b. (omega arith, omega arith)) (λ out. omega arith))))
-      (λ e above. rw e (let d = distance-before start o low (omega arith) in
-      stretch-same s _ _ 0 _ o (λ a b. (omega arith, omega arith)) (λ out. omega arith)))
+      let low : start_of initial_number s < 2 ^ 32 = omega arith in
+      same-at (start_of initial_number s) size o s stands small low lt
 
 round-trip : (a initial_number k : ℕ) → k < 2 ^ 32
     → ((a + k + (2 ^ 32 - 1 - initial_number)) % 2 ^ 32 + (2 ^ 32
