@@ -1,13 +1,14 @@
 -- On packets that are numbered by their records: what their past is, and that members name segments.
-use Rattle.std.proofs.lemmas.List.{drop-drop, get_or-map, length-map, take_more}
-use Rattle.tcp_streams.proofs.Words.{sym, ap, ◌∙◌, common_steps, ◌≡◌, ℕ, zero, suc, ◌+◌, ◌-◌, ◌<◌, ◌≤◌, List, [], ◌∷◌}
-use Rattle.tcp_streams.proofs.Words.{◌++◌, length, map, take, drop, get_or, Some, slice_get, refl, arith, IsSome, All}
-use Rattle.tcp_streams.proofs.Words.{length-take-le, map-append, All-head, All-nil, All-tail, none-some, Packet}
-use Rattle.tcp_streams.proofs.Words.{Carried, Segment, AreNumberedFrom, Connection, AreMembers, Membership}
-use Rattle.tcp_streams.proofs.Words.{connection_of, connections_of, members, membership, opening_at, openings}
-use Rattle.tcp_streams.proofs.Words.{past_after, past_of, with_packet, is_opening, segment_of, Falls}
+use Rattle.tcp_streams.proofs.Words.{◌≡◌, ℕ, ◌<◌, ◌≤◌, List, [], ◌∷◌, Some, refl, sym, ◌∙◌, arith, zero, suc, ◌+◌, ◌-◌}
+use Rattle.tcp_streams.proofs.Words.{◌++◌, length, drop, take, slice_get, ap, IsSome, get_or, map, All, common_steps}
+use Rattle.tcp_streams.proofs.Words.{get_or-map, length-map, map-append, drop-drop, length-take-le, All-nil, All-weaker}
+use Rattle.tcp_streams.proofs.Words.{All-head, All-tail, All-push, none-some, AreNumberedFrom, Packet, Carried, Segment}
+use Rattle.tcp_streams.proofs.Words.{is_opening, segment_of, AreMembers, members, opening_at, openings, Membership}
+use Rattle.tcp_streams.proofs.Words.{membership, connection_of, connections_of, past_after, past_of, with_packet, Falls}
+use Rattle.tcp_streams.proofs.Words.{Connection}
+use Rattle.std.proofs.lemmas.List.{take_more}
+use Rattle.std.proofs.lemmas.List.Elements.{All-map}
 use Rattle.std.proofs.lemmas.Option.{gets, slice_get-get_or}
-use Rattle.std.proofs.lemmas.List.Elements.{All-push, All-weaker, All-map}
 use Rattle.tcp_streams.proofs.Lists.{by_Bool}
 use Rattle.tcp_streams.proofs.Past.{Falls-weaker}
 

@@ -1,19 +1,19 @@
 -- On the pieces of a side's segments: they bring what the segments bring.
+use Rattle.tcp_streams.proofs.Words.{◌≡◌, ℕ, ◌<◌, ◌≤◌, Bool, List, [], ◌∷◌, Option, None, Some, refl, sym, ◌∙◌, arith}
+use Rattle.tcp_streams.proofs.Words.{zero, suc, ◌+◌, ◌-◌, ◌^◌, length, slice_get, IsSome, ◌%◌, filter, get_or}
+use Rattle.tcp_streams.proofs.Words.{if◌then◌else◌, All, IfSome, nat_lt, option_and_then, filter_map, option_or}
+use Rattle.tcp_streams.proofs.Words.{option_to_list, lt-ltb, nat_tests, All-nil, All-cons, sum_by-cons, IfSome_then}
+use Rattle.tcp_streams.proofs.Words.{none-some, Side, AreNumberedFrom, PayloadsRise, TimesFit, Packet, Carried, Segment}
+use Rattle.tcp_streams.proofs.Words.{is_sent_by, segments_of, segment_in, segment_of, Source, end_of_offsets}
+use Rattle.tcp_streams.proofs.Words.{payload_length, source, IsInterval, IsCaptured, at, size_of, width, IsSame}
+use Rattle.tcp_streams.proofs.Words.{member_piece, piece, AreMembers, payload_sum, Interval, Connection}
 use Rattle.std.proofs.Common.{min}
-use Rattle.tcp_streams.specs.Sequence.{modulus, brings, distance, earlier_of, start_of}
-use Rattle.tcp_streams.proofs.Lists.{by_option, by_Bool, by_lt}
-use Rattle.tcp_streams.proofs.Words.{◌≡◌, ℕ, zero, suc, ◌+◌, ◌-◌, ◌%◌, ◌<◌, ◌≤◌, ◌^◌, Bool, List, [], ◌∷◌, length}
-use Rattle.tcp_streams.proofs.Words.{filter, get_or, slice_get, Option, None, Some, refl, sym, ◌∙◌, arith, IsSome}
-use Rattle.tcp_streams.proofs.Words.{if◌then◌else◌, nat_lt, All, IfSome, option_and_then, filter_map, option_or}
-use Rattle.tcp_streams.proofs.Words.{option_to_list, lt-ltb, nat_tests, IfSome_then, none-some, All-cons, All-nil}
-use Rattle.tcp_streams.proofs.Words.{sum_by-cons, width, Side, Packet, Carried, Segment, AreNumberedFrom, PayloadsRise}
-use Rattle.tcp_streams.proofs.Words.{TimesFit, Interval, Connection, IsInterval, IsCaptured, IsSame, at, member_piece}
-use Rattle.tcp_streams.proofs.Words.{piece, size_of, AreMembers, payload_sum, is_sent_by, segments_of, segment_in}
-use Rattle.tcp_streams.proofs.Words.{segment_of, Source, end_of_offsets, payload_length, source}
 use Rattle.std.specs.List.{cons_option}
+use Rattle.tcp_streams.specs.Sequence.{brings, distance, earlier_of, modulus, start_of}
 use Rattle.tcp_streams.specs.code.Interval.{PayloadsFit, stretch}
 use Rattle.tcp_streams.specs.laws.Flows.{ByteHasOffset}
 use Rattle.tcp_streams.proofs.IntervalLemmas.{at-append}
+use Rattle.tcp_streams.proofs.Lists.{by_Bool, by_lt, by_option}
 
 -- a payload that stands in the capture
 pub record StandsIn (size : ℕ) (s : Segment) : Type 0 where

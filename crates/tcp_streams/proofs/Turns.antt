@@ -1,11 +1,11 @@
 -- What a segment does, by what the table shows of its pair.
-use Rattle.tcp_streams.proofs.Words.{◌≡◌, ℕ, ◌≤◌, [], ◌∷◌, get_or, true, not, List, length, map, Some, slice_get, sym}
-use Rattle.tcp_streams.proofs.Words.{ap, ◌∙◌, arith, get_or_from_slice_get, slice_get_within, get_or-map, length-append}
-use Rattle.tcp_streams.proofs.Words.{length-map, Segment, Connection, Stray, Pair, Opened, Table, is_of, pair_of}
-use Rattle.tcp_streams.proofs.Words.{Membership, connection_of, first_strays, membership, openings, opens, stray_of}
-use Rattle.tcp_streams.proofs.Words.{strays, is_request, standing_of, IsOpened, IsTableOf, IsUnopened}
-use Rattle.std.proofs.lemmas.Option.{slice_get-map}
+use Rattle.tcp_streams.proofs.Words.{◌≡◌, ℕ, ◌≤◌, true, not, List, [], ◌∷◌, Some, sym, ◌∙◌, arith, length, slice_get}
+use Rattle.tcp_streams.proofs.Words.{ap, get_or, map, length-append, get_or-map, length-map, get_or_from_slice_get}
+use Rattle.tcp_streams.proofs.Words.{slice_get_within, Segment, is_request, is_of, pair_of, first_strays, openings}
+use Rattle.tcp_streams.proofs.Words.{opens, strays, Membership, membership, connection_of, stray_of, standing_of}
+use Rattle.tcp_streams.proofs.Words.{IsOpened, IsTableOf, IsUnopened, Connection, Stray, Pair, Opened, Table}
 use Rattle.std.proofs.lemmas.List.Sums.{count_by-le-length, length-filter}
+use Rattle.std.proofs.lemmas.Option.{slice_get-map}
 use Rattle.tcp_streams.specs.code.Past.{is_again}
 
 strays-few : (past : List Segment) → length (strays past) ≤ length past

@@ -1,4 +1,4 @@
-use Rattle.tcp_streams.proofs.Words.{sym, ap, ◌∙◌, not, Some}
+use Rattle.tcp_streams.proofs.Words.{not, Some, sym, ◌∙◌, ap}
 use Rattle.tcp_streams.proofs.Turns.{decides, stands_so}
 use Rattle.tcp_streams.proofs.table.Table.turn.Goals as goal
 use Rattle.tcp_streams.proofs.table.Table.turn.Goals.{else-is_request-3-via-then-is_request-3+else-not-is_reopened_by}
