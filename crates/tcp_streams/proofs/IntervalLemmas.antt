@@ -12,9 +12,6 @@ use Rattle.tcp_streams.proofs.Lists.{by_lt}
 pub at-in : (x : Interval) (xs : List Interval) (o : ℕ) → x.from ≤ o → o < x.upto → at (x ∷ xs) o ≡ Some (source_in x o)
 at-in x xs o a b = grind (arith, nat_tests)
 
-pub at-before : (x : Interval) (xs : List Interval) (o : ℕ) → o < x.from → at (x ∷ xs) o ≡ at xs o
-at-before x xs o h = grind (arith, nat_tests)
-
 pub at-past : (x : Interval) (xs : List Interval) (o : ℕ) → x.upto ≤ o → at (x ∷ xs) o ≡ at xs o
 at-past x xs o h = grind (arith, nat_tests)
 

@@ -42,11 +42,14 @@ stretch-is s skipped from upto counts within =
     (λ e lt. rw e (record { some = lt; counts = counts; first = omega arith; within = within lt; rec_is = refl }))
     (λ e _. rw e tt)
 
+-- what a payload's byte at this distance from the first brings
+abbrev byte_at : Segment → ℕ → Option Source
+byte_at s k =
+    if nat_lt k (payload_length s) then Some (record { rec = s.rec; nanos = s.nanos; index = s.lo + k }) else None
+
 -- where a segment's payload begins at st, its piece brings what the segment brings
 same-at : (st size o : ℕ) (s : Segment) → StandsIn size s → size < 2 ^ 31 → st < 2 ^ 32 → o < 2 ^ 31
-    → (if nat_lt ((o + (2 ^ 32 - st)) % 2 ^ 32) (payload_length s)
-    then Some (let x : Source = record { rec = s.rec; nanos = s.nanos; index = s.lo + (o + (2 ^ 32 - st)) % 2 ^ 32 } in x)
-    else None)
+    → byte_at s ((o + (2 ^ 32 - st)) % 2 ^ 32)
     ≡ at (option_to_list (if nat_lt st end_of_offsets then stretch s 0 st (min (st + payload_length s) end_of_offsets)
     else stretch s (modulus - st) 0 (st + payload_length s - modulus))) o
 same-at st size o s stands small low lt = grind (arith, nat_tests, distance-past st o low lt, distance-before st o low)

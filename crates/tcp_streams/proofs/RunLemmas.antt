@@ -256,7 +256,8 @@ module _ (capture : List ℕ) (whole run rest : List Interval) (same : run ++ re
   there o le = ap (λ l. at l o) (sym same) ∙ at-rest 0 run rest is o le
 
   run-held : All (IsHeld (length capture)) run
-  run-held = held (length capture) 0 run is.follows (λ o le lt. rw (here o lt) at (captured o (omega (arith, is.within))))
+  run-held = held (length capture) 0 run is.follows
+      (λ o le lt. rw (here o lt) at (captured o (omega (arith, is.within))))
 
   pub run-in_capture : All (λ (x : Interval). x.index + (x.upto - x.from) ≤ length capture) run
   run-in_capture = All-weaker (IsHeld (length capture)) _ (λ x is. is.within) run run-held
