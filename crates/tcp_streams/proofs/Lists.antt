@@ -1,6 +1,6 @@
 -- Cases of a test; lists by index, and lists to which one may be added.
 use Rattle.tcp_streams.proofs.Words.{◌≡◌, ℕ, ◌<◌, ◌≤◌, Bool, true, false, List, [], ◌∷◌, Option, None, Some, refl, sym}
-use Rattle.tcp_streams.proofs.Words.{◌∙◌, arith, ◌+◌, ◌-◌, ◌++◌, length, drop, take, slice_get, ap, get_or, ◌⊎◌, map}
+use Rattle.tcp_streams.proofs.Words.{◌∙◌, arith, ◌+◌, ◌-◌, ◌++◌, length, drop, slice_get, ap, get_or, ◌⊎◌, map}
 use Rattle.tcp_streams.proofs.Words.{set, inl, inr, All, nat_lt, AllPairs, list_any, slice_range, lt-ltb, le-ltb}
 use Rattle.tcp_streams.proofs.Words.{common_steps, get_or-map, length-map, map-append, length-take-le, All-head}
 use Rattle.tcp_streams.proofs.Words.{All-tail, All-push, list_any-append, get_or_from_slice_get, slice_get_within}
@@ -28,23 +28,19 @@ by_option None nothing something = nothing refl
 by_option (Some x) nothing something = something x refl
 
 module _ {X : Type 0} where
+  -- an element of two lists, one after the other, and of a part of a list
   pub slice_get-left : (xs ys : List X) (i : ℕ) → i < length xs → slice_get (xs ++ ys) i ≡ slice_get xs i
   slice_get-left xs ys i lt = grind (arith, common_steps, gets)
 
   pub slice_get-right : (xs ys : List X) (i j : ℕ) → i ≡ length xs + j → slice_get (xs ++ ys) i ≡ slice_get ys j
   slice_get-right xs ys i j e = grind (arith, common_steps, gets)
 
-  slice_get-take : (n : ℕ) (xs : List X) (i : ℕ) → i < n → slice_get (take n xs) i ≡ slice_get xs i
-  slice_get-take n xs i lt = grind (arith, common_steps, gets)
-
   pub slice_get-drop : (a : ℕ) (xs : List X) (i j : ℕ) → j ≡ a + i → slice_get (drop a xs) i ≡ slice_get xs j
   slice_get-drop a xs i j e = grind (arith, common_steps, gets)
 
-  -- a part of a list
   pub slice_get-slice_range : (xs : List X) (a b i j : ℕ) → j ≡ a + i → j < b → slice_get (slice_range xs a b) i
       ≡ slice_get xs j
-  slice_get-slice_range xs a b i j e lt = slice_get-take (b - a) (drop a xs) i (omega (arith, e, lt))
-      ∙ slice_get-drop a xs i j e
+  slice_get-slice_range xs a b i j e lt = grind (arith, common_steps, gets)
 
   pub length-slice_range : (xs : List X) (a b : ℕ) → a ≤ b → b ≤ length xs → length (slice_range xs a b) ≡ b - a
   length-slice_range xs a b le le' = length-take-le (b - a) (drop a xs) (omega (arith, length-drop a xs, le, le'))

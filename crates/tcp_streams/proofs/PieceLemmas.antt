@@ -116,6 +116,7 @@ earliest : (p q : Option Source) (rec : ℕ) → IfSome p (λ (x : Source). x.re
     → IfSome q (λ (y : Source). rec < y.rec) → earlier_of p q ≡ option_or p q
 earliest p q rec h k = grind (arith, nat_tests)
 
+-- what is so of both is so of the first that is there
 either : (p q : Option Source) (P : Source → Type 0) → IfSome p P → IfSome q P → IfSome (option_or p q) P
 either None q P h k = k
 either (Some x) q P h k = h
@@ -131,6 +132,7 @@ module _ (initial_number size : ℕ) (small : size < 2 ^ 31) where
   -- one segment before others
   module _ (low : ℕ) (s : Segment) (later : List Segment) (sound : AreSound size low (s ∷ later))
       (rest : List Interval) (are : ArePiecesOf initial_number size s.rec later rest) where
+    -- its source comes before theirs
     first : (o : ℕ) → source initial_number (s ∷ later) o
         ≡ option_or (brings initial_number s o) (source initial_number later o)
     first o = earliest (brings initial_number s o) (source initial_number later o) s.rec

@@ -166,6 +166,7 @@ module _ (sources : ℕ → Option Source) where
       (not_later (arrival sources o) a x (suc o) le (stays a x low le h brings o (omega arith) (omega arith))))
       (λ _ here. rw (let e : low ≡ suc o = omega arith in e) at h)
 
+  -- the arrival at an offset, by the one before it
   next : (o m : ℕ) → m + 1 ≡ o → arrival sources o ≡ later_of (arrival sources m) (sources o)
   next zero m e = absurd (omega arith)
   next (suc o) m e = rw (let same : m ≡ o = omega arith in same)

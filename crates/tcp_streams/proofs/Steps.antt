@@ -57,12 +57,13 @@ connection_with o ms = record {
   members = map (λ (t : Segment). t.rec) ms;
 }
 
--- with one more member it has joined
+-- the number of the first answer, where one more may answer
 first-seq : (x : Option Segment) (b : Bool) (s : Segment)
     → option_map (λ (t : Segment). t.seq) (option_or x (if b then Some s else None))
     ≡ option_or (option_map (λ (t : Segment). t.seq) x) (if b then Some s.seq else None)
 first-seq x b s = grind arith
 
+-- with one more member it has joined
 connection_with-push : (o s : Segment) (ms : List Segment) → connection_with o (ms ++ s ∷ []) ≡ joined
     (connection_with o ms) s
 connection_with-push o s ms = rw (
