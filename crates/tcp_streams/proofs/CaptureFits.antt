@@ -1,11 +1,11 @@
 -- All flows of a capture fit in it together: a payload belongs to one connection at most.
-use Rattle.tcp_streams.proofs.Words.{nat_tests, eq-eqb, ◌≡◌, ℕ, ◌+◌, ◌≤◌, Bool, true, false, List, [], ◌∷◌, ◌++◌, map}
-use Rattle.tcp_streams.proofs.Words.{Option, None, Some, refl, sym, ap, ◌∙◌, arith, if◌then◌else◌, option_to_list}
-use Rattle.tcp_streams.proofs.Words.{append-nil, append_assoc, map-append, sum_by-cons, Client, Server, Packet, Carried}
-use Rattle.tcp_streams.proofs.Words.{Segment, AreNumberedFrom, PayloadsRise, Connection, payload_sum, segments_of}
-use Rattle.tcp_streams.proofs.Words.{side_segments, Membership, connection_of, connections_of, members, membership}
-use Rattle.tcp_streams.proofs.Words.{opening_at, openings, opens, past_after, past_of, is_opening, with_if, segment_of}
-use Rattle.tcp_streams.proofs.Words.{payload_length, Falls}
+use Rattle.tcp_streams.proofs.Words.{◌≡◌, ℕ, ◌≤◌, Bool, true, false, List, [], ◌∷◌, Option, None, Some, refl, sym, ◌∙◌}
+use Rattle.tcp_streams.proofs.Words.{arith, ◌+◌, ◌++◌, ap, map, if◌then◌else◌, option_to_list, eq-eqb, nat_tests}
+use Rattle.tcp_streams.proofs.Words.{append-nil, append_assoc, map-append, sum_by-cons, Client, Server, AreNumberedFrom}
+use Rattle.tcp_streams.proofs.Words.{PayloadsRise, Packet, Carried, Segment, segments_of, side_segments, is_opening}
+use Rattle.tcp_streams.proofs.Words.{with_if, segment_of, payload_length, payload_sum, members, opening_at, openings}
+use Rattle.tcp_streams.proofs.Words.{opens, Membership, membership, connection_of, connections_of, past_after, past_of}
+use Rattle.tcp_streams.proofs.Words.{Falls, Connection}
 use Rattle.std.specs.Prelude.{sum_by}
 use Rattle.std.proofs.lemmas.List.Folds.{fold-map}
 use Rattle.std.proofs.lemmas.List.Sums.{sum_by_push}

@@ -1,13 +1,12 @@
 -- On flows: the same sources have the same flow; a side's payloads fit in the capture.
-use Rattle.tcp_streams.proofs.Lists.{by_option, slice_get-drop}
-use Rattle.tcp_streams.proofs.Words.{◌≡◌, ℕ, zero, suc, ◌+◌, ◌-◌, ◌<◌, ◌≤◌, List, [], ◌∷◌, length, filter, drop}
-use Rattle.tcp_streams.proofs.Words.{slice_get, Option, None, Some, refl, sym, ◌∙◌, arith, false≢true, sum_by-cons}
-use Rattle.tcp_streams.proofs.Words.{none-some, Side, Client, Server, Packet, Carried, Segment, PayloadsRise}
-use Rattle.tcp_streams.proofs.Words.{Connection, Arrival, IsFlow, IsGap, IsSame, AreMembers, payload_sum, is_sent_by}
-use Rattle.tcp_streams.proofs.Words.{segments_of, side_segments, segment_of, Source, arrival, end_of_offsets}
-use Rattle.tcp_streams.proofs.Words.{payload_length}
-use Rattle.std.proofs.lemmas.List.{drop-drop}
+use Rattle.tcp_streams.proofs.Words.{◌≡◌, ℕ, ◌<◌, ◌≤◌, List, [], ◌∷◌, Option, None, Some, refl, sym, ◌∙◌, arith, zero}
+use Rattle.tcp_streams.proofs.Words.{suc, ◌+◌, ◌-◌, length, drop, slice_get, filter, false≢true, drop-drop, sum_by-cons}
+use Rattle.tcp_streams.proofs.Words.{none-some, Side, Client, Server, PayloadsRise, Packet, Carried, Segment, IsFlow}
+use Rattle.tcp_streams.proofs.Words.{IsGap, is_sent_by, segments_of, side_segments, segment_of, Source, arrival}
+use Rattle.tcp_streams.proofs.Words.{end_of_offsets, payload_length, IsSame, AreMembers, payload_sum, Connection}
+use Rattle.tcp_streams.proofs.Words.{Arrival}
 use Rattle.std.proofs.lemmas.List.Filters.{sum_by-filter_both}
+use Rattle.tcp_streams.proofs.Lists.{by_option, slice_get-drop}
 use Rattle.tcp_streams.proofs.PieceLemmas.{PayloadsRise-end, found-at}
 
 arrival-same : (F G : ℕ → Option Source) → IsSame F G → (o : ℕ) → o < end_of_offsets → arrival F o ≡ arrival G o

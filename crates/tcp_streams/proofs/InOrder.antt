@@ -1,11 +1,11 @@
 -- On pieces that follow each other: they are the flow, laid out as they come.
-use Rattle.tcp_streams.proofs.Lists.{by_option, by_Bool}
-use Rattle.tcp_streams.proofs.Words.{◌≡◌, ℕ, ◌+◌, ◌-◌, ◌<◌, ◌≤◌, ◌^◌, List, [], ◌∷◌, ◌++◌, length, map, None, Some}
-use Rattle.tcp_streams.proofs.Words.{get_or, refl, sym, ap, ◌∙◌, arith, IfSome, IsTrue, filter_map, slice_range, lt-ltb}
-use Rattle.tcp_streams.proofs.Words.{append-nil, map-append, IfSome_then, Side, Packet, AreNumberedFrom, PayloadsRise}
-use Rattle.tcp_streams.proofs.Words.{TimesFit, Interval, Connection, Arrival, Flow, AreMembers, bytes_of, IsAssembled}
-use Rattle.tcp_streams.proofs.Words.{AreCaptured, IsInterval, at, arrival_with, arrivals_after, arrivals_in, bytes_in}
-use Rattle.tcp_streams.proofs.Words.{member_piece, piece, width, is_sent_by, segment_of, end_of_offsets}
+use Rattle.tcp_streams.proofs.Words.{◌≡◌, ℕ, ◌<◌, ◌≤◌, List, [], ◌∷◌, None, Some, refl, sym, ◌∙◌, arith, ◌+◌, ◌-◌, ◌^◌}
+use Rattle.tcp_streams.proofs.Words.{◌++◌, length, ap, get_or, map, IfSome, IsTrue, slice_range, filter_map, lt-ltb}
+use Rattle.tcp_streams.proofs.Words.{append-nil, map-append, IfSome_then, Side, AreNumberedFrom, PayloadsRise, TimesFit}
+use Rattle.tcp_streams.proofs.Words.{Packet, bytes_of, is_sent_by, segment_of, end_of_offsets, IsAssembled, AreCaptured}
+use Rattle.tcp_streams.proofs.Words.{IsInterval, arrival_with, arrivals_after, arrivals_in, at, bytes_in, width}
+use Rattle.tcp_streams.proofs.Words.{member_piece, piece, AreMembers, Interval, Connection, Arrival, Flow}
+use Rattle.tcp_streams.proofs.Lists.{by_Bool, by_option}
 use Rattle.tcp_streams.proofs.PieceLemmas.{AreRising, member-shown, piece-is, sound-found}
 use Rattle.tcp_streams.proofs.RunLemmas.{Follows, IsRunOf, bytes_in-push, run-flow, run-size, run-timely, run_end}
 use Rattle.tcp_streams.proofs.Sides.{assembled, intervals-captured, side-pieces}

@@ -1,19 +1,16 @@
 -- On intervals: the parts between two offsets, and one list of intervals laid over another.
-use Rattle.tcp_streams.proofs.Lists.{by_lt}
-use Rattle.tcp_streams.proofs.Words.{◌≡◌, ℕ, zero, suc, ◌+◌, ◌-◌, ◌<◌, ◌≤◌, ◌^◌, true, List, [], ◌∷◌, ◌++◌, length}
-use Rattle.tcp_streams.proofs.Words.{drop, take, get_or, None, Some, ◌⊎◌, inl, inr, refl, ap, ◌∙◌, arith, All}
-use Rattle.tcp_streams.proofs.Words.{option_or, nat_tests, take-append-drop, All-head, All-tail, sum_by-append}
-use Rattle.tcp_streams.proofs.Words.{sum_by-cons, Interval, IsInterval, IsSame, Spans, at, clipped, lie_apart, overlay}
-use Rattle.tcp_streams.proofs.Words.{size_of, source_in, width, end_of_offsets}
+use Rattle.tcp_streams.proofs.Words.{◌≡◌, ℕ, ◌<◌, ◌≤◌, true, List, [], ◌∷◌, None, Some, refl, ◌∙◌, arith, zero, suc}
+use Rattle.tcp_streams.proofs.Words.{◌+◌, ◌-◌, ◌^◌, ◌++◌, length, drop, take, ap, get_or, ◌⊎◌, inl, inr, All, option_or}
+use Rattle.tcp_streams.proofs.Words.{nat_tests, take-append-drop, All-head, All-tail, sum_by-append, sum_by-cons}
+use Rattle.tcp_streams.proofs.Words.{end_of_offsets, IsInterval, Spans, at, size_of, source_in, width, IsSame, clipped}
+use Rattle.tcp_streams.proofs.Words.{lie_apart, overlay, Interval}
 use Rattle.std.proofs.Common.{min, max}
 use Rattle.tcp_streams.specs.code.Interval.{part_of}
+use Rattle.tcp_streams.proofs.Lists.{by_lt}
 
 -- an offset is held, or it lies before, or past
 pub at-in : (x : Interval) (xs : List Interval) (o : ℕ) → x.from ≤ o → o < x.upto → at (x ∷ xs) o ≡ Some (source_in x o)
 at-in x xs o a b = grind (arith, nat_tests)
-
-pub at-before : (x : Interval) (xs : List Interval) (o : ℕ) → o < x.from → at (x ∷ xs) o ≡ at xs o
-at-before x xs o h = grind (arith, nat_tests)
 
 pub at-past : (x : Interval) (xs : List Interval) (o : ℕ) → x.upto ≤ o → at (x ∷ xs) o ≡ at xs o
 at-past x xs o h = grind (arith, nat_tests)

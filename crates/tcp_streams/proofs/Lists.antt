@@ -1,17 +1,16 @@
 -- Cases of a test; lists by index, and lists to which one may be added.
-use Rattle.tcp_streams.proofs.Words.{Option, None, ◌≡◌, ℕ, ◌+◌, ◌-◌, ◌<◌, ◌≤◌, List, ◌++◌, length, take, drop}
-use Rattle.tcp_streams.proofs.Words.{slice_get, ◌∙◌, arith, slice_range, common_steps, length-take-le, Bool, true}
-use Rattle.tcp_streams.proofs.Words.{false, [], ◌∷◌, get_or, Some, ◌⊎◌, inl, inr, refl, ap, nat_lt, All, le-ltb, lt-ltb}
-use Rattle.tcp_streams.proofs.Words.{All-head, All-tail, at, map, set, sym, AllPairs, list_any, get_or-map, length-map}
-use Rattle.tcp_streams.proofs.Words.{map-append, list_any-append, get_or_from_slice_get, slice_get_within, Segment}
-use Rattle.tcp_streams.proofs.Words.{with_if}
-use Rattle.std.proofs.lemmas.Option.{gets}
-use Rattle.std.proofs.lemmas.List.{length-drop, get_or-set_other, get_or-set_same, length-set, same_lists}
+use Rattle.tcp_streams.proofs.Words.{◌≡◌, ℕ, ◌<◌, ◌≤◌, Bool, true, false, List, [], ◌∷◌, Option, None, Some, refl, sym}
+use Rattle.tcp_streams.proofs.Words.{◌∙◌, arith, ◌+◌, ◌-◌, ◌++◌, length, drop, slice_get, ap, get_or, ◌⊎◌, map}
+use Rattle.tcp_streams.proofs.Words.{set, inl, inr, All, nat_lt, AllPairs, list_any, slice_range, lt-ltb, le-ltb}
+use Rattle.tcp_streams.proofs.Words.{common_steps, get_or-map, length-map, map-append, length-take-le, All-head}
+use Rattle.tcp_streams.proofs.Words.{All-tail, All-push, list_any-append, get_or_from_slice_get, slice_get_within}
+use Rattle.tcp_streams.proofs.Words.{Segment, with_if}
 use Rattle.std.proofs.Common.{◌≢◌}
-use Rattle.std.proofs.lemmas.Bool.{cases_lt}
 use Rattle.std.specs.Prelude.{Result, Ok, Err, OnOk, IfOk}
-use Rattle.std.proofs.lemmas.List.Elements.{All-push}
+use Rattle.std.proofs.lemmas.Bool.{cases_lt}
+use Rattle.std.proofs.lemmas.List.{length-drop, get_or-set_other, get_or-set_same, length-set, same_lists}
 use Rattle.std.proofs.lemmas.List.Quantifiers.{all_pairs_push}
+use Rattle.std.proofs.lemmas.Option.{gets}
 
 -- a goal, by whether one number is below another
 pub by_lt : {G : Type 0} (a b : ℕ) → (nat_lt a b ≡ true → a < b → G) → (nat_lt a b ≡ false → b ≤ a → G) → G
@@ -29,23 +28,19 @@ by_option None nothing something = nothing refl
 by_option (Some x) nothing something = something x refl
 
 module _ {X : Type 0} where
+  -- an element of two lists, one after the other, and of a part of a list
   pub slice_get-left : (xs ys : List X) (i : ℕ) → i < length xs → slice_get (xs ++ ys) i ≡ slice_get xs i
   slice_get-left xs ys i lt = grind (arith, common_steps, gets)
 
   pub slice_get-right : (xs ys : List X) (i j : ℕ) → i ≡ length xs + j → slice_get (xs ++ ys) i ≡ slice_get ys j
   slice_get-right xs ys i j e = grind (arith, common_steps, gets)
 
-  slice_get-take : (n : ℕ) (xs : List X) (i : ℕ) → i < n → slice_get (take n xs) i ≡ slice_get xs i
-  slice_get-take n xs i lt = grind (arith, common_steps, gets)
-
   pub slice_get-drop : (a : ℕ) (xs : List X) (i j : ℕ) → j ≡ a + i → slice_get (drop a xs) i ≡ slice_get xs j
   slice_get-drop a xs i j e = grind (arith, common_steps, gets)
 
-  -- a part of a list
   pub slice_get-slice_range : (xs : List X) (a b i j : ℕ) → j ≡ a + i → j < b → slice_get (slice_range xs a b) i
       ≡ slice_get xs j
-  slice_get-slice_range xs a b i j e lt = slice_get-take (b - a) (drop a xs) i (omega (arith, e, lt))
-      ∙ slice_get-drop a xs i j e
+  slice_get-slice_range xs a b i j e lt = grind (arith, common_steps, gets)
 
   pub length-slice_range : (xs : List X) (a b : ℕ) → a ≤ b → b ≤ length xs → length (slice_range xs a b) ≡ b - a
   length-slice_range xs a b le le' = length-take-le (b - a) (drop a xs) (omega (arith, length-drop a xs, le, le'))

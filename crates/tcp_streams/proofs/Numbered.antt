@@ -1,13 +1,14 @@
 -- On packets that are numbered by their records: what their past is, and that members name segments.
-use Rattle.tcp_streams.proofs.Words.{◌≡◌, ℕ, zero, suc, ◌+◌, ◌-◌, ◌<◌, ◌≤◌, List, [], ◌∷◌, ◌++◌, length, map, take}
-use Rattle.tcp_streams.proofs.Words.{drop, get_or, Some, slice_get, refl, ap, ◌∙◌, arith, IsSome, All, length-take-le}
-use Rattle.tcp_streams.proofs.Words.{map-append, All-head, All-nil, All-tail, none-some, Packet, Carried, Segment}
-use Rattle.tcp_streams.proofs.Words.{AreNumberedFrom, Connection, AreMembers, Membership, connection_of, connections_of}
-use Rattle.tcp_streams.proofs.Words.{members, membership, opening_at, openings, past_after, past_of, with_packet}
-use Rattle.tcp_streams.proofs.Words.{is_opening, segment_of, Falls}
-use Rattle.std.proofs.lemmas.List.Elements.{All-push, All-weaker, All-map}
-use Rattle.std.proofs.lemmas.List.{get_or-map, length-map, take_more}
-use Rattle.std.proofs.lemmas.Option.{slice_get-get_or}
+use Rattle.tcp_streams.proofs.Words.{◌≡◌, ℕ, ◌<◌, ◌≤◌, List, [], ◌∷◌, Some, refl, sym, ◌∙◌, arith, zero, suc, ◌+◌, ◌-◌}
+use Rattle.tcp_streams.proofs.Words.{◌++◌, length, drop, take, slice_get, ap, IsSome, get_or, map, All, common_steps}
+use Rattle.tcp_streams.proofs.Words.{get_or-map, length-map, map-append, drop-drop, length-take-le, All-nil, All-weaker}
+use Rattle.tcp_streams.proofs.Words.{All-head, All-tail, All-push, none-some, AreNumberedFrom, Packet, Carried, Segment}
+use Rattle.tcp_streams.proofs.Words.{is_opening, segment_of, AreMembers, members, opening_at, openings, Membership}
+use Rattle.tcp_streams.proofs.Words.{membership, connection_of, connections_of, past_after, past_of, with_packet, Falls}
+use Rattle.tcp_streams.proofs.Words.{Connection}
+use Rattle.std.proofs.lemmas.List.{take_more}
+use Rattle.std.proofs.lemmas.List.Elements.{All-map}
+use Rattle.std.proofs.lemmas.Option.{gets, slice_get-get_or}
 use Rattle.tcp_streams.proofs.Lists.{by_Bool}
 use Rattle.tcp_streams.proofs.Past.{Falls-weaker}
 
@@ -78,12 +79,7 @@ Known packets (s ∷ past) = (0 < s.rec) × (segment_of packets s.rec ≡ Some s
 
 drop-here : {X : Type 0} (xs : List X) (n : ℕ) (x : X) (rest : List X) → drop n xs ≡ x ∷ rest
     → (slice_get xs n ≡ Some x) × (drop (n + 1) xs ≡ rest)
-drop-here [] zero x rest h = absurd cc
-drop-here [] (suc n) x rest h = absurd cc
-drop-here (y ∷ xs) zero x rest h = (cc, cc)
-drop-here (y ∷ xs) (suc n) x rest h =
-    let (at, after) = drop-here xs n x rest h in
-    (at, rw (let next : suc n + 1 ≡ suc (n + 1) = omega arith in next) after)
+drop-here xs n x rest h = (grind (arith, common_steps, gets), sym (drop-drop 1 n xs) ∙ ap (drop 1) h)
 
 Known-past_after : (packets : List Packet) (n : ℕ) (past : List Segment) (rest : List Packet)
     → AreNumberedFrom (n + 1) rest → drop n packets ≡ rest → Known packets past → Known packets (past_after past rest)

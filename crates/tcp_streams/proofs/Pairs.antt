@@ -1,7 +1,7 @@
 -- On endpoints and pairs: the tests are equality, and two segments are of one pair exactly where they have the same two
 -- ends, in one direction or the other.
 use Rattle.tcp_streams.proofs.Words.{◌≡◌, Bool, true, false, ◌&&◌, refl, arith, if◌then◌else◌, nat_tests, common_steps}
-use Rattle.tcp_streams.proofs.Words.{Segment, Pair, is_endpoint, is_same_pair, is_pair, is_of, pair_of}
+use Rattle.tcp_streams.proofs.Words.{Segment, is_endpoint, is_same_pair, is_of, pair_of, is_pair, Pair}
 use Rattle.std.proofs.Common.{◌||◌}
 use Rattle.packet_heads.specs.declared.packets.Endpoint.{Endpoint}
 use Rattle.tcp_streams.specs.code.Pairs.{is_before}

@@ -2,10 +2,10 @@
 use Rattle.tcp_streams.proofs.Words.{◌≡◌, ℕ, ◌<◌, ◌≤◌, Bool, true, false, ◌&&◌, not, List, [], ◌∷◌, Option, None, Some}
 use Rattle.tcp_streams.proofs.Words.{refl, sym, ◌∙◌, arith, if◌then◌else◌, is_none, All, IfSome, AllPairs, list_any}
 use Rattle.tcp_streams.proofs.Words.{false≢true, ne_eqb, or_right, All-nil, All-weaker, list_any-append, IfSome_then}
-use Rattle.tcp_streams.proofs.Words.{Segment, Pair, is_of, pair_of, first_strays, last_opening, members, opening_at}
-use Rattle.tcp_streams.proofs.Words.{openings, opens, strays, is_opening, Falls}
+use Rattle.tcp_streams.proofs.Words.{Segment, is_opening, is_of, pair_of, first_strays, last_opening, members}
+use Rattle.tcp_streams.proofs.Words.{opening_at, openings, opens, strays, Falls, Pair}
 use Rattle.std.proofs.lemmas.Bool.{and_parts, and_right, not-true}
-use Rattle.tcp_streams.proofs.Lists.{by_Bool, All-with_if, AllPairs-with_if, list_any-with_if}
+use Rattle.tcp_streams.proofs.Lists.{All-with_if, AllPairs-with_if, by_Bool, list_any-with_if}
 use Rattle.tcp_streams.proofs.Pairs.{is_pair-refl, is_pair-same}
 
 pub Falls-weaker : (n m : ℕ) (past : List Segment) → n ≤ m → Falls n past → Falls m past

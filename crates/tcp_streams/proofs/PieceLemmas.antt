@@ -1,18 +1,19 @@
 -- On the pieces of a side's segments: they bring what the segments bring.
-use Rattle.tcp_streams.proofs.Lists.{by_option, by_Bool, by_lt}
-use Rattle.tcp_streams.proofs.Words.{◌≡◌, ℕ, zero, suc, ◌+◌, ◌-◌, ◌%◌, ◌<◌, ◌≤◌, ◌^◌, Bool, List, [], ◌∷◌, length}
-use Rattle.tcp_streams.proofs.Words.{filter, get_or, slice_get, Option, None, Some, ◌⊎◌, refl, sym, ◌∙◌, arith, IsSome}
-use Rattle.tcp_streams.proofs.Words.{if◌then◌else◌, nat_lt, All, IfSome, option_and_then, filter_map, option_or}
-use Rattle.tcp_streams.proofs.Words.{option_to_list, lt-ltb, nat_tests, IfSome_then, none-some, All-cons, All-nil}
-use Rattle.tcp_streams.proofs.Words.{sum_by-cons, width, Side, Packet, Carried, Segment, AreNumberedFrom, PayloadsRise}
-use Rattle.tcp_streams.proofs.Words.{TimesFit, Interval, Connection, IsInterval, IsCaptured, IsSame, at, member_piece}
-use Rattle.tcp_streams.proofs.Words.{piece, size_of, AreMembers, payload_sum, is_sent_by, segments_of, segment_in}
-use Rattle.tcp_streams.proofs.Words.{segment_of, Source, end_of_offsets, payload_length, source}
+use Rattle.tcp_streams.proofs.Words.{◌≡◌, ℕ, ◌<◌, ◌≤◌, Bool, List, [], ◌∷◌, Option, None, Some, refl, sym, ◌∙◌, arith}
+use Rattle.tcp_streams.proofs.Words.{zero, suc, ◌+◌, ◌-◌, ◌^◌, length, slice_get, IsSome, ◌%◌, filter, get_or}
+use Rattle.tcp_streams.proofs.Words.{if◌then◌else◌, All, IfSome, nat_lt, option_and_then, filter_map, option_or}
+use Rattle.tcp_streams.proofs.Words.{option_to_list, lt-ltb, nat_tests, All-nil, All-cons, sum_by-cons, IfSome_then}
+use Rattle.tcp_streams.proofs.Words.{none-some, Side, AreNumberedFrom, PayloadsRise, TimesFit, Packet, Carried, Segment}
+use Rattle.tcp_streams.proofs.Words.{is_sent_by, segments_of, segment_in, segment_of, Source, end_of_offsets}
+use Rattle.tcp_streams.proofs.Words.{payload_length, source, IsInterval, IsCaptured, at, size_of, width, IsSame}
+use Rattle.tcp_streams.proofs.Words.{member_piece, piece, AreMembers, payload_sum, Interval, Connection}
+use Rattle.std.proofs.Common.{min}
 use Rattle.std.specs.List.{cons_option}
+use Rattle.tcp_streams.specs.Sequence.{brings, distance, earlier_of, modulus, start_of}
 use Rattle.tcp_streams.specs.code.Interval.{PayloadsFit, stretch}
 use Rattle.tcp_streams.specs.laws.Flows.{ByteHasOffset}
-use Rattle.tcp_streams.specs.Sequence.{brings, distance, earlier_of, start_of}
 use Rattle.tcp_streams.proofs.IntervalLemmas.{at-append}
+use Rattle.tcp_streams.proofs.Lists.{by_Bool, by_lt, by_option}
 
 -- a payload that stands in the capture
 pub record StandsIn (size : ℕ) (s : Segment) : Type 0 where
@@ -41,14 +42,17 @@ stretch-is s skipped from upto counts within =
     (λ e lt. rw e (record { some = lt; counts = counts; first = omega arith; within = within lt; rec_is = refl }))
     (λ e _. rw e tt)
 
--- a segment brings its payload from one offset on, of 2 ^ 31 offsets
-module _ (s : Segment) (distance skipped from upto o : ℕ) where
-  stretch-same : (from ≤ o → o < upto → (distance < payload_length s) × (distance ≡ skipped + (o - from)))
-      → ((o < from) ⊎ (upto ≤ o) → payload_length s ≤ distance)
-      → (if nat_lt distance (payload_length s)
-      then Some (let x : Source = record { rec = s.rec; nanos = s.nanos; index = s.lo + distance } in x) else None)
-      ≡ at (option_to_list (stretch s skipped from upto)) o
-  stretch-same inside outside = grind (arith, nat_tests)
+-- what a payload's byte at this distance from the first brings
+abbrev byte_at : Segment → ℕ → Option Source
+byte_at s k =
+    if nat_lt k (payload_length s) then Some (record { rec = s.rec; nanos = s.nanos; index = s.lo + k }) else None
+
+-- where a segment's payload begins at st, its piece brings what the segment brings
+same-at : (st size o : ℕ) (s : Segment) → StandsIn size s → size < 2 ^ 31 → st < 2 ^ 32 → o < 2 ^ 31
+    → byte_at s ((o + (2 ^ 32 - st)) % 2 ^ 32)
+    ≡ at (option_to_list (if nat_lt st end_of_offsets then stretch s 0 st (min (st + payload_length s) end_of_offsets)
+    else stretch s (modulus - st) 0 (st + payload_length s - modulus))) o
+same-at st size o s stands small low lt = grind (arith, nat_tests, distance-past st o low lt, distance-before st o low)
 
 module _ (initial_number size : ℕ) (small : size < 2 ^ 31) (s : Segment) (stands : StandsIn size s) where
   pub piece-is : IfSome (piece initial_number s) (IsPieceOf s)
@@ -61,16 +65,8 @@ module _ (initial_number size : ℕ) (small : size < 2 ^ 31) (s : Segment) (stan
   -- the piece of a segment brings what the segment brings
   pub piece-same : IsSame (brings initial_number s) (at (option_to_list (piece initial_number s)))
   piece-same = λ o lt.
-      let start = start_of initial_number s in
-      let low : start < 2 ^ 32 = omega arith in
-      by_lt start end_of_offsets
-      (λ e below. rw e (by_lt o start
-      (λ _ before. let d = distance-before start o low before in
-      stretch-same s _ 0 start _ o (λ a b. absurd (omega arith)) (λ out. omega arith))
-      (λ _ past. let d = distance-past start o low lt past in
-      stretch-same s _ 0 start _ o (λ a b. (omega arith, omega arith)) (λ out. omega arith))))
-      (λ e above. rw e (let d = distance-before start o low (omega arith) in
-      stretch-same s _ _ 0 _ o (λ a b. (omega arith, omega arith)) (λ out. omega arith)))
+      let low : start_of initial_number s < 2 ^ 32 = omega arith in
+      same-at (start_of initial_number s) size o s stands small low lt
 
 round-trip : (a initial_number k : ℕ) → k < 2 ^ 32
     → ((a + k + (2 ^ 32 - 1 - initial_number)) % 2 ^ 32 + (2 ^ 32
@@ -120,6 +116,7 @@ earliest : (p q : Option Source) (rec : ℕ) → IfSome p (λ (x : Source). x.re
     → IfSome q (λ (y : Source). rec < y.rec) → earlier_of p q ≡ option_or p q
 earliest p q rec h k = grind (arith, nat_tests)
 
+-- what is so of both is so of the first that is there
 either : (p q : Option Source) (P : Source → Type 0) → IfSome p P → IfSome q P → IfSome (option_or p q) P
 either None q P h k = k
 either (Some x) q P h k = h
@@ -135,6 +132,7 @@ module _ (initial_number size : ℕ) (small : size < 2 ^ 31) where
   -- one segment before others
   module _ (low : ℕ) (s : Segment) (later : List Segment) (sound : AreSound size low (s ∷ later))
       (rest : List Interval) (are : ArePiecesOf initial_number size s.rec later rest) where
+    -- its source comes before theirs
     first : (o : ℕ) → source initial_number (s ∷ later) o
         ≡ option_or (brings initial_number s o) (source initial_number later o)
     first o = earliest (brings initial_number s o) (source initial_number later o) s.rec

@@ -1,12 +1,12 @@
 -- On intervals that follow each other: the bytes that they hold, and when these arrive.
-use Rattle.tcp_streams.proofs.Words.{All-weaker, ◌≡◌, ℕ, zero, suc, ◌+◌, ◌-◌, ◌<◌, ◌≤◌, ◌^◌, List, [], ◌∷◌, ◌++◌}
-use Rattle.tcp_streams.proofs.Words.{length, drop, take, slice_get, Option, None, Some, refl, sym, ap, ◌∙◌, arith}
-use Rattle.tcp_streams.proofs.Words.{IsSome, All, IfSome, IsSomeAnd, slice_range, option_or, eq-eqb, ne_eqb, lt-ltb}
-use Rattle.tcp_streams.proofs.Words.{le-ltb, nat_tests, append-nil, append_assoc, length-append, All-cons, All-head}
-use Rattle.tcp_streams.proofs.Words.{All-nil, All-tail, Interval, Arrival, AreTimely, Rises, IsArrivalOf, IsFlow, IsGap}
-use Rattle.tcp_streams.proofs.Words.{arrival_at, AreCaptured, IsInterval, IsCaptured, Spans, arrival_with}
-use Rattle.tcp_streams.proofs.Words.{arrivals_after, arrivals_in, at, bytes_in, run_length, size_of, source_in, width}
-use Rattle.tcp_streams.proofs.Words.{Source, arrival, end_of_offsets, sum_by-append, sum_by-cons}
+use Rattle.tcp_streams.proofs.Words.{◌≡◌, ℕ, ◌<◌, ◌≤◌, List, [], ◌∷◌, Option, None, Some, refl, sym, ◌∙◌, arith, zero}
+use Rattle.tcp_streams.proofs.Words.{suc, ◌+◌, ◌-◌, ◌^◌, ◌++◌, length, drop, take, slice_get, ap, IsSome, All, IfSome}
+use Rattle.tcp_streams.proofs.Words.{IsSomeAnd, slice_range, option_or, ne_eqb, eq-eqb, lt-ltb, le-ltb, nat_tests}
+use Rattle.tcp_streams.proofs.Words.{append-nil, append_assoc, length-append, All-nil, All-weaker, All-cons, All-head}
+use Rattle.tcp_streams.proofs.Words.{All-tail, sum_by-append, sum_by-cons, Rises, IsArrivalOf, IsFlow, IsGap}
+use Rattle.tcp_streams.proofs.Words.{arrival_at, Source, arrival, end_of_offsets, AreCaptured, IsInterval, IsCaptured}
+use Rattle.tcp_streams.proofs.Words.{Spans, arrival_with, arrivals_after, arrivals_in, at, bytes_in, run_length}
+use Rattle.tcp_streams.proofs.Words.{size_of, source_in, width, AreTimely, Interval, Arrival}
 use Rattle.tcp_streams.specs.Flow.{AreArrivals}
 use Rattle.tcp_streams.specs.Sequence.{later_of}
 use Rattle.tcp_streams.proofs.IntervalLemmas.{Spans-before, at-append, at-in, at-past}
@@ -166,6 +166,7 @@ module _ (sources : ℕ → Option Source) where
       (not_later (arrival sources o) a x (suc o) le (stays a x low le h brings o (omega arith) (omega arith))))
       (λ _ here. rw (let e : low ≡ suc o = omega arith in e) at h)
 
+  -- the arrival at an offset, by the one before it
   next : (o m : ℕ) → m + 1 ≡ o → arrival sources o ≡ later_of (arrival sources m) (sources o)
   next zero m e = absurd (omega arith)
   next (suc o) m e = rw (let same : m ≡ o = omega arith in same)
@@ -256,7 +257,8 @@ module _ (capture : List ℕ) (whole run rest : List Interval) (same : run ++ re
   there o le = ap (λ l. at l o) (sym same) ∙ at-rest 0 run rest is o le
 
   run-held : All (IsHeld (length capture)) run
-  run-held = held (length capture) 0 run is.follows (λ o le lt. rw (here o lt) at (captured o (omega (arith, is.within))))
+  run-held = held (length capture) 0 run is.follows
+      (λ o le lt. rw (here o lt) at (captured o (omega (arith, is.within))))
 
   pub run-in_capture : All (λ (x : Interval). x.index + (x.upto - x.from) ≤ length capture) run
   run-in_capture = All-weaker (IsHeld (length capture)) _ (λ x is. is.within) run run-held

@@ -1,8 +1,8 @@
 -- On the pieces of a side: what lies apart and brings what they bring makes the side's flow.
-use Rattle.tcp_streams.proofs.Words.{◌≡◌, ℕ, List, ◌<◌, ◌≤◌, ◌^◌, length, sym, ◌∙◌, arith, IsTrue, filter_map}
-use Rattle.tcp_streams.proofs.Words.{IfSome_then, Side, Packet, Segment, AreNumberedFrom, PayloadsRise, TimesFit}
-use Rattle.tcp_streams.proofs.Words.{Interval, Connection, Flow, AreTimely, AreMembers, bytes_of, IsFlow, IsAssembled}
-use Rattle.tcp_streams.proofs.Words.{AreCaptured, IsSame, at, member_piece, size_of, is_sent_by, side_segments, source}
+use Rattle.tcp_streams.proofs.Words.{◌≡◌, ℕ, ◌<◌, ◌≤◌, List, sym, ◌∙◌, arith, ◌^◌, length, IsTrue, filter_map}
+use Rattle.tcp_streams.proofs.Words.{IfSome_then, Side, AreNumberedFrom, PayloadsRise, TimesFit, Packet, Segment}
+use Rattle.tcp_streams.proofs.Words.{bytes_of, IsFlow, is_sent_by, side_segments, source, IsAssembled, AreCaptured, at}
+use Rattle.tcp_streams.proofs.Words.{size_of, IsSame, member_piece, AreTimely, AreMembers, Interval, Connection, Flow}
 use Rattle.tcp_streams.proofs.FlowLemmas.{IsFlow-same, side-fits}
 use Rattle.tcp_streams.proofs.PieceLemmas.{ArePiecesOf, member-pieces, members-sound, pieces-are}
 

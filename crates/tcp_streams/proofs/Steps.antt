@@ -1,20 +1,20 @@
 -- What the table shows after one more segment: it opens a connection, joins one, counts as one more stray
 -- of its pair, or is the first stray of it.
-use Rattle.tcp_streams.proofs.Words.{◌≡◌, ℕ, ◌<◌, Bool, true, false, List, [], ◌∷◌, ◌++◌, length, map, set, filter}
-use Rattle.tcp_streams.proofs.Words.{get_or, Option, None, Some, ◌⊎◌, inl, inr, refl, ◌∙◌, arith, if◌then◌else◌}
-use Rattle.tcp_streams.proofs.Words.{is_none, All, list_any, option_or, eq-eqb, ne_eqb, or_right, append-nil}
-use Rattle.tcp_streams.proofs.Words.{map-append, length-map, length-append, All-weaker, list_any-append, Segment, Stray}
-use Rattle.tcp_streams.proofs.Words.{Pair, Opened, is_of, is_pair, pair_of, Membership, connection_of, first_strays}
-use Rattle.tcp_streams.proofs.Words.{last_opening, members, opening_at, openings, opens, stray_of, strays, is_opening}
-use Rattle.tcp_streams.proofs.Words.{Falls, IsOpened, IsUnopened}
+use Rattle.tcp_streams.proofs.Words.{◌≡◌, ℕ, ◌<◌, Bool, true, false, List, [], ◌∷◌, Option, None, Some, refl, ◌∙◌}
+use Rattle.tcp_streams.proofs.Words.{arith, ◌++◌, length, filter, get_or, ◌⊎◌, map, set, inl, inr, if◌then◌else◌}
+use Rattle.tcp_streams.proofs.Words.{is_none, All, list_any, option_or, ne_eqb, or_right, eq-eqb, append-nil}
+use Rattle.tcp_streams.proofs.Words.{length-append, length-map, map-append, All-weaker, list_any-append, Segment}
+use Rattle.tcp_streams.proofs.Words.{is_opening, is_of, pair_of, is_pair, first_strays, last_opening, members}
+use Rattle.tcp_streams.proofs.Words.{opening_at, openings, opens, strays, Membership, connection_of, stray_of, Falls}
+use Rattle.tcp_streams.proofs.Words.{IsOpened, IsUnopened, Stray, Pair, Opened}
 use Rattle.std.specs.Prelude.{find, option_map}
 use Rattle.std.proofs.lemmas.List.Elements.{filter-append}
 use Rattle.std.proofs.lemmas.List.Folds.{find-append}
-use Rattle.tcp_streams.specs.declared.standings.Standing.{Standing}
-use Rattle.tcp_streams.specs.declared.standings.Standing.TheVariants.{Unopened}
 use Rattle.tcp_streams.specs.Membership.{is_answer}
 use Rattle.tcp_streams.specs.code.Standings.{SetsStandingIn}
-use Rattle.tcp_streams.specs.code.Table.{IsShown, IsUnknown, Stands, opened_by, first_stray, counted, joined}
+use Rattle.tcp_streams.specs.code.Table.{IsShown, IsUnknown, Stands, counted, first_stray, joined, opened_by}
+use Rattle.tcp_streams.specs.declared.standings.Standing.{Standing}
+use Rattle.tcp_streams.specs.declared.standings.Standing.TheVariants.{Unopened}
 use Rattle.tcp_streams.proofs.Lists.{by_Bool, list_any-other, map-agree, map-but, map-pushed, slice_get-last}
 use Rattle.tcp_streams.proofs.Lists.{slice_get-with_if}
 use Rattle.tcp_streams.proofs.Pairs.{is_endpoint-refl, is_pair-refl, is_pair-same, is_pair-sym}
@@ -57,12 +57,13 @@ connection_with o ms = record {
   members = map (λ (t : Segment). t.rec) ms;
 }
 
--- with one more member it has joined
+-- the number of the first answer, where one more may answer
 first-seq : (x : Option Segment) (b : Bool) (s : Segment)
     → option_map (λ (t : Segment). t.seq) (option_or x (if b then Some s else None))
     ≡ option_or (option_map (λ (t : Segment). t.seq) x) (if b then Some s.seq else None)
 first-seq x b s = grind arith
 
+-- with one more member it has joined
 connection_with-push : (o s : Segment) (ms : List Segment) → connection_with o (ms ++ s ∷ []) ≡ joined
     (connection_with o ms) s
 connection_with-push o s ms = rw (

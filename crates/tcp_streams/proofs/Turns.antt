@@ -1,14 +1,12 @@
 -- What a segment does, by what the table shows of its pair.
-use Rattle.tcp_streams.proofs.Words.{◌≡◌, ℕ, ◌≤◌, [], ◌∷◌, get_or, true, false, not, List, length, map, Some, slice_get}
-use Rattle.tcp_streams.proofs.Words.{sym, ap, ◌∙◌, arith, get_or_from_slice_get, slice_get_within, get_or-map}
-use Rattle.tcp_streams.proofs.Words.{length-append, length-map, Segment, Connection, Stray, Pair, Opened, Table, is_of}
-use Rattle.tcp_streams.proofs.Words.{pair_of, Membership, connection_of, first_strays, membership, openings, opens}
-use Rattle.tcp_streams.proofs.Words.{stray_of, strays, is_request, standing_of, IsOpened, IsTableOf, IsUnopened}
-use Rattle.std.proofs.lemmas.Option.{slice_get-map}
+use Rattle.tcp_streams.proofs.Words.{◌≡◌, ℕ, ◌≤◌, true, not, List, [], ◌∷◌, Some, sym, ◌∙◌, arith, length, slice_get}
+use Rattle.tcp_streams.proofs.Words.{ap, get_or, map, length-append, get_or-map, length-map, get_or_from_slice_get}
+use Rattle.tcp_streams.proofs.Words.{slice_get_within, Segment, is_request, is_of, pair_of, first_strays, openings}
+use Rattle.tcp_streams.proofs.Words.{opens, strays, Membership, membership, connection_of, stray_of, standing_of}
+use Rattle.tcp_streams.proofs.Words.{IsOpened, IsTableOf, IsUnopened, Connection, Stray, Pair, Opened, Table}
 use Rattle.std.proofs.lemmas.List.Sums.{count_by-le-length, length-filter}
-use Rattle.tcp_streams.specs.declared.table.Turn.TheVariants.{Opens, Joins}
+use Rattle.std.proofs.lemmas.Option.{slice_get-map}
 use Rattle.tcp_streams.specs.code.Past.{is_again}
-use Rattle.tcp_streams.specs.code.Table.{IsTurn}
 
 strays-few : (past : List Segment) → length (strays past) ≤ length past
 strays-few [] = omega arith
@@ -47,21 +45,10 @@ module _ (past : List Segment) (t : Table) (shown : IsTableOf past t) (p : Pair)
 -- of a pair with an opening, a request opens a connection unless it says again what that opening said
 module _ (past : List Segment) (t : Table) (shown : IsTableOf past t) (s : Segment) (k : ℕ)
     (at : standing_of t.standings (pair_of s) ≡ Some (Opened k)) where
-  stands_so : IsOpened past (pair_of s) k
+  pub stands_so : IsOpened past (pair_of s) k
   stands_so = rw at at (shown.stands (pair_of s))
 
-  decides : (c : Connection) → c ≡ get_or t.opened.items k c → is_request s ≡ true
+  pub decides : (c : Connection) → c ≡ get_or t.opened.items k c → is_request s ≡ true
       → opens s past ≡ not (is_again s c.client c.client_isn)
   decides c is r = rw (r, stands_so.opened) (ap (λ (m : Membership). not (is_again s m.client m.client_isn))
       (stands-opened past t shown (pair_of s) k stands_so c is))
-
-  pub opens_anew : (c : Connection) → c ≡ get_or t.opened.items k c → is_request s ≡ true
-      → is_again s c.client c.client_isn ≡ false → IsTurn past s Opens
-  opens_anew c is r a = decides c is r ∙ ap not a
-
-  pub joins_again : (c : Connection) → c ≡ get_or t.opened.items k c → is_request s ≡ true
-      → is_again s c.client c.client_isn ≡ true → IsTurn past s (Joins k)
-  joins_again c is r a = (decides c is r ∙ ap not a, stands_so)
-
-  pub joins : is_request s ≡ false → IsTurn past s (Joins k)
-  joins r = (rw r, stands_so)

@@ -1,7 +1,7 @@
 -- Two flows of the same sources are one.
-use Rattle.tcp_streams.proofs.Words.{◌≡◌, ℕ, ◌<◌, ◌≤◌, List, [], ◌∷◌, length, slice_get, Option, None, Some, refl, sym}
-use Rattle.tcp_streams.proofs.Words.{ap, ◌∙◌, arith, IsSome, IfSome, IsSomeAnd, false≢true, le-ltb, lt-ltb, IfSome_then}
-use Rattle.tcp_streams.proofs.Words.{Arrival, Rises, IsArrivalOf, IsFlow, IsGap, arrival_at, Source, arrival}
+use Rattle.tcp_streams.proofs.Words.{◌≡◌, ℕ, ◌<◌, ◌≤◌, List, [], ◌∷◌, Option, None, Some, refl, sym, ◌∙◌, arith, length}
+use Rattle.tcp_streams.proofs.Words.{slice_get, ap, IsSome, IfSome, IsSomeAnd, false≢true, lt-ltb, le-ltb, IfSome_then}
+use Rattle.tcp_streams.proofs.Words.{Rises, IsArrivalOf, IsFlow, IsGap, arrival_at, Source, arrival, Arrival}
 use Rattle.std.specs.Prelude.{unwrap_or}
 use Rattle.std.proofs.lemmas.Grind.{same_number_lists}
 use Rattle.std.proofs.lemmas.Option.{unwrap_or-slice_get}

@@ -9,8 +9,9 @@ pub use Rattle.std.proofs.lemmas.Bool.{false≢true, ne_eqb, or_right, eq-eqb, l
 pub use Rattle.std.proofs.lemmas.Bool.Decides.{nat_tests}
 pub use Rattle.std.proofs.lemmas.Grind.{common_steps}
 pub use Rattle.std.proofs.lemmas.List.{append-nil, append_assoc, length-append, get_or-map, length-map, map-append}
-pub use Rattle.std.proofs.lemmas.List.{length-take-le, take-append-drop, take_all}
-pub use Rattle.std.proofs.lemmas.List.Elements.{All-nil, All-weaker, All-cons, All-head, All-tail, filter_map-append}
+pub use Rattle.std.proofs.lemmas.List.{drop-drop, length-take-le, take-append-drop, take_all}
+pub use Rattle.std.proofs.lemmas.List.Elements.{All-cons, All-head, All-nil, All-push, All-tail, All-weaker}
+pub use Rattle.std.proofs.lemmas.List.Elements.{filter_map-append}
 pub use Rattle.std.proofs.lemmas.List.Folds.{list_any-append}
 pub use Rattle.std.proofs.lemmas.List.Sums.{sum_by-append, sum_by-cons}
 pub use Rattle.std.proofs.lemmas.Option.{IfSome_then, none-some, get_or_from_slice_get, slice_get_within}

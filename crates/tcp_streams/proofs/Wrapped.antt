@@ -1,8 +1,8 @@
 -- The worked example of a flow whose sequence numbers come round.
-use Rattle.tcp_streams.proofs.Words.{◌≡◌, ℕ, zero, suc, ◌+◌, ◌-◌, ◌<◌, ◌^◌, List, [], ◌∷◌, filter, length, map}
-use Rattle.tcp_streams.proofs.Words.{slice_get, Option, None, Some, refl, sym, ap, ◌∙◌, arith, ◌%◌, le-ltb, Segment}
-use Rattle.tcp_streams.proofs.Words.{Connection, Arrival, bytes_of, IsFlow, segments_of, is_endpoint, Source, source}
-use Rattle.tcp_streams.proofs.Words.{Membership, membership}
+use Rattle.tcp_streams.proofs.Words.{◌≡◌, ℕ, ◌<◌, List, [], ◌∷◌, Option, None, Some, refl, sym, ◌∙◌, arith, zero, suc}
+use Rattle.tcp_streams.proofs.Words.{◌+◌, ◌-◌, ◌^◌, length, slice_get, ap, ◌%◌, filter, map, le-ltb, Segment, bytes_of}
+use Rattle.tcp_streams.proofs.Words.{IsFlow, segments_of, is_endpoint, Source, source, Membership, membership}
+use Rattle.tcp_streams.proofs.Words.{Connection, Arrival}
 use Rattle.std.proofs.Common.{subst, lit<}
 use Rattle.std.specs.Prelude.{codes}
 use Rattle.tcp_streams.specs.examples.Retransmission.{WrappedRetransmission, client, letters, server, wrapped}

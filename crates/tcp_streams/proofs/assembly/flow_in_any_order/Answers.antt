@@ -1,7 +1,7 @@
 use Rattle.tcp_streams.proofs.Words.{length}
 use Rattle.tcp_streams.proofs.Lists.{if_ok_4}
 use Rattle.tcp_streams.proofs.PieceLemmas.{PayloadsFit-from}
-use Rattle.tcp_streams.proofs.Sides.{intervals-captured, assembled, side-pieces}
+use Rattle.tcp_streams.proofs.Sides.{assembled, intervals-captured, side-pieces}
 use Rattle.tcp_streams.proofs.assembly.flow_in_any_order.Goals as goal
 
 pub pieces_of-requires-clause-payloads : goal.pieces_of-requires-clause-payloads

@@ -1,4 +1,4 @@
-use Rattle.tcp_streams.proofs.Words.{◌≡◌, ◌++◌, ◌+◌, length, take, None, true, refl, arith, filter_map, option_to_list}
+use Rattle.tcp_streams.proofs.Words.{◌≡◌, true, None, refl, arith, ◌+◌, ◌++◌, length, take, filter_map, option_to_list}
 use Rattle.tcp_streams.proofs.Words.{common_steps, append-nil, take_all, filter_map-append, member_piece}
 use Rattle.tcp_streams.proofs.InOrder.{IsLaid-more, laid-assembled, shown-inside}
 use Rattle.tcp_streams.proofs.PieceLemmas.{PayloadsFit-from, member-shown}

@@ -1,6 +1,6 @@
-use Rattle.tcp_streams.proofs.Words.{◌≡◌, ℕ, ◌<◌, ◌^◌, List, [], ◌∷◌, drop, take, length, Some, sym, ap, ◌∙◌, arith}
-use Rattle.tcp_streams.proofs.Words.{All, All-cons, All-nil, take-append-drop, Interval, joined, IsInterval, Spans}
-use Rattle.tcp_streams.proofs.Words.{run_length}
+use Rattle.tcp_streams.proofs.Words.{◌≡◌, ℕ, ◌<◌, List, [], ◌∷◌, Some, sym, ◌∙◌, arith, ◌^◌, length, drop, take, ap}
+use Rattle.tcp_streams.proofs.Words.{All, take-append-drop, All-nil, All-cons, joined, IsInterval, Spans, run_length}
+use Rattle.tcp_streams.proofs.Words.{Interval}
 use Rattle.std.proofs.lemmas.List.{at_drop_all, at_drop_more}
 use Rattle.tcp_streams.proofs.RunLemmas.{Follows, IsRunOf, gap_of, run-flow, run-in_capture, run-is, run-size}
 use Rattle.tcp_streams.proofs.RunLemmas.{run-timely}

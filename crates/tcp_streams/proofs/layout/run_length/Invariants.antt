@@ -1,4 +1,4 @@
-use Rattle.tcp_streams.proofs.Words.{◌≡◌, ◌+◌, ◌-◌, ◌≤◌, drop, length, run_length}
+use Rattle.tcp_streams.proofs.Words.{◌≡◌, ◌≤◌, ◌+◌, ◌-◌, length, drop, run_length}
 use Rattle.tcp_streams.proofs.layout.run_length.Given as goal
 
 abbrev pub invariant-loop-count : goal.invariant-loop-count

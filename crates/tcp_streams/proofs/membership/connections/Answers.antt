@@ -1,4 +1,4 @@
-use Rattle.tcp_streams.proofs.Words.{◌≡◌, ℕ, List, ◌+◌, ◌<◌, length, take, drop, get_or, sym, ◌∙◌, arith, take_all}
+use Rattle.tcp_streams.proofs.Words.{◌≡◌, ℕ, ◌<◌, List, sym, ◌∙◌, arith, ◌+◌, length, drop, take, get_or, take_all}
 use Rattle.tcp_streams.proofs.Words.{Packet, past_of, with_packet}
 use Rattle.parted_list.proofs.Together.{element_is, end_within, index_within}
 use Rattle.tcp_streams.proofs.Belongings.{shown-connections, strays-of-past}

@@ -1,4 +1,4 @@
-use Rattle.tcp_streams.proofs.Words.{◌+◌, ◌-◌, ◌≤◌, length, take, past_of, IsTableOf}
+use Rattle.tcp_streams.proofs.Words.{◌≤◌, ◌+◌, ◌-◌, length, take, past_of, IsTableOf}
 use Rattle.tcp_streams.proofs.membership.connections.Given as goal
 
 -- the table shows the segments of the packets so far

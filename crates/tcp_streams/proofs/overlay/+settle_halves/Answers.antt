@@ -1,4 +1,4 @@
-use Rattle.tcp_streams.proofs.Words.{length, arith}
+use Rattle.tcp_streams.proofs.Words.{arith, length}
 use Rattle.std.proofs.Common.{◌/◌}
 use Rattle.std.proofs.lemmas.List.{take_rest}
 use Rattle.std.proofs.lemmas.Result.{MatchResult-weaker}

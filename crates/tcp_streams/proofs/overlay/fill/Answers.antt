@@ -1,4 +1,4 @@
-use Rattle.tcp_streams.proofs.Words.{common_steps, arith}
+use Rattle.tcp_streams.proofs.Words.{arith, common_steps}
 use Rattle.tcp_streams.proofs.IntervalLemmas.{Spans-interval, clipped-last}
 use Rattle.tcp_streams.proofs.overlay.fill.Goals as goal
 use Rattle.tcp_streams.proofs.overlay.fill.Goals.{then-loop-index-test+else-later-index, else-loop-index-test}

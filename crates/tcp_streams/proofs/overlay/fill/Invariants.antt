@@ -1,4 +1,4 @@
-use Rattle.tcp_streams.proofs.Words.{◌≡◌, ◌≤◌, ◌-◌, ◌++◌, drop, length, HasPassed, clipped}
+use Rattle.tcp_streams.proofs.Words.{◌≡◌, ◌≤◌, ◌-◌, ◌++◌, length, drop, clipped, HasPassed}
 use Rattle.tcp_streams.proofs.overlay.fill.Given as goal
 
 abbrev pub invariant-loop-index : goal.invariant-loop-index

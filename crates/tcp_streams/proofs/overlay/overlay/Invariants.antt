@@ -1,4 +1,4 @@
-use Rattle.tcp_streams.proofs.Words.{◌≡◌, ◌≤◌, ◌++◌, ◌^◌, drop, length, HasPassed, Spans, overlay}
+use Rattle.tcp_streams.proofs.Words.{◌≡◌, ◌≤◌, ◌^◌, ◌++◌, length, drop, Spans, overlay, HasPassed}
 use Rattle.tcp_streams.proofs.overlay.overlay.Given as goal
 
 -- what is written and what is left make the whole

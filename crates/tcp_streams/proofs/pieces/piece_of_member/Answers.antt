@@ -1,4 +1,4 @@
-use Rattle.tcp_streams.proofs.Words.{◌-◌, Some, ap, ◌∙◌}
+use Rattle.tcp_streams.proofs.Words.{Some, ◌∙◌, ◌-◌, ap}
 use Rattle.tcp_streams.proofs.PieceLemmas.{payload-fits}
 use Rattle.tcp_streams.proofs.pieces.piece_of_member.Goals as goal
 

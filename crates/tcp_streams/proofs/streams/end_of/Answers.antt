@@ -1,5 +1,5 @@
-use Rattle.tcp_streams.proofs.Words.{◌≡◌, ℕ, suc, ◌-◌, List, [], ◌∷◌, length, slice_get, Some, ap, ◌∙◌, arith, Arrival}
-use Rattle.tcp_streams.proofs.Words.{Rises}
+use Rattle.tcp_streams.proofs.Words.{◌≡◌, ℕ, List, [], ◌∷◌, Some, ◌∙◌, arith, suc, ◌-◌, length, slice_get, ap, Rises}
+use Rattle.tcp_streams.proofs.Words.{Arrival}
 use Rattle.tcp_streams.proofs.streams.end_of.Goals as goal
 
 -- arrivals end where the last of them does

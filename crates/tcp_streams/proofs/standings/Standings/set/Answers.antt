@@ -1,4 +1,4 @@
-use Rattle.tcp_streams.proofs.Words.{Some, ap, ◌∙◌, if◌then◌else◌, is_pair, standing_of}
+use Rattle.tcp_streams.proofs.Words.{Some, ◌∙◌, ap, if◌then◌else◌, is_pair, standing_of}
 use Rattle.tcp_streams.proofs.standings.Standings.set.Goals as goal
 
 pub returns : goal.returns

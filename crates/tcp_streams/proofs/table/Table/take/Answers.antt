@@ -1,4 +1,4 @@
-use Rattle.tcp_streams.proofs.Words.{length-map, refl, ap, ◌∙◌, map, set, membership, pair_of}
+use Rattle.tcp_streams.proofs.Words.{refl, ◌∙◌, ap, map, set, length-map, pair_of, membership}
 use Rattle.std.proofs.Common.{rules}
 use Rattle.std.proofs.lemmas.List.{map-set}
 use Rattle.std.proofs.lemmas.Result.{on_ok_weaker}
