@@ -1,8 +1,8 @@
 -- A stream of which nothing is shown, from one of its frames to the next.
 use Rattle.std.proofs.lemmas.List.{length-append}
 use Rattle.stream_credit.proofs.Words.{◌≡◌, ℕ, pos, ◌+◌, ◌-◌, ◌^◌, ◌<◌, ◌≤◌, Bool, true, false, List, [], ◌∷◌, ◌++◌}
-use Rattle.stream_credit.proofs.Words.{map, take, drop, length, slice_get, Some, refl, sym, ap, ◌∙◌, arith, inl, inr}
-use Rattle.stream_credit.proofs.Words.{take-append_seam, cases_Bool, nat_tests, drop-drop, drop_more, length-drop}
+use Rattle.stream_credit.proofs.Words.{map, drop, length, slice_get, Some, refl, sym, ap, ◌∙◌, arith, inl, inr}
+use Rattle.stream_credit.proofs.Words.{cases_Bool, nat_tests, drop-drop, drop_more, length-drop}
 use Rattle.stream_credit.proofs.Words.{filter-append, slice_get_within, get_or_from_slice_get, each-in_order}
 use Rattle.stream_credit.proofs.Words.{Sides, StreamLife, Frame, Change, Step, Stream, Finding, other, side_of}
 use Rattle.stream_credit.proofs.Words.{in_order, is_shown, shown, idle_stream, stream_said, stream_after, IsOrderlyFrom}
@@ -11,7 +11,7 @@ use Rattle.stream_credit.proofs.Words.{stream_after_all, AreOrderlyFrom, AreOrde
 use Rattle.stream_credit.proofs.Words.{is_live, after_changes, passed, left_from, merged, Acknowledge, IsMove, IsRaised}
 use Rattle.stream_credit.proofs.Words.{IsQuiet, has_credit, has_ended, window_of, stream_of, initial_at, IsPassed}
 use Rattle.stream_credit.proofs.Words.{IsNext, AreFrom, StartsAt, IsAhead, ShowsNothing, Side}
-use Rattle.stream_credit.proofs.LeftLemmas.{parted, initial-more, initial-next, left-drop, left-from, orderly-drop}
+use Rattle.stream_credit.proofs.LeftLemmas.{parted, initial-passed, initial-next, left-drop, left-from, orderly-drop}
 use Rattle.stream_credit.proofs.LeftLemmas.{orderly-from}
 use Rattle.stream_credit.proofs.MergedLemmas.{steps_of-merged, acknowledge-all, merged_at-first, merged-change}
 use Rattle.stream_credit.proofs.MergedLemmas.{merged-passed}
@@ -73,12 +73,6 @@ pub drop-next : (met : ℕ) (changes : List Change) (change : Change) → slice_
 drop-next met changes change e =
     drop_more changes met change (slice_get_within changes met change e)
     ∙ ap (λ (c : Change). c ∷ drop (met + 1) changes) (get_or_from_slice_get changes met change change e)
-
-take-passed : (number : ℕ) (changes : List Change)
-    → take (length (passed number changes)) changes ≡ passed number changes
-take-passed number changes =
-    ap (take (length (passed number changes))) (sym (parted number changes))
-    ∙ take-append_seam (passed number changes) (left_from number changes)
 
 drop-passed : (number met : ℕ) (changes : List Change)
     → left_from number (drop met changes) ≡ drop (met + length (passed number (drop met changes))) changes
@@ -160,12 +154,15 @@ module _ {stream : ℕ} {changes : List Change} {all rest : List Frame} {old : Q
       let before = passed number left in
       let met-before = h.met in
       let whole = ap length (parted number left) in
-      let windows : initial_at (old.met + length before) changes ≡ after_changes initial before =
-      initial-more old.met (length before) changes ∙ ap (after_changes initial) (take-passed number left) in
       let parts = length-append before (left_from number left) in
       ahead-by (omega (arith, m, met-before, whole, parts, length-drop old.met changes))
       h.orderly h.acknowledged
-      (rw (m, windows, ← drop-passed number old.met changes, merged-passed number rest left s)
+      (rw (
+        m,
+        initial-passed number old.met changes,
+        ← drop-passed number old.met changes,
+        merged-passed number rest left s,
+      )
       (outcome-passes stream initial (stream_of old) before (merged rest (left_from number left)) dead))
 
 pub from-passed : (number met : ℕ) (changes : List Change) (more : ℕ)
