@@ -3,10 +3,8 @@ use Rattle.std.proofs.Common.{◌≡◌, ◌≢◌, ℕ, zero, suc, ◌-◌, ◌
 use Rattle.std.proofs.Common.{if◌then◌else◌, slice_get, slice_set, take, drop, Some, refl, sym, ap, ◌∙◌, subst, arith}
 use Rattle.std.proofs.lemmas.List.{append-nil, take_all, drop_all}
 use Rattle.std.proofs.lemmas.Option.{none-some, same_Some}
-use Rattle.stream_credit.proofs.Words.{Sides, Frame, Stream, idle_stream, stream_said, stream_after, frame_step}
-use Rattle.audit_terms.specs.Life.{is_opening}
+use Rattle.stream_credit.proofs.Words.{Sides, Frame, Stream, idle_stream}
 use Rattle.quiet_pass.specs.declared.rows.Row.{Row}
-use Rattle.quiet_pass.specs.code.Standing.{AreUnshown}
 use Rattle.quiet_pass.specs.code.Rows.{stream_of, entry_in, AreRisingFrom, AreRising, IsPast, IsRowOf, IsRowAfter}
 use Rattle.quiet_pass.specs.code.Rows.{IsOpened, HasMet, IsRowMoved, AreMoved}
 use Rattle.std.proofs.lemmas.Bool.{eq-eqb, ne_eqb}
@@ -66,21 +64,16 @@ pub row-met : (rows : List Row) (at : ℕ) (frame : Frame) (next : Row) (of : Is
     → HasMet frame.stream initial frame false rows (slice_set rows at next)
 row-met rows at frame next of after rising initial =
     let row = of.row in
-    let old : entry_in rows frame.stream ≡ stream_of row =
-    ap (entry_in rows) (sym of.same) ∙ entry-there 0 rows at row rising of.there in
+    let old : entry_in rows frame.stream ≡ stream_of row = rw (← of.same) (entry-there 0 rows at row rising of.there) in
     let risen = set-rising row next after.same 0 rows at of.there rising in
     let new : entry_in (slice_set rows at next) frame.stream ≡ stream_of next =
-    ap (entry_in (slice_set rows at next)) (sym of.same ∙ sym after.same)
-    ∙ entry-there 0 (slice_set rows at next) at next risen (set-there row next after.same rows at of.there) in
+    rw (← of.same, ← after.same)
+    (entry-there 0 (slice_set rows at next) at next risen (set-there row next after.same rows at of.there)) in
     record {
-      opening = ap (λ (entry : Stream). is_opening frame.stream entry.life frame) old ∙ after.unopened;
-      said = subst (λ (entry : Stream). AreUnshown (stream_said frame.stream initial entry (frame_step frame)))
-          (sym old)
-          (after.said initial);
-      after = new ∙ after.after initial
-          ∙ ap (λ (entry : Stream). stream_after frame.stream initial entry (frame_step frame)) (sym old);
-      others = λ other differ.
-          set-others row next after.same rows at other of.there (λ x. differ (x ∙ of.same));
+      opening = rw old after.unopened;
+      said = rw old (after.said initial);
+      after = rw (new, old) (after.after initial);
+      others = λ other differ. set-others row next after.same rows at other of.there (λ x. differ (x ∙ of.same));
       rising = risen;
     }
 
@@ -118,16 +111,13 @@ pub row-opened : (rows : List Row) (stream : ℕ) (initial : Sides ℕ) (frame :
     → IsOpened stream initial frame row → AreRising rows
     → HasMet stream initial frame true rows (rows ++ row ∷ [])
 row-opened rows stream initial frame row past opened rising =
-    let old : entry_in rows stream ≡ idle_stream = past-idle rows stream past in
+    let old = past-idle rows stream past in
     record {
-      opening = ap (λ (entry : Stream). is_opening stream entry.life frame) old ∙ opened.opening;
-      said = subst (λ (entry : Stream). AreUnshown (stream_said stream initial entry (frame_step frame))) (sym old)
-          opened.said;
-      after = push-own rows row stream past opened.same ∙ opened.after
-          ∙ ap (λ (entry : Stream). stream_after stream initial entry (frame_step frame)) (sym old);
+      opening = rw old opened.opening;
+      said = rw old opened.said;
+      after = rw (push-own rows row stream past opened.same, old) opened.after;
       others = λ other differ. push-others rows row other (λ e. differ (sym e ∙ opened.same));
-      rising = push-rising 0 rows row rising (subst (IsPast rows) (sym opened.same) past)
-          (subst (λ n. 0 < n) (sym opened.same) (past-above rows stream past));
+      rising = push-rising 0 rows row rising (rw opened.same past) (rw opened.same (past-above rows stream past));
     }
 
 -- a stream past the last row of rows that rise
@@ -160,18 +150,15 @@ module _ (before after : Sides ℕ) where
   pub moved-more : (count : ℕ) (old new : List Row) (row next : Row) → AreMovedTo before after count old new
       → slice_get new count ≡ Some row → IsRowMoved before after row next
       → AreMovedTo before after (suc count) old (slice_set new count next)
-  moved-more zero [] [] row next h e m = absurd (none-some row e)
-  moved-more zero (one ∷ old) [] row next h e m = absurd (none-some row e)
+  moved-more zero old [] row next h e m = absurd (none-some row e)
   moved-more zero [] (two ∷ new) row next h e m = cc
   moved-more zero (one ∷ old) (two ∷ new) row next h e m =
       let first : two ≡ one = cc in
       let rest : old ≡ new = cc in
       (subst (λ (r : Row). IsRowMoved before after r next) (sym (same_Some two row e) ∙ first) m, rest)
   moved-more (suc count) [] [] row next h e m = absurd (none-some row e)
-  moved-more (suc count) [] (two ∷ new) row next h e m = absurd h
-  moved-more (suc count) (one ∷ old) [] row next h e m = absurd h
-  moved-more (suc count) (one ∷ old) (two ∷ new) row next h e m =
-      (h.0, moved-more count old new row next h.1 e m)
+  moved-more (suc count) (one ∷ old) (two ∷ new) row next h e m = (h.0, moved-more count old new row next h.1 e m)
+  moved-more (suc count) _ _ row next h e m = absurd h
 
   pub moved-all : (count : ℕ) (old new : List Row) → AreMovedTo before after count old new → count ≡ length new
       → AreMoved before after old new
@@ -179,9 +166,8 @@ module _ (before after : Sides ℕ) where
   moved-all zero (one ∷ old) [] h e = cc
   moved-all zero old (two ∷ new) h e = absurd (omega (arith, e))
   moved-all (suc count) [] [] h e = tt
-  moved-all (suc count) [] (two ∷ new) h e = absurd h
-  moved-all (suc count) (one ∷ old) [] h e = absurd h
   moved-all (suc count) (one ∷ old) (two ∷ new) h e = (h.0, moved-all count old new h.1 (omega (arith, e)))
+  moved-all (suc count) _ _ h e = absurd h
 
 pub written-back : (len : ℕ) (new old : List Row) → length new ≡ length old → len ≡ length old
     → take len (new ++ drop (length new) old) ≡ new

@@ -13,6 +13,8 @@ use Rattle.audit_terms.specs.Frame.{is_content, is_headers, is_update, needs_ope
 use Rattle.audit_terms.specs.Life.{idle_life, is_opening}
 use Rattle.audit_terms.specs.Stream.{opened_window_said, stream_window_said}
 use Rattle.stream_credit.specs.code.QuietStream.{opened_of}
+use Rattle.stream_credit.proofs.QuietLemmas.{same-if}
+use Rattle.stream_credit.proofs.QuietStreams.{window-some, ended-none}
 use Rattle.stream_credit.proofs.SilentLemmas.{both, unsaid, frame-unshown, IsCalm, calm-some, calm-ended, calm-same}
 use Rattle.stream_credit.proofs.SilentLemmas.{stream-unshown, stream-moved}
 use Rattle.quiet_pass.specs.declared.rows.Row.{Row}
@@ -42,12 +44,6 @@ one_side Server Server b c m n = inl refl
 live-used : (standing : ℕ) → has_credit standing ≡ true → is_used_up (pos standing) ≡ false
 live-used standing h = grind (arith, nat_tests, ints)
 
-live-window : (standing : ℕ) → has_credit standing ≡ true → window_of standing ≡ Some (pos standing)
-live-window standing h = rw h refl
-
-live-unended : (standing : ℕ) → has_credit standing ≡ true → has_ended standing ≡ false
-live-unended standing h = grind (arith, nat_tests)
-
 module _ (d : Side) (frame : Frame) (standing after : ℕ) (live : has_credit standing ≡ true)
     (c : IsCounted d frame standing after) where
   overrun : overruns (pos standing) (content_by d frame) ≡ false
@@ -76,9 +72,9 @@ module _ (d : Side) (frame : Frame) (standing after : ℕ) (live : has_credit st
       → IsCalm d frame.stream initial (frame_step frame) (Some (pos standing)) (window_of next))
       → has_ended next ≡ is_last_of d frame.stream frame → IsStandingAfter d frame standing next
   standing-by next calm ended = record {
-    said = λ initial. rw (live-window standing live) (calm initial).said;
-    window = λ initial. rw (live-window standing live) (sym (calm initial).after);
-    ended = rw (live-unended standing live) ended;
+    said = λ initial. rw (window-some standing live) (calm initial).said;
+    window = λ initial. rw (window-some standing live) (sym (calm initial).after);
+    ended = rw (ended-none standing live) ended;
   }
 
   -- the window lives on
@@ -86,10 +82,10 @@ module _ (d : Side) (frame : Frame) (standing after : ℕ) (live : has_credit st
   standing_goes_on goes_on some =
       let within = c.within in
       let still : has_credit after ≡ true = grind (arith, nat_tests, within, some) in
-      standing-by after (λ initial. rw (live-window after still)
+      standing-by after (λ initial. rw (window-some after still)
       (calm-some d frame.stream initial (frame_step frame) (pos standing) (pos after) (now initial) fits overrun goes_on
       (live-used standing live ∙ sym (live-used after still))))
-      (live-unended after still ∙ sym (unlast d frame goes_on))
+      (ended-none after still ∙ sym (unlast d frame goes_on))
 
   -- the window ends, and with it perhaps what the side sends
   pub standing_ends : ends_window d frame ≡ true
@@ -177,10 +173,6 @@ module _ (stream : ℕ) (initial : Sides ℕ) (frame : Frame) (opening : is_open
 no-increment : (body : Body) → is_update body ≡ false → increment body ≡ 0
 no-increment (WindowUpdate amount) e = cc
 no-increment _ e = refl
-
-same-if : (b : Bool) → ◌≡◌ {A = ℕ} (if b then 0 else 0) 0
-same-if true = refl
-same-if false = refl
 
 module _ (frame : Frame) (content : is_content frame.body ≡ false) (headers : is_headers frame.body ≡ false)
     (reset : is_reset frame.body ≡ false) (update : is_update frame.body ≡ false)

@@ -8,7 +8,7 @@ use Rattle.stream_credit.proofs.Words.{ltb-true, ltb-false, eq-eqb, ne_eqb, take
 use Rattle.stream_credit.proofs.Words.{same_Some, slice_get_within, get_or_from_slice_get, Sides, Frame, Change, is_ack}
 use Rattle.stream_credit.proofs.Words.{initial_in_force, initial_after, AreOrderlyFrom, after_changes, after_each}
 use Rattle.stream_credit.proofs.Words.{passed, left_from, change_at, left_after, AcknowledgesAt, Acknowledge, AreFrom}
-use Rattle.stream_credit.proofs.Words.{initial_at, AreBefore}
+use Rattle.stream_credit.proofs.Words.{initial_at, AreBefore, take-append_seam}
 
 -- ---- what is in force
 
@@ -16,11 +16,6 @@ after-append : (now : Sides ℕ) (a b : List Change) → after_changes now (a ++
     ≡ after_changes (after_changes now a) b
 after-append now [] b = refl
 after-append now (change ∷ a) b = after-append (initial_after (Some change) now) a b
-
-pub initial-more : (met more : ℕ) (changes : List Change)
-    → initial_at (met + more) changes ≡ after_changes (initial_at met changes) (take more (drop met changes))
-initial-more met more changes =
-    rw take-add (after-append initial_in_force.initial (take met changes) (take more (drop met changes)))
 
 pub initial-next : (met : ℕ) (changes : List Change) (change : Change) → slice_get changes met ≡ Some change
     → initial_at (met + 1) changes ≡ initial_after (Some change) (initial_at met changes)
@@ -94,6 +89,16 @@ pub left-drop : (number : ℕ) (changes : List Change)
 left-drop number changes =
     sym (ap (drop (length (passed number changes))) (sym (parted number changes))
     ∙ drop-append_seam (passed number changes) (left_from number changes))
+
+pub initial-passed : (number met : ℕ) (changes : List Change)
+    → initial_at (met + length (passed number (drop met changes))) changes
+    ≡ after_changes (initial_at met changes) (passed number (drop met changes))
+initial-passed number met changes =
+    let left = drop met changes in
+    let front : take (length (passed number left)) left ≡ passed number left =
+    ap (take (length (passed number left))) (sym (parted number left))
+    ∙ take-append_seam (passed number left) (left_from number left) in
+    rw (take-add, front) (after-append initial_in_force.initial (take met changes) (passed number left))
 
 orderly-above : (low k : ℕ) (changes : List Change) (d : Change) → AreOrderlyFrom low changes → k < length changes
     → low ≤ (slice_index_or changes k d).number

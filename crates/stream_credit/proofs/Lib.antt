@@ -1,7 +1,6 @@
 pub mod Words
 pub mod MergedLemmas
 pub mod LeftLemmas
-pub mod SaidNumbers
 pub mod SilentLemmas
 pub mod WalkLemmas
 pub mod QuietLemmas

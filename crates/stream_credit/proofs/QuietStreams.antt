@@ -1,17 +1,17 @@
 -- A stream of which nothing is shown, from one of its frames to the next.
 use Rattle.std.proofs.lemmas.List.{length-append}
 use Rattle.stream_credit.proofs.Words.{◌≡◌, ℕ, pos, ◌+◌, ◌-◌, ◌^◌, ◌<◌, ◌≤◌, Bool, true, false, List, [], ◌∷◌, ◌++◌}
-use Rattle.stream_credit.proofs.Words.{map, take, drop, length, slice_get, Some, refl, sym, ap, ◌∙◌, arith, inl, inr}
-use Rattle.stream_credit.proofs.Words.{take-append_seam, cases_Bool, nat_tests, drop-drop, drop_more, length-drop}
-use Rattle.stream_credit.proofs.Words.{filter-append, slice_get_within, get_or_from_slice_get, each-in_order, Client}
-use Rattle.stream_credit.proofs.Words.{Server, Sides, StreamLife, Frame, Change, Step, Stream, Finding, other, side_of}
+use Rattle.stream_credit.proofs.Words.{map, drop, length, slice_get, Some, refl, sym, ap, ◌∙◌, arith, inl, inr}
+use Rattle.stream_credit.proofs.Words.{cases_Bool, nat_tests, drop-drop, drop_more, length-drop}
+use Rattle.stream_credit.proofs.Words.{filter-append, slice_get_within, get_or_from_slice_get, each-in_order}
+use Rattle.stream_credit.proofs.Words.{Sides, StreamLife, Frame, Change, Step, Stream, Finding, other, side_of}
 use Rattle.stream_credit.proofs.Words.{in_order, is_shown, shown, idle_stream, stream_said, stream_after, IsOrderlyFrom}
 use Rattle.stream_credit.proofs.Words.{IsOrderly, frame_step, change_step, initial_after, stream_run_from}
 use Rattle.stream_credit.proofs.Words.{stream_after_all, AreOrderlyFrom, AreOrderly, AreAcknowledged, QuietStream, Move}
 use Rattle.stream_credit.proofs.Words.{is_live, after_changes, passed, left_from, merged, Acknowledge, IsMove, IsRaised}
 use Rattle.stream_credit.proofs.Words.{IsQuiet, has_credit, has_ended, window_of, stream_of, initial_at, IsPassed}
-use Rattle.stream_credit.proofs.Words.{IsNext, AreFrom, StartsAt, IsAhead, ShowsNothing}
-use Rattle.stream_credit.proofs.LeftLemmas.{parted, initial-more, initial-next, left-drop, left-from, orderly-drop}
+use Rattle.stream_credit.proofs.Words.{IsNext, AreFrom, StartsAt, IsAhead, ShowsNothing, Side}
+use Rattle.stream_credit.proofs.LeftLemmas.{parted, initial-passed, initial-next, left-drop, left-from, orderly-drop}
 use Rattle.stream_credit.proofs.LeftLemmas.{orderly-from}
 use Rattle.stream_credit.proofs.MergedLemmas.{steps_of-merged, acknowledge-all, merged_at-first, merged-change}
 use Rattle.stream_credit.proofs.MergedLemmas.{merged-passed}
@@ -73,12 +73,6 @@ pub drop-next : (met : ℕ) (changes : List Change) (change : Change) → slice_
 drop-next met changes change e =
     drop_more changes met change (slice_get_within changes met change e)
     ∙ ap (λ (c : Change). c ∷ drop (met + 1) changes) (get_or_from_slice_get changes met change change e)
-
-take-passed : (number : ℕ) (changes : List Change)
-    → take (length (passed number changes)) changes ≡ passed number changes
-take-passed number changes =
-    ap (take (length (passed number changes))) (sym (parted number changes))
-    ∙ take-append_seam (passed number changes) (left_from number changes)
 
 drop-passed : (number met : ℕ) (changes : List Change)
     → left_from number (drop met changes) ≡ drop (met + length (passed number (drop met changes))) changes
@@ -160,12 +154,15 @@ module _ {stream : ℕ} {changes : List Change} {all rest : List Frame} {old : Q
       let before = passed number left in
       let met-before = h.met in
       let whole = ap length (parted number left) in
-      let windows : initial_at (old.met + length before) changes ≡ after_changes initial before =
-      initial-more old.met (length before) changes ∙ ap (after_changes initial) (take-passed number left) in
       let parts = length-append before (left_from number left) in
       ahead-by (omega (arith, m, met-before, whole, parts, length-drop old.met changes))
       h.orderly h.acknowledged
-      (rw (m, windows, ← drop-passed number old.met changes, merged-passed number rest left s)
+      (rw (
+        m,
+        initial-passed number old.met changes,
+        ← drop-passed number old.met changes,
+        merged-passed number rest left s,
+      )
       (outcome-passes stream initial (stream_of old) before (merged rest (left_from number left)) dead))
 
 pub from-passed : (number met : ℕ) (changes : List Change) (more : ℕ)
@@ -204,19 +201,19 @@ pub ended-none : (standing : ℕ) → has_credit standing ≡ true → has_ended
 ended-none standing h = grind (arith, nat_tests)
 
 -- the window of a side goes from one credit to another, and the rest stays
-next-moved : {stream : ℕ} {frame : Frame} {old new : QuietStream} {one : Move} (before credit : ℕ)
-    → IsMove stream (stream_of old).life frame one → IsRaised (pos before) one.amount (pos credit)
-    → side_of one.side (stream_of old).window ≡ Some (pos before)
-    → side_of one.side (stream_of new).window ≡ Some (pos credit)
-    → side_of (other one.side) (stream_of new).window ≡ side_of (other one.side) (stream_of old).window
+pub next-moved : {stream : ℕ} {frame : Frame} {old new : QuietStream} {one : Move} (d : Side) (before credit : ℕ)
+    → one.side ≡ d → IsMove stream (stream_of old).life frame one → IsRaised (pos before) one.amount (pos credit)
+    → has_credit before ≡ true → has_credit credit ≡ true → side_of d (stream_of old).window ≡ window_of before
+    → side_of d (stream_of new).window ≡ window_of credit
+    → side_of (other d) (stream_of new).window ≡ side_of (other d) (stream_of old).window
     → (stream_of new).life ≡ (stream_of old).life → new.met ≡ old.met → (initial : Sides ℕ)
     → IsNext stream initial frame old new
-next-moved {stream} {frame} {old} {new} {one} before credit m r was own rest life met initial =
+next-moved {stream} {frame} {old} {new} {one} d before credit e m r live left was own rest life met initial =
     let q : IsQuiet (stream_of old).window one (stream_of new).window = record {
       after = pos credit;
-      credit = record { before = pos before; live = was; raised = r };
-      own = own;
-      rest = rest;
+      credit = record { before = pos before; live = rw e (was ∙ window-some before live); raised = r };
+      own = rw e (own ∙ window-some credit left);
+      rest = rw e rest;
     } in
     record {
       shown = quiet-unshown stream initial (stream_of old) frame one (stream_of new).window m q;
@@ -224,22 +221,6 @@ next-moved {stream} {frame} {old} {new} {one} before credit m r was own rest lif
           ∙ sym (quiet-after stream initial (stream_of old) frame one (stream_of new).window m q);
       met = met;
     }
-
-module _ {stream : ℕ} {frame : Frame} {old : QuietStream} {one : Move} {credit : ℕ}
-    (m : IsMove stream (stream_of old).life frame one) (left : has_credit credit ≡ true) where
-  pub next-client : one.side ≡ Client → IsRaised (pos old.client) one.amount (pos credit)
-      → has_credit old.client ≡ true → (initial : Sides ℕ)
-      → IsNext stream initial frame old (record old { client = credit })
-  next-client e r was =
-      next-moved old.client credit m r (rw e (window-some old.client was)) (rw e (window-some credit left))
-      (rw e refl) (rw (ended-none credit left, ended-none old.client was) refl) refl
-
-  pub next-server : one.side ≡ Server → IsRaised (pos old.server) one.amount (pos credit)
-      → has_credit old.server ≡ true → (initial : Sides ℕ)
-      → IsNext stream initial frame old (record old { server = credit })
-  next-server e r was =
-      next-moved old.server credit m r (rw e (window-some old.server was)) (rw e (window-some credit left))
-      (rw e refl) (rw (ended-none credit left, ended-none old.server was) refl) refl
 
 -- ---- what is not shown
 

@@ -15,8 +15,7 @@ use Rattle.stream_credit.proofs.Words.{HasEnded, HasStopped}
 use Rattle.stream_credit.proofs.LeftLemmas.{passed-before, orderly-before, orderly-left_from, orderly-left_after}
 use Rattle.stream_credit.proofs.LeftLemmas.{acknowledge-left_from, acknowledge-later, own-acknowledged}
 use Rattle.stream_credit.proofs.MergedLemmas.{steps_of-merged, acknowledge-all, merged-passed, merged_at-own}
-use Rattle.stream_credit.proofs.SaidNumbers.{HasNumber, upto-numbered, run-numbered}
-use Rattle.stream_credit.proofs.WalkLemmas.{fall-here, fall-later, fall-met}
+use Rattle.stream_credit.proofs.WalkLemmas.{fall-here, fall-later, fall-met, HasNumber, upto-numbered, run-numbered}
 
 -- ---- a frame, and the changes before it
 

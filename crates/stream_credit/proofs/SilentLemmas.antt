@@ -136,9 +136,6 @@ module _ (stream : ℕ) (initial : Sides ℕ) (entry : Stream) (step : Step) (ne
 abbrev pub change_alone : (number : ℕ) → Option Change → Step
 change_alone number change = record { number = number; frame = None; change = change }
 
-abbrev pub moved_to : Side → Sides ℕ → Option Change → ℤ → ℤ
-moved_to d initial change credit = moved (side_of d initial) (new_initial change d (side_of d initial)) credit
-
 pub calm-change : (d : Side) (stream : ℕ) (initial : Sides ℕ) (number : ℕ) (change : Option Change) (after : ℕ)
     (window next : Option ℤ) → after ≡ new_initial change d (side_of d initial)
     → next ≡ option_map (moved (side_of d initial) after) window → IsSilent window next

@@ -5,6 +5,7 @@ use Rattle.quiet_pass.proofs.rows.meet.Goals as goal
 pub returns-in-Some : goal.returns-in-Some
 returns-in-Some c =
     let of = c.requires in
-    let read = c.index.ensures ∙ get_or_from_slice_get c.args.rows.now.items c.args.at of.row c.index.result.now of.there in
-    row-met c.args.rows.now.items c.args.at c.args.frame.now c.in-Some.next of
+    let rows = c.args.rows.now.items in
+    let read = c.index.ensures ∙ get_or_from_slice_get rows c.args.at of.row c.index.result.now of.there in
+    row-met rows c.args.at c.args.frame.now c.in-Some.next of
     (rw read at (c.after.ensures c.in-Some.next c.in-Some.is))
