@@ -1,9 +1,9 @@
 -- The names that several proofs of this crate cite, passed on from one place.
 pub use Rattle.std.proofs.Common.{Bool, List, MatchOption, None, Option, Some, [], ap, append_assoc, arith, drop, false}
-pub use Rattle.std.proofs.Common.{filter, flat_map, get_or, if◌then◌else◌, inl, inr, length, map, min, nat_lt, not}
-pub use Rattle.std.proofs.Common.{option_to_list, refl, rules, set, slice_get, subst, suc, sym, take, true, zero, ℕ}
-pub use Rattle.std.proofs.Common.{⊎_elim, ◌&&◌, ◌*◌, ◌++◌, ◌+◌, ◌-◌, ◌/◌, ◌<◌, ◌==◌, ◌^◌, ◌||◌, ◌∙◌, ◌∷◌, ◌≡◌, ◌≢◌, ◌≤◌}
-pub use Rattle.std.proofs.Common.{◌⊎◌}
+pub use Rattle.std.proofs.Common.{filter, flat_map, get_or, if◌then◌else◌, inl, inr, length, map, min, mul-div_cancel}
+pub use Rattle.std.proofs.Common.{nat_lt, not, option_to_list, refl, rules, set, slice_get, subst, suc, sym, take, true}
+pub use Rattle.std.proofs.Common.{zero, ℕ, ◌&&◌, ◌*◌, ◌++◌, ◌+◌, ◌-◌, ◌/◌, ◌<◌, ◌==◌, ◌^◌, ◌||◌, ◌∙◌, ◌∷◌, ◌≡◌, ◌≢◌}
+pub use Rattle.std.proofs.Common.{◌≤◌, ◌⊎◌}
 pub use Rattle.std.proofs.lemmas.Bool.{OnTrue_from, cases_eq, cases_lt, cases_order}
 pub use Rattle.std.proofs.lemmas.Bool.Decides.{nat_tests}
 pub use Rattle.std.proofs.lemmas.Grind.{common_steps, get_or-set_at}
