@@ -11,7 +11,7 @@ pub use Rattle.std.proofs.lemmas.List.{append-nil, at_drop_all, drop-append-le, 
 pub use Rattle.std.proofs.lemmas.List.{get_or-drop, get_or-map, get_or-set_other, get_or-set_same, get_or-take}
 pub use Rattle.std.proofs.lemmas.List.{get_or_append_left, get_or_at, get_or_default, length-append, length-drop}
 pub use Rattle.std.proofs.lemmas.List.{length-map, length-set, length-take-le, length_push, map-append, map_push}
-pub use Rattle.std.proofs.lemmas.List.{places, same_lists, take-append-drop, take-set, take-set-le, take_all, take_more}
+pub use Rattle.std.proofs.lemmas.List.{places, same_lists, take-append-drop, take-set, take-set-le, take_more}
 pub use Rattle.std.proofs.lemmas.List.{with_items_is}
 pub use Rattle.std.proofs.lemmas.List.Elements.{All-filter, All-from_recursion, filter-append, filter_agree}
 pub use Rattle.std.proofs.lemmas.List.Elements.{recursion_from_All}
