@@ -1,6 +1,6 @@
 -- A block's run between two items, and how it goes on.
-use Rattle.conn_scan.proofs.Terms.{◌≡◌, ℕ, ◌+◌, ◌-◌, ◌*◌, ◌^◌, ◌≤◌, Bool, List, [], ◌∷◌, ◌++◌, append_assoc, length}
-use Rattle.conn_scan.proofs.Terms.{map, All, Option, Some, None, refl, sym, ap, ◌∙◌, subst, arith, length-append}
+use Rattle.conn_scan.proofs.Terms.{◌≡◌, ℕ, ◌+◌, ◌-◌, ◌^◌, ◌≤◌, Bool, List, [], ◌∷◌, ◌++◌, append_assoc, length, map}
+use Rattle.conn_scan.proofs.Terms.{All, Option, Some, None, refl, sym, ap, ◌∙◌, subst, arith, length-append}
 use Rattle.conn_scan.proofs.Terms.{AllByRecursion, ConnectionState, Finding, Frame, Change, Item, connection_said}
 use Rattle.conn_scan.proofs.Terms.{connection_after, block_run, in_order, is_shown, shown, IsOrderlyFrom, Watches}
 use Rattle.conn_scan.proofs.Terms.{IsStopped, NeverFallFrom, append_nil, Block, items_with, items_in, IsBlock}
@@ -10,7 +10,7 @@ use Rattle.audit_terms.specs.Place.{place_number}
 use Rattle.audit_terms.proofs.SaidPlaces.{IsBelow, before-front, IsFrom, at-connection, numbered-at}
 use Rattle.std.proofs.lemmas.List.Elements.{All-from_recursion, filter-append}
 use Rattle.audit_terms.specs.declared.looks.Watch.{Watch}
-use Rattle.audit_terms.specs.code.runs.Look.{found_before, up_to, steps_between, IsRun}
+use Rattle.audit_terms.specs.code.runs.Look.{found_before, up_to, IsRun}
 use Rattle.audit_terms.proofs.Watching.{ends, is-cut}
 
 -- ---- at which frames the findings of items stand
@@ -122,12 +122,6 @@ module _ {L : Type 0} (answers : L → List Finding → Option ℕ → L → Typ
     (numbers : List ℕ) (whole : List Finding) where
   module _ (now : L) (found : List Finding) (state : ConnectionState) (item : Item) (left : List Item) (watch : Watch)
       (h : Halfway answers before now credits numbers whole found state (item ∷ left) watch) where
-    pub is-due : (met : ℕ) × (met ≤ item.frame.number) × (met + watch.left ≡ steps_between * watch.looks)
-    is-due =
-        let few = h.few in
-        let first = h.orderly.0 in
-        (length h.met, omega arith, h.watches.due)
-
     pub is-found : found ≡ found_before item.frame.number whole
     is-found =
         sym (ap (found_before item.frame.number) h.said
@@ -198,6 +192,3 @@ module _ {L : Type 0} (answers : L → List Finding → Option ℕ → L → Typ
         let met = sym (append_nil h.met) ∙ h.all in
         rw all (subst (λ at. IsRun answers before now at whole whole None watch.stop watch.looks) met
         (ends answers before whole now h.met watch h.watches))
-
-    pub whole-numbered : All (λ (one : Finding). place_number one.place ≤ 2 ^ 28 - 2) found
-    whole-numbered = numbered h.low found h.narrow h.below

@@ -1,12 +1,11 @@
 -- What is known of quiet streams as rows are added, as streams meet frames, and after the last one.
 use Rattle.split_merge.proofs.Terms.{◌≡◌, ◌≢◌, ℕ, zero, suc, ◌+◌, ◌<◌, ◌≤◌, ◌⊎◌, inl, inr, Bool, true, List, [], ◌∷◌}
-use Rattle.split_merge.proofs.Terms.{◌++◌, length, get_or, slice_get, set, drop, filter, Some, refl, sym, ap, ◌∙◌}
-use Rattle.split_merge.proofs.Terms.{arith, All, drop_more, length-set, get_or-set_same, get_or-set_other}
-use Rattle.split_merge.proofs.Terms.{get_or_append_left, get_or_at, length_push, slice_get-get_or}
-use Rattle.split_merge.proofs.Terms.{get_or_from_slice_get, slice_get_within, cases_lt, nat_tests, Frame, Change}
-use Rattle.split_merge.proofs.Terms.{promised_by, meets, IsInRange, frames_of, QuietStream, NotAmong, AreDistinct}
-use Rattle.split_merge.proofs.Terms.{with_next, AreAhead, ◌^◌, All-filter, cases_eq, is_ack, IsOrderly, IsOrderlyFrom}
-use Rattle.split_merge.proofs.Terms.{IsHushed}
+use Rattle.split_merge.proofs.Terms.{◌++◌, length, get_or, slice_get, set, drop, filter, Some, refl, sym, ◌∙◌, arith}
+use Rattle.split_merge.proofs.Terms.{All, drop_more, length-set, get_or-set_same, get_or-set_other, get_or_append_left}
+use Rattle.split_merge.proofs.Terms.{get_or_at, length_push, slice_get-get_or, get_or_from_slice_get, slice_get_within}
+use Rattle.split_merge.proofs.Terms.{cases_lt, nat_tests, Frame, Change, promised_by, meets, IsInRange, frames_of}
+use Rattle.split_merge.proofs.Terms.{QuietStream, NotAmong, AreDistinct, with_next, AreAhead, ◌^◌, All-filter, cases_eq}
+use Rattle.split_merge.proofs.Terms.{is_ack, IsOrderly, IsOrderlyFrom, IsHushed}
 use Rattle.settings_pair.specs.code.Changes.{AreOrderly, AreAcknowledged}
 use Rattle.stream_credit.specs.code.QuietStream.{IsAheadIfQuiet}
 use Rattle.split_merge.proofs.Visited.{above-at, not_among-at, not_among-front, not_among-push, one_index}
@@ -140,14 +139,14 @@ module _ (changes : List Change) (all : List Frame) where
     } where
       last : (s : ℕ) → slice_get (streams ++ stream ∷ []) (length quiets) ≡ Some s → stream ≡ s
       last s at =
-          sym (get_or_at streams stream [] 0 (length quiets) (sym h.long))
-          ∙ get_or_from_slice_get (streams ++ stream ∷ []) (length quiets) s 0 at
+          let is = get_or_from_slice_get (streams ++ stream ∷ []) (length quiets) s 0 at in
+          let long = h.long in grind (arith, get_or_at)
 
       front : (r s : ℕ) → r < length streams → slice_get (streams ++ stream ∷ []) r ≡ Some s
           → slice_get streams r ≡ Some s
       front r s l at =
-          slice_get-get_or streams r 0 l ∙ ap Some (sym (get_or_append_left streams (stream ∷ []) 0 r l)
-          ∙ get_or_from_slice_get (streams ++ stream ∷ []) r s 0 at)
+          let is = get_or_from_slice_get (streams ++ stream ∷ []) r s 0 at in
+          grind (arith, slice_get-get_or streams r 0 l, get_or_append_left)
 
     -- a stream meets its next frame
     module _ (frame : Frame) (row : ℕ) (h : AreAhead changes all (with_next stream frame rest) streams quiets)

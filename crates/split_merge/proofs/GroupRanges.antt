@@ -1,27 +1,22 @@
 -- Groups are consecutive, so what they hold, joined, is all there is.
-use Rattle.split_merge.proofs.Terms.{◌≡◌, ℕ, zero, suc, ◌+◌, ◌*◌, ◌<◌, ◌≤◌, List, [], ◌∷◌, ◌++◌, length, drop, refl}
-use Rattle.split_merge.proofs.Terms.{sym, ap, ◌∙◌, subst, arith, between, flat_map, drop_all, ◌/◌, min, map}
+use Rattle.split_merge.proofs.Terms.{mul-div_cancel, ◌≡◌, ℕ, zero, suc, ◌+◌, ◌*◌, ◌<◌, ◌≤◌, List, [], ◌∷◌, ◌++◌, length}
+use Rattle.split_merge.proofs.Terms.{drop, refl, sym, ap, ◌∙◌, subst, arith, between, flat_map, drop_all, ◌/◌, min, map}
 use Rattle.split_merge.proofs.Terms.{range_with_len}
 use Rattle.std.proofs.lemmas.List.Folds.{drop_split}
-use Rattle.std.proofs.lemmas.Nat.{div-mul-add, div-add-mod', le-div, mul-le}
+use Rattle.std.proofs.lemmas.Nat.{div-add-mod', le-div}
 use Rattle.std.proofs.Math.Nat.{mul_comm}
 use Rattle.split_merge.specs.code.Groups.{group_at, groups, AreConsecutive}
 
 whole : (count k : ℕ) → 0 < k → k * count / k ≡ count
-whole count k h =
-    let e : k * count ≡ count * k + 0 = omega (arith, mul_comm k count) in
-    ap (λ n. n / k) e ∙ div-mul-add count k 0 h
+whole count k h = rw (mul_comm k count) (mul-div_cancel count h)
 
 first : (count k : ℕ) → 0 < k → 0 * count / k ≡ 0
-first count k h =
-    let e : 0 * count ≡ 0 * k + 0 = omega arith in
-    ap (λ n. n / k) e ∙ div-mul-add 0 k 0 h
+first count k h = let e : 0 * count ≡ 0 * k = omega arith in rw e (mul-div_cancel 0 h)
 
 rising : (count k g : ℕ) → 0 < k → g * count / k ≤ (g + 1) * count / k
 rising count k g h =
     let part = div-add-mod' (g * count) k in
-    let more = mul-le g count (g + 1) count (omega arith) (omega arith) in
-    le-div (g * count / k) ((g + 1) * count) k h (omega (arith, part, more))
+    le-div (g * count / k) ((g + 1) * count) k h (omega (arith, part))
 
 consecutive-from : (count k g m : ℕ) → 0 < k → g + m ≡ k →
     AreConsecutive (g * count / k) count (map (group_at count k) (range_with_len g m))

@@ -1,11 +1,11 @@
 -- The loud streams among all: which they are, where they stand, what they count, and what is noted of them.
 use Rattle.split_merge.proofs.Terms.{All, AllByRecursion, All-from_recursion, recursion_from_All, ◌≡◌, ◌≢◌, ℕ, zero}
-use Rattle.split_merge.proofs.Terms.{suc, ◌+◌, ◌-◌, ◌<◌, ◌≤◌, ◌==◌, not, Bool, true, if◌then◌else◌, List, [], ◌∷◌, ◌++◌}
-use Rattle.split_merge.proofs.Terms.{length, get_or, slice_get, drop, filter, flat_map, Option, Some, MatchOption}
-use Rattle.split_merge.proofs.Terms.{option_to_list, refl, ◌∙◌, arith, append_assoc, nat_tests, drop_more}
-use Rattle.split_merge.proofs.Terms.{get_or_from_slice_get, slice_get_within, QuietStream, Visited, streams_in, noted}
-use Rattle.split_merge.proofs.Terms.{noted_positions, total_of, is_among, NotAmong, AreDistinct, loud_of, places_from}
-use Rattle.split_merge.proofs.Terms.{opened_in, quiet_in, heard, ArePlaces}
+use Rattle.split_merge.proofs.Terms.{suc, ◌+◌, ◌-◌, ◌<◌, ◌≤◌, ◌==◌, not, Bool, true, if◌then◌else◌, List, [], ◌∷◌}
+use Rattle.split_merge.proofs.Terms.{length, get_or, slice_get, filter, flat_map, Option, Some, MatchOption}
+use Rattle.split_merge.proofs.Terms.{option_to_list, refl, ◌∙◌, arith, nat_tests, get_or_from_slice_get}
+use Rattle.split_merge.proofs.Terms.{slice_get_within, QuietStream, Visited, streams_in, noted, noted_positions}
+use Rattle.split_merge.proofs.Terms.{total_of, is_among, NotAmong, AreDistinct, loud_of, places_from, opened_in}
+use Rattle.split_merge.proofs.Terms.{quiet_in, heard, ArePlaces}
 use Rattle.stream_credit.specs.code.QuietStream.{opened_of}
 use Rattle.split_merge.proofs.Visited.{none_among, found_among, not_among-at}
 
@@ -42,33 +42,6 @@ loud-all P (row ∷ rows) (quiet ∷ quiets) h = grind (arith, loud-all P rows q
 pub loud-each : (P : Visited → Type 0) (rows : List Visited) (quiets : List QuietStream) → All P rows
     → All P (loud_of rows quiets)
 loud-each P rows quiets h = All-from_recursion P _ (loud-all P rows quiets (recursion_from_All P rows h))
-
--- ---- one row more
-
-loud-first : (row : Visited) (rows : List Visited) (quiet : QuietStream) (quiets : List QuietStream) →
-    loud_of (row ∷ rows) (quiet ∷ quiets) ≡ loud_of (row ∷ []) (quiet ∷ []) ++ loud_of rows quiets
-loud-first row rows quiet quiets = grind arith
-
-opened-first : (quiet : QuietStream) (quiets : List QuietStream) →
-    opened_in (quiet ∷ quiets) ≡ opened_in (quiet ∷ []) ++ opened_in quiets
-opened-first quiet quiets = grind (arith, append_assoc)
-
-module _ (rows : List Visited) (quiets : List QuietStream) (i : ℕ) (l : i < length rows) (m : i < length quiets)
-    (row : Visited) (quiet : QuietStream) (is_row : row ≡ get_or rows i row) (is_quiet : quiet ≡ get_or quiets i quiet)
-  where
-    pub rows-more : (before after : List Visited)
-        → before ++ loud_of (drop i rows) (drop i quiets) ≡ loud_of rows quiets
-        → after ≡ before ++ loud_of (row ∷ []) (quiet ∷ [])
-        → after ++ loud_of (drop (i + 1) rows) (drop (i + 1) quiets) ≡ loud_of rows quiets
-    rows-more before after h is =
-        rw (is, append_assoc, ← loud-first row (drop (i + 1) rows) quiet (drop (i + 1) quiets))
-        (rw (drop_more rows i row l, drop_more quiets i quiet m, ← is_row, ← is_quiet) at h)
-
-    pub opened-more : (before after : List ℕ) → before ++ opened_in (drop i quiets) ≡ opened_in quiets
-        → after ≡ before ++ opened_in (quiet ∷ []) → after ++ opened_in (drop (i + 1) quiets) ≡ opened_in quiets
-    opened-more before after h is =
-        rw (is, append_assoc, ← opened-first quiet (drop (i + 1) quiets))
-        (rw (drop_more quiets i quiet m, ← is_quiet) at h)
 
 -- ---- which of the streams are loud
 

@@ -1,10 +1,10 @@
 -- Where a stream stands among rows: at the front, where streams rise, or behind it, in a table.
-use Rattle.split_merge.proofs.Terms.{◌≡◌, ◌≢◌, ℕ, zero, suc, ◌+◌, ◌-◌, ◌<◌, ◌≤◌, ◌==◌, not, Bool, true, false, List, []}
-use Rattle.split_merge.proofs.Terms.{◌∷◌, ◌++◌, length, get_or, slice_get, take, drop, Some, refl, sym, ap, ◌∙◌, subst}
-use Rattle.split_merge.proofs.Terms.{arith, cases_lt, nat_tests, common_steps, length-take-le, length-append, drop_all}
+use Rattle.split_merge.proofs.Terms.{◌≡◌, ◌≢◌, ℕ, ◌+◌, ◌-◌, ◌<◌, ◌≤◌, ◌==◌, not, Bool, true, false, List, [], ◌∷◌, ◌++◌}
+use Rattle.split_merge.proofs.Terms.{length, get_or, slice_get, take, drop, Some, refl, sym, ap, ◌∙◌, subst, arith}
+use Rattle.split_merge.proofs.Terms.{cases_lt, nat_tests, common_steps, length-take-le, length-append, drop_all}
 use Rattle.split_merge.proofs.Terms.{get_or_append_left, get_or_at, slice_get-get_or, get_or_from_slice_get}
 use Rattle.split_merge.proofs.Terms.{slice_get_within, find, RowIndex, Visited, NotAmong, is_among, streams_in, nat_lt}
-use Rattle.split_merge.proofs.Terms.{⊎_elim, OnTrue_from, get_or-take, get_or-drop, length-drop, drop-append-le}
+use Rattle.split_merge.proofs.Terms.{OnTrue_from, get_or-take, get_or-drop, length-drop, drop-append-le}
 use Rattle.split_merge.proofs.Terms.{position_or_len, AreBelow, IsIndex, IsRowOf, NotBefore}
 use Rattle.std.proofs.lemmas.List.Sums.{position_or_len_is}
 use Rattle.std.specs.Bool.{OnTrue}
@@ -56,10 +56,7 @@ module _ (rows : List Visited) (many : ℕ) (m : many ≤ length rows) where
         let n = length-take-le many rows m in
         let is = front-stream k d w in
         let parted = at (λ a b e le k. ranks_rise _ _ stream (streams-rise a b e le (omega (arith, k, n)))) in
-        ⊎_elim
-        (λ below. let less = parted.0 k d (omega arith) below in grind (arith, common_steps))
-        (λ above. let greater = parted.1 k d above (omega (arith, w, n)) in grind (arith, common_steps))
-        (cases_lt k i)
+        grind (arith, common_steps, parted.0 k d, parted.1 k d, cases_lt k i)
 
 -- all rows rise, and the last is below the stream
 pub all-below : (rows : List Visited) (index : RowIndex) (stream : ℕ) (last : Visited)
@@ -76,12 +73,10 @@ all-below rows index stream last is all at = OnTrue_from (nat_lt last.stream str
 
 absent-in_parts : (many stream : ℕ) (streams : List ℕ) → NotBefore many stream streams
     → NotAmong stream (drop many streams) → NotAmong stream streams
-absent-in_parts zero stream streams h out = out
-absent-in_parts (suc many) stream [] h out = tt
-absent-in_parts (suc many) stream (x ∷ streams) h out = (
-  λ e. h zero (omega arith) (sym e),
-  absent-in_parts many stream streams (λ i l. h (suc i) (omega (arith, l))) out,
-)
+absent-in_parts many stream streams h out = absent-by_index stream streams (λ i l e.
+    let here = get_or-drop many streams (i - many) 0 in
+    let apart = not_among-at stream (drop many streams) (i - many) out in
+    grind (arith, h i, length-drop many streams, cases_lt i many))
 
 module _ (streams : List ℕ) (index : RowIndex) (is : IsIndex streams index) where
   pub behind-front : (place stream : ℕ) → slice_get index.others.keys place ≡ Some stream

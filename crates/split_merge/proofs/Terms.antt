@@ -1,9 +1,9 @@
 -- The names that several proofs of this crate cite, passed on from one place.
 pub use Rattle.std.proofs.Common.{Bool, List, MatchOption, None, Option, Some, [], ap, append_assoc, arith, drop, false}
-pub use Rattle.std.proofs.Common.{filter, flat_map, get_or, if◌then◌else◌, inl, inr, length, map, min, nat_lt, not}
-pub use Rattle.std.proofs.Common.{option_to_list, refl, rules, set, slice_get, subst, suc, sym, take, true, zero, ℕ}
-pub use Rattle.std.proofs.Common.{⊎_elim, ◌&&◌, ◌*◌, ◌++◌, ◌+◌, ◌-◌, ◌/◌, ◌<◌, ◌==◌, ◌^◌, ◌||◌, ◌∙◌, ◌∷◌, ◌≡◌, ◌≢◌, ◌≤◌}
-pub use Rattle.std.proofs.Common.{◌⊎◌}
+pub use Rattle.std.proofs.Common.{filter, flat_map, get_or, if◌then◌else◌, inl, inr, length, map, min, mul-div_cancel}
+pub use Rattle.std.proofs.Common.{nat_lt, not, option_to_list, refl, rules, set, slice_get, subst, suc, sym, take, true}
+pub use Rattle.std.proofs.Common.{zero, ℕ, ◌&&◌, ◌*◌, ◌++◌, ◌+◌, ◌-◌, ◌/◌, ◌<◌, ◌==◌, ◌^◌, ◌||◌, ◌∙◌, ◌∷◌, ◌≡◌, ◌≢◌}
+pub use Rattle.std.proofs.Common.{◌≤◌, ◌⊎◌}
 pub use Rattle.std.proofs.lemmas.Bool.{OnTrue_from, cases_eq, cases_lt, cases_order}
 pub use Rattle.std.proofs.lemmas.Bool.Decides.{nat_tests}
 pub use Rattle.std.proofs.lemmas.Grind.{common_steps, get_or-set_at}
@@ -11,7 +11,7 @@ pub use Rattle.std.proofs.lemmas.List.{append-nil, at_drop_all, drop-append-le, 
 pub use Rattle.std.proofs.lemmas.List.{get_or-drop, get_or-map, get_or-set_other, get_or-set_same, get_or-take}
 pub use Rattle.std.proofs.lemmas.List.{get_or_append_left, get_or_at, get_or_default, length-append, length-drop}
 pub use Rattle.std.proofs.lemmas.List.{length-map, length-set, length-take-le, length_push, map-append, map_push}
-pub use Rattle.std.proofs.lemmas.List.{places, same_lists, take-append-drop, take-set, take-set-le, take_all, take_more}
+pub use Rattle.std.proofs.lemmas.List.{places, same_lists, take-append-drop, take-set, take-set-le, take_more}
 pub use Rattle.std.proofs.lemmas.List.{with_items_is}
 pub use Rattle.std.proofs.lemmas.List.Elements.{All-filter, All-from_recursion, filter-append, filter_agree}
 pub use Rattle.std.proofs.lemmas.List.Elements.{recursion_from_All}

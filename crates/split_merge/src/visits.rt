@@ -91,6 +91,7 @@ impl Visits {
     }
 
     /// Notes that a stream, unless it is 0, meets a frame. `said` is room for what it shows.
+    #[tactic(auto, using(crate::proofs::Visited::row_inside))]
     fn note(
         &mut self,
         said: &mut Vec<Finding>,

@@ -1,7 +1,7 @@
 use Rattle.conn_scan.proofs.Terms.{◌≡◌, ◌^◌, arith, items_in, room-wider, walked}
 use Rattle.conn_scan.proofs.WalkLemmas.{block_walked}
 use Rattle.conn_scan.proofs.Halfway.{fits_next}
-use Rattle.conn_scan.proofs.Halfway.{begins, is-due, goes, stops, stops-numbered, is-whole, whole-numbered}
+use Rattle.conn_scan.proofs.Halfway.{begins, goes, stops, stops-numbered, is-whole}
 use Rattle.conn_scan.proofs.blocks.block_findings.Goals as goal
 
 pub loop-item-init : goal.loop-item-init
@@ -16,9 +16,6 @@ loop-item-init g c =
           c.args.before.now c.begin-watch.result c.requires.block c.begin-watch.ensures;
     })
 
-pub goes_on-requires : goal.goes_on-requires
-goes_on-requires g c = is-due _ _ _ _ _ _ _ _ _ _ _ (rw c.in-Some.ensures.steps at c.loop-item.invariant.halfway)
-
 pub returns-then-not-goes_on-clause-run : goal.returns-then-not-goes_on-clause-run
 returns-then-not-goes_on-clause-run g c =
     stops _ _ _ _ _ _ _ _ _ _ _ (rw c.in-Some.ensures.steps at c.loop-item.invariant.halfway)
@@ -29,9 +26,6 @@ pub returns-then-not-goes_on-clause-numbered : goal.returns-then-not-goes_on-cla
 returns-then-not-goes_on-clause-numbered g c =
     stops-numbered _ _ _ _ _ _ _ _ _ _ _ (rw c.in-Some.ensures.steps at c.loop-item.invariant.halfway)
     c.keep_up_to.new.found.items c.goes_on.new.watch.stop c.keep_up_to.ensures
-
-pub say_item-requires-clause-frame : goal.say_item-requires-clause-frame
-say_item-requires-clause-frame g c = (rw c.in-Some.ensures.steps at c.loop-item.invariant.halfway).orderly.1
 
 pub say_item-requires-clause-client : goal.say_item-requires-clause-client
 say_item-requires-clause-client g c = room-wider _ (2 ^ 60) _ (omega arith) c.loop-item.invariant.fits.client
@@ -52,7 +46,3 @@ loop-item-preserved g c =
 
 pub returns-clause-run : goal.returns-clause-run
 returns-clause-run g c = is-whole _ _ _ _ _ _ _ _ _ (rw c.in-None.ensures.steps.0 at c.loop-item.invariant.halfway)
-
-pub returns-clause-numbered : goal.returns-clause-numbered
-returns-clause-numbered g c =
-    whole-numbered _ _ _ _ _ _ _ _ _ (rw c.in-None.ensures.steps.0 at c.loop-item.invariant.halfway)

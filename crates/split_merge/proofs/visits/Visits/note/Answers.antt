@@ -1,23 +1,16 @@
 use Rattle.split_merge.proofs.Terms.{length, ap, ◌∙◌, arith, length-set, slice_get_within, frames_of, streams_in}
 use Rattle.split_merge.proofs.Terms.{counted, total_of, with_next}
-use Rattle.split_merge.proofs.Visited.{length-streams_in, named-row, noted-listed, streams-counted, total-counted}
+use Rattle.split_merge.proofs.Visited.{row_inside}
+use Rattle.split_merge.proofs.Visited.{named-row, noted-listed, streams-counted, total-counted}
 use Rattle.split_merge.proofs.Visited.{total-row}
 use Rattle.split_merge.proofs.Ahead.{ahead-zero, ahead-next, ahead-met}
 use Rattle.split_merge.proofs.visits.Visits.note.Goals as goal
 
-pub index_mut-requires : goal.index_mut-requires
-index_mut-requires c =
-    let rows = c.row_of.new.self.rows in
-    let l = slice_get_within (streams_in rows.items) c.in_ok-row.row c.args.stream c.in_ok-row.ensures.row in
-    let n = length-streams_in rows.items in
-    omega (arith, l, n, rows.ok.0)
-
 pub count-requires : goal.count-requires
 count-requires c =
     let rows = c.row_of.new.self.rows.items in
-    let l = slice_get_within (streams_in rows) c.in_ok-row.row c.args.stream c.in_ok-row.ensures.row in
-    let n = length-streams_in rows in
-    let low = total-counted rows c.in_ok-row.row c.index_mut.result.now (omega (arith, l, n)) in
+    let l = row_inside rows c.in_ok-row.row c.args.stream c.in_ok-row.ensures.row in
+    let low = total-counted rows c.in_ok-row.row c.index_mut.result.now l in
     let same = ap total_of c.in_ok-row.ensures.rows in
     let total = total-row c.args.stream c.args.self.now.rows.items in
     let is = ap (λ x. x.count) c.index_mut.ensures.value in
@@ -65,9 +58,7 @@ returns c =
             c.if-stream-eq0.false h.listed found.rows found.index.distinct found.row);
       };
       room = λ many h.
-          let l = slice_get_within (streams_in rows) row stream found.row in
-          let n = length-streams_in rows in
-          let more = total-counted rows row c.index_mut.result.now (omega (arith, l, n)) in
+          let more = total-counted rows row c.index_mut.result.now (row_inside rows row stream found.row) in
           let total = total-row stream before in
           let many_now = ap total_of found.rows in
           let long_now = ap length found.rows in

@@ -1,7 +1,7 @@
-use Rattle.split_merge.proofs.Terms.{◌+◌, ◌*◌, ◌++◌, [], drop, take, refl, sym, ◌∙◌, arith, append-nil, take_more}
-use Rattle.split_merge.proofs.Terms.{drop_more, length-take-le, promised_by, first_of, streams_of, IsInRange, frames_of}
-use Rattle.split_merge.proofs.Terms.{streams_in, with_stream, with_next, at_drop_all, take_all}
-use Rattle.split_merge.proofs.Visited.{at-most, without, named-more, named-first}
+use Rattle.split_merge.proofs.Terms.{◌+◌, ◌*◌, [], drop, take, refl, ◌∙◌, arith, take_more, drop_more, length-take-le}
+use Rattle.split_merge.proofs.Terms.{promised_by, first_of, streams_of, IsInRange, frames_of, streams_in, with_stream}
+use Rattle.split_merge.proofs.Terms.{with_next, at_drop_all}
+use Rattle.split_merge.proofs.Visited.{at-most, named-more, named-first}
 use Rattle.split_merge.proofs.Positions.{notes-push}
 use Rattle.split_merge.proofs.Ahead.{ahead-none, ahead-frame, ahead-alike, promised-small, in_range_at}
 use Rattle.split_merge.proofs.visits.Visits.of.Goals as goal
@@ -23,10 +23,6 @@ loop-frame-init c =
       ahead = rw (none, c.new-quiets.ensures.items) (ahead-none c.args.changes.now c.args.frames.now
           c.requires.frames c.requires.changes c.requires.acknowledged);
     }
-
-pub note-requires-clause-room : goal.note-requires-clause-room
-note-requires-clause-room c =
-    at-most c.loop-frame.invariant.room (omega (arith, c.loop-frame-test.true, c.requires.length))
 
 pub note-requires-clause-streamed : goal.note-requires-clause-streamed
 note-requires-clause-streamed c =
@@ -97,21 +93,6 @@ loop-frame-preserved c =
           (first.ahead frames _ (ahead-frame c.args.changes.now frames i frame seen c.loop-frame.table.quiets.items
           within c.frame-item.is was.ahead)));
     }
-
-pub returns-clause-streams : goal.returns-clause-streams
-returns-clause-streams c =
-    let seen = streams_in c.loop-frame.table.rows.items in
-    sym (append-nil seen)
-    ∙ sym (at_drop_all (λ l. seen ++ without seen (streams_of l)) c.args.frames.now c.loop-frame.frame-index
-    c.loop-frame-test.false)
-    ∙ c.loop-frame.invariant.named
-
-pub returns-clause-table : goal.returns-clause-table
-returns-clause-table c =
-    rw (take_all c.loop-frame.frame-index c.args.frames.now c.loop-frame-test.false) at c.loop-frame.invariant.table
-
-pub returns-clause-room : goal.returns-clause-room
-returns-clause-room c = at-most c.loop-frame.invariant.room (omega (arith, c.loop-frame.auto.frame-index-end))
 
 pub returns-clause-ahead : goal.returns-clause-ahead
 returns-clause-ahead c =
