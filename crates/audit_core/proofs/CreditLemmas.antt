@@ -151,7 +151,8 @@ opening-within stream opening low state (frame ∷ frames) h none last =
     (λ _ at. let same : frame.number ≡ opening =
     same_Some frame.number opening (sym (opened-stays stream frame.number (next state frame) frames at) ∙ last) in
     omega (arith, h.0))
-    (λ _ at. let later = opening-within stream opening (frame.number + 1) (next state frame) frames h.2 (at ∙ none) last in
+    (λ _ at.
+    let later = opening-within stream opening (frame.number + 1) (next state frame) frames h.2 (at ∙ none) last in
     omega (arith, h.0))
     (opened-next stream state frame)
 
@@ -185,7 +186,8 @@ module _ (d : Side) (stream low : ℕ) (state : PassState) (frame : Frame) (fram
 
   opening-is_sum : IsSumSince d stream frame.number state (frame ∷ frames) credit
   opening-is_sum =
-      let at : opened_in stream (next state frame) ≡ Some frame.number = opened-next stream state frame ∙ rw here refl in
+      let at : opened_in stream (next state frame) ≡ Some frame.number =
+      opened-next stream state frame ∙ rw here refl in
       cond_both (step_test (is_last_of d stream) (step_of state.in_force frame stream)) None
       (Some (pos (initial_in d state)))
       (λ window. window_in d stream (next state frame) ≡ window
@@ -202,7 +204,8 @@ window-is_sum d stream opening low state [] credit h none opened last = absurd (
 window-is_sum d stream opening low state (frame ∷ frames) credit h none opened last =
     ⊎_elim
     (λ here.
-    let at = opened-stays stream frame.number (next state frame) frames (opened-next stream state frame ∙ rw here refl) in
+    let at = opened-stays stream frame.number (next state frame) frames
+    (opened-next stream state frame ∙ rw here refl) in
     subst (λ first. IsSumSince d stream first state (frame ∷ frames) credit)
     (same_Some frame.number opening (sym at ∙ opened))
     (opening-is_sum d stream low state frame frames credit h here last))

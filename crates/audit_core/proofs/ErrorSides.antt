@@ -44,7 +44,8 @@ module _ (d : Side) (stream : ℕ) (now : InForce) (initial : Sides ℕ) (frame 
   no_amount amount true e = e
   no_amount amount false e = refl
 
-  same_initial : (o : Option Settings) (n : ℕ) → is_side d frame.side ≡ false → new_initial (change_taking frame o) d n ≡ n
+  same_initial : (o : Option Settings) (n : ℕ) → is_side d frame.side ≡ false →
+      new_initial (change_taking frame o) d n ≡ n
   same_initial None n e = refl
   same_initial (Some settings) n e = rw e refl
 

@@ -33,11 +33,15 @@ no-change (Some change) h = absurd (h refl)
 -- ---- one more change among some steps
 
 module _ (change : Change) where
-  rising-with : (steps : List Step) → AreRising (step_numbers steps) → AreRising (step_numbers (with_change steps change))
+  rising-with : (steps : List Step) → AreRising (step_numbers steps)
+      → AreRising (step_numbers (with_change steps change))
   rising-with [] h = (tt, tt)
   rising-with (step ∷ steps) h =
       with_change-cases (λ l. AreRising (step_numbers l)) change step steps (λ e. h)
-      (λ e. ((e, all-map (λ n. step.number < n) (λ n. change.number < n) (λ n q. omega arith) (step_numbers steps) h.0), h))
+      (λ e. (
+        (e, all-map (λ n. step.number < n) (λ n. change.number < n) (λ n q. omega arith) (step_numbers steps) h.0),
+        h,
+      ))
       (λ e. (above e, rising-with steps h.1)) where
         above : step.number < change.number →
             AllByRecursion (λ n. step.number < n) (step_numbers (with_change steps change))

@@ -95,7 +95,8 @@ Sending d stream entry =
     IsSending d stream (side_of d entry.life.ended) (is_some entry.life.opened) (side_of d entry.window)
 
 module _ (stream : ℕ) (initial : Sides ℕ) (number : ℕ) (change : Option Change) (entry : Stream) where
-  sending-met : (d : Side) (frame : Frame) → Sending d stream entry → (b : Bool) → is_opening stream entry.life frame ≡ b
+  sending-met : (d : Side) (frame : Frame) → Sending d stream entry → (b : Bool)
+      → is_opening stream entry.life frame ≡ b
       → IsSending d stream
       (side_of d entry.life.ended || ((b || is_some entry.life.opened) && is_last_of d stream frame))
       (is_some (if b then Some frame.number else entry.life.opened))

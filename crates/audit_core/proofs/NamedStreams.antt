@@ -53,7 +53,8 @@ module _ (stream : ℕ) (seen later : List ℕ) where
       ++ without seen (first_of stream later)
   named-more = by_tests _ _ refl refl where
     by_tests : (a b : Bool) → (stream == 0) ≡ a → is_among stream seen ≡ b →
-        with_stream stream seen ++ without (with_stream stream seen) later ≡ seen ++ without seen (first_of stream later)
+        with_stream stream seen ++ without (with_stream stream seen) later
+        ≡ seen ++ without seen (first_of stream later)
     by_tests true b z h = rw z refl
     by_tests false true z h =
         simp (z, h) (ap (λ l. seen ++ l) (sym (left-over _ (λ x. seen-test x h _ refl))))

@@ -1,7 +1,7 @@
 -- The rows and the changes that a pass keeps, beside its state, and what is said at a frame.
 use Rattle.std.proofs.Common.{◌≡◌, ℕ, pos, ◌^◌, ◌<◌, ◌≤◌, ◌%◌, Bool, true, false, not, ◌==◌, ◌&&◌, ◌||◌, List, [], ◌∷◌}
 use Rattle.std.proofs.Common.{◌++◌, length, map, get_or, Option, is_none, refl, sym, ap, ◌∙◌, subst, append_assoc, ◌+◌}
-use Rattle.std.proofs.Common.{if◌then◌else◌, Some, None, is_some, drop, arith}
+use Rattle.std.proofs.Common.{if◌then◌else◌, Some, None, is_some, drop, arith, ℤ, ◌*◌}
 use Rattle.std.proofs.lemmas.List.Elements.{All-nil, All-cons}
 use Rattle.std.proofs.lemmas.Bool.{and_right}
 use Rattle.std.proofs.lemmas.Simd.{map-map}
@@ -13,10 +13,10 @@ use Rattle.audit_core.proofs.Words.{settings_said, connection_said, is_opening, 
 use Rattle.audit_core.proofs.Words.{said, streams_of, streams_said, item_of, opens_stream, step_of, room-wider}
 use Rattle.audit_core.proofs.Words.{StreamRow, rows_in, idle_rows, row_opens, row_said, row_after, RowFits}
 use Rattle.audit_core.proofs.Words.{option_to_list, Settings, changes_from, IsOrderlyFrom, IsAcknowledged, opens}
-use Rattle.audit_core.proofs.Words.{AllByRecursion}
+use Rattle.audit_core.proofs.Words.{AllByRecursion, All-weaker, HasRoom, IsOrderly}
 use Rattle.audit_core.proofs.PassOrder.{rows_of, AreStreams}
 use Rattle.audit_core.proofs.StreamsMet.{streams_met_lem}
-use Rattle.audit_core.proofs.OrderlyRest.{drop-at}
+use Rattle.audit_core.proofs.OrderlyRest.{drop-at, length-orderly}
 use Rattle.audit_core.proofs.StreamSteps.{differ_test, differ_test_back, same_test, all-change_numbers}
 use Rattle.audit_core.proofs.ErrorSides.{change-ack}
 
@@ -26,7 +26,8 @@ use Rattle.audit_core.proofs.ErrorSides.{change-ack}
 abbrev pub is_at : ℕ → Change → Bool
 is_at number change = change.number == number
 
-none-later : (number : ℕ) (changes : List Change) → AllByRecursion (λ (change : Change). number + 1 ≤ change.number) changes →
+none-later : (number : ℕ) (changes : List Change) →
+    AllByRecursion (λ (change : Change). number + 1 ≤ change.number) changes →
     find (is_at number) changes ≡ None
 none-later number [] h = refl
 none-later number (change ∷ changes) h =
@@ -44,7 +45,8 @@ module _ (now : InForce) (frame : Frame) (later : List Frame) where
         → find (is_at frame.number) (option_to_list (change_taking frame o) ++ rest) ≡ change_taking frame o
     by_taken None =
         none-later frame.number rest
-        (all-change_numbers (λ n. frame.number + 1 ≤ n) (frame.number + 1) (in_force_after now frame) later (λ m l. l) h)
+        (all-change_numbers (λ n. frame.number + 1 ≤ n) (frame.number + 1) (in_force_after now frame) later
+        (λ m l. l) h)
     by_taken (Some settings) = rw (same_test frame.number) refl
 
   -- a change past the frame is one of the later frames
@@ -99,6 +101,18 @@ fits-wider bound more l row h = record {
   client = λ credit e. room-wider bound more credit l (h.client credit e);
   server = λ credit e. room-wider bound more credit l (h.server credit e);
 }
+
+-- what counted some of a connection's frames has room for one more
+module _ (frames : List Frame) (i : ℕ) (h : IsOrderly frames) (within : i < length frames) where
+  few : 2 ^ 17 + i * 2 ^ 32 ≤ 2 ^ 60
+  few = let k = length-orderly 0 frames (omega arith) h in omega arith
+
+  pub room-here : (credit : ℤ) → HasRoom (2 ^ 17 + i * 2 ^ 32) credit → HasRoom (2 ^ 60) credit
+  room-here credit room = room-wider (2 ^ 17 + i * 2 ^ 32) (2 ^ 60) credit few room
+
+  pub rows-here : (rows : List StreamRow) → All (RowFits (2 ^ 17 + i * 2 ^ 32)) rows → All (RowFits (2 ^ 60)) rows
+  rows-here rows =
+      All-weaker (RowFits (2 ^ 17 + i * 2 ^ 32)) (RowFits (2 ^ 60)) (fits-wider (2 ^ 17 + i * 2 ^ 32) (2 ^ 60) few) rows
 
 -- rows of streams that are not opened have room
 pub idle_rows-fit : (bound : ℕ) (streams : List ℕ) → AreStreams streams → All (RowFits bound) (idle_rows streams)

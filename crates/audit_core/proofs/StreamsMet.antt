@@ -18,9 +18,11 @@ module _ (stream : ℕ) where
 
   names-first : (first : ℕ) (streams : List ℕ) → NamesFirst first streams
   names-first first streams = by_tests _ _ refl refl where
-    still-named : (first == stream) ≡ false → is_named (filter (λ other. not (other == first)) streams) ≡ is_named streams
+    still-named : (first == stream) ≡ false →
+        is_named (filter (λ other. not (other == first)) streams) ≡ is_named streams
     still-named e = any-filter_same (λ other. other == stream) (λ other. not (other == first)) true
-        (λ other q. rw (eqb-true other stream q, ne_eqb stream first (λ p. eqb-false first stream e (sym p))) refl) streams
+        (λ other q. rw (eqb-true other stream q, ne_eqb stream first (λ p. eqb-false first stream e (sym p))) refl)
+        streams
 
     by_tests : (zero same : Bool) → (first == 0) ≡ zero → (first == stream) ≡ same → NamesFirst first streams
     by_tests true true z e = rw (← eqb-true first stream e, z) refl
