@@ -1,6 +1,6 @@
 -- The streams that frames name, gathered one by one.
 use Rattle.std.proofs.Common.{◌≡◌, ℕ, Bool, true, false, not, ◌==◌, ◌||◌, ◌&&◌, if◌then◌else◌, List, [], ◌∷◌, ◌++◌}
-use Rattle.std.proofs.Common.{filter, refl, sym, ap, ◌∙◌, append_assoc}
+use Rattle.std.proofs.Common.{filter, refl, sym, ap, ◌∙◌, append_assoc, arith}
 use Rattle.std.proofs.lemmas.List.Elements.{filter_agree}
 use Rattle.audit_core.proofs.Words.{eqb-true, first_of, other, and-false, and-true, or_assoc, or-false}
 
@@ -19,12 +19,7 @@ without seen streams = filter (λ stream. not (is_among stream seen)) streams
 
 filter-filter : (p q : ℕ → Bool) (xs : List ℕ) → filter p (filter q xs) ≡ filter (λ x. q x && p x) xs
 filter-filter p q [] = refl
-filter-filter p q (x ∷ xs) = by_tests _ _ refl refl (filter-filter p q xs) where
-  by_tests : (a b : Bool) → q x ≡ a → p x ≡ b → filter p (filter q xs) ≡ filter (λ y. q y && p y) xs →
-      filter p (filter q (x ∷ xs)) ≡ filter (λ y. q y && p y) (x ∷ xs)
-  by_tests true true e f ih = simp (e, f) (ap (λ l. x ∷ l) ih)
-  by_tests true false e f ih = simp (e, f) ih
-  by_tests false b e f ih = simp e ih
+filter-filter p q (x ∷ xs) = grind (arith, filter-filter p q xs)
 
 among-append : (q s : ℕ) (seen : List ℕ) → is_among q (seen ++ s ∷ []) ≡ (is_among q seen || (q == s))
 among-append q s [] = or-false (q == s)
