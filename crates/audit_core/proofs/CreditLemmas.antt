@@ -3,13 +3,12 @@ use Rattle.std.proofs.Common.{◌≡◌, ℕ, ℤ, pos, ◌+◌, ◌+ℤ◌, ◌
 use Rattle.std.proofs.Common.{sum_by, Option, Some, None, refl, sym, ap, ◌∙◌, arith, subst, ⊎_elim}
 use Rattle.std.proofs.lemmas.List.Sums.{sum_by-cons}
 use Rattle.std.proofs.lemmas.Option.{same_Some, none-some}
-use Rattle.audit_core.proofs.Words.{option_map_or, ints, Side, Client, Server, Frame, Step, Stream, side_of, content_by}
-use Rattle.audit_core.proofs.Words.{grant_to, IsOrderlyFrom, is_opening, is_last_of, first_window, new_initial}
-use Rattle.audit_core.proofs.Words.{change_of, credit_after, step_test, opens, window_after, window_at_opening, counted}
-use Rattle.audit_core.proofs.Words.{window_ends, PassState, pass_start, step_of, next, state_from}
-use Rattle.audit_core.proofs.Words.{ConnectionCreditIsSum, StreamCreditIsSum, content_on, since, stream_credit_sum}
-use Rattle.audit_core.proofs.Words.{and-false, cond_both, cases_Bool, le-leb, lt-leb}
-use Rattle.audit_core.proofs.Meetings.{no-choice, step-grant, step-content, step-opening, step-opened}
+use Rattle.audit_core.proofs.Words.{ints, Side, Client, Server, Frame, Step, Stream, side_of, content_by, grant_to}
+use Rattle.audit_core.proofs.Words.{IsOrderlyFrom, is_last_of, first_window, new_initial, change_of, credit_after}
+use Rattle.audit_core.proofs.Words.{step_test, opens, window_after, window_at_opening, counted, window_ends, PassState}
+use Rattle.audit_core.proofs.Words.{pass_start, step_of, next, state_from, ConnectionCreditIsSum, StreamCreditIsSum}
+use Rattle.audit_core.proofs.Words.{content_on, since, stream_credit_sum, cond_both, cases_Bool, lt-leb, nat_tests}
+use Rattle.audit_core.proofs.Meetings.{step-grant, step-content, step-opening, step-opened}
 
 -- ---- the connection
 
@@ -66,10 +65,7 @@ initial-next Server state frame = refl
 -- an opened stream is not opened again
 opened-once : (stream opening : ℕ) (entry : Stream) (step : Step) → entry.life.opened ≡ Some opening
     → opens stream entry step ≡ false
-opened-once stream opening entry step e = by_frame step.frame where
-  by_frame : (o : Option Frame) → option_map_or (is_opening stream entry.life) o false ≡ false
-  by_frame None = refl
-  by_frame (Some frame) = rw e refl
+opened-once stream opening entry step e = grind arith
 
 -- ---- a stream that is opened
 
@@ -138,8 +134,8 @@ since-all : (opening low : ℕ) (frames : List Frame) → opening ≤ low → Is
     → since opening frames ≡ frames
 since-all opening low [] below h = refl
 since-all opening low (frame ∷ frames) below h =
-    rw (le-leb opening frame.number (omega (arith, h.0)))
-    (ap (λ rest. frame ∷ rest) (since-all opening (frame.number + 1) frames (omega (arith, h.0)) h.2))
+    let rest = since-all opening (frame.number + 1) frames (omega (arith, h.0)) h.2 in
+    grind (arith, nat_tests, h.0)
 
 -- a stream that is opened among some frames is opened by one of them
 opening-within : (stream opening low : ℕ) (state : PassState) (frames : List Frame) → IsOrderlyFrom low frames
@@ -151,7 +147,8 @@ opening-within stream opening low state (frame ∷ frames) h none last =
     (λ _ at. let same : frame.number ≡ opening =
     same_Some frame.number opening (sym (opened-stays stream frame.number (next state frame) frames at) ∙ last) in
     omega (arith, h.0))
-    (λ _ at. let later = opening-within stream opening (frame.number + 1) (next state frame) frames h.2 (at ∙ none) last in
+    (λ _ at.
+    let later = opening-within stream opening (frame.number + 1) (next state frame) frames h.2 (at ∙ none) last in
     omega (arith, h.0))
     (opened-next stream state frame)
 
@@ -171,8 +168,8 @@ module _ (d : Side) (stream low : ℕ) (state : PassState) (frame : Frame) (fram
       let nothing = step-opening stream state.in_force frame (state.streams stream) here in
       let counts = window-counts d stream frame.number (next state frame) frames _ credit at live last in
       let change : change_of state.in_force frame ≡ None = rw nothing.ack refl in
-      let grant : grant_to d stream frame ≡ 0 = rw nothing.grants (no-choice _ 0) in
-      let content : content_on d stream frame ≡ 0 = rw (nothing.content, and-false) (no-choice _ 0) in
+      let grant : grant_to d stream frame ≡ 0 = grind (arith, nothing.grants) in
+      let content : content_on d stream frame ≡ 0 = grind (arith, nothing.content) in
       let unchanged : initial_in d (next state frame) ≡ initial_in d state =
       initial-next d state frame ∙ ap (λ change. new_initial change d (initial_in d state)) change in
       rw (since-all frame.number frame.number (frame ∷ frames) (omega arith) (omega arith, h.1, h.2))
@@ -185,7 +182,8 @@ module _ (d : Side) (stream low : ℕ) (state : PassState) (frame : Frame) (fram
 
   opening-is_sum : IsSumSince d stream frame.number state (frame ∷ frames) credit
   opening-is_sum =
-      let at : opened_in stream (next state frame) ≡ Some frame.number = opened-next stream state frame ∙ rw here refl in
+      let at : opened_in stream (next state frame) ≡ Some frame.number =
+      opened-next stream state frame ∙ rw here refl in
       cond_both (step_test (is_last_of d stream) (step_of state.in_force frame stream)) None
       (Some (pos (initial_in d state)))
       (λ window. window_in d stream (next state frame) ≡ window
@@ -202,7 +200,8 @@ window-is_sum d stream opening low state [] credit h none opened last = absurd (
 window-is_sum d stream opening low state (frame ∷ frames) credit h none opened last =
     ⊎_elim
     (λ here.
-    let at = opened-stays stream frame.number (next state frame) frames (opened-next stream state frame ∙ rw here refl) in
+    let at = opened-stays stream frame.number (next state frame) frames
+    (opened-next stream state frame ∙ rw here refl) in
     subst (λ first. IsSumSince d stream first state (frame ∷ frames) credit)
     (same_Some frame.number opening (sym at ∙ opened))
     (opening-is_sum d stream low state frame frames credit h here last))

@@ -201,7 +201,8 @@ module _ (state : PassState) (frame : Frame) where
         rising = omega arith;
         within = all-append (IsRow frame.side on 21 36) _ _ one.within others.within;
         apart = pairs-append AreApart _ _ one.apart others.apart
-            (across-by AreApart (IsRow frame.side (Only stream) 21 36) (IsRow frame.side (λ other. stream ≢ other) 21 36)
+            (across-by AreApart (IsRow frame.side (Only stream) 21 36)
+            (IsRow frame.side (λ other. stream ≢ other) 21 36)
             (λ x y p q e s. q.stream (sym p.stream ∙ ap place_stream e)) _ _ (rows-one (Only stream) refl).within
             (rows-streams (λ other. stream ≢ other) streams h.1 d.1 d.0).within);
       } where

@@ -1,11 +1,11 @@
 -- The steps of some frames and some changes are these frames and these changes, joined.
-use Rattle.std.proofs.Common.{◌≡◌, Bool, List, None, Option, Some, [], ap, arith, false, is_some, map, refl, sym, true}
-use Rattle.std.proofs.Common.{ℕ, ◌++◌, ◌+◌, ◌<◌, ◌||◌, ◌∙◌, ◌∷◌, ◌≤◌}
+use Rattle.std.proofs.Common.{◌≡◌, List, None, Option, Some, [], ap, arith, is_some, map, refl, sym, true, ℕ, ◌++◌, ◌+◌}
+use Rattle.std.proofs.Common.{◌<◌, ◌∙◌, ◌∷◌, ◌≤◌}
 use Rattle.audit_core.proofs.Words.{flat_map, option_to_list, AllByRecursion, map-map, meets, InForce, taken}
 use Rattle.audit_core.proofs.Words.{change_taking, in_force_after, initial_in_force, changes_from, changes_of}
 use Rattle.audit_core.proofs.Words.{IsOrderlyFrom, frame_step, with_change, steps_of, frames_of, Frame, Change, Step}
 use Rattle.audit_core.proofs.Words.{Settings, EachPair, StreamsHaveSteps, AreRising, IsFilled}
-use Rattle.audit_core.proofs.Words.{StepsJoinFramesAndChanges}
+use Rattle.audit_core.proofs.Words.{StepsJoinFramesAndChanges, or-true, nat_tests}
 use Rattle.audit_core.proofs.Pairs.{all-before_map, all-map, pairs-mapped, pairs-filter, all-mapped}
 use Rattle.audit_core.proofs.StreamSteps.{with_change-cases, all-with, all-steps, all-numbers, all-change_numbers}
 
@@ -22,22 +22,21 @@ changes_in steps = flat_map (λ (step : Step). option_to_list step.change) steps
 abbrev IsChangedAbove : (number : ℕ) → Step → Type 0
 IsChangedAbove number step = is_some step.change ≡ true → number < step.number
 
-or-true : (b : Bool) → (b || true) ≡ true
-or-true true = refl
-or-true false = refl
-
 no-change : (o : Option Change) → (is_some o ≡ true → ⊥) → option_to_list o ≡ []
-no-change None h = refl
-no-change (Some change) h = absurd (h refl)
+no-change o h = grind arith
 
 -- ---- one more change among some steps
 
 module _ (change : Change) where
-  rising-with : (steps : List Step) → AreRising (step_numbers steps) → AreRising (step_numbers (with_change steps change))
+  rising-with : (steps : List Step) → AreRising (step_numbers steps)
+      → AreRising (step_numbers (with_change steps change))
   rising-with [] h = (tt, tt)
   rising-with (step ∷ steps) h =
       with_change-cases (λ l. AreRising (step_numbers l)) change step steps (λ e. h)
-      (λ e. ((e, all-map (λ n. step.number < n) (λ n. change.number < n) (λ n q. omega arith) (step_numbers steps) h.0), h))
+      (λ e. (
+        (e, all-map (λ n. step.number < n) (λ n. change.number < n) (λ n q. omega arith) (step_numbers steps) h.0),
+        h,
+      ))
       (λ e. (above e, rising-with steps h.1)) where
         above : step.number < change.number →
             AllByRecursion (λ n. step.number < n) (step_numbers (with_change steps change))
@@ -48,9 +47,7 @@ module _ (change : Change) where
 
   frames-with : (steps : List Step) → frames_in (with_change steps change) ≡ frames_in steps
   frames-with [] = refl
-  frames-with (step ∷ steps) =
-      with_change-cases (λ l. frames_in l ≡ frames_in (step ∷ steps)) change step steps (λ e. refl) (λ e. refl)
-      (λ e. ap (λ l. option_to_list step.frame ++ l) (frames-with steps))
+  frames-with (step ∷ steps) = grind (arith, nat_tests, frames-with steps)
 
   changes-with : (steps : List Step) → AllByRecursion (IsChangedAbove change.number) steps
       → changes_in (with_change steps change) ≡ change ∷ changes_in steps

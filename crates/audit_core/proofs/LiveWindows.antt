@@ -1,12 +1,12 @@
 -- A window of a stream is live only while the stream is opened and the window's endpoint has not ended it.
 use Rattle.std.proofs.Common.{◌≡◌, Bool, List, None, Option, Some, [], false, if◌then◌else◌, is_none, is_some, refl}
-use Rattle.std.proofs.Common.{sym, true, true≢false, ℕ, ℤ, ◌%◌, ◌&&◌, ◌==◌, ◌||◌, ◌∙◌, ◌∷◌}
+use Rattle.std.proofs.Common.{true, true≢false, ℕ, ℤ, ◌%◌, ◌&&◌, ◌==◌, ◌||◌, ◌∷◌, arith}
 use Rattle.std.specs.Prelude.{OnSome}
-use Rattle.audit_core.proofs.Words.{eqb-true, and-false, and_parts, or_parts, or_right, is_client_headers, meets}
-use Rattle.audit_core.proofs.Words.{promises, sends_end, is_reset, change_of, is_last_of, is_opening, ends_window, next}
-use Rattle.audit_core.proofs.Words.{PassState, pass_start, is_side, side_of, window_at_opening, window_after, step_test}
-use Rattle.audit_core.proofs.Words.{stream_after, state_from, Frame, Change, Step, Side, Client, Server, Sides, Stream}
-use Rattle.audit_core.proofs.Words.{LiveWindowsAreUnended, LiveWindowsAreOpened}
+use Rattle.audit_core.proofs.Words.{eqb-true, and-false, and_parts, or_parts, is_client_headers, meets, promises}
+use Rattle.audit_core.proofs.Words.{change_of, is_last_of, is_opening, ends_window, next, PassState, pass_start}
+use Rattle.audit_core.proofs.Words.{is_side, side_of, window_at_opening, window_after, step_test, stream_after}
+use Rattle.audit_core.proofs.Words.{state_from, Frame, Change, Step, Side, Client, Server, Sides, Stream}
+use Rattle.audit_core.proofs.Words.{LiveWindowsAreUnended, LiveWindowsAreOpened, nat_tests}
 
 -- what is known of the endpoint of a window: it ends only an opened stream, and while its window is live it has not
 -- ended it, nor is it the client of a promised stream
@@ -18,29 +18,11 @@ pub record IsSending (d : Side) (stream : ℕ) (ended opened : Bool) (window : O
 odd-even : (stream : ℕ) → (stream % 2 == 1) ≡ true → (stream % 2 == 0) ≡ false
 odd-even stream e = rw (eqb-true (stream % 2) 1 e) refl
 
--- an endpoint whose window lives on has not ended the stream
-goes-on : (end reset side client named even elsewhere : Bool) → (end || reset) ≡ false → (client && even) ≡ false
-    → ((end || (side && reset)) || (client && ((named && even) && elsewhere))) ≡ false
-goes-on false false side true named even elsewhere e o = rw (o, and-false side, and-false named) refl
-goes-on false false side false named even elsewhere e o = rw (and-false side) refl
-goes-on _ _ side client named even elsewhere e o = cc
-
--- an endpoint that goes on sending on a stream that opens is not the client of a promised stream
-sends-on : (client odd headers promises last even : Bool) → ((odd && headers) || promises) ≡ true
-    → (last || (client && promises)) ≡ false
-    → (odd ≡ true → even ≡ false) → (client && even) ≡ false
-sends-on false odd headers promises last even o e f = refl
-sends-on true true headers promises last even o e f = f refl
-sends-on true false headers true last even o e f = absurd (true≢false (sym (or_right last true refl) ∙ e))
-sends-on true false headers false last even o e f = cc
-
 not-opened : (o : Option ℕ) (b : Bool) → (is_none o && b) ≡ true → is_some o ≡ false
-not-opened None b e = refl
-not-opened (Some number) b e = cc
+not-opened o b e = grind arith
 
 live-unless : (b : Bool) (credit : ℤ) → is_some (if b then None else Some credit) ≡ true → b ≡ false
-live-unless true credit e = cc
-live-unless false credit e = refl
+live-unless b credit e = grind arith
 
 module _ (d : Side) (stream : ℕ) (initial : Sides ℕ) (number : ℕ) (change : Option Change) where
   abbrev at-frame : Option Frame → Step
@@ -70,8 +52,7 @@ module _ (d : Side) (stream : ℕ) (initial : Sides ℕ) (number : ℕ) (change 
         let last = live-unless _ _ e in (
           refl,
           rw (idle, last) refl,
-          sends-on (is_side Client d) (stream % 2 == 1) (is_client_headers frame) (promises stream frame) _
-              (stream % 2 == 0) opening last (odd-even stream),
+          grind (arith, nat_tests, odd-even stream),
         );
   }
 
@@ -84,9 +65,8 @@ module _ (d : Side) (stream : ℕ) (initial : Sides ℕ) (number : ℕ) (change 
     live = λ e.
         let goes = lives-on (Some frame) window e in
         let (opens_it, unended, sends) = h.live goes.0 in
-        let last : is_last_of d stream frame ≡ false =
-        goes-on (sends_end d frame) (is_reset frame.body) (is_side d frame.side) (is_side Client d) _
-        (stream % 2 == 0) _ goes.1 sends in
+        let goes_on = goes.1 in
+        let last : is_last_of d stream frame ≡ false = grind arith in
         (opens_it, rw (unended, last, and-false) refl, sends);
   }
 
@@ -95,7 +75,8 @@ Sending d stream entry =
     IsSending d stream (side_of d entry.life.ended) (is_some entry.life.opened) (side_of d entry.window)
 
 module _ (stream : ℕ) (initial : Sides ℕ) (number : ℕ) (change : Option Change) (entry : Stream) where
-  sending-met : (d : Side) (frame : Frame) → Sending d stream entry → (b : Bool) → is_opening stream entry.life frame ≡ b
+  sending-met : (d : Side) (frame : Frame) → Sending d stream entry → (b : Bool)
+      → is_opening stream entry.life frame ≡ b
       → IsSending d stream
       (side_of d entry.life.ended || ((b || is_some entry.life.opened) && is_last_of d stream frame))
       (is_some (if b then Some frame.number else entry.life.opened))

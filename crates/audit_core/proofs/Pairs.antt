@@ -17,7 +17,8 @@ module _ {X : Type 0} (P : X → Type 0) where
   all-ordered after [] p = tt
   all-ordered after (x ∷ xs) p = all-put after x (ordered_by after xs) p.0 (all-ordered after xs p.1)
 
-  pub all-mapped : {Y : Type 0} (f : Y → X) (ys : List Y) → AllByRecursion (λ y. P (f y)) ys → AllByRecursion P (map f ys)
+  pub all-mapped : {Y : Type 0} (f : Y → X) (ys : List Y) → AllByRecursion (λ y. P (f y)) ys →
+      AllByRecursion P (map f ys)
   all-mapped f [] p = tt
   all-mapped f (y ∷ ys) p = (p.0, all-mapped f ys p.1)
 

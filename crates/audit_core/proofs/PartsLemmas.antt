@@ -88,7 +88,8 @@ full-sorts streams state (frame ∷ frames) =
     let sr = settings_run_from rest.in_force frames in
     let cr = block_run rest.connection (items_from rest frames) in
     (turned (ordered _) ⊕ full-sorts streams rest frames)
-    ▸ four_sorts l s (streams_said streams state frame) c lr sr (flat_map (λ stream. alone stream rest frames) streams) cr
+    ▸ four_sorts l s (streams_said streams state frame) c lr sr
+    (flat_map (λ stream. alone stream rest frames) streams) cr
     ▸ (((ordered l ⊕ whole lr) ⊕ whole (s ++ sr)) ⊕ streams-apart _ _ streams ⊕ (ordered c ⊕ whole cr))
 
 -- blocks, one after the other, are one block

@@ -1,23 +1,22 @@
 -- The rows and the changes that a pass keeps, beside its state, and what is said at a frame.
-use Rattle.std.proofs.Common.{◌≡◌, ℕ, pos, ◌^◌, ◌<◌, ◌≤◌, ◌%◌, Bool, true, false, not, ◌==◌, ◌&&◌, ◌||◌, List, [], ◌∷◌}
-use Rattle.std.proofs.Common.{◌++◌, length, map, get_or, Option, is_none, refl, sym, ap, ◌∙◌, subst, append_assoc, ◌+◌}
-use Rattle.std.proofs.Common.{if◌then◌else◌, Some, None, is_some, drop, arith}
+use Rattle.std.proofs.Common.{◌≡◌, ℕ, pos, ◌^◌, ◌<◌, ◌≤◌, Bool, true, false, ◌==◌, ◌&&◌, List, [], ◌∷◌, ◌++◌, length}
+use Rattle.std.proofs.Common.{map, get_or, Option, is_none, refl, ap, ◌∙◌, subst, append_assoc, ◌+◌, Some, None}
+use Rattle.std.proofs.Common.{is_some, drop, arith, ℤ, ◌*◌}
 use Rattle.std.proofs.lemmas.List.Elements.{All-nil, All-cons}
-use Rattle.std.proofs.lemmas.Bool.{and_right}
 use Rattle.std.proofs.lemmas.Simd.{map-map}
 use Rattle.std.proofs.lemmas.List.Folds.{flat_map-map, list_any_at}
-use Rattle.audit_core.proofs.Words.{All, flat_map, list_any, find, eqb-true, eq-eqb, Sides, UnmatchedAck, Frame, Change}
-use Rattle.audit_core.proofs.Words.{Item, ConnectionState, Finding, side_of, is_ack, meets, promises, finding_at}
-use Rattle.audit_core.proofs.Words.{in_order, say, local_said, change_of, InForce, in_force_after, change_taking, taken}
-use Rattle.audit_core.proofs.Words.{settings_said, connection_said, is_opening, idle_stream, PassState, full_from, next}
-use Rattle.audit_core.proofs.Words.{said, streams_of, streams_said, item_of, opens_stream, step_of, room-wider}
-use Rattle.audit_core.proofs.Words.{StreamRow, rows_in, idle_rows, row_opens, row_said, row_after, RowFits}
-use Rattle.audit_core.proofs.Words.{option_to_list, Settings, changes_from, IsOrderlyFrom, IsAcknowledged, opens}
-use Rattle.audit_core.proofs.Words.{AllByRecursion}
+use Rattle.audit_core.proofs.Words.{All, flat_map, list_any, find, eq-eqb, Sides, UnmatchedAck, Frame, Change, Item}
+use Rattle.audit_core.proofs.Words.{ConnectionState, Finding, side_of, is_ack, meets, finding_at, in_order, say}
+use Rattle.audit_core.proofs.Words.{local_said, change_of, InForce, in_force_after, change_taking, taken, settings_said}
+use Rattle.audit_core.proofs.Words.{connection_said, is_opening, idle_stream, PassState, full_from, next, said}
+use Rattle.audit_core.proofs.Words.{streams_of, streams_said, item_of, opens_stream, step_of, room-wider, StreamRow}
+use Rattle.audit_core.proofs.Words.{rows_in, idle_rows, row_opens, row_said, row_after, RowFits, option_to_list}
+use Rattle.audit_core.proofs.Words.{Settings, changes_from, IsOrderlyFrom, IsAcknowledged, opens, AllByRecursion}
+use Rattle.audit_core.proofs.Words.{All-weaker, HasRoom, IsOrderly, nat_tests}
 use Rattle.audit_core.proofs.PassOrder.{rows_of, AreStreams}
 use Rattle.audit_core.proofs.StreamsMet.{streams_met_lem}
-use Rattle.audit_core.proofs.OrderlyRest.{drop-at}
-use Rattle.audit_core.proofs.StreamSteps.{differ_test, differ_test_back, same_test, all-change_numbers}
+use Rattle.audit_core.proofs.OrderlyRest.{drop-at, length-orderly}
+use Rattle.audit_core.proofs.StreamSteps.{all-change_numbers}
 use Rattle.audit_core.proofs.ErrorSides.{change-ack}
 
 -- ---- the change of a frame, among all changes
@@ -26,11 +25,11 @@ use Rattle.audit_core.proofs.ErrorSides.{change-ack}
 abbrev pub is_at : ℕ → Change → Bool
 is_at number change = change.number == number
 
-none-later : (number : ℕ) (changes : List Change) → AllByRecursion (λ (change : Change). number + 1 ≤ change.number) changes →
+none-later : (number : ℕ) (changes : List Change) →
+    AllByRecursion (λ (change : Change). number + 1 ≤ change.number) changes →
     find (is_at number) changes ≡ None
 none-later number [] h = refl
-none-later number (change ∷ changes) h =
-    rw (differ_test_back number change.number (omega (arith, h.0))) (none-later number changes h.1)
+none-later number (change ∷ changes) h = grind (arith, nat_tests, none-later number changes h.1, h.0)
 
 module _ (now : InForce) (frame : Frame) (later : List Frame) where
   abbrev rest : List Change
@@ -44,8 +43,9 @@ module _ (now : InForce) (frame : Frame) (later : List Frame) where
         → find (is_at frame.number) (option_to_list (change_taking frame o) ++ rest) ≡ change_taking frame o
     by_taken None =
         none-later frame.number rest
-        (all-change_numbers (λ n. frame.number + 1 ≤ n) (frame.number + 1) (in_force_after now frame) later (λ m l. l) h)
-    by_taken (Some settings) = rw (same_test frame.number) refl
+        (all-change_numbers (λ n. frame.number + 1 ≤ n) (frame.number + 1) (in_force_after now frame) later
+        (λ m l. l) h)
+    by_taken (Some settings) = rw (eq-eqb frame.number frame.number refl) refl
 
   -- a change past the frame is one of the later frames
   pub change-past : (number : ℕ) → frame.number < number
@@ -54,7 +54,7 @@ module _ (now : InForce) (frame : Frame) (later : List Frame) where
     by_taken : (o : Option Settings)
         → find (is_at number) (option_to_list (change_taking frame o) ++ rest) ≡ find (is_at number) rest
     by_taken None = refl
-    by_taken (Some settings) = rw (differ_test frame.number number h) refl
+    by_taken (Some settings) = grind (arith, nat_tests)
 
 -- the same of a frame that was read at its position
 pub change-at : (now : InForce) (low : ℕ) (frames : List Frame) (i : ℕ) (frame : Frame) (changes : List Change)
@@ -73,19 +73,13 @@ change-at now low frames i frame changes orderly is within same =
 pub settings_said-change : (now : InForce) (frame : Frame) →
     say (is_ack frame.body && is_none (change_of now frame))
     (finding_at UnmatchedAck frame.number frame.stream frame.side (pos 0)) ≡ settings_said now frame
-settings_said-change now frame = rw (same (taken now frame)) refl where
-  same : (o : Option Settings) → is_none (change_taking frame o) ≡ is_none o
-  same None = refl
-  same (Some settings) = refl
+settings_said-change now frame = grind arith
 
 -- a frame that brings a change is an acknowledgement
 pub step_of-acknowledged : (now : InForce) (frame : Frame) (stream : ℕ) → IsAcknowledged (step_of now frame stream)
 step_of-acknowledged now frame stream change e one f =
     let ack = change-ack now frame (ap is_some e) in
-    ap (λ (its : Frame). is_ack its.body) (sym (by_test (meets stream frame) f)) ∙ ack where
-      by_test : (met : Bool) → (if met then Some frame else None) ≡ Some one → frame ≡ one
-      by_test true f = cc
-      by_test false f = cc
+    grind (arith, ack)
 
 -- ---- the rows before the first frame
 
@@ -100,6 +94,18 @@ fits-wider bound more l row h = record {
   server = λ credit e. room-wider bound more credit l (h.server credit e);
 }
 
+-- what counted some of a connection's frames has room for one more
+module _ (frames : List Frame) (i : ℕ) (h : IsOrderly frames) (within : i < length frames) where
+  few : 2 ^ 17 + i * 2 ^ 32 ≤ 2 ^ 60
+  few = let k = length-orderly 0 frames (omega arith) h in omega arith
+
+  pub room-here : (credit : ℤ) → HasRoom (2 ^ 17 + i * 2 ^ 32) credit → HasRoom (2 ^ 60) credit
+  room-here credit room = room-wider (2 ^ 17 + i * 2 ^ 32) (2 ^ 60) credit few room
+
+  pub rows-here : (rows : List StreamRow) → All (RowFits (2 ^ 17 + i * 2 ^ 32)) rows → All (RowFits (2 ^ 60)) rows
+  rows-here rows =
+      All-weaker (RowFits (2 ^ 17 + i * 2 ^ 32)) (RowFits (2 ^ 60)) (fits-wider (2 ^ 17 + i * 2 ^ 32) (2 ^ 60) few) rows
+
 -- rows of streams that are not opened have room
 pub idle_rows-fit : (bound : ℕ) (streams : List ℕ) → AreStreams streams → All (RowFits bound) (idle_rows streams)
 idle_rows-fit bound [] h = All-nil (RowFits bound)
@@ -112,21 +118,11 @@ module _ (state : PassState) (frame : Frame) where
   abbrev opens_it : ℕ → Bool
   opens_it stream = is_opening stream (state.streams stream).life frame
 
-  absorb : (a b : Bool) → (b || (a && b)) ≡ b
-  absorb a true = refl
-  absorb a false = and_right a false refl
-
   -- the row of the frame's stream alone may say so
   opens-rows : (streams : List ℕ) → list_any (row_opens frame) (rows_in state.streams streams)
       ≡ (list_any (λ other. other == frame.stream) streams && opens_it frame.stream)
   opens-rows [] = refl
-  opens-rows (stream ∷ streams) = by_test (stream == frame.stream) refl _ _ (opens-rows streams) where
-    by_test : (b : Bool) → (stream == frame.stream) ≡ b → (rest named : Bool) →
-        rest ≡ (named && opens_it frame.stream) →
-        ((stream == frame.stream) && opens_it stream || rest)
-        ≡ (((stream == frame.stream) || named) && opens_it frame.stream)
-    by_test true e rest named ih = rw (e, ap opens_it (eqb-true stream frame.stream e), ih) (absorb _ _)
-    by_test false e rest named ih = rw e ih
+  opens-rows (stream ∷ streams) = grind (arith, nat_tests, opens-rows streams)
 
   -- the frame meets its own stream
   meets-own : meets frame.stream frame ≡ true
@@ -134,27 +130,19 @@ module _ (state : PassState) (frame : Frame) where
 
   -- no frame promises its own stream, and none opens stream 0
   zero-unopened : (frame.stream == 0) ≡ true → opens_it frame.stream ≡ false
-  zero-unopened e =
-      let even : (frame.stream % 2 == 1) ≡ false = ap (λ q. q % 2 == 1) (eqb-true frame.stream 0 e) in
-      let own : promises frame.stream frame ≡ false =
-      rw (eq-eqb frame.stream frame.stream refl) (and_right _ false refl) in
-      rw (even, own) (and_right _ false refl)
+  zero-unopened e = grind (arith, nat_tests)
 
 -- the row of a frame's stream says whether the frame opens it
 pub opens-frame : (state : PassState) (frames : List Frame) (i : ℕ) (frame : Frame) → frame ≡ get_or frames i frame →
     i < length frames →
     list_any (row_opens frame) (rows_in state.streams (streams_of frames)) ≡ opens_stream state frame
 opens-frame state frames i frame is within =
-    opens-rows state frame (streams_of frames)
-    ∙ rw (streams_met_lem frame.stream frames, met, meets-own state frame) (by_test (frame.stream == 0) refl) where
-      met : list_any (meets frame.stream) frames ≡ true
-      met = list_any_at (meets frame.stream) frames i frame within
-          (subst (λ (one : Frame). meets frame.stream one ≡ true) is (meets-own state frame))
-
-      by_test : (b : Bool) → (frame.stream == 0) ≡ b →
-          ((not (frame.stream == 0) && true) && opens_it state frame frame.stream) ≡ opens_it state frame frame.stream
-      by_test true e = rw e (sym (zero-unopened state frame e))
-      by_test false e = rw e refl
+    let rows = opens-rows state frame (streams_of frames) in
+    let named = streams_met_lem frame.stream frames in
+    let met : list_any (meets frame.stream) frames ≡ true =
+    list_any_at (meets frame.stream) frames i frame within
+    (subst (λ (one : Frame). meets frame.stream one ≡ true) is (meets-own state frame)) in
+    grind (arith, nat_tests, zero-unopened state frame)
 
 -- ---- a frame, as the code meets it
 

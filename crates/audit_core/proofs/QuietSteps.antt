@@ -1,27 +1,21 @@
 -- A step without a frame and without a new initial window shows and changes nothing.
 use Rattle.std.proofs.Common.{◌≡◌, ℕ, ℤ, Bool, true, false, not, ◌&&◌, [], ◌++◌, refl, ap, ◌∙◌, arith, Option, Some}
-use Rattle.std.proofs.Common.{None, is_some, int_lt, cond}
+use Rattle.std.proofs.Common.{None, is_some, int_lt, cond, ap₂}
 use Rattle.std.specs.declared.cmp.Ordering.TheVariants.{Less, Equal, Greater}
 use Rattle.std.proofs.lemmas.Cmp.{int_cmp_total, tied_itself}
-use Rattle.audit_core.proofs.Words.{ints, Side, Client, Server, Sides, Change, Step, StreamLife, Stream, say_of}
-use Rattle.audit_core.proofs.Words.{side_of, new_initial, is_used_up, window_step, live_window_said, window_after}
-use Rattle.audit_core.proofs.Words.{stream_window_said, stream_said, stream_after, counted, initial_after}
+use Rattle.audit_core.proofs.Words.{ints, Side, Client, Server, Sides, Change, Step, Stream, say_of, side_of}
+use Rattle.audit_core.proofs.Words.{new_initial, is_used_up, window_step, live_window_said, window_after}
+use Rattle.audit_core.proofs.Words.{stream_window_said, stream_said, stream_after, counted, initial_after, and-false}
 
 -- a step of a change alone, or of nothing
 abbrev pub bare_step : ℕ → Option Change → Step
 bare_step number change = record { number = number; frame = None; change = change }
 
-and_false : (a : Bool) → (a && false) ≡ false
-and_false true = refl
-and_false false = refl
-
 not_both : (a : Bool) → (a && not a) ≡ false
-not_both true = refl
-not_both false = refl
+not_both a = grind arith
 
 not_either : (a : Bool) → (not a && a) ≡ false
-not_either true = refl
-not_either false = refl
+not_either a = grind arith
 
 -- no credit is below itself
 tied_test : (b : Bool) → cond b Less (cond b Greater Equal) ≡ Equal → b ≡ false
@@ -42,7 +36,7 @@ module _ (stream : ℕ) (initial : Sides ℕ) (number : ℕ) (change : Option Ch
         (window_step d stream initial (bare_step number change) before) ≡ []
     live_said-quiet before =
         let e = counted-quiet before in
-        let setting = and_false (is_some change) in
+        let setting = and-false (is_some change) in
         let stall = not_both (is_used_up before) in
         let begin = not_either (is_used_up before) in
         simp (e, not_less, setting, stall, begin)
@@ -57,29 +51,21 @@ module _ (stream : ℕ) (initial : Sides ℕ) (number : ℕ) (change : Option Ch
     window_after-quiet None = refl
     window_after-quiet (Some before) = ap Some (counted-quiet before)
 
-  abbrev with_windows : StreamLife → Option ℤ → Option ℤ → Stream
-  with_windows life client server = record { life = life; window = record { client = client; server = server } }
-
-  same_windows : (life : StreamLife) (v w x y : Option ℤ) → v ≡ x → w ≡ y → with_windows life v w
-      ≡ with_windows life x y
-  same_windows life v w x y p q = ap (λ a. with_windows life a w) p ∙ ap (with_windows life x) q
-
   -- the stream, whose initial windows stay
   module _ (entry : Stream) (unmoved : initial_after change initial ≡ initial) where
-    client_unmoved : new_initial change Client (side_of Client initial) ≡ side_of Client initial
-    client_unmoved = ap (λ (both : Sides ℕ). both.client) unmoved
+    client : new_initial change Client initial.client ≡ initial.client
+    client = ap (λ (both : Sides ℕ). both.client) unmoved
 
-    server_unmoved : new_initial change Server (side_of Server initial) ≡ side_of Server initial
-    server_unmoved = ap (λ (both : Sides ℕ). both.server) unmoved
+    server : new_initial change Server initial.server ≡ initial.server
+    server = ap (λ (both : Sides ℕ). both.server) unmoved
 
     pub stream_said-quiet : stream_said stream initial entry (bare_step number change) ≡ []
     stream_said-quiet =
         ap (λ said. said ++ stream_window_said Server stream initial entry (bare_step number change))
-        (window_said-quiet Client client_unmoved entry.window.client)
-        ∙ window_said-quiet Server server_unmoved entry.window.server
+        (window_said-quiet Client client entry.window.client)
+        ∙ window_said-quiet Server server entry.window.server
 
     pub stream_after-quiet : stream_after stream initial entry (bare_step number change) ≡ entry
     stream_after-quiet =
-        same_windows entry.life _ _ entry.window.client entry.window.server
-        (window_after-quiet Client client_unmoved entry.window.client)
-        (window_after-quiet Server server_unmoved entry.window.server)
+        ap₂ {C = Stream} (λ (a b : Option ℤ). record { life = entry.life; window = record { client = a; server = b } })
+        (window_after-quiet Client client entry.window.client) (window_after-quiet Server server entry.window.server)

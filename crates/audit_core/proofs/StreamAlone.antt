@@ -1,5 +1,5 @@
 -- A stream's run by itself is what the pass says of it, frame by frame.
-use Rattle.std.proofs.Common.{◌≡◌, ℕ, List, [], ◌∷◌, ◌++◌, Option, Some, None, refl, sym, ap, ◌∙◌}
+use Rattle.std.proofs.Common.{◌≡◌, ℕ, List, [], ◌∷◌, ◌++◌, Option, None, refl, sym, ap, ◌∙◌}
 use Rattle.audit_core.proofs.Words.{Sides, Frame, Change, Step, Stream, Finding, in_order, IsOrderly, initial_in_force}
 use Rattle.audit_core.proofs.Words.{in_force_after, change_of, changes_of, idle_stream, stream_said, stream_after}
 use Rattle.audit_core.proofs.Words.{stream_run_from, initial_after, PassState, pass_start, next, step_of, frames_of}
@@ -25,15 +25,7 @@ one_step stream number initial entry None None rest later h =
     ap (λ now. stream_run_from stream initial now rest) (sym (stream_after-quiet stream initial number None entry refl))
     ∙ h
     ∙ ap (λ said. in_order said ++ later) (sym (stream_said-quiet stream initial number None entry refl))
-one_step stream number initial entry (Some frame) None rest later h =
-    ap (λ l. in_order (stream_said stream initial entry
-    (record { number = number; frame = Some frame; change = None })) ++ l) h
-one_step stream number initial entry (Some frame) (Some change) rest later h =
-    ap (λ l. in_order (stream_said stream initial entry
-    (record { number = number; frame = Some frame; change = Some change })) ++ l) h
-one_step stream number initial entry None (Some change) rest later h =
-    ap (λ l. in_order (stream_said stream initial entry
-    (record { number = number; frame = None; change = Some change })) ++ l) h
+one_step stream number initial entry _ _ rest later h = rw h refl
 
 -- the run over the steps at which something is there
 run_from-alone : (stream : ℕ) (state : PassState) (frames : List Frame)

@@ -2,19 +2,10 @@
 use Rattle.std.proofs.Common.{◌≡◌, Bool, List, None, Option, Some, [], ap, arith, false, if◌then◌else◌, ltb-true}
 use Rattle.std.proofs.Common.{nat_lt, refl, true, ℕ, ◌++◌, ◌+◌, ◌<◌, ◌==◌, ◌∙◌, ◌∷◌, ◌≤◌}
 use Rattle.audit_core.proofs.Words.{eqb-true, option_to_list, nat_tests, cond_both, change_by, meets, change_of}
-use Rattle.audit_core.proofs.Words.{InForce, taken, change_taking, in_force_after, step_of, changes_from}
-use Rattle.audit_core.proofs.Words.{IsOrderlyFrom, frame_step, with_change, steps_of, change_step, frames_of, Frame}
-use Rattle.audit_core.proofs.Words.{Change, Step, Settings, AllByRecursion}
+use Rattle.audit_core.proofs.Words.{InForce, taken, change_taking, in_force_after, step_of, changes_from, IsOrderlyFrom}
+use Rattle.audit_core.proofs.Words.{frame_step, with_change, steps_of, change_step, frames_of, Frame, Change, Step}
+use Rattle.audit_core.proofs.Words.{Settings, AllByRecursion, eq-eqb}
 use Rattle.audit_core.proofs.Pairs.{all-mapped, all-filter, all-append}
-
-pub differ_test : (m n : ℕ) → m < n → (m == n) ≡ false
-differ_test m n h = grind (arith, nat_tests)
-
-pub differ_test_back : (m n : ℕ) → m < n → (n == m) ≡ false
-differ_test_back m n h = grind (arith, nat_tests)
-
-pub same_test : (n : ℕ) → (n == n) ≡ true
-same_test n = grind (arith, nat_tests)
 
 -- ---- one more change among some steps
 
@@ -88,9 +79,7 @@ with_change-first : (steps : List Step) (change : Change)
     → AllByRecursion (λ (step : Step). change.number + 1 ≤ step.number) steps
     → with_change steps change ≡ change_step change ∷ steps
 with_change-first [] change h = refl
-with_change-first (step ∷ steps) change h =
-    with_change-cases (λ l. l ≡ change_step change ∷ step ∷ steps) change step steps
-    (λ e. absurd (omega (arith, h.0))) (λ e. refl) (λ e. absurd (omega (arith, h.0)))
+with_change-first (step ∷ steps) change h = grind (arith, nat_tests, h.0)
 
 -- a frame before all changes comes first
 steps_of-first : (frame : Frame) (frames : List Frame) (changes : List Change)
@@ -98,10 +87,7 @@ steps_of-first : (frame : Frame) (frames : List Frame) (changes : List Change)
     → steps_of (frame ∷ frames) changes ≡ frame_step frame ∷ steps_of frames changes
 steps_of-first frame frames [] h = refl
 steps_of-first frame frames (change ∷ changes) h =
-    ap (λ steps. with_change steps change) (steps_of-first frame frames changes h.1)
-    ∙ with_change-cases (λ l. l ≡ frame_step frame ∷ with_change (steps_of frames changes) change) change
-    (frame_step frame) (steps_of frames changes)
-    (λ e. absurd (omega (arith, h.0))) (λ e. absurd (omega (arith, h.0))) (λ e. refl)
+    let rest = steps_of-first frame frames changes h.1 in grind (arith, nat_tests, h.0)
 
 -- the steps of a stream's frames and all changes are those of the connection's frames at which something is there
 pub steps_of-steps_from : (low stream : ℕ) (now : InForce) (frames : List Frame) → IsOrderlyFrom low frames
@@ -130,7 +116,7 @@ steps_of-steps_from low stream now (frame ∷ frames) h =
           steps_of-first frame own changes q ∙ ap (λ steps. frame_step frame ∷ steps) ih
       by_cases true (Some settings) own changes p q later ih =
           ap (λ steps. with_change steps (change_by frame settings)) (steps_of-first frame own changes q)
-          ∙ rw (same_test frame.number, ih) refl
+          ∙ rw (eq-eqb frame.number frame.number refl, ih) refl
       by_cases false None own changes p q later ih = ih
       by_cases false (Some settings) own changes p q later ih =
           with_change-first (steps_of own changes) (change_by frame settings)

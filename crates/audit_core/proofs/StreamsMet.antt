@@ -1,10 +1,8 @@
 -- The streams that frames name are those that meet one of them.
-use Rattle.std.proofs.Common.{◌≡◌, Bool, List, [], ap, false, filter, not, refl, sym, true, ℕ, ◌&&◌, ◌==◌, ◌||◌}
-use Rattle.std.proofs.Common.{◌∙◌, ◌∷◌}
+use Rattle.std.proofs.Common.{◌≡◌, Bool, List, [], false, filter, not, refl, sym, true, ℕ, ◌&&◌, ◌==◌, ◌||◌, ◌∷◌, arith}
 use Rattle.std.proofs.lemmas.Map.Views.{any-filter_same}
-use Rattle.audit_core.proofs.Words.{eq-eqb, eqb-true, ne_eqb, and-false, list_any, cond_both, eqb-false, promised_in}
-use Rattle.audit_core.proofs.Words.{meets, promises, promised_by, first_of, Frame, StreamsAreNamedOnce}
-use Rattle.audit_core.proofs.Words.{StreamsAreThoseMet, and-true, or_assoc}
+use Rattle.audit_core.proofs.Words.{and-false, list_any, promised_in, promises, promised_by, first_of, Frame}
+use Rattle.audit_core.proofs.Words.{StreamsAreNamedOnce, StreamsAreThoseMet, nat_tests, streams_of}
 use Rattle.audit_core.proofs.Apart.{distinct-streams_of}
 
 module _ (stream : ℕ) where
@@ -18,50 +16,32 @@ module _ (stream : ℕ) where
 
   names-first : (first : ℕ) (streams : List ℕ) → NamesFirst first streams
   names-first first streams = by_tests _ _ refl refl where
-    still-named : (first == stream) ≡ false → is_named (filter (λ other. not (other == first)) streams) ≡ is_named streams
+    still-named : (first == stream) ≡ false →
+        is_named (filter (λ other. not (other == first)) streams) ≡ is_named streams
     still-named e = any-filter_same (λ other. other == stream) (λ other. not (other == first)) true
-        (λ other q. rw (eqb-true other stream q, ne_eqb stream first (λ p. eqb-false first stream e (sym p))) refl) streams
+        (λ other q. grind (arith, nat_tests)) streams
 
     by_tests : (zero same : Bool) → (first == 0) ≡ zero → (first == stream) ≡ same → NamesFirst first streams
-    by_tests true true z e = rw (← eqb-true first stream e, z) refl
-    by_tests true false z e = rw (z, e, and-false) refl
-    by_tests false true z e = rw (← eqb-true first stream e, z, eq-eqb first first refl) refl
+    by_tests true same z e = grind (arith, nat_tests)
+    by_tests false true z e = grind (arith, nat_tests)
     by_tests false false z e = rw (z, e, and-false) (still-named e)
 
   -- a frame promises the stream that it carries
   promises-own : (frame : Frame) →
       promises stream frame ≡ (promises (promised_in frame.body) frame && (promised_in frame.body == stream))
-  promises-own frame = by_test _ refl where
-    by_test : (same : Bool) → (promised_in frame.body == stream) ≡ same → promises stream frame
-        ≡ (promises (promised_in frame.body) frame && (promised_in frame.body == stream))
-    by_test true e =
-        ap (λ n. promises n frame) (sym (eqb-true (promised_in frame.body) stream e))
-        ∙ sym (ap (λ b. promises (promised_in frame.body) frame && b) e ∙ and-true _)
-    by_test false e = simp (e, and-false)
+  promises-own frame = grind (arith, nat_tests)
 
   -- the stream, other than 0, is the one that the frame promises
   promised-is : (frame : Frame) → (stream == 0) ≡ false → (promised_by frame == stream) ≡ promises stream frame
-  promised-is frame e =
-      cond_both (promises (promised_in frame.body) frame) (promised_in frame.body) 0
-      (λ promised. (promised == stream) ≡ promises stream frame)
-      (λ f. rw (promises-own frame, f) refl)
-      (λ f. rw (promises-own frame, f) (ne_eqb 0 stream (λ p. eqb-false stream 0 e (sym p))))
+  promised-is frame e = let own = promises-own frame in grind (arith, nat_tests)
 
 pub streams_met_lem : StreamsAreThoseMet
 streams_met_lem stream [] = sym (and-false (not (stream == 0)))
 streams_met_lem stream (frame ∷ frames) =
-    names-first stream frame.stream _
-    ∙ ap (λ b. (not (stream == 0) && (frame.stream == stream)) || b) (names-first stream (promised_by frame) _)
-    ∙ by_zero _ refl _ (streams_met_lem stream frames) where
-      by_zero : (zero : Bool) → (stream == 0) ≡ zero → (named : Bool) →
-          named ≡ (not (stream == 0) && list_any (meets stream) frames) →
-          ((not (stream == 0) && (frame.stream == stream))
-          || ((not (stream == 0) && (promised_by frame == stream)) || named))
-          ≡ (not (stream == 0) && (meets stream frame || list_any (meets stream) frames))
-      by_zero true e named h = rw (h, e) refl
-      by_zero false e named h =
-          rw (h, e, promised-is stream frame e)
-          (sym (or_assoc (frame.stream == stream) (promises stream frame) (list_any (meets stream) frames)))
+    let own = names-first stream frame.stream (first_of (promised_by frame) (streams_of frames)) in
+    let promised = names-first stream (promised_by frame) (streams_of frames) in
+    let later = streams_met_lem stream frames in
+    grind (arith, nat_tests, promised-is stream frame)
 
 pub streams_once_lem : StreamsAreNamedOnce
 streams_once_lem frames = distinct-streams_of frames

@@ -1,10 +1,10 @@
 -- Frames that stand in order are merged into order.
-use Rattle.std.proofs.Common.{◌≡◌, ℕ, ◌+◌, ◌-◌, ◌<◌, ◌≤◌, Bool, true, false, cond, List, [], ◌∷◌, ◌++◌, length, refl}
-use Rattle.std.proofs.Common.{ap, sym, ◌∙◌, arith, length-append}
+use Rattle.std.proofs.Common.{◌≡◌, ℕ, ◌+◌, ◌-◌, ◌<◌, ◌≤◌, Bool, true, false, List, [], ◌∷◌, ◌++◌, length, refl, ap, sym}
+use Rattle.std.proofs.Common.{◌∙◌, arith, length-append}
 use Rattle.std.specs.Prelude.{◌&&◌, ◌||◌}
 use Rattle.h2_frames.proofs.Words.{nat_lt, ◌==◌, nat_tests, Arrival, Rises, Side, Frame, put_by, ordered_by, side_order}
-use Rattle.h2_frames.proofs.Words.{merged, merged_with, Spelled, Spells, byte_arrival, captured, captured_from}
-use Rattle.h2_frames.proofs.Words.{comes_after, numbered, capture_order, ltb-false, cond_both, ltb-true}
+use Rattle.h2_frames.proofs.Words.{merged, Spelled, Spells, byte_arrival, captured, captured_from, comes_after}
+use Rattle.h2_frames.proofs.Words.{numbered, capture_order}
 
 -- comes_after, on the three numbers
 is_above : (a b c x y z : ℕ) → Bool
@@ -50,19 +50,8 @@ put-merge : (x : Frame) (xs ys : List Frame) → IsAscendingFrom x xs →
     put_by comes_after x (merged xs ys) ≡ merged (x ∷ xs) ys
 put-merge x [] [] h = refl
 put-merge x (c ∷ xs) [] h = let first = h.0 in rw first refl
-put-merge x [] (y ∷ ys) h = by (comes_after x y) (put-merge x [] ys h)
-  where
-    by : (test : Bool) → put_by comes_after x ys ≡ merged_with x (λ zs. zs) ys →
-        cond test (y ∷ put_by comes_after x ys) (x ∷ y ∷ ys) ≡ cond test (y ∷ merged_with x (λ zs. zs) ys) (x ∷ y ∷ ys)
-    by true rest = ap (λ (zs : List Frame). y ∷ zs) rest
-    by false rest = refl
-put-merge x (c ∷ xs) (y ∷ ys) h =
-    cond_both (comes_after x y) _ _ (λ zs. put_by comes_after x (merged (c ∷ xs) (y ∷ ys)) ≡ zs)
-    (λ e. let past = after_trans x c y h.0 e in
-    rw (past, e) (ap (λ (zs : List Frame). y ∷ zs) (put-merge x (c ∷ xs) ys h)))
-    (λ e. let first = h.0 in
-    cond_both (comes_after c y) (y ∷ merged (c ∷ xs) ys) (c ∷ merged xs (y ∷ ys))
-    (λ zs. put_by comes_after x zs ≡ x ∷ zs) (λ f. rw e refl) (λ f. rw first refl))
+put-merge x [] (y ∷ ys) h = grind (arith, put-merge x [] ys h)
+put-merge x (c ∷ xs) (y ∷ ys) h = grind (arith, put-merge x (c ∷ xs) ys h, after_trans x c y h.0, h.0)
 
 -- merging puts the frames of both sides in order
 pub ordered-merge : (xs ys : List Frame) → IsAscending xs → IsAscending ys →
@@ -72,33 +61,24 @@ ordered-merge (x ∷ xs) ys h k =
     let rest = ordered-merge xs ys (rest_ascending x xs h) k in
     ap (put_by comes_after x) rest ∙ put-merge x xs ys h
 
--- a byte arrives with the first arrival or with a later one
-arrival-cases : (P : Arrival → Type 0) (o : ℕ) (a : Arrival) (later : List Arrival) → (o < a.upto → P a)
-    → (a.upto ≤ o → P (byte_arrival later o)) → P (byte_arrival (a ∷ later) o)
-arrival-cases P o a later here there = by (nat_lt o a.upto) refl where
-  by : (test : Bool) → nat_lt o a.upto ≡ test → P (byte_arrival (a ∷ later) o)
-  by true e = rw e (here (ltb-true o a.upto e))
-  by false e = rw e (there (ltb-false o a.upto e))
-
 -- bytes arrive at later and later records
 rec_above : (low rec high o : ℕ) (arrivals : List Arrival) → Rises low rec arrivals high → low ≤ o → o < high →
     rec ≤ (byte_arrival arrivals o).rec
 rec_above low rec high o [] rises h k = absurd (omega arith)
 rec_above low rec high o (a ∷ later) rises h k =
-    let above : rec < a.rec = rises.1 in
-    arrival-cases (λ x. rec ≤ x.rec) o a later (λ e. omega arith)
-    (λ e. let rest = rec_above a.upto a.rec high o later rises.2 e k in omega arith)
+    grind (arith, nat_tests, rises.1, rec_above a.upto a.rec high o later rises.2)
 
 pub rec_rises : (low rec high o p : ℕ) (arrivals : List Arrival) → Rises low rec arrivals high → low ≤ o → o ≤ p
     → p < high →
     (byte_arrival arrivals o).rec ≤ (byte_arrival arrivals p).rec
 rec_rises low rec high o p [] rises h k l = absurd (omega arith)
 rec_rises low rec high o p (a ∷ later) rises h k l =
-    arrival-cases (λ x. (byte_arrival (a ∷ later) o).rec ≤ x.rec) p a later
-    (λ f. arrival-cases (λ x. x.rec ≤ a.rec) o a later (λ e. omega arith) (λ e. absurd (omega arith)))
-    (λ past. arrival-cases (λ x. x.rec ≤ (byte_arrival later p).rec) o a later
-    (λ e. rec_above a.upto a.rec high p later rises.2 past l)
-    (λ e. rec_rises a.upto a.rec high o p later rises.2 e k l))
+    grind (
+      arith,
+      nat_tests,
+      rec_above a.upto a.rec high p later rises.2,
+      rec_rises a.upto a.rec high o p later rises.2,
+    )
 
 later_number : (x y : Frame) → x.number < y.number → x.rec ≤ y.rec → comes_after x y ≡ false
 later_number x y h k = grind (arith, nat_tests)

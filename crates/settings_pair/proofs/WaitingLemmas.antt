@@ -28,7 +28,8 @@ pub sent-here : (d : Side) (seen : List Frame) (from at : ℕ) (frame : Frame) (
     → sent_by d (drop at seen) ≡ sent_by d (drop from seen)
     → IsSent sent (sent_by d (drop from seen)) (sent_by d (drop (at + 1) seen))
 sent-here d seen from at frame sent within is e left =
-    by_sent sent (ap (λ l. l ++ sent_by d (drop (at + 1) seen)) e ∙ sym (sent-at d seen at frame within is) ∙ left) where
+    by_sent sent
+    (ap (λ l. l ++ sent_by d (drop (at + 1) seen)) e ∙ sym (sent-at d seen at frame within is) ∙ left) where
       by_sent : (one : Option Settings) → option_to_list one ++ sent_by d (drop (at + 1) seen)
           ≡ sent_by d (drop from seen) → IsSent one (sent_by d (drop from seen)) (sent_by d (drop (at + 1) seen))
       by_sent None k = record { first = λ h. cc; rest = λ h. cc; none = λ h. k }

@@ -4,10 +4,10 @@ use Rattle.audit_core.proofs.passes.one_pass.Goals as goal
 use Rattle.audit_core.proofs.Words.{All, list_any, find, ints, Frame, Item, ConnectionState, HasRoom, change_of}
 use Rattle.audit_core.proofs.Words.{connection_after, PassState, pass_start, next, item_of, streams_of, changes_from}
 use Rattle.audit_core.proofs.Words.{IsOrderlyFrom, room-wider, RowFits, row_opens}
-use Rattle.audit_core.proofs.OrderlyRest.{length-orderly, drop-at}
+use Rattle.audit_core.proofs.OrderlyRest.{drop-at}
 use Rattle.audit_core.proofs.PassOrder.{streams-streams_of}
 use Rattle.audit_core.proofs.PassRows.{is_at, change-at, change-past, step_of-acknowledged, idle_rows-fit, fits-wider}
-use Rattle.audit_core.proofs.PassRows.{opens-frame, same_item, rows-more, said-more, found-more}
+use Rattle.audit_core.proofs.PassRows.{opens-frame, same_item, rows-more, said-more, found-more, room-here, rows-here}
 
 start-room : HasRoom (2 ^ 17) (pos 65535)
 start-room = (omega (arith, ints), omega (arith, ints))
@@ -33,13 +33,11 @@ loop-frame-init c =
 
 pub meet-requires-clause-client : goal.meet-requires-clause-client
 meet-requires-clause-client c =
-    let few = length-orderly 0 c.args.frames.now (omega arith) c.requires in
-    room-wider (2 ^ 17 + c.loop-frame.frame-index * 2 ^ 32) (2 ^ 60) _ (omega arith) c.loop-frame.invariant.client
+    room-here c.args.frames.now _ c.requires c.loop-frame-test.true _ c.loop-frame.invariant.client
 
 pub meet-requires-clause-server : goal.meet-requires-clause-server
 meet-requires-clause-server c =
-    let few = length-orderly 0 c.args.frames.now (omega arith) c.requires in
-    room-wider (2 ^ 17 + c.loop-frame.frame-index * 2 ^ 32) (2 ^ 60) _ (omega arith) c.loop-frame.invariant.server
+    room-here c.args.frames.now _ c.requires c.loop-frame-test.true _ c.loop-frame.invariant.server
 
 pub meet_all-requires-clause-acknowledged : goal.meet_all-requires-clause-acknowledged
 meet_all-requires-clause-acknowledged c = λ stream change e.
@@ -54,11 +52,8 @@ meet_all-requires-clause-acknowledged c = λ stream change e.
 
 pub meet_all-requires-clause-fits : goal.meet_all-requires-clause-fits
 meet_all-requires-clause-fits c =
-    let few = length-orderly 0 c.args.frames.now (omega arith) c.requires in
-    let bound = 2 ^ 17 + c.loop-frame.frame-index * 2 ^ 32 in
     subst (All (RowFits (2 ^ 60))) (sym c.deref-in-loop-frame-2.ensures.value)
-    (All-weaker (RowFits bound) (RowFits (2 ^ 60)) (fits-wider bound (2 ^ 60) (omega arith)) c.loop-frame.rows.items
-    c.loop-frame.invariant.fits)
+    (rows-here c.args.frames.now _ c.requires c.loop-frame-test.true _ c.loop-frame.invariant.fits)
 
 pub loop-frame-preserved : goal.loop-frame-preserved
 loop-frame-preserved c =
