@@ -1,3 +1,2 @@
-mod Added
 mod Numbers
 mod OptionReads

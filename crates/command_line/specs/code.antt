@@ -1,4 +1,3 @@
-pub mod Arguments
 pub mod Numbers
 pub mod Options
 pub mod Choices

@@ -1,6 +1,5 @@
 ghost use Rattle.std.specs.Prelude.{◌≡◌, IfOk, Some, false, map, pos};
 ghost use Rattle.clap.specs.Words.{app_of, fault_of, found_of, matches_of, new_app, rows_of, rule_of, FailsBy};
-ghost use Rattle.command_line.specs.code.Arguments.{AreArguments};
 ghost use Rattle.command_line.specs.code.Numbers.{HasNumbers};
 ghost use Rattle.clap.specs.declared.builder.value_parser.ValueParser.{ValueParser};
 ghost use Rattle.command_line.specs.Words.{app, command_start};
@@ -34,23 +33,15 @@ pub(crate) fn matches<'a>(alloc: Global, words: &'a [&'a str]) -> Result<ArgMatc
 fn command<'a>(alloc: Global) -> Result<Command<'a>, AllocError>
     ensures { IfOk result (λ c. app_of c ≡ app) }
 {
-    bare_command(alloc).args(arguments(alloc)?)
-}
-
-/// What the command line takes.
-fn arguments<'a>(alloc: Global) -> Result<Vec<Arg<'a>>, AllocError>
-    ensures { IfOk result (λ args. AreArguments args.items) }
-{
     let workers = numbered(alloc, WORKERS, Options::MOST_WORKERS, "4", WORKERS_HELP);
     let groups = numbered(alloc, GROUPS, Options::MOST_GROUPS, "16", GROUPS_HELP);
     let block = numbered(alloc, BLOCK, Options::LONGEST_BLOCK, "4096", BLOCK_HELP);
-    Ok(vec![in alloc;
-        workers,
-        groups,
-        block,
-        frames_flag(alloc),
-        file_word(alloc),
-    ]?)
+    bare_command(alloc)
+        .arg(workers)?
+        .arg(groups)?
+        .arg(block)?
+        .arg(frames_flag(alloc))?
+        .arg(file_word(alloc))
 }
 
 /// The version of the program and of its report.

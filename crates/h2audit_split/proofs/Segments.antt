@@ -2,6 +2,7 @@
 use Rattle.std.proofs.Common.{◌≡◌, ◌+◌, ◌-◌, ◌*◌, ◌/◌, ◌%◌, ◌^◌, ◌<◌, ◌≤◌, ◌==◌, ◌∙◌, ℕ, find, Bool}
 use Rattle.std.proofs.Common.{true, false, if◌then◌else◌, Some, List, [], ◌∷◌, length, take, drop}
 use Rattle.std.proofs.Common.{slice_index, refl, sym, ap, subst, arith, length-drop}
+use Rattle.std.specs.List.{AllByRecursion}
 use Rattle.std.specs.Option.{option_map_or}
 use Rattle.std.proofs.Math.Nat.{mod-lt}
 use Rattle.std.proofs.lemmas.Bool.{le-ltb, ltb-false, not-false}
@@ -22,21 +23,11 @@ use Rattle.h2audit_split.specs.laws.Parts.{SegmentsName}
 use Rattle.h2audit_split.specs.Pair.{front_of, names_endpoints, pair_in}
 use Rattle.h2audit_split.specs.declared.pair.Pair.{Pair}
 
--- ---- a table of which every line passes a packet over
-
-abbrev AllOver : List (Bool × Packet) → Type 0
-AllOver [] = Unit {0}
-AllOver (line ∷ later) = IsPassedOver line.1 × AllOver later
-
-abbrev AllFalse : List (Bool × Packet) → Type 0
-AllFalse [] = Unit {0}
-AllFalse (line ∷ later) = (line.0 ≡ false) × AllFalse later
-
--- a segment is answered where no line applies
-none_applies : (lines : List (Bool × Packet)) → AllOver lines → (x s : Segment)
+-- where every line of a table passes a packet over, a segment is answered where none applies
+none_applies : (lines : List (Bool × Packet)) → AllByRecursion (λ line. IsPassedOver line.1) lines → (x s : Segment)
     → option_map_or (λ (line : Bool × Packet). line.1) (find (λ (line : Bool × Packet). line.0) lines)
     (packets.Segment x)
-    ≡ packets.Segment s → AllFalse lines × (x ≡ s)
+    ≡ packets.Segment s → AllByRecursion (λ line. line.0 ≡ false) lines × (x ≡ s)
 none_applies [] over x s e = (tt, cc)
 none_applies ((true, a) ∷ later) over x s e = absurd (subst IsPassedOver e over.0)
 none_applies ((false, a) ∷ later) over x s e =
@@ -149,9 +140,9 @@ segments_name_lem link number row packet s e =
     let start : ℕ = datagram_start link packet in
     let d : List ℕ = drop start packet in
     let lines = decision_lines (link == raw_ip) (is_partial row) packet d (ipv4.segment_bytes d) in
-    let over : AllOver lines = (tt, (tt, (tt, (tt, (tt, (tt, (tt, (tt, (tt, (tt, (tt, tt))))))))))) in
     let ((_, (_, (long, (version, (_, (_, (_, (_, (protocol, (short, _)))))))))), same) =
-    none_applies lines over (segment_of number row (row.start + start) d) s e in
+    none_applies lines (tt, (tt, (tt, (tt, (tt, (tt, (tt, (tt, (tt, (tt, (tt, tt)))))))))))
+    (segment_of number row (row.start + start) d) s e in
     let k : ℕ = 82 - start in
     let small : start ≤ 18 = start_small link packet in
     let many : 64 ≤ k = omega (arith, small) in

@@ -38,9 +38,6 @@ all-snoc : {X : Type 0} (P : X → Type 0) (xs : List X) (x : X) → AllByRecurs
     → AllByRecursion P (xs ++ x ∷ [])
 all-snoc P xs x all one = recursion_from_All P (xs ++ x ∷ []) (All-push P xs x (All-from_recursion P xs all) one)
 
-concat-snoc : (xs : List (List ℕ)) (x : List ℕ) → concat (xs ++ x ∷ []) ≡ concat xs ++ x
-concat-snoc xs x = concat-append xs (x ∷ []) ∙ ap (λ (l : List ℕ). concat xs ++ l) (append-nil x)
-
 -- of a record its bytes are taken, or its number
 abbrev bytes_taken : ℕ → List ℕ → List ℕ
 bytes_taken n bytes = bytes
@@ -94,7 +91,7 @@ module _ {W : Type 0} (contents : W → Option (List ℕ)) where
     | inl done ↦ record {
       records = records ++ x ∷ [];
       front = [];
-      are = are ∙ sym (concat-snoc records x) ∙ sym (append-nil (concat (records ++ x ∷ [])));
+      are = rw (append-nil (concat (records ++ x ∷ [])), concat-append records (x ∷ []), append-nil x) are;
       stands = record {
         whole = all-snoc (IsRecord (order_of d.is_little)) records x whole
             ((header, omega (arith, left, done)), omega (arith, left, done));

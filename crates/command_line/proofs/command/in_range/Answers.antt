@@ -1,5 +1,6 @@
-use Rattle.std.proofs.Common.{◌≡◌, ◌∙◌, ap, ℕ, ◌<◌, ◌^◌, Bool, true, false, Option, Some, refl, arith, rules, ltb-false}
+use Rattle.std.proofs.Common.{◌≡◌, ◌∙◌, ap, ℕ, ◌<◌, ◌^◌, Option, Some, refl, arith, rules}
 use Rattle.std.specs.Prelude.{if◌then◌else◌, nat_lt, pos, ℤ}
+use Rattle.std.proofs.lemmas.Bool.Decides.{nat_tests}
 use Rattle.std.specs.Range.{range_inclusive_end}
 use Rattle.clap.specs.Words.{NarrowsTo}
 use Rattle.clap.specs.declared.builder.value_parser.ValueParser.{ValueParser}
@@ -7,11 +8,7 @@ use Rattle.clap.specs.declared.builder.value_parser.ValueParser.TheVariants as v
 use Rattle.command_line.proofs.command.in_range.Goals as goal
 
 at_most : (most : ℕ) → most < 2 ^ 32 → (if nat_lt most 4294967295 then pos most else pos 4294967295) ≡ pos most
-at_most most fits = go (nat_lt most 4294967295) refl
-  where
-    go : (t : Bool) → nat_lt most 4294967295 ≡ t → (if t then pos most else pos 4294967295) ≡ pos most
-    go true e = refl
-    go false e = ap pos (omega (arith, ltb-false))
+at_most most fits = grind (arith, nat_tests)
 
 -- the parser of `u32`, narrowed to a range from 1
 narrowed : (p r : ValueParser) (least last : ℤ) (most : ℕ) → most < 2 ^ 32 → p ≡ value.Signed (pos 0) (pos 4294967295)

@@ -1,6 +1,3 @@
-use Rattle.std.proofs.Common.{◌++◌, take, sym, subst}
-use Rattle.h2audit_split.specs.Files.{IsDealt}
-use Rattle.h2audit_split.specs.declared.dealer.Dealer.{Dealer}
 use Rattle.h2audit_split.proofs.Standing.{dealt_first}
 use Rattle.h2audit_split.proofs.dealer.Dealer.deal_first.Goals as goal
 
@@ -9,8 +6,6 @@ returns-clause-dealt g c = λ first bytes was.
     let done = c.in_ok-count.ensures in
     let begun = c.in_ok-begin.ensures in
     let test = c.if-not-branch.false in
-    subst (λ (d : Dealer). IsDealt g.W.Write.contents d first c.deal_more.new.parts
-    (bytes ++ take c.in_ok-count.count c.args.unread.now))
-    (sym done.left)
-    (dealt_first g.W.Write.contents c.begin.new.self c.args.unread.now c.in_ok-count.count c.requires.between
-    begun.same.1 (begun.entered test) (begun.left test) (begun.front test) done.count done.grows was)
+    rw done.left (dealt_first g.W.Write.contents c.begin.new.self c.args.unread.now c.in_ok-count.count
+    c.requires.between begun.same.1 (begun.entered test) (begun.left test) (begun.front test) done.count done.grows
+    was)

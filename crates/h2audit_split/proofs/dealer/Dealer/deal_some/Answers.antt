@@ -1,14 +1,9 @@
-use Rattle.std.proofs.Common.{◌++◌, take, sym, subst, arith}
-use Rattle.h2audit_split.specs.Files.{IsDealt}
-use Rattle.h2audit_split.specs.declared.dealer.Dealer.{Dealer}
+use Rattle.std.proofs.Common.{arith}
 use Rattle.h2audit_split.proofs.Standing.{dealt_more}
 use Rattle.h2audit_split.proofs.dealer.Dealer.deal_some.Goals as goal
 
 pub returns-clause-dealt : goal.returns-clause-dealt
 returns-clause-dealt g c = λ first bytes was.
     let done = c.in_ok-count.ensures in
-    subst (λ (d : Dealer). IsDealt g.W.Write.contents d first c.deal_more.new.parts
-    (bytes ++ take c.in_ok-count.count c.args.unread.now))
-    (sym done.left)
-    (dealt_more g.W.Write.contents c.args.unread.now c.in_ok-count.count (omega (arith, c.if-self-eq0.false)) done.count
-    done.grows was)
+    rw done.left (dealt_more g.W.Write.contents c.args.unread.now c.in_ok-count.count
+    (omega (arith, c.if-self-eq0.false)) done.count done.grows was)
