@@ -3,16 +3,19 @@ use Rattle.std.proofs.Common.{◌≡◌, ◌==◌, not, Bool, true, false, List,
 use Rattle.std.proofs.Common.{refl, sym, ap, ◌∙◌, arith, Bor, Vec, Global}
 use Rattle.std.proofs.lemmas.Bool.{eqb-true}
 use Rattle.std.proofs.lemmas.List.{nil_from_length}
+use Rattle.std.proofs.lemmas.List.Elements.{All-filter}
 use Rattle.std.proofs.lemmas.List.Filters.{sum_by-filter_both}
 use Rattle.audit_terms.specs.declared.findings.Finding.{Finding}
 use Rattle.audit_terms.specs.declared.frames.Frame.{Frame}
+use Rattle.audit_terms.specs.code.runs.Orderly.{IsOrderly}
 use Rattle.audit_terms.specs.Finding.{shown}
 use Rattle.audit_terms.specs.Pass.{pass}
+use Rattle.audit_rounds.specs.code.Batch.{IsBatch}
 use Rattle.audit_rounds.specs.code.Few.{AreFew}
 use Rattle.audit_rounds.specs.code.Framed.{has_frames, left_after, spread, taken_for}
 
 -- those that have frames have no more of them than all
-pub framed-few : (all : List (Bor (List Frame))) → AreFew all → AreFew (filter has_frames all)
+framed-few : (all : List (Bor (List Frame))) → AreFew all → AreFew (filter has_frames all)
 framed-few all few =
     let parts = sum_by-filter_both has_frames (λ (frames : Bor (List Frame)). length frames.now == 0) (λ x. other _)
     (λ (frames : Bor (List Frame)). length frames.now) all in
@@ -20,6 +23,12 @@ framed-few all few =
       other : (b : Bool) → b ≡ not (not b)
       other true = refl
       other false = refl
+
+pub framed-batch : (all : List (Bor (List Frame))) → IsBatch all → IsBatch (filter has_frames all)
+framed-batch all batch = record {
+  orderly = All-filter has_frames (λ (frames : Bor (List Frame)). IsOrderly frames.now) all batch.orderly;
+  few = framed-few all batch.few;
+}
 
 -- no list is taken for no frame
 taken-none : (frames : List Frame) (lists : List (Vec Finding Global)) → (length frames == 0) ≡ true

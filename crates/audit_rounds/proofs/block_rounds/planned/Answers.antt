@@ -32,7 +32,7 @@ returns-clause-few g c =
 
 pub returns-clause-plan : goal.returns-clause-plan
 returns-clause-plan g c =
-    let shows = c.args.credits_shown in
+    let shows = c.args.crew.now.setup.credits_shown in
     if_ok-then c.plan_of.result _ _ c.plan_of.ensures.plan (λ plan is.
     subst (λ (of : List Block). IsPlan shows (length of) (shown_at shows 0 (wholes of)) plan.items)
     c.in_ok-cut.ensures.of is)

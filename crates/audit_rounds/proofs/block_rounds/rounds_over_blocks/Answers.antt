@@ -31,7 +31,7 @@ parts_of-requires-clause-places g c κs inside =
 
 pub parts_of-requires-clause-few : goal.parts_of-requires-clause-few
 parts_of-requires-clause-few g c κs inside =
-    let same = ap length c.as_slice-plan.ensures.value in
+    let same = ap length c.as_slice.ensures.value in
     let few = c.in_ok-plan.ensures.few in omega (arith, same, few)
 
 pub parts_of-requires-clause-within : goal.parts_of-requires-clause-within
@@ -39,9 +39,9 @@ parts_of-requires-clause-within g c κs inside =
     let stops = c.args.stops.now in
     let plan = c.in_ok-plan.plan.items in
     let number = c.requires.stops in
-    subst (λ plan. All (λ (job : Job). job.connection < length stops) (map (block_job c.args.credits_shown) plan))
-    (sym c.as_slice-plan.ensures.value)
-    (all-map (λ (job : Job). job.connection < length stops) (block_job c.args.credits_shown) plan
+    subst (λ plan. All (λ (job : Job). job.connection < length stops) (map (block_job c.args.crew.now.setup.credits_shown) plan))
+    (sym c.as_slice.ensures.value)
+    (all-map (λ (job : Job). job.connection < length stops) (block_job c.args.crew.now.setup.credits_shown) plan
     (λ n d l. let one = c.in_ok-plan.ensures.plan.within n d l in omega (arith, number, one)))
 
 pub gathered-requires : goal.gathered-requires
@@ -53,11 +53,11 @@ gathered-requires g c =
     let none = c.in_ok-none.ensures.number in
     let size : bound ≡ length c.in_ok-none.none.items = omega (arith, number, none) in
     subst (λ n. All (λ part. part.connection < n) parts) size
-    (parts-within (map (block_job c.args.credits_shown) c.as_slice-plan.result.now) c.args.stops.now parts bound
+    (parts-within (map (block_job c.args.crew.now.setup.credits_shown) c.as_slice.result.now) c.args.stops.now parts bound
     c.in_ok-parts.ensures
-    (subst (λ plan. All (λ (job : Job). job.connection < bound) (map (block_job c.args.credits_shown) plan))
-    (sym c.as_slice-plan.ensures.value)
-    (all-map (λ (job : Job). job.connection < bound) (block_job c.args.credits_shown) plan
+    (subst (λ plan. All (λ (job : Job). job.connection < bound) (map (block_job c.args.crew.now.setup.credits_shown) plan))
+    (sym c.as_slice.ensures.value)
+    (all-map (λ (job : Job). job.connection < bound) (block_job c.args.crew.now.setup.credits_shown) plan
     (λ n d l. let one = c.in_ok-plan.ensures.plan.within n d l in omega (arith, number, one)))))
 
 pub merged_each-requires : goal.merged_each-requires
@@ -69,12 +69,12 @@ merged_each-requires g c =
 
 pub returns-clause-findings : goal.returns-clause-findings
 returns-clause-findings g c =
-    let shows = c.args.credits_shown in
+    let shows = c.args.crew.now.setup.credits_shown in
     let connections = c.args.connections.now in
     let plan = c.in_ok-plan.plan.items in
     let stops = c.args.stops.now in
     let parts = c.in_ok-parts.parts.items in
-    let laid = subst (λ plan. AreParts (map (block_job shows) plan) stops parts) c.as_slice-plan.ensures.value
+    let laid = subst (λ plan. AreParts (map (block_job shows) plan) stops parts) c.as_slice.ensures.value
     c.in_ok-parts.ensures in
     let number = c.requires.number in
     let none = c.in_ok-none.ensures.number in

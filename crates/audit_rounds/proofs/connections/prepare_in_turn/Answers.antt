@@ -22,8 +22,8 @@ loop-frames-preserved g c =
       frames = rw more (ready-more made ready c.args.connections.now at.frames-index c.frames-item.result within
           (c.in_ok-ready.ensures.frames ∙ ap (λ (frames : Bor (List Frame)). frames.now) c.frames-item.is)
           at.invariant.frames);
-      prepared = subst (All (IsPrepared c.args.credits_shown)) (sym more)
-          (All-push (IsPrepared c.args.credits_shown) made ready at.invariant.prepared c.in_ok-ready.ensures.prepared);
+      prepared = subst (All (IsPrepared c.args.crew.now.setup.credits_shown)) (sym more)
+          (All-push (IsPrepared c.args.crew.now.setup.credits_shown) made ready at.invariant.prepared c.in_ok-ready.ensures.prepared);
       found = rw (more, c.in_ok-push.ensures.found)
           (before-more found made c.in_ok-ready.before ready c.in_ok-ready.ensures.found at.invariant.found);
     }
@@ -34,7 +34,7 @@ loop-frames-init g c =
     record {
       within = omega arith;
       frames = ap (map (λ (one : Prepared). one.frames.now)) none;
-      prepared = subst (All (IsPrepared c.args.credits_shown)) (sym none) (λ n d l. absurd (omega arith));
+      prepared = subst (All (IsPrepared c.args.crew.now.setup.credits_shown)) (sym none) (λ n d l. absurd (omega arith));
       found = ap (map (λ (list : Vec Finding Global). list.items)) c.in_ok-made.ensures.found
           ∙ sym (ap (map found_before) none);
     }
@@ -43,9 +43,9 @@ pub prepare-requires : goal.prepare-requires
 prepare-requires g c = (
   c.type_bounds.sync-R,
   (
-    c.requires.workers,
+    c.type_bounds.sync-G,
     subst (λ (frames : Bor (List Frame)). IsOrderly frames.now) (sym c.frames-item.is)
-        (c.requires.frames c.loop-frames.frames-index c.frames-item.result c.loop-frames-test.true),
+        (c.requires c.loop-frames.frames-index c.frames-item.result c.loop-frames-test.true),
   ),
 )
 

@@ -1,0 +1,44 @@
+-- Lists whose elements are the same, each list's by a reading of its own.
+use Rattle.std.proofs.Common.{◌≡◌, ℕ, ◌+◌, ◌<◌, List, [], ◌∷◌, ◌++◌, All, Bor, Vec, Global, get_or, length, map, take}
+use Rattle.std.proofs.Common.{sym, ap, ◌∙◌, subst, arith}
+use Rattle.std.specs.List.{sum, sum_by}
+use Rattle.std.proofs.lemmas.List.{length-map, get_or-map, map-append, map_more}
+use Rattle.std.proofs.lemmas.List.Elements.{All-map}
+use Rattle.std.proofs.lemmas.List.Sums.{sum-map}
+use Rattle.std.proofs.lemmas.Simd.{map-map}
+use Rattle.audit_terms.specs.declared.findings.Finding.{Finding}
+use Rattle.audit_terms.specs.declared.frames.Frame.{Frame}
+
+-- the readings that proofs of this crate need most
+abbrev pub items_in : Vec Finding Global → List Finding
+items_in list = list.items
+
+abbrev pub frames_in : Bor (List Frame) → List Frame
+frames_in frames = frames.now
+
+module _ {X Y Z : Type 0} (f : X → Z) (g : Y → Z) where
+  pub as-many : (xs : List X) (ys : List Y) → map f xs ≡ map g ys → length xs ≡ length ys
+  as-many xs ys e = sym (length-map xs f) ∙ ap length e ∙ length-map ys g
+
+  pub all-alike : (P : Z → Type 0) (xs : List X) (ys : List Y) → map f xs ≡ map g ys → All (λ y. P (g y)) ys →
+      All (λ x. P (f x)) xs
+  all-alike P xs ys e h n d l =
+      let long = length-map xs f in
+      subst P (get_or-map f xs n d (f d) l)
+      (subst (All P) (sym e) (All-map P g ys h) n (f d) (omega (arith, long, l)))
+
+  pub maps-alike : {W : Type 0} (h : Z → W) (xs : List X) (ys : List Y) → map f xs ≡ map g ys →
+      map (λ x. h (f x)) xs ≡ map (λ y. h (g y)) ys
+  maps-alike h xs ys e = sym (map-map h f xs) ∙ ap (map h) e ∙ map-map h g ys
+
+  pub sums-alike : (h : Z → ℕ) (xs : List X) (ys : List Y) → map f xs ≡ map g ys →
+      sum_by (λ x. h (f x)) xs ≡ sum_by (λ y. h (g y)) ys
+  sums-alike h xs ys e = sym (sum-map (λ x. h (f x)) xs) ∙ ap sum (maps-alike h xs ys e) ∙ sum-map (λ y. h (g y)) ys
+
+  -- one element more
+  pub map-grows : (made : List X) (one : X) (all : List Y) (at : ℕ) (d : Y) → at < length all →
+      f one ≡ g (get_or all at d) → map f made ≡ map g (take at all) →
+      map f (made ++ one ∷ []) ≡ map g (take (at + 1) all)
+  map-grows made one all at d l is e =
+      map-append f made (one ∷ []) ∙ ap (λ l. l ++ f one ∷ []) e ∙ ap (λ c. map g (take at all) ++ c ∷ []) is
+      ∙ sym (map_more g all at d l)
