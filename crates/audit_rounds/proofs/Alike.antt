@@ -42,3 +42,8 @@ module _ {X Y Z : Type 0} (f : X → Z) (g : Y → Z) where
   map-grows made one all at d l is e =
       map-append f made (one ∷ []) ∙ ap (λ l. l ++ f one ∷ []) e ∙ ap (λ c. map g (take at all) ++ c ∷ []) is
       ∙ sym (map_more g all at d l)
+
+-- an element, where there is one
+pub some_of : {X : Type 0} (xs : List X) (n : ℕ) → n < length xs → X
+some_of [] n l = absurd (omega arith)
+some_of (x ∷ xs) n l = x

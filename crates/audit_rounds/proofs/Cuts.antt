@@ -30,7 +30,7 @@ use Rattle.audit_core.proofs.OrderlyRest.{length-orderly}
 use Rattle.split_merge.proofs.ShownMerge.{shown-append}
 use Rattle.audit_rounds.specs.declared.blocks.ConnectionBlock.{ConnectionBlock}
 use Rattle.audit_rounds.specs.code.Blocks.{IsShort, AreShort, IsSum, AreSums, IsReady, blocks_in}
-use Rattle.audit_rounds.proofs.Jobs.{all-map}
+use Rattle.std.proofs.lemmas.List.Elements.{All-map}
 use Rattle.audit_rounds.proofs.Parts.{orderly-earlier}
 
 -- ---- one block more
@@ -260,7 +260,7 @@ module _ (blocks : List ConnectionBlock) (befores : List ConnectionState) (at : 
       subst (IsReady before) own
       (subst (λ now. IsReady now (get_or (blocks_in blocks) at d.block)) here
       (before_each connection_start (blocks_in blocks) at before d.block within
-      (all-map IsShort (λ (one : ConnectionBlock). one.block) blocks short) fits little))
+      (All-map IsShort (λ (one : ConnectionBlock). one.block) blocks short) fits little))
 
   -- what is shown of it
   pub block-said : (c : Bool) → shown c (block_run before (items_in (get_or blocks at d).block))
@@ -270,8 +270,3 @@ module _ (blocks : List ConnectionBlock) (befores : List ConnectionState) (at : 
       ∙ ap (λ block. shown c (block_run (get_or (connections_before connection_start
       (map items_in (blocks_in blocks))) at before) (items_in block))) (sym own)
       ∙ said_each c connection_start (blocks_in blocks) at before d.block [] within
-
--- an element, where there is one
-pub some_of : {X : Type 0} (xs : List X) (n : ℕ) → n < length xs → X
-some_of [] n l = absurd (omega arith)
-some_of (x ∷ xs) n l = x

@@ -20,12 +20,6 @@ taken-holds P taken x rest left all e whole h =
     subst P (ap (λ l. get_or l (length taken) x) (sym same) ∙ get_or-append_seam taken x rest x)
     (h (length taken) x (omega arith))
 
--- one result more is made
-pub made-more : {X Y : Type 0} (f : X → Y) (taken : List X) (x : X) (made new : List Y) → new ≡ made ++ f x ∷ []
-    → made ≡ map f taken → new ≡ map f (taken ++ x ∷ [])
-made-more f taken x made new e is =
-    e ∙ ap (λ l. l ++ f x ∷ []) is ∙ sym (map-append f taken (x ∷ []))
-
 -- one result more, of which something is known
 pub known-more : {X Y Z : Type 0} (g : Y → Z) (f : X → Z) (taken : List X) (x : X) (made new : List Y) (y : Y)
     → new ≡ made ++ y ∷ [] → g y ≡ f x → map g made ≡ map f taken → map g new ≡ map f (taken ++ x ∷ [])

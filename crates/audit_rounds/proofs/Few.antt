@@ -22,7 +22,7 @@ use Rattle.audit_rounds.specs.code.Few.{AreFew, PreparedAreFew, RestsAreFew, Row
 use Rattle.audit_rounds.specs.code.Prepared.{IsPrepared}
 use Rattle.audit_rounds.specs.code.StreamJobs.{job_at, plan_from}
 use Rattle.audit_rounds.specs.code.StreamRound.{IsStreamsOf}
-use Rattle.audit_rounds.proofs.Alike.{frames_in, sums-alike}
+use Rattle.audit_rounds.proofs.Alike.{frames_in, some_of, sums-alike}
 use Rattle.audit_rounds.proofs.StreamReady.{length-rows}
 
 abbrev pub lent : Bor (List Frame) → ℕ
@@ -63,10 +63,6 @@ sums-less f g (x ∷ xs) (y ∷ ys) e each =
     let right = sum_by-cons g y ys in
     omega (arith, first, rest, left, right)
 
-first-of : {X : Type 0} (xs : List X) → 0 < length xs → X
-first-of [] l = absurd (omega arith)
-first-of (x ∷ xs) l = x
-
 within-shorter : (stop : Option ℕ) (frames : List Frame) → length (frames_within stop frames) ≤ length frames
 within-shorter stop frames =
     let test = λ (frame : Frame). not (is_past stop frame.number) in
@@ -82,7 +78,7 @@ few-rests connections stops opened rests opens are h =
     let less = sums-less (λ (whole : Block). length whole.frames.now) (λ (one : Prepared). length one.frames.now)
     rests connections number (λ n rest connection l.
     let inside : n < length connections = omega (arith, l, number) in
-    let numbers = first-of opened (omega (arith, inside, opens)) in
+    let numbers = some_of opened n (omega (arith, inside, opens)) in
     let is = ap length (are.each n connection None numbers rest inside).frames in
     let shorter = within-shorter (get_or stops n None) (get_or connections n connection).frames.now in
     omega (arith, is, shorter)) in

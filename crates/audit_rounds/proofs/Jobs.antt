@@ -1,9 +1,10 @@
 -- The jobs of the rounds over blocks.
-use Rattle.std.proofs.Common.{◌≡◌, ℕ, zero, suc, ◌+◌, Bool, true, false, if◌then◌else◌, List, [], ◌∷◌, map, length}
+use Rattle.std.proofs.Common.{◌≡◌, ℕ, suc, ◌+◌, Bool, true, false, if◌then◌else◌, List, [], ◌∷◌, map, length}
 use Rattle.std.proofs.Common.{get_or, All, Contains, Option, Some, None, slice_get, ◌⊎◌, inl, inr, ⊎_elim, refl, sym}
 use Rattle.std.proofs.Common.{ap, ◌∙◌, subst, arith}
 use Rattle.std.proofs.lemmas.List.{length-map, get_or-map}
 use Rattle.std.proofs.lemmas.Option.{slice_get_within, get_or_from_slice_get}
+use Rattle.std.proofs.lemmas.List.Elements.{All-map}
 use Rattle.std.specs.List.{list_any}
 use Rattle.audit_terms.specs.declared.connections.ConnectionState.{ConnectionState}
 use Rattle.audit_terms.specs.declared.findings.Finding.{Finding}
@@ -35,14 +36,8 @@ job-is f xs k one d e =
     let within = slice_get_within (map f xs) k one e in
     sym (get_or_from_slice_get (map f xs) k one one e) ∙ get_or-map f xs k d one (omega arith)
 
--- what holds of the images
-pub all-map : {X Y : Type 0} (P : Y → Type 0) (f : X → Y) (xs : List X) → All (λ x. P (f x)) xs → All P (map f xs)
-all-map P f [] h n d l = absurd (omega arith)
-all-map P f (x ∷ xs) h zero d l = h 0 x (omega arith)
-all-map P f (x ∷ xs) h (suc n) d l = all-map P f xs (λ k e m. h (suc k) e (omega arith)) n d (omega arith)
-
 none-found : (blocks : List ConnectionBlock) → All (λ (job : Job). job.findings ≡ []) (map sum_job blocks)
-none-found blocks = all-map (λ (job : Job). job.findings ≡ []) sum_job blocks (λ n d l. refl)
+none-found blocks = All-map (λ (job : Job). job.findings ≡ []) sum_job blocks (λ n d l. refl)
 
 -- a sum finds all that its job has to find, which is nothing
 pub sum-cut : (blocks : List ConnectionBlock) (k : ℕ) (one : Job) → slice_get (map sum_job blocks) k ≡ Some one
@@ -86,17 +81,17 @@ shown-in_order c now block h =
     ∙ ap (shown c) (ordered-in_order comes_after comes_after_is (block_run now (items_in block))
     (run-in_order now 0 block.opened.now block.changes.now block.frames.now h.frames))
 
-upto-cut : (whole : List Finding) (upto : Option ℕ) → in_order whole ≡ whole → IsCut whole upto (up_to upto whole)
-upto-cut whole None e = whole_is_cut_lem whole None e
-upto-cut whole (Some place) e = front_is_cut_lem whole place e
+-- what is up to a place is a cut
+pub upto-cut : (whole kept : List Finding) (upto : Option ℕ) → in_order whole ≡ whole → kept ≡ up_to upto whole
+    → IsCut whole upto kept
+upto-cut whole kept None o e = subst (IsCut whole None) (sym e) (whole_is_cut_lem whole None o)
+upto-cut whole kept (Some place) o e = subst (IsCut whole (Some place)) (sym e) (front_is_cut_lem whole place o)
 
 -- what was found of a block up to a place is a cut of what it shows
 pub block-cut-is : (c : Bool) (now : ConnectionState) (block : Block) (upto : Option ℕ) (kept : List Finding)
     → IsBlock block → kept ≡ up_to upto (shown c (block_run now (items_in block)))
     → IsCut (shown c (block_run now (items_in block))) upto kept
-block-cut-is c now block upto kept h e =
-    let whole = shown c (block_run now (items_in block)) in
-    subst (IsCut whole upto) (sym e) (upto-cut whole upto (shown-in_order c now block h))
+block-cut-is c now block upto kept h = upto-cut _ kept upto (shown-in_order c now block h)
 
 -- ---- what was answered
 

@@ -22,8 +22,8 @@ use Rattle.audit_rounds.specs.declared.block_plans.ReadyBlock.{ReadyBlock}
 use Rattle.audit_rounds.specs.code.Blocks.{IsSum, AreSums, wholes}
 use Rattle.audit_rounds.specs.code.Plans.{sum_job, block_job, whole_shown, shown_at, IsPlan, AreParts}
 use Rattle.audit_rounds.specs.code.Remaining.{IsRemaining}
-use Rattle.audit_rounds.proofs.Cuts.{some_of}
-use Rattle.audit_rounds.proofs.Jobs.{all-map}
+use Rattle.audit_rounds.proofs.Alike.{some_of}
+use Rattle.std.proofs.lemmas.List.Elements.{All-map}
 use Rattle.audit_rounds.proofs.Plans.{shown-at}
 
 -- the parts of a settled round hold the sum of each block
@@ -97,7 +97,7 @@ module _ (connections : List Block) (stops : List (Option ℕ)) (found : List (V
   each-block n d l = (is-remaining n d None l (omega arith)).is_block
 
   pub each-fits : All (BlockFits connection_start) (wholes connections)
-  each-fits = all-map (BlockFits connection_start) items_in connections
+  each-fits = All-map (BlockFits connection_start) items_in connections
       (λ n d l. (is-remaining n d None l (omega arith)).fits)
 
   pub each-place : All IsStop stops

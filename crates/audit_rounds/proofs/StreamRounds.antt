@@ -47,7 +47,8 @@ use Rattle.audit_rounds.specs.code.Within.{AgreeWithin}
 use Rattle.audit_rounds.proofs.Parts.{orderly-frames_of, acknowledged-frames_of}
 use Rattle.audit_rounds.proofs.StreamReady.{length-rows}
 use Rattle.audit_rounds.proofs.Told.{agree-parted}
-use Rattle.audit_rounds.proofs.Whole.{flat_map-map}
+use Rattle.std.proofs.lemmas.List.Folds.{flat_map-map}
+use Rattle.audit_rounds.proofs.Alike.{items_in, all-alike}
 pub use Rattle.std.proofs.lemmas.Slice.Zip.{AllZip-long as zip-length}
 
 -- ---- lists of which each goes with the other's
@@ -409,8 +410,8 @@ pub jobs-of : (credits_shown : Bool) (count : ℕ) (connections : List Prepared)
     → findings_of_jobs n (map (job_of credits_shown streams) (plan_from count 0 streams))
     ≡ streams_shown credits_shown one.frames.now
 jobs-of credits_shown count connections streams h p is n one e =
-    sym (flat_map-map (λ (job : Job). if job.connection == n then job.findings else []) (job_of credits_shown streams)
-    (plan_from count 0 streams))
+    flat_map-map (λ (job : Job). if job.connection == n then job.findings else []) (job_of credits_shown streams)
+    (plan_from count 0 streams)
     ∙ of-streams credits_shown (λ stream frames changes. shown credits_shown (stream_run stream frames changes)) count
     connections streams h p is n one e
     ∙ rows-shown credits_shown one (prepared-at credits_shown connections p n one e)
@@ -473,11 +474,6 @@ stop-place found None h is = tt
 stop-place found (Some place) h is =
     subst IsPlace is.0.3 (All-contains IsBelow found is.0.0 h is.0.1)
 
-all-unmap : {X Y : Type 0} (P : Y → Type 0) (f : X → Y) (xs : List X) → All P (map f xs) → All (λ x. P (f x)) xs
-all-unmap P f [] h = All-nil (λ x. P (f x))
-all-unmap P f (x ∷ xs) h =
-    All-cons (λ x. P (f x)) x xs (All-head P (f x) (map f xs) h) (all-unmap P f xs (All-tail P (f x) (map f xs) h))
-
 pub stops-are-places : (credits_shown : Bool) (connections : List Prepared) (found : List (Vec Finding Global))
     (stops : List (Option ℕ)) → All (IsPrepared credits_shown) connections
     → map (λ (one : Vec Finding Global). one.items) found ≡ map found_before connections
@@ -487,9 +483,7 @@ stops-are-places credits_shown connections found stops p e is =
     zip-all (λ (one : Vec Finding Global). All IsBelow one.items)
     (λ (one : Vec Finding Global) (stop : Option ℕ). IsFirstStop one.items stop) IsStop
     (λ one stop h first. stop-place one.items stop h first) found stops
-    (all-unmap (All IsBelow) (λ (one : Vec Finding Global). one.items) found
-    (subst (All (All IsBelow)) (sym e)
-    (All-map (All IsBelow) found_before connections
+    (all-alike items_in found_before (All IsBelow) found connections e
     (All-weaker (IsPrepared credits_shown) (λ connection. All IsBelow (found_before connection))
-    (before-below credits_shown) connections p))))
+    (before-below credits_shown) connections p))
     is

@@ -15,12 +15,12 @@ use Rattle.std.proofs.lemmas.List.Elements.{Contains-append_left, Contains-appen
 use borrow.Author.Tests.{eqb-true, ltb-true, ltb-false}
 use Rattle.audit_terms.specs.declared.findings.Finding.{Finding}
 use Rattle.audit_terms.specs.Finding.{in_order}
-use Rattle.audit_terms.specs.code.runs.Look.{Asked, Looked, last_answer, LooksInTime, is_past, up_to, upto_of, IsRun}
+use Rattle.audit_terms.specs.code.runs.Look.{Asked, Looked, is_past, IsRun}
 use Rattle.audit_terms.specs.Place.{place_number}
 use Rattle.stream_credit.specs.code.Looks.{opened_up_to}
-use Rattle.job_crew.specs.code.Board.{IsPast, IsCut}
-use Rattle.job_crew.proofs.RoundMembers.{contains-here, contains-later, in_order-contains}
-use Rattle.job_crew.proofs.RoundCuts.{front_is_cut_lem, whole_is_cut_lem, cuts_join_lem}
+use Rattle.job_crew.specs.code.Board.{IsPast}
+use Rattle.job_crew.proofs.RoundMembers.{in_order-contains}
+use Rattle.job_crew.proofs.RoundCuts.{whole_is_cut_lem, cuts_join_lem}
 use Rattle.job_crew.specs.code.Heeding.{Heeds, RunLooks}
 use Rattle.std.specs.Prelude.{Result, Ok, Err, IfOk}
 use Rattle.audit_terms.specs.declared.frames.Frame.{Frame}
@@ -34,14 +34,10 @@ use Rattle.split_merge.specs.code.Split.{frames_at, part_of}
 use Rattle.audit_rounds.specs.declared.streams.Streams.{Streams}
 use Rattle.audit_rounds.specs.code.Streams.{lesser, AreOpenedUpTo, IsWork, IsRow, RowLooks, RowsLook, row_shown}
 use Rattle.audit_rounds.specs.code.Streams.{row_opened}
+use Rattle.audit_rounds.proofs.Jobs.{run-heeds, upto-cut}
 use Rattle.audit_rounds.proofs.StreamOrder.{shown-ordered}
 
 -- ---- one stream
-
-cut-of : (whole kept : List Finding) (upto : Option ℕ) → in_order whole ≡ whole → kept ≡ up_to upto whole
-    → IsCut whole upto kept
-cut-of whole kept None o e = subst (IsCut whole None) (sym e) (whole_is_cut_lem whole None o)
-cut-of whole kept (Some place) o e = subst (IsCut whole (Some place)) (sym e) (front_is_cut_lem whole place o)
 
 opens-up_to : (upto opened : Option ℕ)
     → AreOpenedUpTo upto (option_to_list (opened_up_to upto opened)) (option_to_list opened)
@@ -56,34 +52,7 @@ opens-up_to upto (Some m) number h = by_test _ refl where
   by_test false e = refl
   by_test true e = other (m == number) e refl
 
-last-asked : (one : Asked) (rest : List Asked) (place : ℕ) → last_answer one.answer rest ≡ Some place
-    → (asked : Asked) × Contains (one ∷ rest) asked × (asked.answer ≡ Some place)
-last-asked one [] place e = (one, contains-here one [], e)
-last-asked one (two ∷ rest) place e =
-    let found = last-asked two rest place e in
-    (found.0, contains-later one (two ∷ rest) found.0 found.1, found.2)
-
-chosen : (b : Bool) (stop : Option ℕ) (place : ℕ) → (if b then stop else None) ≡ Some place → stop ≡ Some place
-chosen true stop place e = e
-chosen false stop place e = cc
-
 module _ {L : Type 0} (answers : L → List Finding → Option ℕ → L → Type 0) where
-  heeds-run : (before after : L) (numbers : List ℕ) (whole kept : List Finding) (upto last_look : Option ℕ)
-      (looks : ℕ) → IsRun answers before after numbers whole kept upto last_look looks
-      → Heeds answers (RunLooks numbers whole) before after upto
-  heeds-run before after numbers whole kept upto last_look looks run = record {
-    asked = run.asked;
-    looked = run.looked;
-    in_time = (run.in_time, run.goes ∙ sym (ap (upto_of numbers) run.last));
-    answered = λ place e.
-        answered run.asked run.in_time place
-        (run.last ∙ chosen (list_any (is_past last_look) numbers) last_look place (sym run.goes ∙ e));
-  } where
-    answered : (asked : List Asked) → LooksInTime numbers whole asked → (place : ℕ)
-        → last_answer None asked ≡ Some place → (one : Asked) × Contains asked one × (one.answer ≡ Some place)
-    answered [] t place e = absurd t
-    answered (one ∷ rest) t place e = last-asked one rest place e
-
   -- a run of a stream is its work
   pub work-of_run : (before after : L) (numbers : List ℕ) (whole kept : List Finding) (upto last_look : Option ℕ)
       (looks : ℕ) (opening opened : Option ℕ) → in_order whole ≡ whole
@@ -92,11 +61,11 @@ module _ {L : Type 0} (answers : L → List Finding → Option ℕ → L → Typ
       → IsWork answers (RunLooks numbers whole) before after whole (option_to_list opening) upto kept
       (option_to_list opened)
   work-of_run before after numbers whole kept upto last_look looks opening opened o run e n = record {
-    cut = cut-of whole kept upto o run.found;
+    cut = upto-cut whole kept upto o run.found;
     opens = subst (λ l. AreOpenedUpTo upto (option_to_list l) (option_to_list opening)) (sym e)
         (opens-up_to upto opening);
     numbered = n;
-    looks = heeds-run before after numbers whole kept upto last_look looks run;
+    looks = run-heeds answers before after numbers whole kept upto last_look looks run;
   }
 
 -- ---- several

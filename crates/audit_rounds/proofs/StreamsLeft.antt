@@ -28,6 +28,7 @@ use Rattle.audit_rounds.specs.code.Prepared.{IsPrepared, found_before}
 use Rattle.audit_rounds.specs.code.StreamJobs.{job_of, of_rows, plan_from}
 use Rattle.audit_rounds.specs.code.StreamRound.{IsFirstStop, IsStreamsOf}
 use Rattle.audit_rounds.specs.code.Streams.{rows_opened}
+use Rattle.audit_rounds.proofs.Alike.{items_in, as-many}
 use Rattle.audit_rounds.proofs.Jobs.{job-is}
 use Rattle.audit_rounds.proofs.Settles.{parts-within}
 use Rattle.audit_rounds.proofs.StreamRounds.{jobs-of, jobs-within, openings-of, prepared-at, openings-all}
@@ -49,14 +50,6 @@ both-at R [] ys n d e h l = absurd (omega (arith, l))
 both-at R (x ∷ xs) [] n d e h l = absurd h
 both-at R (x ∷ xs) (y ∷ ys) zero d e h l = h.0
 both-at R (x ∷ xs) (y ∷ ys) (suc n) d e h l = both-at R xs ys n d e h.1 (omega (arith, l))
-
--- what was found before is of each connection
-pub as-many : (connections : List Prepared) (found : List (Vec Finding Global))
-    → map (λ (one : Vec Finding Global). one.items) found ≡ map found_before connections
-    → length found ≡ length connections
-as-many connections found before =
-    sym (length-map found (λ (one : Vec Finding Global). one.items)) ∙ ap length before
-    ∙ length-map connections found_before
 
 -- ---- what the parts tell of openings
 
@@ -207,7 +200,7 @@ module _ (credits_shown : Bool) (count : ℕ) (streams : List Streams) (opening 
       → IsInOrder (numbers_told n parts ++ (get_or connections n connection).split.opened.items)
       (get_or opened n list).items) where
     founds : length found ≡ length connections
-    founds = as-many connections found before
+    founds = as-many items_in found_before found connections before
 
     stops-number : length stops ≡ length found
     stops-number = h.connections ∙ AllZip-long _ found opening first

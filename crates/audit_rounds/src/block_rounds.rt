@@ -41,11 +41,7 @@ const BLOCK_ROUND: u8 = 3;
 fn summaries(alloc: Global, parts: Vec<Part<ConnSum>>) -> Result<Vec<ConnSum>, AllocError>
     ensures { IfOk result (λ sums. sums.items ≡ map (λ (part : PartTerm ConnSumTerm). part.made) parts.items) }
 {
-    let mut sums = Vec::with_capacity(alloc, parts.len())?;
-    for part in parts {
-        sums.push(part.made)?;
-    }
-    Ok(sums)
+    parts.into_iter().map(|part| part.made).collect(alloc)
 }
 
 /// The summary of each block.

@@ -9,7 +9,8 @@ use Rattle.audit_rounds.specs.code.Blocks.{blocks_in}
 use Rattle.audit_rounds.specs.code.Plans.{IsPlan}
 use Rattle.audit_rounds.proofs.Clears.{on-false}
 use Rattle.audit_rounds.proofs.Cuts.{said_from, said_number, sums-are, little-are, befores-are, befores-number}
-use Rattle.audit_rounds.proofs.Cuts.{block-ready, block-said, some_of}
+use Rattle.audit_rounds.proofs.Alike.{some_of}
+use Rattle.audit_rounds.proofs.Cuts.{block-ready, block-said}
 use Rattle.audit_rounds.proofs.Plans.{finds_upto, plan-more, plan-skips, plan-all}
 use Rattle.audit_rounds.proofs.block_plans.add_ready.Goals.{then-may_show+in_ok-push, else-may_show}
 use Rattle.audit_rounds.proofs.block_plans.add_ready.Goals as goal

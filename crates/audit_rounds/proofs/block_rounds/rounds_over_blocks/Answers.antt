@@ -4,7 +4,8 @@ use Rattle.audit_terms.proofs.FindingOrder.{in_order-in_order}
 use Rattle.job_crew.specs.code.Board.{Job, findings_of_parts}
 use Rattle.job_crew.specs.code.Laid.{part_of}
 use Rattle.audit_rounds.specs.code.Plans.{AreParts, block_job}
-use Rattle.audit_rounds.proofs.Jobs.{all-map}
+use Rattle.std.proofs.lemmas.List.Elements.{All-map}
+use Rattle.audit_rounds.proofs.Merges.{merged-at, merged-long}
 use Rattle.audit_rounds.proofs.Settles.{merged, parts-within, each-block, each-fits, each-place}
 use Rattle.audit_rounds.proofs.Whole.{if_ok-then}
 use Rattle.audit_rounds.proofs.block_rounds.rounds_over_blocks.Goals as goal
@@ -41,7 +42,7 @@ parts_of-requires-clause-within g c κs inside =
     let number = c.requires.stops in
     subst (λ plan. All (λ (job : Job). job.connection < length stops) (map (block_job c.args.crew.now.setup.credits_shown) plan))
     (sym c.as_slice.ensures.value)
-    (all-map (λ (job : Job). job.connection < length stops) (block_job c.args.crew.now.setup.credits_shown) plan
+    (All-map (λ (job : Job). job.connection < length stops) (block_job c.args.crew.now.setup.credits_shown) plan
     (λ n d l. let one = c.in_ok-plan.ensures.plan.within n d l in omega (arith, number, one)))
 
 pub gathered-requires : goal.gathered-requires
@@ -57,15 +58,16 @@ gathered-requires g c =
     c.in_ok-parts.ensures
     (subst (λ plan. All (λ (job : Job). job.connection < bound) (map (block_job c.args.crew.now.setup.credits_shown) plan))
     (sym c.as_slice.ensures.value)
-    (all-map (λ (job : Job). job.connection < bound) (block_job c.args.crew.now.setup.credits_shown) plan
+    (All-map (λ (job : Job). job.connection < bound) (block_job c.args.crew.now.setup.credits_shown) plan
     (λ n d l. let one = c.in_ok-plan.ensures.plan.within n d l in omega (arith, number, one)))))
 
-pub merged_each-requires : goal.merged_each-requires
-merged_each-requires g c =
+pub returns-clause-number : goal.returns-clause-number
+returns-clause-number g c =
     let number = c.requires.number in
     let none = c.in_ok-none.ensures.number in
     let own = c.in_ok-own.ensures.number in
-    omega (arith, number, none, own)
+    if_ok-then c.merged_each.result _ _ c.merged_each.ensures (λ last is.
+    merged-long c.args.found.items c.in_ok-own.own.items last.items is (omega (arith, number, none, own)))
 
 pub returns-clause-findings : goal.returns-clause-findings
 returns-clause-findings g c =
@@ -78,7 +80,8 @@ returns-clause-findings g c =
     c.in_ok-parts.ensures in
     let number = c.requires.number in
     let none = c.in_ok-none.ensures.number in
-    if_ok-then c.merged_each.result _ _ c.merged_each.ensures.each (λ last each n whole list list' l.
+    let owns = c.in_ok-own.ensures.number in
+    if_ok-then c.merged_each.result _ _ c.merged_each.ensures (λ last each n whole list list' l.
     let found = (get_or c.args.found.items n list').items in
     let shown = findings_of_parts n (map part_of parts) in
     let inside : n < length c.args.found.items = omega (arith, number, l) in
@@ -86,7 +89,8 @@ returns-clause-findings g c =
     let own : (get_or c.in_ok-own.own.items n list').items ≡ shown =
     c.in_ok-own.ensures.each n list' list' empty ∙ ap (λ l. l ++ shown) (c.in_ok-none.ensures.each n list' empty) in
     let is : (get_or last.items n list).items ≡ in_order (found ++ shown) =
-    each n list list' list' inside ∙ ap (λ l. in_order (found ++ l)) own in
+    merged-at c.args.found.items c.in_ok-own.own.items last.items each n list list' inside
+    (omega (arith, number, none, owns)) ∙ ap (λ l. in_order (found ++ l)) own in
     ap (λ l. upto_stop (in_order l)) is ∙ ap upto_stop (in_order-in_order (found ++ shown))
     ∙ merged shows connections (length connections) plan stops parts found (found ++ shown) n whole
     c.in_ok-plan.ensures.plan laid (c.requires.each n whole None list' l).least l refl)

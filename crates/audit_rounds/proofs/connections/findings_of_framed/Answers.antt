@@ -1,7 +1,10 @@
 use Rattle.std.proofs.Common.{List, map, sym, ap, ◌∙◌, subst}
 use Rattle.audit_rounds.specs.declared.prepared.Prepared.{Prepared}
 use Rattle.audit_rounds.specs.code.Batch.{AreReady}
-use Rattle.audit_rounds.proofs.Fronts.{passes-same}
+use Rattle.audit_terms.specs.declared.frames.Frame.{Frame}
+use Rattle.audit_terms.specs.Finding.{shown}
+use Rattle.audit_terms.specs.Pass.{pass}
+use Rattle.audit_rounds.proofs.Alike.{frames_in, maps-alike}
 use Rattle.audit_rounds.proofs.MadeReady.{batch-ready}
 use Rattle.audit_rounds.proofs.Whole.{if_ok-then}
 use Rattle.audit_rounds.proofs.connections.findings_of_framed.Goals as goal
@@ -18,5 +21,7 @@ pub returns : goal.returns
 returns g c =
     if_ok-then c.findings_of_prepared.result _ _ c.findings_of_prepared.ensures (λ found is.
     is
-    ∙ passes-same c.args.crew.now.setup.credits_shown c.as_slice.result.now c.args.connections.now
+    ∙ maps-alike (λ (one : Prepared). one.frames.now) frames_in
+    (λ (frames : List Frame). shown c.args.crew.now.setup.credits_shown (pass frames)) c.as_slice.result.now
+    c.args.connections.now
     (ap (map (λ (one : Prepared). one.frames.now)) c.as_slice.ensures.value ∙ c.in_ok-made.ensures.frames))

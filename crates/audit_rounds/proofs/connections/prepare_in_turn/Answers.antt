@@ -6,7 +6,8 @@ use Rattle.audit_terms.specs.declared.frames.Frame.{Frame}
 use Rattle.audit_terms.specs.code.runs.Orderly.{IsOrderly}
 use Rattle.audit_rounds.specs.declared.prepared.Prepared.{Prepared}
 use Rattle.audit_rounds.specs.code.Prepared.{IsPrepared, found_before}
-use Rattle.audit_rounds.proofs.Fronts.{ready-more, before-more}
+use Rattle.audit_rounds.proofs.Fronts.{before-more}
+use Rattle.audit_rounds.proofs.Alike.{frames_in, map-grows}
 use Rattle.audit_rounds.proofs.connections.prepare_in_turn.Goals as goal
 
 pub loop-frames-preserved : goal.loop-frames-preserved
@@ -19,7 +20,7 @@ loop-frames-preserved g c =
     let more = c.in_ok-push.ensures.prepared in
     record {
       within = omega (arith, within);
-      frames = rw more (ready-more made ready c.args.connections.now at.frames-index c.frames-item.result within
+      frames = rw more (map-grows (λ (one : Prepared). one.frames.now) frames_in made ready c.args.connections.now at.frames-index c.frames-item.result within
           (c.in_ok-ready.ensures.frames ∙ ap (λ (frames : Bor (List Frame)). frames.now) c.frames-item.is)
           at.invariant.frames);
       prepared = subst (All (IsPrepared c.args.crew.now.setup.credits_shown)) (sym more)

@@ -5,7 +5,9 @@ use Rattle.job_crew.specs.declared.parts.Part.{Part}
 use Rattle.audit_rounds.specs.code.AfterStreams.{HaveSettledOver}
 use Rattle.audit_rounds.specs.code.Opened.{numbers_told, IsInOrder}
 use Rattle.audit_rounds.specs.code.StreamRound.{IsStreamsOf}
-use Rattle.audit_rounds.proofs.StreamsLeft.{as-many, parts-inside, are-after}
+use Rattle.audit_rounds.specs.code.Prepared.{found_before}
+use Rattle.audit_rounds.proofs.Alike.{items_in, as-many}
+use Rattle.audit_rounds.proofs.StreamsLeft.{parts-inside, are-after}
 use Rattle.audit_rounds.proofs.stream_round.round_over_streams.Goals as goal
 
 pub settled_over-requires-after_bounds : goal.settled_over-requires-after_bounds
@@ -26,7 +28,7 @@ gathered-requires g c =
     let h = c.in_ok-settled.ensures in
     parts-inside c.args.crew.now.setup.credits_shown c.args.crew.now.setup.groups h.streams h.opening c.in_ok-settled.settled h.done
     (length found)
-    (AllZip-long IsStreamsOf connections h.streams h.of ∙ sym (as-many connections found c.requires.before))
+    (AllZip-long IsStreamsOf connections h.streams h.of ∙ sym (as-many items_in found_before found connections c.requires.before))
 
 pub returns : goal.returns
 returns g c =

@@ -9,7 +9,8 @@ use Rattle.audit_rounds.specs.code.StreamRound.{IsStreamsOf, IsFirstStop}
 use Rattle.audit_rounds.specs.code.Few.{RowsAreFew}
 use Rattle.audit_rounds.proofs.Few.{few-rows}
 use Rattle.audit_rounds.proofs.StreamRounds.{ready-each, stops-are-places}
-use Rattle.audit_rounds.proofs.StreamsLeft.{as-many}
+use Rattle.audit_rounds.specs.code.Prepared.{found_before}
+use Rattle.audit_rounds.proofs.Alike.{items_in, as-many}
 use Rattle.audit_rounds.proofs.Whole.{if_ok-then}
 use Rattle.audit_rounds.proofs.stream_round.settled_over.Goals as goal
 
@@ -24,7 +25,7 @@ settled_streams-requires-clause-number g c κs within =
     ap length c.as_slice-2.ensures.value
     ∙ AllZip-long (λ (one : Vec Finding Global) (stop : Option ℕ). IsFirstStop one.items stop) c.args.found.now
     c.in_ok-stops.stops.items c.in_ok-stops.ensures
-    ∙ as-many c.args.connections.now c.args.found.now c.requires.before
+    ∙ as-many items_in found_before c.args.found.now c.args.connections.now c.requires.before
     ∙ sym (AllZip-long IsStreamsOf c.args.connections.now c.in_ok-streams.streams.items c.in_ok-streams.ensures)
     ∙ sym (ap length c.as_slice-3.ensures.value)
 
