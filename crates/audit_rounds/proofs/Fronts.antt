@@ -226,15 +226,12 @@ rests-more connections stops opened rests k connection stop numbers own rest ek 
     ⊎_elim
     (λ e.
     let here : n ≡ k = e ∙ sym ek in
-    subst (λ one. IsRest one (get_or stops n s) (get_or opened n o).items (get_or (rests ++ rest ∷ []) n r))
-    (isc ∙ get_or_default connections k connection c lc ∙ ap (λ at. get_or connections at c) (sym here))
-    (subst (λ one. IsRest connection one (get_or opened n o).items (get_or (rests ++ rest ∷ []) n r))
-    (iss ∙ get_or_default stops k stop s ls ∙ ap (λ at. get_or stops at s) (sym here))
-    (subst (λ one. IsRest connection stop one (get_or (rests ++ rest ∷ []) n r))
-    (is-own ∙ ap (λ (v : Vec ℕ Global). v.items)
-    (iso ∙ get_or_default opened k numbers o lo ∙ ap (λ at. get_or opened at o) (sym here)))
-    (subst (IsRest connection stop own)
-    (sym (ap (λ at. get_or (rests ++ rest ∷ []) at r) e ∙ get_or-append_seam rests rest [] r)) is))))
+    let mine : get_or connections k c ≡ connection = sym (isc ∙ get_or_default connections k connection c lc) in
+    let at : get_or stops k s ≡ stop = sym (iss ∙ get_or_default stops k stop s ls) in
+    let said : get_or opened k o ≡ numbers = sym (iso ∙ get_or_default opened k numbers o lo) in
+    let last : get_or (rests ++ rest ∷ []) k r ≡ rest =
+    ap (λ at. get_or (rests ++ rest ∷ []) at r) ek ∙ get_or-append_seam rests rest [] r in
+    rw (here, mine, at, said, last, sym is-own) is)
     (λ ne.
     let long = length-append rests (rest ∷ []) in
     let before : n < length rests = omega (arith, l, long, ne) in

@@ -50,7 +50,8 @@ sum-cut blocks k one e =
 
 -- ---- what a block shows stands in order
 
-run-from : (now : ConnectionState) (low : ℕ) (opened : List ℕ) (changes : List Change) (frames : List Frame)
+-- findings stand at their frames
+pub run-from : (now : ConnectionState) (low : ℕ) (opened : List ℕ) (changes : List Change) (frames : List Frame)
     → IsOrderlyFrom low frames → AreFrom low (block_run now (items_with opened changes frames))
 run-from now low opened changes [] h = tt
 run-from now low opened changes (frame ∷ frames) h =

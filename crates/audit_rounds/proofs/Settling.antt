@@ -9,7 +9,7 @@ use Rattle.audit_terms.specs.declared.findings.Finding.{Finding}
 use Rattle.audit_terms.specs.declared.frames.Frame.{Frame}
 use Rattle.audit_terms.specs.declared.items.Change.{Change}
 use Rattle.audit_terms.specs.declared.items.Item.{Item}
-use Rattle.audit_terms.specs.Connection.{connection_start, connection_said, connection_after}
+use Rattle.audit_terms.specs.Connection.{connection_start}
 use Rattle.audit_terms.specs.code.runs.Blocks.{connection_after_all, block_run}
 use Rattle.audit_terms.specs.Finding.{in_order, upto_stop, is_shown, shown}
 use Rattle.audit_terms.specs.Frame.{is_headers}
@@ -22,7 +22,7 @@ use Rattle.audit_terms.specs.code.runs.States.{items_of}
 use Rattle.audit_terms.specs.Place.{place_number}
 use Rattle.audit_terms.proofs.FindingOrder.{in_order-append_comm, in_order-alike}
 use Rattle.audit_core.specs.laws.Parts.{joined}
-use Rattle.audit_terms.proofs.SaidPlaces.{AreFrom, at-connection, at-in_order, from-at, from-from, from-append}
+use Rattle.audit_terms.proofs.SaidPlaces.{AreFrom}
 use Rattle.conn_scan.specs.code.Items.{item_with, items_with, change_at}
 use Rattle.job_crew.specs.code.Board.{StopsAt, IsLeast, IsPast}
 use Rattle.job_crew.proofs.RoundCuts.{stops_join_lem}
@@ -33,6 +33,7 @@ use Rattle.audit_rounds.specs.code.Openings.{openings_of}
 use Rattle.audit_rounds.specs.code.Shown.{streams_shown, blocks_shown}
 use Rattle.audit_rounds.specs.laws.Settling.{blocks_within, RoundsSettle}
 use Rattle.audit_rounds.specs.code.Within.{AgreeWithin, IsAfterStreams, frames_within}
+use Rattle.audit_rounds.proofs.Jobs.{run-from}
 use Rattle.audit_rounds.proofs.Items.{items_are_found_lem}
 use Rattle.audit_rounds.proofs.Parts.{orderly-filter}
 use Rattle.audit_rounds.proofs.Rounds.{rounds_make_pass_lem}
@@ -107,17 +108,6 @@ past-orderly place low (frame ∷ frames) h = by_test _ refl (past-orderly place
 
 -- ---- what blocks of them show
 
--- findings stand at their frames
-from-block_run : (low : ℕ) (now : ConnectionState) (opened : List ℕ) (changes : List Change) (frames : List Frame) →
-    IsOrderlyFrom low frames → AreFrom low (block_run now (items_with opened changes frames))
-from-block_run low now opened changes [] h = tt
-from-block_run low now opened changes (frame ∷ frames) h =
-    let item : Item = item_with opened changes frame in
-    from-append low (in_order (connection_said now item)) _
-    (from-at low frame.number _ h.0 (at-in_order frame.number _ (at-connection now item h.1)).within)
-    (from-from low (frame.number + 1) _ (omega arith)
-    (from-block_run (frame.number + 1) (connection_after now item) opened changes frames h.2))
-
 from-shown : (c : Bool) (low : ℕ) (xs : List Finding) → AreFrom low xs → AreFrom low (shown c xs)
 from-shown c low [] h = tt
 from-shown c low (x ∷ xs) h = by_test _ refl (from-shown c low xs h.1) where
@@ -146,7 +136,7 @@ past-shown c None now opened changes frames h found k =
 past-shown c (Some place) now opened changes frames h found k =
     let from : (place_number place + 1) * 2 ^ 36 ≤ found.place =
     from-contains (place_number place + 1) _ found (from-shown c (place_number place + 1) _
-    (from-block_run (place_number place + 1) now opened changes (frames_past (Some place) frames)
+    (run-from now (place_number place + 1) opened changes (frames_past (Some place) frames)
     (past-orderly place 0 frames h))) k in
     omega arith
 

@@ -180,13 +180,9 @@ ready-one : (credits_shown : Bool) (connection : Prepared) (streams : Streams) �
 ready-one credits_shown connection streams p is =
     let orderly = subst IsOrderly (sym is.frames) p.orderly in
     let acknowledged : AreAcknowledged streams.frames.now streams.changes.now =
-    subst (λ (frames : List Frame). AreAcknowledged frames streams.changes.now) (sym is.frames)
-    (subst (AreAcknowledged connection.frames.now) (sym is.changes) p.acknowledged) in
+    rw (is.frames, is.changes) p.acknowledged in
     let split : IsSplit credits_shown streams.changes.now streams.frames.now streams.split.now =
-    subst (λ (frames : List Frame). IsSplit credits_shown streams.changes.now frames streams.split.now) (sym is.frames)
-    (subst (λ (changes : List Change). IsSplit credits_shown changes connection.frames.now streams.split.now)
-    (sym is.changes)
-    (subst (IsSplit credits_shown connection.changes.items connection.frames.now) (sym is.split) p.split)) in
+    rw (is.frames, is.changes, is.split) p.split in
     record {
       changes = subst AreOrderly (sym is.changes) p.changes_orderly;
       rows = rows-are streams orderly acknowledged credits_shown split;

@@ -1,14 +1,12 @@
 -- What is made of one stream, and of several.
 use Rattle.std.proofs.Common.{◌≡◌, ℕ, ◌+◌, ◌-◌, ◌^◌, ◌<◌, ◌≤◌, ◌==◌, ◌⊎◌, inl, inr, min, nat_le, leb-true, leb-false}
 use Rattle.std.proofs.Common.{Bool, true, false, ◌||◌, if◌then◌else◌, List, [], ◌∷◌, ◌++◌, All, Contains, get_or, take}
-use Rattle.std.proofs.Common.{drop, flat_map, append-nil, append_assoc, length, Option, Some, None, refl, sym, ap}
+use Rattle.std.proofs.Common.{flat_map, append-nil, append_assoc, length, Option, Some, None, refl, sym, ap}
 use Rattle.std.proofs.Common.{subst, ◌∙◌, arith, true≢false}
 use Rattle.std.specs.Option.{option_to_list}
 use Rattle.std.specs.List.{list_any}
-use Rattle.std.proofs.Math.Seq.{take-add}
 use Rattle.std.proofs.lemmas.List.{take_more}
 use Rattle.std.proofs.lemmas.Grind.{flat_map-append}
-use Rattle.audit_core.proofs.OrderlyRest.{drop-next}
 use Rattle.std.proofs.lemmas.List.Folds.{list_any-append}
 use Rattle.std.proofs.lemmas.List.Elements.{All-contains, All-contains_itself, All-append, All-nil}
 use Rattle.std.proofs.lemmas.List.Elements.{Contains-append_left, Contains-append_right}
@@ -302,16 +300,11 @@ module _ {L : Type 0} (answers : L → List Finding → Option ℕ → L → Typ
       → whole ≡ whole' → all ≡ all' → upto ≡ upto' → kept ≡ kept' → opened ≡ opened'
       → IsWork answers due a b whole all upto kept opened → IsWork answers due a b whole' all' upto' kept' opened'
   same-work whole whole' kept kept' all all' opened opened' upto upto' p q r s t h =
-      subst (λ x. IsWork answers due a b x all' upto' kept' opened') p
-      (subst (λ x. IsWork answers due a b whole x upto' kept' opened') q
-      (subst (λ x. IsWork answers due a b whole all x kept' opened') r
-      (subst (λ x. IsWork answers due a b whole all upto x opened') s
-      (subst (λ x. IsWork answers due a b whole all upto kept x) t h))))
+      rw (p, q, r, s, t) at h
 
 -- one more of those whose lists are joined
 pub flat_map-more : {X Y : Type 0} (f : X → List Y) (xs : List X) (at : ℕ) (d : X) → at < length xs
     → flat_map f (take at xs) ++ f (get_or xs at d) ≡ flat_map f (take (at + 1) xs)
 flat_map-more f xs at d l =
-    sym (ap (flat_map f) (take-add at 1 xs) ∙ flat_map-append f (take at xs) (take 1 (drop at xs))
-    ∙ ap (λ r. flat_map f (take at xs) ++ flat_map f (take 1 r)) (drop-next xs at d l)
+    sym (ap (flat_map f) (take_more xs at d l) ∙ flat_map-append f (take at xs) (get_or xs at d ∷ [])
     ∙ ap (λ r. flat_map f (take at xs) ++ r) (append-nil (f (get_or xs at d))))

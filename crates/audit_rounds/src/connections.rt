@@ -30,38 +30,6 @@ struct MadeReady<'a> {
     found: Vec<Vec<Finding>>,
 }
 
-impl<'a> MadeReady<'a> {
-    /// No connection, with room for so many.
-    fn with_capacity(alloc: Global, connections: usize) -> Result<Self, AllocError>
-        ensures prepared { IfOk result (λ made. made.prepared.items ≡ []) }
-        ensures found { IfOk result (λ made. made.found.items ≡ []) }
-    {
-        let prepared = Vec::with_capacity(alloc, connections)?;
-        let found = Vec::with_capacity(alloc, connections)?;
-        Ok(MadeReady { prepared, found })
-    }
-
-    /// Adds a connection, of which this is found.
-    fn push(&mut self, ready: Prepared<'a>, before: Vec<Finding>) -> Result<(), AllocError>
-        ensures prepared { OnOk result (self.new.prepared.items ≡ self.old.prepared.items ++ ready.entry ∷ []) }
-        ensures found { OnOk result (self.new.found.items ≡ self.old.found.items ++ before ∷ []) }
-    {
-        self.prepared.push(ready)?;
-        self.found.push(before)?;
-        Ok(())
-    }
-
-    /// Adds other connections.
-    fn append(&mut self, more: &mut MadeReady<'a>) -> Result<(), AllocError>
-        ensures prepared { OnOk result (self.new.prepared.items ≡ self.old.prepared.items ++ more.old.prepared.items) }
-        ensures found { OnOk result (self.new.found.items ≡ self.old.found.items ++ more.old.found.items) }
-    {
-        self.prepared.append(&mut more.prepared)?;
-        self.found.append(&mut more.found)?;
-        Ok(())
-    }
-}
-
 /// What is shown of each connection of a batch. Those that have no frame go through no round.
 pub(crate) fn findings_of_batch<R: Threads + Sync, G: Gate>(
     crew: &Crew<'_, R, G>,
@@ -119,12 +87,14 @@ fn prepare_in_turn<'a, R: Threads + Sync, G: Gate>(
     ensures { IfOk result (λ made. AreMadeReady crew.now.setup.credits_shown connections.now made.prepared.items
         made.found.items) }
 {
-    let mut made = MadeReady::with_capacity(crew.setup.alloc, connections.len())?;
+    let mut prepared = Vec::with_capacity(crew.setup.alloc, connections.len())?;
+    let mut found = Vec::with_capacity(crew.setup.alloc, connections.len())?;
     for frames in connections {
         let (ready, before) = prepare(crew, *frames)?;
-        made.push(ready, before)?;
+        prepared.push(ready)?;
+        found.push(before)?;
     }
-    Ok(made)
+    Ok(MadeReady { prepared, found })
 }
 
 /// Where connections are halved: those before have about half of the frames.
@@ -195,7 +165,8 @@ fn prepare_each<'a, R: Threads + Sync, G: Gate>(
     );
     let mut made = one?;
     let mut more = other?;
-    made.append(&mut more)?;
+    made.prepared.append(&mut more.prepared)?;
+    made.found.append(&mut more.found)?;
     Ok(made)
 }
 
