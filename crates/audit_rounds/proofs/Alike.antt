@@ -1,7 +1,11 @@
 -- Lists whose elements are the same, each list's by a reading of its own.
 use Rattle.std.proofs.Common.{◌≡◌, ℕ, ◌+◌, ◌<◌, List, [], ◌∷◌, ◌++◌, All, Bor, Vec, Global, get_or, length, map, take}
 use Rattle.std.proofs.Common.{sym, ap, ◌∙◌, subst, arith}
+use Rattle.std.proofs.Common.{◌==◌, if◌then◌else◌, false, append-nil, set, get_or-set_same, get_or-set_other}
+use Rattle.std.proofs.Common.{⊎_elim}
 use Rattle.std.specs.List.{sum, sum_by}
+use Rattle.std.proofs.lemmas.Bool.{cases_eq, eq-eqb, ne_eqb}
+use Rattle.std.proofs.lemmas.Bool.Decides.{nat_tests}
 use Rattle.std.proofs.lemmas.List.{length-map, get_or-map, map-append, map_more}
 use Rattle.std.proofs.lemmas.List.Elements.{All-map}
 use Rattle.std.proofs.lemmas.List.Sums.{sum-map}
@@ -47,3 +51,30 @@ module _ {X Y Z : Type 0} (f : X → Z) (g : Y → Z) where
 pub some_of : {X : Type 0} (xs : List X) (n : ℕ) → n < length xs → X
 some_of [] n l = absurd (omega arith)
 some_of (x ∷ xs) n l = x
+
+-- ---- unlike numbers, and lists with a first element
+
+pub differ : (m n : ℕ) → m < n → (m == n) ≡ false
+differ m n h = grind (arith, nat_tests)
+
+pub differ_back : (m n : ℕ) → m < n → (n == m) ≡ false
+differ_back m n h = grind (arith, nat_tests)
+
+pub head_same : {X : Type 0} (x y : X) (xs ys : List X) → x ∷ xs ≡ y ∷ ys → x ≡ y
+head_same x y xs ys e = cc
+
+pub tail_same : {X : Type 0} (x y : X) (xs ys : List X) → x ∷ xs ≡ y ∷ ys → xs ≡ ys
+tail_same x y xs ys e = cc
+
+-- ---- lists to one of which something is added
+
+pub added-at : {X : Type 0} (all : List (Vec X Global)) (k n : ℕ) (list d new : Vec X Global) (said before : List X)
+    → k < length all → new.items ≡ (get_or all k d).items ++ said
+    → ((list : Vec X Global) → (get_or all n list).items ≡ before)
+    → (get_or (set all k new) n list).items ≡ before ++ (if k == n then said else [])
+added-at all k n list d new said before l is held = ⊎_elim
+    (λ e. rw (eq-eqb k n e) (ap (λ v. v.items) (ap (λ at. get_or (set all k new) at list) (sym e) ∙ get_or-set_same all k new list l)
+    ∙ is ∙ ap (λ k. (get_or all k d).items ++ said) e ∙ ap (λ l. l ++ said) (held d)))
+    (λ ne. rw (ne_eqb k n ne) (ap (λ v. v.items) (get_or-set_other all k n new list (λ e. ne (sym e))) ∙ held list
+    ∙ sym (append-nil before)))
+    (cases_eq k n)

@@ -1,12 +1,12 @@
 -- The items of the pass, each found by its frame's number.
-use Rattle.std.proofs.Common.{◌≡◌, ℕ, ◌+◌, ◌<◌, ◌≤◌, ◌==◌, Bool, false, ◌&&◌, List, [], ◌∷◌, ◌++◌, map, Option, Some}
+use Rattle.std.proofs.Common.{◌≡◌, ℕ, ◌+◌, ◌<◌, ◌≤◌, ◌==◌, Bool, ◌&&◌, List, [], ◌∷◌, ◌++◌, map, Option, Some}
 use Rattle.std.proofs.Common.{None, refl, sym, ap, ◌∙◌, arith, append_assoc}
 use Rattle.std.specs.Option.{option_to_list}
 use Rattle.std.specs.List.Sorted.{IsPermutation}
-use Rattle.std.proofs.lemmas.Bool.Decides.{nat_tests}
 use Rattle.std.proofs.lemmas.List.Sorted.{list_any-IsPermutation}
 use borrow.Author.Tests.{eq-eqb}
 use Rattle.audit_terms.specs.declared.settings.Settings.{Settings}
+use Rattle.audit_rounds.proofs.Alike.{differ, differ_back, head_same, tail_same}
 use Rattle.audit_terms.specs.declared.frames.Frame.{Frame}
 use Rattle.audit_terms.specs.declared.items.Change.{Change}
 use Rattle.audit_terms.specs.declared.items.Item.{Item}
@@ -30,12 +30,6 @@ Below high (change ∷ changes) = (change.number < high) × Below high changes
 abbrev From : (low : ℕ) → List Change → Type 0
 From low [] = Unit {0}
 From low (change ∷ changes) = (low ≤ change.number) × From low changes
-
-differ : (m n : ℕ) → m < n → (m == n) ≡ false
-differ m n h = grind (arith, nat_tests)
-
-differ_back : (m n : ℕ) → m < n → (n == m) ≡ false
-differ_back m n h = grind (arith, nat_tests)
 
 -- earlier changes are passed over
 find-later : (frame : Frame) (earlier changes : List Change) → Below frame.number earlier
@@ -111,12 +105,6 @@ items-frames : (state : PassState) (frames : List Frame)
     → map (λ (item : Item). item.frame) (items_from state frames) ≡ frames
 items-frames state [] = refl
 items-frames state (frame ∷ frames) = ap (λ l. frame ∷ l) (items-frames (next state frame) frames)
-
-head_same : {X : Type 0} (x y : X) (xs ys : List X) → x ∷ xs ≡ y ∷ ys → x ≡ y
-head_same x y xs ys e = cc
-
-tail_same : {X : Type 0} (x y : X) (xs ys : List X) → x ∷ xs ≡ y ∷ ys → xs ≡ ys
-tail_same x y xs ys e = cc
 
 -- items are known by their parts
 by_parts : (opens : Frame → Bool) (change : Frame → Option Change) (items : List Item) (frames : List Frame)

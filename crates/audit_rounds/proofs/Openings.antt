@@ -11,6 +11,7 @@ use Rattle.audit_terms.specs.declared.frames.Body.{Body}
 use Rattle.audit_terms.specs.declared.frames.Body.TheVariants.{Content, Headers, Priority, RstStream, Settings}
 use Rattle.audit_terms.specs.declared.frames.Body.TheVariants.{SettingsAck, PushPromise, Ping, GoAway, WindowUpdate}
 use Rattle.audit_terms.specs.declared.frames.Body.TheVariants.{Continuation, Unknown, Unreadable}
+use Rattle.audit_rounds.proofs.Alike.{differ, differ_back}
 use Rattle.audit_terms.specs.declared.frames.Frame.{Frame}
 use Rattle.audit_terms.specs.declared.items.Change.{Change}
 use Rattle.audit_terms.specs.declared.items.Item.{Item}
@@ -106,14 +107,8 @@ abbrev is_at : ℕ → Option ℕ → Bool
 is_at n None = false
 is_at n (Some m) = m == n
 
-differ : (m n : ℕ) → m < n → (m == n) ≡ false
-differ m n h = grind (arith, nat_tests)
-
 eqb-sym : (m n : ℕ) → (m == n) ≡ false → (n == m) ≡ false
 eqb-sym m n h = grind (arith, nat_tests)
-
-differ_back : (m n : ℕ) → m < n → (n == m) ≡ false
-differ_back m n h = grind (arith, nat_tests)
 
 -- one that is not opened opens later, if at all
 opened-later : (state : PassState) (frames : List Frame) (stream n low : ℕ) → n < low → IsOrderlyFrom low frames

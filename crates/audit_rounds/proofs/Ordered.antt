@@ -2,12 +2,13 @@
 use Rattle.std.proofs.Common.{◌≡◌, ℕ, ◌+◌, ◌<◌, ◌==◌, if◌then◌else◌, length, get_or, set, take, List, [], ◌∷◌}
 use Rattle.std.proofs.Common.{◌++◌, append-nil, sym, ap, ◌∙◌, subst, ⊎_elim, arith, get_or-set_same, get_or-set_other}
 use Rattle.std.proofs.Common.{Vec, Global}
-use Rattle.std.proofs.lemmas.Bool.{cases_eq, eq-eqb, ne_eqb}
+use Rattle.std.proofs.lemmas.Bool.{cases_eq}
 use Rattle.std.proofs.lemmas.Grind.{flat_map-append}
 use Rattle.std.proofs.lemmas.List.{get_or_default, take_more}
 use Rattle.job_crew.specs.declared.parts.Part.{Part}
 use Rattle.audit_rounds.specs.declared.prepared.Prepared.{Prepared}
 use Rattle.audit_rounds.specs.code.Opened.{numbers_told, IsInOrder}
+use Rattle.audit_rounds.proofs.Alike.{added-at}
 
 -- the numbers that one part tells of a connection
 abbrev numbers_of : (n : ℕ) → Part (Vec ℕ Global) → List ℕ
@@ -27,18 +28,8 @@ pub told-more : (all : List (Vec ℕ Global)) (parts : List (Part (Vec ℕ Globa
     → new.items ≡ (get_or all part.connection d).items ++ part.made.items
     → ((list : Vec ℕ Global) → (get_or all n list).items ≡ numbers_told n (take at parts))
     → (get_or (set all part.connection new) n list).items ≡ numbers_told n (take (at + 1) parts)
-told-more all parts at n part list d new l is within made before = ⊎_elim
-    (λ e. ap (λ (v : Vec ℕ Global). v.items) (ap (λ k. get_or (set all part.connection new) k list) (sym e)
-    ∙ get_or-set_same all part.connection new list within)
-    ∙ made ∙ ap (λ k. (get_or all k d).items ++ part.made.items) e
-    ∙ ap (λ l. l ++ part.made.items) (before d)
-    ∙ sym (told-next n parts at part l is ∙ ap (λ b. numbers_told n (take at parts)
-    ++ (if b then part.made.items else [])) (eq-eqb part.connection n e)))
-    (λ ne. ap (λ (v : Vec ℕ Global). v.items) (get_or-set_other all part.connection n new list (λ e. ne (sym e)))
-    ∙ before list ∙ sym (append-nil (numbers_told n (take at parts)))
-    ∙ sym (told-next n parts at part l is ∙ ap (λ b. numbers_told n (take at parts)
-    ++ (if b then part.made.items else [])) (ne_eqb part.connection n ne)))
-    (cases_eq part.connection n)
+told-more all parts at n part list d new l is within made before =
+    added-at all part.connection n list d new part.made.items _ within made before ∙ sym (told-next n parts at part l is)
 
 -- the numbers of one connection more are put in order, with those that its split tells
 pub ordered-more : (connections : List Prepared) (told : ℕ → List ℕ) (all : List (Vec ℕ Global)) (i : ℕ)

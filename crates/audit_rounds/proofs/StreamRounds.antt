@@ -4,12 +4,12 @@ use Rattle.std.proofs.Common.{if◌then◌else◌, List, [], ◌∷◌, ◌++◌
 use Rattle.std.proofs.Common.{Option, Some, None, refl, sym, ap, ◌∙◌, subst, arith, append-nil, Vec, Global}
 use Rattle.std.specs.Option.{option_map_or, option_to_list}
 use Rattle.std.specs.List.{AllZip, between}
-use Rattle.std.proofs.lemmas.Bool.Decides.{nat_tests}
 use Rattle.std.proofs.lemmas.Grind.{flat_map-append}
 use Rattle.std.proofs.lemmas.List.Elements.{All-nil, All-cons, All-head, All-tail, All-append, All-map, All-weaker}
 use Rattle.std.proofs.lemmas.List.Elements.{All-contains}
 use Rattle.std.proofs.lemmas.Option.{none-some, same_Some, slice_get_within, get_or_from_slice_get}
 use borrow.Author.Tests.{eq-eqb}
+use Rattle.audit_rounds.proofs.Alike.{differ, differ_back}
 use Rattle.audit_terms.specs.declared.frames.Frame.{Frame}
 use Rattle.audit_terms.specs.declared.findings.Finding.{Finding}
 use Rattle.audit_terms.specs.declared.items.Change.{Change}
@@ -199,12 +199,6 @@ ready-each credits_shown connections streams p is =
 abbrev of_connection : {X : Type 0} → (StreamJob → List X) → (connection : ℕ) → StreamJob → List X
 of_connection said connection job = if job.connection == connection then said job else []
 
-differ : (m n : ℕ) → n < m → (m == n) ≡ false
-differ m n h = grind (arith, nat_tests)
-
-differ_back : (m n : ℕ) → m < n → (m == n) ≡ false
-differ_back m n h = grind (arith, nat_tests)
-
 module _ {X : Type 0} (said : StreamJob → List X) (n : ℕ) where
   of-own : (ranges : List (ℕ × ℕ)) → flat_map (of_connection said n) (map (job_at n) ranges)
       ≡ flat_map (λ (range : ℕ × ℕ). said (job_at n range)) ranges
@@ -229,7 +223,7 @@ module _ {X : Type 0} (said : StreamJob → List X) (n : ℕ) where
       let ranges = groups_of count one in
       let later = plan_from count (at + 1) rest in
       flat_map-append (of_connection said n) (map (job_at at) ranges) later
-      ∙ ap (λ l. l ++ flat_map (of_connection said n) later) (of-other at ranges (differ at n h))
+      ∙ ap (λ l. l ++ flat_map (of_connection said n) later) (of-other at ranges (differ_back n at h))
       ∙ none-later count (at + 1) rest (omega (arith, h))
 
   -- what is said of the jobs of one connection is said of its groups
@@ -250,7 +244,7 @@ module _ {X : Type 0} (said : StreamJob → List X) (n : ℕ) where
       let ranges = groups_of count one in
       let later = plan_from count (at + 1) rest in
       flat_map-append (of_connection said n) (map (job_at at) ranges) later
-      ∙ ap (λ r. r ++ flat_map (of_connection said n) later) (of-other at ranges (differ_back at n (omega (arith, e))))
+      ∙ ap (λ r. r ++ flat_map (of_connection said n) later) (of-other at ranges (differ at n (omega (arith, e))))
       ∙ of-plan count (at + 1) k rest d (omega (arith, l)) (omega (arith, e))
 
 -- what is joined twice

@@ -1,16 +1,14 @@
 -- What is made of one stream, and of several.
-use Rattle.std.proofs.Common.{◌≡◌, ℕ, ◌+◌, ◌-◌, ◌^◌, ◌<◌, ◌≤◌, ◌==◌, ◌⊎◌, inl, inr, min, nat_le, leb-true, leb-false}
-use Rattle.std.proofs.Common.{Bool, true, false, ◌||◌, if◌then◌else◌, List, [], ◌∷◌, ◌++◌, All, Contains, get_or, take}
+use Rattle.std.proofs.Common.{◌≡◌, ℕ, ◌+◌, ◌-◌, ◌^◌, ◌<◌, ◌≤◌, ◌⊎◌, inl, inr, min, nat_le, leb-true, leb-false}
+use Rattle.std.proofs.Common.{Bool, true, false, List, [], ◌∷◌, ◌++◌, All, Contains, get_or, take}
 use Rattle.std.proofs.Common.{flat_map, append-nil, append_assoc, length, Option, Some, None, refl, sym, ap}
-use Rattle.std.proofs.Common.{subst, ◌∙◌, arith, true≢false}
+use Rattle.std.proofs.Common.{subst, ◌∙◌, arith}
 use Rattle.std.specs.Option.{option_to_list}
-use Rattle.std.specs.List.{list_any}
 use Rattle.std.proofs.lemmas.List.{take_more}
 use Rattle.std.proofs.lemmas.Grind.{flat_map-append}
-use Rattle.std.proofs.lemmas.List.Folds.{list_any-append}
 use Rattle.std.proofs.lemmas.List.Elements.{All-contains, All-contains_itself, All-append, All-nil}
 use Rattle.std.proofs.lemmas.List.Elements.{Contains-append_left, Contains-append_right}
-use borrow.Author.Tests.{eqb-true, ltb-true, ltb-false}
+use borrow.Author.Tests.{ltb-true, ltb-false}
 use Rattle.audit_terms.specs.declared.findings.Finding.{Finding}
 use Rattle.audit_terms.specs.Finding.{in_order}
 use Rattle.audit_terms.specs.code.runs.Look.{Asked, Looked, is_past, IsRun}
@@ -33,22 +31,10 @@ use Rattle.audit_rounds.specs.declared.streams.Streams.{Streams}
 use Rattle.audit_rounds.specs.code.Streams.{lesser, AreOpenedUpTo, IsWork, IsRow, RowLooks, RowsLook, row_shown}
 use Rattle.audit_rounds.specs.code.Streams.{row_opened}
 use Rattle.audit_rounds.proofs.Jobs.{run-heeds, upto-cut}
+use Rattle.audit_rounds.proofs.Told.{agree-append, agree-opened}
 use Rattle.audit_rounds.proofs.StreamOrder.{shown-ordered}
 
 -- ---- one stream
-
-opens-up_to : (upto opened : Option ℕ)
-    → AreOpenedUpTo upto (option_to_list (opened_up_to upto opened)) (option_to_list opened)
-opens-up_to upto None number h = refl
-opens-up_to upto (Some m) number h = by_test _ refl where
-  other : (b : Bool) → is_past upto m ≡ true → (m == number) ≡ b → false ≡ (b || false)
-  other true e q = absurd (true≢false (sym e ∙ ap (is_past upto) (eqb-true m number q) ∙ h))
-  other false e q = refl
-
-  by_test : (b : Bool) → is_past upto m ≡ b
-      → list_any (λ one. one == number) (option_to_list (if b then None else Some m)) ≡ ((m == number) || false)
-  by_test false e = refl
-  by_test true e = other (m == number) e refl
 
 module _ {L : Type 0} (answers : L → List Finding → Option ℕ → L → Type 0) where
   -- a run of a stream is its work
@@ -61,7 +47,7 @@ module _ {L : Type 0} (answers : L → List Finding → Option ℕ → L → Typ
   work-of_run before after numbers whole kept upto last_look looks opening opened o run e n = record {
     cut = upto-cut whole kept upto o run.found;
     opens = subst (λ l. AreOpenedUpTo upto (option_to_list l) (option_to_list opening)) (sym e)
-        (opens-up_to upto opening);
+        (agree-opened upto opening);
     numbered = n;
     looks = run-heeds answers before after numbers whole kept upto last_look looks run;
   }
@@ -92,26 +78,23 @@ not_past a b number l h = by_test _ refl where
   by_test false e = refl
 
 -- what lies up to the lesser place lies up to each
-pub within-one : (one other : Option ℕ) (number : ℕ) → is_past (lesser one other) number ≡ false
+within-one : (one other : Option ℕ) (number : ℕ) → is_past (lesser one other) number ≡ false
     → is_past one number ≡ false
 within-one None other number h = refl
 within-one (Some a) None number h = h
 within-one (Some a) (Some b) number h = not_past (min a b) a number (omega arith) h
 
-pub within-other : (one other : Option ℕ) (number : ℕ) → is_past (lesser one other) number ≡ false
+within-other : (one other : Option ℕ) (number : ℕ) → is_past (lesser one other) number ≡ false
     → is_past other number ≡ false
 within-other None other number h = h
 within-other (Some a) None number h = refl
 within-other (Some a) (Some b) number h = not_past (min a b) b number (omega arith) h
 
-pub opens-join : (one other : Option ℕ) (opened opened' all all' : List ℕ) → AreOpenedUpTo one opened all
+opens-join : (one other : Option ℕ) (opened opened' all all' : List ℕ) → AreOpenedUpTo one opened all
     → AreOpenedUpTo other opened' all' → AreOpenedUpTo (lesser one other) (opened ++ opened') (all ++ all')
-opens-join one other opened opened' all all' p q number h =
-    let test = λ (x : ℕ). x == number in
-    list_any-append test opened opened'
-    ∙ ap (λ b. b || list_any test opened') (p number (within-one one other number h))
-    ∙ ap (λ b. list_any test all || b) (q number (within-other one other number h))
-    ∙ sym (list_any-append test all all')
+opens-join one other opened opened' all all' p q =
+    agree-append (lesser one other) opened all opened' all' (λ number h. p number (within-one one other number h))
+    (λ number h. q number (within-other one other number h))
 
 all-in_order : (P : Finding → Type 0) (xs : List Finding) → All P xs → All P (in_order xs)
 all-in_order P xs h k d l =

@@ -33,9 +33,9 @@ loop-part-preserved g c =
           let d = c.index_mut.result.now in
           let mine : d ≡ get_or at.all.items part.connection d = c.index_mut.ensures.value in
           gathered-more c.args.found.items at.all.items n list list' d c.append.new.self (part_of part)
-          (map part_of at.yielded) at.invariant.number l inside
+          (map part_of at.yielded) at.invariant.number inside
           (c.in_ok-append.ensures.items ∙ ap (λ (v : Vec Finding Global). v.items ++ part.findings.items) mine)
-          (at.invariant.each n list list' l) (at.invariant.each n d list' l)
+          (λ list. at.invariant.each n list list' l)
           ∙ ap (λ parts. (get_or c.args.found.items n list').items ++ findings_of_parts n parts)
           (sym (map-append part_of at.yielded (part ∷ [])));
     }
