@@ -1,17 +1,13 @@
 -- Lists whose elements are the same, each list's by a reading of its own.
-use Rattle.std.proofs.Common.{◌≡◌, ℕ, ◌+◌, ◌<◌, List, [], ◌∷◌, ◌++◌, All, Bor, Vec, Global, get_or, length, map, take}
-use Rattle.std.proofs.Common.{sym, ap, ◌∙◌, subst, arith}
-use Rattle.std.proofs.Common.{◌==◌, if◌then◌else◌, false, append-nil, set, get_or-set_same, get_or-set_other}
-use Rattle.std.proofs.Common.{⊎_elim}
-use Rattle.std.specs.List.{sum, sum_by}
-use Rattle.std.proofs.lemmas.Bool.{cases_eq, eq-eqb, ne_eqb}
-use Rattle.std.proofs.lemmas.Bool.Decides.{nat_tests}
-use Rattle.std.proofs.lemmas.List.{length-map, get_or-map, map-append, map_more}
-use Rattle.std.proofs.lemmas.List.Elements.{All-map}
+use Rattle.audit_rounds.proofs.Words.{◌≡◌, ℕ, ◌+◌, ◌<◌, List, [], ◌∷◌, ◌++◌, All, Bor, Vec, Global, get_or, length, map}
+use Rattle.audit_rounds.proofs.Words.{take, sym, ap, ◌∙◌, subst, arith, ◌==◌, if◌then◌else◌, false, append-nil, set}
+use Rattle.audit_rounds.proofs.Words.{get_or-set_same, get_or-set_other, ⊎_elim, sum_by, cases_eq, ne_eqb, nat_tests}
+use Rattle.audit_rounds.proofs.Words.{length-map, get_or-map, map-append, All-map, Finding, Frame}
+use Rattle.std.specs.List.{sum}
+use Rattle.std.proofs.lemmas.Bool.{eq-eqb}
+use Rattle.std.proofs.lemmas.List.{map_more}
 use Rattle.std.proofs.lemmas.List.Sums.{sum-map}
 use Rattle.std.proofs.lemmas.Simd.{map-map}
-use Rattle.audit_terms.specs.declared.findings.Finding.{Finding}
-use Rattle.audit_terms.specs.declared.frames.Frame.{Frame}
 
 -- the readings that proofs of this crate need most
 abbrev pub items_in : Vec Finding Global → List Finding

@@ -1,17 +1,12 @@
 -- What is found of connections of which fronts are gone through first.
-use Rattle.std.proofs.Common.{◌≡◌, ℕ, ◌<◌, ◌≤◌, ◌/◌, Bool, true, false, nat_lt, if◌then◌else◌, List, [], ◌∷◌}
-use Rattle.std.proofs.Common.{map, take, drop, length, get_or, refl, sym, ap, ◌∙◌, subst, arith, Bor, Vec, Global}
-use Rattle.std.specs.List.{list_any, sum_by, zip}
-use Rattle.std.proofs.lemmas.List.{length-take, take-append-drop}
-use Rattle.std.proofs.lemmas.List.Sums.{sum_by-cons, sum_by-le-sum_by}
-use Rattle.std.proofs.lemmas.Slice.Zip.{get_or-zip, length-zip}
-use Rattle.audit_terms.specs.declared.findings.Finding.{Finding}
-use Rattle.audit_terms.specs.declared.frames.Frame.{Frame}
-use Rattle.audit_terms.specs.Finding.{stops, shown}
-use Rattle.audit_terms.specs.code.runs.Orderly.{IsOrderly}
-use Rattle.audit_terms.specs.Pass.{pass}
-use Rattle.audit_rounds.specs.code.Batch.{IsBatch}
-use Rattle.audit_rounds.specs.code.EarlyStops.{front_of, has_stopped, later_of, chosen_of}
+use Rattle.audit_rounds.proofs.Words.{◌≡◌, ℕ, ◌<◌, ◌≤◌, Bool, true, false, nat_lt, if◌then◌else◌, List, [], ◌∷◌, map}
+use Rattle.audit_rounds.proofs.Words.{take, drop, length, get_or, refl, sym, ap, ◌∙◌, subst, arith, Bor, Vec, Global}
+use Rattle.audit_rounds.proofs.Words.{list_any, sum_by, zip, take-append-drop, sum_by-cons, get_or-zip, length-zip}
+use Rattle.audit_rounds.proofs.Words.{Finding, Frame, stops, shown, IsOrderly, pass, IsBatch, front_of, chosen_of}
+use Rattle.std.proofs.Common.{◌/◌}
+use Rattle.std.proofs.lemmas.List.{length-take}
+use Rattle.std.proofs.lemmas.List.Sums.{sum_by-le-sum_by}
+use Rattle.audit_rounds.specs.code.EarlyStops.{has_stopped, later_of}
 use Rattle.audit_rounds.proofs.Alike.{items_in, frames_in, all-alike, sums-alike}
 use Rattle.audit_rounds.proofs.Cuts.{orderly-take}
 use Rattle.audit_rounds.proofs.EarlyStop.{fronts_settle_lem}

@@ -1,8 +1,7 @@
 -- What a loop has taken of a list so far, and what it made of that.
-use Rattle.std.proofs.Common.{◌≡◌, ◌+◌, List, [], ◌∷◌, ◌++◌, map, length, get_or, All, append_assoc, append-nil, sym}
-use Rattle.std.proofs.Common.{ap, ◌∙◌, subst, arith}
-use Rattle.std.proofs.lemmas.List.{map-append, length-append, nil_from_length}
-use Rattle.std.proofs.Math.Seq.{get_or-append_seam}
+use Rattle.audit_rounds.proofs.Words.{◌≡◌, ◌+◌, List, [], ◌∷◌, ◌++◌, map, length, get_or, All, append_assoc, append-nil}
+use Rattle.audit_rounds.proofs.Words.{sym, ap, ◌∙◌, subst, arith, map-append, length-append, nil_from_length}
+use Rattle.audit_rounds.proofs.Words.{get_or-append_seam}
 
 -- one element more is taken
 pub taken-more : {X : Type 0} (taken : List X) (x : X) (rest left all : List X) → left ≡ x ∷ rest → taken ++ left ≡ all

@@ -1,27 +1,16 @@
 -- A batch has few frames, and so its rounds have few jobs.
-use Rattle.std.proofs.Common.{◌≡◌, ℕ, suc, ◌+◌, ◌*◌, ◌<◌, ◌≤◌, Bool, not, min, List}
-use Rattle.std.proofs.Common.{[], ◌∷◌, map, take, drop, length, length-append, get_or, All, ap, arith, Option}
-use Rattle.std.proofs.Common.{None, Vec, Global, Bor}
-use Rattle.std.specs.List.{AllZip, sum_by}
+use Rattle.audit_rounds.proofs.Words.{◌≡◌, ℕ, suc, ◌+◌, ◌*◌, ◌<◌, ◌≤◌, Bool, not, min, List, [], ◌∷◌, map, take, drop}
+use Rattle.audit_rounds.proofs.Words.{length, get_or, All, ap, arith, Option, None, Vec, Global, Bor, AllZip, sum_by}
+use Rattle.audit_rounds.proofs.Words.{length-map, All-head, All-tail, sum_by-cons, Frame, is_past, Block, SplitFrames}
+use Rattle.audit_rounds.proofs.Words.{groups, Streams, frames_within, Prepared, AreRests, AreFew, RowsAreFew}
+use Rattle.audit_rounds.proofs.Words.{IsPrepared, job_at, plan_from, IsStreamsOf}
+use Rattle.std.proofs.Common.{length-append}
 use Rattle.std.proofs.Math.Nat.{min-le_right}
-use Rattle.std.proofs.lemmas.List.{length-map}
-use Rattle.std.proofs.lemmas.List.Elements.{All-head, All-tail}
 use Rattle.std.proofs.lemmas.List.FromFn.{length-map-range_with_len}
-use Rattle.std.proofs.lemmas.List.Sums.{sum_by-cons, sum_by-take-drop, length-filter}
+use Rattle.std.proofs.lemmas.List.Sums.{sum_by-take-drop, length-filter}
 use Rattle.std.proofs.lemmas.List.Sums.{count_by-le-length}
-use Rattle.audit_terms.specs.declared.frames.Frame.{Frame}
-use Rattle.audit_terms.specs.code.runs.Look.{is_past}
-use Rattle.conn_scan.specs.declared.block_items.Block.{Block}
-use Rattle.split_merge.specs.declared.splits.SplitFrames.{SplitFrames}
-use Rattle.split_merge.specs.code.Groups.{groups, group_at}
-use Rattle.audit_rounds.specs.declared.streams.Streams.{Streams}
-use Rattle.audit_rounds.specs.code.Within.{frames_within}
-use Rattle.audit_rounds.specs.declared.prepared.Prepared.{Prepared}
-use Rattle.audit_rounds.specs.code.Connections.{AreRests}
-use Rattle.audit_rounds.specs.code.Few.{AreFew, PreparedAreFew, RestsAreFew, RowsAreFew}
-use Rattle.audit_rounds.specs.code.Prepared.{IsPrepared}
-use Rattle.audit_rounds.specs.code.StreamJobs.{job_at, plan_from}
-use Rattle.audit_rounds.specs.code.StreamRound.{IsStreamsOf}
+use Rattle.split_merge.specs.code.Groups.{group_at}
+use Rattle.audit_rounds.specs.code.Few.{PreparedAreFew, RestsAreFew}
 use Rattle.audit_rounds.proofs.Alike.{frames_in, some_of, sums-alike}
 use Rattle.audit_rounds.proofs.StreamReady.{length-rows}
 

@@ -1,19 +1,11 @@
 -- Connections that have frames, apart from those that have none.
-use Rattle.std.proofs.Common.{◌≡◌, ◌==◌, not, Bool, true, false, List, [], ◌∷◌, map, filter, length}
-use Rattle.std.proofs.Common.{refl, sym, ap, ◌∙◌, arith, Bor, Vec, Global}
+use Rattle.audit_rounds.proofs.Words.{◌≡◌, ◌==◌, not, Bool, true, false, List, [], ◌∷◌, map, filter, length, refl, sym}
+use Rattle.audit_rounds.proofs.Words.{ap, ◌∙◌, arith, Bor, Vec, Global, nil_from_length, All-filter, Finding, Frame}
+use Rattle.audit_rounds.proofs.Words.{IsOrderly, shown, pass, IsBatch, AreFew, has_frames, spread}
 use Rattle.std.proofs.lemmas.Bool.{eqb-true}
-use Rattle.std.proofs.lemmas.List.{nil_from_length}
-use Rattle.std.proofs.lemmas.List.Elements.{All-filter}
 use Rattle.std.proofs.lemmas.List.Filters.{sum_by-filter_both}
-use Rattle.audit_terms.specs.declared.findings.Finding.{Finding}
-use Rattle.audit_terms.specs.declared.frames.Frame.{Frame}
-use Rattle.audit_terms.specs.code.runs.Orderly.{IsOrderly}
-use Rattle.audit_terms.specs.Finding.{shown}
-use Rattle.audit_terms.specs.Pass.{pass}
-use Rattle.audit_rounds.specs.code.Batch.{IsBatch}
-use Rattle.audit_rounds.specs.code.Few.{AreFew}
 use Rattle.audit_rounds.proofs.Alike.{head_same, tail_same}
-use Rattle.audit_rounds.specs.code.Framed.{has_frames, left_after, spread, taken_for}
+use Rattle.audit_rounds.specs.code.Framed.{left_after, taken_for}
 
 -- those that have frames have no more of them than all
 framed-few : (all : List (Bor (List Frame))) → AreFew all → AreFew (filter has_frames all)

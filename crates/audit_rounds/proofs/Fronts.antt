@@ -1,34 +1,17 @@
 -- What is left to do of connections, and that it makes their passes.
-use Rattle.std.proofs.Common.{◌≡◌, ℕ, zero, suc, ◌+◌, ◌<◌, ◌≤◌, Bool, true, false, not, nat_lt, leb}
-use Rattle.std.proofs.Common.{List, [], ◌∷◌, ◌++◌, map, filter, take, length, get_or, All, refl, sym, ap, ◌∙◌, subst}
-use Rattle.std.proofs.Common.{arith, Option, None, Vec, Global}
+use Rattle.audit_rounds.proofs.Words.{◌≡◌, ℕ, zero, suc, ◌+◌, ◌<◌, ◌≤◌, Bool, true, false, not, nat_lt, leb, List, []}
+use Rattle.audit_rounds.proofs.Words.{◌∷◌, ◌++◌, map, filter, take, length, get_or, All, refl, sym, ap, ◌∙◌, subst}
+use Rattle.audit_rounds.proofs.Words.{arith, Option, None, Vec, Global, ⊎_elim, length-map, length-append, get_or-map}
+use Rattle.audit_rounds.proofs.Words.{get_or_default, map-append, cases_eq, get_or-append_seam, Finding, Frame}
+use Rattle.audit_rounds.proofs.Words.{connection_start, block_run, in_order, upto_stop, shown, IsOrderly, IsOrderlyFrom}
+use Rattle.audit_rounds.proofs.Words.{changes_of, is_past, pass, AreOrderly, IsStop, Block, items_with, items_in}
+use Rattle.audit_rounds.proofs.Words.{item_with, NeverFallFrom, IsAfterStreams, frames_within, Prepared}
+use Rattle.audit_rounds.proofs.Words.{AreAfterStreams, IsRest, AreRests, IsPrepared, found_before, IsRemaining}
 use Rattle.std.specs.List.Sorted.{IsPartitionPoint, IsPartitionedBy}
 use Rattle.std.proofs.lemmas.Bool.Decides.{leb_tells}
-use Rattle.std.proofs.Common.{⊎_elim}
-use Rattle.std.proofs.lemmas.List.{length-map, length-append, get_or-map, get_or_default, ext_get_or, map-append}
+use Rattle.std.proofs.lemmas.List.{ext_get_or}
 use Rattle.std.proofs.lemmas.List.Sorted.{IsPartitionedBy-leb}
-use Rattle.std.proofs.lemmas.Bool.{cases_eq}
 use Rattle.std.proofs.Math.ListN.{get_or-append}
-use Rattle.std.proofs.Math.Seq.{get_or-append_seam}
-use Rattle.audit_terms.specs.declared.findings.Finding.{Finding}
-use Rattle.audit_terms.specs.declared.frames.Frame.{Frame}
-use Rattle.audit_terms.specs.Connection.{connection_start}
-use Rattle.audit_terms.specs.code.runs.Blocks.{block_run}
-use Rattle.audit_terms.specs.Finding.{in_order, upto_stop, shown}
-use Rattle.audit_terms.specs.code.runs.Orderly.{IsOrderly, IsOrderlyFrom}
-use Rattle.audit_terms.specs.code.runs.Changes.{changes_of}
-use Rattle.audit_terms.specs.code.runs.Look.{is_past}
-use Rattle.audit_terms.specs.Pass.{pass}
-use Rattle.settings_pair.specs.code.Changes.{AreOrderly}
-use Rattle.stop_desk.specs.code.Stop.{IsStop}
-use Rattle.conn_scan.specs.declared.block_items.Block.{Block}
-use Rattle.conn_scan.specs.code.Items.{items_with, items_in, item_with, NeverFallFrom}
-use Rattle.audit_rounds.specs.code.Within.{IsAfterStreams, frames_within}
-use Rattle.audit_rounds.specs.declared.prepared.Prepared.{Prepared}
-use Rattle.audit_rounds.specs.code.AfterStreams.{AreAfterStreams}
-use Rattle.audit_rounds.specs.code.Connections.{IsRest, AreRests}
-use Rattle.audit_rounds.specs.code.Prepared.{IsPrepared, found_before}
-use Rattle.audit_rounds.specs.code.Remaining.{IsRemaining}
 use Rattle.std.proofs.lemmas.List.Elements.{filter_agree}
 use Rattle.audit_rounds.proofs.Alike.{some_of}
 use Rattle.audit_rounds.proofs.Parts.{orderly-filter}

@@ -1,32 +1,18 @@
 -- The jobs of the rounds over blocks.
-use Rattle.std.proofs.Common.{◌≡◌, ℕ, suc, ◌+◌, Bool, true, false, if◌then◌else◌, List, [], ◌∷◌, map, length}
-use Rattle.std.proofs.Common.{get_or, All, Contains, Option, Some, None, slice_get, ◌⊎◌, inl, inr, ⊎_elim, refl, sym}
-use Rattle.std.proofs.Common.{ap, ◌∙◌, subst, arith}
-use Rattle.std.proofs.lemmas.List.{length-map, get_or-map}
-use Rattle.std.proofs.lemmas.Option.{slice_get_within, get_or_from_slice_get}
-use Rattle.std.proofs.lemmas.List.Elements.{All-map}
-use Rattle.std.specs.List.{list_any}
-use Rattle.audit_terms.specs.declared.connections.ConnectionState.{ConnectionState}
-use Rattle.audit_terms.specs.declared.findings.Finding.{Finding}
-use Rattle.audit_terms.specs.declared.frames.Frame.{Frame}
-use Rattle.audit_terms.specs.declared.items.Change.{Change}
-use Rattle.audit_terms.specs.Connection.{connection_said, connection_after}
-use Rattle.audit_terms.specs.code.runs.Blocks.{block_run}
-use Rattle.audit_terms.specs.Finding.{in_order, shown, comes_after}
-use Rattle.audit_terms.specs.code.runs.Orderly.{IsOrderlyFrom}
-use Rattle.audit_terms.specs.code.runs.Look.{Asked, last_answer, is_past, upto_of, up_to, IsRun}
-use Rattle.audit_terms.proofs.FindingOrder.{comes_after_is}
-use Rattle.audit_terms.proofs.OrderedLists.{IsInOrder, ordered-in_order, in_order-append, in_order-ordered}
-use Rattle.audit_terms.proofs.SaidPlaces.{AreFrom, at-connection, at-in_order, from-at, from-from, from-append}
-use Rattle.audit_terms.proofs.SaidPlaces.{precedes-at}
-use Rattle.conn_scan.specs.declared.block_items.Block.{Block}
-use Rattle.conn_scan.specs.code.Items.{item_with, items_with, items_in, IsBlock}
-use Rattle.job_crew.specs.code.Board.{Job, IsCut}
-use Rattle.job_crew.proofs.RoundCuts.{front_is_cut_lem, whole_is_cut_lem}
-use Rattle.split_merge.proofs.ShownMerge.{in_order-shown}
-use Rattle.job_crew.specs.code.Heeding.{Heeds, RunLooks}
-use Rattle.audit_rounds.specs.declared.blocks.ConnectionBlock.{ConnectionBlock}
-use Rattle.audit_rounds.specs.code.Plans.{sum_job}
+use Rattle.audit_rounds.proofs.Words.{◌≡◌, ℕ, suc, ◌+◌, Bool, true, false, if◌then◌else◌, List, [], ◌∷◌, map, length}
+use Rattle.audit_rounds.proofs.Words.{get_or, All, Contains, Option, Some, None, slice_get, ◌⊎◌, inl, inr, ⊎_elim, refl}
+use Rattle.audit_rounds.proofs.Words.{sym, ap, ◌∙◌, subst, arith, length-map, get_or-map, slice_get_within}
+use Rattle.audit_rounds.proofs.Words.{get_or_from_slice_get, All-map, list_any, ConnectionState, Finding, Frame, Change}
+use Rattle.audit_rounds.proofs.Words.{connection_said, connection_after, block_run, in_order, shown, comes_after}
+use Rattle.audit_rounds.proofs.Words.{IsOrderlyFrom, Asked, is_past, IsRun, comes_after_is, ordered-in_order}
+use Rattle.audit_rounds.proofs.Words.{in_order-append, in_order-ordered, AreFrom, at-in_order, from-at, from-from}
+use Rattle.audit_rounds.proofs.Words.{from-append, precedes-at, Block, item_with, items_with, items_in, IsBlock, Job}
+use Rattle.audit_rounds.proofs.Words.{IsCut, whole_is_cut_lem, in_order-shown, Heeds, RunLooks, ConnectionBlock}
+use Rattle.audit_rounds.proofs.Words.{sum_job}
+use Rattle.audit_terms.specs.code.runs.Look.{last_answer, upto_of, up_to}
+use Rattle.audit_terms.proofs.OrderedLists.{IsInOrder}
+use Rattle.audit_terms.proofs.SaidPlaces.{at-connection}
+use Rattle.job_crew.proofs.RoundCuts.{front_is_cut_lem}
 
 -- the job of a number
 pub job-is : {X : Type 0} (f : X → Job) (xs : List X) (k : ℕ) (one : Job) (d : X) → slice_get (map f xs) k ≡ Some one

@@ -1,16 +1,12 @@
 -- Blocks that are laid out one connection after the other.
-use Rattle.std.proofs.Common.{◌≡◌, ℕ, zero, suc, ◌+◌, ◌-◌, ◌<◌, ◌≤◌, List, [], ◌∷◌, ◌++◌, append_assoc, append-nil, map}
-use Rattle.std.proofs.Common.{take, drop, length, get_or, All, refl, sym, ap, ◌∙◌, subst, arith}
-use Rattle.std.proofs.lemmas.List.{length-append, length-map, map-append, take_more, get_or-map, length-drop, length-take-le, drop-drop}
-use Rattle.std.proofs.lemmas.List.Elements.{All-append}
+use Rattle.audit_rounds.proofs.Words.{◌≡◌, ℕ, zero, suc, ◌+◌, ◌-◌, ◌<◌, ◌≤◌, List, [], ◌∷◌, ◌++◌, append_assoc}
+use Rattle.audit_rounds.proofs.Words.{append-nil, map, take, drop, length, get_or, All, refl, sym, ap, ◌∙◌, subst}
+use Rattle.audit_rounds.proofs.Words.{arith, length-append, length-map, map-append, take_more, get_or-map, length-drop}
+use Rattle.audit_rounds.proofs.Words.{length-take-le, All-append, Item, drop-next, items_of, Block, items_in}
+use Rattle.audit_rounds.proofs.Words.{ConnectionBlock, blocks_in, blocks_of_connection, wholes, AreCut, AddsBlocks}
+use Rattle.std.proofs.lemmas.List.{drop-drop}
 use Rattle.std.proofs.Math.Seq.{take-append_seam, drop-append_seam}
-use Rattle.audit_terms.specs.declared.items.Item.{Item}
-use Rattle.audit_core.proofs.OrderlyRest.{drop-next}
-use Rattle.block_scan.specs.code.List.{items_of}
-use Rattle.conn_scan.specs.declared.block_items.Block.{Block}
-use Rattle.conn_scan.specs.code.Items.{items_in}
-use Rattle.audit_rounds.specs.declared.blocks.ConnectionBlock.{ConnectionBlock}
-use Rattle.audit_rounds.specs.code.Blocks.{blocks_in, blocks_of_connection, laid_out, wholes, AreCut, AddsBlocks}
+use Rattle.audit_rounds.specs.code.Blocks.{laid_out}
 
 -- ---- one connection more
 

@@ -1,13 +1,7 @@
 -- Connections made ready in two halves.
-use Rattle.std.proofs.Common.{◌≡◌, ℕ, Bool, List, ◌++◌, map, take, drop, sym, ap, ◌∙◌, subst, Bor, Vec, Global}
-use Rattle.std.proofs.lemmas.List.{map-append, take-append-drop}
-use Rattle.std.proofs.lemmas.List.Elements.{All-append}
-use Rattle.audit_terms.specs.declared.findings.Finding.{Finding}
-use Rattle.audit_terms.specs.declared.frames.Frame.{Frame}
-use Rattle.audit_rounds.specs.declared.prepared.Prepared.{Prepared}
-use Rattle.audit_rounds.specs.code.Prepared.{IsPrepared, found_before}
-use Rattle.audit_rounds.specs.code.MadeReady.{AreMadeReady}
-use Rattle.audit_rounds.specs.code.Batch.{AreReady, IsBatch}
+use Rattle.audit_rounds.proofs.Words.{◌≡◌, ℕ, Bool, List, ◌++◌, map, take, drop, sym, ap, ◌∙◌, subst, Bor, Vec, Global}
+use Rattle.audit_rounds.proofs.Words.{map-append, take-append-drop, All-append, Finding, Frame, Prepared, IsPrepared}
+use Rattle.audit_rounds.proofs.Words.{found_before, AreMadeReady, AreReady, IsBatch}
 use Rattle.audit_rounds.proofs.Few.{few-ready}
 
 -- those of one half, and then those of the other

@@ -1,17 +1,12 @@
 -- Two runs in order, merged, are all their elements in order.
-use Rattle.std.proofs.Common.{◌≡◌, ℕ, ◌<◌, Bool, true, false, not, List, [], ◌∷◌, ◌++◌, map, length, get_or, refl}
-use Rattle.std.proofs.Common.{append-nil, sym, ap, ◌∙◌, arith, true≢false, Vec, Global}
-use Rattle.std.proofs.Common.{◌⊎◌, inl, inr}
-use Rattle.std.specs.List.{zip}
-use Rattle.std.proofs.lemmas.List.{get_or-map}
-use Rattle.std.proofs.lemmas.Slice.Zip.{get_or-zip, length-zip}
+use Rattle.audit_rounds.proofs.Words.{◌≡◌, ℕ, ◌<◌, Bool, true, false, not, List, [], ◌∷◌, ◌++◌, map, length, get_or}
+use Rattle.audit_rounds.proofs.Words.{refl, append-nil, sym, ap, ◌∙◌, arith, true≢false, Vec, Global, ◌⊎◌, inl, inr}
+use Rattle.audit_rounds.proofs.Words.{zip, get_or-map, get_or-zip, length-zip, Finding, comes_after, in_order}
+use Rattle.audit_rounds.proofs.Words.{ordered-in_order, in_order-ordered, comes_after_is, in_order-append_left}
 use Rattle.itertools.specs.List.{merge_by}
 use Rattle.audit_terms.specs.Order.{put_by, ordered_by}
-use Rattle.audit_terms.specs.declared.findings.Finding.{Finding}
-use Rattle.audit_terms.specs.Finding.{comes_after, in_order}
-use Rattle.audit_terms.proofs.OrderedLists.{IsAfter, NoneBefore, IsInOrder, ordered-in_order, ordered-append_comm}
-use Rattle.audit_terms.proofs.OrderedLists.{in_order-ordered}
-use Rattle.audit_terms.proofs.FindingOrder.{comes_after_is, in_order-append_left, in_order-append_right}
+use Rattle.audit_terms.proofs.OrderedLists.{IsAfter, NoneBefore, IsInOrder, ordered-append_comm}
+use Rattle.audit_terms.proofs.FindingOrder.{in_order-append_right}
 use Rattle.audit_terms.proofs.FindingOrder.{in_order-append_both}
 use Rattle.audit_rounds.proofs.Alike.{items_in, as-many}
 

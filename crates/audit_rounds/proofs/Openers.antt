@@ -1,19 +1,11 @@
 -- What the round over streams begins from, connection after connection and finding after finding.
-use Rattle.std.proofs.Common.{◌≡◌, ℕ, ◌+◌, ◌<◌, ◌≤◌, ◌⊎◌, inl, inr, min, nat_le, leb-true, leb-false, Bool}
-use Rattle.std.proofs.Common.{true, false, true≢false, List, [], ◌∷◌, ◌++◌, length, get_or, take, Contains, Option}
-use Rattle.std.proofs.Common.{Some, None, refl, sym, ap, subst, ◌∙◌, arith}
-use Rattle.std.specs.List.{AllZip}
-use Rattle.std.proofs.lemmas.List.{get_or-map, take_more}
+use Rattle.audit_rounds.proofs.Words.{◌≡◌, ℕ, ◌+◌, ◌<◌, ◌≤◌, ◌⊎◌, inl, inr, min, nat_le, leb-true, leb-false, Bool}
+use Rattle.audit_rounds.proofs.Words.{true, false, true≢false, List, [], ◌∷◌, ◌++◌, length, get_or, take, Contains}
+use Rattle.audit_rounds.proofs.Words.{Option, Some, None, refl, sym, ap, subst, ◌∙◌, arith, AllZip, get_or-map}
+use Rattle.audit_rounds.proofs.Words.{take_more, Contains-append_left, Finding, stops, StopsAt, contains-none}
+use Rattle.audit_rounds.proofs.Words.{contains-cases, lesser, Change, Prepared, IsFirstStop, changes_in}
 use Rattle.std.proofs.lemmas.Slice.Zip.{all_zipped_more}
-use Rattle.std.proofs.lemmas.List.Elements.{Contains-append_left, Contains-append_cases, Contains-push}
-use Rattle.audit_terms.specs.declared.findings.Finding.{Finding}
-use Rattle.audit_terms.specs.Finding.{stops}
-use Rattle.job_crew.specs.code.Board.{StopsAt}
-use Rattle.job_crew.proofs.RoundMembers.{contains-none, contains-cases}
-use Rattle.audit_rounds.specs.code.Streams.{lesser}
-use Rattle.audit_terms.specs.declared.items.Change.{Change}
-use Rattle.audit_rounds.specs.declared.prepared.Prepared.{Prepared}
-use Rattle.audit_rounds.specs.code.StreamRound.{IsFirstStop, changes_in}
+use Rattle.std.proofs.lemmas.List.Elements.{Contains-append_cases, Contains-push}
 
 -- one more of two lists that go side by side
 pub zip-more : {X Y : Type 0} (R : X → Y → Type 0) (xs : List X) (n : ℕ) (d : X) (ys after : List Y) (y : Y)

@@ -1,13 +1,8 @@
 -- Lists of numbers, to which parts add, and which are put in order.
-use Rattle.std.proofs.Common.{◌≡◌, ℕ, ◌+◌, ◌<◌, ◌==◌, if◌then◌else◌, length, get_or, set, take, List, [], ◌∷◌}
-use Rattle.std.proofs.Common.{◌++◌, append-nil, sym, ap, ◌∙◌, subst, ⊎_elim, arith, get_or-set_same, get_or-set_other}
-use Rattle.std.proofs.Common.{Vec, Global}
-use Rattle.std.proofs.lemmas.Bool.{cases_eq}
-use Rattle.std.proofs.lemmas.Grind.{flat_map-append}
-use Rattle.std.proofs.lemmas.List.{get_or_default, take_more}
-use Rattle.job_crew.specs.declared.parts.Part.{Part}
-use Rattle.audit_rounds.specs.declared.prepared.Prepared.{Prepared}
-use Rattle.audit_rounds.specs.code.Opened.{numbers_told, IsInOrder}
+use Rattle.audit_rounds.proofs.Words.{◌≡◌, ℕ, ◌+◌, ◌<◌, ◌==◌, if◌then◌else◌, length, get_or, set, take, List, [], ◌∷◌}
+use Rattle.audit_rounds.proofs.Words.{◌++◌, append-nil, sym, ap, ◌∙◌, subst, ⊎_elim, arith, get_or-set_same}
+use Rattle.audit_rounds.proofs.Words.{get_or-set_other, Vec, Global, cases_eq, flat_map-append, get_or_default}
+use Rattle.audit_rounds.proofs.Words.{take_more, Part, Prepared, numbers_told, IsInOrder}
 use Rattle.audit_rounds.proofs.Alike.{added-at}
 
 -- the numbers that one part tells of a connection

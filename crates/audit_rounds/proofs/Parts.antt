@@ -1,14 +1,7 @@
 -- The part of one stream.
-use Rattle.std.proofs.Common.{◌≡◌, ℕ, ◌+◌, ◌≤◌, Bool, true, false}
-use Rattle.std.proofs.Common.{if◌then◌else◌, List, [], ◌∷◌, filter, All}
-use Rattle.std.proofs.Common.{arith}
-use Rattle.std.proofs.lemmas.List.Elements.{All-filter}
-use Rattle.audit_terms.specs.declared.frames.Frame.{Frame}
-use Rattle.audit_terms.specs.declared.items.Change.{Change}
-use Rattle.audit_terms.specs.Frame.{meets, is_ack}
-use Rattle.audit_terms.specs.code.runs.Orderly.{IsOrderly, IsOrderlyFrom}
-use Rattle.audit_terms.specs.code.runs.Streams.{frames_of}
-use Rattle.settings_pair.specs.code.Changes.{AreAcknowledged}
+use Rattle.audit_rounds.proofs.Words.{◌≡◌, ℕ, ◌+◌, ◌≤◌, Bool, true, false, if◌then◌else◌, List, [], ◌∷◌, filter, All}
+use Rattle.audit_rounds.proofs.Words.{arith, All-filter, Frame, Change, meets, is_ack, IsOrderly, IsOrderlyFrom}
+use Rattle.audit_rounds.proofs.Words.{frames_of, AreAcknowledged}
 
 -- orderly from an earlier number on
 pub orderly-earlier : (low high : ℕ) (frames : List Frame) → low ≤ high → IsOrderlyFrom high frames

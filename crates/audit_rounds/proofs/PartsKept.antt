@@ -1,11 +1,9 @@
 -- What parts add to the lists of their connections.
-use Rattle.std.proofs.Common.{◌≡◌, ℕ, ◌<◌, ◌==◌, if◌then◌else◌, List, [], ◌∷◌, ◌++◌, append_assoc}
-use Rattle.std.proofs.Common.{append-nil, length, get_or, set, sym, ap, ◌∙◌, arith}
-use Rattle.std.proofs.Common.{Vec, Global}
-use Rattle.std.proofs.lemmas.Grind.{flat_map-append}
-use Rattle.audit_terms.specs.declared.findings.Finding.{Finding}
+use Rattle.audit_rounds.proofs.Words.{◌≡◌, ℕ, ◌<◌, ◌==◌, if◌then◌else◌, List, [], ◌∷◌, ◌++◌, append_assoc, append-nil}
+use Rattle.audit_rounds.proofs.Words.{length, get_or, set, sym, ap, ◌∙◌, arith, Vec, Global, flat_map-append, Finding}
+use Rattle.audit_rounds.proofs.Words.{findings_of_parts}
 use Rattle.audit_rounds.proofs.Alike.{added-at}
-use Rattle.job_crew.specs.code.Board.{Part, findings_of_parts}
+use Rattle.job_crew.specs.code.Board.{Part}
 
 -- a part's findings are appended to the list of its connection
 pub gathered-more : (found all : List (Vec Finding Global)) (n : ℕ) (list list' d new : Vec Finding Global)

@@ -1,29 +1,13 @@
 -- What settled rounds over blocks give.
-use Rattle.std.proofs.Common.{◌≡◌, ℕ, ◌+◌, ◌<◌, Bool, List, ◌++◌, map, length, get_or, All, Option, Some, None}
-use Rattle.std.proofs.Common.{slice_get, sym, ap, ◌∙◌, subst, arith, Vec, Global}
-use Rattle.std.proofs.lemmas.List.{length-map, get_or-map}
-use Rattle.std.proofs.lemmas.Option.{slice_get_within, get_or_from_slice_get, slice_get-get_or}
-use Rattle.audit_terms.specs.declared.findings.Finding.{Finding}
-use Rattle.audit_terms.specs.Finding.{in_order, upto_stop}
-use Rattle.audit_terms.specs.Connection.{connection_start}
-use Rattle.conn_scan.specs.declared.block_items.Block.{Block}
-use Rattle.conn_scan.specs.code.Items.{items_in, IsBlock}
-use Rattle.conn_scan.specs.code.Block.{BlockFits}
-use Rattle.conn_scan.specs.declared.sums.ConnSum.{ConnSum}
-use Rattle.stop_desk.specs.code.Stop.{IsStop}
-use Rattle.job_crew.specs.code.Board.{Job, IsLeast, StopsAt, findings_of_parts}
-use Rattle.job_crew.proofs.RoundMerge.{board_merges_lem}
-use Rattle.job_crew.specs.declared.parts.Part.{Part}
-use Rattle.job_crew.specs.declared.settling.Settled.{Settled}
-use Rattle.job_crew.specs.code.Laid.{part_of}
+use Rattle.audit_rounds.proofs.Words.{◌≡◌, ℕ, ◌+◌, ◌<◌, Bool, List, ◌++◌, map, length, get_or, All, Option, Some, None}
+use Rattle.audit_rounds.proofs.Words.{slice_get, sym, ap, ◌∙◌, subst, arith, Vec, Global, length-map, get_or-map}
+use Rattle.audit_rounds.proofs.Words.{slice_get_within, get_or_from_slice_get, slice_get-get_or, Finding, in_order}
+use Rattle.audit_rounds.proofs.Words.{upto_stop, connection_start, Block, items_in, IsBlock, BlockFits, ConnSum, IsStop}
+use Rattle.audit_rounds.proofs.Words.{Job, IsLeast, StopsAt, findings_of_parts, board_merges_lem, Part, Settled}
+use Rattle.audit_rounds.proofs.Words.{part_of, ConnectionBlock, ReadyBlock, IsSum, AreSums, wholes, sum_job, block_job}
+use Rattle.audit_rounds.proofs.Words.{whole_shown, shown_at, IsPlan, AreParts, IsRemaining, All-map}
 use Rattle.job_crew.specs.code.Settling.{HasSettled}
-use Rattle.audit_rounds.specs.declared.blocks.ConnectionBlock.{ConnectionBlock}
-use Rattle.audit_rounds.specs.declared.block_plans.ReadyBlock.{ReadyBlock}
-use Rattle.audit_rounds.specs.code.Blocks.{IsSum, AreSums, wholes}
-use Rattle.audit_rounds.specs.code.Plans.{sum_job, block_job, whole_shown, shown_at, IsPlan, AreParts}
-use Rattle.audit_rounds.specs.code.Remaining.{IsRemaining}
 use Rattle.audit_rounds.proofs.Alike.{some_of}
-use Rattle.std.proofs.lemmas.List.Elements.{All-map}
 use Rattle.audit_rounds.proofs.Plans.{shown-at}
 
 -- the parts of a settled round hold the sum of each block

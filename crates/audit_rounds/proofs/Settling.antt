@@ -1,38 +1,20 @@
 -- The round over blocks need not go past the stop.
-use Rattle.std.proofs.Common.{◌≡◌, ℕ, ◌+◌, ◌*◌, ◌^◌, ◌<◌, ◌≤◌, ◌&&◌, Bool, true, false, nat_lt, List, [], ◌∷◌, ◌++◌}
-use Rattle.std.proofs.Common.{filter, refl, sym, ap, subst, ◌∙◌, arith, append_assoc, append-nil, ◌⊎◌, inl, inr}
-use Rattle.std.proofs.Common.{Contains, Option, Some, None, lt-ltb, ltb-true}
-use Rattle.std.proofs.lemmas.List.{map-append}
+use Rattle.audit_rounds.proofs.Words.{◌≡◌, ℕ, ◌+◌, ◌*◌, ◌^◌, ◌<◌, ◌≤◌, ◌&&◌, Bool, true, false, nat_lt, List, [], ◌∷◌}
+use Rattle.audit_rounds.proofs.Words.{◌++◌, filter, refl, sym, ap, subst, ◌∙◌, arith, append_assoc, append-nil, ◌⊎◌}
+use Rattle.audit_rounds.proofs.Words.{inl, inr, Contains, Option, Some, None, map-append, ConnectionState, Finding}
+use Rattle.audit_rounds.proofs.Words.{Frame, Change, Item, connection_start, connection_after_all, block_run, in_order}
+use Rattle.audit_rounds.proofs.Words.{upto_stop, is_shown, shown, is_headers, IsOrderly, IsOrderlyFrom, settings_run}
+use Rattle.audit_rounds.proofs.Words.{changes_of, local_run, is_past, pass, streams_of, place_number, joined, AreFrom}
+use Rattle.audit_rounds.proofs.Words.{item_with, items_with, change_at, StopsAt, IsLeast, IsPast, contains-none}
+use Rattle.audit_rounds.proofs.Words.{contains-cases, shown-append, openings_of, streams_shown, blocks_shown}
+use Rattle.audit_rounds.proofs.Words.{AgreeWithin, IsAfterStreams, frames_within}
+use Rattle.std.proofs.Common.{lt-ltb, ltb-true}
 use Rattle.std.proofs.lemmas.List.Sorted.{IsPermutation-refl}
-use Rattle.audit_terms.specs.declared.connections.ConnectionState.{ConnectionState}
-use Rattle.audit_terms.specs.declared.findings.Finding.{Finding}
-use Rattle.audit_terms.specs.declared.frames.Frame.{Frame}
-use Rattle.audit_terms.specs.declared.items.Change.{Change}
-use Rattle.audit_terms.specs.declared.items.Item.{Item}
-use Rattle.audit_terms.specs.Connection.{connection_start}
-use Rattle.audit_terms.specs.code.runs.Blocks.{connection_after_all, block_run}
-use Rattle.audit_terms.specs.Finding.{in_order, upto_stop, is_shown, shown}
-use Rattle.audit_terms.specs.Frame.{is_headers}
-use Rattle.audit_terms.specs.code.runs.Orderly.{IsOrderly, IsOrderlyFrom}
-use Rattle.audit_terms.specs.code.runs.Changes.{settings_run, changes_of}
-use Rattle.audit_terms.specs.code.runs.LocalFaults.{local_run}
-use Rattle.audit_terms.specs.code.runs.Look.{is_past}
-use Rattle.audit_terms.specs.Pass.{pass, streams_of}
 use Rattle.audit_terms.specs.code.runs.States.{items_of}
-use Rattle.audit_terms.specs.Place.{place_number}
 use Rattle.audit_terms.proofs.FindingOrder.{in_order-append_comm, in_order-alike}
-use Rattle.audit_core.specs.laws.Parts.{joined}
-use Rattle.audit_terms.proofs.SaidPlaces.{AreFrom}
-use Rattle.conn_scan.specs.code.Items.{item_with, items_with, change_at}
-use Rattle.job_crew.specs.code.Board.{StopsAt, IsLeast, IsPast}
 use Rattle.job_crew.proofs.RoundCuts.{stops_join_lem}
-use Rattle.job_crew.proofs.RoundMembers.{contains-none, contains-cases}
 use Rattle.job_crew.proofs.RoundMerge.{cut-all}
-use Rattle.split_merge.proofs.ShownMerge.{shown-append}
-use Rattle.audit_rounds.specs.code.Openings.{openings_of}
-use Rattle.audit_rounds.specs.code.Shown.{streams_shown, blocks_shown}
 use Rattle.audit_rounds.specs.laws.Settling.{blocks_within, RoundsSettle}
-use Rattle.audit_rounds.specs.code.Within.{AgreeWithin, IsAfterStreams, frames_within}
 use Rattle.audit_rounds.proofs.Jobs.{run-from}
 use Rattle.audit_rounds.proofs.Items.{items_are_found_lem}
 use Rattle.audit_rounds.proofs.Parts.{orderly-filter}

@@ -1,18 +1,10 @@
 -- What a job of the round over streams has to find and to tell.
-use Rattle.std.proofs.Common.{◌≡◌, ℕ, ◌-◌, ◌<◌, ◌≤◌, arith, Bool, List, [], take, drop, length, map, get_or, All, Option, Some}
-use Rattle.std.proofs.Common.{slice_get, sym, ap, ◌∙◌, subst}
-use Rattle.std.proofs.lemmas.Option.{slice_get-get_or, get_or_from_slice_get}
-use Rattle.std.proofs.lemmas.List.Elements.{All-take, All-drop}
-use Rattle.std.specs.Option.{option_map_or}
-use Rattle.audit_terms.specs.declared.findings.Finding.{Finding}
-use Rattle.audit_terms.specs.code.runs.Look.{Asked}
-use Rattle.split_merge.specs.declared.splits.StreamRow.{StreamRow}
-use Rattle.job_crew.specs.code.Board.{Job, IsCut}
-use Rattle.audit_rounds.specs.declared.streams.Streams.{Streams}
-use Rattle.audit_rounds.specs.declared.stream_plan.StreamJob.{StreamJob}
-use Rattle.audit_rounds.specs.code.Streams.{IsRow, AreOpenedUpTo, RowsLook, rows_shown, rows_opened}
-use Rattle.std.proofs.lemmas.List.{length-map}
-use Rattle.audit_rounds.specs.code.StreamJobs.{IsJobOf, IsReady, JobLooks, Makes, job_of, of_rows}
+use Rattle.audit_rounds.proofs.Words.{◌≡◌, ℕ, ◌-◌, ◌<◌, ◌≤◌, arith, Bool, List, [], take, drop, length, map, get_or}
+use Rattle.audit_rounds.proofs.Words.{All, Option, Some, slice_get, sym, ap, ◌∙◌, subst, slice_get-get_or}
+use Rattle.audit_rounds.proofs.Words.{get_or_from_slice_get, All-take, All-drop, option_map_or, Finding, Asked}
+use Rattle.audit_rounds.proofs.Words.{StreamRow, Job, IsCut, Streams, StreamJob, IsRow, AreOpenedUpTo, RowsLook}
+use Rattle.audit_rounds.proofs.Words.{rows_shown, rows_opened, length-map, IsJobOf, IsReady, job_of, of_rows}
+use Rattle.audit_rounds.specs.code.StreamJobs.{JobLooks, Makes}
 use Rattle.audit_rounds.proofs.Jobs.{job-is}
 
 -- the rows of a job

@@ -1,49 +1,29 @@
 -- The round over streams: its plan, and what its jobs find and open of each connection.
-use Rattle.std.proofs.Common.{◌≡◌, ℕ, zero, suc, ◌+◌, ◌*◌, ◌-◌, ◌^◌, ◌<◌, ◌≤◌, ◌==◌, Bool, true, false, not}
-use Rattle.std.proofs.Common.{if◌then◌else◌, List, [], ◌∷◌, ◌++◌, length, map, filter, flat_map, get_or, slice_get, All}
-use Rattle.std.proofs.Common.{Option, Some, None, refl, sym, ap, ◌∙◌, subst, arith, append-nil, Vec, Global}
-use Rattle.std.specs.Option.{option_map_or, option_to_list}
-use Rattle.std.specs.List.{AllZip, between}
-use Rattle.std.proofs.lemmas.Grind.{flat_map-append}
-use Rattle.std.proofs.lemmas.List.Elements.{All-nil, All-cons, All-head, All-tail, All-append, All-map, All-weaker}
-use Rattle.std.proofs.lemmas.List.Elements.{All-contains}
-use Rattle.std.proofs.lemmas.Option.{none-some, same_Some, slice_get_within, get_or_from_slice_get}
-use borrow.Author.Tests.{eq-eqb}
+use Rattle.audit_rounds.proofs.Words.{◌≡◌, ℕ, zero, suc, ◌+◌, ◌*◌, ◌-◌, ◌^◌, ◌<◌, ◌≤◌, ◌==◌, Bool, true, false, not}
+use Rattle.audit_rounds.proofs.Words.{if◌then◌else◌, List, [], ◌∷◌, ◌++◌, length, map, filter, flat_map, get_or}
+use Rattle.audit_rounds.proofs.Words.{slice_get, All, Option, Some, None, refl, sym, ap, ◌∙◌, subst, arith, append-nil}
+use Rattle.audit_rounds.proofs.Words.{Vec, Global, option_map_or, option_to_list, AllZip, flat_map-append, All-nil}
+use Rattle.audit_rounds.proofs.Words.{All-head, All-tail, All-append, All-map, All-contains, slice_get_within}
+use Rattle.audit_rounds.proofs.Words.{get_or_from_slice_get, eq-eqb, Frame, Finding, Change, Sides, in_order, shown}
+use Rattle.audit_rounds.proofs.Words.{IsOrderly, IsOrderlyFrom, InForce, in_force_after, initial_in_force}
+use Rattle.audit_rounds.proofs.Words.{settings_said, changes_of, settings_run, settings_run_from, local_said}
+use Rattle.audit_rounds.proofs.Words.{no_previous, previous_after, local_run, local_run_from, streams_of, frames_of}
+use Rattle.audit_rounds.proofs.Words.{stream_at_end, stream_run, side_of, length-orderly, at-in_order, AreOrderly}
+use Rattle.audit_rounds.proofs.Words.{AreAcknowledged, SplitFrames, StreamRow, Job, findings_of_jobs, groups, IsSplit}
+use Rattle.audit_rounds.proofs.Words.{frames_at, IsStop, Prepared, Streams, StreamJob, IsPrepared, found_before}
+use Rattle.audit_rounds.proofs.Words.{IsReady, IsJobOf, job_of, job_at, of_rows, plan_from, IsFirstStop, IsStreamsOf}
+use Rattle.audit_rounds.proofs.Words.{IsRow, rows_opened, openings_of, streams_shown, AgreeWithin}
+use Rattle.std.specs.List.{between}
+use Rattle.std.proofs.lemmas.List.Elements.{All-cons, All-weaker}
+use Rattle.std.proofs.lemmas.Option.{none-some, same_Some}
 use Rattle.audit_rounds.proofs.Alike.{differ, differ_back}
-use Rattle.audit_terms.specs.declared.frames.Frame.{Frame}
-use Rattle.audit_terms.specs.declared.findings.Finding.{Finding}
-use Rattle.audit_terms.specs.declared.items.Change.{Change}
-use Rattle.audit_terms.specs.declared.sides.Sides.{Sides}
-use Rattle.audit_terms.specs.Finding.{in_order, shown}
-use Rattle.audit_terms.specs.code.runs.Orderly.{IsOrderly, IsOrderlyFrom}
-use Rattle.audit_terms.specs.InForce.{InForce, in_force_after, initial_in_force, settings_said}
-use Rattle.audit_terms.specs.code.runs.Changes.{changes_of, settings_run, settings_run_from}
-use Rattle.audit_terms.specs.LocalFault.{local_said, no_previous, previous_after}
-use Rattle.audit_terms.specs.code.runs.LocalFaults.{local_run, local_run_from}
-use Rattle.audit_terms.specs.Pass.{streams_of}
-use Rattle.audit_terms.specs.code.runs.Streams.{frames_of, stream_at_end, stream_run}
-use Rattle.audit_terms.specs.Sides.{side_of}
-use Rattle.audit_core.proofs.OrderlyRest.{length-orderly}
-use Rattle.audit_terms.proofs.SaidPlaces.{AreAt, AreWithin, at-in_order, at-local, at-settings}
+use Rattle.audit_terms.proofs.SaidPlaces.{AreAt, AreWithin, at-local, at-settings}
 use Rattle.audit_core.proofs.PassOrder.{AreStreams as Are31Bits, streams-streams_of}
-use Rattle.settings_pair.specs.code.Changes.{AreOrderly, AreAcknowledged}
-use Rattle.split_merge.specs.declared.splits.SplitFrames.{SplitFrames}
-use Rattle.split_merge.specs.declared.splits.StreamRow.{StreamRow}
-use Rattle.job_crew.specs.code.Board.{Job, findings_of_jobs}
-use Rattle.split_merge.specs.code.Groups.{groups, AreConsecutive}
-use Rattle.split_merge.specs.code.Split.{IsSplit, frames_at, opening_of, part_of}
+use Rattle.split_merge.specs.code.Groups.{AreConsecutive}
+use Rattle.split_merge.specs.code.Split.{opening_of, part_of}
 use Rattle.split_merge.proofs.GroupRanges.{groups-consecutive, groups-joined}
-use Rattle.stop_desk.specs.code.Stop.{IsPlace, IsStop, past_places}
-use Rattle.audit_rounds.specs.declared.prepared.Prepared.{Prepared}
-use Rattle.audit_rounds.specs.declared.streams.Streams.{Streams}
-use Rattle.audit_rounds.specs.declared.stream_plan.StreamJob.{StreamJob}
-use Rattle.audit_rounds.specs.code.Prepared.{IsPrepared, found_before}
-use Rattle.audit_rounds.specs.code.StreamJobs.{IsReady, IsJobOf, job_of, job_at, of_rows, plan_from}
-use Rattle.audit_rounds.specs.code.StreamRound.{IsFirstStop, IsStreamsOf}
-use Rattle.audit_rounds.specs.code.Streams.{IsRow, row_frames, rows_opened, shown_of}
-use Rattle.audit_rounds.specs.code.Openings.{openings_of}
-use Rattle.audit_rounds.specs.code.Shown.{streams_shown}
-use Rattle.audit_rounds.specs.code.Within.{AgreeWithin}
+use Rattle.stop_desk.specs.code.Stop.{IsPlace, past_places}
+use Rattle.audit_rounds.specs.code.Streams.{row_frames, shown_of}
 use Rattle.audit_rounds.proofs.Parts.{orderly-frames_of, acknowledged-frames_of}
 use Rattle.audit_rounds.proofs.StreamReady.{length-rows}
 use Rattle.audit_rounds.proofs.Told.{agree-parted}

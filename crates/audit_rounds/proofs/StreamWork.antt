@@ -1,35 +1,22 @@
 -- What is made of one stream, and of several.
-use Rattle.std.proofs.Common.{◌≡◌, ℕ, ◌+◌, ◌-◌, ◌^◌, ◌<◌, ◌≤◌, ◌⊎◌, inl, inr, min, nat_le, leb-true, leb-false}
-use Rattle.std.proofs.Common.{Bool, true, false, List, [], ◌∷◌, ◌++◌, All, Contains, get_or, take}
-use Rattle.std.proofs.Common.{flat_map, append-nil, append_assoc, length, Option, Some, None, refl, sym, ap}
-use Rattle.std.proofs.Common.{subst, ◌∙◌, arith}
-use Rattle.std.specs.Option.{option_to_list}
-use Rattle.std.proofs.lemmas.List.{take_more}
-use Rattle.std.proofs.lemmas.Grind.{flat_map-append}
-use Rattle.std.proofs.lemmas.List.Elements.{All-contains, All-contains_itself, All-append, All-nil}
-use Rattle.std.proofs.lemmas.List.Elements.{Contains-append_left, Contains-append_right}
-use borrow.Author.Tests.{ltb-true, ltb-false}
-use Rattle.audit_terms.specs.declared.findings.Finding.{Finding}
-use Rattle.audit_terms.specs.Finding.{in_order}
-use Rattle.audit_terms.specs.code.runs.Look.{Asked, Looked, is_past, IsRun}
-use Rattle.audit_terms.specs.Place.{place_number}
-use Rattle.stream_credit.specs.code.Looks.{opened_up_to}
-use Rattle.job_crew.specs.code.Board.{IsPast}
+use Rattle.audit_rounds.proofs.Words.{◌≡◌, ℕ, ◌+◌, ◌-◌, ◌^◌, ◌<◌, ◌≤◌, ◌⊎◌, inl, inr, min, nat_le, leb-true, leb-false}
+use Rattle.audit_rounds.proofs.Words.{Bool, true, false, List, [], ◌∷◌, ◌++◌, All, Contains, get_or, take, flat_map}
+use Rattle.audit_rounds.proofs.Words.{append-nil, append_assoc, length, Option, Some, None, refl, sym, ap, subst, ◌∙◌}
+use Rattle.audit_rounds.proofs.Words.{arith, option_to_list, take_more, flat_map-append, All-contains, All-append}
+use Rattle.audit_rounds.proofs.Words.{All-nil, Contains-append_left, ltb-true, ltb-false, Finding, in_order, Asked}
+use Rattle.audit_rounds.proofs.Words.{is_past, IsRun, place_number, opened_up_to, IsPast, whole_is_cut_lem, Heeds}
+use Rattle.audit_rounds.proofs.Words.{RunLooks, Result, Ok, Err, IfOk, Frame, IsOrderly, shown, stream_run}
+use Rattle.audit_rounds.proofs.Words.{stream_at_end, StreamRow, frames_at, Streams, lesser, AreOpenedUpTo, IsWork}
+use Rattle.audit_rounds.proofs.Words.{IsRow, RowsLook, row_shown, row_opened}
+use Rattle.std.proofs.lemmas.List.Elements.{All-contains_itself}
+use Rattle.std.proofs.lemmas.List.Elements.{Contains-append_right}
+use Rattle.audit_terms.specs.code.runs.Look.{Looked}
 use Rattle.job_crew.proofs.RoundMembers.{in_order-contains}
-use Rattle.job_crew.proofs.RoundCuts.{whole_is_cut_lem, cuts_join_lem}
-use Rattle.job_crew.specs.code.Heeding.{Heeds, RunLooks}
-use Rattle.std.specs.Prelude.{Result, Ok, Err, IfOk}
-use Rattle.audit_terms.specs.declared.frames.Frame.{Frame}
-use Rattle.audit_terms.specs.code.runs.Orderly.{IsOrderly}
-use Rattle.audit_terms.specs.Finding.{shown}
-use Rattle.audit_terms.specs.code.runs.Streams.{stream_run, stream_at_end}
+use Rattle.job_crew.proofs.RoundCuts.{cuts_join_lem}
 use Rattle.stream_credit.specs.declared.parts.StreamRun.{StreamRun}
 use Rattle.stream_credit.specs.code.Looks.{step_numbers}
-use Rattle.split_merge.specs.declared.splits.StreamRow.{StreamRow}
-use Rattle.split_merge.specs.code.Split.{frames_at, part_of}
-use Rattle.audit_rounds.specs.declared.streams.Streams.{Streams}
-use Rattle.audit_rounds.specs.code.Streams.{lesser, AreOpenedUpTo, IsWork, IsRow, RowLooks, RowsLook, row_shown}
-use Rattle.audit_rounds.specs.code.Streams.{row_opened}
+use Rattle.split_merge.specs.code.Split.{part_of}
+use Rattle.audit_rounds.specs.code.Streams.{RowLooks}
 use Rattle.audit_rounds.proofs.Jobs.{run-heeds, upto-cut}
 use Rattle.audit_rounds.proofs.Told.{agree-append, agree-opened}
 use Rattle.audit_rounds.proofs.StreamOrder.{shown-ordered}

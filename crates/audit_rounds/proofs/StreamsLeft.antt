@@ -1,33 +1,17 @@
 -- What a settled round over streams leaves of each connection.
-use Rattle.std.proofs.Common.{◌≡◌, ℕ, zero, suc, ◌<◌, ◌≤◌, ◌==◌, if◌then◌else◌, Bool, true, false, eqb-true, List, []}
-use Rattle.std.proofs.Common.{◌∷◌, ◌++◌, length, map, flat_map, get_or, slice_get, All, Option, Some, None, refl, sym}
-use Rattle.std.proofs.Common.{ap, ◌∙◌, subst, arith, Vec, Global}
-use Rattle.std.specs.List.{AllZip}
-use Rattle.std.proofs.lemmas.List.{length-map, get_or-map, get_or_default}
-use Rattle.std.proofs.lemmas.Option.{slice_get_within, slice_get-get_or, get_or_from_slice_get}
-use Rattle.std.proofs.lemmas.Slice.Zip.{AllZip-long}
-use Rattle.audit_terms.specs.declared.findings.Finding.{Finding}
-use Rattle.audit_terms.specs.Finding.{in_order, upto_stop}
-use Rattle.audit_terms.specs.Pass.{streams_of}
-use Rattle.job_crew.specs.code.Board.{Job, StopsAt, IsLeast, stop_of, findings_of_jobs, findings_of_parts}
+use Rattle.audit_rounds.proofs.Words.{◌≡◌, ℕ, zero, suc, ◌<◌, ◌≤◌, ◌==◌, if◌then◌else◌, Bool, true, false, List, []}
+use Rattle.audit_rounds.proofs.Words.{◌∷◌, ◌++◌, length, map, flat_map, get_or, slice_get, All, Option, Some, None}
+use Rattle.audit_rounds.proofs.Words.{refl, sym, ap, ◌∙◌, subst, arith, Vec, Global, AllZip, length-map, get_or-map}
+use Rattle.audit_rounds.proofs.Words.{get_or_default, slice_get_within, slice_get-get_or, get_or_from_slice_get}
+use Rattle.audit_rounds.proofs.Words.{AllZip-long, Finding, in_order, upto_stop, streams_of, Job, StopsAt, IsLeast}
+use Rattle.audit_rounds.proofs.Words.{findings_of_jobs, findings_of_parts, board_merges_lem, Part, Settled, part_of}
+use Rattle.audit_rounds.proofs.Words.{Prepared, Streams, StreamJob, openings_of, streams_shown, Reaches, AgreeWithin}
+use Rattle.audit_rounds.proofs.Words.{IsAfterStreams, AreAfterStreams, HaveSettled, numbers_told, IsInOrder, IsPrepared}
+use Rattle.audit_rounds.proofs.Words.{found_before, job_of, of_rows, plan_from, IsFirstStop, IsStreamsOf, rows_opened}
+use Rattle.std.proofs.Common.{eqb-true}
+use Rattle.job_crew.specs.code.Board.{stop_of}
 use Rattle.job_crew.specs.laws.Rounds.{Merges}
-use Rattle.job_crew.proofs.RoundMerge.{board_merges_lem}
-use Rattle.job_crew.specs.declared.parts.Part.{Part}
-use Rattle.job_crew.specs.declared.settling.Settled.{Settled}
-use Rattle.job_crew.specs.code.Laid.{part_of, board_with}
-use Rattle.audit_rounds.specs.declared.prepared.Prepared.{Prepared}
-use Rattle.audit_rounds.specs.declared.streams.Streams.{Streams}
-use Rattle.audit_rounds.specs.declared.stream_plan.StreamJob.{StreamJob}
-use Rattle.audit_rounds.specs.code.Openings.{openings_of}
-use Rattle.audit_rounds.specs.code.Shown.{streams_shown}
-use Rattle.audit_rounds.specs.laws.Settling.{Reaches}
-use Rattle.audit_rounds.specs.code.Within.{AgreeWithin, IsAfterStreams}
-use Rattle.audit_rounds.specs.code.AfterStreams.{AreAfterStreams, HaveSettled}
-use Rattle.audit_rounds.specs.code.Opened.{numbers_told, IsInOrder}
-use Rattle.audit_rounds.specs.code.Prepared.{IsPrepared, found_before}
-use Rattle.audit_rounds.specs.code.StreamJobs.{job_of, of_rows, plan_from}
-use Rattle.audit_rounds.specs.code.StreamRound.{IsFirstStop, IsStreamsOf}
-use Rattle.audit_rounds.specs.code.Streams.{rows_opened}
+use Rattle.job_crew.specs.code.Laid.{board_with}
 use Rattle.audit_rounds.proofs.Alike.{items_in, as-many}
 use Rattle.audit_rounds.proofs.Jobs.{job-is}
 use Rattle.audit_rounds.proofs.Settles.{parts-within}

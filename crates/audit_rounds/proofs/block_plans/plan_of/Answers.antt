@@ -1,9 +1,6 @@
-use Rattle.std.proofs.Common.{◌≡◌, ◌+◌, ◌-◌, [], length, get_or, take, drop, refl, ◌++◌, sym, ap, subst, arith}
-use Rattle.audit_terms.specs.Connection.{connection_start}
-use Rattle.std.proofs.lemmas.List.{length-map}
-use Rattle.conn_scan.specs.code.Block.{BlockFits}
-use Rattle.audit_rounds.specs.code.Blocks.{AreSums, wholes}
-use Rattle.audit_rounds.specs.code.Plans.{where_of, whole_shown, shown_at}
+use Rattle.audit_rounds.proofs.Words.{◌≡◌, ◌+◌, ◌-◌, [], length, get_or, take, drop, refl, ◌++◌, sym, ap, subst, arith}
+use Rattle.audit_rounds.proofs.Words.{connection_start, length-map, BlockFits, AreSums, wholes, where_of, whole_shown}
+use Rattle.audit_rounds.proofs.Words.{shown_at}
 use Rattle.audit_rounds.proofs.Cuts.{sums-slice}
 use Rattle.audit_rounds.proofs.Layouts.{turn}
 use Rattle.audit_rounds.proofs.Plans.{plan-as, plan-next}

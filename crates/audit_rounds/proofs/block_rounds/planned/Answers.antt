@@ -1,11 +1,5 @@
-use Rattle.std.proofs.Common.{◌≡◌, ◌<◌, List, length, All, sym, ◌∙◌, subst, arith}
-use Rattle.std.proofs.lemmas.List.{length-map}
-use Rattle.conn_scan.specs.code.Block.{BlockFits}
-use Rattle.conn_scan.specs.declared.block_items.Block.{Block}
-use Rattle.audit_terms.specs.Connection.{connection_start}
-use Rattle.audit_rounds.specs.declared.blocks.ConnectionBlock.{ConnectionBlock}
-use Rattle.audit_rounds.specs.code.Blocks.{wholes}
-use Rattle.audit_rounds.specs.code.Plans.{IsPlan, shown_at}
+use Rattle.audit_rounds.proofs.Words.{◌≡◌, ◌<◌, List, length, All, sym, ◌∙◌, subst, arith, length-map, BlockFits, Block}
+use Rattle.audit_rounds.proofs.Words.{connection_start, ConnectionBlock, wholes, IsPlan, shown_at}
 use Rattle.audit_rounds.proofs.Layouts.{cut-within}
 use Rattle.audit_rounds.proofs.Whole.{if_ok-then}
 use Rattle.audit_rounds.proofs.block_rounds.planned.Goals as goal

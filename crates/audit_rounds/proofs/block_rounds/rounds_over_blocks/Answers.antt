@@ -1,10 +1,7 @@
-use Rattle.std.proofs.Common.{◌≡◌, ◌<◌, ◌++◌, length, map, get_or, All, None, refl, sym, ap, ◌∙◌, subst, arith}
-use Rattle.audit_terms.specs.Finding.{in_order, upto_stop}
+use Rattle.audit_rounds.proofs.Words.{◌≡◌, ◌<◌, ◌++◌, length, map, get_or, All, None, refl, sym, ap, ◌∙◌, subst, arith}
+use Rattle.audit_rounds.proofs.Words.{in_order, upto_stop, Job, findings_of_parts, part_of, AreParts, block_job}
+use Rattle.audit_rounds.proofs.Words.{All-map}
 use Rattle.audit_terms.proofs.FindingOrder.{in_order-in_order}
-use Rattle.job_crew.specs.code.Board.{Job, findings_of_parts}
-use Rattle.job_crew.specs.code.Laid.{part_of}
-use Rattle.audit_rounds.specs.code.Plans.{AreParts, block_job}
-use Rattle.std.proofs.lemmas.List.Elements.{All-map}
 use Rattle.audit_rounds.proofs.Merges.{merged-at, merged-long}
 use Rattle.audit_rounds.proofs.Settles.{merged, parts-within, each-block, each-fits, each-place}
 use Rattle.audit_rounds.proofs.Whole.{if_ok-then}

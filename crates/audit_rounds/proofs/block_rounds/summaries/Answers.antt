@@ -1,8 +1,5 @@
-use Rattle.std.proofs.Common.{rules}
-use Rattle.std.proofs.lemmas.Iterator.{YieldsList-from_map, items_from_collect}
-use Rattle.std.proofs.lemmas.Iterator.Adapters.{YieldsList-from_vec}
-use Rattle.conn_scan.specs.declared.sums.ConnSum.{ConnSum}
-use Rattle.job_crew.specs.declared.parts.Part.{Part}
+use Rattle.audit_rounds.proofs.Words.{rules, YieldsList-from_map, items_from_collect, YieldsList-from_vec, ConnSum}
+use Rattle.audit_rounds.proofs.Words.{Part}
 use Rattle.audit_rounds.proofs.block_rounds.summaries.Goals as goal
 
 pub returns : goal.returns

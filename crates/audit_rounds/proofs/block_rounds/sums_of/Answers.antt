@@ -1,8 +1,4 @@
-use Rattle.std.proofs.Common.{◌<◌, length, sym, subst}
-use Rattle.job_crew.specs.code.Board.{Job}
-use Rattle.audit_rounds.specs.code.Blocks.{AreSums}
-use Rattle.audit_rounds.specs.code.Plans.{sum_job}
-use Rattle.std.proofs.lemmas.List.Elements.{All-map}
+use Rattle.audit_rounds.proofs.Words.{◌<◌, length, sym, subst, Job, AreSums, sum_job, All-map}
 use Rattle.audit_rounds.proofs.Settles.{sums-settled}
 use Rattle.audit_rounds.proofs.Whole.{if_ok-then}
 use Rattle.audit_rounds.proofs.block_rounds.sums_of.Goals as goal

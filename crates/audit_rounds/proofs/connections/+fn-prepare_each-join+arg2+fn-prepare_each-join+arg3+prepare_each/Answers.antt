@@ -1,6 +1,4 @@
-use Rattle.std.proofs.Common.{sym}
-use Rattle.std.proofs.lemmas.Result.{IfOk-at_ok}
-use Rattle.audit_rounds.specs.code.MadeReady.{AreMadeReady}
+use Rattle.audit_rounds.proofs.Words.{sym, IfOk-at_ok, AreMadeReady}
 use Rattle.audit_rounds.proofs.MadeReady.{made-whole}
 use Rattle.audit_rounds.proofs.connections.+fn-prepare_each-join+arg2+fn-prepare_each-join+arg3+prepare_each.Goals as
     goal

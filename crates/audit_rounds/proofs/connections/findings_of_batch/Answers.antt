@@ -1,8 +1,4 @@
-use Rattle.std.proofs.Common.{List, Bor, map, sym, ap, ◌∙◌, subst}
-use Rattle.audit_terms.specs.declared.frames.Frame.{Frame}
-use Rattle.audit_terms.specs.Finding.{shown}
-use Rattle.audit_terms.specs.Pass.{pass}
-use Rattle.audit_rounds.specs.code.Batch.{IsBatch}
+use Rattle.audit_rounds.proofs.Words.{List, Bor, map, sym, ap, ◌∙◌, subst, Frame, shown, pass, IsBatch}
 use Rattle.audit_rounds.proofs.Frameless.{framed-batch, nothing-shown, spread-said}
 use Rattle.audit_rounds.proofs.Whole.{if_ok-then}
 use Rattle.audit_rounds.proofs.connections.findings_of_batch.Goals as goal

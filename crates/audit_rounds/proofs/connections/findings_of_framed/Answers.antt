@@ -1,9 +1,4 @@
-use Rattle.std.proofs.Common.{List, map, sym, ap, ◌∙◌, subst}
-use Rattle.audit_rounds.specs.declared.prepared.Prepared.{Prepared}
-use Rattle.audit_rounds.specs.code.Batch.{AreReady}
-use Rattle.audit_terms.specs.declared.frames.Frame.{Frame}
-use Rattle.audit_terms.specs.Finding.{shown}
-use Rattle.audit_terms.specs.Pass.{pass}
+use Rattle.audit_rounds.proofs.Words.{List, map, sym, ap, ◌∙◌, subst, Prepared, AreReady, Frame, shown, pass}
 use Rattle.audit_rounds.proofs.Alike.{frames_in, maps-alike}
 use Rattle.audit_rounds.proofs.MadeReady.{batch-ready}
 use Rattle.audit_rounds.proofs.Whole.{if_ok-then}

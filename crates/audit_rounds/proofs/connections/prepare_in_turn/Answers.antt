@@ -1,11 +1,5 @@
-use Rattle.std.proofs.Common.{List, map, All, sym, ap, ◌∙◌, subst, arith, Bor, Vec, Global}
-use Rattle.std.proofs.lemmas.List.{take_all}
-use Rattle.std.proofs.lemmas.List.Elements.{All-push}
-use Rattle.audit_terms.specs.declared.findings.Finding.{Finding}
-use Rattle.audit_terms.specs.declared.frames.Frame.{Frame}
-use Rattle.audit_terms.specs.code.runs.Orderly.{IsOrderly}
-use Rattle.audit_rounds.specs.declared.prepared.Prepared.{Prepared}
-use Rattle.audit_rounds.specs.code.Prepared.{IsPrepared, found_before}
+use Rattle.audit_rounds.proofs.Words.{List, map, All, sym, ap, ◌∙◌, subst, arith, Bor, Vec, Global, take_all, All-push}
+use Rattle.audit_rounds.proofs.Words.{Finding, Frame, IsOrderly, Prepared, IsPrepared, found_before}
 use Rattle.audit_rounds.proofs.Fronts.{before-more}
 use Rattle.audit_rounds.proofs.Alike.{frames_in, map-grows}
 use Rattle.audit_rounds.proofs.connections.prepare_in_turn.Goals as goal

@@ -1,5 +1,4 @@
-use Rattle.std.proofs.Common.{◌≡◌, ◌≤◌, All, map, take, length}
-use Rattle.audit_rounds.specs.code.Prepared.{IsPrepared, found_before}
+use Rattle.audit_rounds.proofs.Words.{◌≡◌, ◌≤◌, All, map, take, length, IsPrepared, found_before}
 use Rattle.audit_rounds.proofs.connections.prepare_in_turn.Given as goal
 
 -- the connections so far are ready

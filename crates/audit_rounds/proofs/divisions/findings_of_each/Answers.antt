@@ -1,12 +1,5 @@
-use Rattle.std.proofs.Common.{List, map, All, sym, ap, ◌∙◌, subst, arith, Bor, Vec, Global}
-use Rattle.std.proofs.lemmas.List.{take_all}
-use Rattle.std.proofs.lemmas.List.Elements.{All-take, All-drop}
-use Rattle.audit_terms.specs.declared.findings.Finding.{Finding}
-use Rattle.audit_terms.specs.code.runs.Orderly.{IsOrderly}
-use Rattle.audit_terms.specs.declared.frames.Frame.{Frame}
-use Rattle.audit_terms.specs.Finding.{shown}
-use Rattle.audit_terms.specs.Pass.{pass}
-use Rattle.audit_rounds.specs.code.Few.{AreFew}
+use Rattle.audit_rounds.proofs.Words.{List, map, All, sym, ap, ◌∙◌, subst, arith, Bor, Vec, Global, take_all, All-take}
+use Rattle.audit_rounds.proofs.Words.{All-drop, Finding, IsOrderly, Frame, shown, pass, AreFew}
 use Rattle.audit_rounds.proofs.Batches.{batch-more}
 use Rattle.audit_rounds.proofs.divisions.findings_of_each.Goals as goal
 

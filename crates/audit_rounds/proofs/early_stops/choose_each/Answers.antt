@@ -1,7 +1,5 @@
-use Rattle.std.proofs.Common.{rules}
-use Rattle.std.proofs.lemmas.Iterator.{YieldsList-from_map, YieldsList-from_zip, items_from_collect}
-use Rattle.std.proofs.lemmas.Iterator.Adapters.{YieldsList-from_vec}
-use Rattle.audit_rounds.specs.code.EarlyStops.{chosen_of}
+use Rattle.audit_rounds.proofs.Words.{rules, YieldsList-from_map, YieldsList-from_zip, items_from_collect}
+use Rattle.audit_rounds.proofs.Words.{YieldsList-from_vec, chosen_of}
 use Rattle.audit_rounds.proofs.early_stops.choose_each.Goals as goal
 
 pub returns : goal.returns

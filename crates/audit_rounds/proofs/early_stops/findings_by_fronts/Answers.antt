@@ -1,8 +1,4 @@
-use Rattle.std.proofs.Common.{List, map, ap, ◌∙◌}
-use Rattle.std.specs.List.{zip}
-use Rattle.audit_terms.specs.declared.frames.Frame.{Frame}
-use Rattle.audit_terms.specs.Finding.{shown}
-use Rattle.audit_terms.specs.Pass.{pass}
+use Rattle.audit_rounds.proofs.Words.{List, map, ap, ◌∙◌, zip, Frame, shown, pass}
 use Rattle.audit_rounds.proofs.Alike.{items_in, frames_in, maps-alike}
 use Rattle.audit_rounds.proofs.ByFronts.{front_in, later_in, fronts-batch, laters-batch, chosen-pass}
 use Rattle.audit_rounds.proofs.Whole.{if_ok-then}

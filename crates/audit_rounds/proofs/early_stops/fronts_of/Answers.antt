@@ -1,8 +1,5 @@
-use Rattle.std.proofs.Common.{Bor, List, rules}
-use Rattle.std.proofs.lemmas.Iterator.{YieldsList-from_slice, YieldsList-from_map_by}
-use Rattle.std.proofs.lemmas.Iterator.Consumers.{map_from_collect}
-use Rattle.audit_terms.specs.declared.frames.Frame.{Frame}
-use Rattle.audit_rounds.specs.code.EarlyStops.{front_of}
+use Rattle.audit_rounds.proofs.Words.{Bor, List, rules, YieldsList-from_slice, YieldsList-from_map_by, map_from_collect}
+use Rattle.audit_rounds.proofs.Words.{Frame, front_of}
 use Rattle.audit_rounds.proofs.early_stops.fronts_of.Goals as goal
 
 pub returns : goal.returns

@@ -1,7 +1,5 @@
-use Rattle.std.proofs.Common.{Bor, List, rules}
-use Rattle.std.proofs.lemmas.Iterator.{YieldsList-from_slice, YieldsList-from_map_by, YieldsList-from_zip}
-use Rattle.std.proofs.lemmas.Iterator.Consumers.{map_from_collect}
-use Rattle.audit_terms.specs.declared.frames.Frame.{Frame}
+use Rattle.audit_rounds.proofs.Words.{Bor, List, rules, YieldsList-from_slice, YieldsList-from_map_by}
+use Rattle.audit_rounds.proofs.Words.{YieldsList-from_zip, map_from_collect, Frame}
 use Rattle.audit_rounds.proofs.ByFronts.{later_in}
 use Rattle.audit_rounds.proofs.early_stops.laters_of.Goals as goal
 

@@ -1,10 +1,5 @@
-use Rattle.std.proofs.Common.{◌≡◌, ◌<◌, ◌++◌, [], ◌∷◌, map, length, get_or, sym, ap, ◌∙◌, arith, length-set, Vec}
-use Rattle.std.proofs.Common.{Global}
-use Rattle.audit_terms.specs.declared.findings.Finding.{Finding}
-use Rattle.std.proofs.lemmas.List.{map-append}
-use Rattle.std.specs.Vec.Iter.{into_iter_items}
-use Rattle.job_crew.specs.code.Board.{findings_of_parts}
-use Rattle.job_crew.specs.code.Laid.{part_of}
+use Rattle.audit_rounds.proofs.Words.{◌≡◌, ◌<◌, ◌++◌, [], ◌∷◌, map, length, get_or, sym, ap, ◌∙◌, arith, length-set}
+use Rattle.audit_rounds.proofs.Words.{Vec, Global, Finding, map-append, into_iter_items, findings_of_parts, part_of}
 use Rattle.audit_rounds.proofs.Drawn.{taken-more, taken-holds, taken-all}
 use Rattle.audit_rounds.proofs.PartsKept.{gathered-more}
 use Rattle.audit_rounds.proofs.gathering.gathered.Goals as goal

@@ -1,8 +1,4 @@
-use Rattle.std.proofs.Common.{List, Bor}
-use Rattle.std.proofs.lemmas.Result.{IfOk-at_ok}
-use Rattle.audit_terms.specs.declared.frames.Frame.{Frame}
-use Rattle.audit_terms.specs.Finding.{shown}
-use Rattle.audit_terms.specs.Pass.{pass}
+use Rattle.audit_rounds.proofs.Words.{List, Bor, IfOk-at_ok, Frame, shown, pass}
 use Rattle.audit_rounds.specs.code.Batch.{AreShown}
 use Rattle.audit_rounds.proofs.Alike.{items_in}
 use Rattle.audit_rounds.proofs.BothHalves.{halves-whole}

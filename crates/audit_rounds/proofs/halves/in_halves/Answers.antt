@@ -1,8 +1,5 @@
-use Rattle.std.proofs.Common.{All, sym, ap, ◌++◌, ◌∙◌, subst, take, Bor, List}
-use Rattle.std.proofs.lemmas.List.{take-append-drop}
-use Rattle.std.proofs.lemmas.List.Elements.{All-take, All-drop}
-use Rattle.audit_terms.specs.declared.frames.Frame.{Frame}
-use Rattle.audit_terms.specs.code.runs.Orderly.{IsOrderly}
+use Rattle.audit_rounds.proofs.Words.{All, sym, ap, ◌++◌, ◌∙◌, subst, take, Bor, List, take-append-drop, All-take}
+use Rattle.audit_rounds.proofs.Words.{All-drop, Frame, IsOrderly}
 use Rattle.audit_rounds.proofs.Few.{few-front, few-back}
 use Rattle.audit_rounds.proofs.halves.in_halves.Goals as goal
 

@@ -1,8 +1,5 @@
-use Rattle.std.proofs.Common.{◌≡◌, ◌++◌, Vec, Global, ◌⊎◌, inl, inr, length, map, sym, ap, ◌∙◌, ⊎_elim}
-use Rattle.std.specs.List.{zip}
-use Rattle.std.specs.Vec.Iter.{into_iter_items}
-use Rattle.std.specs.Iterator.Adapters.{zip_first, zip_second}
-use Rattle.audit_terms.specs.declared.findings.Finding.{Finding}
+use Rattle.audit_rounds.proofs.Words.{◌≡◌, ◌++◌, Vec, Global, ◌⊎◌, inl, inr, length, map, sym, ap, ◌∙◌, ⊎_elim, zip}
+use Rattle.audit_rounds.proofs.Words.{into_iter_items, zip_first, zip_second, Finding}
 use Rattle.audit_rounds.proofs.Merges.{both_in, zip-over}
 use Rattle.audit_rounds.proofs.merging.merged_each.Goals as goal
 

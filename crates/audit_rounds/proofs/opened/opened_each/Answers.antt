@@ -1,6 +1,5 @@
-use Rattle.std.proofs.Common.{◌<◌, length, length-set, subst, ap, ◌++◌, ◌∙◌, arith, Vec, Global, ℕ}
-use Rattle.std.proofs.Common.{get_or-set_other}
-use Rattle.audit_rounds.specs.code.Opened.{IsInOrder, numbers_told}
+use Rattle.audit_rounds.proofs.Words.{◌<◌, length, length-set, subst, ap, ◌++◌, ◌∙◌, arith, Vec, Global, ℕ}
+use Rattle.audit_rounds.proofs.Words.{get_or-set_other, IsInOrder, numbers_told}
 use Rattle.audit_rounds.proofs.Ordered.{ordered-more}
 use Rattle.audit_rounds.proofs.opened.opened_each.Goals as goal
 

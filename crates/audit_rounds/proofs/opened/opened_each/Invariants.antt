@@ -1,6 +1,5 @@
-use Rattle.std.proofs.Common.{◌≡◌, ℕ, ◌++◌, ◌<◌, ◌≤◌, length, get_or, Vec, Global}
-use Rattle.audit_rounds.specs.declared.prepared.Prepared.{Prepared}
-use Rattle.audit_rounds.specs.code.Opened.{numbers_told, IsInOrder}
+use Rattle.audit_rounds.proofs.Words.{◌≡◌, ℕ, ◌++◌, ◌<◌, ◌≤◌, length, get_or, Vec, Global, Prepared, numbers_told}
+use Rattle.audit_rounds.proofs.Words.{IsInOrder}
 use Rattle.audit_rounds.proofs.opened.opened_each.Given as goal
 
 -- the connections so far have all their numbers in order, and the others those that were told

@@ -1,5 +1,4 @@
-use Rattle.std.proofs.Common.{subst}
-use Rattle.std.specs.List.Sorted.{IsPermutation}
+use Rattle.audit_rounds.proofs.Words.{subst, IsPermutation}
 use Rattle.audit_rounds.proofs.Whole.{never-fall}
 use Rattle.audit_rounds.proofs.opened.with_quiet.Goals as goal
 

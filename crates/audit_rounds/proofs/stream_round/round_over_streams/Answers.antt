@@ -1,11 +1,6 @@
-use Rattle.std.proofs.Common.{◌<◌, ◌++◌, List, length, get_or, All, ℕ, sym, ◌∙◌, subst, arith, Vec, Global}
-use Rattle.std.proofs.lemmas.Slice.Zip.{AllZip-long}
-use Rattle.audit_terms.specs.declared.findings.Finding.{Finding}
-use Rattle.job_crew.specs.declared.parts.Part.{Part}
+use Rattle.audit_rounds.proofs.Words.{◌<◌, ◌++◌, List, length, get_or, All, ℕ, sym, ◌∙◌, subst, arith, Vec, Global}
+use Rattle.audit_rounds.proofs.Words.{AllZip-long, Finding, Part, numbers_told, IsInOrder, IsStreamsOf, found_before}
 use Rattle.audit_rounds.specs.code.AfterStreams.{HaveSettledOver}
-use Rattle.audit_rounds.specs.code.Opened.{numbers_told, IsInOrder}
-use Rattle.audit_rounds.specs.code.StreamRound.{IsStreamsOf}
-use Rattle.audit_rounds.specs.code.Prepared.{found_before}
 use Rattle.audit_rounds.proofs.Alike.{items_in, as-many}
 use Rattle.audit_rounds.proofs.StreamsLeft.{parts-inside, are-after}
 use Rattle.audit_rounds.proofs.stream_round.round_over_streams.Goals as goal

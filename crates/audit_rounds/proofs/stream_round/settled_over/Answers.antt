@@ -1,15 +1,8 @@
-use Rattle.std.proofs.Common.{length, All, Option, ℕ, List, sym, ap, ◌∙◌, subst, Vec, Global}
-use Rattle.std.proofs.lemmas.Slice.Zip.{AllZip-long}
-use Rattle.audit_terms.specs.declared.findings.Finding.{Finding}
-use Rattle.stop_desk.specs.code.Stop.{IsStop}
-use Rattle.audit_rounds.specs.declared.streams.Streams.{Streams}
-use Rattle.audit_rounds.specs.code.AfterStreams.{HaveSettled}
-use Rattle.audit_rounds.specs.code.StreamJobs.{IsReady}
-use Rattle.audit_rounds.specs.code.StreamRound.{IsStreamsOf, IsFirstStop}
-use Rattle.audit_rounds.specs.code.Few.{RowsAreFew}
+use Rattle.audit_rounds.proofs.Words.{length, All, Option, ℕ, List, sym, ap, ◌∙◌, subst, Vec, Global, AllZip-long}
+use Rattle.audit_rounds.proofs.Words.{Finding, IsStop, Streams, HaveSettled, IsReady, IsStreamsOf, IsFirstStop}
+use Rattle.audit_rounds.proofs.Words.{RowsAreFew, found_before}
 use Rattle.audit_rounds.proofs.Few.{few-rows}
 use Rattle.audit_rounds.proofs.StreamRounds.{ready-each, stops-are-places}
-use Rattle.audit_rounds.specs.code.Prepared.{found_before}
 use Rattle.audit_rounds.proofs.Alike.{items_in, as-many}
 use Rattle.audit_rounds.proofs.Whole.{if_ok-then}
 use Rattle.audit_rounds.proofs.stream_round.settled_over.Goals as goal

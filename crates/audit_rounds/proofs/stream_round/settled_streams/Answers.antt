@@ -1,6 +1,4 @@
-use Rattle.std.proofs.Common.{◌<◌, All, map, length, sym, ◌∙◌, subst, arith}
-use Rattle.job_crew.specs.code.Board.{Job}
-use Rattle.audit_rounds.specs.code.StreamJobs.{IsJobOf, job_of}
+use Rattle.audit_rounds.proofs.Words.{◌<◌, All, map, length, sym, ◌∙◌, subst, arith, Job, IsJobOf, job_of}
 use Rattle.audit_rounds.proofs.StreamRounds.{planned, jobs-within}
 use Rattle.audit_rounds.proofs.stream_round.settled_streams.Goals as goal
 

@@ -1,7 +1,4 @@
-use Rattle.std.proofs.Common.{arith}
-use Rattle.std.proofs.lemmas.List.{length-map}
-use Rattle.audit_rounds.specs.declared.stream_plan.StreamJob.{StreamJob}
-use Rattle.audit_rounds.specs.code.StreamJobs.{job_of}
+use Rattle.audit_rounds.proofs.Words.{arith, length-map, StreamJob, job_of}
 use Rattle.audit_rounds.proofs.StreamJobs.{job-cut, job-ends, job-looks, job-makes, job-planned, job-rows}
 use Rattle.audit_rounds.proofs.Whole.{if_ok-then}
 use Rattle.audit_rounds.proofs.stream_jobs.StreamsRoundRound.work.Goals as goal
