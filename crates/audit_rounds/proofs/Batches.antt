@@ -1,9 +1,7 @@
 -- One batch of connections more.
-use Rattle.std.proofs.Common.{◌≡◌, ℕ, ◌+◌, List, ◌++◌, map, take, drop, length, sym, ap, ◌∙◌, Bor, Vec, Global}
-use Rattle.std.proofs.lemmas.List.{map-append}
+use Rattle.audit_rounds.proofs.Words.{◌≡◌, ℕ, ◌+◌, List, ◌++◌, map, take, drop, length, sym, ap, ◌∙◌, Bor, Vec, Global}
+use Rattle.audit_rounds.proofs.Words.{map-append, Finding, Frame}
 use Rattle.std.proofs.Math.Seq.{take-add}
-use Rattle.audit_terms.specs.declared.findings.Finding.{Finding}
-use Rattle.audit_terms.specs.declared.frames.Frame.{Frame}
 
 abbrev items-of : Vec Finding Global → List Finding
 items-of list = list.items

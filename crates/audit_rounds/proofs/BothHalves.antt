@@ -1,6 +1,5 @@
 -- Connections of which one half goes through the rounds, and then the other.
-use Rattle.std.proofs.Common.{◌≡◌, List, ◌++◌, map, sym, ap, ◌∙◌}
-use Rattle.std.proofs.lemmas.List.{map-append}
+use Rattle.audit_rounds.proofs.Words.{◌≡◌, List, ◌++◌, map, sym, ap, ◌∙◌, map-append}
 
 -- what is found of both halves is what is found of all
 pub halves-whole : {X Y Z : Type 0} (items : X → Z) (shown : Y → Z) (all front back : List Y) (found more : List X)

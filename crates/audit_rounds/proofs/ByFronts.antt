@@ -1,107 +1,78 @@
 -- What is found of connections of which fronts are gone through first.
-use Rattle.std.proofs.Common.{◌≡◌, ℕ, zero, suc, ◌+◌, ◌<◌, ◌≤◌, ◌/◌, Bool, true, false, nat_lt, if◌then◌else◌, List, []}
-use Rattle.std.proofs.Common.{◌∷◌, ◌++◌, map, take, drop, length, get_or, set, get_or-set_same, get_or-set_other, All}
-use Rattle.std.proofs.Common.{refl, sym, ap, ◌∙◌, subst, ⊎_elim, arith, Bor, Vec, Global}
-use Rattle.std.specs.List.{list_any, zip}
-use Rattle.std.proofs.lemmas.Bool.{cases_eq}
-use Rattle.std.proofs.lemmas.List.{map-append, map_more, length-map, get_or-map, get_or_default, take-append-drop}
-use Rattle.std.proofs.lemmas.List.Elements.{All-map}
-use Rattle.std.proofs.lemmas.Simd.{map-map}
-use Rattle.audit_terms.specs.declared.findings.Finding.{Finding}
-use Rattle.audit_terms.specs.declared.frames.Frame.{Frame}
-use Rattle.audit_terms.specs.Finding.{stops, shown}
-use Rattle.audit_terms.specs.code.runs.Orderly.{IsOrderly}
-use Rattle.audit_terms.specs.Pass.{pass}
-use Rattle.audit_rounds.specs.code.EarlyStops.{front_of, has_stopped, later_of, chosen_of}
+use Rattle.audit_rounds.proofs.Words.{◌≡◌, ℕ, ◌<◌, ◌≤◌, Bool, true, false, nat_lt, if◌then◌else◌, List, [], ◌∷◌, map}
+use Rattle.audit_rounds.proofs.Words.{take, drop, length, get_or, refl, sym, ap, ◌∙◌, subst, arith, Bor, Vec, Global}
+use Rattle.audit_rounds.proofs.Words.{list_any, sum_by, zip, take-append-drop, sum_by-cons, get_or-zip, length-zip}
+use Rattle.audit_rounds.proofs.Words.{Finding, Frame, stops, shown, IsOrderly, pass, IsBatch, front_of, chosen_of}
+use Rattle.std.proofs.Common.{◌/◌}
+use Rattle.std.proofs.lemmas.List.{length-take}
+use Rattle.std.proofs.lemmas.List.Sums.{sum_by-le-sum_by}
+use Rattle.audit_rounds.specs.code.EarlyStops.{has_stopped, later_of}
+use Rattle.audit_rounds.proofs.Alike.{items_in, frames_in, all-alike, sums-alike}
 use Rattle.audit_rounds.proofs.Cuts.{orderly-take}
 use Rattle.audit_rounds.proofs.EarlyStop.{fronts_settle_lem}
 
--- what is gone through later of each connection
-abbrev pub laters_of : List (Bor (List Frame)) → List (Vec Finding Global) → List (List Frame)
-laters_of connections early = map (λ (one : Bor (List Frame) × Vec Finding Global). later_of one.0.now one.1.items)
-    (zip connections early)
+abbrev pub front_in : Bor (List Frame) → List Frame
+front_in frames = front_of frames.now
 
--- one element more
-pub map-grows : {A B C : Type 0} (f : A → C) (g : B → C) (made : List A) (one : A) (all : List B) (at : ℕ) (d : B)
-    → at < length all → f one ≡ g (get_or all at d) → map f made ≡ map g (take at all)
-    → map f (made ++ one ∷ []) ≡ map g (take (at + 1) all)
-map-grows f g made one all at d l is e =
-    map-append f made (one ∷ [])
-    ∙ ap (λ l. l ++ f one ∷ []) e
-    ∙ ap (λ c. map g (take at all) ++ c ∷ []) is
-    ∙ sym (map_more g all at d l)
+abbrev pub later_in : Bor (List Frame) × Vec Finding Global → List Frame
+later_in one = later_of one.0.now one.1.items
 
-zip-more : {A B : Type 0} (xs : List A) (ys : List B) (at : ℕ) (dx : A) (dy : B) → at < length xs → at < length ys
-    → zip (take (suc at) xs) ys ≡ zip (take at xs) ys ++ (get_or xs at dx, get_or ys at dy) ∷ []
-zip-more [] ys at dx dy l l' = absurd (omega arith)
-zip-more (x ∷ xs) [] at dx dy l l' = absurd (omega arith)
-zip-more (x ∷ xs) (y ∷ ys) zero dx dy l l' = refl
-zip-more (x ∷ xs) (y ∷ ys) (suc at) dx dy l l' = ap (λ l. (x, y) ∷ l)
-    (zip-more xs ys at dx dy (omega arith) (omega arith))
+-- ---- fronts, and what is gone through later, make batches
 
--- one connection more
-pub laters-more : (connections : List (Bor (List Frame))) (early : List (Vec Finding Global))
-    (made : List (Bor (List Frame)))
-    (one : Bor (List Frame)) (at : ℕ) (dx : Bor (List Frame)) (dy : Vec Finding Global) (found : List Finding)
-    → at < length connections → at < length early
-    → one.now ≡ later_of (get_or connections at dx).now found → found ≡ dy.items → dy ≡ get_or early at dy
-    → map (λ (later : Bor (List Frame)). later.now) made ≡ laters_of (take at connections) early
-    → map (λ (later : Bor (List Frame)). later.now) (made ++ one ∷ []) ≡ laters_of (take (at + 1) connections) early
-laters-more connections early made one at dx dy found l l' is same there e =
-    let next : suc at ≡ at + 1 = omega arith in
-    let one_later = λ (one : Bor (List Frame) × Vec Finding Global). later_of one.0.now one.1.items in
-    let whole : one.now ≡ later_of (get_or connections at dx).now (get_or early at dy).items =
-    is ∙ ap (later_of (get_or connections at dx).now) same
-    ∙ ap (λ (v : Vec Finding Global). later_of (get_or connections at dx).now v.items) there in
-    map-append (λ (later : Bor (List Frame)). later.now) made (one ∷ [])
-    ∙ ap (λ l. l ++ one.now ∷ []) e
-    ∙ ap (λ c. laters_of (take at connections) early ++ c ∷ []) whole
-    ∙ sym (map-append one_later (zip (take at connections) early) ((get_or connections at dx, get_or early at dy) ∷ []))
-    ∙ ap (map one_later) (sym (zip-more connections early at dx dy l l'))
-    ∙ ap (λ n. laters_of (take n connections) early) next
+take-shorter : (n : ℕ) (frames : List Frame) → length (take n frames) ≤ length frames
+take-shorter n frames = let long = length-take n frames in omega (arith, long)
+
+pub fronts-batch : (connections fronts : List (Bor (List Frame))) → map frames_in fronts ≡ map front_in connections
+    → IsBatch connections → IsBatch fronts
+fronts-batch connections fronts e batch =
+    let same = sums-alike frames_in front_in length fronts connections e in
+    let less = sum_by-le-sum_by (λ frames. length (front_in frames)) (λ frames. length frames.now) connections
+    (λ frames. take-shorter _ frames.now) in
+    let few = batch.few in
+    record {
+      orderly = all-alike frames_in front_in IsOrderly fronts connections e
+          (λ n d l. orderly-take 0 _ (get_or connections n d).now (batch.orderly n d l));
+      few = omega (arith, same, less, few);
+    }
+
+-- what is gone through later of a connection is none of its frames, or all
+later-is : (P : List Frame → Type 0) (frames : List Frame) (early : List Finding) → P [] → P frames
+    → P (later_of frames early)
+later-is P frames early none all = by_test (has_stopped early) where
+  by_test : (b : Bool) → P (if b then [] else frames)
+  by_test true = none
+  by_test false = all
+
+laters-shorter : (connections : List (Bor (List Frame))) (early : List (Vec Finding Global))
+    → sum_by (λ one. length (later_in one)) (zip connections early) ≤ sum_by (λ frames. length frames.now) connections
+laters-shorter [] early = omega arith
+laters-shorter (frames ∷ connections) [] = omega arith
+laters-shorter (frames ∷ connections) (found ∷ early) =
+    let left = sum_by-cons (λ one. length (later_in one)) (frames, found) (zip connections early) in
+    let right = sum_by-cons (λ (frames : Bor (List Frame)). length frames.now) frames connections in
+    let first = later-is (λ later. length later ≤ length frames.now) frames.now found.items (omega arith)
+    (omega arith) in
+    let rest = laters-shorter connections early in
+    omega (arith, left, right, first, rest)
+
+pub laters-batch : (connections laters : List (Bor (List Frame))) (early : List (Vec Finding Global))
+    → map frames_in laters ≡ map later_in (zip connections early) → IsBatch connections → IsBatch laters
+laters-batch connections laters early e batch =
+    let same = sums-alike frames_in later_in length laters (zip connections early) e in
+    let less = laters-shorter connections early in
+    let few = batch.few in
+    let long = length-zip connections early in
+    record {
+      orderly = all-alike frames_in later_in IsOrderly laters (zip connections early) e (λ n d l.
+          let inside : n < length connections = omega (arith, l, long) in
+          subst (λ one. IsOrderly (later_in one))
+          (sym (get_or-zip connections early n d inside (omega (arith, l, long))))
+          (later-is IsOrderly (get_or connections n d.0).now (get_or early n d.1).items tt
+          (batch.orderly n d.0 inside)));
+      few = omega (arith, same, less, few);
+    }
 
 -- ---- what is chosen
-
--- those after the one that is put there are as they were
-pub left-more : {X : Type 0} (all now : List X) (i : ℕ) (new : X)
-    → ((n : ℕ) (d : X) → i ≤ n → get_or now n d ≡ get_or all n d)
-    → (n : ℕ) (d : X) → i + 1 ≤ n → get_or (set now i new) n d ≡ get_or all n d
-left-more all now i new left n d l =
-    get_or-set_other now i n new d (λ e. omega (arith, l, e)) ∙ left n d (omega (arith, l))
-
--- of one connection more it is chosen
-pub chosen-more : (early later fronts now : List (Vec Finding Global)) (i : ℕ) (x y new : Vec Finding Global)
-    → i < length early → i < length later → i < length now → new ≡ chosen_of (x, y) → x ≡ get_or fronts i x
-    → y ≡ get_or now i y → ((n : ℕ) (d : Vec Finding Global) → i ≤ n → get_or fronts n d ≡ get_or early n d)
-    → ((n : ℕ) (d : Vec Finding Global) → i ≤ n → get_or now n d ≡ get_or later n d)
-    → ((n : ℕ) (d e f : Vec Finding Global) → n < i → get_or now n d ≡ chosen_of (get_or early n e, get_or later n f))
-    → (n : ℕ) (d e f : Vec Finding Global) → n < i + 1
-    → get_or (set now i new) n d ≡ chosen_of (get_or early n e, get_or later n f)
-chosen-more early later fronts now i x y new in-early in-later in-now is isx isy fronts-left left done n d e f
-    l = ⊎_elim
-    (λ same.
-    let first : x ≡ get_or early i e = isx ∙ fronts-left i x (omega arith) ∙ get_or_default early i x e in-early in
-    let second : y ≡ get_or later i f = isy ∙ left i y (omega arith) ∙ get_or_default later i y f in-later in
-    subst (λ k. get_or (set now i new) k d ≡ chosen_of (get_or early k e, get_or later k f)) (sym same)
-    (get_or-set_same now i new d in-now ∙ is ∙ ap (λ a. chosen_of (a, y)) first
-    ∙ ap (λ b. chosen_of (get_or early i e, b)) second))
-    (λ other. get_or-set_other now i n new d other ∙ done n d e f (omega (arith, l, other)))
-    (cases_eq n i)
-
--- of all
-pub chosen-all : (early later now : List (Vec Finding Global)) → length later ≡ length early → length now ≡ length later
-    → ((n : ℕ) (d e f : Vec Finding Global) → n < length later
-    → get_or now n d ≡ chosen_of (get_or early n e, get_or later n f))
-    → now ≡ map chosen_of (zip early later)
-chosen-all [] [] [] e f each = refl
-chosen-all [] [] (z ∷ zs) e f each = absurd (omega (arith, f))
-chosen-all [] (y ∷ ys) now e f each = absurd (omega (arith, e))
-chosen-all (x ∷ xs) [] now e f each = absurd (omega (arith, e))
-chosen-all (x ∷ xs) (y ∷ ys) [] e f each = absurd (omega (arith, f))
-chosen-all (x ∷ xs) (y ∷ ys) (z ∷ zs) e f each =
-    ap (λ v. v ∷ zs) (each 0 z x y (omega arith))
-    ∙ ap (λ l. chosen_of (x, y) ∷ l) (chosen-all xs ys zs (omega (arith, e)) (omega (arith, f))
-    (λ n a b c l. each (suc n) a b c (omega (arith, l))))
 
 module _ (credits_shown : Bool) where
   abbrev passed : List Frame → List Finding
@@ -112,123 +83,26 @@ module _ (credits_shown : Bool) where
   whole n frames h = fronts_settle_lem credits_shown (take n frames) (drop n frames) h
       ∙ ap passed (take-append-drop n frames)
 
-  pub chosen-pass : (connections : List (Bor (List Frame))) (early found : List (Vec Finding Global))
-      → map (λ (list : Vec Finding Global). list.items) early
-      ≡ map (λ (frames : Bor (List Frame)). passed (front_of frames.now)) connections
-      → map (λ (list : Vec Finding Global). list.items) found
-      ≡ map (λ (one : Bor (List Frame) × Vec Finding Global). passed (later_of one.0.now one.1.items))
-      (zip connections early)
-      → map (λ (list : Vec Finding Global). list.items) (map chosen_of (zip early found))
-      ≡ map (λ (frames : Bor (List Frame)). passed frames.now) connections
-  chosen-pass [] [] found e f = refl
-  chosen-pass [] (y ∷ ys) found e f = cc
-  chosen-pass (x ∷ xs) [] found e f = cc
+  one-chosen : (frames : List Frame) (early later : Vec Finding Global) → early.items ≡ passed (front_of frames) →
+      later.items ≡ passed (later_of frames early.items) → (chosen_of (early, later)).items ≡ passed frames
+  one-chosen frames early later e f = by_test _ refl where
+    by_test : (b : Bool) → has_stopped early.items ≡ b → (chosen_of (early, later)).items ≡ passed frames
+    by_test true t = rw t (e ∙ whole (if nat_lt (length frames) 4096 then 0 else length frames / 32) frames
+        (sym (ap (list_any stops) e) ∙ t))
+    by_test false t = let all : later_of frames early.items ≡ frames = rw t refl in rw t (f ∙ ap passed all)
+
+  pub chosen-pass : (connections : List (Bor (List Frame))) (early later : List (Vec Finding Global)) →
+      map items_in early ≡ map (λ frames. passed (front_in frames)) connections →
+      map items_in later ≡ map (λ one. passed (later_in one)) (zip connections early) →
+      map items_in (map chosen_of (zip early later)) ≡ map (λ frames. passed frames.now) connections
+  chosen-pass [] [] later e f = refl
+  chosen-pass [] (y ∷ ys) later e f = cc
+  chosen-pass (x ∷ xs) [] later e f = cc
   chosen-pass (x ∷ xs) (y ∷ ys) [] e f = cc
   chosen-pass (x ∷ xs) (y ∷ ys) (z ∷ zs) e f =
-      ap (λ l. (chosen_of (y, z)).items ∷ l) (chosen-pass xs ys zs later_e later_f)
-      ∙ ap (λ l. l ∷ map (λ (frames : Bor (List Frame)). passed frames.now) xs) (by_test _ refl) where
-        early : y.items ≡ passed (front_of x.now)
-        early = cc
-
-        later : z.items ≡ passed (later_of x.now y.items)
-        later = cc
-
-        later_e : map (λ (list : Vec Finding Global). list.items) ys
-            ≡ map (λ (frames : Bor (List Frame)). passed (front_of frames.now)) xs
-        later_e = cc
-
-        later_f : map (λ (list : Vec Finding Global). list.items) zs
-            ≡ map (λ (one : Bor (List Frame) × Vec Finding Global). passed (later_of one.0.now one.1.items)) (zip xs ys)
-        later_f = cc
-
-        by_test : (b : Bool) → has_stopped y.items ≡ b → (chosen_of (y, z)).items ≡ passed x.now
-        by_test true t =
-            let is : chosen_of (y, z) ≡ y = rw t refl in
-            ap (λ (list : Vec Finding Global). list.items) is ∙ early
-            ∙ whole (if nat_lt (length x.now) 4096 then 0 else length x.now / 32) x.now
-            (sym (ap (list_any stops) early) ∙ t)
-        by_test false t =
-            let is : chosen_of (y, z) ≡ z = rw t refl in
-            let all : later_of x.now y.items ≡ x.now = rw t refl in
-            ap (λ (list : Vec Finding Global). list.items) is ∙ later ∙ ap passed all
-
--- ---- their frames are orderly
-
-unmapped : (xs : List (Bor (List Frame))) → All IsOrderly (map (λ (frames : Bor (List Frame)). frames.now) xs)
-    → All (λ (frames : Bor (List Frame)). IsOrderly frames.now) xs
-unmapped xs h n d l =
-    let long = length-map xs (λ (frames : Bor (List Frame)). frames.now) in
-    subst IsOrderly (get_or-map (λ (frames : Bor (List Frame)). frames.now) xs n d d.now l)
-    (h n d.now (omega (arith, long, l)))
-
-pub orderly-fronts : (connections fronts : List (Bor (List Frame)))
-    → map (λ (front : Bor (List Frame)). front.now) fronts
-    ≡ map (λ (frames : Bor (List Frame)). front_of frames.now) connections
-    → All (λ (frames : Bor (List Frame)). IsOrderly frames.now) connections
-    → All (λ (frames : Bor (List Frame)). IsOrderly frames.now) fronts
-orderly-fronts connections fronts e h =
-    unmapped fronts (subst (All IsOrderly) (sym e)
-    (All-map IsOrderly (λ (frames : Bor (List Frame)). front_of frames.now) connections
-    (λ n d l. orderly-take 0 _ (get_or connections n d).now (h n d l))))
-
-orderly-later : (connections : List (Bor (List Frame))) (early : List (Vec Finding Global))
-    → All (λ (frames : Bor (List Frame)). IsOrderly frames.now) connections
-    → (n : ℕ) (d : List Frame) → n < length (laters_of connections early)
-    → IsOrderly (get_or (laters_of connections early) n d)
-orderly-later [] early h n d l = absurd (omega arith)
-orderly-later (x ∷ xs) [] h n d l = absurd (omega arith)
-orderly-later (x ∷ xs) (y ∷ ys) h zero d l = by_test _ refl where
-  by_test : (b : Bool) → has_stopped y.items ≡ b → IsOrderly (later_of x.now y.items)
-  by_test true t =
-      let none : [] ≡ later_of x.now y.items = rw t refl in
-      subst IsOrderly none tt
-  by_test false t =
-      let all : x.now ≡ later_of x.now y.items = rw t refl in
-      subst IsOrderly all (h 0 x (omega arith))
-orderly-later (x ∷ xs) (y ∷ ys) h (suc n) d l =
-    orderly-later xs ys (λ k e within. h (suc k) e (omega arith)) n d (omega arith)
-
-pub orderly-laters : (connections laters : List (Bor (List Frame))) (early : List (Vec Finding Global))
-    → map (λ (later : Bor (List Frame)). later.now) laters ≡ laters_of connections early
-    → All (λ (frames : Bor (List Frame)). IsOrderly frames.now) connections
-    → All (λ (frames : Bor (List Frame)). IsOrderly frames.now) laters
-orderly-laters connections laters early e h =
-    unmapped laters (subst (All IsOrderly) (sym e) (orderly-later connections early h))
-
--- ---- what is shown of them
-
-module _ (shows : List Frame → List Finding) (connections : List (Bor (List Frame))) where
-  pub shown-fronts : (fronts : List (Bor (List Frame)))
-      → map (λ (front : Bor (List Frame)). front.now) fronts
-      ≡ map (λ (frames : Bor (List Frame)). front_of frames.now) connections
-      → map (λ (front : Bor (List Frame)). shows front.now) fronts
-      ≡ map (λ (frames : Bor (List Frame)). shows (front_of frames.now)) connections
-  shown-fronts fronts e =
-      sym (map-map shows (λ (front : Bor (List Frame)). front.now) fronts)
-      ∙ ap (map shows) e
-      ∙ map-map shows (λ (frames : Bor (List Frame)). front_of frames.now) connections
-
-  pub shown-laters : (laters : List (Bor (List Frame))) (early : List (Vec Finding Global))
-      → map (λ (later : Bor (List Frame)). later.now) laters ≡ laters_of connections early
-      → map (λ (later : Bor (List Frame)). shows later.now) laters
-      ≡ map (λ (one : Bor (List Frame) × Vec Finding Global). shows (later_of one.0.now one.1.items))
-      (zip connections early)
-  shown-laters laters early e =
-      sym (map-map shows (λ (later : Bor (List Frame)). later.now) laters) ∙ ap (map shows) e
-      ∙ map-map shows (λ (one : Bor (List Frame) × Vec Finding Global). later_of one.0.now one.1.items)
-      (zip connections early)
-
--- as many of one as of the other
-pub as-many : {A B C : Type 0} (f : A → C) (g : B → C) (xs : List A) (ys : List B) → map f xs ≡ map g ys
-    → length xs ≡ length ys
-as-many f g xs ys e = sym (length-map xs f) ∙ ap length e ∙ length-map ys g
-
-zip-long : {A B : Type 0} (xs : List A) (ys : List B) → length ys ≡ length xs → length (zip xs ys) ≡ length ys
-zip-long [] [] e = refl
-zip-long [] (y ∷ ys) e = absurd (omega (arith, e))
-zip-long (x ∷ xs) [] e = refl
-zip-long (x ∷ xs) (y ∷ ys) e = ap suc (zip-long xs ys (omega (arith, e)))
-
-pub as-many-zipped : {A B C D : Type 0} (f : A → D) (g : B × C → D) (xs : List A) (ys : List B) (zs : List C)
-    → length zs ≡ length ys → map f xs ≡ map g (zip ys zs) → length xs ≡ length zs
-as-many-zipped f g xs ys zs long e = as-many f g xs (zip ys zs) e ∙ zip-long ys zs long
+      let early : y.items ≡ passed (front_in x) = cc in
+      let later : z.items ≡ passed (later_in (x, y)) = cc in
+      let fronts : map items_in ys ≡ map (λ frames. passed (front_in frames)) xs = cc in
+      let laters : map items_in zs ≡ map (λ one. passed (later_in one)) (zip xs ys) = cc in
+      ap (λ l. l ∷ map items_in (map chosen_of (zip ys zs))) (one-chosen x.now y z early later)
+      ∙ ap (λ l. passed x.now ∷ l) (chosen-pass xs ys zs fronts laters)

@@ -1,12 +1,7 @@
 -- What is shown of a clear block.
-use Rattle.std.proofs.Common.{◌≡◌, Bool, true, false, not, List, [], sym, subst}
+use Rattle.audit_rounds.proofs.Words.{◌≡◌, Bool, true, false, not, List, [], sym, subst, ConnectionState, Item}
+use Rattle.audit_rounds.proofs.Words.{block_run, shown, ConnSum, conn_sum_of}
 use Rattle.std.specs.Bool.{OnFalse}
-use Rattle.audit_terms.specs.declared.connections.ConnectionState.{ConnectionState}
-use Rattle.audit_terms.specs.declared.items.Item.{Item}
-use Rattle.audit_terms.specs.code.runs.Blocks.{block_run}
-use Rattle.audit_terms.specs.Finding.{shown}
-use Rattle.conn_scan.specs.declared.sums.ConnSum.{ConnSum}
-use Rattle.conn_scan.specs.code.ConnSum.{conn_sum_of}
 use Rattle.conn_scan.specs.code.Clear.{is_clear}
 use Rattle.conn_scan.proofs.ShownLemmas.{clear_shows_credit}
 

@@ -1,36 +1,22 @@
 -- Blocks that a connection's frames are cut into.
-use Rattle.std.proofs.Common.{◌≡◌, ℕ, zero, suc, ◌+◌, ◌<◌, ◌≤◌, Bool, List, [], ◌∷◌, ◌++◌}
-use Rattle.std.proofs.Common.{append_assoc, map, take, drop, length, get_or, All, refl, sym, ap, ◌∙◌}
-use Rattle.std.proofs.Common.{subst, arith}
-use Rattle.std.proofs.lemmas.List.{take-append-drop, map-append, get_or-take, get_or-drop, length-take-le, length-map}
-use Rattle.std.proofs.lemmas.List.{length-drop}
+use Rattle.audit_rounds.proofs.Words.{◌≡◌, ℕ, zero, suc, ◌+◌, ◌<◌, ◌≤◌, Bool, List, [], ◌∷◌, ◌++◌, append_assoc, map}
+use Rattle.audit_rounds.proofs.Words.{take, drop, length, get_or, All, refl, sym, ap, ◌∙◌, subst, arith}
+use Rattle.audit_rounds.proofs.Words.{take-append-drop, map-append, length-take-le, length-map, length-drop}
+use Rattle.audit_rounds.proofs.Words.{AllByRecursion, ConnectionState, Finding, Frame, Change, Item, connection_start}
+use Rattle.audit_rounds.proofs.Words.{connection_said, connection_after, block_run, connection_after_all, in_order}
+use Rattle.audit_rounds.proofs.Words.{shown, IsOrderly, IsOrderlyFrom, items_of, Block, item_with, items_with, items_in}
+use Rattle.audit_rounds.proofs.Words.{IsBlock, NeverFallFrom, BlockFits, ConnSum, conn_sum_of, length-orderly}
+use Rattle.audit_rounds.proofs.Words.{shown-append, ConnectionBlock, IsShort, AreShort, IsSum, AreSums, blocks_in}
+use Rattle.audit_rounds.proofs.Words.{All-map}
+use Rattle.std.proofs.lemmas.List.{get_or-take, get_or-drop}
 use Rattle.std.proofs.Math.ListN.{get_or-map}
-use Rattle.std.specs.List.{AllByRecursion}
-use Rattle.audit_terms.specs.declared.connections.ConnectionState.{ConnectionState}
-use Rattle.audit_terms.specs.declared.findings.Finding.{Finding}
-use Rattle.audit_terms.specs.declared.frames.Frame.{Frame}
-use Rattle.audit_terms.specs.declared.items.Change.{Change}
-use Rattle.audit_terms.specs.declared.items.Item.{Item}
-use Rattle.audit_terms.specs.Connection.{connection_start, connection_said, connection_after}
-use Rattle.audit_terms.specs.code.runs.Blocks.{block_run, connection_after_all}
-use Rattle.audit_terms.specs.Finding.{in_order, shown}
-use Rattle.audit_terms.specs.code.runs.Orderly.{IsOrderly, IsOrderlyFrom}
 use Rattle.settings_pair.specs.code.Changes.{AreOrderlyFrom}
-use Rattle.block_scan.specs.code.List.{items_of}
-use Rattle.conn_scan.specs.declared.block_items.Block.{Block}
-use Rattle.conn_scan.specs.code.Items.{item_with, items_with, items_in, IsBlock, NeverFallFrom}
-use Rattle.conn_scan.specs.code.Block.{MovesLittle, BlockFits, connections_before}
-use Rattle.conn_scan.specs.declared.sums.ConnSum.{ConnSum}
-use Rattle.conn_scan.specs.code.ConnSum.{conn_sum_of}
+use Rattle.conn_scan.specs.code.Block.{MovesLittle, connections_before}
 use Rattle.conn_scan.specs.code.FitLaws.{first_fit, rest_fit}
 use Rattle.conn_scan.specs.code.Walk.{numbers_from, changes_from}
 use Rattle.conn_scan.proofs.SumLemmas.{little-append}
 use Rattle.conn_scan.proofs.WalkLemmas.{numbers_from-rise, changes_from-orderly, items_with-from}
-use Rattle.audit_core.proofs.OrderlyRest.{length-orderly}
-use Rattle.split_merge.proofs.ShownMerge.{shown-append}
-use Rattle.audit_rounds.specs.declared.blocks.ConnectionBlock.{ConnectionBlock}
-use Rattle.audit_rounds.specs.code.Blocks.{IsShort, AreShort, IsSum, AreSums, IsReady, blocks_in}
-use Rattle.audit_rounds.proofs.Jobs.{all-map}
+use Rattle.audit_rounds.specs.code.Blocks.{IsReady}
 use Rattle.audit_rounds.proofs.Parts.{orderly-earlier}
 
 -- ---- one block more
@@ -260,7 +246,7 @@ module _ (blocks : List ConnectionBlock) (befores : List ConnectionState) (at : 
       subst (IsReady before) own
       (subst (λ now. IsReady now (get_or (blocks_in blocks) at d.block)) here
       (before_each connection_start (blocks_in blocks) at before d.block within
-      (all-map IsShort (λ (one : ConnectionBlock). one.block) blocks short) fits little))
+      (All-map IsShort (λ (one : ConnectionBlock). one.block) blocks short) fits little))
 
   -- what is shown of it
   pub block-said : (c : Bool) → shown c (block_run before (items_in (get_or blocks at d).block))
@@ -270,8 +256,3 @@ module _ (blocks : List ConnectionBlock) (befores : List ConnectionState) (at : 
       ∙ ap (λ block. shown c (block_run (get_or (connections_before connection_start
       (map items_in (blocks_in blocks))) at before) (items_in block))) (sym own)
       ∙ said_each c connection_start (blocks_in blocks) at before d.block [] within
-
--- an element, where there is one
-pub some_of : {X : Type 0} (xs : List X) (n : ℕ) → n < length xs → X
-some_of [] n l = absurd (omega arith)
-some_of (x ∷ xs) n l = x

@@ -1,8 +1,7 @@
 -- What a loop has taken of a list so far, and what it made of that.
-use Rattle.std.proofs.Common.{◌≡◌, ◌+◌, List, [], ◌∷◌, ◌++◌, map, length, get_or, All, append_assoc, append-nil, sym}
-use Rattle.std.proofs.Common.{ap, ◌∙◌, subst, arith}
-use Rattle.std.proofs.lemmas.List.{map-append, length-append, nil_from_length}
-use Rattle.std.proofs.Math.Seq.{get_or-append_seam}
+use Rattle.audit_rounds.proofs.Words.{◌≡◌, ◌+◌, List, [], ◌∷◌, ◌++◌, map, length, get_or, All, append_assoc, append-nil}
+use Rattle.audit_rounds.proofs.Words.{sym, ap, ◌∙◌, subst, arith, map-append, length-append, nil_from_length}
+use Rattle.audit_rounds.proofs.Words.{get_or-append_seam}
 
 -- one element more is taken
 pub taken-more : {X : Type 0} (taken : List X) (x : X) (rest left all : List X) → left ≡ x ∷ rest → taken ++ left ≡ all
@@ -19,12 +18,6 @@ taken-holds P taken x rest left all e whole h =
     ap length (sym same) ∙ length-append taken (x ∷ rest) in
     subst P (ap (λ l. get_or l (length taken) x) (sym same) ∙ get_or-append_seam taken x rest x)
     (h (length taken) x (omega arith))
-
--- one result more is made
-pub made-more : {X Y : Type 0} (f : X → Y) (taken : List X) (x : X) (made new : List Y) → new ≡ made ++ f x ∷ []
-    → made ≡ map f taken → new ≡ map f (taken ++ x ∷ [])
-made-more f taken x made new e is =
-    e ∙ ap (λ l. l ++ f x ∷ []) is ∙ sym (map-append f taken (x ∷ []))
 
 -- one result more, of which something is known
 pub known-more : {X Y Z : Type 0} (g : Y → Z) (f : X → Z) (taken : List X) (x : X) (made new : List Y) (y : Y)

@@ -1,24 +1,16 @@
 -- What a pass over a front of the frames shows is what a pass over all of them shows, if it ends there.
-use Rattle.std.proofs.Common.{◌≡◌, ℕ, Bool, true, false, not, ◌==◌, ◌||◌, ◌&&◌, cond, List, [], ◌∷◌, ◌++◌, filter, refl}
-use Rattle.std.proofs.Common.{sym, ap, ◌∙◌, subst, append_assoc, append-nil, true≢false}
-use Rattle.std.specs.List.{AllByRecursion, list_any}
-use Rattle.std.proofs.lemmas.Grind.{flat_map-append}
-use borrow.Author.Tests.{eqb-true, eq-eqb}
-use Rattle.audit_terms.specs.declared.frames.Frame.{Frame}
-use Rattle.audit_terms.specs.declared.findings.Finding.{Finding}
-use Rattle.audit_terms.specs.Sides.{side_of}
-use Rattle.audit_terms.specs.Connection.{connection_said}
-use Rattle.audit_terms.specs.Finding.{in_order, stops, upto_stop, is_shown, shown}
-use Rattle.audit_terms.specs.Frame.{promised_by, meets}
-use Rattle.audit_terms.specs.InForce.{change_of, settings_said}
-use Rattle.audit_terms.specs.LocalFault.{local_said}
-use Rattle.audit_terms.specs.Pass.{PassState, pass_start, first_of, full_from, item_of, next, pass, said, step_of}
-use Rattle.audit_terms.specs.Pass.{streams_of, streams_said}
-use Rattle.audit_terms.specs.code.runs.States.{state_from}
-use Rattle.audit_terms.specs.Stream.{idle_stream, stream_said, stream_after}
+use Rattle.audit_rounds.proofs.Words.{◌≡◌, ℕ, Bool, true, false, not, ◌==◌, ◌||◌, ◌&&◌, List, [], ◌∷◌, ◌++◌, filter}
+use Rattle.audit_rounds.proofs.Words.{refl, sym, ap, ◌∙◌, subst, append_assoc, append-nil, true≢false, AllByRecursion}
+use Rattle.audit_rounds.proofs.Words.{list_any, flat_map-append, eqb-true, eq-eqb, Frame, Finding, side_of}
+use Rattle.audit_rounds.proofs.Words.{connection_said, in_order, stops, upto_stop, is_shown, shown, promised_by, meets}
+use Rattle.audit_rounds.proofs.Words.{change_of, settings_said, local_said, PassState, pass_start, first_of, next, pass}
+use Rattle.audit_rounds.proofs.Words.{step_of, streams_of, state_from, idle_stream, stream_said, stream_after}
+use Rattle.audit_rounds.proofs.Words.{streams_met_lem}
+use Rattle.std.proofs.Common.{cond}
+use Rattle.audit_terms.specs.Pass.{full_from, item_of, said}
+use Rattle.audit_terms.specs.Pass.{streams_said}
 use Rattle.audit_core.proofs.NamedStreams.{is_among, with_stream, without, named-more, named-first}
 use Rattle.audit_core.proofs.QuietSteps.{bare_step}
-use Rattle.audit_core.proofs.StreamsMet.{streams_met_lem}
 use Rattle.audit_rounds.specs.laws.EarlyStop.{FrontsSettle}
 
 first_false : (a b : Bool) → (a || b) ≡ false → a ≡ false

@@ -1,29 +1,17 @@
 -- A batch has few frames, and so its rounds have few jobs.
-use Rattle.std.proofs.Common.{◌≡◌, ℕ, zero, suc, ◌+◌, ◌*◌, ◌<◌, ◌≤◌, Bool, true, false, not, min, if◌then◌else◌, List}
-use Rattle.std.proofs.Common.{[], ◌∷◌, map, take, drop, length, length-append, get_or, All, sym, ap, ◌∙◌, arith, Option}
-use Rattle.std.proofs.Common.{None, Vec, Global, Bor}
-use Rattle.std.specs.List.{AllZip, sum_by, zip}
+use Rattle.audit_rounds.proofs.Words.{◌≡◌, ℕ, suc, ◌+◌, ◌*◌, ◌<◌, ◌≤◌, Bool, not, min, List, [], ◌∷◌, map, take, drop}
+use Rattle.audit_rounds.proofs.Words.{length, get_or, All, ap, arith, Option, None, Vec, Global, Bor, AllZip, sum_by}
+use Rattle.audit_rounds.proofs.Words.{length-map, All-head, All-tail, sum_by-cons, Frame, is_past, Block, SplitFrames}
+use Rattle.audit_rounds.proofs.Words.{groups, Streams, frames_within, Prepared, AreRests, AreFew, RowsAreFew}
+use Rattle.audit_rounds.proofs.Words.{IsPrepared, job_at, plan_from, IsStreamsOf}
+use Rattle.std.proofs.Common.{length-append}
 use Rattle.std.proofs.Math.Nat.{min-le_right}
-use Rattle.std.proofs.lemmas.List.{length-map}
-use Rattle.std.proofs.lemmas.List.Elements.{All-head, All-tail}
 use Rattle.std.proofs.lemmas.List.FromFn.{length-map-range_with_len}
-use Rattle.std.proofs.lemmas.List.Sums.{sum_by-cons, sum_by-take-drop, sum_by-le-sum_by, length-filter}
+use Rattle.std.proofs.lemmas.List.Sums.{sum_by-take-drop, length-filter}
 use Rattle.std.proofs.lemmas.List.Sums.{count_by-le-length}
-use Rattle.audit_terms.specs.declared.findings.Finding.{Finding}
-use Rattle.audit_terms.specs.declared.frames.Frame.{Frame}
-use Rattle.audit_terms.specs.code.runs.Look.{is_past}
-use Rattle.conn_scan.specs.declared.block_items.Block.{Block}
-use Rattle.split_merge.specs.declared.splits.SplitFrames.{SplitFrames}
-use Rattle.split_merge.specs.code.Groups.{groups, group_at}
-use Rattle.audit_rounds.specs.declared.streams.Streams.{Streams}
-use Rattle.audit_rounds.specs.code.Within.{frames_within}
-use Rattle.audit_rounds.specs.declared.prepared.Prepared.{Prepared}
-use Rattle.audit_rounds.specs.code.Connections.{AreRests}
-use Rattle.audit_rounds.specs.code.EarlyStops.{front_of, has_stopped, later_of}
-use Rattle.audit_rounds.specs.code.Few.{AreFew, PreparedAreFew, RestsAreFew, RowsAreFew}
-use Rattle.audit_rounds.specs.code.Prepared.{IsPrepared}
-use Rattle.audit_rounds.specs.code.StreamJobs.{job_at, plan_from}
-use Rattle.audit_rounds.specs.code.StreamRound.{IsStreamsOf}
+use Rattle.split_merge.specs.code.Groups.{group_at}
+use Rattle.audit_rounds.specs.code.Few.{PreparedAreFew, RestsAreFew}
+use Rattle.audit_rounds.proofs.Alike.{frames_in, some_of, sums-alike}
 use Rattle.audit_rounds.proofs.StreamReady.{length-rows}
 
 abbrev pub lent : Bor (List Frame) → ℕ
@@ -42,75 +30,12 @@ few-back all back at e h =
     let parts = sum_by-take-drop lent all at in
     let same = ap (sum_by lent) e in omega (arith, parts, same, h)
 
--- ---- lists of the same lengths, or of shorter ones
-
-sum-map : {X : Type 0} (held : X → List Frame) (xs : List X)
-    → sum_by (λ x. length (held x)) xs ≡ sum_by (λ (frames : List Frame). length frames) (map held xs)
-sum-map held [] = omega arith
-sum-map held (x ∷ xs) =
-    let left = sum_by-cons (λ x. length (held x)) x xs in
-    let right = sum_by-cons (λ (frames : List Frame). length frames) (held x) (map held xs) in
-    let rest = sum-map held xs in
-    omega (arith, left, right, rest)
-
-sum-same : {X Y : Type 0} (held : X → List Frame) (other : Y → List Frame) (xs : List X) (ys : List Y)
-    → map held xs ≡ map other ys → sum_by (λ x. length (held x)) xs ≡ sum_by (λ y. length (other y)) ys
-sum-same held other xs ys e =
-    sum-map held xs ∙ ap (sum_by (λ (frames : List Frame). length frames)) e ∙ sym (sum-map other ys)
-
-take-shorter : (n : ℕ) (frames : List Frame) → length (take n frames) ≤ length frames
-take-shorter zero frames = omega arith
-take-shorter (suc n) [] = omega arith
-take-shorter (suc n) (frame ∷ frames) = let l = take-shorter n frames in omega (arith, l)
-
--- their fronts
-pub few-fronts : (connections fronts : List (Bor (List Frame)))
-    → map (λ (front : Bor (List Frame)). front.now) fronts
-    ≡ map (λ (frames : Bor (List Frame)). front_of frames.now) connections
-    → AreFew connections → AreFew fronts
-few-fronts connections fronts e h =
-    let same = sum-same (λ (front : Bor (List Frame)). front.now)
-    (λ (frames : Bor (List Frame)). front_of frames.now) fronts connections e in
-    let less = sum_by-le-sum_by (λ (frames : Bor (List Frame)). length (front_of frames.now)) lent connections
-    (λ frames. take-shorter _ frames.now) in
-    omega (arith, same, less, h)
-
-later-shorter : (frames : List Frame) (early : List Finding) → length (later_of frames early) ≤ length frames
-later-shorter frames early = by_test (has_stopped early) where
-  by_test : (b : Bool) → length (if b then [] else frames) ≤ length frames
-  by_test true = omega arith
-  by_test false = omega arith
-
-abbrev later-in : Bor (List Frame) × Vec Finding Global → List Frame
-later-in = λ (one : Bor (List Frame) × Vec Finding Global). later_of one.0.now one.1.items
-
-laters-shorter : (connections : List (Bor (List Frame))) (early : List (Vec Finding Global))
-    → sum_by (λ one. length (later-in one)) (zip connections early) ≤ sum_by lent connections
-laters-shorter [] early = omega arith
-laters-shorter (frames ∷ connections) [] = omega arith
-laters-shorter (frames ∷ connections) (found ∷ early) =
-    let left = sum_by-cons (λ one. length (later-in one)) (frames, found) (zip connections early) in
-    let right = sum_by-cons lent frames connections in
-    let first = later-shorter frames.now found.items in
-    let rest = laters-shorter connections early in
-    omega (arith, left, right, first, rest)
-
--- what is gone through later of them
-pub few-laters : (connections laters : List (Bor (List Frame))) (early : List (Vec Finding Global))
-    → map (λ (later : Bor (List Frame)). later.now) laters ≡ map later-in (zip connections early)
-    → AreFew connections → AreFew laters
-few-laters connections laters early e h =
-    let same = sum-same (λ (later : Bor (List Frame)). later.now) later-in laters (zip connections early) e in
-    let less = laters-shorter connections early in
-    omega (arith, same, less, h)
-
 -- the same connections, made ready
 pub few-ready : (connections : List (Bor (List Frame))) (made : List Prepared)
     → map (λ (one : Prepared). one.frames.now) made ≡ map (λ (frames : Bor (List Frame)). frames.now) connections
     → AreFew connections → PreparedAreFew made
 few-ready connections made e h =
-    let same = sum-same (λ (one : Prepared). one.frames.now) (λ (frames : Bor (List Frame)). frames.now) made
-    connections e in
+    let same = sums-alike (λ (one : Prepared). one.frames.now) frames_in length made connections e in
     omega (arith, same, h)
 
 -- ---- lists of which each element has no more than that of another list
@@ -127,10 +52,6 @@ sums-less f g (x ∷ xs) (y ∷ ys) e each =
     let right = sum_by-cons g y ys in
     omega (arith, first, rest, left, right)
 
-first-of : {X : Type 0} (xs : List X) → 0 < length xs → X
-first-of [] l = absurd (omega arith)
-first-of (x ∷ xs) l = x
-
 within-shorter : (stop : Option ℕ) (frames : List Frame) → length (frames_within stop frames) ≤ length frames
 within-shorter stop frames =
     let test = λ (frame : Frame). not (is_past stop frame.number) in
@@ -146,7 +67,7 @@ few-rests connections stops opened rests opens are h =
     let less = sums-less (λ (whole : Block). length whole.frames.now) (λ (one : Prepared). length one.frames.now)
     rests connections number (λ n rest connection l.
     let inside : n < length connections = omega (arith, l, number) in
-    let numbers = first-of opened (omega (arith, inside, opens)) in
+    let numbers = some_of opened n (omega (arith, inside, opens)) in
     let is = ap length (are.each n connection None numbers rest inside).frames in
     let shorter = within-shorter (get_or stops n None) (get_or connections n connection).frames.now in
     omega (arith, is, shorter)) in

@@ -1,18 +1,14 @@
 -- Connections that have frames, apart from those that have none.
-use Rattle.std.proofs.Common.{◌≡◌, ◌==◌, not, Bool, true, false, List, [], ◌∷◌, map, filter, length}
-use Rattle.std.proofs.Common.{refl, sym, ap, ◌∙◌, arith, Bor, Vec, Global}
+use Rattle.audit_rounds.proofs.Words.{◌≡◌, ◌==◌, not, Bool, true, false, List, [], ◌∷◌, map, filter, length, refl, sym}
+use Rattle.audit_rounds.proofs.Words.{ap, ◌∙◌, arith, Bor, Vec, Global, nil_from_length, All-filter, Finding, Frame}
+use Rattle.audit_rounds.proofs.Words.{IsOrderly, shown, pass, IsBatch, AreFew, has_frames, spread}
 use Rattle.std.proofs.lemmas.Bool.{eqb-true}
-use Rattle.std.proofs.lemmas.List.{nil_from_length}
 use Rattle.std.proofs.lemmas.List.Filters.{sum_by-filter_both}
-use Rattle.audit_terms.specs.declared.findings.Finding.{Finding}
-use Rattle.audit_terms.specs.declared.frames.Frame.{Frame}
-use Rattle.audit_terms.specs.Finding.{shown}
-use Rattle.audit_terms.specs.Pass.{pass}
-use Rattle.audit_rounds.specs.code.Few.{AreFew}
-use Rattle.audit_rounds.specs.code.Framed.{has_frames, left_after, spread, taken_for}
+use Rattle.audit_rounds.proofs.Alike.{head_same, tail_same}
+use Rattle.audit_rounds.specs.code.Framed.{left_after, taken_for}
 
 -- those that have frames have no more of them than all
-pub framed-few : (all : List (Bor (List Frame))) → AreFew all → AreFew (filter has_frames all)
+framed-few : (all : List (Bor (List Frame))) → AreFew all → AreFew (filter has_frames all)
 framed-few all few =
     let parts = sum_by-filter_both has_frames (λ (frames : Bor (List Frame)). length frames.now == 0) (λ x. other _)
     (λ (frames : Bor (List Frame)). length frames.now) all in
@@ -20,6 +16,12 @@ framed-few all few =
       other : (b : Bool) → b ≡ not (not b)
       other true = refl
       other false = refl
+
+pub framed-batch : (all : List (Bor (List Frame))) → IsBatch all → IsBatch (filter has_frames all)
+framed-batch all batch = record {
+  orderly = All-filter has_frames (λ (frames : Bor (List Frame)). IsOrderly frames.now) all batch.orderly;
+  few = framed-few all batch.few;
+}
 
 -- no list is taken for no frame
 taken-none : (frames : List Frame) (lists : List (Vec Finding Global)) → (length frames == 0) ≡ true
@@ -34,12 +36,6 @@ left-none frames (list ∷ lists) e = rw e refl
 
 -- where nothing is shown of no frame, the lists of those that have frames make those of all
 module _ (said : List Frame → List Finding) (silent : said [] ≡ []) where
-  same-head : (a b : List Finding) (cs ds : List (List Finding)) → a ∷ cs ≡ b ∷ ds → a ≡ b
-  same-head a b cs ds e = cc
-
-  same-tail : (a b : List Finding) (cs ds : List (List Finding)) → a ∷ cs ≡ b ∷ ds → cs ≡ ds
-  same-tail a b cs ds e = cc
-
   pub spread-said : (all : List (Bor (List Frame))) (lists : List (Vec Finding Global))
       → map (λ (list : Vec Finding Global). list.items) lists
       ≡ map (λ (frames : Bor (List Frame)). said frames.now) (filter has_frames all)
@@ -69,12 +65,12 @@ module _ (said : List Frame → List Finding) (silent : said [] ≡ []) where
     by_test ih false e (list ∷ lists) h =
         let kept : filter has_frames (frames ∷ all) ≡ frames ∷ filter has_frames all = rw e refl in
         let both = h ∙ ap (map (λ (one : Bor (List Frame)). said one.now)) kept in
-        let head = same-head _ _ _ _ both in
+        let head = head_same _ _ _ _ both in
         let taken : taken_for frames.now (list ∷ lists) ≡ list.items = rw e refl in
         let left : left_after frames.now (list ∷ lists) ≡ lists = rw e refl in
         ap (λ l. l ∷ spread all (left_after frames.now (list ∷ lists))) (taken ∙ head)
         ∙ ap (λ l. said frames.now ∷ spread all l) left
-        ∙ ap (λ l. said frames.now ∷ l) (ih lists (same-tail _ _ _ _ both))
+        ∙ ap (λ l. said frames.now ∷ l) (ih lists (tail_same _ _ _ _ both))
 
 -- nothing is shown of the pass over no frame
 pub nothing-shown : (credits_shown : Bool) → shown credits_shown (pass []) ≡ []

@@ -1,36 +1,19 @@
 -- What is left to do of connections, and that it makes their passes.
-use Rattle.std.proofs.Common.{◌≡◌, ℕ, zero, suc, ◌+◌, ◌<◌, ◌≤◌, Bool, true, false, not, nat_lt, leb, if◌then◌else◌}
-use Rattle.std.proofs.Common.{List, [], ◌∷◌, ◌++◌, map, filter, take, length, get_or, All, refl, sym, ap, ◌∙◌, subst}
-use Rattle.std.proofs.Common.{arith, Option, None, Vec, Global}
+use Rattle.audit_rounds.proofs.Words.{◌≡◌, ℕ, zero, suc, ◌+◌, ◌<◌, ◌≤◌, Bool, true, false, not, nat_lt, leb, List, []}
+use Rattle.audit_rounds.proofs.Words.{◌∷◌, ◌++◌, map, filter, take, length, get_or, All, refl, sym, ap, ◌∙◌, subst}
+use Rattle.audit_rounds.proofs.Words.{arith, Option, None, Vec, Global, ⊎_elim, length-map, length-append, get_or-map}
+use Rattle.audit_rounds.proofs.Words.{get_or_default, map-append, cases_eq, get_or-append_seam, Finding, Frame}
+use Rattle.audit_rounds.proofs.Words.{connection_start, block_run, in_order, upto_stop, shown, IsOrderly, IsOrderlyFrom}
+use Rattle.audit_rounds.proofs.Words.{changes_of, is_past, pass, AreOrderly, IsStop, Block, items_with, items_in}
+use Rattle.audit_rounds.proofs.Words.{item_with, NeverFallFrom, IsAfterStreams, frames_within, Prepared}
+use Rattle.audit_rounds.proofs.Words.{AreAfterStreams, IsRest, AreRests, IsPrepared, found_before, IsRemaining}
 use Rattle.std.specs.List.Sorted.{IsPartitionPoint, IsPartitionedBy}
 use Rattle.std.proofs.lemmas.Bool.Decides.{leb_tells}
-use Rattle.std.proofs.Common.{⊎_elim, Bor}
-use Rattle.std.proofs.lemmas.List.{length-map, length-append, get_or-map, get_or_default, ext_get_or, map-append}
-use Rattle.std.proofs.lemmas.List.{map_more}
+use Rattle.std.proofs.lemmas.List.{ext_get_or}
 use Rattle.std.proofs.lemmas.List.Sorted.{IsPartitionedBy-leb}
-use Rattle.std.proofs.lemmas.Bool.{cases_eq}
-use Rattle.std.proofs.lemmas.Simd.{map-map}
 use Rattle.std.proofs.Math.ListN.{get_or-append}
-use Rattle.std.proofs.Math.Seq.{get_or-append_seam}
-use Rattle.audit_terms.specs.declared.findings.Finding.{Finding}
-use Rattle.audit_terms.specs.declared.frames.Frame.{Frame}
-use Rattle.audit_terms.specs.Connection.{connection_start}
-use Rattle.audit_terms.specs.code.runs.Blocks.{block_run}
-use Rattle.audit_terms.specs.Finding.{in_order, upto_stop, shown}
-use Rattle.audit_terms.specs.code.runs.Orderly.{IsOrderly, IsOrderlyFrom}
-use Rattle.audit_terms.specs.code.runs.Changes.{changes_of}
-use Rattle.audit_terms.specs.code.runs.Look.{is_past}
-use Rattle.audit_terms.specs.Pass.{pass}
-use Rattle.settings_pair.specs.code.Changes.{AreOrderly}
-use Rattle.stop_desk.specs.code.Stop.{IsStop}
-use Rattle.conn_scan.specs.declared.block_items.Block.{Block}
-use Rattle.conn_scan.specs.code.Items.{items_with, items_in, item_with, NeverFallFrom}
-use Rattle.audit_rounds.specs.code.Within.{IsAfterStreams, frames_within}
-use Rattle.audit_rounds.specs.declared.prepared.Prepared.{Prepared}
-use Rattle.audit_rounds.specs.code.AfterStreams.{AreAfterStreams}
-use Rattle.audit_rounds.specs.code.Connections.{IsRest, AreRests}
-use Rattle.audit_rounds.specs.code.Prepared.{IsPrepared, found_before}
-use Rattle.audit_rounds.specs.code.Remaining.{IsRemaining}
+use Rattle.std.proofs.lemmas.List.Elements.{filter_agree}
+use Rattle.audit_rounds.proofs.Alike.{some_of}
 use Rattle.audit_rounds.proofs.Parts.{orderly-filter}
 use Rattle.audit_rounds.proofs.Settling.{rounds_settle_lem}
 use Rattle.audit_rounds.proofs.Whole.{start-fits}
@@ -76,13 +59,6 @@ take-point test (suc i) (frame ∷ frames) l point =
       λ k d low below. point.1 (suc k) d (omega arith) (omega arith),
     )))
 
-filter-same : (test other : Frame → Bool) (frames : List Frame) → ((frame : Frame) → test frame ≡ other frame)
-    → filter test frames ≡ filter other frames
-filter-same test other [] h = refl
-filter-same test other (frame ∷ frames) h =
-    ap (λ b. if b then frame ∷ filter test frames else filter test frames) (h frame)
-    ∙ ap (λ fs. if other frame then frame ∷ fs else fs) (filter-same test other frames h)
-
 not-above : (last number : ℕ) → leb number last ≡ not (nat_lt last number)
 not-above last number = ⊎_elim
     (λ a. ⊎_elim (λ b. absurd (omega (arith, a.1, b.1))) (λ b. a.0 ∙ sym (ap not b.0)) (leb_tells (suc last) number))
@@ -97,8 +73,8 @@ pub within-point : (last i : ℕ) (frames : List Frame) → i ≤ length frames
     → take i frames ≡ filter (λ (frame : Frame). not (nat_lt last frame.number)) frames
 within-point last i frames l point =
     take-point (λ (frame : Frame). leb frame.number last) i frames l point
-    ∙ filter-same (λ (frame : Frame). leb frame.number last) (λ (frame : Frame). not (nat_lt last frame.number)) frames
-    (λ frame. not-above last frame.number)
+    ∙ filter_agree (λ (frame : Frame). leb frame.number last) (λ (frame : Frame). not (nat_lt last frame.number))
+    (λ frame. not-above last frame.number) frames
 
 -- where nothing stops, these are all frames
 pub all-within : (frames : List Frame) → frames ≡ frames_within None frames
@@ -145,11 +121,6 @@ module _ (credits_shown : Bool) (connection : Prepared) (stop : Option ℕ) (ope
 
 -- ---- all connections of a batch
 
--- an element of a list
-some-of : {X : Type 0} (xs : List X) → 0 < length xs → X
-some-of [] l = absurd (omega arith)
-some-of (x ∷ xs) l = x
-
 abbrev list-in_order : Vec Finding Global → List Finding
 list-in_order list = upto_stop (in_order list.items)
 
@@ -165,8 +136,8 @@ module _ (credits_shown : Bool) (connections : List Prepared) (found : List (Vec
       let as_many = after.number in
       let opens = after.opens in
       let lc : n < length connections = omega arith in
-      let connection = some-of connections (omega arith) in
-      let numbers = some-of opened (omega arith) in
+      let connection = some_of connections 0 (omega arith) in
+      let numbers = some_of opened 0 (omega arith) in
       one-remains credits_shown (get_or connections n connection) (get_or stops n stop) (get_or opened n numbers).items
       (get_or rests n rest) (get_or found n list).items (prepared n connection lc)
       (are.each n connection stop numbers rest lc) (after.each n connection list stop numbers lc)
@@ -180,7 +151,7 @@ module _ (credits_shown : Bool) (connections : List Prepared) (found : List (Vec
       → list-in_order (get_or last n list) ≡ shown credits_shown (pass (get_or connections n connection).frames.now)
   each-settles last n connection list list' rest lc e =
       let opens = after.opens in
-      let numbers = some-of opened (omega arith) in
+      let numbers = some_of opened 0 (omega arith) in
       one-settles credits_shown (get_or connections n connection) (get_or stops n None) (get_or opened n numbers).items
       (get_or rests n rest) (get_or found n list').items (prepared n connection lc)
       (are.each n connection None numbers rest lc) (after.each n connection list' None numbers lc)
@@ -202,25 +173,14 @@ module _ (credits_shown : Bool) (connections : List Prepared) (found : List (Vec
       (λ n l.
       let is = length-map last list-in_order in
       let lc : n < length connections = omega arith in
-      let connection = some-of connections (omega arith) in
-      let rest = some-of rests (omega arith) in
-      let list = some-of last (omega arith) in
+      let connection = some_of connections 0 (omega arith) in
+      let rest = some_of rests 0 (omega arith) in
+      let list = some_of last 0 (omega arith) in
       get_or-map list-in_order last n list [] (omega arith)
       ∙ each-settles last n connection list list rest lc (e n rest list list (omega arith))
       ∙ sym (get_or-map passed connections n connection [] lc))
 
 -- ---- connections made ready, one after the other
-
-pub ready-more : (made : List Prepared) (one : Prepared) (all : List (Bor (List Frame))) (at : ℕ) (d : Bor (List Frame))
-    → at < length all → one.frames.now ≡ (get_or all at d).now
-    → map (λ (one : Prepared). one.frames.now) made ≡ map (λ (frames : Bor (List Frame)). frames.now) (take at all)
-    → map (λ (one : Prepared). one.frames.now) (made ++ one ∷ [])
-    ≡ map (λ (frames : Bor (List Frame)). frames.now) (take (at + 1) all)
-ready-more made one all at d l is e =
-    map-append (λ (one : Prepared). one.frames.now) made (one ∷ [])
-    ∙ ap (λ fs. fs ++ one.frames.now ∷ []) e
-    ∙ ap (λ f. map (λ (frames : Bor (List Frame)). frames.now) (take at all) ++ f ∷ []) is
-    ∙ sym (map_more (λ (frames : Bor (List Frame)). frames.now) all at d l)
 
 pub before-more : (found : List (Vec Finding Global)) (made : List Prepared) (list : Vec Finding Global)
     (one : Prepared)
@@ -249,30 +209,15 @@ rests-more connections stops opened rests k connection stop numbers own rest ek 
     ⊎_elim
     (λ e.
     let here : n ≡ k = e ∙ sym ek in
-    subst (λ one. IsRest one (get_or stops n s) (get_or opened n o).items (get_or (rests ++ rest ∷ []) n r))
-    (isc ∙ get_or_default connections k connection c lc ∙ ap (λ at. get_or connections at c) (sym here))
-    (subst (λ one. IsRest connection one (get_or opened n o).items (get_or (rests ++ rest ∷ []) n r))
-    (iss ∙ get_or_default stops k stop s ls ∙ ap (λ at. get_or stops at s) (sym here))
-    (subst (λ one. IsRest connection stop one (get_or (rests ++ rest ∷ []) n r))
-    (is-own ∙ ap (λ (v : Vec ℕ Global). v.items)
-    (iso ∙ get_or_default opened k numbers o lo ∙ ap (λ at. get_or opened at o) (sym here)))
-    (subst (IsRest connection stop own)
-    (sym (ap (λ at. get_or (rests ++ rest ∷ []) at r) e ∙ get_or-append_seam rests rest [] r)) is))))
+    let mine : get_or connections k c ≡ connection = sym (isc ∙ get_or_default connections k connection c lc) in
+    let at : get_or stops k s ≡ stop = sym (iss ∙ get_or_default stops k stop s ls) in
+    let said : get_or opened k o ≡ numbers = sym (iso ∙ get_or_default opened k numbers o lo) in
+    let last : get_or (rests ++ rest ∷ []) k r ≡ rest =
+    ap (λ at. get_or (rests ++ rest ∷ []) at r) ek ∙ get_or-append_seam rests rest [] r in
+    rw (here, mine, at, said, last, sym is-own) is)
     (λ ne.
     let long = length-append rests (rest ∷ []) in
     let before : n < length rests = omega (arith, l, long, ne) in
     subst (IsRest (get_or connections n c) (get_or stops n s) (get_or opened n o).items)
     (sym (get_or-append rests (rest ∷ []) r n before)) (each n c s o r before))
     (cases_eq n (length rests))
-
--- what is shown of connections made ready
-pub passes-same : (credits_shown : Bool) (connections : List Prepared) (all : List (Bor (List Frame)))
-    → map (λ (one : Prepared). one.frames.now) connections ≡ map (λ (frames : Bor (List Frame)). frames.now) all
-    → map (λ (one : Prepared). shown credits_shown (pass one.frames.now)) connections
-    ≡ map (λ (frames : Bor (List Frame)). shown credits_shown (pass frames.now)) all
-passes-same credits_shown connections all e =
-    sym (map-map (λ (frames : List Frame). shown credits_shown (pass frames)) (λ (one : Prepared). one.frames.now)
-    connections)
-    ∙ ap (map (λ (frames : List Frame). shown credits_shown (pass frames))) e
-    ∙ map-map (λ (frames : List Frame). shown credits_shown (pass frames)) (λ (frames : Bor (List Frame)). frames.now)
-    all

@@ -1,22 +1,14 @@
 -- The items of the pass, each found by its frame's number.
-use Rattle.std.proofs.Common.{◌≡◌, ℕ, ◌+◌, ◌<◌, ◌≤◌, ◌==◌, Bool, false, ◌&&◌, List, [], ◌∷◌, ◌++◌, map, Option, Some}
-use Rattle.std.proofs.Common.{None, refl, sym, ap, ◌∙◌, arith, append_assoc}
-use Rattle.std.specs.Option.{option_to_list}
-use Rattle.std.specs.List.Sorted.{IsPermutation}
-use Rattle.std.proofs.lemmas.Bool.Decides.{nat_tests}
-use Rattle.std.proofs.lemmas.List.Sorted.{list_any-IsPermutation}
-use borrow.Author.Tests.{eq-eqb}
+use Rattle.audit_rounds.proofs.Words.{◌≡◌, ℕ, ◌+◌, ◌<◌, ◌≤◌, ◌==◌, Bool, ◌&&◌, List, [], ◌∷◌, ◌++◌, map, Option, Some}
+use Rattle.audit_rounds.proofs.Words.{None, refl, sym, ap, ◌∙◌, arith, append_assoc, option_to_list, IsPermutation}
+use Rattle.audit_rounds.proofs.Words.{list_any-IsPermutation, eq-eqb, Frame, Change, Item, is_headers, IsOrderlyFrom}
+use Rattle.audit_rounds.proofs.Words.{InForce, in_force_after, change_of, taken, changes_of, PassState, pass_start}
+use Rattle.audit_rounds.proofs.Words.{next, items_from, is_marked, change_at}
 use Rattle.audit_terms.specs.declared.settings.Settings.{Settings}
-use Rattle.audit_terms.specs.declared.frames.Frame.{Frame}
-use Rattle.audit_terms.specs.declared.items.Change.{Change}
-use Rattle.audit_terms.specs.declared.items.Item.{Item}
-use Rattle.audit_terms.specs.Frame.{is_headers}
-use Rattle.audit_terms.specs.code.runs.Orderly.{IsOrderlyFrom}
-use Rattle.audit_terms.specs.InForce.{InForce, in_force_after, change_of, change_taking, taken}
-use Rattle.audit_terms.specs.code.runs.Changes.{changes_from, changes_of}
-use Rattle.audit_terms.specs.Pass.{PassState, pass_start, next}
-use Rattle.audit_terms.specs.code.runs.States.{items_of, items_from}
-use Rattle.conn_scan.specs.code.Items.{is_marked, change_at}
+use Rattle.audit_rounds.proofs.Alike.{differ, differ_back, head_same, tail_same}
+use Rattle.audit_terms.specs.InForce.{change_taking}
+use Rattle.audit_terms.specs.code.runs.Changes.{changes_from}
+use Rattle.audit_terms.specs.code.runs.States.{items_of}
 use Rattle.audit_rounds.specs.laws.Items.{ItemsAreFound}
 use Rattle.audit_rounds.proofs.Openings.{openings_are_found_lem}
 
@@ -30,12 +22,6 @@ Below high (change ∷ changes) = (change.number < high) × Below high changes
 abbrev From : (low : ℕ) → List Change → Type 0
 From low [] = Unit {0}
 From low (change ∷ changes) = (low ≤ change.number) × From low changes
-
-differ : (m n : ℕ) → m < n → (m == n) ≡ false
-differ m n h = grind (arith, nat_tests)
-
-differ_back : (m n : ℕ) → m < n → (n == m) ≡ false
-differ_back m n h = grind (arith, nat_tests)
 
 -- earlier changes are passed over
 find-later : (frame : Frame) (earlier changes : List Change) → Below frame.number earlier
@@ -111,12 +97,6 @@ items-frames : (state : PassState) (frames : List Frame)
     → map (λ (item : Item). item.frame) (items_from state frames) ≡ frames
 items-frames state [] = refl
 items-frames state (frame ∷ frames) = ap (λ l. frame ∷ l) (items-frames (next state frame) frames)
-
-head_same : {X : Type 0} (x y : X) (xs ys : List X) → x ∷ xs ≡ y ∷ ys → x ≡ y
-head_same x y xs ys e = cc
-
-tail_same : {X : Type 0} (x y : X) (xs ys : List X) → x ∷ xs ≡ y ∷ ys → xs ≡ ys
-tail_same x y xs ys e = cc
 
 -- items are known by their parts
 by_parts : (opens : Frame → Bool) (change : Frame → Option Change) (items : List Item) (frames : List Frame)

@@ -1,31 +1,18 @@
 -- The jobs of the rounds over blocks.
-use Rattle.std.proofs.Common.{◌≡◌, ℕ, zero, suc, ◌+◌, Bool, true, false, if◌then◌else◌, List, [], ◌∷◌, map, length}
-use Rattle.std.proofs.Common.{get_or, All, Contains, Option, Some, None, slice_get, ◌⊎◌, inl, inr, ⊎_elim, refl, sym}
-use Rattle.std.proofs.Common.{ap, ◌∙◌, subst, arith}
-use Rattle.std.proofs.lemmas.List.{length-map, get_or-map}
-use Rattle.std.proofs.lemmas.Option.{slice_get_within, get_or_from_slice_get}
-use Rattle.std.specs.List.{list_any}
-use Rattle.audit_terms.specs.declared.connections.ConnectionState.{ConnectionState}
-use Rattle.audit_terms.specs.declared.findings.Finding.{Finding}
-use Rattle.audit_terms.specs.declared.frames.Frame.{Frame}
-use Rattle.audit_terms.specs.declared.items.Change.{Change}
-use Rattle.audit_terms.specs.Connection.{connection_said, connection_after}
-use Rattle.audit_terms.specs.code.runs.Blocks.{block_run}
-use Rattle.audit_terms.specs.Finding.{in_order, shown, comes_after}
-use Rattle.audit_terms.specs.code.runs.Orderly.{IsOrderlyFrom}
-use Rattle.audit_terms.specs.code.runs.Look.{Asked, last_answer, is_past, upto_of, up_to, IsRun}
-use Rattle.audit_terms.proofs.FindingOrder.{comes_after_is}
-use Rattle.audit_terms.proofs.OrderedLists.{IsInOrder, ordered-in_order, in_order-append, in_order-ordered}
-use Rattle.audit_terms.proofs.SaidPlaces.{AreFrom, at-connection, at-in_order, from-at, from-from, from-append}
-use Rattle.audit_terms.proofs.SaidPlaces.{precedes-at}
-use Rattle.conn_scan.specs.declared.block_items.Block.{Block}
-use Rattle.conn_scan.specs.code.Items.{item_with, items_with, items_in, IsBlock}
-use Rattle.stop_desk.specs.code.Board.{Job, IsCut}
-use Rattle.stop_desk.proofs.RoundCuts.{front_is_cut_lem, whole_is_cut_lem}
-use Rattle.split_merge.proofs.ShownMerge.{in_order-shown}
-use Rattle.stop_desk.specs.code.Heeding.{Heeds, RunLooks}
-use Rattle.audit_rounds.specs.declared.blocks.ConnectionBlock.{ConnectionBlock}
-use Rattle.audit_rounds.specs.code.Plans.{sum_job}
+use Rattle.audit_rounds.proofs.Words.{◌≡◌, ℕ, suc, ◌+◌, Bool, true, false, if◌then◌else◌, List, [], ◌∷◌, map, length}
+use Rattle.audit_rounds.proofs.Words.{get_or, All, Contains, Option, Some, None, slice_get, ◌⊎◌, inl, inr, ⊎_elim, refl}
+use Rattle.audit_rounds.proofs.Words.{sym, ap, ◌∙◌, subst, arith, length-map, get_or-map, slice_get_within}
+use Rattle.audit_rounds.proofs.Words.{get_or_from_slice_get, All-map, list_any, ConnectionState, Finding, Frame, Change}
+use Rattle.audit_rounds.proofs.Words.{connection_said, connection_after, block_run, in_order, shown, comes_after}
+use Rattle.audit_rounds.proofs.Words.{IsOrderlyFrom, Asked, is_past, IsRun, comes_after_is, ordered-in_order}
+use Rattle.audit_rounds.proofs.Words.{in_order-append, in_order-ordered, AreFrom, at-in_order, from-at, from-from}
+use Rattle.audit_rounds.proofs.Words.{from-append, precedes-at, Block, item_with, items_with, items_in, IsBlock, Job}
+use Rattle.audit_rounds.proofs.Words.{IsCut, whole_is_cut_lem, in_order-shown, Heeds, RunLooks, ConnectionBlock}
+use Rattle.audit_rounds.proofs.Words.{sum_job}
+use Rattle.audit_terms.specs.code.runs.Look.{last_answer, upto_of, up_to}
+use Rattle.audit_terms.proofs.OrderedLists.{IsInOrder}
+use Rattle.audit_terms.proofs.SaidPlaces.{at-connection}
+use Rattle.stop_desk.proofs.RoundCuts.{front_is_cut_lem}
 
 -- the job of a number
 pub job-is : {X : Type 0} (f : X → Job) (xs : List X) (k : ℕ) (one : Job) (d : X) → slice_get (map f xs) k ≡ Some one
@@ -35,14 +22,8 @@ job-is f xs k one d e =
     let within = slice_get_within (map f xs) k one e in
     sym (get_or_from_slice_get (map f xs) k one one e) ∙ get_or-map f xs k d one (omega arith)
 
--- what holds of the images
-pub all-map : {X Y : Type 0} (P : Y → Type 0) (f : X → Y) (xs : List X) → All (λ x. P (f x)) xs → All P (map f xs)
-all-map P f [] h n d l = absurd (omega arith)
-all-map P f (x ∷ xs) h zero d l = h 0 x (omega arith)
-all-map P f (x ∷ xs) h (suc n) d l = all-map P f xs (λ k e m. h (suc k) e (omega arith)) n d (omega arith)
-
 none-found : (blocks : List ConnectionBlock) → All (λ (job : Job). job.findings ≡ []) (map sum_job blocks)
-none-found blocks = all-map (λ (job : Job). job.findings ≡ []) sum_job blocks (λ n d l. refl)
+none-found blocks = All-map (λ (job : Job). job.findings ≡ []) sum_job blocks (λ n d l. refl)
 
 -- a sum finds all that its job has to find, which is nothing
 pub sum-cut : (blocks : List ConnectionBlock) (k : ℕ) (one : Job) → slice_get (map sum_job blocks) k ≡ Some one
@@ -55,7 +36,8 @@ sum-cut blocks k one e =
 
 -- ---- what a block shows stands in order
 
-run-from : (now : ConnectionState) (low : ℕ) (opened : List ℕ) (changes : List Change) (frames : List Frame)
+-- findings stand at their frames
+pub run-from : (now : ConnectionState) (low : ℕ) (opened : List ℕ) (changes : List Change) (frames : List Frame)
     → IsOrderlyFrom low frames → AreFrom low (block_run now (items_with opened changes frames))
 run-from now low opened changes [] h = tt
 run-from now low opened changes (frame ∷ frames) h =
@@ -86,17 +68,17 @@ shown-in_order c now block h =
     ∙ ap (shown c) (ordered-in_order comes_after comes_after_is (block_run now (items_in block))
     (run-in_order now 0 block.opened.now block.changes.now block.frames.now h.frames))
 
-upto-cut : (whole : List Finding) (upto : Option ℕ) → in_order whole ≡ whole → IsCut whole upto (up_to upto whole)
-upto-cut whole None e = whole_is_cut_lem whole None e
-upto-cut whole (Some place) e = front_is_cut_lem whole place e
+-- what is up to a place is a cut
+pub upto-cut : (whole kept : List Finding) (upto : Option ℕ) → in_order whole ≡ whole → kept ≡ up_to upto whole
+    → IsCut whole upto kept
+upto-cut whole kept None o e = subst (IsCut whole None) (sym e) (whole_is_cut_lem whole None o)
+upto-cut whole kept (Some place) o e = subst (IsCut whole (Some place)) (sym e) (front_is_cut_lem whole place o)
 
 -- what was found of a block up to a place is a cut of what it shows
 pub block-cut-is : (c : Bool) (now : ConnectionState) (block : Block) (upto : Option ℕ) (kept : List Finding)
     → IsBlock block → kept ≡ up_to upto (shown c (block_run now (items_in block)))
     → IsCut (shown c (block_run now (items_in block))) upto kept
-block-cut-is c now block upto kept h e =
-    let whole = shown c (block_run now (items_in block)) in
-    subst (IsCut whole upto) (sym e) (upto-cut whole upto (shown-in_order c now block h))
+block-cut-is c now block upto kept h = upto-cut _ kept upto (shown-in_order c now block h)
 
 -- ---- what was answered
 

@@ -1,16 +1,12 @@
 -- Blocks that are laid out one connection after the other.
-use Rattle.std.proofs.Common.{◌≡◌, ℕ, zero, suc, ◌+◌, ◌-◌, ◌<◌, ◌≤◌, List, [], ◌∷◌, ◌++◌, append_assoc, append-nil, map}
-use Rattle.std.proofs.Common.{take, drop, length, get_or, All, refl, sym, ap, ◌∙◌, subst, arith}
-use Rattle.std.proofs.lemmas.List.{length-append, length-map, map-append, take_more, get_or-map}
-use Rattle.std.proofs.lemmas.List.Elements.{All-append}
+use Rattle.audit_rounds.proofs.Words.{◌≡◌, ℕ, zero, suc, ◌+◌, ◌-◌, ◌<◌, ◌≤◌, List, [], ◌∷◌, ◌++◌, append_assoc}
+use Rattle.audit_rounds.proofs.Words.{append-nil, map, take, drop, length, get_or, All, refl, sym, ap, ◌∙◌, subst}
+use Rattle.audit_rounds.proofs.Words.{arith, length-append, length-map, map-append, take_more, get_or-map, length-drop}
+use Rattle.audit_rounds.proofs.Words.{length-take-le, All-append, Item, drop-next, items_of, Block, items_in}
+use Rattle.audit_rounds.proofs.Words.{ConnectionBlock, blocks_in, blocks_of_connection, wholes, AreCut, AddsBlocks}
+use Rattle.std.proofs.lemmas.List.{drop-drop}
 use Rattle.std.proofs.Math.Seq.{take-append_seam, drop-append_seam}
-use Rattle.audit_terms.specs.declared.items.Item.{Item}
-use Rattle.audit_core.proofs.OrderlyRest.{drop-next}
-use Rattle.block_scan.specs.code.List.{items_of}
-use Rattle.conn_scan.specs.declared.block_items.Block.{Block}
-use Rattle.conn_scan.specs.code.Items.{items_in}
-use Rattle.audit_rounds.specs.declared.blocks.ConnectionBlock.{ConnectionBlock}
-use Rattle.audit_rounds.specs.code.Blocks.{blocks_in, blocks_of_connection, laid_out, wholes, AreCut, AddsBlocks}
+use Rattle.audit_rounds.specs.code.Blocks.{laid_out}
 
 -- ---- one connection more
 
@@ -122,29 +118,47 @@ next-cut connection items later count counts blocks h = by_cuts h.cuts h.laid h.
         rest = record { cuts = cuts; laid = back; number = ap rest_of n; items = ap rest_of i };
       }
 
--- the next connection of some, where the counts are read
-pub turn : (wholes : List (List Item)) (counts read : List ℕ) (all : List ConnectionBlock) (start at : ℕ)
-    → AreCut 0 wholes counts all → read ≡ counts → at < length read
+-- the next connection of some, where the counts and the blocks are read
+pub record IsTurn (wholes : List (List Item)) (counts : List ℕ) (all read : List ConnectionBlock) (start at count : ℕ)
+    : Type 0 where
+  pub here : at < length wholes
+  pub inside : start + count ≤ length all
+  pub long : length (take (start + count - start) (drop start read)) ≡ count
+  pub own : All (λ (one : ConnectionBlock). one.connection ≡ at) (take (start + count - start) (drop start read))
+  pub joined : joined_items (blocks_in (take (start + count - start) (drop start read))) ≡ get_or wholes at []
+  pub rest : AreCut (at + 1) (drop (at + 1) wholes) (drop (at + 1) counts) (drop (start + count) all)
+
+pub turn : (wholes : List (List Item)) (counts counted : List ℕ) (all read : List ConnectionBlock) (start at : ℕ)
+    → AreCut 0 wholes counts all → counted ≡ counts → at < length counted → read ≡ all → start ≤ length all
     → AreCut at (drop at wholes) (drop at counts) (drop start all)
-    → (at < length wholes) × IsNext at (get_or wholes at []) (drop (at + 1) wholes) (get_or read at 0)
-    (drop (at + 1) counts) (drop start all)
-turn wholes counts read all start at whole e l h =
+    → IsTurn wholes counts all read start at (get_or counted at 0)
+turn wholes counts counted all read start at whole e l same_blocks low h =
     let number = ap length whole.number ∙ length-map whole.cuts length in
     let number' = ap length whole.items ∙ length-map whole.cuts joined_items in
     let same = ap length e in
     let within : at < length wholes = omega arith in
-    let next : AreCut at (get_or wholes at [] ∷ drop (at + 1) wholes) (get_or read at 0 ∷ drop (at + 1) counts)
-    (drop start all) =
-    subst (λ n. AreCut at (get_or wholes at [] ∷ drop (at + 1) wholes) (get_or n at 0 ∷ drop (at + 1) counts)
+    let count = get_or counted at 0 in
+    let next = next-cut at (get_or wholes at []) (drop (at + 1) wholes) count (drop (at + 1) counts) (drop start all)
+    (subst (λ n. AreCut at (get_or wholes at [] ∷ drop (at + 1) wholes) (get_or n at 0 ∷ drop (at + 1) counts)
     (drop start all)) (sym e)
     (subst (λ w. AreCut at w (get_or counts at 0 ∷ drop (at + 1) counts) (drop start all))
     (drop-next wholes at [] within)
-    (subst (λ k. AreCut at (drop at wholes) k (drop start all)) (drop-next counts at 0 (omega arith)) h)) in (
-      within,
-      next-cut at (get_or wholes at []) (drop (at + 1) wholes) (get_or read at 0) (drop (at + 1) counts)
-          (drop start all)
-          next,
-    )
+    (subst (λ k. AreCut at (drop at wholes) k (drop start all)) (drop-next counts at 0 (omega arith)) h))) in
+    let few = next.within in
+    let left = length-drop start all in
+    let exact : start + count - start ≡ count = omega arith in
+    let mine : take (start + count - start) (drop start read) ≡ take count (drop start all) =
+    ap (λ blocks. take (start + count - start) (drop start blocks)) same_blocks
+    ∙ ap (λ n. take n (drop start all)) exact in
+    record {
+      here = within;
+      inside = omega (arith, few, left, low);
+      long = ap length mine ∙ length-take-le count (drop start all) few;
+      own = subst (All (λ (one : ConnectionBlock). one.connection ≡ at)) (sym mine) next.own;
+      joined = ap (λ blocks. joined_items (blocks_in blocks)) mine ∙ next.joined;
+      rest = subst (AreCut (at + 1) (drop (at + 1) wholes) (drop (at + 1) counts)) (drop-drop count start all)
+          next.rest;
+    }
 
 -- ---- the numbers of connections
 

@@ -1,3 +1,5 @@
+pub mod Words
+pub mod Alike
 pub mod Openings
 pub mod Settling
 pub mod Told

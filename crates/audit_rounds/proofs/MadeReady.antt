@@ -1,12 +1,8 @@
 -- Connections made ready in two halves.
-use Rattle.std.proofs.Common.{◌≡◌, ℕ, Bool, List, ◌++◌, map, take, drop, sym, ap, ◌∙◌, subst, Bor, Vec, Global}
-use Rattle.std.proofs.lemmas.List.{map-append, take-append-drop}
-use Rattle.std.proofs.lemmas.List.Elements.{All-append}
-use Rattle.audit_terms.specs.declared.findings.Finding.{Finding}
-use Rattle.audit_terms.specs.declared.frames.Frame.{Frame}
-use Rattle.audit_rounds.specs.declared.prepared.Prepared.{Prepared}
-use Rattle.audit_rounds.specs.code.Prepared.{IsPrepared, found_before}
-use Rattle.audit_rounds.specs.code.MadeReady.{AreMadeReady}
+use Rattle.audit_rounds.proofs.Words.{◌≡◌, ℕ, Bool, List, ◌++◌, map, take, drop, sym, ap, ◌∙◌, subst, Bor, Vec, Global}
+use Rattle.audit_rounds.proofs.Words.{map-append, take-append-drop, All-append, Finding, Frame, Prepared, IsPrepared}
+use Rattle.audit_rounds.proofs.Words.{found_before, AreMadeReady, AreReady, IsBatch}
+use Rattle.audit_rounds.proofs.Few.{few-ready}
 
 -- those of one half, and then those of the other
 pub made-together : (credits_shown : Bool) (front back : List (Bor (List Frame))) (made more : List Prepared)
@@ -24,6 +20,16 @@ made-together credits_shown front back made more found later one other =
       before = map-append items found later ∙ ap (λ l. l ++ map items later) one.before
           ∙ ap (λ l. map found_before made ++ l) other.before ∙ sym (map-append found_before made more);
     }
+
+-- connections of a batch
+pub batch-ready : (credits_shown : Bool) (connections : List (Bor (List Frame))) (made : List Prepared)
+    (found : List (Vec Finding Global)) → IsBatch connections → AreMadeReady credits_shown connections made found
+    → AreReady credits_shown made found
+batch-ready credits_shown connections made found batch are = record {
+  prepared = are.prepared;
+  few = few-ready connections made are.frames batch.few;
+  before = are.before;
+}
 
 -- of a list that was split
 pub made-whole : (credits_shown : Bool) (all front back : List (Bor (List Frame))) (at : ℕ) (made more : List Prepared)

@@ -1,15 +1,14 @@
 -- Two runs in order, merged, are all their elements in order.
-use Rattle.std.proofs.Common.{◌≡◌, ℕ, ◌+◌, ◌<◌, Bool, true, false, not, List, [], ◌∷◌, ◌++◌, map, length, get_or, refl}
-use Rattle.std.proofs.Common.{append-nil, sym, ap, ◌∙◌, arith, true≢false, Vec, Global}
-use Rattle.std.proofs.lemmas.List.{length-map, length-append, get_or-map, nil_from_length}
+use Rattle.audit_rounds.proofs.Words.{◌≡◌, ℕ, ◌<◌, Bool, true, false, not, List, [], ◌∷◌, ◌++◌, map, length, get_or}
+use Rattle.audit_rounds.proofs.Words.{refl, append-nil, sym, ap, ◌∙◌, arith, true≢false, Vec, Global, ◌⊎◌, inl, inr}
+use Rattle.audit_rounds.proofs.Words.{zip, get_or-map, get_or-zip, length-zip, Finding, comes_after, in_order}
+use Rattle.audit_rounds.proofs.Words.{ordered-in_order, in_order-ordered, comes_after_is, in_order-append_left}
 use Rattle.itertools.specs.List.{merge_by}
 use Rattle.audit_terms.specs.Order.{put_by, ordered_by}
-use Rattle.audit_terms.specs.declared.findings.Finding.{Finding}
-use Rattle.audit_terms.specs.Finding.{comes_after, in_order}
-use Rattle.audit_terms.proofs.OrderedLists.{IsAfter, NoneBefore, IsInOrder, ordered-in_order, ordered-append_comm}
-use Rattle.audit_terms.proofs.OrderedLists.{in_order-ordered}
-use Rattle.audit_terms.proofs.FindingOrder.{comes_after_is, in_order-append_left, in_order-append_right}
+use Rattle.audit_terms.proofs.OrderedLists.{IsAfter, NoneBefore, IsInOrder, ordered-append_comm}
+use Rattle.audit_terms.proofs.FindingOrder.{in_order-append_right}
 use Rattle.audit_terms.proofs.FindingOrder.{in_order-append_both}
+use Rattle.audit_rounds.proofs.Alike.{items_in, as-many}
 
 module _ {X : Type 0} (after : X → X → Bool) (o : IsAfter after) where
   -- does x go first of the two?
@@ -101,76 +100,33 @@ first-alone xs ys e =
 pub second-alone : (xs ys : List Finding) → in_order xs ≡ [] → in_order ys ≡ in_order (xs ++ ys)
 second-alone xs ys e = ap (λ l. in_order (l ++ ys)) (sym e) ∙ in_order-append_left xs ys
 
--- what stands at a place of lists that were gone through side by side
-each-pair : (found more all : List (Vec Finding Global)) (pairs : List (Vec Finding Global × Vec Finding Global))
-    → map (λ (pair : Vec Finding Global × Vec Finding Global). pair.0) pairs ≡ found
-    → map (λ (pair : Vec Finding Global × Vec Finding Global). pair.1) pairs ≡ more
-    → map (λ (one : Vec Finding Global). one.items) all
-    ≡ map (λ (pair : Vec Finding Global × Vec Finding Global). in_order (pair.0.items ++ pair.1.items)) pairs
-    → (n : ℕ) (list list' list'' : Vec Finding Global) → n < length found
-    → (get_or all n list).items ≡ in_order ((get_or found n list').items ++ (get_or more n list'').items)
-each-pair found more all pairs firsts seconds is n list list' list'' l =
-    let first = λ (pair : Vec Finding Global × Vec Finding Global). pair.0 in
-    let second = λ (pair : Vec Finding Global × Vec Finding Global). pair.1 in
-    let items = λ (one : Vec Finding Global). one.items in
-    let both = λ (pair : Vec Finding Global × Vec Finding Global). in_order (pair.0.items ++ pair.1.items) in
-    let count : length pairs ≡ length found = sym (length-map pairs first) ∙ ap length firsts in
-    let made : length all ≡ length pairs = sym (length-map all items) ∙ ap length is ∙ length-map pairs both in
-    let pair : Vec Finding Global × Vec Finding Global = (list', list'') in
-    let mine : get_or found n list' ≡ (get_or pairs n pair).0 =
-    ap (λ l. get_or l n list') (sym firsts) ∙ get_or-map first pairs n pair list' (omega arith) in
-    let theirs : get_or more n list'' ≡ (get_or pairs n pair).1 =
-    ap (λ l. get_or l n list'') (sym seconds) ∙ get_or-map second pairs n pair list'' (omega arith) in
-    sym (get_or-map items all n list [] (omega arith)) ∙ ap (λ l. get_or l n []) is
-    ∙ get_or-map both pairs n pair [] (omega arith)
-    ∙ sym (ap (λ v. in_order (v.items ++ (get_or more n list'').items)) mine
-    ∙ ap (λ v. in_order ((get_or pairs n pair).0.items ++ v.items)) theirs)
+-- what two lists of a connection are merged to
+abbrev pub both_in : Vec Finding Global × Vec Finding Global → List Finding
+both_in pair = in_order (pair.0.items ++ pair.1.items)
 
-all-taken : {X : Type 0} (taken left all : List X) → length left ≡ 0 → taken ++ left ≡ all → taken ≡ all
-all-taken taken left all e whole =
-    sym (append-nil taken) ∙ ap (λ l. taken ++ l) (sym (nil_from_length left e)) ∙ whole
+-- lists that were gone through side by side, until one of them was over, are those pairs
+pub zip-over : {X Y : Type 0} (pairs : List (X × Y)) (one : List X) (other : List Y)
+    → (length one ≡ 0) ⊎ (length other ≡ 0)
+    → zip (map (λ (pair : X × Y). pair.0) pairs ++ one) (map (λ (pair : X × Y). pair.1) pairs ++ other) ≡ pairs
+zip-over [] [] other h = refl
+zip-over [] (x ∷ one) [] h = refl
+zip-over [] (x ∷ one) (y ∷ other) (inl e) = absurd (omega (arith, e))
+zip-over [] (x ∷ one) (y ∷ other) (inr e) = absurd (omega (arith, e))
+zip-over (pair ∷ pairs) one other h = ap (λ l. pair ∷ l) (zip-over pairs one other h)
 
--- the same, where lists of one length were gone through until the first of them was over
-pub first-over : (found more all one other : List (Vec Finding Global))
-    (pairs : List (Vec Finding Global × Vec Finding Global)) → length more ≡ length found
-    → map (λ (pair : Vec Finding Global × Vec Finding Global). pair.0) pairs ++ one ≡ found
-    → map (λ (pair : Vec Finding Global × Vec Finding Global). pair.1) pairs ++ other ≡ more
-    → map (λ (one : Vec Finding Global). one.items) all
-    ≡ map (λ (pair : Vec Finding Global × Vec Finding Global). in_order (pair.0.items ++ pair.1.items)) pairs
-    → length one ≡ 0
-    → (n : ℕ) (list list' list'' : Vec Finding Global) → n < length found
-    → (get_or all n list).items ≡ in_order ((get_or found n list').items ++ (get_or more n list'').items)
-first-over found more all one other pairs number firsts seconds is over n list list' list'' l =
-    let first = λ (pair : Vec Finding Global × Vec Finding Global). pair.0 in
-    let second = λ (pair : Vec Finding Global × Vec Finding Global). pair.1 in
-    let ones = length-map pairs first in
-    let others = length-map pairs second in
-    let before : length found ≡ length (map first pairs) + length one =
-    ap length (sym firsts) ∙ length-append (map first pairs) one in
-    let after : length more ≡ length (map second pairs) + length other =
-    ap length (sym seconds) ∙ length-append (map second pairs) other in
-    let rest : length other ≡ 0 = omega (arith, over, ones, others, before, after, number) in
-    each-pair found more all pairs (all-taken (map first pairs) one found over firsts)
-    (all-taken (map second pairs) other more rest seconds) is n list list' list'' l
+-- what is merged of one of the connections
+module _ (found more all : List (Vec Finding Global)) (is : map items_in all ≡ map both_in (zip found more)) where
+  pub merged-long : length more ≡ length found → length all ≡ length found
+  merged-long same =
+      let long = as-many items_in both_in all (zip found more) is in
+      let zipped = length-zip found more in
+      omega (arith, long, zipped, same)
 
--- or the second
-pub second-over : (found more all one other : List (Vec Finding Global))
-    (pairs : List (Vec Finding Global × Vec Finding Global)) → length more ≡ length found
-    → map (λ (pair : Vec Finding Global × Vec Finding Global). pair.0) pairs ++ one ≡ found
-    → map (λ (pair : Vec Finding Global × Vec Finding Global). pair.1) pairs ++ other ≡ more
-    → map (λ (one : Vec Finding Global). one.items) all
-    ≡ map (λ (pair : Vec Finding Global × Vec Finding Global). in_order (pair.0.items ++ pair.1.items)) pairs
-    → length other ≡ 0
-    → (n : ℕ) (list list' list'' : Vec Finding Global) → n < length found
-    → (get_or all n list).items ≡ in_order ((get_or found n list').items ++ (get_or more n list'').items)
-second-over found more all one other pairs number firsts seconds is over n list list' list'' l =
-    let first = λ (pair : Vec Finding Global × Vec Finding Global). pair.0 in
-    let second = λ (pair : Vec Finding Global × Vec Finding Global). pair.1 in
-    let ones = length-map pairs first in
-    let others = length-map pairs second in
-    let before : length found ≡ length (map first pairs) + length one =
-    ap length (sym firsts) ∙ length-append (map first pairs) one in
-    let after : length more ≡ length (map second pairs) + length other =
-    ap length (sym seconds) ∙ length-append (map second pairs) other in
-    let rest : length one ≡ 0 = omega (arith, over, ones, others, before, after, number) in
-    first-over found more all one other pairs number firsts seconds is rest n list list' list'' l
+  pub merged-at : (n : ℕ) (list list' : Vec Finding Global) → n < length found → length more ≡ length found →
+      (get_or all n list).items ≡ in_order ((get_or found n list').items ++ (get_or more n list').items)
+  merged-at n list list' l same =
+      let long = merged-long same in
+      let zipped = length-zip found more in
+      sym (get_or-map items_in all n list [] (omega (arith, long, l))) ∙ ap (λ l. get_or l n []) is
+      ∙ get_or-map both_in (zip found more) n (list', list') [] (omega (arith, zipped, same, l))
+      ∙ ap both_in (get_or-zip found more n (list', list') l (omega (arith, same, l)))

@@ -1,39 +1,18 @@
 -- What the round over streams begins from, connection after connection and finding after finding.
-use Rattle.std.proofs.Common.{◌≡◌, ℕ, zero, suc, ◌+◌, ◌<◌, ◌≤◌, ◌⊎◌, inl, inr, min, nat_le, leb-true, leb-false, Bool}
-use Rattle.std.proofs.Common.{true, false, true≢false, List, [], ◌∷◌, ◌++◌, length, get_or, take, Contains, Option}
-use Rattle.std.proofs.Common.{Some, None, refl, sym, ap, subst, ◌∙◌, arith}
-use Rattle.std.specs.List.{AllZip}
-use Rattle.std.proofs.Math.Seq.{take-add}
-use Rattle.std.proofs.lemmas.List.Elements.{Contains-append_left, Contains-append_cases, Contains-push}
-use Rattle.audit_core.proofs.OrderlyRest.{drop-next}
-use Rattle.audit_terms.specs.declared.findings.Finding.{Finding}
-use Rattle.audit_terms.specs.Finding.{stops}
-use Rattle.stop_desk.specs.code.Board.{StopsAt}
-use Rattle.stop_desk.proofs.RoundMembers.{contains-none, contains-cases}
-use Rattle.audit_rounds.specs.code.Streams.{lesser}
-use Rattle.audit_terms.specs.declared.items.Change.{Change}
-use Rattle.audit_rounds.specs.declared.prepared.Prepared.{Prepared}
-use Rattle.audit_rounds.specs.code.StreamRound.{IsFirstStop, changes_in}
-
-pub take-next : {X : Type 0} (xs : List X) (n : ℕ) (d : X) → n < length xs
-    → take n xs ++ get_or xs n d ∷ [] ≡ take (n + 1) xs
-take-next xs n d l = sym (take-add n 1 xs ∙ ap (λ r. take n xs ++ take 1 r) (drop-next xs n d l))
-
-zip-push : {X Y : Type 0} (R : X → Y → Type 0) (xs : List X) (ys : List Y) (x : X) (y : Y) → AllZip R xs ys → R x y
-    → AllZip R (xs ++ x ∷ []) (ys ++ y ∷ [])
-zip-push R [] [] x y h r = (r, tt)
-zip-push R [] (b ∷ ys) x y h r = absurd h
-zip-push R (a ∷ xs) [] x y h r = absurd h
-zip-push R (a ∷ xs) (b ∷ ys) x y h r = (h.0, zip-push R xs ys x y h.1 r)
+use Rattle.audit_rounds.proofs.Words.{◌≡◌, ℕ, ◌+◌, ◌<◌, ◌≤◌, ◌⊎◌, inl, inr, min, nat_le, leb-true, leb-false, Bool}
+use Rattle.audit_rounds.proofs.Words.{true, false, true≢false, List, [], ◌∷◌, ◌++◌, length, get_or, take, Contains}
+use Rattle.audit_rounds.proofs.Words.{Option, Some, None, refl, sym, ap, subst, ◌∙◌, arith, AllZip, get_or-map}
+use Rattle.audit_rounds.proofs.Words.{take_more, Contains-append_left, Finding, stops, StopsAt, contains-none}
+use Rattle.audit_rounds.proofs.Words.{contains-cases, lesser, Change, Prepared, IsFirstStop, changes_in}
+use Rattle.std.proofs.lemmas.Slice.Zip.{all_zipped_more}
+use Rattle.std.proofs.lemmas.List.Elements.{Contains-append_cases, Contains-push}
 
 -- one more of two lists that go side by side
 pub zip-more : {X Y : Type 0} (R : X → Y → Type 0) (xs : List X) (n : ℕ) (d : X) (ys after : List Y) (y : Y)
     → n < length xs → AllZip R (take n xs) ys → R (get_or xs n d) y → after ≡ ys ++ y ∷ []
     → AllZip R (take (n + 1) xs) after
 zip-more R xs n d ys after y l h r e =
-    subst (λ l. AllZip R l after) (take-next xs n d l)
-    (subst (λ l. AllZip R (take n xs ++ get_or xs n d ∷ []) l) (sym e)
-    (zip-push R (take n xs) ys (get_or xs n d) y h r))
+    rw (take_more xs n d l, e) (all_zipped_more R (take n xs) ys (get_or xs n d) y h r)
 
 -- ---- the first error of the connection
 
@@ -93,7 +72,7 @@ stop-none place h = contains-none h.0 h.1
 module _ (xs : List Finding) (n : ℕ) (y : Finding) (stop next : Option ℕ) (l : n < length xs)
     (e : y ≡ get_or xs n y) where
   step : take n xs ++ y ∷ [] ≡ take (n + 1) xs
-  step = ap (λ z. take n xs ++ z ∷ []) e ∙ take-next xs n y l
+  step = ap (λ z. take n xs ++ z ∷ []) e ∙ sym (take_more xs n y l)
 
   pub stop-yes : stops y ≡ true → next ≡ lesser stop (Some y.place) → IsFirstStop (take n xs) stop
       → IsFirstStop (take (n + 1) xs) next
@@ -111,9 +90,4 @@ pub got-changes : (connections : List Prepared) (all : List (List Change)) (n : 
     → n < length connections → all ≡ changes_in connections → own ≡ get_or all n own
     → own ≡ (get_or connections n d).changes.items
 got-changes connections all n d own l e h =
-    h ∙ ap (λ l. get_or l n own) e ∙ at connections n l where
-      at : (connections : List Prepared) (n : ℕ) → n < length connections
-          → get_or (changes_in connections) n own ≡ (get_or connections n d).changes.items
-      at [] n l = absurd (omega (arith, l))
-      at (x ∷ xs) zero l = refl
-      at (x ∷ xs) (suc n) l = at xs n (omega (arith, l))
+    h ∙ ap (λ l. get_or l n own) e ∙ get_or-map (λ (one : Prepared). one.changes.items) connections n d own l

@@ -1,38 +1,27 @@
 -- The openings that streams by themselves tell are those of the pass.
-use Rattle.std.proofs.Common.{◌≡◌, ℕ, ◌+◌, ◌<◌, ◌≤◌, ◌==◌, Bool, true, false, ◌&&◌, ◌||◌, List, [], ◌∷◌, ◌++◌, map}
-use Rattle.std.proofs.Common.{Option, Some, None, is_none, IfSome, refl, sym, ap, subst, ◌∙◌, arith, ◌%◌, if◌then◌else◌}
-use Rattle.std.specs.Option.{option_map_or, option_to_list}
-use Rattle.std.specs.List.{flat_map, list_any}
-use Rattle.std.proofs.lemmas.Bool.Decides.{nat_tests}
-use Rattle.std.proofs.lemmas.List.Folds.{list_any-append}
-use borrow.Author.Tests.{eqb-true, eq-eqb}
-use Rattle.audit_terms.specs.declared.sides.Sides.{Sides}
-use Rattle.audit_terms.specs.declared.frames.Body.{Body}
+use Rattle.audit_rounds.proofs.Words.{◌≡◌, ℕ, ◌+◌, ◌<◌, ◌≤◌, ◌==◌, Bool, true, false, ◌&&◌, ◌||◌, List, [], ◌∷◌, ◌++◌}
+use Rattle.audit_rounds.proofs.Words.{map, Option, Some, None, is_none, refl, sym, ap, subst, ◌∙◌, arith, if◌then◌else◌}
+use Rattle.audit_rounds.proofs.Words.{option_map_or, option_to_list, list_any, nat_tests, list_any-append, eqb-true}
+use Rattle.audit_rounds.proofs.Words.{eq-eqb, Sides, Body, Unreadable, Frame, Change, Item, Step, Stream, meets}
+use Rattle.audit_rounds.proofs.Words.{is_headers, IsOrderly, IsOrderlyFrom, initial_in_force, in_force_after, change_of}
+use Rattle.audit_rounds.proofs.Words.{changes_of, idle_stream, stream_after, initial_after, PassState, pass_start, next}
+use Rattle.audit_rounds.proofs.Words.{step_of, streams_of, items_from, state_from, frames_of, stream_at_end}
+use Rattle.audit_rounds.proofs.Words.{streams_met_lem, is_marked, openings_of}
+use Rattle.std.proofs.Common.{IfSome, ◌%◌}
+use Rattle.std.specs.List.{flat_map}
 use Rattle.audit_terms.specs.declared.frames.Body.TheVariants.{Content, Headers, Priority, RstStream, Settings}
 use Rattle.audit_terms.specs.declared.frames.Body.TheVariants.{SettingsAck, PushPromise, Ping, GoAway, WindowUpdate}
-use Rattle.audit_terms.specs.declared.frames.Body.TheVariants.{Continuation, Unknown, Unreadable}
-use Rattle.audit_terms.specs.declared.frames.Frame.{Frame}
-use Rattle.audit_terms.specs.declared.items.Change.{Change}
-use Rattle.audit_terms.specs.declared.items.Item.{Item}
-use Rattle.audit_terms.specs.declared.items.Step.{Step}
+use Rattle.audit_terms.specs.declared.frames.Body.TheVariants.{Continuation, Unknown}
+use Rattle.audit_rounds.proofs.Alike.{differ, differ_back}
 use Rattle.audit_terms.specs.declared.lives.StreamLife.{StreamLife}
-use Rattle.audit_terms.specs.declared.streams.Stream.{Stream}
-use Rattle.audit_terms.specs.Frame.{meets, promises, is_headers, is_promise, is_client_headers}
-use Rattle.audit_terms.specs.code.runs.Orderly.{IsOrderly, IsOrderlyFrom}
-use Rattle.audit_terms.specs.InForce.{initial_in_force, in_force_after, change_of}
-use Rattle.audit_terms.specs.code.runs.Changes.{changes_of}
+use Rattle.audit_terms.specs.Frame.{promises, is_promise, is_client_headers}
 use Rattle.audit_terms.specs.Life.{is_opening, life_after}
-use Rattle.audit_terms.specs.Stream.{idle_stream, stream_after}
-use Rattle.audit_terms.specs.code.runs.Streams.{stream_after_all, initial_after}
-use Rattle.audit_terms.specs.Pass.{PassState, pass_start, next, step_of, opens_stream, streams_of}
-use Rattle.audit_terms.specs.code.runs.States.{items_from, state_from, state_after}
-use Rattle.audit_terms.specs.code.runs.Streams.{frames_of, stream_at_end}
+use Rattle.audit_terms.specs.code.runs.Streams.{stream_after_all}
+use Rattle.audit_terms.specs.Pass.{opens_stream}
+use Rattle.audit_terms.specs.code.runs.States.{state_after}
 use Rattle.audit_core.proofs.QuietSteps.{stream_after-quiet}
 use Rattle.audit_core.proofs.StreamSteps.{step_if_any, steps_from, steps_of-steps_from}
-use Rattle.audit_core.proofs.StreamsMet.{streams_met_lem}
-use Rattle.conn_scan.specs.code.Items.{is_marked}
 use Rattle.audit_rounds.specs.laws.Openings.{OpeningsAreFound}
-use Rattle.audit_rounds.specs.code.Openings.{openings_of}
 
 -- ---- a stream at its end is the stream in the pass
 
@@ -106,14 +95,8 @@ abbrev is_at : ℕ → Option ℕ → Bool
 is_at n None = false
 is_at n (Some m) = m == n
 
-differ : (m n : ℕ) → m < n → (m == n) ≡ false
-differ m n h = grind (arith, nat_tests)
-
 eqb-sym : (m n : ℕ) → (m == n) ≡ false → (n == m) ≡ false
 eqb-sym m n h = grind (arith, nat_tests)
-
-differ_back : (m n : ℕ) → m < n → (n == m) ≡ false
-differ_back m n h = grind (arith, nat_tests)
 
 -- one that is not opened opens later, if at all
 opened-later : (state : PassState) (frames : List Frame) (stream n low : ℕ) → n < low → IsOrderlyFrom low frames

@@ -1,18 +1,11 @@
 -- What the jobs of a plan find.
-use Rattle.std.proofs.Common.{◌≡◌, ℕ, zero, suc, ◌+◌, ◌<◌, ◌≤◌, ◌==◌, Bool, true, false, if◌then◌else◌, List, [], ◌∷◌}
-use Rattle.std.proofs.Common.{◌++◌, append_assoc, append-nil, map, take, length, get_or, refl, sym, ap, ◌∙◌, arith}
-use Rattle.std.proofs.lemmas.List.{map-append, take_more, take_all, length-take-le}
-use Rattle.std.proofs.lemmas.List.Elements.{All-push}
-use Rattle.std.proofs.lemmas.Grind.{flat_map-append}
-use Rattle.std.proofs.lemmas.Bool.{eq-eqb, ne_eqb}
-use Rattle.audit_terms.specs.declared.findings.Finding.{Finding}
-use Rattle.audit_terms.specs.declared.items.Item.{Item}
-use Rattle.audit_terms.specs.Connection.{connection_start}
-use Rattle.block_scan.specs.code.List.{items_of}
-use Rattle.stop_desk.specs.code.Board.{Job, findings_of_jobs}
-use Rattle.audit_rounds.specs.declared.block_plans.ReadyBlock.{ReadyBlock}
+use Rattle.audit_rounds.proofs.Words.{◌≡◌, ℕ, zero, suc, ◌+◌, ◌<◌, ◌≤◌, ◌==◌, Bool, true, false, if◌then◌else◌, List}
+use Rattle.audit_rounds.proofs.Words.{[], ◌∷◌, ◌++◌, append_assoc, append-nil, map, take, length, get_or, refl, sym, ap}
+use Rattle.audit_rounds.proofs.Words.{◌∙◌, arith, map-append, take_more, take_all, length-take-le, All-push}
+use Rattle.audit_rounds.proofs.Words.{flat_map-append, ne_eqb, Finding, Item, connection_start, items_of, Job}
+use Rattle.audit_rounds.proofs.Words.{findings_of_jobs, ReadyBlock, block_job, where_of, whole_shown, shown_at, IsPlan}
+use Rattle.std.proofs.lemmas.Bool.{eq-eqb}
 use Rattle.audit_rounds.specs.code.Blocks.{IsReady}
-use Rattle.audit_rounds.specs.code.Plans.{block_job, where_of, whole_shown, shown_at, IsPlan}
 use Rattle.audit_rounds.proofs.Cuts.{said_from, said-joined}
 
 where-append : (connection n : ℕ) (xs ys : List Finding)

@@ -1,36 +1,29 @@
 -- The rounds make the pass.
-use Rattle.std.proofs.Common.{◌≡◌, ℕ, pos, Bool, true, false, not, ◌&&◌, ◌||◌, ◌==◌, is_none, List, [], ◌∷◌, ◌++◌}
-use Rattle.std.proofs.Common.{Option, Some, None, refl, sym, ap, ◌∙◌, append-nil}
+use Rattle.audit_rounds.proofs.Words.{◌≡◌, ℕ, pos, Bool, true, false, not, ◌&&◌, ◌||◌, ◌==◌, is_none, List, [], ◌∷◌}
+use Rattle.audit_rounds.proofs.Words.{◌++◌, Option, Some, None, refl, sym, ap, ◌∙◌, append-nil, Sides, Body, Unreadable}
+use Rattle.audit_rounds.proofs.Words.{Frame, Finding, side_of, is_ack, in_order, upto_stop, shown, local_said}
+use Rattle.audit_rounds.proofs.Words.{no_previous, previous_after, local_run, local_run_from, InForce, taken}
+use Rattle.audit_rounds.proofs.Words.{settings_said, initial_in_force, in_force_after, settings_run, settings_run_from}
+use Rattle.audit_rounds.proofs.Words.{changes_of, connection_start, streams_of, frames_of, stream_run, joined}
+use Rattle.audit_rounds.proofs.Words.{shown-append, in_order-shown, streams_shown, blocks_shown}
 use Rattle.std.specs.List.{flat_map}
-use Rattle.audit_terms.specs.declared.sides.Sides.{Sides}
 use Rattle.audit_terms.specs.declared.kinds.Kind.{Kind}
 use Rattle.audit_terms.specs.declared.kinds.Kind.TheVariants.{BadPreface, BrokenBlock, WrongStream, WrongSize}
 use Rattle.audit_terms.specs.declared.kinds.Kind.TheVariants.{BadPadding, BadSetting, Push, BadPriority, UnmatchedAck}
-use Rattle.audit_terms.specs.declared.frames.Body.{Body}
-use Rattle.audit_terms.specs.declared.frames.Body.TheVariants.{Settings as SettingsBody, Unreadable}
-use Rattle.audit_terms.specs.declared.frames.Frame.{Frame}
-use Rattle.audit_terms.specs.declared.findings.Finding.{Finding}
+use Rattle.audit_terms.specs.declared.frames.Body.TheVariants.{Settings as SettingsBody}
 use Rattle.audit_terms.specs.declared.sides.Side.TheVariants.{Client}
 use Rattle.audit_terms.specs.Side.{is_side}
-use Rattle.audit_terms.specs.Sides.{side_of}
-use Rattle.audit_terms.specs.Frame.{is_ack}
 use Rattle.audit_terms.specs.FrameType.{push_promise_type}
-use Rattle.audit_terms.specs.Finding.{in_order, upto_stop, shown, finding_at, say, say_of}
+use Rattle.audit_terms.specs.Finding.{finding_at, say, say_of}
 use Rattle.audit_terms.specs.Kind.{is_credit}
-use Rattle.audit_terms.specs.LocalFault.{local_said, no_previous, previous_after, body_said, reading_fault, fault}
+use Rattle.audit_terms.specs.LocalFault.{body_said, reading_fault, fault}
 use Rattle.audit_terms.specs.LocalFault.{is_settings, breaks_block, is_on_wrong_stream}
-use Rattle.audit_terms.specs.code.runs.LocalFaults.{local_run, local_run_from}
-use Rattle.audit_terms.specs.InForce.{InForce, taken, settings_said, initial_in_force, in_force_after}
-use Rattle.audit_terms.specs.code.runs.Changes.{settings_run, settings_run_from, changes_of}
-use Rattle.audit_terms.specs.Connection.{connection_start}
-use Rattle.audit_terms.specs.Pass.{full, streams_of}
-use Rattle.audit_terms.specs.code.runs.Streams.{frames_of, stream_run, group_run}
+use Rattle.audit_terms.specs.Pass.{full}
+use Rattle.audit_terms.specs.code.runs.Streams.{group_run}
 use Rattle.audit_terms.specs.code.runs.Blocks.{block_runs}
-use Rattle.audit_core.specs.laws.Parts.{joined}
 use Rattle.audit_core.proofs.PartsLemmas.{parts_make_full_lem}
-use Rattle.split_merge.proofs.ShownMerge.{shown-append, shown-flat_map, in_order-shown, merge-shown}
+use Rattle.split_merge.proofs.ShownMerge.{shown-flat_map, merge-shown}
 use Rattle.audit_rounds.specs.laws.Rounds.{RoundsMakePass}
-use Rattle.audit_rounds.specs.code.Shown.{streams_shown, blocks_shown}
 
 -- where nothing is a credit, all is shown
 module _ (c : Bool) where

@@ -1,29 +1,13 @@
 -- What settled rounds over blocks give.
-use Rattle.std.proofs.Common.{◌≡◌, ℕ, ◌+◌, ◌<◌, Bool, List, ◌++◌, map, length, get_or, All, Option, Some, None}
-use Rattle.std.proofs.Common.{slice_get, sym, ap, ◌∙◌, subst, arith, Vec, Global}
-use Rattle.std.proofs.lemmas.List.{length-map, get_or-map}
-use Rattle.std.proofs.lemmas.Option.{slice_get_within, get_or_from_slice_get, slice_get-get_or}
-use Rattle.audit_terms.specs.declared.findings.Finding.{Finding}
-use Rattle.audit_terms.specs.Finding.{in_order, upto_stop}
-use Rattle.audit_terms.specs.Connection.{connection_start}
-use Rattle.conn_scan.specs.declared.block_items.Block.{Block}
-use Rattle.conn_scan.specs.code.Items.{items_in, IsBlock}
-use Rattle.conn_scan.specs.code.Block.{BlockFits}
-use Rattle.conn_scan.specs.declared.sums.ConnSum.{ConnSum}
-use Rattle.stop_desk.specs.code.Stop.{IsStop}
-use Rattle.stop_desk.specs.code.Board.{Job, IsLeast, StopsAt, findings_of_parts}
-use Rattle.stop_desk.proofs.RoundMerge.{board_merges_lem}
-use Rattle.stop_desk.specs.declared.parts.Part.{Part}
-use Rattle.stop_desk.specs.declared.settling.Settled.{Settled}
-use Rattle.stop_desk.specs.code.Laid.{part_of}
+use Rattle.audit_rounds.proofs.Words.{◌≡◌, ℕ, ◌+◌, ◌<◌, Bool, List, ◌++◌, map, length, get_or, All, Option, Some, None}
+use Rattle.audit_rounds.proofs.Words.{slice_get, sym, ap, ◌∙◌, subst, arith, Vec, Global, length-map, get_or-map}
+use Rattle.audit_rounds.proofs.Words.{slice_get_within, get_or_from_slice_get, slice_get-get_or, Finding, in_order}
+use Rattle.audit_rounds.proofs.Words.{upto_stop, connection_start, Block, items_in, IsBlock, BlockFits, ConnSum, IsStop}
+use Rattle.audit_rounds.proofs.Words.{Job, IsLeast, StopsAt, findings_of_parts, board_merges_lem, Part, Settled}
+use Rattle.audit_rounds.proofs.Words.{part_of, ConnectionBlock, ReadyBlock, IsSum, AreSums, wholes, sum_job, block_job}
+use Rattle.audit_rounds.proofs.Words.{whole_shown, shown_at, IsPlan, AreParts, IsRemaining, All-map}
 use Rattle.stop_desk.specs.code.Settling.{HasSettled}
-use Rattle.audit_rounds.specs.declared.blocks.ConnectionBlock.{ConnectionBlock}
-use Rattle.audit_rounds.specs.declared.block_plans.ReadyBlock.{ReadyBlock}
-use Rattle.audit_rounds.specs.code.Blocks.{IsSum, AreSums, wholes}
-use Rattle.audit_rounds.specs.code.Plans.{sum_job, block_job, whole_shown, shown_at, IsPlan, AreParts}
-use Rattle.audit_rounds.specs.code.Remaining.{IsRemaining}
-use Rattle.audit_rounds.proofs.Cuts.{some_of}
-use Rattle.audit_rounds.proofs.Jobs.{all-map}
+use Rattle.audit_rounds.proofs.Alike.{some_of}
 use Rattle.audit_rounds.proofs.Plans.{shown-at}
 
 -- the parts of a settled round hold the sum of each block
@@ -97,7 +81,7 @@ module _ (connections : List Block) (stops : List (Option ℕ)) (found : List (V
   each-block n d l = (is-remaining n d None l (omega arith)).is_block
 
   pub each-fits : All (BlockFits connection_start) (wholes connections)
-  each-fits = all-map (BlockFits connection_start) items_in connections
+  each-fits = All-map (BlockFits connection_start) items_in connections
       (λ n d l. (is-remaining n d None l (omega arith)).fits)
 
   pub each-place : All IsStop stops

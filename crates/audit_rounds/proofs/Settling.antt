@@ -1,38 +1,21 @@
 -- The round over blocks need not go past the stop.
-use Rattle.std.proofs.Common.{◌≡◌, ℕ, ◌+◌, ◌*◌, ◌^◌, ◌<◌, ◌≤◌, ◌&&◌, Bool, true, false, nat_lt, List, [], ◌∷◌, ◌++◌}
-use Rattle.std.proofs.Common.{filter, refl, sym, ap, subst, ◌∙◌, arith, append_assoc, append-nil, ◌⊎◌, inl, inr}
-use Rattle.std.proofs.Common.{Contains, Option, Some, None, lt-ltb, ltb-true}
-use Rattle.std.proofs.lemmas.List.{map-append}
+use Rattle.audit_rounds.proofs.Words.{◌≡◌, ℕ, ◌+◌, ◌*◌, ◌^◌, ◌<◌, ◌≤◌, ◌&&◌, Bool, true, false, nat_lt, List, [], ◌∷◌}
+use Rattle.audit_rounds.proofs.Words.{◌++◌, filter, refl, sym, ap, subst, ◌∙◌, arith, append_assoc, append-nil, ◌⊎◌}
+use Rattle.audit_rounds.proofs.Words.{inl, inr, Contains, Option, Some, None, map-append, ConnectionState, Finding}
+use Rattle.audit_rounds.proofs.Words.{Frame, Change, Item, connection_start, connection_after_all, block_run, in_order}
+use Rattle.audit_rounds.proofs.Words.{upto_stop, is_shown, shown, is_headers, IsOrderly, IsOrderlyFrom, settings_run}
+use Rattle.audit_rounds.proofs.Words.{changes_of, local_run, is_past, pass, streams_of, place_number, joined, AreFrom}
+use Rattle.audit_rounds.proofs.Words.{item_with, items_with, change_at, StopsAt, IsLeast, IsPast, contains-none}
+use Rattle.audit_rounds.proofs.Words.{contains-cases, shown-append, openings_of, streams_shown, blocks_shown}
+use Rattle.audit_rounds.proofs.Words.{AgreeWithin, IsAfterStreams, frames_within}
+use Rattle.std.proofs.Common.{lt-ltb, ltb-true}
 use Rattle.std.proofs.lemmas.List.Sorted.{IsPermutation-refl}
-use Rattle.audit_terms.specs.declared.connections.ConnectionState.{ConnectionState}
-use Rattle.audit_terms.specs.declared.findings.Finding.{Finding}
-use Rattle.audit_terms.specs.declared.frames.Frame.{Frame}
-use Rattle.audit_terms.specs.declared.items.Change.{Change}
-use Rattle.audit_terms.specs.declared.items.Item.{Item}
-use Rattle.audit_terms.specs.Connection.{connection_start, connection_said, connection_after}
-use Rattle.audit_terms.specs.code.runs.Blocks.{connection_after_all, block_run}
-use Rattle.audit_terms.specs.Finding.{in_order, upto_stop, is_shown, shown}
-use Rattle.audit_terms.specs.Frame.{is_headers}
-use Rattle.audit_terms.specs.code.runs.Orderly.{IsOrderly, IsOrderlyFrom}
-use Rattle.audit_terms.specs.code.runs.Changes.{settings_run, changes_of}
-use Rattle.audit_terms.specs.code.runs.LocalFaults.{local_run}
-use Rattle.audit_terms.specs.code.runs.Look.{is_past}
-use Rattle.audit_terms.specs.Pass.{pass, streams_of}
 use Rattle.audit_terms.specs.code.runs.States.{items_of}
-use Rattle.audit_terms.specs.Place.{place_number}
 use Rattle.audit_terms.proofs.FindingOrder.{in_order-append_comm, in_order-alike}
-use Rattle.audit_core.specs.laws.Parts.{joined}
-use Rattle.audit_terms.proofs.SaidPlaces.{AreFrom, at-connection, at-in_order, from-at, from-from, from-append}
-use Rattle.conn_scan.specs.code.Items.{item_with, items_with, change_at}
-use Rattle.stop_desk.specs.code.Board.{StopsAt, IsLeast, IsPast}
 use Rattle.stop_desk.proofs.RoundCuts.{stops_join_lem}
-use Rattle.stop_desk.proofs.RoundMembers.{contains-none, contains-cases}
 use Rattle.stop_desk.proofs.RoundMerge.{cut-all}
-use Rattle.split_merge.proofs.ShownMerge.{shown-append}
-use Rattle.audit_rounds.specs.code.Openings.{openings_of}
-use Rattle.audit_rounds.specs.code.Shown.{streams_shown, blocks_shown}
 use Rattle.audit_rounds.specs.laws.Settling.{blocks_within, RoundsSettle}
-use Rattle.audit_rounds.specs.code.Within.{AgreeWithin, IsAfterStreams, frames_within}
+use Rattle.audit_rounds.proofs.Jobs.{run-from}
 use Rattle.audit_rounds.proofs.Items.{items_are_found_lem}
 use Rattle.audit_rounds.proofs.Parts.{orderly-filter}
 use Rattle.audit_rounds.proofs.Rounds.{rounds_make_pass_lem}
@@ -107,17 +90,6 @@ past-orderly place low (frame ∷ frames) h = by_test _ refl (past-orderly place
 
 -- ---- what blocks of them show
 
--- findings stand at their frames
-from-block_run : (low : ℕ) (now : ConnectionState) (opened : List ℕ) (changes : List Change) (frames : List Frame) →
-    IsOrderlyFrom low frames → AreFrom low (block_run now (items_with opened changes frames))
-from-block_run low now opened changes [] h = tt
-from-block_run low now opened changes (frame ∷ frames) h =
-    let item : Item = item_with opened changes frame in
-    from-append low (in_order (connection_said now item)) _
-    (from-at low frame.number _ h.0 (at-in_order frame.number _ (at-connection now item h.1)).within)
-    (from-from low (frame.number + 1) _ (omega arith)
-    (from-block_run (frame.number + 1) (connection_after now item) opened changes frames h.2))
-
 from-shown : (c : Bool) (low : ℕ) (xs : List Finding) → AreFrom low xs → AreFrom low (shown c xs)
 from-shown c low [] h = tt
 from-shown c low (x ∷ xs) h = by_test _ refl (from-shown c low xs h.1) where
@@ -146,7 +118,7 @@ past-shown c None now opened changes frames h found k =
 past-shown c (Some place) now opened changes frames h found k =
     let from : (place_number place + 1) * 2 ^ 36 ≤ found.place =
     from-contains (place_number place + 1) _ found (from-shown c (place_number place + 1) _
-    (from-block_run (place_number place + 1) now opened changes (frames_past (Some place) frames)
+    (run-from now (place_number place + 1) opened changes (frames_past (Some place) frames)
     (past-orderly place 0 frames h))) k in
     omega arith
 

@@ -1,27 +1,31 @@
 -- What a job of the round over streams has to find and to tell.
-use Rattle.std.proofs.Common.{◌≡◌, ℕ, ◌-◌, ◌<◌, Bool, List, [], take, drop, length, map, get_or, All, Option, Some}
-use Rattle.std.proofs.Common.{slice_get, sym, ap, ◌∙◌, subst}
-use Rattle.std.proofs.lemmas.Option.{slice_get-get_or, get_or_from_slice_get}
-use Rattle.std.proofs.lemmas.List.Elements.{All-take, All-drop}
-use Rattle.std.specs.Option.{option_map_or}
-use Rattle.audit_terms.specs.declared.findings.Finding.{Finding}
-use Rattle.audit_terms.specs.code.runs.Look.{Asked}
-use Rattle.split_merge.specs.declared.splits.StreamRow.{StreamRow}
-use Rattle.stop_desk.specs.code.Board.{Job, IsCut}
-use Rattle.audit_rounds.specs.declared.streams.Streams.{Streams}
-use Rattle.audit_rounds.specs.declared.stream_plan.StreamJob.{StreamJob}
-use Rattle.audit_rounds.specs.code.Streams.{IsRow, AreOpenedUpTo, RowsLook, rows_shown, rows_opened}
-use Rattle.audit_rounds.specs.code.StreamJobs.{IsReady, JobLooks, Makes, job_of, of_rows}
+use Rattle.audit_rounds.proofs.Words.{◌≡◌, ℕ, ◌-◌, ◌<◌, ◌≤◌, arith, Bool, List, [], take, drop, length, map, get_or}
+use Rattle.audit_rounds.proofs.Words.{All, Option, Some, slice_get, sym, ap, ◌∙◌, subst, slice_get-get_or}
+use Rattle.audit_rounds.proofs.Words.{get_or_from_slice_get, All-take, All-drop, option_map_or, Finding, Asked}
+use Rattle.audit_rounds.proofs.Words.{StreamRow, Job, IsCut, Streams, StreamJob, IsRow, AreOpenedUpTo, RowsLook}
+use Rattle.audit_rounds.proofs.Words.{rows_shown, rows_opened, length-map, IsJobOf, IsReady, job_of, of_rows}
+use Rattle.audit_rounds.specs.code.StreamJobs.{JobLooks, Makes}
 use Rattle.audit_rounds.proofs.Jobs.{job-is}
 
 -- the rows of a job
 abbrev pub rows_in : StreamJob → List StreamRow → List StreamRow
 rows_in job rows = take (job.to - job.from) (drop job.from rows)
 
-module _ (connections : List Streams) (plan : List StreamJob) (number : ℕ) (d : StreamJob) (streams : Streams)
-    (rows : List StreamRow)
-    (within : (get_or plan number d).connection < length connections)
+module _ (credits_shown : Bool) (connections : List Streams) (plan : List StreamJob) (number : ℕ) (d : StreamJob)
+    (planned : All (IsJobOf connections) plan) (inside : number < length (map (job_of credits_shown connections) plan))
+  where
+    -- the job is in the plan
+    pub job-planned : IsJobOf connections (get_or plan number d)
+    job-planned = let long = length-map plan (job_of credits_shown connections) in
+        planned number d (omega (arith, inside, long))
+
+module _ (credits_shown : Bool) (connections : List Streams) (plan : List StreamJob) (number : ℕ) (d : StreamJob)
+    (planned : All (IsJobOf connections) plan) (inside : number < length (map (job_of credits_shown connections) plan))
+    (streams : Streams) (rows : List StreamRow)
     (same : rows ≡ (get_or connections (get_or plan number d).connection streams).split.now.rows.items) where
+  within : (get_or plan number d).connection < length connections
+  within = (job-planned credits_shown connections plan number d planned inside).connection
+
   of-rows : {X : Type 0} (said : Streams → List StreamRow → List X)
       → said (get_or connections (get_or plan number d).connection streams) (rows_in (get_or plan number d) rows)
       ≡ of_rows said connections (get_or plan number d)
@@ -34,12 +38,12 @@ module _ (connections : List Streams) (plan : List StreamJob) (number : ℕ) (d 
       (sym (slice_get-get_or connections job.connection streams within))
 
   -- what a run of the rows kept is a cut of the job
-  pub job-cut : (credits_shown : Bool) (one : Job) (upto : Option ℕ) (kept : List Finding)
+  pub job-cut : (one : Job) (upto : Option ℕ) (kept : List Finding)
       → slice_get (map (job_of credits_shown connections) plan) number ≡ Some one
       → IsCut (rows_shown credits_shown (get_or connections (get_or plan number d).connection streams)
       (rows_in (get_or plan number d) rows)) upto kept
       → IsCut one.findings upto kept
-  job-cut credits_shown one upto kept is cut =
+  job-cut one upto kept is cut =
       subst (λ (whole : List Finding). IsCut whole upto kept)
       (of-rows (rows_shown credits_shown)
       ∙ sym (ap (λ (job : Job). job.findings) (job-is (job_of credits_shown connections) plan number one d is))) cut
@@ -55,11 +59,11 @@ module _ (connections : List Streams) (plan : List StreamJob) (number : ℕ) (d 
       ∙ ap (of_rows rows_opened connections) (get_or_from_slice_get plan number job d is)) opens
 
   -- the looks of the rows are those of the job
-  pub job-looks : (credits_shown : Bool) (asked : List Asked) (upto : Option ℕ)
+  pub job-looks : (asked : List Asked) (upto : Option ℕ)
       → RowsLook credits_shown (get_or connections (get_or plan number d).connection streams)
       (rows_in (get_or plan number d) rows) asked upto
       → JobLooks credits_shown connections plan number asked upto
-  job-looks credits_shown asked upto looks job mine is there =
+  job-looks asked upto looks job mine is there =
       let same_job : job ≡ get_or plan number d = sym (get_or_from_slice_get plan number job d is) in
       let at = subst (λ (one : StreamJob). slice_get connections one.connection ≡ Some mine) same_job there in
       let same_streams : get_or connections (get_or plan number d).connection streams ≡ mine =
@@ -72,6 +76,11 @@ module _ (connections : List Streams) (plan : List StreamJob) (number : ℕ) (d 
       (subst (λ (rows : List StreamRow). RowsLook credits_shown
       (get_or connections (get_or plan number d).connection streams) (rows_in (get_or plan number d) rows) asked upto)
       same looks))
+
+  -- it ends within the rows
+  pub job-ends : (get_or plan number d).to ≤ length rows
+  job-ends = rw same ((job-planned credits_shown connections plan number d planned inside).within _
+      (slice_get-get_or connections (get_or plan number d).connection streams within))
 
   -- its rows may be gone through
   pub job-rows : All IsReady connections

@@ -1,22 +1,14 @@
 -- What a stream shows by itself stands in order.
-use Rattle.std.proofs.Common.{◌≡◌, ℕ, ◌+◌, ◌^◌, ◌<◌, ◌≤◌, ◌==◌, nat_lt, Bool, true, false, List, [], ◌∷◌, map, refl, ap}
-use Rattle.std.proofs.Common.{◌∙◌, arith}
-use Rattle.std.proofs.lemmas.Bool.Decides.{nat_tests}
-use Rattle.audit_terms.specs.declared.sides.Sides.{Sides}
-use Rattle.audit_terms.specs.declared.frames.Frame.{Frame}
-use Rattle.audit_terms.specs.declared.items.Change.{Change}
-use Rattle.audit_terms.specs.declared.items.Step.{Step}
-use Rattle.audit_terms.specs.declared.streams.Stream.{Stream}
-use Rattle.audit_terms.specs.Finding.{comes_after, in_order, shown}
-use Rattle.audit_terms.specs.code.runs.Orderly.{IsOrderly, IsOrderlyFrom}
-use Rattle.audit_terms.specs.InForce.{initial_in_force}
-use Rattle.audit_terms.specs.code.runs.Streams.{frame_step, with_change, steps_of, stream_run}
-use Rattle.audit_terms.specs.Stream.{idle_stream, stream_after, stream_said}
-use Rattle.audit_terms.specs.code.runs.Streams.{initial_after, stream_run_from}
-use Rattle.audit_terms.proofs.OrderedLists.{IsInOrder, in_order-ordered, in_order-append, ordered-in_order}
-use Rattle.audit_terms.proofs.FindingOrder.{comes_after_is}
-use Rattle.audit_terms.proofs.SaidPlaces.{AreFrom, at-in_order, at-stream, from-append, from-at, from-from, precedes-at}
-use Rattle.split_merge.proofs.ShownMerge.{in_order-shown}
+use Rattle.audit_rounds.proofs.Words.{◌≡◌, ℕ, ◌+◌, ◌^◌, ◌<◌, ◌≤◌, ◌==◌, nat_lt, Bool, true, false, List, [], ◌∷◌, map}
+use Rattle.audit_rounds.proofs.Words.{refl, ap, ◌∙◌, arith, nat_tests, Sides, Frame, Change, Step, Stream, comes_after}
+use Rattle.audit_rounds.proofs.Words.{in_order, shown, IsOrderly, IsOrderlyFrom, initial_in_force, stream_run}
+use Rattle.audit_rounds.proofs.Words.{idle_stream, stream_after, stream_said, initial_after, in_order-ordered}
+use Rattle.audit_rounds.proofs.Words.{in_order-append, ordered-in_order, comes_after_is, AreFrom, at-in_order}
+use Rattle.audit_rounds.proofs.Words.{from-append, from-at, from-from, precedes-at, in_order-shown}
+use Rattle.audit_terms.specs.code.runs.Streams.{frame_step, with_change, steps_of}
+use Rattle.audit_terms.specs.code.runs.Streams.{stream_run_from}
+use Rattle.audit_terms.proofs.OrderedLists.{IsInOrder}
+use Rattle.audit_terms.proofs.SaidPlaces.{at-stream}
 
 -- each number above the one before it, the first `low` or above
 abbrev RiseFrom : (low : ℕ) → List Step → Type 0

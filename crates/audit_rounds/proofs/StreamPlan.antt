@@ -1,12 +1,8 @@
 -- The plan of the round over streams, one connection after the other.
-use Rattle.std.proofs.Common.{◌≡◌, ℕ, ◌+◌, ◌<◌, ◌≤◌, List, ◌++◌, length, get_or, map, drop, append_assoc, append-nil}
-use Rattle.std.proofs.Common.{sym, ap, ◌∙◌}
+use Rattle.audit_rounds.proofs.Words.{◌≡◌, ℕ, ◌+◌, ◌<◌, ◌≤◌, List, ◌++◌, length, get_or, map, drop, append_assoc}
+use Rattle.audit_rounds.proofs.Words.{append-nil, sym, ap, ◌∙◌, drop-next, groups, Streams, StreamJob, job_at}
+use Rattle.audit_rounds.proofs.Words.{plan_from}
 use Rattle.std.proofs.lemmas.List.{drop_all}
-use Rattle.audit_core.proofs.OrderlyRest.{drop-next}
-use Rattle.split_merge.specs.code.Groups.{groups}
-use Rattle.audit_rounds.specs.declared.streams.Streams.{Streams}
-use Rattle.audit_rounds.specs.declared.stream_plan.StreamJob.{StreamJob}
-use Rattle.audit_rounds.specs.code.StreamJobs.{job_at, plan_from}
 
 -- the jobs of one connection more
 pub plan-more : (count n : ℕ) (all : List Streams) (d : Streams) (before after plan : List StreamJob)

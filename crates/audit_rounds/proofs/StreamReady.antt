@@ -1,14 +1,7 @@
 -- Connections that are prepared have streams that are ready.
-use Rattle.std.proofs.Common.{ℕ, suc, ◌+◌, ◌*◌, ◌≤◌, ◌==◌, not, Bool, true, false, if◌then◌else◌, List, [], ◌∷◌, length}
-use Rattle.std.proofs.Common.{filter, ap, arith}
-use Rattle.std.proofs.lemmas.List.{length-map}
-use Rattle.audit_terms.specs.declared.frames.Frame.{Frame}
-use Rattle.audit_terms.specs.declared.items.Change.{Change}
-use Rattle.audit_terms.specs.Frame.{promised_by}
-use Rattle.audit_terms.specs.Pass.{first_of, streams_of}
-use Rattle.split_merge.specs.declared.splits.StreamRow.{StreamRow}
-use Rattle.split_merge.specs.declared.splits.SplitFrames.{SplitFrames}
-use Rattle.split_merge.specs.code.Split.{IsSplit}
+use Rattle.audit_rounds.proofs.Words.{ℕ, suc, ◌+◌, ◌*◌, ◌≤◌, ◌==◌, not, Bool, true, false, if◌then◌else◌, List, [], ◌∷◌}
+use Rattle.audit_rounds.proofs.Words.{length, filter, ap, arith, length-map, Frame, Change, promised_by, first_of}
+use Rattle.audit_rounds.proofs.Words.{streams_of, StreamRow, SplitFrames, IsSplit}
 
 length-filter : (test : ℕ → Bool) (xs : List ℕ) → length (filter test xs) ≤ length xs
 length-filter test [] = omega arith

@@ -1,53 +1,34 @@
 -- The round over streams: its plan, and what its jobs find and open of each connection.
-use Rattle.std.proofs.Common.{◌≡◌, ℕ, zero, suc, ◌+◌, ◌*◌, ◌-◌, ◌^◌, ◌<◌, ◌≤◌, ◌==◌, Bool, true, false, not}
-use Rattle.std.proofs.Common.{if◌then◌else◌, List, [], ◌∷◌, ◌++◌, length, map, filter, flat_map, get_or, slice_get, All}
-use Rattle.std.proofs.Common.{Option, Some, None, refl, sym, ap, ◌∙◌, subst, arith, append-nil, Vec, Global}
-use Rattle.std.specs.Option.{option_map_or, option_to_list}
-use Rattle.std.specs.List.{AllZip, between}
-use Rattle.std.proofs.lemmas.Bool.Decides.{nat_tests}
-use Rattle.std.proofs.lemmas.Grind.{flat_map-append}
-use Rattle.std.proofs.lemmas.List.Elements.{All-nil, All-cons, All-head, All-tail, All-append, All-map, All-weaker}
-use Rattle.std.proofs.lemmas.List.Elements.{All-contains}
-use Rattle.std.proofs.lemmas.Option.{none-some, same_Some, slice_get_within, get_or_from_slice_get}
-use borrow.Author.Tests.{eq-eqb}
-use Rattle.audit_terms.specs.declared.frames.Frame.{Frame}
-use Rattle.audit_terms.specs.declared.findings.Finding.{Finding}
-use Rattle.audit_terms.specs.declared.items.Change.{Change}
-use Rattle.audit_terms.specs.declared.sides.Sides.{Sides}
-use Rattle.audit_terms.specs.Finding.{in_order, shown}
-use Rattle.audit_terms.specs.code.runs.Orderly.{IsOrderly, IsOrderlyFrom}
-use Rattle.audit_terms.specs.InForce.{InForce, in_force_after, initial_in_force, settings_said}
-use Rattle.audit_terms.specs.code.runs.Changes.{changes_of, settings_run, settings_run_from}
-use Rattle.audit_terms.specs.LocalFault.{local_said, no_previous, previous_after}
-use Rattle.audit_terms.specs.code.runs.LocalFaults.{local_run, local_run_from}
-use Rattle.audit_terms.specs.Pass.{streams_of}
-use Rattle.audit_terms.specs.code.runs.Streams.{frames_of, stream_at_end, stream_run}
-use Rattle.audit_terms.specs.Sides.{side_of}
-use Rattle.audit_core.proofs.OrderlyRest.{length-orderly}
-use Rattle.audit_terms.proofs.SaidPlaces.{AreAt, AreWithin, at-in_order, at-local, at-settings}
+use Rattle.audit_rounds.proofs.Words.{◌≡◌, ℕ, zero, suc, ◌+◌, ◌*◌, ◌-◌, ◌^◌, ◌<◌, ◌≤◌, ◌==◌, Bool, true, false, not}
+use Rattle.audit_rounds.proofs.Words.{if◌then◌else◌, List, [], ◌∷◌, ◌++◌, length, map, filter, flat_map, get_or}
+use Rattle.audit_rounds.proofs.Words.{slice_get, All, Option, Some, None, refl, sym, ap, ◌∙◌, subst, arith, append-nil}
+use Rattle.audit_rounds.proofs.Words.{Vec, Global, option_map_or, option_to_list, AllZip, flat_map-append, All-nil}
+use Rattle.audit_rounds.proofs.Words.{All-head, All-tail, All-append, All-map, All-contains, slice_get_within}
+use Rattle.audit_rounds.proofs.Words.{get_or_from_slice_get, eq-eqb, Frame, Finding, Change, Sides, in_order, shown}
+use Rattle.audit_rounds.proofs.Words.{IsOrderly, IsOrderlyFrom, InForce, in_force_after, initial_in_force}
+use Rattle.audit_rounds.proofs.Words.{settings_said, changes_of, settings_run, settings_run_from, local_said}
+use Rattle.audit_rounds.proofs.Words.{no_previous, previous_after, local_run, local_run_from, streams_of, frames_of}
+use Rattle.audit_rounds.proofs.Words.{stream_at_end, stream_run, side_of, length-orderly, at-in_order, AreOrderly}
+use Rattle.audit_rounds.proofs.Words.{AreAcknowledged, SplitFrames, StreamRow, Job, findings_of_jobs, groups, IsSplit}
+use Rattle.audit_rounds.proofs.Words.{frames_at, IsStop, Prepared, Streams, StreamJob, IsPrepared, found_before}
+use Rattle.audit_rounds.proofs.Words.{IsReady, IsJobOf, job_of, job_at, of_rows, plan_from, IsFirstStop, IsStreamsOf}
+use Rattle.audit_rounds.proofs.Words.{IsRow, rows_opened, openings_of, streams_shown, AgreeWithin}
+use Rattle.std.specs.List.{between}
+use Rattle.std.proofs.lemmas.List.Elements.{All-cons, All-weaker}
+use Rattle.std.proofs.lemmas.Option.{none-some, same_Some}
+use Rattle.audit_rounds.proofs.Alike.{differ, differ_back}
+use Rattle.audit_terms.proofs.SaidPlaces.{AreAt, AreWithin, at-local, at-settings}
 use Rattle.audit_core.proofs.PassOrder.{AreStreams as Are31Bits, streams-streams_of}
-use Rattle.settings_pair.specs.code.Changes.{AreOrderly, AreAcknowledged}
-use Rattle.split_merge.specs.declared.splits.SplitFrames.{SplitFrames}
-use Rattle.split_merge.specs.declared.splits.StreamRow.{StreamRow}
-use Rattle.stop_desk.specs.code.Board.{Job, findings_of_jobs}
-use Rattle.split_merge.specs.code.Groups.{groups, AreConsecutive}
-use Rattle.split_merge.specs.code.Split.{IsSplit, frames_at, opening_of, part_of}
+use Rattle.split_merge.specs.code.Groups.{AreConsecutive}
+use Rattle.split_merge.specs.code.Split.{opening_of, part_of}
 use Rattle.split_merge.proofs.GroupRanges.{groups-consecutive, groups-joined}
-use Rattle.stop_desk.specs.code.Stop.{IsPlace, IsStop, past_places}
-use Rattle.audit_rounds.specs.declared.prepared.Prepared.{Prepared}
-use Rattle.audit_rounds.specs.declared.streams.Streams.{Streams}
-use Rattle.audit_rounds.specs.declared.stream_plan.StreamJob.{StreamJob}
-use Rattle.audit_rounds.specs.code.Prepared.{IsPrepared, found_before}
-use Rattle.audit_rounds.specs.code.StreamJobs.{IsReady, IsJobOf, job_of, job_at, of_rows, plan_from}
-use Rattle.audit_rounds.specs.code.StreamRound.{IsFirstStop, IsStreamsOf}
-use Rattle.audit_rounds.specs.code.Streams.{IsRow, row_frames, rows_opened, shown_of}
-use Rattle.audit_rounds.specs.code.Openings.{openings_of}
-use Rattle.audit_rounds.specs.code.Shown.{streams_shown}
-use Rattle.audit_rounds.specs.code.Within.{AgreeWithin}
+use Rattle.stop_desk.specs.code.Stop.{IsPlace, past_places}
+use Rattle.audit_rounds.specs.code.Streams.{row_frames, shown_of}
 use Rattle.audit_rounds.proofs.Parts.{orderly-frames_of, acknowledged-frames_of}
 use Rattle.audit_rounds.proofs.StreamReady.{length-rows}
 use Rattle.audit_rounds.proofs.Told.{agree-parted}
-use Rattle.audit_rounds.proofs.Whole.{flat_map-map}
+use Rattle.std.proofs.lemmas.List.Folds.{flat_map-map}
+use Rattle.audit_rounds.proofs.Alike.{items_in, all-alike}
 pub use Rattle.std.proofs.lemmas.Slice.Zip.{AllZip-long as zip-length}
 
 -- ---- lists of which each goes with the other's
@@ -179,13 +160,9 @@ ready-one : (credits_shown : Bool) (connection : Prepared) (streams : Streams) �
 ready-one credits_shown connection streams p is =
     let orderly = subst IsOrderly (sym is.frames) p.orderly in
     let acknowledged : AreAcknowledged streams.frames.now streams.changes.now =
-    subst (λ (frames : List Frame). AreAcknowledged frames streams.changes.now) (sym is.frames)
-    (subst (AreAcknowledged connection.frames.now) (sym is.changes) p.acknowledged) in
+    rw (is.frames, is.changes) p.acknowledged in
     let split : IsSplit credits_shown streams.changes.now streams.frames.now streams.split.now =
-    subst (λ (frames : List Frame). IsSplit credits_shown streams.changes.now frames streams.split.now) (sym is.frames)
-    (subst (λ (changes : List Change). IsSplit credits_shown changes connection.frames.now streams.split.now)
-    (sym is.changes)
-    (subst (IsSplit credits_shown connection.changes.items connection.frames.now) (sym is.split) p.split)) in
+    rw (is.frames, is.changes, is.split) p.split in
     record {
       changes = subst AreOrderly (sym is.changes) p.changes_orderly;
       rows = rows-are streams orderly acknowledged credits_shown split;
@@ -201,12 +178,6 @@ ready-each credits_shown connections streams p is =
 
 abbrev of_connection : {X : Type 0} → (StreamJob → List X) → (connection : ℕ) → StreamJob → List X
 of_connection said connection job = if job.connection == connection then said job else []
-
-differ : (m n : ℕ) → n < m → (m == n) ≡ false
-differ m n h = grind (arith, nat_tests)
-
-differ_back : (m n : ℕ) → m < n → (m == n) ≡ false
-differ_back m n h = grind (arith, nat_tests)
 
 module _ {X : Type 0} (said : StreamJob → List X) (n : ℕ) where
   of-own : (ranges : List (ℕ × ℕ)) → flat_map (of_connection said n) (map (job_at n) ranges)
@@ -232,7 +203,7 @@ module _ {X : Type 0} (said : StreamJob → List X) (n : ℕ) where
       let ranges = groups_of count one in
       let later = plan_from count (at + 1) rest in
       flat_map-append (of_connection said n) (map (job_at at) ranges) later
-      ∙ ap (λ l. l ++ flat_map (of_connection said n) later) (of-other at ranges (differ at n h))
+      ∙ ap (λ l. l ++ flat_map (of_connection said n) later) (of-other at ranges (differ_back n at h))
       ∙ none-later count (at + 1) rest (omega (arith, h))
 
   -- what is said of the jobs of one connection is said of its groups
@@ -253,7 +224,7 @@ module _ {X : Type 0} (said : StreamJob → List X) (n : ℕ) where
       let ranges = groups_of count one in
       let later = plan_from count (at + 1) rest in
       flat_map-append (of_connection said n) (map (job_at at) ranges) later
-      ∙ ap (λ r. r ++ flat_map (of_connection said n) later) (of-other at ranges (differ_back at n (omega (arith, e))))
+      ∙ ap (λ r. r ++ flat_map (of_connection said n) later) (of-other at ranges (differ at n (omega (arith, e))))
       ∙ of-plan count (at + 1) k rest d (omega (arith, l)) (omega (arith, e))
 
 -- what is joined twice
@@ -409,8 +380,8 @@ pub jobs-of : (credits_shown : Bool) (count : ℕ) (connections : List Prepared)
     → findings_of_jobs n (map (job_of credits_shown streams) (plan_from count 0 streams))
     ≡ streams_shown credits_shown one.frames.now
 jobs-of credits_shown count connections streams h p is n one e =
-    sym (flat_map-map (λ (job : Job). if job.connection == n then job.findings else []) (job_of credits_shown streams)
-    (plan_from count 0 streams))
+    flat_map-map (λ (job : Job). if job.connection == n then job.findings else []) (job_of credits_shown streams)
+    (plan_from count 0 streams)
     ∙ of-streams credits_shown (λ stream frames changes. shown credits_shown (stream_run stream frames changes)) count
     connections streams h p is n one e
     ∙ rows-shown credits_shown one (prepared-at credits_shown connections p n one e)
@@ -473,11 +444,6 @@ stop-place found None h is = tt
 stop-place found (Some place) h is =
     subst IsPlace is.0.3 (All-contains IsBelow found is.0.0 h is.0.1)
 
-all-unmap : {X Y : Type 0} (P : Y → Type 0) (f : X → Y) (xs : List X) → All P (map f xs) → All (λ x. P (f x)) xs
-all-unmap P f [] h = All-nil (λ x. P (f x))
-all-unmap P f (x ∷ xs) h =
-    All-cons (λ x. P (f x)) x xs (All-head P (f x) (map f xs) h) (all-unmap P f xs (All-tail P (f x) (map f xs) h))
-
 pub stops-are-places : (credits_shown : Bool) (connections : List Prepared) (found : List (Vec Finding Global))
     (stops : List (Option ℕ)) → All (IsPrepared credits_shown) connections
     → map (λ (one : Vec Finding Global). one.items) found ≡ map found_before connections
@@ -487,9 +453,7 @@ stops-are-places credits_shown connections found stops p e is =
     zip-all (λ (one : Vec Finding Global). All IsBelow one.items)
     (λ (one : Vec Finding Global) (stop : Option ℕ). IsFirstStop one.items stop) IsStop
     (λ one stop h first. stop-place one.items stop h first) found stops
-    (all-unmap (All IsBelow) (λ (one : Vec Finding Global). one.items) found
-    (subst (All (All IsBelow)) (sym e)
-    (All-map (All IsBelow) found_before connections
+    (all-alike items_in found_before (All IsBelow) found connections e
     (All-weaker (IsPrepared credits_shown) (λ connection. All IsBelow (found_before connection))
-    (before-below credits_shown) connections p))))
+    (before-below credits_shown) connections p))
     is

@@ -1,89 +1,29 @@
 -- What is made of one stream, and of several.
-use Rattle.std.proofs.Common.{◌≡◌, ℕ, ◌+◌, ◌-◌, ◌^◌, ◌<◌, ◌≤◌, ◌==◌, ◌⊎◌, inl, inr, min, nat_le, leb-true, leb-false}
-use Rattle.std.proofs.Common.{Bool, true, false, ◌||◌, if◌then◌else◌, List, [], ◌∷◌, ◌++◌, All, Contains, get_or, take}
-use Rattle.std.proofs.Common.{drop, flat_map, append-nil, append_assoc, length, Option, Some, None, refl, sym, ap}
-use Rattle.std.proofs.Common.{subst, ◌∙◌, arith, true≢false}
-use Rattle.std.specs.Option.{option_to_list}
-use Rattle.std.specs.List.{list_any}
-use Rattle.std.proofs.Math.Seq.{take-add}
-use Rattle.std.proofs.lemmas.List.{take_more}
-use Rattle.std.proofs.lemmas.Grind.{flat_map-append}
-use Rattle.audit_core.proofs.OrderlyRest.{drop-next}
-use Rattle.std.proofs.lemmas.List.Folds.{list_any-append}
-use Rattle.std.proofs.lemmas.List.Elements.{All-contains, All-contains_itself, All-append, All-nil}
-use Rattle.std.proofs.lemmas.List.Elements.{Contains-append_left, Contains-append_right}
-use borrow.Author.Tests.{eqb-true, ltb-true, ltb-false}
-use Rattle.audit_terms.specs.declared.findings.Finding.{Finding}
-use Rattle.audit_terms.specs.Finding.{in_order}
-use Rattle.audit_terms.specs.code.runs.Look.{Asked, Looked, last_answer, LooksInTime, is_past, up_to, upto_of, IsRun}
-use Rattle.audit_terms.specs.Place.{place_number}
-use Rattle.stream_credit.specs.code.Looks.{opened_up_to}
-use Rattle.stop_desk.specs.code.Board.{IsPast, IsCut}
-use Rattle.stop_desk.proofs.RoundMembers.{contains-here, contains-later, in_order-contains}
-use Rattle.stop_desk.proofs.RoundCuts.{front_is_cut_lem, whole_is_cut_lem, cuts_join_lem}
-use Rattle.stop_desk.specs.code.Heeding.{Heeds, RunLooks}
-use Rattle.std.specs.Prelude.{Result, Ok, Err, IfOk}
-use Rattle.audit_terms.specs.declared.frames.Frame.{Frame}
-use Rattle.audit_terms.specs.code.runs.Orderly.{IsOrderly}
-use Rattle.audit_terms.specs.Finding.{shown}
-use Rattle.audit_terms.specs.code.runs.Streams.{stream_run, stream_at_end}
+use Rattle.audit_rounds.proofs.Words.{◌≡◌, ℕ, ◌+◌, ◌-◌, ◌^◌, ◌<◌, ◌≤◌, ◌⊎◌, inl, inr, min, nat_le, leb-true, leb-false}
+use Rattle.audit_rounds.proofs.Words.{Bool, true, false, List, [], ◌∷◌, ◌++◌, All, Contains, get_or, take, flat_map}
+use Rattle.audit_rounds.proofs.Words.{append-nil, append_assoc, length, Option, Some, None, refl, sym, ap, subst, ◌∙◌}
+use Rattle.audit_rounds.proofs.Words.{arith, option_to_list, take_more, flat_map-append, All-contains, All-append}
+use Rattle.audit_rounds.proofs.Words.{All-nil, Contains-append_left, ltb-true, ltb-false, Finding, in_order, Asked}
+use Rattle.audit_rounds.proofs.Words.{is_past, IsRun, place_number, opened_up_to, IsPast, whole_is_cut_lem, Heeds}
+use Rattle.audit_rounds.proofs.Words.{RunLooks, Result, Ok, Err, IfOk, Frame, IsOrderly, shown, stream_run}
+use Rattle.audit_rounds.proofs.Words.{stream_at_end, StreamRow, frames_at, Streams, lesser, AreOpenedUpTo, IsWork}
+use Rattle.audit_rounds.proofs.Words.{IsRow, RowsLook, row_shown, row_opened}
+use Rattle.std.proofs.lemmas.List.Elements.{All-contains_itself}
+use Rattle.std.proofs.lemmas.List.Elements.{Contains-append_right}
+use Rattle.audit_terms.specs.code.runs.Look.{Looked}
+use Rattle.stop_desk.proofs.RoundMembers.{in_order-contains}
+use Rattle.stop_desk.proofs.RoundCuts.{cuts_join_lem}
 use Rattle.stream_credit.specs.declared.parts.StreamRun.{StreamRun}
 use Rattle.stream_credit.specs.code.Looks.{step_numbers}
-use Rattle.split_merge.specs.declared.splits.StreamRow.{StreamRow}
-use Rattle.split_merge.specs.code.Split.{frames_at, part_of}
-use Rattle.audit_rounds.specs.declared.streams.Streams.{Streams}
-use Rattle.audit_rounds.specs.code.Streams.{lesser, AreOpenedUpTo, IsWork, IsRow, RowLooks, RowsLook, row_shown}
-use Rattle.audit_rounds.specs.code.Streams.{row_opened}
+use Rattle.split_merge.specs.code.Split.{part_of}
+use Rattle.audit_rounds.specs.code.Streams.{RowLooks}
+use Rattle.audit_rounds.proofs.Jobs.{run-heeds, upto-cut}
+use Rattle.audit_rounds.proofs.Told.{agree-append, agree-opened}
 use Rattle.audit_rounds.proofs.StreamOrder.{shown-ordered}
 
 -- ---- one stream
 
-cut-of : (whole kept : List Finding) (upto : Option ℕ) → in_order whole ≡ whole → kept ≡ up_to upto whole
-    → IsCut whole upto kept
-cut-of whole kept None o e = subst (IsCut whole None) (sym e) (whole_is_cut_lem whole None o)
-cut-of whole kept (Some place) o e = subst (IsCut whole (Some place)) (sym e) (front_is_cut_lem whole place o)
-
-opens-up_to : (upto opened : Option ℕ)
-    → AreOpenedUpTo upto (option_to_list (opened_up_to upto opened)) (option_to_list opened)
-opens-up_to upto None number h = refl
-opens-up_to upto (Some m) number h = by_test _ refl where
-  other : (b : Bool) → is_past upto m ≡ true → (m == number) ≡ b → false ≡ (b || false)
-  other true e q = absurd (true≢false (sym e ∙ ap (is_past upto) (eqb-true m number q) ∙ h))
-  other false e q = refl
-
-  by_test : (b : Bool) → is_past upto m ≡ b
-      → list_any (λ one. one == number) (option_to_list (if b then None else Some m)) ≡ ((m == number) || false)
-  by_test false e = refl
-  by_test true e = other (m == number) e refl
-
-last-asked : (one : Asked) (rest : List Asked) (place : ℕ) → last_answer one.answer rest ≡ Some place
-    → (asked : Asked) × Contains (one ∷ rest) asked × (asked.answer ≡ Some place)
-last-asked one [] place e = (one, contains-here one [], e)
-last-asked one (two ∷ rest) place e =
-    let found = last-asked two rest place e in
-    (found.0, contains-later one (two ∷ rest) found.0 found.1, found.2)
-
-chosen : (b : Bool) (stop : Option ℕ) (place : ℕ) → (if b then stop else None) ≡ Some place → stop ≡ Some place
-chosen true stop place e = e
-chosen false stop place e = cc
-
 module _ {L : Type 0} (answers : L → List Finding → Option ℕ → L → Type 0) where
-  heeds-run : (before after : L) (numbers : List ℕ) (whole kept : List Finding) (upto last_look : Option ℕ)
-      (looks : ℕ) → IsRun answers before after numbers whole kept upto last_look looks
-      → Heeds answers (RunLooks numbers whole) before after upto
-  heeds-run before after numbers whole kept upto last_look looks run = record {
-    asked = run.asked;
-    looked = run.looked;
-    in_time = (run.in_time, run.goes ∙ sym (ap (upto_of numbers) run.last));
-    answered = λ place e.
-        answered run.asked run.in_time place
-        (run.last ∙ chosen (list_any (is_past last_look) numbers) last_look place (sym run.goes ∙ e));
-  } where
-    answered : (asked : List Asked) → LooksInTime numbers whole asked → (place : ℕ)
-        → last_answer None asked ≡ Some place → (one : Asked) × Contains asked one × (one.answer ≡ Some place)
-    answered [] t place e = absurd t
-    answered (one ∷ rest) t place e = last-asked one rest place e
-
   -- a run of a stream is its work
   pub work-of_run : (before after : L) (numbers : List ℕ) (whole kept : List Finding) (upto last_look : Option ℕ)
       (looks : ℕ) (opening opened : Option ℕ) → in_order whole ≡ whole
@@ -92,11 +32,11 @@ module _ {L : Type 0} (answers : L → List Finding → Option ℕ → L → Typ
       → IsWork answers (RunLooks numbers whole) before after whole (option_to_list opening) upto kept
       (option_to_list opened)
   work-of_run before after numbers whole kept upto last_look looks opening opened o run e n = record {
-    cut = cut-of whole kept upto o run.found;
+    cut = upto-cut whole kept upto o run.found;
     opens = subst (λ l. AreOpenedUpTo upto (option_to_list l) (option_to_list opening)) (sym e)
-        (opens-up_to upto opening);
+        (agree-opened upto opening);
     numbered = n;
-    looks = heeds-run before after numbers whole kept upto last_look looks run;
+    looks = run-heeds answers before after numbers whole kept upto last_look looks run;
   }
 
 -- ---- several
@@ -125,26 +65,23 @@ not_past a b number l h = by_test _ refl where
   by_test false e = refl
 
 -- what lies up to the lesser place lies up to each
-pub within-one : (one other : Option ℕ) (number : ℕ) → is_past (lesser one other) number ≡ false
+within-one : (one other : Option ℕ) (number : ℕ) → is_past (lesser one other) number ≡ false
     → is_past one number ≡ false
 within-one None other number h = refl
 within-one (Some a) None number h = h
 within-one (Some a) (Some b) number h = not_past (min a b) a number (omega arith) h
 
-pub within-other : (one other : Option ℕ) (number : ℕ) → is_past (lesser one other) number ≡ false
+within-other : (one other : Option ℕ) (number : ℕ) → is_past (lesser one other) number ≡ false
     → is_past other number ≡ false
 within-other None other number h = h
 within-other (Some a) None number h = refl
 within-other (Some a) (Some b) number h = not_past (min a b) b number (omega arith) h
 
-pub opens-join : (one other : Option ℕ) (opened opened' all all' : List ℕ) → AreOpenedUpTo one opened all
+opens-join : (one other : Option ℕ) (opened opened' all all' : List ℕ) → AreOpenedUpTo one opened all
     → AreOpenedUpTo other opened' all' → AreOpenedUpTo (lesser one other) (opened ++ opened') (all ++ all')
-opens-join one other opened opened' all all' p q number h =
-    let test = λ (x : ℕ). x == number in
-    list_any-append test opened opened'
-    ∙ ap (λ b. b || list_any test opened') (p number (within-one one other number h))
-    ∙ ap (λ b. list_any test all || b) (q number (within-other one other number h))
-    ∙ sym (list_any-append test all all')
+opens-join one other opened opened' all all' p q =
+    agree-append (lesser one other) opened all opened' all' (λ number h. p number (within-one one other number h))
+    (λ number h. q number (within-other one other number h))
 
 all-in_order : (P : Finding → Type 0) (xs : List Finding) → All P xs → All P (in_order xs)
 all-in_order P xs h k d l =
@@ -333,16 +270,11 @@ module _ {L : Type 0} (answers : L → List Finding → Option ℕ → L → Typ
       → whole ≡ whole' → all ≡ all' → upto ≡ upto' → kept ≡ kept' → opened ≡ opened'
       → IsWork answers due a b whole all upto kept opened → IsWork answers due a b whole' all' upto' kept' opened'
   same-work whole whole' kept kept' all all' opened opened' upto upto' p q r s t h =
-      subst (λ x. IsWork answers due a b x all' upto' kept' opened') p
-      (subst (λ x. IsWork answers due a b whole x upto' kept' opened') q
-      (subst (λ x. IsWork answers due a b whole all x kept' opened') r
-      (subst (λ x. IsWork answers due a b whole all upto x opened') s
-      (subst (λ x. IsWork answers due a b whole all upto kept x) t h))))
+      rw (p, q, r, s, t) at h
 
 -- one more of those whose lists are joined
 pub flat_map-more : {X Y : Type 0} (f : X → List Y) (xs : List X) (at : ℕ) (d : X) → at < length xs
     → flat_map f (take at xs) ++ f (get_or xs at d) ≡ flat_map f (take (at + 1) xs)
 flat_map-more f xs at d l =
-    sym (ap (flat_map f) (take-add at 1 xs) ∙ flat_map-append f (take at xs) (take 1 (drop at xs))
-    ∙ ap (λ r. flat_map f (take at xs) ++ flat_map f (take 1 r)) (drop-next xs at d l)
+    sym (ap (flat_map f) (take_more xs at d l) ∙ flat_map-append f (take at xs) (get_or xs at d ∷ [])
     ∙ ap (λ r. flat_map f (take at xs) ++ r) (append-nil (f (get_or xs at d))))

@@ -1,33 +1,18 @@
 -- What a settled round over streams leaves of each connection.
-use Rattle.std.proofs.Common.{◌≡◌, ℕ, zero, suc, ◌<◌, ◌≤◌, ◌==◌, if◌then◌else◌, Bool, true, false, eqb-true, List, []}
-use Rattle.std.proofs.Common.{◌∷◌, ◌++◌, length, map, flat_map, get_or, slice_get, All, Option, Some, None, refl, sym}
-use Rattle.std.proofs.Common.{ap, ◌∙◌, subst, arith, Vec, Global}
-use Rattle.std.specs.List.{AllZip}
-use Rattle.std.proofs.lemmas.List.{length-map, get_or-map, get_or_default}
-use Rattle.std.proofs.lemmas.Option.{slice_get_within, slice_get-get_or, get_or_from_slice_get}
-use Rattle.std.proofs.lemmas.Slice.Zip.{AllZip-long}
-use Rattle.audit_terms.specs.declared.findings.Finding.{Finding}
-use Rattle.audit_terms.specs.Finding.{in_order, upto_stop}
-use Rattle.audit_terms.specs.Pass.{streams_of}
-use Rattle.stop_desk.specs.code.Board.{Job, StopsAt, IsLeast, stop_of, findings_of_jobs, findings_of_parts}
+use Rattle.audit_rounds.proofs.Words.{◌≡◌, ℕ, zero, suc, ◌<◌, ◌≤◌, ◌==◌, if◌then◌else◌, Bool, true, false, List, []}
+use Rattle.audit_rounds.proofs.Words.{◌∷◌, ◌++◌, length, map, flat_map, get_or, slice_get, All, Option, Some, None}
+use Rattle.audit_rounds.proofs.Words.{refl, sym, ap, ◌∙◌, subst, arith, Vec, Global, AllZip, length-map, get_or-map}
+use Rattle.audit_rounds.proofs.Words.{get_or_default, slice_get_within, slice_get-get_or, get_or_from_slice_get}
+use Rattle.audit_rounds.proofs.Words.{AllZip-long, Finding, in_order, upto_stop, streams_of, Job, StopsAt, IsLeast}
+use Rattle.audit_rounds.proofs.Words.{findings_of_jobs, findings_of_parts, board_merges_lem, Part, Settled, part_of}
+use Rattle.audit_rounds.proofs.Words.{Prepared, Streams, StreamJob, openings_of, streams_shown, Reaches, AgreeWithin}
+use Rattle.audit_rounds.proofs.Words.{IsAfterStreams, AreAfterStreams, HaveSettled, numbers_told, IsInOrder, IsPrepared}
+use Rattle.audit_rounds.proofs.Words.{found_before, job_of, of_rows, plan_from, IsFirstStop, IsStreamsOf, rows_opened}
+use Rattle.std.proofs.Common.{eqb-true}
+use Rattle.stop_desk.specs.code.Board.{stop_of}
 use Rattle.stop_desk.specs.laws.Rounds.{Merges}
-use Rattle.stop_desk.proofs.RoundMerge.{board_merges_lem}
-use Rattle.stop_desk.specs.declared.parts.Part.{Part}
-use Rattle.stop_desk.specs.declared.settling.Settled.{Settled}
-use Rattle.stop_desk.specs.code.Laid.{part_of, board_with}
-use Rattle.audit_rounds.specs.declared.prepared.Prepared.{Prepared}
-use Rattle.audit_rounds.specs.declared.streams.Streams.{Streams}
-use Rattle.audit_rounds.specs.declared.stream_plan.StreamJob.{StreamJob}
-use Rattle.audit_rounds.specs.code.Openings.{openings_of}
-use Rattle.audit_rounds.specs.code.Shown.{streams_shown}
-use Rattle.audit_rounds.specs.laws.Settling.{Reaches}
-use Rattle.audit_rounds.specs.code.Within.{AgreeWithin, IsAfterStreams}
-use Rattle.audit_rounds.specs.code.AfterStreams.{AreAfterStreams, HaveSettled}
-use Rattle.audit_rounds.specs.code.Opened.{numbers_told, IsInOrder}
-use Rattle.audit_rounds.specs.code.Prepared.{IsPrepared, found_before}
-use Rattle.audit_rounds.specs.code.StreamJobs.{job_of, of_rows, plan_from}
-use Rattle.audit_rounds.specs.code.StreamRound.{IsFirstStop, IsStreamsOf}
-use Rattle.audit_rounds.specs.code.Streams.{rows_opened}
+use Rattle.stop_desk.specs.code.Laid.{board_with}
+use Rattle.audit_rounds.proofs.Alike.{items_in, as-many}
 use Rattle.audit_rounds.proofs.Jobs.{job-is}
 use Rattle.audit_rounds.proofs.Settles.{parts-within}
 use Rattle.audit_rounds.proofs.StreamRounds.{jobs-of, jobs-within, openings-of, prepared-at, openings-all}
@@ -49,14 +34,6 @@ both-at R [] ys n d e h l = absurd (omega (arith, l))
 both-at R (x ∷ xs) [] n d e h l = absurd h
 both-at R (x ∷ xs) (y ∷ ys) zero d e h l = h.0
 both-at R (x ∷ xs) (y ∷ ys) (suc n) d e h l = both-at R xs ys n d e h.1 (omega (arith, l))
-
--- what was found before is of each connection
-pub as-many : (connections : List Prepared) (found : List (Vec Finding Global))
-    → map (λ (one : Vec Finding Global). one.items) found ≡ map found_before connections
-    → length found ≡ length connections
-as-many connections found before =
-    sym (length-map found (λ (one : Vec Finding Global). one.items)) ∙ ap length before
-    ∙ length-map connections found_before
 
 -- ---- what the parts tell of openings
 
@@ -207,7 +184,7 @@ module _ (credits_shown : Bool) (count : ℕ) (streams : List Streams) (opening 
       → IsInOrder (numbers_told n parts ++ (get_or connections n connection).split.opened.items)
       (get_or opened n list).items) where
     founds : length found ≡ length connections
-    founds = as-many connections found before
+    founds = as-many items_in found_before found connections before
 
     stops-number : length stops ≡ length found
     stops-number = h.connections ∙ AllZip-long _ found opening first

@@ -1,23 +1,14 @@
 -- Openings as runs tell them that went up to some place.
-use Rattle.std.proofs.Common.{◌≡◌, ℕ, suc, ◌≤◌, ◌==◌, ◌||◌, Bool, true, false, All, List, [], ◌∷◌, ◌++◌, not, map}
-use Rattle.std.proofs.Common.{filter, refl, sym, ap, ◌∙◌, arith, Option, Some, None, le-ltb, ltb-false, true≢false}
-use Rattle.std.specs.Option.{option_to_list}
-use Rattle.std.specs.List.{list_any}
-use Rattle.std.specs.List.Sorted.{IsPermutation}
-use Rattle.std.proofs.lemmas.Grind.{flat_map-append}
-use Rattle.std.proofs.lemmas.List.Folds.{list_any-append}
-use Rattle.std.proofs.lemmas.List.Sorted.{list_any-IsPermutation, IsPermutation-filter_both}
-use borrow.Author.Tests.{eqb-true}
-use Rattle.audit_terms.specs.declared.frames.Frame.{Frame}
-use Rattle.audit_terms.specs.code.runs.Changes.{changes_of}
-use Rattle.audit_terms.specs.code.runs.Look.{is_past}
-use Rattle.audit_terms.specs.Pass.{streams_of}
-use Rattle.audit_terms.specs.Place.{place_number}
-use Rattle.audit_terms.specs.code.runs.Streams.{frames_of, stream_at_end}
-use Rattle.stream_credit.specs.code.Looks.{opened_up_to}
-use Rattle.audit_rounds.specs.code.Openings.{opening_of, openings_of}
-use Rattle.audit_rounds.specs.laws.Settling.{RunUpto, openings_told, Reaches, OpeningsAreTold}
-use Rattle.audit_rounds.specs.code.Within.{AgreeWithin}
+use Rattle.audit_rounds.proofs.Words.{◌≡◌, ℕ, suc, ◌≤◌, ◌==◌, ◌||◌, Bool, true, false, All, List, [], ◌∷◌, ◌++◌, not}
+use Rattle.audit_rounds.proofs.Words.{map, filter, refl, sym, ap, ◌∙◌, arith, Option, Some, None, true≢false}
+use Rattle.audit_rounds.proofs.Words.{option_to_list, list_any, IsPermutation, flat_map-append, list_any-append}
+use Rattle.audit_rounds.proofs.Words.{list_any-IsPermutation, eqb-true, Frame, changes_of, is_past, streams_of}
+use Rattle.audit_rounds.proofs.Words.{place_number, frames_of, stream_at_end, opened_up_to, openings_of, Reaches}
+use Rattle.audit_rounds.proofs.Words.{AgreeWithin}
+use Rattle.std.proofs.Common.{le-ltb, ltb-false}
+use Rattle.std.proofs.lemmas.List.Sorted.{IsPermutation-filter_both}
+use Rattle.audit_rounds.specs.code.Openings.{opening_of}
+use Rattle.audit_rounds.specs.laws.Settling.{RunUpto, openings_told, OpeningsAreTold}
 
 -- ---- lists that agree
 

@@ -1,22 +1,14 @@
 -- One connection, from its parts.
-use Rattle.std.proofs.Common.{◌≡◌, ℕ, suc, pos, ◌+◌, ◌*◌, ◌-◌, ◌^◌, ◌<◌, ◌≤◌, List, [], ◌∷◌, ◌++◌, map, flat_map}
-use Rattle.std.proofs.Common.{length, refl, sym, ap, ◌∙◌, subst, arith, Bool, true, false, nat_lt, true≢false}
-use Rattle.std.specs.Prelude.{Result, Ok, Err, IfOk}
+use Rattle.audit_rounds.proofs.Words.{◌≡◌, ℕ, suc, pos, ◌+◌, ◌*◌, ◌-◌, ◌^◌, ◌<◌, ◌≤◌, List, [], ◌∷◌, length, refl, sym}
+use Rattle.audit_rounds.proofs.Words.{ap, ◌∙◌, subst, arith, Bool, true, false, nat_lt, true≢false, Result, Ok, Err}
+use Rattle.audit_rounds.proofs.Words.{IfOk, ltb-true, ltb-false, ConnectionState, Frame, Item, connection_start}
+use Rattle.audit_rounds.proofs.Words.{IsOrderly, length-orderly, BlockFits, NeverFallFrom}
 use Rattle.std.specs.declared.cmp.Ordering.TheVariants.{Less}
 use Rattle.std.specs.Ordering.{nat_cmp, is_lt}
 use Rattle.std.specs.Cmp.{nat_cmp_is}
 use Rattle.std.specs.List.Sorted.{IsSorted}
-use borrow.Author.Tests.{ltb-true, ltb-false}
 use Rattle.std.proofs.lemmas.Int.{ints}
-use Rattle.audit_terms.specs.declared.connections.ConnectionState.{ConnectionState}
-use Rattle.audit_terms.specs.declared.frames.Frame.{Frame}
-use Rattle.audit_terms.specs.declared.items.Item.{Item}
 use Rattle.audit_terms.specs.code.Room.{HasRoom}
-use Rattle.audit_terms.specs.Connection.{connection_start}
-use Rattle.audit_terms.specs.code.runs.Orderly.{IsOrderly}
-use Rattle.audit_core.proofs.OrderlyRest.{length-orderly}
-use Rattle.conn_scan.specs.code.Block.{BlockFits}
-use Rattle.conn_scan.specs.code.Items.{NeverFallFrom}
 
 start-room : (n : ℕ) → n < 2 ^ 28 → HasRoom (2 ^ 60 - 2 ^ 32 * n) (pos 65535)
 start-room n l = (omega (arith, ints), omega (arith, ints))
@@ -29,11 +21,6 @@ start-fits frames items now h e s =
     let n : length items < 2 ^ 28 = omega arith in
     subst (λ state. BlockFits state items) (sym s)
     (record { number = omega arith; client = start-room (length items) n; server = start-room (length items) n })
-
-pub flat_map-map : {X Y Z : Type 0} (f : Y → List Z) (g : X → Y) (xs : List X)
-    → flat_map (λ x. f (g x)) xs ≡ flat_map f (map g xs)
-flat_map-map f g [] = refl
-flat_map-map f g (x ∷ xs) = ap (λ l. f (g x) ++ l) (flat_map-map f g xs)
 
 -- what follows for the value, where there is one
 pub if_ok-then : {X E : Type 0} (r : Result X E) (P Q : X → Type 0) → IfOk r P → ((x : X) → P x → Q x) → IfOk r Q

@@ -11,8 +11,8 @@ ghost use Rattle.audit_rounds.specs.code.Props.{ready-props};
 use crate::block_plans::ReadyBlock;
 use audit_terms::Look;
 use conn_scan::block_findings;
-use std::alloc::{AllocError, Global};
 use stop_desk::{Round, Work};
+use std::alloc::{AllocError, Global};
 
 /// Blocks to be gone through, each a job.
 #[derive(Drop)]

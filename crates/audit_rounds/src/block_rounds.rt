@@ -21,15 +21,15 @@ ghost use Rattle.audit_rounds.specs.code.Remaining.{IsRemaining};
 use crate::block_plans::{ReadyBlock, plan_of};
 use crate::block_round::BlockRound;
 use crate::blocks::{ConnectionBlock, cut_into_blocks};
-use crate::divisions::Division;
+use crate::crew::Crew;
 use crate::gathering::{gathered, none_of_each};
 use crate::merging::merged_each;
 use crate::sum_round::SumRound;
 use audit_terms::{Finding, Place};
 use conn_scan::{Block, ConnSum};
+use stop_desk::{Gate, Part, settle};
 use std::alloc::{AllocError, Global};
 use std::thread::Threads;
-use stop_desk::{Gate, Part, Team, settle};
 
 /// The number of the round in which blocks are summed.
 const SUM_ROUND: u8 = 2;
@@ -41,19 +41,12 @@ const BLOCK_ROUND: u8 = 3;
 fn summaries(alloc: Global, parts: Vec<Part<ConnSum>>) -> Result<Vec<ConnSum>, AllocError>
     ensures { IfOk result (λ sums. sums.items ≡ map (λ (part : PartTerm ConnSumTerm). part.made) parts.items) }
 {
-    let mut sums = Vec::with_capacity(alloc, parts.len())?;
-    for part in parts {
-        sums.push(part.made)?;
-    }
-    Ok(sums)
+    parts.into_iter().map(|part| part.made).collect(alloc)
 }
 
 /// The summary of each block.
 fn sums_of<R: Threads + Sync, G: Gate>(
-    rt: &R,
-    alloc: Global,
-    division: &Division,
-    gate: &G,
+    crew: &Crew<'_, R, G>,
     stops: &[Option<Place>],
     blocks: &[ConnectionBlock<'_>],
 ) -> Result<Vec<ConnSum>, AllocError>
@@ -64,23 +57,13 @@ fn sums_of<R: Threads + Sync, G: Gate>(
     ensures { IfOk result (λ sums. AreSums blocks.now sums.items) }
 {
     let round = SumRound { blocks };
-    let team = Team {
-        rt,
-        alloc,
-        workers: division.workers.max(1),
-        gate,
-    };
-    let settled = settle(&team, SUM_ROUND, stops, &round)?;
-    summaries(alloc, settled.parts)
+    let settled = settle(&crew.team(), SUM_ROUND, stops, &round)?;
+    summaries(crew.setup.alloc, settled.parts)
 }
 
 /// What the planned blocks show, each as far as its connection's stop has it.
 fn parts_of<R: Threads + Sync, G: Gate>(
-    rt: &R,
-    alloc: Global,
-    division: &Division,
-    gate: &G,
-    credits_shown: bool,
+    crew: &Crew<'_, R, G>,
     stops: &[Option<Place>],
     plan: &[ReadyBlock<'_>],
 ) -> Result<Vec<Part<()>>, AllocError>
@@ -88,30 +71,20 @@ fn parts_of<R: Threads + Sync, G: Gate>(
     requires ready { AreReady plan.now }
     requires few { length plan.now < 2 ^ 32 }
     requires within { All (λ (job : Job). job.connection < length stops.now)
-        (map (block_job credits_shown) plan.now) }
-    ensures { IfOk result (λ parts. AreParts (map (block_job credits_shown) plan.now) stops.now parts.items) }
+        (map (block_job crew.now.setup.credits_shown) plan.now) }
+    ensures { IfOk result (λ parts. AreParts (map (block_job crew.now.setup.credits_shown) plan.now) stops.now parts.items) }
 {
     let round = BlockRound {
         plan,
-        credits_shown,
+        credits_shown: crew.setup.credits_shown,
     };
-    let team = Team {
-        rt,
-        alloc,
-        workers: division.workers.max(1),
-        gate,
-    };
-    let settled = settle(&team, BLOCK_ROUND, stops, &round)?;
+    let settled = settle(&crew.team(), BLOCK_ROUND, stops, &round)?;
     Ok(settled.parts)
 }
 
 /// The blocks of all connections of which anything may be shown, each with the connection before it.
 fn planned<'a, R: Threads + Sync, G: Gate>(
-    rt: &R,
-    alloc: Global,
-    division: &Division,
-    gate: &G,
-    credits_shown: bool,
+    crew: &Crew<'_, R, G>,
     stops: &[Option<Place>],
     connections: &[Block<'a>],
 ) -> Result<Vec<ReadyBlock<'a>>, AllocError>
@@ -120,22 +93,23 @@ fn planned<'a, R: Threads + Sync, G: Gate>(
     requires whole { All IsBlock connections.now }
     requires fits { All (BlockFits connection_start) (wholes connections.now) }
     requires few { RestsAreFew connections.now }
-    ensures plan { IfOk result (λ plan. IsPlan credits_shown (length connections.now)
-        (shown_at credits_shown 0 (wholes connections.now)) plan.items) }
+    ensures plan { IfOk result (λ plan. IsPlan crew.now.setup.credits_shown (length connections.now)
+        (shown_at crew.now.setup.credits_shown 0 (wholes connections.now)) plan.items) }
     ensures few { IfOk result (λ plan. length plan.items < 2 ^ 32) }
 {
-    let cut = cut_into_blocks(alloc, division.block.max(1) as usize, connections)?;
-    let sums = sums_of(rt, alloc, division, gate, stops, cut.blocks.as_slice())?;
-    plan_of(alloc, credits_shown, &cut, sums.as_slice())
+    let cut = cut_into_blocks(crew.setup.alloc, crew.setup.block as usize, connections)?;
+    let sums = sums_of(crew, stops, cut.blocks.as_slice())?;
+    plan_of(
+        crew.setup.alloc,
+        crew.setup.credits_shown,
+        &cut,
+        sums.as_slice(),
+    )
 }
 
 /// What was found of each connection, and what its blocks show, up to where it is known to stop.
 pub(crate) fn rounds_over_blocks<R: Threads + Sync, G: Gate>(
-    rt: &R,
-    alloc: Global,
-    division: &Division,
-    gate: &G,
-    credits_shown: bool,
+    crew: &Crew<'_, R, G>,
     stops: &[Option<Place>],
     connections: &[Block<'_>],
     found: Vec<Vec<Finding>>,
@@ -150,13 +124,12 @@ pub(crate) fn rounds_over_blocks<R: Threads + Sync, G: Gate>(
     ensures findings { IfOk result (λ last. (n : ℕ) (whole list list' : _) → n < length connections.now
         → upto_stop (in_order (slice_index_or last.items n list).items)
         ≡ upto_stop (in_order ((slice_index_or found.items n list').items
-        ++ shown credits_shown (block_run connection_start
+        ++ shown crew.now.setup.credits_shown (block_run connection_start
         (items_in (slice_index_or connections.now n whole)))))) }
 {
-    let plan = planned(rt, alloc, division, gate, credits_shown, stops, connections)?;
-    let plan = plan.as_slice();
-    let parts = parts_of(rt, alloc, division, gate, credits_shown, stops, plan)?;
-    let none = none_of_each(alloc, connections.len())?;
+    let plan = planned(crew, stops, connections)?;
+    let parts = parts_of(crew, stops, plan.as_slice())?;
+    let none = none_of_each(crew.setup.alloc, connections.len())?;
     let own = gathered(none, parts)?;
-    merged_each(alloc, found, own)
+    merged_each(crew.setup.alloc, found, own)
 }

@@ -8,22 +8,20 @@ ghost use Rattle.audit_terms.specs.Finding.{in_order, upto_stop, shown};
 ghost use Rattle.audit_terms.specs.Pass.{pass};
 ghost use Rattle.audit_rounds.specs.code.Within.{frames_within};
 ghost use Rattle.audit_rounds.specs.code.MadeReady.{AreMadeReady};
-ghost use Rattle.audit_rounds.specs.code.Prepared.{IsPrepared, found_before};
 ghost use Rattle.audit_rounds.specs.code.Connections.{IsRest, AreRests};
-ghost use Rattle.audit_rounds.specs.code.Few.{AreFew, PreparedAreFew};
+ghost use Rattle.audit_rounds.specs.code.Batch.{AreReady, AreShown, IsBatch};
 
 use crate::block_rounds::rounds_over_blocks;
-use crate::divisions::Division;
+use crate::crew::Crew;
 use crate::framed::{spread, with_frames};
 use crate::prepared::{Prepared, prepare};
 use crate::stream_round::{AfterStreams, round_over_streams};
 use audit_terms::{Finding, Frame, Place};
 use conn_scan::Block;
+use stop_desk::Gate;
 use split_merge::merge;
 use std::alloc::{AllocError, Global};
 use std::thread::{Threads, join};
-use stop_desk::Gate;
-use table_hash::TableHash;
 
 /// Connections made ready, and what is found of each before the rounds.
 #[derive(Drop)]
@@ -32,148 +30,71 @@ struct MadeReady<'a> {
     found: Vec<Vec<Finding>>,
 }
 
-impl<'a> MadeReady<'a> {
-    /// No connection, with room for so many.
-    fn with_capacity(alloc: Global, connections: usize) -> Result<Self, AllocError>
-        ensures prepared { IfOk result (λ made. made.prepared.items ≡ []) }
-        ensures found { IfOk result (λ made. made.found.items ≡ []) }
-    {
-        let prepared = Vec::with_capacity(alloc, connections)?;
-        let found = Vec::with_capacity(alloc, connections)?;
-        Ok(MadeReady { prepared, found })
-    }
-
-    /// Adds a connection, of which this is found.
-    fn push(&mut self, ready: Prepared<'a>, before: Vec<Finding>) -> Result<(), AllocError>
-        ensures prepared { OnOk result (self.new.prepared.items ≡ self.old.prepared.items ++ ready.entry ∷ []) }
-        ensures found { OnOk result (self.new.found.items ≡ self.old.found.items ++ before ∷ []) }
-    {
-        self.prepared.push(ready)?;
-        self.found.push(before)?;
-        Ok(())
-    }
-
-    /// Adds other connections.
-    fn append(&mut self, more: &mut MadeReady<'a>) -> Result<(), AllocError>
-        ensures prepared { OnOk result (self.new.prepared.items ≡ self.old.prepared.items ++ more.old.prepared.items) }
-        ensures found { OnOk result (self.new.found.items ≡ self.old.found.items ++ more.old.found.items) }
-    {
-        self.prepared.append(&mut more.prepared)?;
-        self.found.append(&mut more.found)?;
-        Ok(())
-    }
-}
-
 /// What is shown of each connection of a batch. Those that have no frame go through no round.
 pub(crate) fn findings_of_batch<R: Threads + Sync, G: Gate>(
-    rt: &R,
-    alloc: Global,
-    division: &Division,
-    gate: &G,
-    credits_shown: bool,
+    crew: &Crew<'_, R, G>,
     connections: &[&[Frame]],
 ) -> Result<Vec<Vec<Finding>>, AllocError>
-    requires workers { 0 < division.now.workers }
-    requires groups { 0 < division.now.groups }
-    requires frames { All (λ frames. IsOrderly frames.now) connections.now }
-    requires few { AreFew connections.now }
-    ensures { IfOk result (λ found. map (λ one. one.items) found.items
-        ≡ map (λ frames. shown credits_shown (pass frames.now)) connections.now) }
+    requires { IsBatch connections.now }
+    ensures { IfOk result (λ found. AreShown crew.now.setup.credits_shown connections.now found.items) }
 {
-    let framed = with_frames(alloc, connections)?;
-    let found = findings_of_framed(rt, alloc, division, gate, credits_shown, framed.as_slice())?;
-    spread(alloc, connections, found)
+    let framed = with_frames(crew.setup.alloc, connections)?;
+    let found = findings_of_framed(crew, framed.as_slice())?;
+    spread(crew.setup.alloc, connections, found)
 }
 
 /// What is shown of each of these connections, by the rounds.
 fn findings_of_framed<R: Threads + Sync, G: Gate>(
-    rt: &R,
-    alloc: Global,
-    division: &Division,
-    gate: &G,
-    credits_shown: bool,
+    crew: &Crew<'_, R, G>,
     connections: &[&[Frame]],
 ) -> Result<Vec<Vec<Finding>>, AllocError>
-    requires workers { 0 < division.now.workers }
-    requires groups { 0 < division.now.groups }
-    requires frames { All (λ frames. IsOrderly frames.now) connections.now }
-    requires few { AreFew connections.now }
-    ensures { IfOk result (λ found. map (λ one. one.items) found.items
-        ≡ map (λ frames. shown credits_shown (pass frames.now)) connections.now) }
+    requires { IsBatch connections.now }
+    ensures { IfOk result (λ found. AreShown crew.now.setup.credits_shown connections.now found.items) }
 {
-    let made = prepare_each(
-        rt,
-        alloc,
-        division.workers,
-        division.hash,
-        credits_shown,
-        connections,
-    )?;
+    let made = prepare_each(crew, connections)?;
     let MadeReady { prepared, found } = made;
-    let prepared = prepared.as_slice();
-    findings_of_prepared(rt, alloc, division, gate, credits_shown, prepared, found)
+    findings_of_prepared(crew, prepared.as_slice(), found)
 }
 
 /// What is shown of each connection, of which this was found before the rounds.
 fn findings_of_prepared<R: Threads + Sync, G: Gate>(
-    rt: &R,
-    alloc: Global,
-    division: &Division,
-    gate: &G,
-    credits_shown: bool,
+    crew: &Crew<'_, R, G>,
     connections: &[Prepared<'_>],
     found: Vec<Vec<Finding>>,
 ) -> Result<Vec<Vec<Finding>>, AllocError>
-    requires workers { 0 < division.now.workers }
-    requires groups { 0 < division.now.groups }
-    requires prepared { All (IsPrepared credits_shown) connections.now }
-    requires few { PreparedAreFew connections.now }
-    requires found { map (λ one. one.items) found.items ≡ map found_before connections.now }
+    requires { AreReady crew.now.setup.credits_shown connections.now found.items }
     ensures { IfOk result (λ found. map (λ one. one.items) found.items
-        ≡ map (λ one. shown credits_shown (pass one.frames.now)) connections.now) }
+        ≡ map (λ one. shown crew.now.setup.credits_shown (pass one.frames.now)) connections.now) }
 {
-    let after = round_over_streams(rt, alloc, division, gate, credits_shown, connections, found)?;
+    let after = round_over_streams(crew, connections, found)?;
     let AfterStreams {
         found,
         stops,
         opened,
     } = after;
     let stops = stops.as_slice();
-    let rests = rest_of_each(alloc, connections, stops, opened.as_slice())?;
-    let rests = rests.as_slice();
-    let last = rounds_over_blocks(
-        rt,
-        alloc,
-        division,
-        gate,
-        credits_shown,
-        stops,
-        rests,
-        found,
-    )?;
-    settled(alloc, last)
+    let rests = rest_of_each(crew.setup.alloc, connections, stops, opened.as_slice())?;
+    let last = rounds_over_blocks(crew, stops, rests.as_slice(), found)?;
+    settled(crew.setup.alloc, last)
 }
 
 /// Makes each connection ready, and answers what is found of each before the rounds.
-fn prepare_in_turn<'a, R: Threads + Sync>(
-    rt: &R,
-    alloc: Global,
-    workers: u32,
-    hash: TableHash,
-    credits_shown: bool,
+fn prepare_in_turn<'a, R: Threads + Sync, G: Gate>(
+    crew: &Crew<'_, R, G>,
     connections: &[&'a [Frame]],
 ) -> Result<MadeReady<'a>, AllocError>
-    requires workers { 0 < workers }
-    requires frames { All (λ frames. IsOrderly frames.now) connections.now }
-    ensures { IfOk result (λ made. AreMadeReady credits_shown connections.now made.prepared.items
+    requires { All (λ frames. IsOrderly frames.now) connections.now }
+    ensures { IfOk result (λ made. AreMadeReady crew.now.setup.credits_shown connections.now made.prepared.items
         made.found.items) }
 {
-    let mut made = MadeReady::with_capacity(alloc, connections.len())?;
+    let mut prepared = Vec::with_capacity(crew.setup.alloc, connections.len())?;
+    let mut found = Vec::with_capacity(crew.setup.alloc, connections.len())?;
     for frames in connections {
-        let (ready, before) = prepare(rt, alloc, workers, hash, credits_shown, *frames)?;
-        made.push(ready, before)?;
+        let (ready, before) = prepare(crew, *frames)?;
+        prepared.push(ready)?;
+        found.push(before)?;
     }
-    Ok(made)
+    Ok(MadeReady { prepared, found })
 }
 
 /// Where connections are halved: those before have about half of the frames.
@@ -197,41 +118,55 @@ pub(crate) fn middle(connections: &[&[Frame]]) -> usize
 
 /// Makes each connection ready, halves of them side by side where there are workers, and answers what is found of each
 /// before the rounds.
-fn prepare_each<'a, R: Threads + Sync>(
-    rt: &R,
-    alloc: Global,
-    workers: u32,
-    hash: TableHash,
-    credits_shown: bool,
+fn prepare_each<'a, R: Threads + Sync, G: Gate>(
+    crew: &Crew<'_, R, G>,
     connections: &[&'a [Frame]],
 ) -> Result<MadeReady<'a>, AllocError>
-    requires workers { 0 < workers }
-    requires frames { All (λ frames. IsOrderly frames.now) connections.now }
-    ensures { IfOk result (λ made. AreMadeReady credits_shown connections.now made.prepared.items
+    requires { All (λ frames. IsOrderly frames.now) connections.now }
+    ensures { IfOk result (λ made. AreMadeReady crew.now.setup.credits_shown connections.now made.prepared.items
         made.found.items) }
 {
-    if workers == 1 || connections.len() < 2 {
-        return prepare_in_turn(rt, alloc, workers, hash, credits_shown, connections);
+    if crew.setup.workers == 1 || connections.len() < 2 {
+        return prepare_in_turn(crew, connections);
     }
     let (front, back) = connections.split_at(middle(connections));
-    let half = workers / 2;
-    let rest = workers - half;
+    let (few, others) = crew.setup.halves();
+    let (rt, gate) = (crew.rt, crew.gate);
     let (one, other) = join(
         rt,
         || -> Result<MadeReady<'_>, AllocError>
-            requires { IsSync R.row × (0 < half) × All (λ frames. IsOrderly frames.now) front.now }
-            ensures { IfOk result (λ made. AreMadeReady credits_shown front.entry.now made.prepared.items
+            requires { IsSync R.row × IsSync G.row × All (λ frames. IsOrderly frames.now) front.now }
+            ensures { IfOk result (λ made. AreMadeReady few.credits_shown front.entry.now made.prepared.items
                 made.found.items) }
-        { prepare_each(rt, alloc, half, hash, credits_shown, front) },
+        {
+            prepare_each(
+                &Crew {
+                    rt,
+                    gate,
+                    setup: few,
+                },
+                front,
+            )
+        },
         || -> Result<MadeReady<'_>, AllocError>
-            requires { IsSync R.row × (0 < rest) × All (λ frames. IsOrderly frames.now) back.now }
-            ensures { IfOk result (λ made. AreMadeReady credits_shown back.entry.now made.prepared.items
+            requires { IsSync R.row × IsSync G.row × All (λ frames. IsOrderly frames.now) back.now }
+            ensures { IfOk result (λ made. AreMadeReady others.credits_shown back.entry.now made.prepared.items
                 made.found.items) }
-        { prepare_each(rt, alloc, rest, hash, credits_shown, back) },
+        {
+            prepare_each(
+                &Crew {
+                    rt,
+                    gate,
+                    setup: others,
+                },
+                back,
+            )
+        },
     );
     let mut made = one?;
     let mut more = other?;
-    made.append(&mut more)?;
+    made.prepared.append(&mut more.prepared)?;
+    made.found.append(&mut more.found)?;
     Ok(made)
 }
 

@@ -4,11 +4,12 @@ ghost use Rattle.audit_terms.specs.Finding.{shown};
 ghost use Rattle.audit_terms.specs.Pass.{pass};
 ghost use Rattle.audit_rounds.specs.code.Few.{AreFew};
 
+use crate::crew::{Crew, Setup};
 use crate::halves::findings_by_halves;
 use audit_terms::{Finding, Frame};
+use stop_desk::Gate;
 use std::alloc::{AllocError, Global};
 use std::thread::Threads;
-use stop_desk::Gate;
 use table_hash::TableHash;
 
 /// How an audit is divided. Whatever is chosen, the findings are the same.
@@ -27,22 +28,6 @@ pub struct Division {
 /// How many frames, and how many connections, are in a batch of more than one connection. What the rounds need beside
 /// the frames is there for one batch at a time, and so many frames are enough to keep all workers at work.
 const BATCH: usize = 1 << 22;
-
-impl Division {
-    /// The same division, with 1 for 0.
-    fn filled(&self) -> Division
-        ensures workers { 0 < result.workers }
-        ensures groups { 0 < result.groups }
-        ensures block { 0 < result.block }
-    {
-        Division {
-            workers: self.workers.max(1),
-            groups: self.groups.max(1),
-            block: self.block.max(1),
-            hash: self.hash,
-        }
-    }
-}
 
 /// How many connections make the next batch.
 fn batch_length(connections: &[&[Frame]]) -> usize
@@ -76,13 +61,14 @@ pub fn findings_of_each<R: Threads + Sync, G: Gate>(
     ensures { IfOk result (λ found. map (λ one. one.items) found.items
         ≡ map (λ frames. shown credits_shown (pass frames.now)) connections.now) }
 {
-    let division = division.filled();
+    let setup = Setup::of(alloc, division, credits_shown);
+    let crew = Crew { rt, gate, setup };
     let mut all = Vec::with_capacity(alloc, connections.len())?;
     let mut done = 0;
     while done < connections.len() {
         let (_, rest) = connections.split_at(done);
         let (batch, _) = rest.split_at(batch_length(rest));
-        let mut found = findings_by_halves(rt, alloc, &division, gate, credits_shown, batch)?;
+        let mut found = findings_by_halves(&crew, batch)?;
         all.append(&mut found)?;
         done += batch.len();
     }

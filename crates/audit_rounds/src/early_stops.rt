@@ -4,19 +4,17 @@
 ghost use Rattle.std.specs.Prelude.{◌≡◌, ◌<◌, All, IfOk, length, map};
 ghost use Rattle.std.specs.List.{zip};
 ghost use Rattle.audit_terms.specs.declared.findings.Finding.{Finding as FindingTerm};
-ghost use Rattle.audit_terms.specs.code.runs.Orderly.{IsOrderly};
 ghost use Rattle.audit_terms.specs.Finding.{shown};
 ghost use Rattle.audit_terms.specs.Pass.{pass};
 ghost use Rattle.audit_rounds.specs.code.EarlyStops.{chosen_of, front_of, has_stopped, later_of};
-ghost use Rattle.audit_rounds.specs.code.Few.{AreFew};
+ghost use Rattle.audit_rounds.specs.code.Batch.{AreShown, IsBatch};
 
 use crate::connections::findings_of_batch;
-use crate::divisions::Division;
+use crate::crew::Crew;
 use audit_terms::{Finding, Frame};
-use std::alloc::{AllocError, Global};
-use std::mem::swap;
-use std::thread::Threads;
 use stop_desk::Gate;
+use std::alloc::{AllocError, Global};
+use std::thread::Threads;
 
 /// Of so many frames and more a front is gone through first.
 const LONG: usize = 4_096;
@@ -41,12 +39,10 @@ fn fronts_of<'a>(alloc: Global, connections: &[&'a [Frame]]) -> Result<Vec<&'a [
     ensures { IfOk result (λ fronts. map (λ front. front.now) fronts.items
         ≡ map (λ frames. front_of frames.now) connections.now) }
 {
-    let mut fronts = Vec::with_capacity(alloc, connections.len())?;
-    for frames in connections {
-        let front = front_of(*frames);
-        fronts.extend_from_slice(&[front])?;
-    }
-    Ok(fronts)
+    connections
+        .iter()
+        .map(|frames| front_of(*frames))
+        .collect(alloc)
 }
 
 /// Does one of these findings stop the connection?
@@ -69,35 +65,40 @@ fn laters_of<'a>(
     connections: &[&'a [Frame]],
     early: &[Vec<Finding>],
 ) -> Result<Vec<&'a [Frame]>, AllocError>
-    requires { length early.now ≡ length connections.now }
     ensures { IfOk result (λ laters. map (λ later. later.now) laters.items
         ≡ map (λ one. later_of one.0.now one.1.items) (zip connections.now early.now)) }
 {
-    let mut laters = Vec::with_capacity(alloc, connections.len())?;
-    for n in 0..connections.len() {
-        let later = later_of(connections[n], early[n].as_slice());
-        laters.extend_from_slice(&[later])?;
-    }
-    Ok(laters)
+    connections
+        .iter()
+        .zip(early)
+        .map(|(frames, early)| later_of(*frames, early.as_slice()))
+        .collect(alloc)
 }
 
-/// Puts what a connection's front shows in place of what was found later, where the front ends it.
-fn choose(early: &mut Vec<Finding>, later: &mut Vec<Finding>)
-    ensures { later.new ≡ chosen_of (early.old, later.old) }
+/// What is shown of a connection, of whose front the first list was found, and the second later.
+fn choose(early: Vec<Finding>, later: Vec<Finding>) -> Vec<Finding>
+    ensures { result ≡ chosen_of (early, later) }
 {
     if has_stopped(early.as_slice()) {
-        swap(early, later);
+        early
+    } else {
+        later
     }
 }
 
 /// That of each connection.
-fn choose_each(early: &mut Vec<Vec<Finding>>, later: &mut Vec<Vec<Finding>>)
-    requires { length later.old.items ≡ length early.old.items }
-    ensures { later.new.items ≡ map chosen_of (zip early.old.items later.old.items) }
+fn choose_each(
+    alloc: Global,
+    early: Vec<Vec<Finding>>,
+    later: Vec<Vec<Finding>>,
+) -> Result<Vec<Vec<Finding>>, AllocError>
+    ensures { IfOk result (λ all. all.items ≡ map chosen_of (zip early.items later.items)) }
 {
-    for n in 0..later.len() {
-        choose(&mut early[n], &mut later[n]);
-    }
+    early
+        .into_iter()
+        .zip(later)
+        .map(|(early, later)| choose(early, later))
+        .collect(alloc)
 }
 
 /// Is a front gone through first of one of these connections?
@@ -105,78 +106,20 @@ fn is_one_long(connections: &[&[Frame]]) -> bool {
     connections.iter().any(|frames| frames.len() >= LONG)
 }
 
-/// What is shown of the front of each connection.
-fn findings_of_fronts<R: Threads + Sync, G: Gate>(
-    rt: &R,
-    alloc: Global,
-    division: &Division,
-    gate: &G,
-    credits_shown: bool,
-    connections: &[&[Frame]],
-) -> Result<Vec<Vec<Finding>>, AllocError>
-    requires workers { 0 < division.now.workers }
-    requires groups { 0 < division.now.groups }
-    requires frames { All (λ frames. IsOrderly frames.now) connections.now }
-    requires few { AreFew connections.now }
-    ensures { IfOk result (λ found. map (λ one. one.items) found.items
-        ≡ map (λ frames. shown credits_shown (pass (front_of frames.now))) connections.now) }
-{
-    let fronts = fronts_of(alloc, connections)?;
-    findings_of_batch(rt, alloc, division, gate, credits_shown, fronts.as_slice())
-}
-
-/// What is shown of the frames that are gone through later.
-fn findings_of_laters<R: Threads + Sync, G: Gate>(
-    rt: &R,
-    alloc: Global,
-    division: &Division,
-    gate: &G,
-    credits_shown: bool,
-    connections: &[&[Frame]],
-    early: &[Vec<Finding>],
-) -> Result<Vec<Vec<Finding>>, AllocError>
-    requires workers { 0 < division.now.workers }
-    requires groups { 0 < division.now.groups }
-    requires frames { All (λ frames. IsOrderly frames.now) connections.now }
-    requires few { AreFew connections.now }
-    requires early { length early.now ≡ length connections.now }
-    ensures { IfOk result (λ found. map (λ one. one.items) found.items
-        ≡ map (λ one. shown credits_shown (pass (later_of one.0.now one.1.items))) (zip connections.now early.now)) }
-{
-    let laters = laters_of(alloc, connections, early)?;
-    findings_of_batch(rt, alloc, division, gate, credits_shown, laters.as_slice())
-}
-
 /// What is shown of each connection of a batch. Where one is long, fronts are gone through first.
 pub(crate) fn findings_by_fronts<R: Threads + Sync, G: Gate>(
-    rt: &R,
-    alloc: Global,
-    division: &Division,
-    gate: &G,
-    credits_shown: bool,
+    crew: &Crew<'_, R, G>,
     connections: &[&[Frame]],
 ) -> Result<Vec<Vec<Finding>>, AllocError>
-    requires workers { 0 < division.now.workers }
-    requires groups { 0 < division.now.groups }
-    requires frames { All (λ frames. IsOrderly frames.now) connections.now }
-    requires few { AreFew connections.now }
-    ensures { IfOk result (λ found. map (λ one. one.items) found.items
-        ≡ map (λ frames. shown credits_shown (pass frames.now)) connections.now) }
+    requires { IsBatch connections.now }
+    ensures { IfOk result (λ found. AreShown crew.now.setup.credits_shown connections.now found.items) }
 {
     if !is_one_long(connections) {
-        return findings_of_batch(rt, alloc, division, gate, credits_shown, connections);
+        return findings_of_batch(crew, connections);
     }
-    let mut early = findings_of_fronts(rt, alloc, division, gate, credits_shown, connections)?;
-    let found = early.as_slice();
-    let mut later = findings_of_laters(
-        rt,
-        alloc,
-        division,
-        gate,
-        credits_shown,
-        connections,
-        found,
-    )?;
-    choose_each(&mut early, &mut later);
-    Ok(later)
+    let fronts = fronts_of(crew.setup.alloc, connections)?;
+    let early = findings_of_batch(crew, fronts.as_slice())?;
+    let laters = laters_of(crew.setup.alloc, connections, early.as_slice())?;
+    let later = findings_of_batch(crew, laters.as_slice())?;
+    choose_each(crew.setup.alloc, early, later)
 }

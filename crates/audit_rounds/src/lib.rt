@@ -49,6 +49,7 @@ mod block_round;
 mod block_rounds;
 mod blocks;
 mod connections;
+mod crew;
 mod divisions;
 mod early_stops;
 mod framed;

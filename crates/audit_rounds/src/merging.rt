@@ -1,6 +1,7 @@
 //! What two runs of findings show of each connection, merged.
 
-ghost use Rattle.std.specs.Prelude.{◌≡◌, ℕ, ◌++◌, ◌<◌, IfOk, length, not, slice_index_or};
+ghost use Rattle.std.specs.Prelude.{◌≡◌, ◌++◌, IfOk, map, not};
+ghost use Rattle.std.specs.List.{zip};
 ghost use Rattle.itertools.specs.List.{merge_by};
 ghost use Rattle.audit_terms.specs.Finding.{comes_after, in_order};
 
@@ -54,11 +55,8 @@ pub(crate) fn merged_each(
     found: Vec<Vec<Finding>>,
     more: Vec<Vec<Finding>>,
 ) -> Result<Vec<Vec<Finding>>, AllocError>
-    requires { length more.items ≡ length found.items }
-    ensures number { IfOk result (λ all. length all.items ≡ length found.items) }
-    ensures each { IfOk result (λ all. (n : ℕ) (list list' list'' : _) → n < length found.items
-        → (slice_index_or all.items n list).items
-        ≡ in_order ((slice_index_or found.items n list').items ++ (slice_index_or more.items n list'').items)) }
+    ensures { IfOk result (λ all. map (λ one. one.items) all.items
+        ≡ map (λ pair. in_order (pair.0.items ++ pair.1.items)) (zip found.items more.items)) }
 {
     let mut all = Vec::with_capacity(alloc, found.len())?;
     for pair in found.into_iter().zip(more) {

@@ -8,13 +8,14 @@ ghost use Rattle.settings_pair.specs.code.Changes.{AreOrderly, AreAcknowledged};
 ghost use Rattle.split_merge.specs.code.Split.{IsSplit};
 ghost use Rattle.audit_rounds.specs.code.Prepared.{IsPrepared, found_before};
 
+use crate::crew::Crew;
 use audit_terms::{Change, Finding, Frame};
 use fault_rules::local_faults;
+use stop_desk::Gate;
 use settings_pair::pair;
 use split_merge::{SplitFrames, split};
-use std::alloc::{AllocError, Global};
+use std::alloc::AllocError;
 use std::thread::{Threads, join};
-use table_hash::TableHash;
 
 /// The frames of a connection, with what its rounds need beside them.
 #[derive(Drop)]
@@ -30,33 +31,32 @@ pub(crate) struct Prepared<'a> {
 const MANY: usize = 4096;
 
 /// The faults of single frames, and the frames by stream: side by side, where there are many frames and workers.
-fn faults_and_split<R: Threads + Sync>(
-    rt: &R,
-    alloc: Global,
-    workers: u32,
-    hash: TableHash,
-    credits_shown: bool,
+fn faults_and_split<R: Threads + Sync, G: Gate>(
+    crew: &Crew<'_, R, G>,
     changes: &[Change],
     frames: &[Frame],
 ) -> (
     Result<Vec<Finding>, AllocError>,
     Result<SplitFrames, AllocError>,
 )
-    requires workers { 0 < workers }
     requires frames { IsOrderly frames.now }
     requires length { length frames.now < 2 ^ 28 }
     requires changes { AreOrderly changes.now }
     requires acknowledged { AreAcknowledged frames.now changes.now }
     ensures faults { IfOk result.0 (λ found. found.items ≡ local_run frames.now) }
-    ensures split { IfOk result.1 (IsSplit credits_shown changes.now frames.now) }
+    ensures split { IfOk result.1 (IsSplit crew.now.setup.credits_shown changes.now frames.now) }
 {
-    if workers == 1 || frames.len() < MANY {
+    let alloc = crew.setup.alloc;
+    let hash = crew.setup.hash;
+    let credits_shown = crew.setup.credits_shown;
+    let rt = crew.rt;
+    if crew.setup.workers == 1 || frames.len() < MANY {
         return (
             local_faults(rt, alloc, 1, frames),
             split(alloc, hash, credits_shown, changes, frames),
         );
     }
-    let others = workers as usize - 1;
+    let others = crew.setup.workers as usize - 1;
     join(
         rt,
         || -> Result<Vec<Finding>, AllocError>
@@ -73,23 +73,18 @@ fn faults_and_split<R: Threads + Sync>(
 
 /// Makes a connection ready by so many workers at most, and answers what is found of it before the rounds: the faults
 /// of its single frames, then its unmatched acknowledgements.
-pub(crate) fn prepare<'a, R: Threads + Sync>(
-    rt: &R,
-    alloc: Global,
-    workers: u32,
-    hash: TableHash,
-    credits_shown: bool,
+pub(crate) fn prepare<'a, R: Threads + Sync, G: Gate>(
+    crew: &Crew<'_, R, G>,
     frames: &'a [Frame],
 ) -> Result<(Prepared<'a>, Vec<Finding>), AllocError>
-    requires workers { 0 < workers }
     requires frames { IsOrderly frames.now }
     ensures frames { IfOk result (λ made. made.0.frames.now ≡ frames.now) }
-    ensures prepared { IfOk result (λ made. IsPrepared credits_shown made.0) }
+    ensures prepared { IfOk result (λ made. IsPrepared crew.now.setup.credits_shown made.0) }
     ensures found { IfOk result (λ made. made.1.items ≡ found_before made.0) }
 {
-    let mut pairs = pair(alloc, frames)?;
+    let mut pairs = pair(crew.setup.alloc, frames)?;
     let changes = pairs.changes.as_slice();
-    let (found, split) = faults_and_split(rt, alloc, workers, hash, credits_shown, changes, frames);
+    let (found, split) = faults_and_split(crew, changes, frames);
     let mut found = found?;
     let split = split?;
     found.append(&mut pairs.findings)?;

@@ -14,8 +14,8 @@ ghost use Rattle.audit_rounds.specs.code.Props.{short-props};
 use crate::blocks::ConnectionBlock;
 use audit_terms::{Look, Place};
 use conn_scan::{ConnSum, block_sum};
-use std::alloc::{AllocError, Global};
 use stop_desk::{Round, Work};
+use std::alloc::{AllocError, Global};
 
 /// Blocks to be summed, each a job.
 #[derive(Drop)]

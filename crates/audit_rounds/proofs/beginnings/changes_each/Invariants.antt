@@ -1,5 +1,4 @@
-use Rattle.std.proofs.Common.{◌≡◌, ◌++◌, drop}
-use Rattle.audit_rounds.specs.code.StreamRound.{changes_in}
+use Rattle.audit_rounds.proofs.Words.{◌≡◌, ◌++◌, drop, changes_in}
 use Rattle.audit_rounds.proofs.beginnings.changes_each.Given as goal
 
 -- those so far, with those to come, are all

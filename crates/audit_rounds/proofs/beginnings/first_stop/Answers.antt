@@ -1,6 +1,4 @@
-use Rattle.std.proofs.Common.{sym, ◌∙◌, subst, arith}
-use Rattle.std.proofs.lemmas.List.{take_all}
-use Rattle.audit_rounds.specs.code.StreamRound.{IsFirstStop}
+use Rattle.audit_rounds.proofs.Words.{sym, ◌∙◌, subst, arith, take_all, IsFirstStop}
 use Rattle.audit_rounds.proofs.Openers.{stop-none, stop-yes, stop-no}
 use Rattle.audit_rounds.proofs.beginnings.first_stop.Goals.{then-stops, else-stops}
 use Rattle.audit_rounds.proofs.beginnings.first_stop.Goals as goal

@@ -1,5 +1,4 @@
-use Rattle.std.proofs.Common.{take}
-use Rattle.audit_rounds.specs.code.StreamRound.{IsFirstStop}
+use Rattle.audit_rounds.proofs.Words.{take, IsFirstStop}
 use Rattle.audit_rounds.proofs.beginnings.first_stop.Given as goal
 
 -- the first error of the findings so far

@@ -1,5 +1,4 @@
-use Rattle.std.proofs.Common.{◌∙◌, ap, subst}
-use Rattle.audit_rounds.specs.code.StreamRound.{IsFirstStop}
+use Rattle.audit_rounds.proofs.Words.{◌∙◌, ap, subst, IsFirstStop}
 use Rattle.audit_rounds.proofs.Openers.{zip-more}
 use Rattle.audit_rounds.proofs.beginnings.opening_stops.Goals as goal
 

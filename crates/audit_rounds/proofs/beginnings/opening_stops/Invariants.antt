@@ -1,6 +1,4 @@
-use Rattle.std.proofs.Common.{take}
-use Rattle.std.specs.List.{AllZip}
-use Rattle.audit_rounds.specs.code.StreamRound.{IsFirstStop}
+use Rattle.audit_rounds.proofs.Words.{take, AllZip, IsFirstStop}
 use Rattle.audit_rounds.proofs.beginnings.opening_stops.Given as goal
 
 -- the stops of the connections so far

@@ -1,6 +1,4 @@
-use Rattle.std.proofs.Common.{ap}
-use Rattle.audit_rounds.specs.declared.prepared.Prepared.{Prepared}
-use Rattle.audit_rounds.specs.code.StreamRound.{IsStreamsOf}
+use Rattle.audit_rounds.proofs.Words.{ap, Prepared, IsStreamsOf}
 use Rattle.audit_rounds.proofs.Openers.{zip-more, got-changes}
 use Rattle.audit_rounds.proofs.beginnings.streams_each.Goals as goal
 

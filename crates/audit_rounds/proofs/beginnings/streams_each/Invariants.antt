@@ -1,6 +1,4 @@
-use Rattle.std.proofs.Common.{take}
-use Rattle.std.specs.List.{AllZip}
-use Rattle.audit_rounds.specs.code.StreamRound.{IsStreamsOf}
+use Rattle.audit_rounds.proofs.Words.{take, AllZip, IsStreamsOf}
 use Rattle.audit_rounds.proofs.beginnings.streams_each.Given as goal
 
 -- the streams of the connections so far

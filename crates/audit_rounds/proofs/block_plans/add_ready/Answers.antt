@@ -1,15 +1,10 @@
-use Rattle.std.proofs.Common.{◌≡◌, ◌+◌, ◌<◌, map, length, get_or, sym, ap, ◌∙◌, subst, arith, Vec, Global}
-use Rattle.std.proofs.lemmas.List.{length-map, length_push}
-use Rattle.audit_terms.specs.Connection.{connection_start}
-use Rattle.block_scan.specs.code.List.{items_of}
-use Rattle.conn_scan.specs.code.Items.{items_in}
-use Rattle.conn_scan.specs.code.Block.{BlockFits}
-use Rattle.audit_rounds.specs.declared.block_plans.ReadyBlock.{ReadyBlock}
-use Rattle.audit_rounds.specs.code.Blocks.{blocks_in}
-use Rattle.audit_rounds.specs.code.Plans.{IsPlan}
+use Rattle.audit_rounds.proofs.Words.{◌≡◌, ◌+◌, ◌<◌, map, length, get_or, sym, ap, ◌∙◌, subst, arith, Vec, Global}
+use Rattle.audit_rounds.proofs.Words.{length-map, length_push, connection_start, items_of, items_in, BlockFits}
+use Rattle.audit_rounds.proofs.Words.{ReadyBlock, blocks_in, IsPlan}
 use Rattle.audit_rounds.proofs.Clears.{on-false}
 use Rattle.audit_rounds.proofs.Cuts.{said_from, said_number, sums-are, little-are, befores-are, befores-number}
-use Rattle.audit_rounds.proofs.Cuts.{block-ready, block-said, some_of}
+use Rattle.audit_rounds.proofs.Alike.{some_of}
+use Rattle.audit_rounds.proofs.Cuts.{block-ready, block-said}
 use Rattle.audit_rounds.proofs.Plans.{finds_upto, plan-more, plan-skips, plan-all}
 use Rattle.audit_rounds.proofs.block_plans.add_ready.Goals.{then-may_show+in_ok-push, else-may_show}
 use Rattle.audit_rounds.proofs.block_plans.add_ready.Goals as goal

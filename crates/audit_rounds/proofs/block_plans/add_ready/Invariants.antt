@@ -1,10 +1,5 @@
-use Rattle.std.proofs.Common.{◌≡◌, ℕ, ◌+◌, ◌<◌, ◌≤◌, List, All, map, length}
-use Rattle.audit_terms.specs.declared.findings.Finding.{Finding}
-use Rattle.audit_terms.specs.Connection.{connection_start}
-use Rattle.conn_scan.specs.code.Items.{items_in}
-use Rattle.audit_rounds.specs.declared.blocks.ConnectionBlock.{ConnectionBlock}
-use Rattle.audit_rounds.specs.code.Blocks.{blocks_in}
-use Rattle.audit_rounds.specs.code.Plans.{IsPlan}
+use Rattle.audit_rounds.proofs.Words.{◌≡◌, ℕ, ◌+◌, ◌<◌, ◌≤◌, List, All, map, length, Finding, connection_start}
+use Rattle.audit_rounds.proofs.Words.{items_in, ConnectionBlock, blocks_in, IsPlan}
 use Rattle.audit_rounds.proofs.Cuts.{said_from}
 use Rattle.audit_rounds.proofs.Plans.{finds_upto}
 use Rattle.audit_rounds.proofs.block_plans.add_ready.Given as goal

@@ -1,6 +1,4 @@
-use Rattle.std.proofs.Common.{◌≤◌, length, take, drop}
-use Rattle.audit_rounds.specs.code.Blocks.{AreCut, wholes}
-use Rattle.audit_rounds.specs.code.Plans.{IsPlan, shown_at}
+use Rattle.audit_rounds.proofs.Words.{◌≤◌, length, take, drop, AreCut, wholes, IsPlan, shown_at}
 use Rattle.audit_rounds.proofs.block_plans.plan_of.Given as goal
 
 -- the connections so far are planned, and the blocks of the others are left

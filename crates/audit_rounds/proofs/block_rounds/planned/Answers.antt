@@ -1,11 +1,5 @@
-use Rattle.std.proofs.Common.{◌≡◌, ◌<◌, List, length, All, sym, ◌∙◌, subst, arith}
-use Rattle.std.proofs.lemmas.List.{length-map}
-use Rattle.conn_scan.specs.code.Block.{BlockFits}
-use Rattle.conn_scan.specs.declared.block_items.Block.{Block}
-use Rattle.audit_terms.specs.Connection.{connection_start}
-use Rattle.audit_rounds.specs.declared.blocks.ConnectionBlock.{ConnectionBlock}
-use Rattle.audit_rounds.specs.code.Blocks.{wholes}
-use Rattle.audit_rounds.specs.code.Plans.{IsPlan, shown_at}
+use Rattle.audit_rounds.proofs.Words.{◌≡◌, ◌<◌, List, length, All, sym, ◌∙◌, subst, arith, length-map, BlockFits, Block}
+use Rattle.audit_rounds.proofs.Words.{connection_start, ConnectionBlock, wholes, IsPlan, shown_at}
 use Rattle.audit_rounds.proofs.Layouts.{cut-within}
 use Rattle.audit_rounds.proofs.Whole.{if_ok-then}
 use Rattle.audit_rounds.proofs.block_rounds.planned.Goals as goal
@@ -32,7 +26,7 @@ returns-clause-few g c =
 
 pub returns-clause-plan : goal.returns-clause-plan
 returns-clause-plan g c =
-    let shows = c.args.credits_shown in
+    let shows = c.args.crew.now.setup.credits_shown in
     if_ok-then c.plan_of.result _ _ c.plan_of.ensures.plan (λ plan is.
     subst (λ (of : List Block). IsPlan shows (length of) (shown_at shows 0 (wholes of)) plan.items)
     c.in_ok-cut.ensures.of is)

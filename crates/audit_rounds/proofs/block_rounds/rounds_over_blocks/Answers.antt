@@ -1,10 +1,8 @@
-use Rattle.std.proofs.Common.{◌≡◌, ◌<◌, ◌++◌, length, map, get_or, All, None, refl, sym, ap, ◌∙◌, subst, arith}
-use Rattle.audit_terms.specs.Finding.{in_order, upto_stop}
+use Rattle.audit_rounds.proofs.Words.{◌≡◌, ◌<◌, ◌++◌, length, map, get_or, All, None, refl, sym, ap, ◌∙◌, subst, arith}
+use Rattle.audit_rounds.proofs.Words.{in_order, upto_stop, Job, findings_of_parts, part_of, AreParts, block_job}
+use Rattle.audit_rounds.proofs.Words.{All-map}
 use Rattle.audit_terms.proofs.FindingOrder.{in_order-in_order}
-use Rattle.stop_desk.specs.code.Board.{Job, findings_of_parts}
-use Rattle.stop_desk.specs.code.Laid.{part_of}
-use Rattle.audit_rounds.specs.code.Plans.{AreParts, block_job}
-use Rattle.audit_rounds.proofs.Jobs.{all-map}
+use Rattle.audit_rounds.proofs.Merges.{merged-at, merged-long}
 use Rattle.audit_rounds.proofs.Settles.{merged, parts-within, each-block, each-fits, each-place}
 use Rattle.audit_rounds.proofs.Whole.{if_ok-then}
 use Rattle.audit_rounds.proofs.block_rounds.rounds_over_blocks.Goals as goal
@@ -31,7 +29,7 @@ parts_of-requires-clause-places g c κs inside =
 
 pub parts_of-requires-clause-few : goal.parts_of-requires-clause-few
 parts_of-requires-clause-few g c κs inside =
-    let same = ap length c.as_slice-plan.ensures.value in
+    let same = ap length c.as_slice.ensures.value in
     let few = c.in_ok-plan.ensures.few in omega (arith, same, few)
 
 pub parts_of-requires-clause-within : goal.parts_of-requires-clause-within
@@ -39,9 +37,9 @@ parts_of-requires-clause-within g c κs inside =
     let stops = c.args.stops.now in
     let plan = c.in_ok-plan.plan.items in
     let number = c.requires.stops in
-    subst (λ plan. All (λ (job : Job). job.connection < length stops) (map (block_job c.args.credits_shown) plan))
-    (sym c.as_slice-plan.ensures.value)
-    (all-map (λ (job : Job). job.connection < length stops) (block_job c.args.credits_shown) plan
+    subst (λ plan. All (λ (job : Job). job.connection < length stops) (map (block_job c.args.crew.now.setup.credits_shown) plan))
+    (sym c.as_slice.ensures.value)
+    (All-map (λ (job : Job). job.connection < length stops) (block_job c.args.crew.now.setup.credits_shown) plan
     (λ n d l. let one = c.in_ok-plan.ensures.plan.within n d l in omega (arith, number, one)))
 
 pub gathered-requires : goal.gathered-requires
@@ -53,32 +51,34 @@ gathered-requires g c =
     let none = c.in_ok-none.ensures.number in
     let size : bound ≡ length c.in_ok-none.none.items = omega (arith, number, none) in
     subst (λ n. All (λ part. part.connection < n) parts) size
-    (parts-within (map (block_job c.args.credits_shown) c.as_slice-plan.result.now) c.args.stops.now parts bound
+    (parts-within (map (block_job c.args.crew.now.setup.credits_shown) c.as_slice.result.now) c.args.stops.now parts bound
     c.in_ok-parts.ensures
-    (subst (λ plan. All (λ (job : Job). job.connection < bound) (map (block_job c.args.credits_shown) plan))
-    (sym c.as_slice-plan.ensures.value)
-    (all-map (λ (job : Job). job.connection < bound) (block_job c.args.credits_shown) plan
+    (subst (λ plan. All (λ (job : Job). job.connection < bound) (map (block_job c.args.crew.now.setup.credits_shown) plan))
+    (sym c.as_slice.ensures.value)
+    (All-map (λ (job : Job). job.connection < bound) (block_job c.args.crew.now.setup.credits_shown) plan
     (λ n d l. let one = c.in_ok-plan.ensures.plan.within n d l in omega (arith, number, one)))))
 
-pub merged_each-requires : goal.merged_each-requires
-merged_each-requires g c =
+pub returns-clause-number : goal.returns-clause-number
+returns-clause-number g c =
     let number = c.requires.number in
     let none = c.in_ok-none.ensures.number in
     let own = c.in_ok-own.ensures.number in
-    omega (arith, number, none, own)
+    if_ok-then c.merged_each.result _ _ c.merged_each.ensures (λ last is.
+    merged-long c.args.found.items c.in_ok-own.own.items last.items is (omega (arith, number, none, own)))
 
 pub returns-clause-findings : goal.returns-clause-findings
 returns-clause-findings g c =
-    let shows = c.args.credits_shown in
+    let shows = c.args.crew.now.setup.credits_shown in
     let connections = c.args.connections.now in
     let plan = c.in_ok-plan.plan.items in
     let stops = c.args.stops.now in
     let parts = c.in_ok-parts.parts.items in
-    let laid = subst (λ plan. AreParts (map (block_job shows) plan) stops parts) c.as_slice-plan.ensures.value
+    let laid = subst (λ plan. AreParts (map (block_job shows) plan) stops parts) c.as_slice.ensures.value
     c.in_ok-parts.ensures in
     let number = c.requires.number in
     let none = c.in_ok-none.ensures.number in
-    if_ok-then c.merged_each.result _ _ c.merged_each.ensures.each (λ last each n whole list list' l.
+    let owns = c.in_ok-own.ensures.number in
+    if_ok-then c.merged_each.result _ _ c.merged_each.ensures (λ last each n whole list list' l.
     let found = (get_or c.args.found.items n list').items in
     let shown = findings_of_parts n (map part_of parts) in
     let inside : n < length c.args.found.items = omega (arith, number, l) in
@@ -86,7 +86,8 @@ returns-clause-findings g c =
     let own : (get_or c.in_ok-own.own.items n list').items ≡ shown =
     c.in_ok-own.ensures.each n list' list' empty ∙ ap (λ l. l ++ shown) (c.in_ok-none.ensures.each n list' empty) in
     let is : (get_or last.items n list).items ≡ in_order (found ++ shown) =
-    each n list list' list' inside ∙ ap (λ l. in_order (found ++ l)) own in
+    merged-at c.args.found.items c.in_ok-own.own.items last.items each n list list' inside
+    (omega (arith, number, none, owns)) ∙ ap (λ l. in_order (found ++ l)) own in
     ap (λ l. upto_stop (in_order l)) is ∙ ap upto_stop (in_order-in_order (found ++ shown))
     ∙ merged shows connections (length connections) plan stops parts found (found ++ shown) n whole
     c.in_ok-plan.ensures.plan laid (c.requires.each n whole None list' l).least l refl)

@@ -1,22 +1,13 @@
-use Rattle.std.proofs.Common.{map, sym, ap, ◌∙◌}
-use Rattle.std.specs.Vec.Iter.{into_iter_items}
-use Rattle.conn_scan.specs.declared.sums.ConnSum.{ConnSum}
-use Rattle.stop_desk.specs.declared.parts.Part.{Part}
-use Rattle.audit_rounds.proofs.Drawn.{taken-more, made-more, taken-all}
+use Rattle.audit_rounds.proofs.Words.{rules, YieldsList-from_map, items_from_collect, YieldsList-from_vec, ConnSum}
+use Rattle.audit_rounds.proofs.Words.{Part}
 use Rattle.audit_rounds.proofs.block_rounds.summaries.Goals as goal
-
-pub loop-part-preserved : goal.loop-part-preserved
-loop-part-preserved c =
-    let at = c.loop-part in
-    let part = c.in-Some.part in (
-      taken-more at.yielded part (into_iter_items c.next.new.self) _ _ c.in-Some.ensures.steps.0 at.invariant.0,
-      made-more (λ (part : Part ConnSum). part.made) at.yielded part at.sums.items _ c.in_ok-push.ensures.items
-          at.invariant.1,
-    )
 
 pub returns : goal.returns
 returns c =
-    let at = c.loop-part in
-    at.invariant.1
-    ∙ ap (map (λ (part : Part ConnSum). part.made)) (taken-all at.yielded (into_iter_items at.part-iterator)
-    c.args.parts.items (sym at.part-iterator.rest.ok.0 ∙ c.in-None.ensures.steps.0) at.invariant.0)
+    let whole = c.map.ensures.source in
+    let rest = c.into_iter.ensures.rest in
+    let len = c.into_iter.ensures.len in
+    let ok = c.args.parts.ok.0 in
+    items_from_collect _ c.collect.ensures.ran
+    (YieldsList-from_map _ (λ (part : Part ConnSum). part.made) (YieldsList-from_vec c.args.parts.items (cc) (cc))
+    c.map.ensures.closure (λ x r q k. search rules))

@@ -1,8 +1,4 @@
-use Rattle.std.proofs.Common.{◌<◌, length, sym, subst}
-use Rattle.stop_desk.specs.code.Board.{Job}
-use Rattle.audit_rounds.specs.code.Blocks.{AreSums}
-use Rattle.audit_rounds.specs.code.Plans.{sum_job}
-use Rattle.audit_rounds.proofs.Jobs.{all-map}
+use Rattle.audit_rounds.proofs.Words.{◌<◌, length, sym, subst, Job, AreSums, sum_job, All-map}
 use Rattle.audit_rounds.proofs.Settles.{sums-settled}
 use Rattle.audit_rounds.proofs.Whole.{if_ok-then}
 use Rattle.audit_rounds.proofs.block_rounds.sums_of.Goals as goal
@@ -10,7 +6,7 @@ use Rattle.audit_rounds.proofs.block_rounds.sums_of.Goals as goal
 pub settle-requires-clause-connections : goal.settle-requires-clause-connections
 settle-requires-clause-connections g c κs inside =
     let stops = c.args.stops.now in
-    all-map (λ (job : Job). job.connection < length stops) sum_job c.args.blocks.now c.requires.within
+    All-map (λ (job : Job). job.connection < length stops) sum_job c.args.blocks.now c.requires.within
 
 pub returns : goal.returns
 returns g c =

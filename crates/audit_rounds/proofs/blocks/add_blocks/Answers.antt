@@ -1,9 +1,6 @@
-use Rattle.std.proofs.Common.{[], ◌∷◌, ◌++◌, append_assoc, append-nil, length, refl, sym, ap, ◌∙◌, subst, arith}
-use Rattle.std.proofs.lemmas.List.{map-append, length_push}
-use Rattle.std.proofs.lemmas.List.Elements.{All-push}
-use Rattle.conn_scan.specs.declared.block_items.Block.{Block}
-use Rattle.audit_rounds.specs.declared.blocks.ConnectionBlock.{ConnectionBlock}
-use Rattle.audit_rounds.specs.code.Blocks.{IsShort, AreShort, blocks_of_connection}
+use Rattle.audit_rounds.proofs.Words.{[], ◌∷◌, ◌++◌, append_assoc, append-nil, length, refl, sym, ap, ◌∙◌, subst, arith}
+use Rattle.audit_rounds.proofs.Words.{map-append, length_push, All-push, Block, ConnectionBlock, IsShort, AreShort}
+use Rattle.audit_rounds.proofs.Words.{blocks_of_connection}
 use Rattle.audit_rounds.proofs.Cuts.{block-cut, items-push}
 use Rattle.audit_rounds.proofs.blocks.add_blocks.Goals as goal
 

@@ -1,8 +1,5 @@
-use Rattle.std.proofs.Common.{◌≡◌, ◌+◌, ◌≤◌, ◌++◌, List, length, map}
-use Rattle.block_scan.specs.code.List.{items_of}
-use Rattle.conn_scan.specs.declared.block_items.Block.{Block}
-use Rattle.conn_scan.specs.code.Items.{items_in, IsBlock}
-use Rattle.audit_rounds.specs.code.Blocks.{AreShort, blocks_of_connection}
+use Rattle.audit_rounds.proofs.Words.{◌≡◌, ◌+◌, ◌≤◌, ◌++◌, List, length, map, items_of, Block, items_in, IsBlock}
+use Rattle.audit_rounds.proofs.Words.{AreShort, blocks_of_connection}
 use Rattle.audit_rounds.proofs.blocks.add_blocks.Given as goal
 
 -- the items of the blocks that were added, and of the rest, are all

@@ -1,8 +1,6 @@
-use Rattle.std.proofs.Common.{◌≡◌, ◌+◌, ◌-◌, length, take, sym, ap, ◌∙◌, subst, arith}
-use Rattle.std.proofs.lemmas.List.{length_push}
-use Rattle.std.proofs.lemmas.List.Sums.{sum_by_more, sum_by-take-le}
-use Rattle.conn_scan.specs.declared.block_items.Block.{Block}
-use Rattle.audit_rounds.specs.code.Blocks.{AddsBlocks, AreCut, wholes}
+use Rattle.audit_rounds.proofs.Words.{◌≡◌, ◌+◌, ◌-◌, length, take, sym, ap, ◌∙◌, subst, arith, length_push, sum_by_more}
+use Rattle.audit_rounds.proofs.Words.{Block, AddsBlocks, AreCut, wholes}
+use Rattle.std.proofs.lemmas.List.Sums.{sum_by-take-le}
 use Rattle.audit_rounds.proofs.Layouts.{cut-next}
 use Rattle.audit_rounds.proofs.blocks.cut_into_blocks.Goals as goal
 

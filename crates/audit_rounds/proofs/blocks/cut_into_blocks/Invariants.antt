@@ -1,7 +1,4 @@
-use Rattle.std.proofs.Common.{◌≡◌, ◌≤◌, length, take}
-use Rattle.std.specs.List.{sum_by}
-use Rattle.conn_scan.specs.declared.block_items.Block.{Block}
-use Rattle.audit_rounds.specs.code.Blocks.{AreCut, AreShort, wholes}
+use Rattle.audit_rounds.proofs.Words.{◌≡◌, ◌≤◌, length, take, sum_by, Block, AreCut, AreShort, wholes}
 use Rattle.audit_rounds.proofs.blocks.cut_into_blocks.Given as goal
 
 -- the connections so far are cut

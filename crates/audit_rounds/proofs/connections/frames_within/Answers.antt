@@ -1,7 +1,5 @@
-use Rattle.std.proofs.Common.{not, nat_lt, leb, filter, sym, ap, ◌∙◌, rules}
+use Rattle.audit_rounds.proofs.Words.{not, nat_lt, leb, filter, sym, ap, ◌∙◌, rules, Frame, frames_within}
 use Rattle.std.proofs.lemmas.List.Sorted.{IsPartitionPoint-from_clause}
-use Rattle.audit_terms.specs.declared.frames.Frame.{Frame}
-use Rattle.audit_rounds.specs.code.Within.{frames_within}
 use Rattle.audit_rounds.proofs.Fronts.{frames-parted, within-point, all-within}
 use Rattle.audit_rounds.proofs.connections.frames_within.Goals as goal
 

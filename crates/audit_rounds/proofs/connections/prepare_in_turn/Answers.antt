@@ -1,41 +1,36 @@
-use Rattle.std.proofs.Common.{List, map, All, sym, ap, ◌∙◌, subst, arith, Bor, Vec, Global}
-use Rattle.std.proofs.lemmas.List.{take_all}
-use Rattle.std.proofs.lemmas.List.Elements.{All-push}
-use Rattle.audit_terms.specs.declared.findings.Finding.{Finding}
-use Rattle.audit_terms.specs.declared.frames.Frame.{Frame}
-use Rattle.audit_terms.specs.code.runs.Orderly.{IsOrderly}
-use Rattle.audit_rounds.specs.declared.prepared.Prepared.{Prepared}
-use Rattle.audit_rounds.specs.code.Prepared.{IsPrepared, found_before}
-use Rattle.audit_rounds.proofs.Fronts.{ready-more, before-more}
+use Rattle.audit_rounds.proofs.Words.{List, map, All, sym, ap, ◌∙◌, subst, arith, Bor, Vec, Global, take_all, All-push}
+use Rattle.audit_rounds.proofs.Words.{Finding, Frame, IsOrderly, Prepared, IsPrepared, found_before}
+use Rattle.audit_rounds.proofs.Fronts.{before-more}
+use Rattle.audit_rounds.proofs.Alike.{frames_in, map-grows}
 use Rattle.audit_rounds.proofs.connections.prepare_in_turn.Goals as goal
 
 pub loop-frames-preserved : goal.loop-frames-preserved
 loop-frames-preserved g c =
     let at = c.loop-frames in
-    let made = at.made.prepared.items in
-    let found = at.made.found.items in
+    let made = at.prepared.items in
+    let found = at.found.items in
     let ready = c.in_ok-ready.ready in
     let within = c.loop-frames-test.true in
-    let more = c.in_ok-push.ensures.prepared in
+    let more = c.in_ok-push.ensures.items in
     record {
       within = omega (arith, within);
-      frames = rw more (ready-more made ready c.args.connections.now at.frames-index c.frames-item.result within
+      frames = rw more (map-grows (λ (one : Prepared). one.frames.now) frames_in made ready c.args.connections.now at.frames-index c.frames-item.result within
           (c.in_ok-ready.ensures.frames ∙ ap (λ (frames : Bor (List Frame)). frames.now) c.frames-item.is)
           at.invariant.frames);
-      prepared = subst (All (IsPrepared c.args.credits_shown)) (sym more)
-          (All-push (IsPrepared c.args.credits_shown) made ready at.invariant.prepared c.in_ok-ready.ensures.prepared);
-      found = rw (more, c.in_ok-push.ensures.found)
+      prepared = subst (All (IsPrepared c.args.crew.now.setup.credits_shown)) (sym more)
+          (All-push (IsPrepared c.args.crew.now.setup.credits_shown) made ready at.invariant.prepared c.in_ok-ready.ensures.prepared);
+      found = rw (more, c.in_ok-push-2.ensures.items)
           (before-more found made c.in_ok-ready.before ready c.in_ok-ready.ensures.found at.invariant.found);
     }
 
 pub loop-frames-init : goal.loop-frames-init
 loop-frames-init g c =
-    let none = c.in_ok-made.ensures.prepared in
+    let none = c.in_ok-prepared.ensures.items in
     record {
       within = omega arith;
       frames = ap (map (λ (one : Prepared). one.frames.now)) none;
-      prepared = subst (All (IsPrepared c.args.credits_shown)) (sym none) (λ n d l. absurd (omega arith));
-      found = ap (map (λ (list : Vec Finding Global). list.items)) c.in_ok-made.ensures.found
+      prepared = subst (All (IsPrepared c.args.crew.now.setup.credits_shown)) (sym none) (λ n d l. absurd (omega arith));
+      found = ap (map (λ (list : Vec Finding Global). list.items)) c.in_ok-found.ensures.items
           ∙ sym (ap (map found_before) none);
     }
 
@@ -43,9 +38,9 @@ pub prepare-requires : goal.prepare-requires
 prepare-requires g c = (
   c.type_bounds.sync-R,
   (
-    c.requires.workers,
+    c.type_bounds.sync-G,
     subst (λ (frames : Bor (List Frame)). IsOrderly frames.now) (sym c.frames-item.is)
-        (c.requires.frames c.loop-frames.frames-index c.frames-item.result c.loop-frames-test.true),
+        (c.requires c.loop-frames.frames-index c.frames-item.result c.loop-frames-test.true),
   ),
 )
 

@@ -1,13 +1,12 @@
-use Rattle.std.proofs.Common.{◌≡◌, ◌≤◌, All, map, take, length}
-use Rattle.audit_rounds.specs.code.Prepared.{IsPrepared, found_before}
+use Rattle.audit_rounds.proofs.Words.{◌≡◌, ◌≤◌, All, map, take, length, IsPrepared, found_before}
 use Rattle.audit_rounds.proofs.connections.prepare_in_turn.Given as goal
 
 -- the connections so far are ready
 abbrev pub invariant-loop-frames : goal.invariant-loop-frames
 invariant-loop-frames g l = record {
   within : l.frames-index ≤ length l.connections;
-  frames : map (λ one. one.frames.now) l.made.prepared.items
+  frames : map (λ one. one.frames.now) l.prepared.items
       ≡ map (λ frames. frames.now) (take l.frames-index l.connections);
-  prepared : All (IsPrepared l.credits_shown) l.made.prepared.items;
-  found : map (λ one. one.items) l.made.found.items ≡ map found_before l.made.prepared.items;
+  prepared : All (IsPrepared l.crew.setup.credits_shown) l.prepared.items;
+  found : map (λ one. one.items) l.found.items ≡ map found_before l.prepared.items;
 }

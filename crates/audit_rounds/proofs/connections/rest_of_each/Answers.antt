@@ -1,5 +1,4 @@
-use Rattle.std.proofs.Common.{length, sym, ap, ◌∙◌, arith}
-use Rattle.std.proofs.lemmas.List.{length-append}
+use Rattle.audit_rounds.proofs.Words.{length, sym, ap, ◌∙◌, arith, length-append}
 use Rattle.audit_rounds.proofs.Fronts.{rests-more}
 use Rattle.audit_rounds.proofs.connections.rest_of_each.Goals as goal
 

@@ -1,5 +1,4 @@
-use Rattle.std.proofs.Common.{◌≡◌, ℕ, ◌≤◌, ◌<◌, length, get_or}
-use Rattle.audit_rounds.specs.code.Connections.{IsRest}
+use Rattle.audit_rounds.proofs.Words.{◌≡◌, ℕ, ◌≤◌, ◌<◌, length, get_or, IsRest}
 use Rattle.audit_rounds.proofs.connections.rest_of_each.Given as goal
 
 -- what is left of the connections so far

@@ -1,7 +1,5 @@
-use Rattle.std.proofs.Common.{[], ◌∷◌, ◌++◌, map, flat_map, append-nil, sym, ap, ◌∙◌, Vec, Global}
-use Rattle.std.specs.Vec.Iter.{into_iter_items}
-use Rattle.audit_terms.specs.declared.findings.Finding.{Finding}
-use Rattle.audit_terms.specs.Finding.{in_order, upto_stop}
+use Rattle.audit_rounds.proofs.Words.{[], ◌∷◌, ◌++◌, map, flat_map, append-nil, sym, ap, ◌∙◌, Vec, Global}
+use Rattle.audit_rounds.proofs.Words.{into_iter_items, Finding, in_order, upto_stop}
 use Rattle.audit_rounds.proofs.Drawn.{taken-more, known-more, taken-all}
 use Rattle.audit_rounds.proofs.connections.settled.Goals as goal
 

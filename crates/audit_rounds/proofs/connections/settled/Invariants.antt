@@ -1,6 +1,4 @@
-use Rattle.std.proofs.Common.{◌≡◌, ◌++◌, map}
-use Rattle.std.specs.Vec.Iter.{into_iter_items}
-use Rattle.audit_terms.specs.Finding.{in_order, upto_stop}
+use Rattle.audit_rounds.proofs.Words.{◌≡◌, ◌++◌, map, into_iter_items, in_order, upto_stop}
 use Rattle.audit_rounds.proofs.connections.settled.Given as goal
 
 -- the lists so far and those that are left are all of them, and those so far are in order

@@ -1,7 +1,4 @@
-use Rattle.std.proofs.Common.{◌<◌, length, get_or, ap, arith}
-use Rattle.std.proofs.lemmas.List.{get_or_default}
-use Rattle.std.proofs.lemmas.List.Sums.{sum_by_more}
-use Rattle.audit_core.proofs.OrderlyRest.{length-orderly}
+use Rattle.audit_rounds.proofs.Words.{◌<◌, length, get_or, ap, arith, get_or_default, sum_by_more, length-orderly}
 use Rattle.audit_rounds.proofs.Few.{lent}
 use Rattle.audit_rounds.proofs.divisions.batch_length.Goals as goal
 

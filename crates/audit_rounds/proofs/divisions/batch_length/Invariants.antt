@@ -1,5 +1,4 @@
-use Rattle.std.proofs.Common.{◌≡◌, ◌≤◌, ◌-◌, ◌^◌, length, take}
-use Rattle.std.specs.List.{sum_by}
+use Rattle.audit_rounds.proofs.Words.{◌≡◌, ◌≤◌, ◌-◌, ◌^◌, length, take, sum_by}
 use Rattle.audit_rounds.proofs.Few.{lent}
 use Rattle.audit_rounds.proofs.divisions.batch_length.Given as goal
 

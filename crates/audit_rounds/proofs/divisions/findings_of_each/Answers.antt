@@ -1,12 +1,5 @@
-use Rattle.std.proofs.Common.{List, map, All, sym, ap, ◌∙◌, subst, arith, Bor, Vec, Global}
-use Rattle.std.proofs.lemmas.List.{take_all}
-use Rattle.std.proofs.lemmas.List.Elements.{All-take, All-drop}
-use Rattle.audit_terms.specs.declared.findings.Finding.{Finding}
-use Rattle.audit_terms.specs.code.runs.Orderly.{IsOrderly}
-use Rattle.audit_terms.specs.declared.frames.Frame.{Frame}
-use Rattle.audit_terms.specs.Finding.{shown}
-use Rattle.audit_terms.specs.Pass.{pass}
-use Rattle.audit_rounds.specs.code.Few.{AreFew}
+use Rattle.audit_rounds.proofs.Words.{List, map, All, sym, ap, ◌∙◌, subst, arith, Bor, Vec, Global, take_all, All-take}
+use Rattle.audit_rounds.proofs.Words.{All-drop, Finding, IsOrderly, Frame, shown, pass, AreFew}
 use Rattle.audit_rounds.proofs.Batches.{batch-more}
 use Rattle.audit_rounds.proofs.divisions.findings_of_each.Goals as goal
 
@@ -23,7 +16,7 @@ loop-done-preserved g c =
       shown = batch-more (λ (frames : Bor (List Frame)). shown c.args.credits_shown (pass frames.now)) at.all.items
           c.in_ok-found.found.items c.append.new.self.items c.args.connections.now cut.result.0.now
           c.split_at.result.1.now at.done c.batch_length.result long cut.ensures.front c.split_at.ensures.back
-          c.in_ok-append.ensures.items at.invariant.shown c.in_ok-found.ensures;
+          c.in_ok-append.ensures.items at.invariant.shown (rw c.of-setup.ensures at c.in_ok-found.ensures);
     }
 
 pub loop-done-init : goal.loop-done-init
@@ -42,24 +35,17 @@ pub findings_by_halves-requires : goal.findings_by_halves-requires
 findings_by_halves-requires g c =
     let orderly = λ (frames : Bor (List Frame)). IsOrderly frames.now in
     let all = c.args.connections.now in
-    let rest = c.split_at.result.1.now in
-    let filled = c.filled-division.ensures in (
+    let rest = c.split_at.result.1.now in (
       c.type_bounds.sync-R,
       (
         c.type_bounds.sync-G,
-        (
-          filled.workers,
-          (
-            filled.groups,
-            (
-              subst (All orderly) (sym c.split_at-in-loop-done.ensures.front)
-                  (All-take orderly c.batch_length.result rest
-                  (subst (All orderly) (sym c.split_at.ensures.back)
-                  (All-drop orderly c.loop-done.done all c.requires))),
-              subst AreFew (sym c.split_at-in-loop-done.ensures.front) c.batch_length.ensures.few,
-            ),
-          ),
-        ),
+        record {
+          orderly = subst (All orderly) (sym c.split_at-in-loop-done.ensures.front)
+              (All-take orderly c.batch_length.result rest
+              (subst (All orderly) (sym c.split_at.ensures.back)
+              (All-drop orderly c.loop-done.done all c.requires)));
+          few = subst AreFew (sym c.split_at-in-loop-done.ensures.front) c.batch_length.ensures.few;
+        },
       ),
     )
 

@@ -1,6 +1,4 @@
-use Rattle.std.proofs.Common.{◌≡◌, ◌≤◌, ◌-◌, map, length, take}
-use Rattle.audit_terms.specs.Finding.{shown}
-use Rattle.audit_terms.specs.Pass.{pass}
+use Rattle.audit_rounds.proofs.Words.{◌≡◌, ◌≤◌, ◌-◌, map, length, take, shown, pass}
 use Rattle.audit_rounds.proofs.divisions.findings_of_each.Given as goal
 
 -- what is shown of the batches so far

@@ -1,42 +1,32 @@
-use Rattle.std.proofs.Common.{◌≡◌, List, Bor, Vec, Global, map, length, ap, subst, ◌∙◌}
-use Rattle.std.specs.List.{zip}
-use Rattle.audit_terms.specs.declared.findings.Finding.{Finding}
-use Rattle.audit_terms.specs.declared.frames.Frame.{Frame}
-use Rattle.audit_terms.specs.Finding.{shown}
-use Rattle.audit_terms.specs.Pass.{pass}
-use Rattle.audit_rounds.specs.code.EarlyStops.{front_of, later_of}
-use Rattle.audit_rounds.proofs.ByFronts.{as-many, as-many-zipped, chosen-pass}
+use Rattle.audit_rounds.proofs.Words.{List, map, ap, ◌∙◌, zip, Frame, shown, pass}
+use Rattle.audit_rounds.proofs.Alike.{items_in, frames_in, maps-alike}
+use Rattle.audit_rounds.proofs.ByFronts.{front_in, later_in, fronts-batch, laters-batch, chosen-pass}
+use Rattle.audit_rounds.proofs.Whole.{if_ok-then}
 use Rattle.audit_rounds.proofs.early_stops.findings_by_fronts.Goals as goal
 
-pub findings_of_laters-requires-clause-early : goal.findings_of_laters-requires-clause-early
-findings_of_laters-requires-clause-early g c κs within =
-    ap length c.as_slice-found.ensures.value
-    ∙ as-many (λ (list : Vec Finding Global). list.items)
-    (λ (frames : Bor (List Frame)). shown c.args.credits_shown (pass (front_of frames.now))) c.in_ok-early.early.items
-    c.args.connections.now c.in_ok-early.ensures
+pub findings_of_batch-requires-2-after_bounds : goal.findings_of_batch-requires-2-after_bounds
+findings_of_batch-requires-2-after_bounds g c κs within =
+    rw c.as_slice.ensures.value
+    (fronts-batch c.args.connections.now c.in_ok-fronts.fronts.items c.in_ok-fronts.ensures c.requires)
 
-pub choose_each-requires : goal.choose_each-requires
-choose_each-requires g c =
-    let early = c.in_ok-early.early.items in
-    let connections = c.args.connections.now in
-    let number : length c.as_slice-found.result.now ≡ length connections =
-    ap length c.as_slice-found.ensures.value
-    ∙ as-many (λ (list : Vec Finding Global). list.items)
-    (λ (frames : Bor (List Frame)). shown c.args.credits_shown (pass (front_of frames.now))) early connections
-    c.in_ok-early.ensures in
-    as-many-zipped (λ (list : Vec Finding Global). list.items)
-    (λ (one : Bor (List Frame) × Vec Finding Global). shown c.args.credits_shown
-    (pass (later_of one.0.now one.1.items)))
-    c.in_ok-later.later.items connections c.as_slice-found.result.now number c.in_ok-later.ensures
-    ∙ ap length c.as_slice-found.ensures.value
+pub findings_of_batch-requires-3-after_bounds : goal.findings_of_batch-requires-3-after_bounds
+findings_of_batch-requires-3-after_bounds g c κs within =
+    rw c.as_slice-3.ensures.value
+    (laters-batch c.args.connections.now c.in_ok-laters.laters.items c.as_slice-2.result.now c.in_ok-laters.ensures
+    c.requires)
 
 pub returns : goal.returns
 returns g c =
-    ap (map (λ (list : Vec Finding Global). list.items)) c.choose_each.ensures
-    ∙ chosen-pass c.args.credits_shown c.args.connections.now c.in_ok-early.early.items c.in_ok-later.later.items
-    c.in_ok-early.ensures
-    (subst (λ (early : List (Vec Finding Global)). map (λ (list : Vec Finding Global). list.items)
-    c.in_ok-later.later.items
-    ≡ map (λ (one : Bor (List Frame) × Vec Finding Global). shown c.args.credits_shown
-    (pass (later_of one.0.now one.1.items)))
-    (zip c.args.connections.now early)) c.as_slice-found.ensures.value c.in_ok-later.ensures)
+    let connections = c.args.connections.now in
+    let fronts = c.in_ok-fronts.fronts.items in
+    let laters = c.in_ok-laters.laters.items in
+    let early = c.in_ok-early.early.items in
+    let passed = λ (frames : List Frame). shown c.args.crew.now.setup.credits_shown (pass frames) in
+    if_ok-then c.choose_each.result _ _ c.choose_each.ensures (λ all is.
+    ap (map items_in) is
+    ∙ chosen-pass c.args.crew.now.setup.credits_shown connections early c.in_ok-later.later.items
+    ((rw c.as_slice.ensures.value at c.in_ok-early.ensures)
+    ∙ maps-alike frames_in front_in passed fronts connections c.in_ok-fronts.ensures)
+    ((rw c.as_slice-3.ensures.value at c.in_ok-later.ensures)
+    ∙ maps-alike frames_in later_in passed laters (zip connections early)
+    (rw c.as_slice-2.ensures.value at c.in_ok-laters.ensures)))

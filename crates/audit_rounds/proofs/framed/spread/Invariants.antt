@@ -1,6 +1,4 @@
-use Rattle.std.proofs.Common.{◌≡◌, ◌≤◌, ◌++◌, drop, length, map}
-use Rattle.std.specs.Vec.Iter.{into_iter_items}
-use Rattle.audit_rounds.specs.code.Framed.{spread}
+use Rattle.audit_rounds.proofs.Words.{◌≡◌, ◌≤◌, ◌++◌, drop, length, map, into_iter_items, spread}
 use Rattle.audit_rounds.proofs.framed.spread.Given as goal
 
 -- the lists so far, and those that are left for the other connections

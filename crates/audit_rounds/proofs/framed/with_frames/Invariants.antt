@@ -1,5 +1,4 @@
-use Rattle.std.proofs.Common.{◌≡◌, ◌≤◌, filter, length, take}
-use Rattle.audit_rounds.specs.code.Framed.{has_frames}
+use Rattle.audit_rounds.proofs.Words.{◌≡◌, ◌≤◌, filter, length, take, has_frames}
 use Rattle.audit_rounds.proofs.framed.with_frames.Given as goal
 
 -- those of the connections so far

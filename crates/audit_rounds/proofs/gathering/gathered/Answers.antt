@@ -1,10 +1,5 @@
-use Rattle.std.proofs.Common.{◌≡◌, ◌<◌, ◌++◌, [], ◌∷◌, map, length, get_or, sym, ap, ◌∙◌, arith, length-set, Vec}
-use Rattle.std.proofs.Common.{Global}
-use Rattle.audit_terms.specs.declared.findings.Finding.{Finding}
-use Rattle.std.proofs.lemmas.List.{map-append}
-use Rattle.std.specs.Vec.Iter.{into_iter_items}
-use Rattle.stop_desk.specs.code.Board.{findings_of_parts}
-use Rattle.stop_desk.specs.code.Laid.{part_of}
+use Rattle.audit_rounds.proofs.Words.{◌≡◌, ◌<◌, ◌++◌, [], ◌∷◌, map, length, get_or, sym, ap, ◌∙◌, arith, length-set}
+use Rattle.audit_rounds.proofs.Words.{Vec, Global, Finding, map-append, into_iter_items, findings_of_parts, part_of}
 use Rattle.audit_rounds.proofs.Drawn.{taken-more, taken-holds, taken-all}
 use Rattle.audit_rounds.proofs.PartsKept.{gathered-more}
 use Rattle.audit_rounds.proofs.gathering.gathered.Goals as goal
@@ -33,9 +28,9 @@ loop-part-preserved g c =
           let d = c.index_mut.result.now in
           let mine : d ≡ get_or at.all.items part.connection d = c.index_mut.ensures.value in
           gathered-more c.args.found.items at.all.items n list list' d c.append.new.self (part_of part)
-          (map part_of at.yielded) at.invariant.number l inside
+          (map part_of at.yielded) at.invariant.number inside
           (c.in_ok-append.ensures.items ∙ ap (λ (v : Vec Finding Global). v.items ++ part.findings.items) mine)
-          (at.invariant.each n list list' l) (at.invariant.each n d list' l)
+          (λ list. at.invariant.each n list list' l)
           ∙ ap (λ parts. (get_or c.args.found.items n list').items ++ findings_of_parts n parts)
           (sym (map-append part_of at.yielded (part ∷ [])));
     }

@@ -1,7 +1,5 @@
-use Rattle.std.proofs.Common.{◌≡◌, ℕ, ◌++◌, ◌<◌, map, length, get_or}
-use Rattle.std.specs.Vec.Iter.{into_iter_items}
-use Rattle.stop_desk.specs.code.Board.{findings_of_parts}
-use Rattle.stop_desk.specs.code.Laid.{part_of}
+use Rattle.audit_rounds.proofs.Words.{◌≡◌, ℕ, ◌++◌, ◌<◌, map, length, get_or, into_iter_items, findings_of_parts}
+use Rattle.audit_rounds.proofs.Words.{part_of}
 use Rattle.audit_rounds.proofs.gathering.gathered.Given as goal
 
 -- the parts so far and those that are left are all of them, and what those so far keep stands in the lists

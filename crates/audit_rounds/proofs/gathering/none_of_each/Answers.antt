@@ -1,6 +1,5 @@
-use Rattle.std.proofs.Common.{◌≡◌, ◌+◌, [], All, length, sym, ap, ◌∙◌, subst, arith, Vec, Global}
-use Rattle.std.proofs.lemmas.List.{length_push}
-use Rattle.std.proofs.lemmas.List.Elements.{All-push}
+use Rattle.audit_rounds.proofs.Words.{◌≡◌, ◌+◌, [], All, length, sym, ap, ◌∙◌, subst, arith, Vec, Global, length_push}
+use Rattle.audit_rounds.proofs.Words.{All-push}
 use Rattle.audit_rounds.proofs.gathering.none_of_each.Goals as goal
 
 pub loop-preserved : goal.loop-preserved

@@ -1,9 +1,6 @@
-use Rattle.std.proofs.Common.{◌≡◌, List, map, Bor, Vec, Global}
-use Rattle.std.proofs.lemmas.Result.{IfOk-at_ok}
-use Rattle.audit_terms.specs.declared.findings.Finding.{Finding}
-use Rattle.audit_terms.specs.declared.frames.Frame.{Frame}
-use Rattle.audit_terms.specs.Finding.{shown}
-use Rattle.audit_terms.specs.Pass.{pass}
+use Rattle.audit_rounds.proofs.Words.{List, Bor, IfOk-at_ok, Frame, shown, pass}
+use Rattle.audit_rounds.specs.code.Batch.{AreShown}
+use Rattle.audit_rounds.proofs.Alike.{items_in}
 use Rattle.audit_rounds.proofs.BothHalves.{halves-whole}
 use Rattle.audit_rounds.proofs.halves.+findings_by_halves+fn-findings_by_halves-join+arg2+fn-findings_by_halves-join+arg3.Goals as goal
 
@@ -11,13 +8,12 @@ pub returns : goal.returns
 returns g t c =
     let front = c.in_halves.result.0.now in
     let back = c.in_halves.result.1.now in
-    let items = λ (one : Vec Finding Global). one.items in
-    let shows = λ (frames : Bor (List Frame)). shown c.args.credits_shown (pass frames.now) in
+    let passed = λ (frames : Bor (List Frame)). shown c.args.crew.now.setup.credits_shown (pass frames.now) in
     let one = c.in_ok-found in
     let other = c.in_ok-more in
-    let first = IfOk-at_ok (λ found. map items found.items ≡ map shows front) one.was c.join-one.ensures.first in
-    let second = IfOk-at_ok (λ found. map items found.items ≡ map shows back) other.was c.join-one.ensures.second in
+    let same = c.halves.ensures.shown in
+    let first = IfOk-at_ok (λ found. AreShown _ front found.items) one.was c.join-one.ensures.first in
+    let second = IfOk-at_ok (λ found. AreShown _ back found.items) other.was c.join-one.ensures.second in
     rw c.in_ok-append.ensures.items
-    (halves-whole items shows c.args.connections.now front back one.found.items other.more.items
-    c.in_halves.ensures.whole
-    first second)
+    (halves-whole items_in passed c.args.connections.now front back one.found.items other.more.items
+    c.in_halves.ensures.whole (rw same.0 at first) (rw same.1 at second))

@@ -8,4 +8,4 @@ abbrev pub decreases-join+arg3 : goal.decreases-join+arg3
 decreases-join+arg3 g l = 2 * l.others.workers + 1
 
 abbrev pub decreases-findings_by_halves : goal.decreases-findings_by_halves
-decreases-findings_by_halves g l = 2 * l.division.now.workers
+decreases-findings_by_halves g l = 2 * l.crew.now.setup.workers

@@ -1,6 +1,5 @@
-use Rattle.std.proofs.Common.{◌≡◌, [], sym, ◌∙◌}
+use Rattle.audit_rounds.proofs.Words.{◌≡◌, [], sym, ◌∙◌, nil_from_length}
 use Rattle.std.proofs.lemmas.Bool.{eqb-true}
-use Rattle.std.proofs.lemmas.List.{nil_from_length}
 use Rattle.audit_rounds.proofs.Merges.{merge-in_order, first-alone, second-alone}
 use Rattle.audit_rounds.proofs.merging.merged.Goals as goal
 

@@ -1,8 +1,5 @@
-use Rattle.std.proofs.Common.{◌≡◌, ◌++◌, map, Vec, Global}
-use Rattle.std.specs.Vec.Iter.{into_iter_items}
-use Rattle.std.specs.Iterator.Adapters.{zip_first, zip_second}
-use Rattle.audit_terms.specs.declared.findings.Finding.{Finding}
-use Rattle.audit_terms.specs.Finding.{in_order}
+use Rattle.audit_rounds.proofs.Words.{◌≡◌, ◌++◌, map, Vec, Global, into_iter_items, zip_first, zip_second, Finding}
+use Rattle.audit_rounds.proofs.Words.{in_order}
 use Rattle.audit_rounds.proofs.merging.merged_each.Given as goal
 
 -- the lists so far and those that are left are all of them, and those so far are merged

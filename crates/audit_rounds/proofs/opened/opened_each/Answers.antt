@@ -1,11 +1,34 @@
-use Rattle.std.proofs.Common.{◌++◌, get_or, subst, ap, ◌∙◌, arith}
-use Rattle.audit_rounds.specs.code.Opened.{IsInOrder}
+use Rattle.audit_rounds.proofs.Words.{◌<◌, length, length-set, subst, ap, ◌++◌, ◌∙◌, arith, Vec, Global, ℕ}
+use Rattle.audit_rounds.proofs.Words.{get_or-set_other, IsInOrder, numbers_told}
+use Rattle.audit_rounds.proofs.Ordered.{ordered-more}
 use Rattle.audit_rounds.proofs.opened.opened_each.Goals as goal
+
+pub loop-n-preserved : goal.loop-n-preserved
+loop-n-preserved c =
+    let at = c.loop-n in
+    let all = at.all.items in
+    let connections = c.args.connections.now in
+    let d = c.index_mut.result.now in
+    let new = c.with_quiet.new.told in
+    let number = at.invariant.number in
+    let here = c.loop-n-test.true in
+    let within : at.n < length all = omega (arith, here, number) in
+    record {
+      number = length-set all at.n new ∙ number;
+      done = ordered-more connections (λ n. numbers_told n c.args.parts.now) all at.n d new
+          c.index-connections-n.result within here c.index-connections-n.is
+          (at.invariant.left at.n d (omega arith) here)
+          (subst (λ (v : Vec ℕ Global). IsInOrder (v.items ++ c.index-connections-n.result.split.opened.items) new.items)
+          c.index_mut.ensures.value (rw c.as_slice.ensures.value at c.in_ok-with_quiet.ensures))
+          at.invariant.done;
+      left = λ n list m l.
+          ap (λ (v : Vec ℕ Global). v.items) (get_or-set_other all at.n n new list (λ e. omega (arith, m, e)))
+          ∙ at.invariant.left n list (omega (arith, m)) l;
+    }
+
+pub returns-clause-number : goal.returns-clause-number
+returns-clause-number c = c.loop-n.invariant.number
 
 pub returns-clause-each : goal.returns-clause-each
 returns-clause-each c = λ n list connection l.
-    let numbers = (get_or c.args.connections.now n connection).split.opened.items in
-    let told = c.in_ok-told.ensures in
-    subst (λ l. IsInOrder l (get_or c.put_in_order.new.lists.items n list).items)
-    (c.in_ok-all.ensures.each n list list connection l ∙ ap (λ front. front ++ numbers) (told.each n list l))
-    (c.put_in_order.ensures.each n list list (let number = c.in_ok-all.ensures.number in omega (arith, number, l)))
+    c.loop-n.invariant.done n list connection (let far = c.loop-n-test.false in omega (arith, far, l))

@@ -1,6 +1,5 @@
-use Rattle.std.proofs.Common.{◌<◌, length-set, sym, ap, ◌∙◌, subst, arith, ◌++◌, Vec, Global, ℕ}
-use Rattle.std.proofs.lemmas.List.{take_all}
-use Rattle.audit_rounds.specs.code.Opened.{numbers_told}
+use Rattle.audit_rounds.proofs.Words.{◌<◌, length-set, sym, ap, ◌∙◌, subst, arith, ◌++◌, Vec, Global, ℕ, take_all}
+use Rattle.audit_rounds.proofs.Words.{numbers_told}
 use Rattle.audit_rounds.proofs.Ordered.{told-more}
 use Rattle.audit_rounds.proofs.opened.told_of_each.Goals as goal
 

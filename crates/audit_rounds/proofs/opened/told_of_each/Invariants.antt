@@ -1,5 +1,4 @@
-use Rattle.std.proofs.Common.{◌≡◌, ℕ, ◌<◌, length, take, get_or, Vec, Global}
-use Rattle.audit_rounds.specs.code.Opened.{numbers_told}
+use Rattle.audit_rounds.proofs.Words.{◌≡◌, ℕ, ◌<◌, length, take, get_or, Vec, Global, numbers_told}
 use Rattle.audit_rounds.proofs.opened.told_of_each.Given as goal
 
 -- what the parts so far tell

@@ -1,5 +1,4 @@
-use Rattle.std.proofs.Common.{arith}
-use Rattle.audit_core.proofs.OrderlyRest.{length-orderly}
+use Rattle.audit_rounds.proofs.Words.{arith, length-orderly}
 use Rattle.audit_rounds.proofs.prepared.prepare.Goals as goal
 
 pub faults_and_split-found-requires-clause-length : goal.faults_and_split-found-requires-clause-length

@@ -1,5 +1,4 @@
-use Rattle.std.proofs.Common.{◌≡◌, ◌++◌, map, drop}
-use Rattle.audit_rounds.specs.code.StreamJobs.{job_at}
+use Rattle.audit_rounds.proofs.Words.{◌≡◌, ◌++◌, map, drop, job_at}
 use Rattle.audit_rounds.proofs.stream_plan.add_jobs.Given as goal
 
 -- what is there, with the jobs to come, is the whole

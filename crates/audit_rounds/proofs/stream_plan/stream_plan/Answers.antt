@@ -1,6 +1,4 @@
-use Rattle.std.proofs.Common.{rules, length, ap, ◌∙◌, arith}
-use Rattle.split_merge.specs.code.Groups.{groups}
-use Rattle.audit_rounds.specs.declared.streams.Streams.{Streams}
+use Rattle.audit_rounds.proofs.Words.{rules, length, ap, ◌∙◌, arith, groups, Streams}
 use Rattle.audit_rounds.proofs.Few.{jobs-few}
 use Rattle.audit_rounds.proofs.StreamPlan.{plan-more, plan-done}
 use Rattle.audit_rounds.proofs.stream_plan.stream_plan.Goals as goal

@@ -1,5 +1,4 @@
-use Rattle.std.proofs.Common.{◌≡◌, ◌++◌, drop}
-use Rattle.audit_rounds.specs.code.StreamJobs.{plan_from}
+use Rattle.audit_rounds.proofs.Words.{◌≡◌, ◌++◌, drop, plan_from}
 use Rattle.audit_rounds.proofs.stream_plan.stream_plan.Given as goal
 
 -- what is there, with the jobs of the connections to come, is the whole

@@ -1,22 +1,19 @@
-use Rattle.std.proofs.Common.{◌<◌, ◌++◌, List, length, get_or, All, ℕ, sym, ◌∙◌, subst, arith, Vec, Global}
-use Rattle.std.proofs.lemmas.Slice.Zip.{AllZip-long}
-use Rattle.audit_terms.specs.declared.findings.Finding.{Finding}
-use Rattle.stop_desk.specs.declared.parts.Part.{Part}
+use Rattle.audit_rounds.proofs.Words.{◌<◌, ◌++◌, List, length, get_or, All, ℕ, sym, ◌∙◌, subst, arith, Vec, Global}
+use Rattle.audit_rounds.proofs.Words.{AllZip-long, Finding, Part, numbers_told, IsInOrder, IsStreamsOf, found_before}
 use Rattle.audit_rounds.specs.code.AfterStreams.{HaveSettledOver}
-use Rattle.audit_rounds.specs.code.Opened.{numbers_told, IsInOrder}
-use Rattle.audit_rounds.specs.code.StreamRound.{IsStreamsOf}
-use Rattle.audit_rounds.proofs.StreamsLeft.{as-many, parts-inside, are-after}
+use Rattle.audit_rounds.proofs.Alike.{items_in, as-many}
+use Rattle.audit_rounds.proofs.StreamsLeft.{parts-inside, are-after}
 use Rattle.audit_rounds.proofs.stream_round.round_over_streams.Goals as goal
 
-pub settled_over-requires-clause-found : goal.settled_over-requires-clause-found
-settled_over-requires-clause-found g c κs within = rw c.as_slice-before.ensures.value c.requires.found
+pub settled_over-requires-after_bounds : goal.settled_over-requires-after_bounds
+settled_over-requires-after_bounds g c κs within = rw c.as_slice.ensures.value c.requires
 
 pub opened_each-requires : goal.opened_each-requires
 opened_each-requires g c =
     let connections = c.args.connections.now in
     let h = c.in_ok-settled.ensures in
-    subst (All (λ (part : Part (Vec ℕ Global)). part.connection < length connections)) (sym c.as_slice.ensures.value)
-    (parts-inside c.args.credits_shown c.args.division.now.groups h.streams h.opening c.in_ok-settled.settled h.done
+    subst (All (λ (part : Part (Vec ℕ Global)). part.connection < length connections)) (sym c.as_slice-2.ensures.value)
+    (parts-inside c.args.crew.now.setup.credits_shown c.args.crew.now.setup.groups h.streams h.opening c.in_ok-settled.settled h.done
     (length connections) (AllZip-long IsStreamsOf connections h.streams h.of))
 
 pub gathered-requires : goal.gathered-requires
@@ -24,25 +21,25 @@ gathered-requires g c =
     let connections = c.args.connections.now in
     let found = c.args.found.items in
     let h = c.in_ok-settled.ensures in
-    parts-inside c.args.credits_shown c.args.division.now.groups h.streams h.opening c.in_ok-settled.settled h.done
+    parts-inside c.args.crew.now.setup.credits_shown c.args.crew.now.setup.groups h.streams h.opening c.in_ok-settled.settled h.done
     (length found)
-    (AllZip-long IsStreamsOf connections h.streams h.of ∙ sym (as-many connections found c.requires.found))
+    (AllZip-long IsStreamsOf connections h.streams h.of ∙ sym (as-many items_in found_before found connections c.requires.before))
 
 pub returns : goal.returns
 returns g c =
-    let shows = c.args.credits_shown in
-    let count = c.args.division.now.groups in
+    let shows = c.args.crew.now.setup.credits_shown in
+    let count = c.args.crew.now.setup.groups in
     let connections = c.args.connections.now in
     let found = c.args.found.items in
     let settled = c.in_ok-settled.settled in
     let h : HaveSettledOver shows count connections found settled =
     subst (λ (found : List (Vec Finding Global)). HaveSettledOver shows count connections found settled)
-    c.as_slice-before.ensures.value c.in_ok-settled.ensures in
+    c.as_slice.ensures.value c.in_ok-settled.ensures in
     are-after shows count h.streams h.opening settled h.done connections
-    (let some = c.requires.groups in omega (arith, some)) c.requires.prepared h.of found
-    c.in_ok-found.found.items c.in_ok-opened.opened.items c.requires.found h.first c.in_ok-found.ensures.number
+    (let some = c.args.crew.now.setup.some_groups in omega (arith, some)) c.requires.prepared h.of found
+    c.in_ok-found.found.items c.in_ok-opened.opened.items c.requires.before h.first c.in_ok-found.ensures.number
     c.in_ok-found.ensures.each c.in_ok-opened.ensures.number
     (λ n list connection l. subst (λ parts. IsInOrder
     (numbers_told n parts ++ (get_or connections n connection).split.opened.items)
     (get_or c.in_ok-opened.opened.items n list).items)
-    c.as_slice.ensures.value (c.in_ok-opened.ensures.each n list connection l))
+    c.as_slice-2.ensures.value (c.in_ok-opened.ensures.each n list connection l))

@@ -1,6 +1,4 @@
-use Rattle.std.proofs.Common.{◌<◌, All, map, length, sym, ◌∙◌, subst, arith}
-use Rattle.stop_desk.specs.code.Board.{Job}
-use Rattle.audit_rounds.specs.code.StreamJobs.{IsJobOf, job_of}
+use Rattle.audit_rounds.proofs.Words.{◌<◌, All, map, length, sym, ◌∙◌, subst, arith, Job, IsJobOf, job_of}
 use Rattle.audit_rounds.proofs.StreamRounds.{planned, jobs-within}
 use Rattle.audit_rounds.proofs.stream_round.settled_streams.Goals as goal
 
@@ -8,14 +6,14 @@ pub invariant_of-round-clause-planned : goal.invariant_of-round-clause-planned
 invariant_of-round-clause-planned g c =
     let connections = c.args.connections.now in
     subst (All (IsJobOf connections)) (sym (c.as_slice.ensures.value ∙ c.in_ok-plan.ensures.plan))
-    (planned c.args.division.now.groups connections (let some = c.requires.groups in omega (arith, some))
+    (planned c.args.crew.now.setup.groups connections (let some = c.args.crew.now.setup.some_groups in omega (arith, some))
     c.requires.ready)
 
 pub settle-requires-clause-connections : goal.settle-requires-clause-connections
 settle-requires-clause-connections g c κs within =
     let connections = c.args.connections.now in
-    let shows = c.args.credits_shown in
+    let shows = c.args.crew.now.setup.credits_shown in
     let size = length c.args.stops.now in
     subst (λ plan. All (λ (job : Job). job.connection < size) (map (job_of shows connections) plan))
     (sym (c.as_slice.ensures.value ∙ c.in_ok-plan.ensures.plan))
-    (jobs-within shows c.args.division.now.groups connections size (sym c.requires.number))
+    (jobs-within shows c.args.crew.now.setup.groups connections size (sym c.requires.number))

@@ -1,9 +1,6 @@
-use Rattle.std.proofs.Common.{[], ◌+◌, take, refl, sym, ap, subst, ◌∙◌, arith}
-use Rattle.std.proofs.lemmas.List.{take_all}
-use Rattle.std.specs.Option.{option_to_list}
-use Rattle.audit_terms.specs.Finding.{in_order}
-use Rattle.audit_terms.proofs.FindingOrder.{in_order-append_left}
-use Rattle.audit_rounds.specs.code.Streams.{RowsLook, rows_shown, rows_opened, row_shown, row_opened}
+use Rattle.audit_rounds.proofs.Words.{[], ◌+◌, take, refl, sym, ap, subst, ◌∙◌, arith, take_all, option_to_list}
+use Rattle.audit_rounds.proofs.Words.{in_order, in_order-append_left, RowsLook, rows_shown, rows_opened, row_shown}
+use Rattle.audit_rounds.proofs.Words.{row_opened}
 use Rattle.audit_rounds.proofs.StreamWork.{work-none, work-join, work-due, same-work, flat_map-more, rows-look-more}
 use Rattle.audit_rounds.proofs.streams.run_of_rows.Goals as goal
 

@@ -1,6 +1,4 @@
-use Rattle.std.proofs.Common.{take}
-use Rattle.audit_terms.specs.Finding.{in_order}
-use Rattle.audit_rounds.specs.code.Streams.{IsWork, RowsLook, rows_shown, rows_opened}
+use Rattle.audit_rounds.proofs.Words.{take, in_order, IsWork, RowsLook, rows_shown, rows_opened}
 use Rattle.audit_rounds.proofs.streams.run_of_rows.Given as goal
 
 -- the work of the rows so far, but for the order of its findings

@@ -1,11 +1,5 @@
-use Rattle.std.proofs.Common.{◌≡◌, ◌<◌, length, map, sym, subst, arith}
-use Rattle.std.proofs.lemmas.List.{length-map}
-use Rattle.std.proofs.lemmas.Option.{get_or_from_slice_get}
-use Rattle.audit_terms.specs.declared.frames.Frame.{Frame}
-use Rattle.stop_desk.specs.code.Board.{Job, IsCut}
-use Rattle.stop_desk.specs.code.Heeding.{RunLooks}
-use Rattle.audit_rounds.specs.declared.block_plans.ReadyBlock.{ReadyBlock}
-use Rattle.audit_rounds.specs.code.Plans.{block_job}
+use Rattle.audit_rounds.proofs.Words.{◌≡◌, ◌<◌, length, map, sym, subst, arith, length-map, get_or_from_slice_get}
+use Rattle.audit_rounds.proofs.Words.{Frame, Job, IsCut, RunLooks, ReadyBlock, block_job}
 use Rattle.audit_rounds.proofs.Jobs.{job-is, block-cut-is, run-heeds}
 use Rattle.audit_rounds.proofs.block_round.BlockRoundRound.work.Goals as goal
 

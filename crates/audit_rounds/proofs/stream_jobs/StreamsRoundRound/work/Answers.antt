@@ -1,9 +1,5 @@
-use Rattle.std.proofs.Common.{◌<◌, ◌≤◌, length, get_or, sym, subst, arith}
-use Rattle.std.proofs.lemmas.Option.{slice_get-get_or}
-use Rattle.std.proofs.lemmas.List.{length-map}
-use Rattle.audit_rounds.specs.declared.stream_plan.StreamJob.{StreamJob}
-use Rattle.audit_rounds.specs.code.StreamJobs.{job_of}
-use Rattle.audit_rounds.proofs.StreamJobs.{job-cut, job-looks, job-makes, job-rows}
+use Rattle.audit_rounds.proofs.Words.{arith, length-map, StreamJob, job_of}
+use Rattle.audit_rounds.proofs.StreamJobs.{job-cut, job-ends, job-looks, job-makes, job-planned, job-rows}
 use Rattle.audit_rounds.proofs.Whole.{if_ok-then}
 use Rattle.audit_rounds.proofs.stream_jobs.StreamsRoundRound.work.Goals as goal
 
@@ -19,63 +15,46 @@ bounds-self-job g c =
 pub bounds-self-job-2 : goal.bounds-self-job-2
 bounds-self-job-2 g c =
     let round = c.args.self.now in
-    let number = length-map round.plan.now (job_of round.credits_shown round.connections.now) in
-    let within : c.args.job < length round.plan.now = omega arith in
-    (round.planned c.args.job none within).connection
+    (job-planned round.credits_shown round.connections.now round.plan.now c.args.job none round.planned c.requires).connection
 
 pub slice_bounds-rows-count : goal.slice_bounds-rows-count
 slice_bounds-rows-count g c =
     let round = c.args.self.now in
-    let number = length-map round.plan.now (job_of round.credits_shown round.connections.now) in
-    let within : c.args.job < length round.plan.now = omega arith in
-    (round.planned c.args.job none within).rising
+    (job-planned round.credits_shown round.connections.now round.plan.now c.args.job none round.planned c.requires).rising
 
 pub slice_bounds-rows-end : goal.slice_bounds-rows-end
 slice_bounds-rows-end g c =
     let round = c.args.self.now in
-    let number = length-map round.plan.now (job_of round.credits_shown round.connections.now) in
-    let within : c.args.job < length round.plan.now = omega arith in
-    let planned = round.planned c.args.job none within in
-    let job = get_or round.plan.now c.args.job none in
-    let inside : job.to ≤ length c.deref.result.now =
-    subst (λ rows. job.to ≤ length rows) (sym c.deref.ensures.value)
-    (planned.within _ (slice_get-get_or round.connections.now job.connection c.index-self-job.result
-    planned.connection)) in
-    inside
+    job-ends round.credits_shown round.connections.now round.plan.now c.args.job none round.planned c.requires
+    c.index-self-job.result c.deref.result.now c.deref.ensures.value
 
 pub run_of_rows-requires-clause-rows : goal.run_of_rows-requires-clause-rows
 run_of_rows-requires-clause-rows g c =
     let round = c.args.self.now in
-    let number = length-map round.plan.now (job_of round.credits_shown round.connections.now) in
-    let within : c.args.job < length round.plan.now = omega arith in
-    job-rows round.connections.now round.plan.now c.args.job none c.index-self-job.result c.deref.result.now
-    (round.planned c.args.job none within).connection c.deref.ensures.value round.ready
+    job-rows round.credits_shown round.connections.now round.plan.now c.args.job none round.planned c.requires
+    c.index-self-job.result c.deref.result.now c.deref.ensures.value round.ready
 
 pub run_of_rows-requires-clause-changes : goal.run_of_rows-requires-clause-changes
 run_of_rows-requires-clause-changes g c =
     let round = c.args.self.now in
-    let number = length-map round.plan.now (job_of round.credits_shown round.connections.now) in
-    let within : c.args.job < length round.plan.now = omega arith in
-    (round.ready _ c.index-self-job.result (round.planned c.args.job none within).connection).changes
+    (round.ready _ c.index-self-job.result
+    (job-planned round.credits_shown round.connections.now round.plan.now c.args.job none round.planned c.requires).connection).changes
 
 pub returns-clause-cut : goal.returns-clause-cut
 returns-clause-cut g c =
     let round = c.args.self.now in
-    let number = length-map round.plan.now (job_of round.credits_shown round.connections.now) in
-    let within : c.args.job < length round.plan.now = omega arith in
     if_ok-then c.run_of_rows.result _ _ c.run_of_rows.ensures (λ work made one is.
-    job-cut round.connections.now round.plan.now c.args.job none c.index-self-job.result c.deref.result.now
-    (round.planned c.args.job none within).connection c.deref.ensures.value round.credits_shown one work.upto
-    work.findings.items is made.cut)
+    job-cut round.credits_shown round.connections.now round.plan.now c.args.job none round.planned c.requires
+    c.index-self-job.result c.deref.result.now c.deref.ensures.value
+    one work.upto work.findings.items is made.cut)
 
 pub returns-clause-made : goal.returns-clause-made
 returns-clause-made g c =
     let round = c.args.self.now in
-    let number = length-map round.plan.now (job_of round.credits_shown round.connections.now) in
-    let within : c.args.job < length round.plan.now = omega arith in
     if_ok-then c.run_of_rows.result _ _ c.run_of_rows.ensures (λ work made.
-    job-makes round.connections.now round.plan.now c.args.job none c.index-self-job.result c.deref.result.now
-    (round.planned c.args.job none within).connection c.deref.ensures.value work.upto work.made.items made.opens)
+    job-makes round.credits_shown round.connections.now round.plan.now c.args.job none round.planned c.requires
+    c.index-self-job.result c.deref.result.now c.deref.ensures.value
+    work.upto work.made.items made.opens)
 
 pub returns-clause-numbered : goal.returns-clause-numbered
 returns-clause-numbered g c = if_ok-then c.run_of_rows.result _ _ c.run_of_rows.ensures (λ work made. made.numbered)
@@ -83,15 +62,11 @@ returns-clause-numbered g c = if_ok-then c.run_of_rows.result _ _ c.run_of_rows.
 pub returns-clause-looks : goal.returns-clause-looks
 returns-clause-looks g c =
     let round = c.args.self.now in
-    let number = length-map round.plan.now (job_of round.credits_shown round.connections.now) in
-    let within : c.args.job < length round.plan.now = omega arith in
     if_ok-then c.run_of_rows.result _ _ c.run_of_rows.ensures (λ work made. record {
       asked = made.looks.asked;
       looked = made.looks.looked;
-      in_time = job-looks round.connections.now round.plan.now c.args.job none c.index-self-job.result
-          c.deref.result.now
-          (round.planned c.args.job none within).connection c.deref.ensures.value round.credits_shown made.looks.asked
-          work.upto
-          made.looks.in_time;
+      in_time = job-looks round.credits_shown round.connections.now round.plan.now c.args.job none round.planned c.requires
+          c.index-self-job.result c.deref.result.now c.deref.ensures.value
+          made.looks.asked work.upto made.looks.in_time;
       answered = made.looks.answered;
     })

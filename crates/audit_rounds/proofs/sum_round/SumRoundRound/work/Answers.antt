@@ -1,5 +1,4 @@
-use Rattle.std.proofs.Common.{None, sym, subst}
-use Rattle.stop_desk.specs.code.Board.{IsCut}
+use Rattle.audit_rounds.proofs.Words.{None, sym, subst, IsCut}
 use Rattle.audit_rounds.proofs.Jobs.{sum-cut}
 use Rattle.audit_rounds.proofs.sum_round.SumRoundRound.work.Goals as goal
 
