@@ -4,8 +4,9 @@ use Rattle.std.proofs.Common.{filter}
 use Rattle.stream_credit.proofs.Words.{◌≡◌, ℕ, ◌+◌, ◌<◌, ◌==◌, Bool, true, false, ◌&&◌, not, if◌then◌else◌, List, []}
 use Rattle.stream_credit.proofs.Words.{◌∷◌, ◌++◌, Option, Some, None, is_some, is_none, refl, sym, ap, ◌∙◌, subst}
 use Rattle.stream_credit.proofs.Words.{arith, append_assoc, inl, inr, cases_Bool, cases_eq, eq-eqb, ne_eqb, append-nil}
-use Rattle.stream_credit.proofs.Words.{each-in_order, and-false, Side, Client, Server, Sides, Frame, Change, Stream}
-use Rattle.stream_credit.proofs.Words.{Finding, is_side, side_of, is_ack, stream_said, initial_after}
+use Rattle.stream_credit.proofs.Words.{and-false, Side, Client, Server, Sides, Frame, Change, Stream, Finding, is_side}
+use Rattle.stream_credit.proofs.Words.{side_of, is_ack, stream_said, initial_after}
+use Rattle.audit_terms.proofs.FindingLists.{each-in_order}
 use Rattle.std.specs.List.{flat_map}
 use Rattle.audit_terms.specs.Frame.{settings_in, is_server_promise, meets, promised_by}
 use Rattle.audit_terms.specs.declared.settings.Settings.{Settings}

@@ -2,15 +2,16 @@
 use Rattle.std.proofs.lemmas.List.{length-append}
 use Rattle.stream_credit.proofs.Words.{◌≡◌, ℕ, pos, ◌+◌, ◌-◌, ◌^◌, ◌<◌, ◌≤◌, Bool, true, false, List, [], ◌∷◌, ◌++◌}
 use Rattle.stream_credit.proofs.Words.{map, drop, length, slice_get, Some, refl, sym, ap, ◌∙◌, arith, inl, inr}
-use Rattle.stream_credit.proofs.Words.{cases_Bool, nat_tests, drop-drop, drop_more, length-drop}
-use Rattle.stream_credit.proofs.Words.{filter-append, slice_get_within, get_or_from_slice_get, each-in_order}
-use Rattle.stream_credit.proofs.Words.{Sides, StreamLife, Frame, Change, Step, Stream, Finding, other, side_of}
-use Rattle.stream_credit.proofs.Words.{in_order, is_shown, shown, idle_stream, stream_said, stream_after, IsOrderlyFrom}
-use Rattle.stream_credit.proofs.Words.{IsOrderly, frame_step, change_step, initial_after, stream_run_from}
-use Rattle.stream_credit.proofs.Words.{stream_after_all, AreOrderlyFrom, AreOrderly, AreAcknowledged, QuietStream, Move}
-use Rattle.stream_credit.proofs.Words.{is_live, after_changes, passed, left_from, merged, Acknowledge, IsMove, IsRaised}
-use Rattle.stream_credit.proofs.Words.{IsQuiet, has_credit, has_ended, window_of, stream_of, initial_at, IsPassed}
-use Rattle.stream_credit.proofs.Words.{IsNext, AreFrom, StartsAt, IsAhead, ShowsNothing, Side}
+use Rattle.stream_credit.proofs.Words.{cases_Bool, nat_tests, drop-drop, drop_more, length-drop, filter-append}
+use Rattle.stream_credit.proofs.Words.{slice_get_within, get_or_from_slice_get, Sides, StreamLife, Frame, Change, Step}
+use Rattle.stream_credit.proofs.Words.{Stream, Finding, other, side_of, in_order, is_shown, shown, idle_stream}
+use Rattle.stream_credit.proofs.Words.{stream_said, stream_after, IsOrderlyFrom, IsOrderly, frame_step, change_step}
+use Rattle.stream_credit.proofs.Words.{initial_after, stream_run_from, stream_after_all, AreOrderlyFrom, AreOrderly}
+use Rattle.stream_credit.proofs.Words.{AreAcknowledged, QuietStream, Move, is_live, after_changes, passed, left_from}
+use Rattle.stream_credit.proofs.Words.{merged, Acknowledge, IsMove, IsRaised, IsQuiet, has_credit, has_ended, window_of}
+use Rattle.stream_credit.proofs.Words.{stream_of, initial_at, IsPassed, IsNext, AreFrom, StartsAt, IsAhead}
+use Rattle.stream_credit.proofs.Words.{ShowsNothing, Side}
+use Rattle.audit_terms.proofs.FindingLists.{each-in_order}
 use Rattle.stream_credit.proofs.LeftLemmas.{parted, initial-passed, initial-next, left-drop, left-from, orderly-drop}
 use Rattle.stream_credit.proofs.LeftLemmas.{orderly-from}
 use Rattle.stream_credit.proofs.MergedLemmas.{steps_of-merged, acknowledge-all, merged_at-first, merged-change}

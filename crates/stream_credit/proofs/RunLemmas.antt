@@ -4,14 +4,14 @@ use Rattle.std.proofs.Common.{All}
 use Rattle.stream_credit.proofs.Words.{◌≡◌, ℕ, ◌+◌, ◌-◌, ◌^◌, ◌<◌, ◌≤◌, Bool, true, false, List, [], ◌∷◌, if◌then◌else◌}
 use Rattle.stream_credit.proofs.Words.{◌++◌, map, Option, Some, None, refl, sym, ap, ◌∙◌, arith, inl, inr}
 use Rattle.stream_credit.proofs.Words.{AllByRecursion, ForSome, cases_Bool, cases_order, eq-eqb, ne_eqb, lt-ltb, le-ltb}
-use Rattle.stream_credit.proofs.Words.{append-nil, All-from_recursion, ends, is-cut, Client, Server, Frame, Change}
-use Rattle.stream_credit.proofs.Words.{Step, Finding, is_ack, place_number, shown, initial_in_force, idle_stream, up_to}
-use Rattle.stream_credit.proofs.Words.{IsRun, IsOrderlyFrom, IsOrderly, change_step, steps_of, stream_run}
-use Rattle.stream_credit.proofs.Words.{stream_at_end, Watches, NeverFallFrom, AreOrderlyFrom, AreOrderly}
-use Rattle.stream_credit.proofs.Words.{AreAcknowledged, Left, Walk, after_each, passed, left_from, change_at}
-use Rattle.stream_credit.proofs.Words.{left_after, IsInForce, step_numbers, opened_up_to, merged_at, merged, frame_with}
-use Rattle.stream_credit.proofs.Words.{numbers_of, IsNumbered, HasRoomAt, WholeRun, IsAt, IsAtChanges, IsSound}
-use Rattle.stream_credit.proofs.Words.{HasEnded, HasStopped}
+use Rattle.stream_credit.proofs.Words.{append-nil, All-from_recursion, Client, Server, Frame, Change, Step, Finding}
+use Rattle.stream_credit.proofs.Words.{is_ack, place_number, shown, initial_in_force, idle_stream, up_to, IsRun}
+use Rattle.stream_credit.proofs.Words.{IsOrderlyFrom, IsOrderly, change_step, steps_of, stream_run, stream_at_end}
+use Rattle.stream_credit.proofs.Words.{Watches, NeverFallFrom, AreOrderlyFrom, AreOrderly, AreAcknowledged, Left, Walk}
+use Rattle.stream_credit.proofs.Words.{after_each, passed, left_from, change_at, left_after, IsInForce, step_numbers}
+use Rattle.stream_credit.proofs.Words.{opened_up_to, merged_at, merged, frame_with, numbers_of, IsNumbered, HasRoomAt}
+use Rattle.stream_credit.proofs.Words.{WholeRun, IsAt, IsAtChanges, IsSound, HasEnded, HasStopped}
+use Rattle.audit_terms.proofs.Watching.{ends, is-cut}
 use Rattle.stream_credit.proofs.LeftLemmas.{passed-before, orderly-before, orderly-left_from, orderly-left_after}
 use Rattle.stream_credit.proofs.LeftLemmas.{acknowledge-left_from, acknowledge-later, own-acknowledged}
 use Rattle.stream_credit.proofs.MergedLemmas.{steps_of-merged, acknowledge-all, merged-passed, merged_at-own}

@@ -1,14 +1,15 @@
 -- A step that shows nothing of a stream where credits are not shown, and a change that is one.
 use Rattle.stream_credit.proofs.Words.{◌≡◌, int_lt, ℕ, ℤ, Bool, true, false, ◌&&◌, not, List, [], ◌∷◌, ◌++◌, Option}
 use Rattle.stream_credit.proofs.Words.{Some, None, is_some, option_map, refl, sym, ap, ◌∙◌, arith, AllByRecursion}
-use Rattle.stream_credit.proofs.Words.{and_right, or_from, or_left, cond-true, cond-false, ints, append-nil}
-use Rattle.stream_credit.proofs.Words.{each-append, each-in_order, Side, Client, Server, Sides, Frame, Change, Step}
-use Rattle.stream_credit.proofs.Words.{Stream, Finding, side_of, new_initial, is_zero_grant, content_by, grant_to}
-use Rattle.stream_credit.proofs.Words.{ends_window, is_not_opened, is_after_end, is_used_up, overflows, overruns, say}
-use Rattle.stream_credit.proofs.Words.{say_of, in_order, is_shown, shown, step_test, step_amount, opens, life_at}
-use Rattle.stream_credit.proofs.Words.{WindowStep, window_step, window_after, frame_said, live_window_said, stream_said}
-use Rattle.stream_credit.proofs.Words.{stream_after, is_stalled, counted, is_overflowing_grant, frame_step}
-use Rattle.stream_credit.proofs.Words.{initial_after, Walk, moved, IsSilent, IsCounted}
+use Rattle.stream_credit.proofs.Words.{and_right, or_from, or_left, cond-true, cond-false, ints, append-nil, Side}
+use Rattle.stream_credit.proofs.Words.{Client, Server, Sides, Frame, Change, Step, Stream, Finding, side_of}
+use Rattle.stream_credit.proofs.Words.{new_initial, is_zero_grant, content_by, grant_to, ends_window, is_not_opened}
+use Rattle.stream_credit.proofs.Words.{is_after_end, is_used_up, overflows, overruns, say, say_of, in_order, is_shown}
+use Rattle.stream_credit.proofs.Words.{shown, step_test, step_amount, opens, life_at, WindowStep, window_step}
+use Rattle.stream_credit.proofs.Words.{window_after, frame_said, live_window_said, stream_said, stream_after}
+use Rattle.stream_credit.proofs.Words.{is_stalled, counted, is_overflowing_grant, frame_step, initial_after, Walk}
+use Rattle.stream_credit.proofs.Words.{moved, IsSilent, IsCounted}
+use Rattle.audit_terms.proofs.FindingLists.{each-append, each-in_order}
 
 -- ---- findings that are not shown
 

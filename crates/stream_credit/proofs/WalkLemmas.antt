@@ -3,15 +3,16 @@ use Rattle.std.proofs.Common.{length-append}
 use Rattle.stream_credit.proofs.Words.{◌≡◌, ℕ, ℤ, ◌+◌, ◌-◌, ◌*◌, ◌^◌, ◌<◌, ◌≤◌, inl, inr, Bool, true, false, ◌==◌, ◌&&◌}
 use Rattle.stream_credit.proofs.Words.{◌||◌, if◌then◌else◌, List, [], ◌∷◌, ◌++◌, append_assoc, map, length, Option}
 use Rattle.stream_credit.proofs.Words.{Some, None, is_some, is_none, refl, sym, ap, ◌∙◌, subst, arith, AllByRecursion}
-use Rattle.stream_credit.proofs.Words.{option_map_or, cases_Bool, eqb-true, nat_tests, ints, filter-append, each-append}
-use Rattle.stream_credit.proofs.Words.{each-filter, Side, Client, Server, Sides, StreamLife, Frame, Change, Step}
-use Rattle.stream_credit.proofs.Words.{Stream, Finding, side_of, each_side, life_after, shown, is_shown, is_past}
-use Rattle.stream_credit.proofs.Words.{found_before, change_step, initial_after, stream_run_from, stream_after_all}
-use Rattle.stream_credit.proofs.Words.{stream_after, WindowHasRoom, Watches, IsStopped, NeverFallFrom, Walk, is_live}
-use Rattle.stream_credit.proofs.Words.{is_met, met_from, opened_up_to, after_changes, met_by, numbers_of, IsNumbered}
-use Rattle.stream_credit.proofs.Words.{IsCounted, HasRoomAt, WholeRun, IsAt, IsAtChanges, HasStopped, window_after}
-use Rattle.stream_credit.proofs.Words.{before-front, each-in_order, each-weaker, at-stream, numbered-at, place_number}
-use Rattle.stream_credit.proofs.Words.{in_order, stream_said, up_to}
+use Rattle.stream_credit.proofs.Words.{option_map_or, cases_Bool, eqb-true, nat_tests, ints, filter-append, Side}
+use Rattle.stream_credit.proofs.Words.{Client, Server, Sides, StreamLife, Frame, Change, Step, Stream, Finding, side_of}
+use Rattle.stream_credit.proofs.Words.{each_side, life_after, shown, is_shown, is_past, found_before, change_step}
+use Rattle.stream_credit.proofs.Words.{initial_after, stream_run_from, stream_after_all, stream_after, WindowHasRoom}
+use Rattle.stream_credit.proofs.Words.{Watches, IsStopped, NeverFallFrom, Walk, is_live, is_met, met_from, opened_up_to}
+use Rattle.stream_credit.proofs.Words.{after_changes, met_by, numbers_of, IsNumbered, IsCounted, HasRoomAt, WholeRun}
+use Rattle.stream_credit.proofs.Words.{IsAt, IsAtChanges, HasStopped, window_after, place_number, in_order, stream_said}
+use Rattle.stream_credit.proofs.Words.{up_to}
+use Rattle.audit_terms.proofs.FindingLists.{each-append, each-filter, each-in_order, each-weaker}
+use Rattle.audit_terms.proofs.SaidPlaces.{before-front, at-stream, numbered-at}
 
 -- ---- room
 

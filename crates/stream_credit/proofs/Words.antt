@@ -1,7 +1,4 @@
 -- The words that proofs of this crate cite, passed on from one place. Declares nothing.
-pub use Rattle.audit_terms.proofs.FindingLists.{each-append, each-filter, each-in_order, each-weaker}
-pub use Rattle.audit_terms.proofs.SaidPlaces.{at-stream, before-front, numbered-at}
-pub use Rattle.audit_terms.proofs.Watching.{ends, is-cut}
 pub use Rattle.audit_terms.specs.Change.{new_initial}
 pub use Rattle.audit_terms.specs.Finding.{in_order, is_shown, say, say_of, shown}
 pub use Rattle.audit_terms.specs.Frame.{content_by, grant_to, increment, is_ack, is_promise, is_reset, is_zero_grant}
