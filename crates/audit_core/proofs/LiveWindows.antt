@@ -1,9 +1,9 @@
 -- A window of a stream is live only while the stream is opened and the window's endpoint has not ended it.
 use Rattle.std.proofs.Common.{◌≡◌, Bool, List, None, Option, Some, [], false, if◌then◌else◌, is_none, is_some, refl}
-use Rattle.std.proofs.Common.{sym, true, true≢false, ℕ, ℤ, ◌%◌, ◌&&◌, ◌==◌, ◌||◌, ◌∙◌, ◌∷◌}
+use Rattle.std.proofs.Common.{true, true≢false, ℕ, ℤ, ◌%◌, ◌&&◌, ◌==◌, ◌||◌, ◌∷◌, arith}
 use Rattle.std.specs.Prelude.{OnSome}
-use Rattle.audit_core.proofs.Words.{eqb-true, and-false, and_parts, or_parts, or_right, is_client_headers, meets}
-use Rattle.audit_core.proofs.Words.{promises, sends_end, is_reset, change_of, is_last_of, is_opening, ends_window, next}
+use Rattle.audit_core.proofs.Words.{eqb-true, and-false, and_parts, or_parts, is_client_headers, meets, promises}
+use Rattle.audit_core.proofs.Words.{sends_end, is_reset, change_of, is_last_of, is_opening, ends_window, next}
 use Rattle.audit_core.proofs.Words.{PassState, pass_start, is_side, side_of, window_at_opening, window_after, step_test}
 use Rattle.audit_core.proofs.Words.{stream_after, state_from, Frame, Change, Step, Side, Client, Server, Sides, Stream}
 use Rattle.audit_core.proofs.Words.{LiveWindowsAreUnended, LiveWindowsAreOpened}
@@ -21,18 +21,13 @@ odd-even stream e = rw (eqb-true (stream % 2) 1 e) refl
 -- an endpoint whose window lives on has not ended the stream
 goes-on : (end reset side client named even elsewhere : Bool) → (end || reset) ≡ false → (client && even) ≡ false
     → ((end || (side && reset)) || (client && ((named && even) && elsewhere))) ≡ false
-goes-on false false side true named even elsewhere e o = rw (o, and-false side, and-false named) refl
-goes-on false false side false named even elsewhere e o = rw (and-false side) refl
-goes-on _ _ side client named even elsewhere e o = cc
+goes-on end reset side client named even elsewhere e o = grind arith
 
 -- an endpoint that goes on sending on a stream that opens is not the client of a promised stream
 sends-on : (client odd headers promises last even : Bool) → ((odd && headers) || promises) ≡ true
     → (last || (client && promises)) ≡ false
     → (odd ≡ true → even ≡ false) → (client && even) ≡ false
-sends-on false odd headers promises last even o e f = refl
-sends-on true true headers promises last even o e f = f refl
-sends-on true false headers true last even o e f = absurd (true≢false (sym (or_right last true refl) ∙ e))
-sends-on true false headers false last even o e f = cc
+sends-on client odd headers promises last even o e f = grind arith
 
 not-opened : (o : Option ℕ) (b : Bool) → (is_none o && b) ≡ true → is_some o ≡ false
 not-opened None b e = refl

@@ -1,11 +1,11 @@
 -- How a stream meets a frame: it is on the stream, or promises it, or does neither; and what the frame that opens a
 -- stream is.
 use Rattle.std.proofs.Common.{◌≡◌, ℕ, Bool, true, false, ◌&&◌, ◌||◌, ◌==◌, if◌then◌else◌, ◌%◌, Some, None, refl, sym}
-use Rattle.std.proofs.Common.{true≢false}
+use Rattle.std.proofs.Common.{true≢false, arith}
 use Rattle.audit_core.proofs.Words.{option_map_or, Side, Body, Headers, PushPromise, Frame, StreamLife, Stream, is_ack}
 use Rattle.audit_core.proofs.Words.{is_content, is_headers, is_promise, is_client_headers, increment, content_by}
-use Rattle.audit_core.proofs.Words.{grant_to, promises, meets, content_on, InForce, is_opening, life_after, step_amount}
-use Rattle.audit_core.proofs.Words.{opens, life_at, step_of, and-false, and_parts}
+use Rattle.audit_core.proofs.Words.{grant_to, promises, meets, content_on, InForce, is_opening, step_amount, opens}
+use Rattle.audit_core.proofs.Words.{life_at, step_of, and_parts, nat_tests}
 
 pub no-choice : {A : Type 0} (b : Bool) (x : A) → (if b then x else x) ≡ x
 no-choice true x = refl
@@ -32,9 +32,7 @@ promised-counts stream frame e =
 
 -- a frame that opens a stream
 opening-by : (odd headers promised : Bool) → ((odd && headers) || promised) ≡ true → (headers ≡ false → promised ≡ true)
-opening-by true true promised e n = cc
-opening-by true false promised e n = e
-opening-by false headers promised e n = e
+opening-by odd headers promised e n = grind arith
 
 pub opening-counts : (stream : ℕ) (life : StreamLife) (frame : Frame) → is_opening stream life frame ≡ true
     → CountsNothing frame.body
@@ -51,21 +49,10 @@ opening-counts stream life frame e = by_headers (is_client_headers frame) refl w
 module _ (stream : ℕ) (now : InForce) (frame : Frame) where
   -- what the step grants and carries is what the frame does on the stream
   pub step-grant : (d : Side) → step_amount (grant_to d stream) (step_of now frame stream) ≡ grant_to d stream frame
-  step-grant d = by_tests (frame.stream == stream) (promises stream frame) refl where
-    by_tests : (on promised : Bool) → (frame.stream == stream) ≡ on
-        → option_map_or (grant_to d stream) (if on || promised then Some frame else None) 0 ≡ grant_to d stream frame
-    by_tests true promised e = refl
-    by_tests false true e = refl
-    by_tests false false e = sym (rw (e, and-false) refl)
+  step-grant d = grind (arith, nat_tests)
 
   pub step-content : (d : Side) → step_amount (content_by d) (step_of now frame stream) ≡ content_on d stream frame
-  step-content d = by_tests (frame.stream == stream) (promises stream frame) refl where
-    by_tests : (on promised : Bool) → promises stream frame ≡ promised
-        → option_map_or (content_by d) (if on || promised then Some frame else None) 0
-        ≡ (if on then content_by d frame else 0)
-    by_tests true promised e = refl
-    by_tests false true e = rw ((promised-counts stream frame e).content, and-false) refl
-    by_tests false false e = refl
+  step-content d = grind (arith, nat_tests, promised-counts stream frame)
 
   -- a step that opens the stream counts nothing
   pub step-opening : (entry : Stream) → opens stream entry (step_of now frame stream) ≡ true → CountsNothing frame.body
@@ -79,10 +66,4 @@ module _ (stream : ℕ) (now : InForce) (frame : Frame) where
   -- the opening is written down at the step that opens
   pub step-opened : (entry : Stream) → (life_at stream entry (step_of now frame stream)).opened
       ≡ (if opens stream entry (step_of now frame stream) then Some frame.number else entry.life.opened)
-  step-opened entry = by_test (meets stream frame) where
-    by_test : (met : Bool)
-        → (option_map_or (life_after stream entry.life) (if met then Some frame else None) entry.life).opened
-        ≡ (if option_map_or (is_opening stream entry.life) (if met then Some frame else None) false
-        then Some frame.number else entry.life.opened)
-    by_test true = refl
-    by_test false = refl
+  step-opened entry = grind arith

@@ -1,8 +1,8 @@
 -- The streams that frames name, gathered one by one.
 use Rattle.std.proofs.Common.{◌≡◌, ℕ, Bool, true, false, not, ◌==◌, ◌||◌, ◌&&◌, if◌then◌else◌, List, [], ◌∷◌, ◌++◌}
-use Rattle.std.proofs.Common.{filter, refl, sym, ap, ◌∙◌, append_assoc}
+use Rattle.std.proofs.Common.{filter, refl, sym, ap, ◌∙◌, append_assoc, arith}
 use Rattle.std.proofs.lemmas.List.Elements.{filter_agree}
-use Rattle.audit_core.proofs.Words.{eqb-true, first_of, other, and-false, and-true, or_assoc, or-false}
+use Rattle.audit_core.proofs.Words.{first_of, other, or-false, nat_tests}
 
 -- does the stream stand among these?
 abbrev pub is_among : ℕ → List ℕ → Bool
@@ -19,17 +19,11 @@ without seen streams = filter (λ stream. not (is_among stream seen)) streams
 
 filter-filter : (p q : ℕ → Bool) (xs : List ℕ) → filter p (filter q xs) ≡ filter (λ x. q x && p x) xs
 filter-filter p q [] = refl
-filter-filter p q (x ∷ xs) = by_tests _ _ refl refl (filter-filter p q xs) where
-  by_tests : (a b : Bool) → q x ≡ a → p x ≡ b → filter p (filter q xs) ≡ filter (λ y. q y && p y) xs →
-      filter p (filter q (x ∷ xs)) ≡ filter (λ y. q y && p y) (x ∷ xs)
-  by_tests true true e f ih = simp (e, f) (ap (λ l. x ∷ l) ih)
-  by_tests true false e f ih = simp (e, f) ih
-  by_tests false b e f ih = simp e ih
+filter-filter p q (x ∷ xs) = grind (arith, filter-filter p q xs)
 
 among-append : (q s : ℕ) (seen : List ℕ) → is_among q (seen ++ s ∷ []) ≡ (is_among q seen || (q == s))
 among-append q s [] = or-false (q == s)
-among-append q s (x ∷ seen) = ap (λ b. (q == x) || b) (among-append q s seen)
-    ∙ sym (or_assoc (q == x) (is_among q seen) (q == s))
+among-append q s (x ∷ seen) = grind (arith, among-append q s seen)
 
 -- one more stream, of those still to come
 module _ (stream : ℕ) (seen later : List ℕ) where
@@ -39,14 +33,12 @@ module _ (stream : ℕ) (seen later : List ℕ) where
   left-over test same =
       filter-filter (λ x. not (is_among x seen)) (λ x. not (x == stream)) later ∙ filter_agree _ test same later
 
-  seen-test : (x : ℕ) → is_among stream seen ≡ true → (b : Bool) → (x == stream) ≡ b →
+  seen-test : (x : ℕ) → is_among stream seen ≡ true →
       (not (x == stream) && not (is_among x seen)) ≡ not (is_among x seen)
-  seen-test x h true e = rw (e, eqb-true x stream e, h) refl
-  seen-test x h false e = rw e refl
+  seen-test x h = grind (arith, nat_tests)
 
   new-test : (a b : Bool) → (not b && not a) ≡ not (a || b)
-  new-test true b = and-false _
-  new-test false b = and-true _
+  new-test a b = grind arith
 
   -- the streams seen and those still to come stay the same
   pub named-more : with_stream stream seen ++ without (with_stream stream seen) later ≡ seen
@@ -57,7 +49,7 @@ module _ (stream : ℕ) (seen later : List ℕ) where
         ≡ seen ++ without seen (first_of stream later)
     by_tests true b z h = rw z refl
     by_tests false true z h =
-        simp (z, h) (ap (λ l. seen ++ l) (sym (left-over _ (λ x. seen-test x h _ refl))))
+        simp (z, h) (ap (λ l. seen ++ l) (sym (left-over _ (λ x. seen-test x h))))
     by_tests false false z h =
         simp (z, h)
         (append_assoc seen (stream ∷ []) (without (seen ++ stream ∷ []) later)

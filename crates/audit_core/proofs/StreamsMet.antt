@@ -1,10 +1,10 @@
 -- The streams that frames name are those that meet one of them.
-use Rattle.std.proofs.Common.{◌≡◌, Bool, List, [], ap, false, filter, not, refl, sym, true, ℕ, ◌&&◌, ◌==◌, ◌||◌}
-use Rattle.std.proofs.Common.{◌∙◌, ◌∷◌}
+use Rattle.std.proofs.Common.{◌≡◌, Bool, List, [], ap, false, filter, not, refl, sym, true, ℕ, ◌&&◌, ◌==◌, ◌||◌, ◌∙◌}
+use Rattle.std.proofs.Common.{◌∷◌, arith, zero}
 use Rattle.std.proofs.lemmas.Map.Views.{any-filter_same}
-use Rattle.audit_core.proofs.Words.{eq-eqb, eqb-true, ne_eqb, and-false, list_any, cond_both, eqb-false, promised_in}
-use Rattle.audit_core.proofs.Words.{meets, promises, promised_by, first_of, Frame, StreamsAreNamedOnce}
-use Rattle.audit_core.proofs.Words.{StreamsAreThoseMet, and-true, or_assoc}
+use Rattle.audit_core.proofs.Words.{ne_eqb, and-false, list_any, cond_both, eqb-false, promised_in, meets, promises}
+use Rattle.audit_core.proofs.Words.{promised_by, first_of, Frame, StreamsAreNamedOnce, StreamsAreThoseMet, or_assoc}
+use Rattle.audit_core.proofs.Words.{nat_tests, other}
 use Rattle.audit_core.proofs.Apart.{distinct-streams_of}
 
 module _ (stream : ℕ) where
@@ -21,25 +21,17 @@ module _ (stream : ℕ) where
     still-named : (first == stream) ≡ false →
         is_named (filter (λ other. not (other == first)) streams) ≡ is_named streams
     still-named e = any-filter_same (λ other. other == stream) (λ other. not (other == first)) true
-        (λ other q. rw (eqb-true other stream q, ne_eqb stream first (λ p. eqb-false first stream e (sym p))) refl)
-        streams
+        (λ other q. grind (arith, nat_tests)) streams
 
     by_tests : (zero same : Bool) → (first == 0) ≡ zero → (first == stream) ≡ same → NamesFirst first streams
-    by_tests true true z e = rw (← eqb-true first stream e, z) refl
-    by_tests true false z e = rw (z, e, and-false) refl
-    by_tests false true z e = rw (← eqb-true first stream e, z, eq-eqb first first refl) refl
+    by_tests true same z e = grind (arith, nat_tests)
+    by_tests false true z e = grind (arith, nat_tests)
     by_tests false false z e = rw (z, e, and-false) (still-named e)
 
   -- a frame promises the stream that it carries
   promises-own : (frame : Frame) →
       promises stream frame ≡ (promises (promised_in frame.body) frame && (promised_in frame.body == stream))
-  promises-own frame = by_test _ refl where
-    by_test : (same : Bool) → (promised_in frame.body == stream) ≡ same → promises stream frame
-        ≡ (promises (promised_in frame.body) frame && (promised_in frame.body == stream))
-    by_test true e =
-        ap (λ n. promises n frame) (sym (eqb-true (promised_in frame.body) stream e))
-        ∙ sym (ap (λ b. promises (promised_in frame.body) frame && b) e ∙ and-true _)
-    by_test false e = simp (e, and-false)
+  promises-own frame = grind (arith, nat_tests)
 
   -- the stream, other than 0, is the one that the frame promises
   promised-is : (frame : Frame) → (stream == 0) ≡ false → (promised_by frame == stream) ≡ promises stream frame
