@@ -3,12 +3,12 @@ use Rattle.std.proofs.Common.{◌≡◌, ℕ, ℤ, pos, ◌+◌, ◌+ℤ◌, ◌
 use Rattle.std.proofs.Common.{sum_by, Option, Some, None, refl, sym, ap, ◌∙◌, arith, subst, ⊎_elim}
 use Rattle.std.proofs.lemmas.List.Sums.{sum_by-cons}
 use Rattle.std.proofs.lemmas.Option.{same_Some, none-some}
-use Rattle.audit_core.proofs.Words.{option_map_or, ints, Side, Client, Server, Frame, Step, Stream, side_of, content_by}
-use Rattle.audit_core.proofs.Words.{grant_to, IsOrderlyFrom, is_opening, is_last_of, first_window, new_initial}
-use Rattle.audit_core.proofs.Words.{change_of, credit_after, step_test, opens, window_after, window_at_opening, counted}
-use Rattle.audit_core.proofs.Words.{window_ends, PassState, pass_start, step_of, next, state_from}
-use Rattle.audit_core.proofs.Words.{ConnectionCreditIsSum, StreamCreditIsSum, content_on, since, stream_credit_sum}
-use Rattle.audit_core.proofs.Words.{and-false, cond_both, cases_Bool, le-leb, lt-leb}
+use Rattle.audit_core.proofs.Words.{ints, Side, Client, Server, Frame, Step, Stream, side_of, content_by, grant_to}
+use Rattle.audit_core.proofs.Words.{IsOrderlyFrom, is_last_of, first_window, new_initial, change_of, credit_after}
+use Rattle.audit_core.proofs.Words.{step_test, opens, window_after, window_at_opening, counted, window_ends, PassState}
+use Rattle.audit_core.proofs.Words.{pass_start, step_of, next, state_from, ConnectionCreditIsSum, StreamCreditIsSum}
+use Rattle.audit_core.proofs.Words.{content_on, since, stream_credit_sum, and-false, cond_both, cases_Bool, lt-leb}
+use Rattle.audit_core.proofs.Words.{nat_tests}
 use Rattle.audit_core.proofs.Meetings.{no-choice, step-grant, step-content, step-opening, step-opened}
 
 -- ---- the connection
@@ -66,10 +66,7 @@ initial-next Server state frame = refl
 -- an opened stream is not opened again
 opened-once : (stream opening : ℕ) (entry : Stream) (step : Step) → entry.life.opened ≡ Some opening
     → opens stream entry step ≡ false
-opened-once stream opening entry step e = by_frame step.frame where
-  by_frame : (o : Option Frame) → option_map_or (is_opening stream entry.life) o false ≡ false
-  by_frame None = refl
-  by_frame (Some frame) = rw e refl
+opened-once stream opening entry step e = grind arith
 
 -- ---- a stream that is opened
 
@@ -138,8 +135,8 @@ since-all : (opening low : ℕ) (frames : List Frame) → opening ≤ low → Is
     → since opening frames ≡ frames
 since-all opening low [] below h = refl
 since-all opening low (frame ∷ frames) below h =
-    rw (le-leb opening frame.number (omega (arith, h.0)))
-    (ap (λ rest. frame ∷ rest) (since-all opening (frame.number + 1) frames (omega (arith, h.0)) h.2))
+    let rest = since-all opening (frame.number + 1) frames (omega (arith, h.0)) h.2 in
+    grind (arith, nat_tests, h.0)
 
 -- a stream that is opened among some frames is opened by one of them
 opening-within : (stream opening low : ℕ) (state : PassState) (frames : List Frame) → IsOrderlyFrom low frames

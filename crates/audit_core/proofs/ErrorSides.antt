@@ -7,6 +7,7 @@ use Rattle.audit_core.proofs.Words.{Settings, Frame, other, is_side, side_of, is
 use Rattle.audit_core.proofs.Words.{grant_to, meets, new_initial, overflows, InForce, taken, change_of, change_taking}
 use Rattle.audit_core.proofs.Words.{credit_after, counted, step_of, and_parts}
 use Rattle.audit_core.proofs.TableRows.{same_side}
+use Rattle.audit_core.proofs.Meetings.{no-choice}
 
 other_side : (d e : Side) → is_side (other d) e ≡ true → d ≡ other e
 other_side Client Server h = refl
@@ -32,32 +33,23 @@ ack-only _ e = cc
 
 -- a frame that brings a change is an acknowledgement
 pub change-ack : (now : InForce) (frame : Frame) → is_some (change_of now frame) ≡ true → is_ack frame.body ≡ true
-change-ack now frame c = by_ack _ refl where
-  by_ack : (b : Bool) → is_ack frame.body ≡ b → is_ack frame.body ≡ true
-  by_ack true e = e
-  by_ack false e = let k : is_some (change_of now frame) ≡ false = rw e refl in cc
+change-ack now frame c = grind arith
 
 -- a change moves only the windows of the side that acknowledges
 module _ (d : Side) (stream : ℕ) (now : InForce) (initial : Sides ℕ) (frame : Frame) (before : ℤ) where
   no_amount : (amount : Frame → ℕ) (b : Bool) → amount frame ≡ 0 →
       option_map_or amount (if b then Some frame else None) 0 ≡ 0
-  no_amount amount true e = e
-  no_amount amount false e = refl
+  no_amount amount b e = grind arith
 
   same_initial : (o : Option Settings) (n : ℕ) → is_side d frame.side ≡ false →
       new_initial (change_taking frame o) d n ≡ n
-  same_initial None n e = refl
-  same_initial (Some settings) n e = rw e refl
-
-  no_grant : (b : Bool) (n : ℕ) → n ≡ 0 → (if b then n else 0) ≡ 0
-  no_grant true n e = e
-  no_grant false n e = refl
+  same_initial o n e = grind arith
 
   still : is_some (change_of now frame) ≡ true → is_side d frame.side ≡ false
       → int_lt before (counted d stream initial (step_of now frame stream) before) ≡ true → ⊥
   still c e above =
       let ack = ack-only frame.body (change-ack now frame c) in
-      let grant = no_amount (grant_to d stream) (meets stream frame) (no_grant _ _ ack.0) in
+      let grant = no_amount (grant_to d stream) (meets stream frame) (rw ack.0 (no-choice _ 0)) in
       let content = no_amount (content_by d) (meets stream frame) (rw (ack.1, and-false) refl) in
       let same = same_initial (taken now frame) (side_of d initial) e in
       absurd (omega (arith, ints))

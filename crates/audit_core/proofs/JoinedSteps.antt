@@ -1,11 +1,11 @@
 -- The steps of some frames and some changes are these frames and these changes, joined.
-use Rattle.std.proofs.Common.{◌≡◌, Bool, List, None, Option, Some, [], ap, arith, false, is_some, map, refl, sym, true}
-use Rattle.std.proofs.Common.{ℕ, ◌++◌, ◌+◌, ◌<◌, ◌||◌, ◌∙◌, ◌∷◌, ◌≤◌}
+use Rattle.std.proofs.Common.{◌≡◌, List, None, Option, Some, [], ap, arith, is_some, map, refl, sym, true, ℕ, ◌++◌, ◌+◌}
+use Rattle.std.proofs.Common.{◌<◌, ◌∙◌, ◌∷◌, ◌≤◌}
 use Rattle.audit_core.proofs.Words.{flat_map, option_to_list, AllByRecursion, map-map, meets, InForce, taken}
 use Rattle.audit_core.proofs.Words.{change_taking, in_force_after, initial_in_force, changes_from, changes_of}
 use Rattle.audit_core.proofs.Words.{IsOrderlyFrom, frame_step, with_change, steps_of, frames_of, Frame, Change, Step}
 use Rattle.audit_core.proofs.Words.{Settings, EachPair, StreamsHaveSteps, AreRising, IsFilled}
-use Rattle.audit_core.proofs.Words.{StepsJoinFramesAndChanges}
+use Rattle.audit_core.proofs.Words.{StepsJoinFramesAndChanges, joined, or-true}
 use Rattle.audit_core.proofs.Pairs.{all-before_map, all-map, pairs-mapped, pairs-filter, all-mapped}
 use Rattle.audit_core.proofs.StreamSteps.{with_change-cases, all-with, all-steps, all-numbers, all-change_numbers}
 
@@ -22,13 +22,8 @@ changes_in steps = flat_map (λ (step : Step). option_to_list step.change) steps
 abbrev IsChangedAbove : (number : ℕ) → Step → Type 0
 IsChangedAbove number step = is_some step.change ≡ true → number < step.number
 
-or-true : (b : Bool) → (b || true) ≡ true
-or-true true = refl
-or-true false = refl
-
 no-change : (o : Option Change) → (is_some o ≡ true → ⊥) → option_to_list o ≡ []
-no-change None h = refl
-no-change (Some change) h = absurd (h refl)
+no-change o h = grind arith
 
 -- ---- one more change among some steps
 

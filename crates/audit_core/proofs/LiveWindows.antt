@@ -30,12 +30,10 @@ sends-on : (client odd headers promises last even : Bool) → ((odd && headers) 
 sends-on client odd headers promises last even o e f = grind arith
 
 not-opened : (o : Option ℕ) (b : Bool) → (is_none o && b) ≡ true → is_some o ≡ false
-not-opened None b e = refl
-not-opened (Some number) b e = cc
+not-opened o b e = grind arith
 
 live-unless : (b : Bool) (credit : ℤ) → is_some (if b then None else Some credit) ≡ true → b ≡ false
-live-unless true credit e = cc
-live-unless false credit e = refl
+live-unless b credit e = grind arith
 
 module _ (d : Side) (stream : ℕ) (initial : Sides ℕ) (number : ℕ) (change : Option Change) where
   abbrev at-frame : Option Frame → Step

@@ -1,13 +1,13 @@
 -- The pass stands in order: what is said at a frame has the frame's number, and the numbers rise.
 use Rattle.std.proofs.Common.{◌≡◌, ℕ, ◌+◌, ◌^◌, ◌<◌, Bool, true, false, not, ◌==◌, List, [], ◌∷◌, ◌++◌, arith}
 use Rattle.std.proofs.Common.{if◌then◌else◌, filter}
-use Rattle.audit_core.proofs.Words.{Frame, Finding, side_of, comes_after, in_order, promised_in, promises, promised_by}
-use Rattle.audit_core.proofs.Words.{IsInRange, IsOrderlyFrom, IsOrderly, local_said, settings_said, connection_said}
-use Rattle.audit_core.proofs.Words.{PassState, pass_start, said, full_from, full, next, first_of, streams_of}
-use Rattle.audit_core.proofs.Words.{streams_said, step_of, item_of, IsInOrder, in_order-ordered, in_order-append}
-use Rattle.audit_core.proofs.Words.{ordered-in_order, comes_after_is, AreAt, AreFrom, at-append, at-in_order, at-nil}
-use Rattle.audit_core.proofs.Words.{at-local, at-settings, at-connection, at-stream, from-at, from-from, from-append}
-use Rattle.audit_core.proofs.Words.{precedes-at, AllByRecursion}
+use Rattle.audit_core.proofs.Words.{Frame, Finding, side_of, comes_after, in_order, promised_in, promised_by, IsInRange}
+use Rattle.audit_core.proofs.Words.{IsOrderlyFrom, IsOrderly, local_said, settings_said, connection_said, PassState}
+use Rattle.audit_core.proofs.Words.{pass_start, said, full_from, full, next, first_of, streams_of, streams_said}
+use Rattle.audit_core.proofs.Words.{step_of, item_of, IsInOrder, in_order-ordered, in_order-append, ordered-in_order}
+use Rattle.audit_core.proofs.Words.{comes_after_is, AreAt, AreFrom, at-append, at-in_order, at-nil, at-local}
+use Rattle.audit_core.proofs.Words.{at-settings, at-connection, at-stream, from-at, from-from, from-append, precedes-at}
+use Rattle.audit_core.proofs.Words.{AllByRecursion, other}
 use Rattle.audit_core.proofs.Pairs.{all-filter}
 
 -- all streams have 31 bits
@@ -72,10 +72,7 @@ streams-first_of stream streams p h = step (stream == 0) where
   step false = (p, all-filter (λ other. other < 2 ^ 31) _ streams h)
 
 promised_by-small : (frame : Frame) → promised_in frame.body < 2 ^ 31 → promised_by frame < 2 ^ 31
-promised_by-small frame h = step (promises (promised_in frame.body) frame) where
-  step : (b : Bool) → (if b then promised_in frame.body else 0) < 2 ^ 31
-  step true = h
-  step false = omega arith
+promised_by-small frame h = grind arith
 
 -- the streams that orderly frames name
 pub streams-streams_of : (low : ℕ) (frames : List Frame) → IsOrderlyFrom low frames → AreStreams (streams_of frames)

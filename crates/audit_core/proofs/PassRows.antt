@@ -1,7 +1,7 @@
 -- The rows and the changes that a pass keeps, beside its state, and what is said at a frame.
 use Rattle.std.proofs.Common.{◌≡◌, ℕ, pos, ◌^◌, ◌<◌, ◌≤◌, ◌%◌, Bool, true, false, not, ◌==◌, ◌&&◌, ◌||◌, List, [], ◌∷◌}
 use Rattle.std.proofs.Common.{◌++◌, length, map, get_or, Option, is_none, refl, sym, ap, ◌∙◌, subst, append_assoc, ◌+◌}
-use Rattle.std.proofs.Common.{if◌then◌else◌, Some, None, is_some, drop, arith, ℤ, ◌*◌}
+use Rattle.std.proofs.Common.{Some, None, is_some, drop, arith, ℤ, ◌*◌}
 use Rattle.std.proofs.lemmas.List.Elements.{All-nil, All-cons}
 use Rattle.std.proofs.lemmas.Bool.{and_right}
 use Rattle.std.proofs.lemmas.Simd.{map-map}
@@ -13,7 +13,7 @@ use Rattle.audit_core.proofs.Words.{settings_said, connection_said, is_opening, 
 use Rattle.audit_core.proofs.Words.{said, streams_of, streams_said, item_of, opens_stream, step_of, room-wider}
 use Rattle.audit_core.proofs.Words.{StreamRow, rows_in, idle_rows, row_opens, row_said, row_after, RowFits}
 use Rattle.audit_core.proofs.Words.{option_to_list, Settings, changes_from, IsOrderlyFrom, IsAcknowledged, opens}
-use Rattle.audit_core.proofs.Words.{AllByRecursion, All-weaker, HasRoom, IsOrderly}
+use Rattle.audit_core.proofs.Words.{AllByRecursion, All-weaker, HasRoom, IsOrderly, nat_tests, other}
 use Rattle.audit_core.proofs.PassOrder.{rows_of, AreStreams}
 use Rattle.audit_core.proofs.StreamsMet.{streams_met_lem}
 use Rattle.audit_core.proofs.OrderlyRest.{drop-at, length-orderly}
@@ -75,19 +75,13 @@ change-at now low frames i frame changes orderly is within same =
 pub settings_said-change : (now : InForce) (frame : Frame) →
     say (is_ack frame.body && is_none (change_of now frame))
     (finding_at UnmatchedAck frame.number frame.stream frame.side (pos 0)) ≡ settings_said now frame
-settings_said-change now frame = rw (same (taken now frame)) refl where
-  same : (o : Option Settings) → is_none (change_taking frame o) ≡ is_none o
-  same None = refl
-  same (Some settings) = refl
+settings_said-change now frame = grind arith
 
 -- a frame that brings a change is an acknowledgement
 pub step_of-acknowledged : (now : InForce) (frame : Frame) (stream : ℕ) → IsAcknowledged (step_of now frame stream)
 step_of-acknowledged now frame stream change e one f =
     let ack = change-ack now frame (ap is_some e) in
-    ap (λ (its : Frame). is_ack its.body) (sym (by_test (meets stream frame) f)) ∙ ack where
-      by_test : (met : Bool) → (if met then Some frame else None) ≡ Some one → frame ≡ one
-      by_test true f = cc
-      by_test false f = cc
+    grind (arith, ack)
 
 -- ---- the rows before the first frame
 
@@ -134,13 +128,7 @@ module _ (state : PassState) (frame : Frame) where
   opens-rows : (streams : List ℕ) → list_any (row_opens frame) (rows_in state.streams streams)
       ≡ (list_any (λ other. other == frame.stream) streams && opens_it frame.stream)
   opens-rows [] = refl
-  opens-rows (stream ∷ streams) = by_test (stream == frame.stream) refl _ _ (opens-rows streams) where
-    by_test : (b : Bool) → (stream == frame.stream) ≡ b → (rest named : Bool) →
-        rest ≡ (named && opens_it frame.stream) →
-        ((stream == frame.stream) && opens_it stream || rest)
-        ≡ (((stream == frame.stream) || named) && opens_it frame.stream)
-    by_test true e rest named ih = rw (e, ap opens_it (eqb-true stream frame.stream e), ih) (absorb _ _)
-    by_test false e rest named ih = rw e ih
+  opens-rows (stream ∷ streams) = grind (arith, nat_tests, opens-rows streams)
 
   -- the frame meets its own stream
   meets-own : meets frame.stream frame ≡ true

@@ -6,18 +6,17 @@ use Rattle.std.proofs.lemmas.Cmp.{int_cmp_total, tied_itself}
 use Rattle.audit_core.proofs.Words.{ints, Side, Client, Server, Sides, Change, Step, Stream, say_of, side_of}
 use Rattle.audit_core.proofs.Words.{new_initial, is_used_up, window_step, live_window_said, window_after}
 use Rattle.audit_core.proofs.Words.{stream_window_said, stream_said, stream_after, counted, initial_after, and-false}
+use Rattle.audit_core.proofs.Words.{said}
 
 -- a step of a change alone, or of nothing
 abbrev pub bare_step : ℕ → Option Change → Step
 bare_step number change = record { number = number; frame = None; change = change }
 
 not_both : (a : Bool) → (a && not a) ≡ false
-not_both true = refl
-not_both false = refl
+not_both a = grind arith
 
 not_either : (a : Bool) → (not a && a) ≡ false
-not_either true = refl
-not_either false = refl
+not_either a = grind arith
 
 -- no credit is below itself
 tied_test : (b : Bool) → cond b Less (cond b Greater Equal) ≡ Equal → b ≡ false

@@ -1,6 +1,6 @@
 -- The words that the proofs of this crate use, of the crates below and of its own specs.
 pub use Rattle.std.proofs.{lemmas.Bool.Decides.nat_tests, lemmas.Int.ints, lemmas.Simd.map-map}
-pub use Rattle.std.proofs.Math.Bool.{and-false, and-true, or_assoc, or-false}
+pub use Rattle.std.proofs.Math.Bool.{and-false, and-true, or_assoc, or-false, or-true}
 pub use Rattle.std.proofs.lemmas.Bool.{and_parts, cond_both, or_parts, or_right, cases_Bool}
 pub use Rattle.std.specs.List.{AllByRecursion, flat_map, find, list_any, All}
 pub use Rattle.std.specs.Option.{option_map_or, option_to_list}
