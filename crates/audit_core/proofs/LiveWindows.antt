@@ -3,10 +3,10 @@ use Rattle.std.proofs.Common.{◌≡◌, Bool, List, None, Option, Some, [], fal
 use Rattle.std.proofs.Common.{true, true≢false, ℕ, ℤ, ◌%◌, ◌&&◌, ◌==◌, ◌||◌, ◌∷◌, arith}
 use Rattle.std.specs.Prelude.{OnSome}
 use Rattle.audit_core.proofs.Words.{eqb-true, and-false, and_parts, or_parts, is_client_headers, meets, promises}
-use Rattle.audit_core.proofs.Words.{sends_end, is_reset, change_of, is_last_of, is_opening, ends_window, next}
-use Rattle.audit_core.proofs.Words.{PassState, pass_start, is_side, side_of, window_at_opening, window_after, step_test}
-use Rattle.audit_core.proofs.Words.{stream_after, state_from, Frame, Change, Step, Side, Client, Server, Sides, Stream}
-use Rattle.audit_core.proofs.Words.{LiveWindowsAreUnended, LiveWindowsAreOpened}
+use Rattle.audit_core.proofs.Words.{change_of, is_last_of, is_opening, ends_window, next, PassState, pass_start}
+use Rattle.audit_core.proofs.Words.{is_side, side_of, window_at_opening, window_after, step_test, stream_after}
+use Rattle.audit_core.proofs.Words.{state_from, Frame, Change, Step, Side, Client, Server, Sides, Stream}
+use Rattle.audit_core.proofs.Words.{LiveWindowsAreUnended, LiveWindowsAreOpened, nat_tests}
 
 -- what is known of the endpoint of a window: it ends only an opened stream, and while its window is live it has not
 -- ended it, nor is it the client of a promised stream
@@ -17,17 +17,6 @@ pub record IsSending (d : Side) (stream : ℕ) (ended opened : Bool) (window : O
 
 odd-even : (stream : ℕ) → (stream % 2 == 1) ≡ true → (stream % 2 == 0) ≡ false
 odd-even stream e = rw (eqb-true (stream % 2) 1 e) refl
-
--- an endpoint whose window lives on has not ended the stream
-goes-on : (end reset side client named even elsewhere : Bool) → (end || reset) ≡ false → (client && even) ≡ false
-    → ((end || (side && reset)) || (client && ((named && even) && elsewhere))) ≡ false
-goes-on end reset side client named even elsewhere e o = grind arith
-
--- an endpoint that goes on sending on a stream that opens is not the client of a promised stream
-sends-on : (client odd headers promises last even : Bool) → ((odd && headers) || promises) ≡ true
-    → (last || (client && promises)) ≡ false
-    → (odd ≡ true → even ≡ false) → (client && even) ≡ false
-sends-on client odd headers promises last even o e f = grind arith
 
 not-opened : (o : Option ℕ) (b : Bool) → (is_none o && b) ≡ true → is_some o ≡ false
 not-opened o b e = grind arith
@@ -63,8 +52,7 @@ module _ (d : Side) (stream : ℕ) (initial : Sides ℕ) (number : ℕ) (change 
         let last = live-unless _ _ e in (
           refl,
           rw (idle, last) refl,
-          sends-on (is_side Client d) (stream % 2 == 1) (is_client_headers frame) (promises stream frame) _
-              (stream % 2 == 0) opening last (odd-even stream),
+          grind (arith, nat_tests, odd-even stream),
         );
   }
 
@@ -77,9 +65,8 @@ module _ (d : Side) (stream : ℕ) (initial : Sides ℕ) (number : ℕ) (change 
     live = λ e.
         let goes = lives-on (Some frame) window e in
         let (opens_it, unended, sends) = h.live goes.0 in
-        let last : is_last_of d stream frame ≡ false =
-        goes-on (sends_end d frame) (is_reset frame.body) (is_side d frame.side) (is_side Client d) _
-        (stream % 2 == 0) _ goes.1 sends in
+        let goes_on = goes.1 in
+        let last : is_last_of d stream frame ≡ false = grind arith in
         (opens_it, rw (unended, last, and-false) refl, sends);
   }
 

@@ -1,7 +1,7 @@
 -- The rows and the changes that a pass keeps, beside its state, and what is said at a frame.
-use Rattle.std.proofs.Common.{◌≡◌, ℕ, pos, ◌^◌, ◌<◌, ◌≤◌, ◌%◌, Bool, true, false, not, ◌==◌, ◌&&◌, ◌||◌, List, [], ◌∷◌}
-use Rattle.std.proofs.Common.{◌++◌, length, map, get_or, Option, is_none, refl, sym, ap, ◌∙◌, subst, append_assoc, ◌+◌}
-use Rattle.std.proofs.Common.{Some, None, is_some, drop, arith, ℤ, ◌*◌}
+use Rattle.std.proofs.Common.{◌≡◌, ℕ, pos, ◌^◌, ◌<◌, ◌≤◌, ◌%◌, Bool, true, false, not, ◌==◌, ◌&&◌, List, [], ◌∷◌, ◌++◌}
+use Rattle.std.proofs.Common.{length, map, get_or, Option, is_none, refl, sym, ap, ◌∙◌, subst, append_assoc, ◌+◌, Some}
+use Rattle.std.proofs.Common.{None, is_some, drop, arith, ℤ, ◌*◌}
 use Rattle.std.proofs.lemmas.List.Elements.{All-nil, All-cons}
 use Rattle.std.proofs.lemmas.Bool.{and_right}
 use Rattle.std.proofs.lemmas.Simd.{map-map}
@@ -17,7 +17,7 @@ use Rattle.audit_core.proofs.Words.{AllByRecursion, All-weaker, HasRoom, IsOrder
 use Rattle.audit_core.proofs.PassOrder.{rows_of, AreStreams}
 use Rattle.audit_core.proofs.StreamsMet.{streams_met_lem}
 use Rattle.audit_core.proofs.OrderlyRest.{drop-at, length-orderly}
-use Rattle.audit_core.proofs.StreamSteps.{differ_test, differ_test_back, same_test, all-change_numbers}
+use Rattle.audit_core.proofs.StreamSteps.{differ_test, same_test, all-change_numbers}
 use Rattle.audit_core.proofs.ErrorSides.{change-ack}
 
 -- ---- the change of a frame, among all changes
@@ -30,8 +30,7 @@ none-later : (number : ℕ) (changes : List Change) →
     AllByRecursion (λ (change : Change). number + 1 ≤ change.number) changes →
     find (is_at number) changes ≡ None
 none-later number [] h = refl
-none-later number (change ∷ changes) h =
-    rw (differ_test_back number change.number (omega (arith, h.0))) (none-later number changes h.1)
+none-later number (change ∷ changes) h = grind (arith, nat_tests, none-later number changes h.1, h.0)
 
 module _ (now : InForce) (frame : Frame) (later : List Frame) where
   abbrev rest : List Change
@@ -119,10 +118,6 @@ idle_rows-fit bound (stream ∷ streams) h =
 module _ (state : PassState) (frame : Frame) where
   abbrev opens_it : ℕ → Bool
   opens_it stream = is_opening stream (state.streams stream).life frame
-
-  absorb : (a b : Bool) → (b || (a && b)) ≡ b
-  absorb a true = refl
-  absorb a false = and_right a false refl
 
   -- the row of the frame's stream alone may say so
   opens-rows : (streams : List ℕ) → list_any (row_opens frame) (rows_in state.streams streams)

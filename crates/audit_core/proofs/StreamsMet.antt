@@ -1,10 +1,9 @@
 -- The streams that frames name are those that meet one of them.
-use Rattle.std.proofs.Common.{◌≡◌, Bool, List, [], ap, false, filter, not, refl, sym, true, ℕ, ◌&&◌, ◌==◌, ◌||◌, ◌∙◌}
-use Rattle.std.proofs.Common.{◌∷◌, arith, zero}
+use Rattle.std.proofs.Common.{◌≡◌, Bool, List, [], false, filter, not, refl, sym, true, ℕ, ◌&&◌, ◌==◌, ◌||◌, ◌∷◌, arith}
+use Rattle.std.proofs.Common.{zero}
 use Rattle.std.proofs.lemmas.Map.Views.{any-filter_same}
-use Rattle.audit_core.proofs.Words.{ne_eqb, and-false, list_any, cond_both, eqb-false, promised_in, meets, promises}
-use Rattle.audit_core.proofs.Words.{promised_by, first_of, Frame, StreamsAreNamedOnce, StreamsAreThoseMet, or_assoc}
-use Rattle.audit_core.proofs.Words.{nat_tests, other}
+use Rattle.audit_core.proofs.Words.{and-false, list_any, promised_in, promises, promised_by, first_of, Frame}
+use Rattle.audit_core.proofs.Words.{StreamsAreNamedOnce, StreamsAreThoseMet, nat_tests, other, streams_of}
 use Rattle.audit_core.proofs.Apart.{distinct-streams_of}
 
 module _ (stream : ℕ) where
@@ -35,27 +34,15 @@ module _ (stream : ℕ) where
 
   -- the stream, other than 0, is the one that the frame promises
   promised-is : (frame : Frame) → (stream == 0) ≡ false → (promised_by frame == stream) ≡ promises stream frame
-  promised-is frame e =
-      cond_both (promises (promised_in frame.body) frame) (promised_in frame.body) 0
-      (λ promised. (promised == stream) ≡ promises stream frame)
-      (λ f. rw (promises-own frame, f) refl)
-      (λ f. rw (promises-own frame, f) (ne_eqb 0 stream (λ p. eqb-false stream 0 e (sym p))))
+  promised-is frame e = let own = promises-own frame in grind (arith, nat_tests)
 
 pub streams_met_lem : StreamsAreThoseMet
 streams_met_lem stream [] = sym (and-false (not (stream == 0)))
 streams_met_lem stream (frame ∷ frames) =
-    names-first stream frame.stream _
-    ∙ ap (λ b. (not (stream == 0) && (frame.stream == stream)) || b) (names-first stream (promised_by frame) _)
-    ∙ by_zero _ refl _ (streams_met_lem stream frames) where
-      by_zero : (zero : Bool) → (stream == 0) ≡ zero → (named : Bool) →
-          named ≡ (not (stream == 0) && list_any (meets stream) frames) →
-          ((not (stream == 0) && (frame.stream == stream))
-          || ((not (stream == 0) && (promised_by frame == stream)) || named))
-          ≡ (not (stream == 0) && (meets stream frame || list_any (meets stream) frames))
-      by_zero true e named h = rw (h, e) refl
-      by_zero false e named h =
-          rw (h, e, promised-is stream frame e)
-          (sym (or_assoc (frame.stream == stream) (promises stream frame) (list_any (meets stream) frames)))
+    let own = names-first stream frame.stream (first_of (promised_by frame) (streams_of frames)) in
+    let promised = names-first stream (promised_by frame) (streams_of frames) in
+    let later = streams_met_lem stream frames in
+    grind (arith, nat_tests, promised-is stream frame)
 
 pub streams_once_lem : StreamsAreNamedOnce
 streams_once_lem frames = distinct-streams_of frames
